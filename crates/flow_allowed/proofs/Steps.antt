@@ -16,17 +16,17 @@ use Rattle.flow_valid.specs.Named.{has_place, has_catcher, has_last, listed, pat
 use Rattle.flow_valid.specs.Validity.{IsValid}
 use Rattle.flow_numbered.specs.Numbered.{thing}
 use Rattle.flow_meaning.specs.Cells.{Ref, Cell, Single, Stream, taken, outcome}
-use Rattle.flow_meaning.specs.Asks.{Supply}
+use Rattle.flow_meaning.specs.Requests.{Supply}
 use Rattle.flow_meaning.specs.Process.{Run, Entry, Proc}
 use Rattle.flow_meaning.specs.Evaluating.{evaluated, effect_in, value, values}
-use Rattle.flow_meaning.specs.Occ.{refs_in, value_in}
+use Rattle.flow_meaning.specs.References.{refs_in, value_in}
 use Rattle.flow_meaning.specs.Work.{pushed}
 use Rattle.flow_meaning.specs.Step.{kept_by, view, on_core}
 use Rattle.flow_meaning.specs.Class.{fetched, next_step, instruction, last, choose, operand_by, class_names}
 use Rattle.flow_meaning.specs.Frame.{Frame, look, assign, spot_of}
 use Rattle.flow_meaning.proofs.Shifts.{run_of, same_of}
 use Rattle.flow_meaning.proofs.TaskShifts.{popped_at}
-use Rattle.flow_picture.specs.Standing.{HasPlace}
+use Rattle.flow_picture.specs.FrameChanges.{HasPlace}
 use Rattle.flow_picture.specs.Holds.{AllThere}
 use Rattle.flow_unstuck.specs.Places.{class_vars, HoldsTypes}
 use Rattle.flow_unstuck.specs.Rules.{KeepsRules, ClassRules}
@@ -50,7 +50,7 @@ use Rattle.flow_executes.specs.Referring.{HoldsThere, SetThere}
 use Rattle.flow_executes.specs.Executing.{AllKept, MayDoNext}
 use Rattle.flow_executes.proofs.Refers.{value_there, arguments_there}
 use Rattle.flow_effects.proofs.Fresh.{actor_free}
-use Rattle.flow_kept.specs.Kept.{Kept}
+use Rattle.flow_kept.specs.Invariant.{ProcessInvariant}
 use Rattle.flow_kept.proofs.Homes.{named_block}
 use Rattle.flow_kept.proofs.Theres as there
 use Rattle.flow_kept.proofs.MayDo.{locals_there, both_parts}
@@ -99,7 +99,7 @@ module _ (r : RawTree) (w : Supply) (p : Proc Frame) (i : ℕ) (e : Entry) (f : 
   abbrev full : Proc Frame
   full = on_core (pushed (Run i)) p
 
-  abbrev k : Kept r full
+  abbrev k : ProcessInvariant r full
   k = run.kept
 
   actor : Actor r k.types i (Run i) p.core.tasks full.core full.actors

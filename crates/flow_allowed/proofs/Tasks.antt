@@ -23,7 +23,7 @@ use Rattle.flow_cancel.specs.declared.task.Task as stack
 use Rattle.flow_cancel.specs.declared.task.Task.TheVariants as task
 use Rattle.flow_cancel.specs.Heap.{actor_id}
 use Rattle.flow_meaning.specs.Cells.{Ref}
-use Rattle.flow_meaning.specs.Asks.{Spot}
+use Rattle.flow_meaning.specs.Requests.{Spot}
 use Rattle.flow_meaning.specs.Process.{Task, Run, Give, Store, Keep, Entry, Proc}
 use Rattle.flow_meaning.specs.Orderly.{NextStep, Paired, tasks_of}
 use Rattle.flow_meaning.specs.Work.{pushed}
@@ -33,11 +33,11 @@ use Rattle.flow_meaning.proofs.Posture.{own_task}
 use Rattle.flow_meaning.proofs.Shifts.{run_of, give_of, store_of, keep_of, same_of}
 use Rattle.flow_meaning.proofs.TaskShifts.{popped_at}
 use Rattle.flow_tree.specs.Decls.{ParamTree}
-use Rattle.flow_picture.specs.Shows.{Position, here, at_wait, spot_by, wait_spot, spot_of_actor}
+use Rattle.flow_picture.specs.Representing.{Position, here, at_wait, spot_by, wait_spot, spot_of_actor}
 use Rattle.flow_picture.specs.Changes.{SameTask}
 use Rattle.flow_picture.specs.Rested.{Sorted}
 use Rattle.flow_picture.specs.Counted.{nothing_in_hand}
-use Rattle.flow_picture.specs.Standing.{HasPlace}
+use Rattle.flow_picture.specs.FrameChanges.{HasPlace}
 use Rattle.flow_unstuck.specs.Places.{class_vars, HoldsTypes}
 use Rattle.flow_unstuck.specs.Fitting.{CellTypes, typed_by, Fits, OperandsFit}
 use Rattle.flow_valid.specs.Named.{path_place, expr_places}
@@ -50,14 +50,14 @@ use Rattle.flow_unstuck.proofs.KeptClasses.{class_rules}
 use Rattle.flow_unstuck.proofs.Handed.{has_place}
 use Rattle.flow_unstuck.proofs.Memories.{within_of}
 use Rattle.flow_unstuck.proofs.StepFits.{Actor, actor_here}
-use Rattle.flow_steps.specs.declared.frames.Stand.{Stand}
+use Rattle.flow_steps.specs.declared.frames.ControlPoint.{ControlPoint}
 use Rattle.flow_steps.specs.declared.process.Process.{Process}
-use Rattle.flow_steps.specs.Standing.{StandsNow}
+use Rattle.flow_steps.specs.Points.{IsAtPoint}
 use Rattle.flow_steps.specs.Tasks.{TopTaken, Stored, IsDone}
-use Rattle.flow_follows.specs.Shown.{Shown}
+use Rattle.flow_follows.specs.Matching.{ProcessRepresents}
 use Rattle.flow_follows.specs.Placing.{Acts}
 use Rattle.flow_follows.specs.Coded.{CodedBy}
-use Rattle.flow_follows.specs.Taking.{Standing}
+use Rattle.flow_follows.specs.Taking.{PointMatches}
 use Rattle.flow_follows.specs.Stepped.{TopOff, MayDo}
 use Rattle.flow_follows.proofs.Doing.{top_follows}
 use Rattle.flow_follows.proofs.Working.{as_many_shown}
@@ -71,7 +71,7 @@ use Rattle.flow_executes.proofs.Matches.{effect_aims, branch_coded}
 use Rattle.flow_executes.proofs.Tasks.{task_follows}
 use Rattle.flow_effects.specs.Texts.{EffectInstruction}
 use Rattle.flow_effects.proofs.Decoded.{effect_coded}
-use Rattle.flow_kept.specs.Kept.{Kept}
+use Rattle.flow_kept.specs.Invariant.{ProcessInvariant}
 use Rattle.flow_kept.specs.Allowed as plain
 use Rattle.flow_kept.specs.Allowed.{BetweenTasks}
 use Rattle.flow_kept.proofs.Off.{no_tasks_keep, no_run_keep, kinds_right, free_off, go_off, sound_off}
@@ -117,7 +117,7 @@ zero_suc : {n : ℕ} → suc n ≡ 0 → ⊥
 zero_suc h = cc
 
 module _ (r : RawTree) (code : Code) (program : IsProgram r code) (ls : List Line) (m : Process) (p : Proc Frame) (now : BetweenTasks r ls m p) where
-  abbrev k : Kept r p
+  abbrev k : ProcessInvariant r p
   k = now.kept
 
   pub rules : ClassRules r (heads r)
@@ -131,7 +131,7 @@ module _ (r : RawTree) (code : Code) (program : IsProgram r code) (ls : List Lin
     q = popped o.below p
 
     -- where an actor is in no state of a wait, it stands at the instruction of its frame
-    pub instruction_is : (i : ℕ) (e : Entry) (f : Frame) (s : Stand) → (a : Acts r start.heap q i e f) → a.memory.state ≡ 0 → StandsNow code.classes.items (actor_id i) start s → s.instruction ≡ f.instr
+    pub instruction_is : (i : ℕ) (e : Entry) (f : Frame) (s : ControlPoint) → (a : Acts r start.heap q i e f) → a.memory.state ≡ 0 → IsAtPoint code.classes.items (actor_id i) start s → s.instruction ≡ f.instr
     instruction_is i e f s a state stands =
         stands.stands.instruction ∙ ap (λ x. x.instruction) (same_of (sym stands.at ∙ a.framed)) ∙ by_position a.stands.position
       where
@@ -147,7 +147,7 @@ module _ (r : RawTree) (code : Code) (program : IsProgram r code) (ls : List Lin
         by_position (here z b n) = z
         by_position (at_wait g z w) = w ∙ none
 
-    pub shown_off : ((z : _) (j : ℕ) → Rattle.flow_meaning.specs.Occ.in_task z j o.top ≡ 0) → Shown r ls nothing_in_hand start q
+    pub shown_off : ((z : _) (j : ℕ) → Rattle.flow_meaning.specs.References.in_task z j o.top ≡ 0) → ProcessRepresents r ls nothing_in_hand start q
     shown_off none = as_many_shown r ls _ nothing_in_hand start q (λ z j. let a = none z j in omega (arith, a)) o.shown
 
     -- the next step of an actor
@@ -182,7 +182,7 @@ module _ (r : RawTree) (code : Code) (program : IsProgram r code) (ls : List Lin
             let at = ops.0.1.there in
             has_operands a.entry a.frame (λ s z. let b = stands_by r code program.whole.valid program.coded start q i a.entry a.frame s acts z in record {
               group = ops.0.1.group;
-              stood = record { shown = shown_off (λ z j. ap (Rattle.flow_meaning.specs.Occ.in_task z j) is); acts = acts };
+              stood = record { shown = shown_off (λ z j. ap (Rattle.flow_meaning.specs.References.in_task z j) is); acts = acts };
               runs = zero_state;
               noted = z.stands.noted;
               standing = b.standing;
@@ -281,7 +281,7 @@ module _ (r : RawTree) (code : Code) (program : IsProgram r code) (ls : List Lin
         state : acts.memory.state ≡ 0
         state = no_state i a.entry a.frame acts (at_no_wait r a.frame (class_vars a.frame.code) (fetch a.frame.code a.frame.block a.frame.instr) a.doing.2.0 a.doing.2.1)
 
-        by_stand : (s : Stand) → StandsNow code.classes.items (actor_id i) start s → Standing s i a.frame
+        by_stand : (s : ControlPoint) → IsAtPoint code.classes.items (actor_id i) start s → PointMatches s i a.frame
         by_stand s z = (stands_by r code program.whole.valid program.coded start q i a.entry a.frame s acts z).standing
 
         at_text : AtInstruction (coding code_by.names code_by.class (length a.frame.code.slots)) a.frame (instruction.Effect h.aim h.effect h.args)
@@ -315,7 +315,7 @@ module _ (r : RawTree) (code : Code) (program : IsProgram r code) (ls : List Lin
       group = one.1.group;
       may = λ kd spot s other is frames z.
           let same_kind : kd ≡ same.0 = kind_is i cell (sym is ∙ same.2) in
-          let here_now : StandsNow code.classes.items (actor_id i) start s = record { frame = z.frame; at = subst (λ x. stored.thing x.things i ≡ Some z.frame) frames z.at; stands = z.stands } in
+          let here_now : IsAtPoint code.classes.items (actor_id i) start s = record { frame = z.frame; at = subst (λ x. stored.thing x.things i ≡ Some z.frame) frames z.at; stands = z.stands } in
           let b = stands_by r code program.whole.valid program.coded start q i a.entry a.frame s acts here_now in
           let c = there.operand_cell r k.types rest k.fits.cells same.0 cell one.1.callback.next one.1.takes (subst (Fits r k.types (RefValue same.0 cell)) one.1.type one.2) in
           record {

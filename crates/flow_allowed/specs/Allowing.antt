@@ -5,7 +5,7 @@ use Rattle.flow_tree.specs.Tree.{ExprTree, ExprTrees}
 use Rattle.flow_class.specs.Classes.{RawTree}
 use Rattle.flow_class.specs.Code.{fetch}
 use Rattle.flow_numbered.specs.Numbered.{thing}
-use Rattle.flow_meaning.specs.Asks.{Supply}
+use Rattle.flow_meaning.specs.Requests.{Supply}
 use Rattle.flow_meaning.specs.Evaluating.{value, values}
 use Rattle.flow_meaning.specs.Process.{Run, Entry, Proc}
 use Rattle.flow_meaning.specs.Orderly.{Rising}
@@ -18,12 +18,12 @@ use Rattle.flow_awake.specs.Awake.{AreWhole}
 use Rattle.flow_executes.specs.Deciding.{GivesThere}
 use Rattle.flow_executes.specs.Referring.{AllGiveThere}
 use Rattle.flow_executes.specs.Executing.{MayDoNext}
-use Rattle.flow_kept.specs.Kept.{Kept}
+use Rattle.flow_kept.specs.Invariant.{ProcessInvariant}
 
 -- An actor whose task is the newest of a process that keeps what it has to; its task is off.
 pub record Running (r : RawTree) (p : Proc Frame) (i : ℕ) (e : Entry) (f : Frame) : Type 0 where
   pub whole : AreWhole r
-  pub kept : Kept r (on_core (pushed (Run i)) p)
+  pub kept : ProcessInvariant r (on_core (pushed (Run i)) p)
   pub entered : thing p.core.entries i ≡ Some e
   pub acting : thing p.actors i ≡ Some f
 

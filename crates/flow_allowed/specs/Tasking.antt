@@ -10,7 +10,7 @@ use Rattle.flow_frame.specs.Frames.{FrameTree}
 use Rattle.flow_cancel.specs.declared.task.Task as stack
 use Rattle.flow_cancel.specs.declared.task.Task.TheVariants as task
 use Rattle.flow_cancel.specs.Heap.{HeapTree}
-use Rattle.flow_meaning.specs.Asks.{Supply}
+use Rattle.flow_meaning.specs.Requests.{Supply}
 use Rattle.flow_meaning.specs.Process.{Task, Proc}
 use Rattle.flow_meaning.specs.Step.{popped}
 use Rattle.flow_meaning.specs.Frame.{Frame}

@@ -13,7 +13,7 @@ ghost use Rattle.flow_allowed.specs.Tasking.{IsProgram, AnyAllowed, AnyGoes};
 /// Each task that is the newest of a process in memory that runs valid classes may be done, by what the process keeps that it
 /// shows, where the actor of a next step or of an operand is in no state of a wait. So it is a row of steps of the class machine,
 /// or its actor takes its steps.
-pub fn tasks_allowed()
+pub fn all_tasks_are_enabled()
     ensures allowed { (r : RawTree) (code : Code) (program : IsProgram r code)
         (ls : List Line) (m : Process) (p : Proc Frame) (now : BetweenTasks r ls m p)
         → AnyAllowed r code program ls m p now }

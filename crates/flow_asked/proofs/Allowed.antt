@@ -18,7 +18,7 @@ use Rattle.flow_code.specs.declared.program.Code.{Code}
 use Rattle.flow_valid.specs.Named.{has_place, base_place, exprs_places}
 use Rattle.flow_numbered.specs.Numbered.{thing}
 use Rattle.flow_meaning.specs.Cells.{Ref}
-use Rattle.flow_meaning.specs.Asks.{Supply, Goal, Stored, Kept, Effects}
+use Rattle.flow_meaning.specs.Requests.{Supply, Goal, Stored, Kept, Effects}
 use Rattle.flow_meaning.specs.Process.{Entry, Proc}
 use Rattle.flow_meaning.specs.Evaluating.{StepOf, Effectful, Actor, asks, bind, given, evaluated, effect_in, effect_of, values, before_last}
 use Rattle.flow_meaning.specs.Step.{kept_by, view}

@@ -28,27 +28,27 @@ use Rattle.flow_code.specs.View.{aim_of, end_of, branch_of, operand_of, group_nu
 use Rattle.flow_code.specs.Coding.{Coding, aimed, ended, coded_branch, coded_operand}
 use Rattle.flow_code.specs.Coded.{coding}
 use Rattle.flow_trace.specs.declared.line.Line.{Line}
-use Rattle.flow_meaning.specs.Asks.{Supply}
+use Rattle.flow_meaning.specs.Requests.{Supply}
 use Rattle.flow_meaning.specs.Evaluating.{before_last}
 use Rattle.flow_meaning.specs.Cells.{Ref}
 use Rattle.flow_numbered.specs.Numbered.{thing}
 use Rattle.flow_meaning.specs.Process.{Entry, Proc}
-use Rattle.flow_meaning.specs.Occ.{Scan}
+use Rattle.flow_meaning.specs.References.{Scan}
 use Rattle.flow_meaning.specs.Step as machine
 use Rattle.flow_meaning.specs.Frame.{Frame, look, spot_of}
-use Rattle.flow_picture.specs.Shows.{wait_spot, held_from}
-use Rattle.flow_steps.specs.declared.frames.Stand.{Stand}
+use Rattle.flow_picture.specs.Representing.{wait_spot, held_from}
+use Rattle.flow_steps.specs.declared.frames.ControlPoint.{ControlPoint}
 use Rattle.flow_steps.specs.declared.next.Pace.{Pace}
 use Rattle.flow_steps.specs.declared.process.Process.{Process}
 use Rattle.flow_steps.specs.Holding.{on_heap}
-use Rattle.flow_steps.specs.Standing.{noting, noted, noted_stand, place_held, field_path}
+use Rattle.flow_steps.specs.Points.{noting, noted, noted_stand, place_held, field_path}
 use Rattle.flow_steps.specs.Waiting.{callbacks_in, callbacks_of}
-use Rattle.flow_steps.specs.Sights.{program_time}
+use Rattle.flow_steps.specs.Evaluating.{program_time}
 use Rattle.flow_steps.specs.Stepping.{OperandStep, kept_by}
-use Rattle.flow_follows.specs.Going.{MayBeStale}
+use Rattle.flow_follows.specs.Continuing.{MayBeStale}
 use Rattle.flow_follows.proofs.Stands.{both_mapped}
 use Rattle.flow_follows.proofs.Carrying.{old, seen}
-use Rattle.flow_executes.specs.Going.{AtOperands, moves, chooses}
+use Rattle.flow_executes.specs.Continuing.{AtOperands, moves, chooses}
 use Rattle.flow_executes.specs.Assigning.{AimsAt}
 use Rattle.flow_executes.specs.Decoding.{AtInstruction}
 use Rattle.flow_executes.specs.Executing.{coded_by, InProgram, Asks, by_effect, by_act, by_method, by_operand}
@@ -76,7 +76,7 @@ wait_text c number (TestLast t a b) e = absurd (cc (e))
 wait_text c number (ReturnLast t) e = absurd (cc (e))
 wait_text c number (ThrowLast t) e = absurd (cc (e))
 
-module _ (r : RawTree) (ls : List Line) (m : Process) (p : Proc Frame) (i : ℕ) (e : Entry) (f : Frame) (x : Scan) (s : Stand) (w : Supply) (code : Code) (inp : InProgram r code s f)
+module _ (r : RawTree) (ls : List Line) (m : Process) (p : Proc Frame) (i : ℕ) (e : Entry) (f : Frame) (x : Scan) (s : ControlPoint) (w : Supply) (code : Code) (inp : InProgram r code s f)
     (call : MayCall m p) (time : program_time m.time ≡ pos w.now) (pace : Pace) (n : Process) where
   abbrev by : Coding
   by = coding inp.program.coded.names inp.program.coded.class (length f.code.slots)

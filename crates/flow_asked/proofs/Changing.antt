@@ -11,10 +11,10 @@ use Rattle.flow_value.specs.declared.value.Kind.TheVariants as kind
 use Rattle.flow_value.specs.Values.{ValueTree, IntValue, RefValue, OutcomeTree, GoodOutcome, BadOutcome}
 use Rattle.flow_numbered.specs.Numbered.{thing, added, put, removed}
 use Rattle.flow_meaning.specs.Cells.{Side, PromiseSide, FutureSide, side_of, Ref, Waiter, Cell, Single, Stream, is_complete, is_ready, waiters, taken, after_taking}
-use Rattle.flow_meaning.specs.Asks.{Spot, DiskCall, Effect, Make, Start, Draw, Delay, Never, Listen, Disk, Goal, Act, Goes, Pass, Drops, Effects, Operand, Waits, Sends, Cancels, Prints, SendsTo, Returns, Throws, RunsOut, Stuck, Ask, Drew, Timer, Packet, Supply}
+use Rattle.flow_meaning.specs.Requests.{Spot, DiskCall, Effect, Make, Start, Draw, Delay, Never, Listen, Disk, Goal, Act, Goes, Pass, Drops, Effects, Operand, Waits, Sends, Cancels, Prints, SendsTo, Returns, Throws, RunsOut, Stuck, Ask, Drew, Timer, Packet, Supply}
 use Rattle.flow_meaning.specs.Process.{Task, Run, Give, Throw, Catch, Store, Keep, Close, Fire, Drop, Entry, Halt, Core, Proc, Engine}
 use Rattle.flow_meaning.specs.Lines.{take_line, cancel_line, broken_line, end_line, print_line}
-use Rattle.flow_meaning.specs.Occ.{Scan, Occ, scan_of}
+use Rattle.flow_meaning.specs.References.{Scan, reference_count, scan_of}
 use Rattle.flow_meaning.specs.Work as work
 use Rattle.flow_meaning.specs.Work.{turn, turn_of, writes, pushed, new_cell, fill, fill_cell, free, free_cell, leave_for, take_branch, take_from, first_ready, is_ready_at, Registration, Registered, Refused, Missing, register, owner, cancel_by, cancel, cancel_owner}
 use Rattle.flow_meaning.specs.Dropping.{Loss, Kept, Freed, Broken, Orphan, Unheard, loss, port_of, break_cell, suffer, lose_cell, lose_ref, drop, fire_to, fire_at, fire_cell, fire, set_result, give_result, close}
@@ -131,7 +131,7 @@ lose_changes scan s k c = by_cell (thing c.cells k)
   where
     by_cell : (o : Option Cell) → PortsChange c (lose_cell scan s k o c)
     by_cell None = same refl (omega arith)
-    by_cell (Some cell) = suffer_changes k (loss s (Occ scan PromiseSide k c) (Occ scan FutureSide k c) cell (owner k c.entries) (port_of k c.ports)) c
+    by_cell (Some cell) = suffer_changes k (loss s (reference_count scan PromiseSide k c) (reference_count scan FutureSide k c) cell (owner k c.entries) (port_of k c.ports)) c
 
 drop_changes : (scan : Scan) (kd : Kind) (k : ℕ) (c : Core) → PortsChange c (drop scan kd k c)
 drop_changes scan kd k c = turn_changes c (λ d. lose_ref scan (side_of kd) k d) (λ d. lose_changes scan (side_of kd) k d)
@@ -155,7 +155,7 @@ fire_changes scan k c = by_cell (thing c.cells k)
 -- the end of an actor
 result_stays : (scan : Scan) (o : OutcomeTree) (result : Option ℕ) (c : Core) → Stays c (give_result scan result o c)
 result_stays scan o None c = stay c (give_result scan None o c) refl refl
-result_stays scan o (Some k) c = by_futures (Occ scan FutureSide k c)
+result_stays scan o (Some k) c = by_futures (reference_count scan FutureSide k c)
   where
     by_futures : (n : ℕ) → Stays c (set_result k o n c)
     by_futures zero = stay c (set_result k o zero c) refl refl

@@ -10,7 +10,7 @@ use Rattle.flow_class.specs.Classes.{RawTree}
 use Rattle.flow_cancel.specs.Heap.{has_number, without_number}
 use Rattle.flow_cancel.proofs.Noted.{at_number}
 use Rattle.flow_numbered.specs.Numbered.{Numbered, added, removed}
-use Rattle.flow_meaning.specs.Asks.{Supply}
+use Rattle.flow_meaning.specs.Requests.{Supply}
 use Rattle.flow_meaning.specs.Process.{Core, Proc}
 use Rattle.flow_meaning.specs.Dropping.{port_of}
 use Rattle.flow_meaning.specs.Step.{silent}
@@ -23,7 +23,7 @@ use Rattle.flow_machine.specs.Hosting.{unheard_at, unheard}
 use Rattle.flow_follows.specs.Stepped.{OnlyTells}
 use Rattle.flow_kept.specs.Staying.{ports_after}
 use Rattle.flow_bursts.specs.Bursting.{ports_left}
-use Rattle.flow_executes.specs.Going.{Silent, no_more, then_on}
+use Rattle.flow_executes.specs.Continuing.{Silent, no_more, then_on}
 use Rattle.flow_asked.specs.Ports as law
 use Rattle.flow_asked.specs.Ports.{PortsChange, same, more}
 use Rattle.flow_asked.proofs.Changing.{step_ports}

@@ -3,7 +3,7 @@ use Rattle.std.specs.Prelude.{ℕ}
 use Rattle.flow_class.specs.Classes.{RawTree}
 use Rattle.flow_class.specs.Code.{fetch}
 use Rattle.flow_code.specs.declared.program.Code.{Code}
-use Rattle.flow_meaning.specs.Asks.{Supply}
+use Rattle.flow_meaning.specs.Requests.{Supply}
 use Rattle.flow_meaning.specs.Process.{Entry, Proc}
 use Rattle.flow_meaning.specs.Frame.{Frame}
 use Rattle.flow_follows.specs.Seeing.{IsCodeOf}

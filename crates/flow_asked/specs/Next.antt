@@ -13,10 +13,10 @@ use Rattle.flow_class.specs.Code.{Fetched, Body, Last, fetch, callback_at}
 use Rattle.flow_code.specs.declared.program.Code.{Code}
 use Rattle.flow_trace.specs.declared.line.Line.{Line}
 use Rattle.flow_numbered.specs.Numbered.{Numbered}
-use Rattle.flow_meaning.specs.Asks.{Supply}
+use Rattle.flow_meaning.specs.Requests.{Supply}
 use Rattle.flow_meaning.specs.Evaluating.{Effectful, effect_in, value, values, before_last}
 use Rattle.flow_meaning.specs.Process.{Run, Entry, Proc}
-use Rattle.flow_meaning.specs.Occ.{Scan}
+use Rattle.flow_meaning.specs.References.{Scan}
 use Rattle.flow_meaning.specs.Burst.{Host}
 use Rattle.flow_meaning.specs.Work.{pushed}
 use Rattle.flow_meaning.specs.Step.{view, on_core}
@@ -25,12 +25,12 @@ use Rattle.flow_meaning.specs.Frame.{Frame, look}
 use Rattle.flow_picture.specs.Counted.{nothing_in_hand}
 use Rattle.flow_picture.specs.Rested.{InNumbers}
 use Rattle.flow_picture.specs.Holds.{There, AllThere}
-use Rattle.flow_steps.specs.declared.frames.Stand.{Stand}
+use Rattle.flow_steps.specs.declared.frames.ControlPoint.{ControlPoint}
 use Rattle.flow_steps.specs.declared.next.Pace.{Pace}
 use Rattle.flow_steps.specs.declared.process.Process.{Process}
-use Rattle.flow_steps.specs.Sights.{program_time}
+use Rattle.flow_steps.specs.Evaluating.{program_time}
 use Rattle.flow_follows.specs.Taking.{MayGo}
-use Rattle.flow_executes.specs.Going.{MayStep}
+use Rattle.flow_executes.specs.Continuing.{MayStep}
 use Rattle.flow_executes.specs.Decoding.{Rooted}
 use Rattle.flow_executes.specs.Executing.{InProgram, Asks}
 use Rattle.flow_bursts.specs.Bursting.{AsksWorld}
@@ -70,7 +70,7 @@ module _ (r : RawTree) (code : Code) (w : Supply) (p : Proc Frame) (i : ℕ) (e 
 module _ (r : RawTree) (ls : List Line) (m : Process) (p : Proc Frame) (i : ℕ) (e : Entry) (f : Frame) where
   abbrev pub AskFollows : Type 0
   AskFollows =
-      (x : Scan) (s : Stand) (w : Supply) (code : Code) (pace : Pace) (n : Process)
+      (x : Scan) (s : ControlPoint) (w : Supply) (code : Code) (pace : Pace) (n : Process)
       → MayStep r ls x s m p i e f → InProgram r code s f → MayCall m p → program_time m.time ≡ pos w.now
       → MayAskNext r code w p i e f (fetch f.code f.block f.instr) → Asks code s m pace n
       → Answered r ls x w p i e pace n

@@ -6,18 +6,18 @@ use Rattle.std.specs.declared.option.Option.TheVariants.{Some}
 use Rattle.flow_class.specs.Classes.{RawTree}
 use Rattle.flow_cancel.specs.Heap.{HeapTree, has_number, without_number}
 use Rattle.flow_numbered.specs.Numbered.{added, removed}
-use Rattle.flow_meaning.specs.Asks.{Supply}
+use Rattle.flow_meaning.specs.Requests.{Supply}
 use Rattle.flow_meaning.specs.Process.{Core, Proc}
 use Rattle.flow_meaning.specs.Step.{Stepped, step}
 use Rattle.flow_meaning.specs.Class.{classes}
 use Rattle.flow_meaning.specs.Frame.{Frame}
-use Rattle.flow_picture.specs.Shows.{Shows}
+use Rattle.flow_picture.specs.Representing.{Represents}
 use Rattle.flow_picture.specs.Rested.{InNumbers}
 use Rattle.flow_steps.specs.declared.call.Call.{Call}
 use Rattle.flow_follows.specs.Stepped.{OnlyTells}
 use Rattle.flow_kept.specs.Staying.{ports_after}
 use Rattle.flow_bursts.specs.Bursting.{ports_left}
-use Rattle.flow_executes.specs.Going.{Silent}
+use Rattle.flow_executes.specs.Continuing.{Silent}
 
 -- What a step does to the ports: nothing; one whose stream is lost goes; or one comes, whose stream is the next
 -- cell. No fewer cells have been made than before.
@@ -35,7 +35,7 @@ StepPorts =
 -- port that memory tells, and no other.
 abbrev pub PortsLeft : Type 0
 PortsLeft =
-    (r : RawTree) (s : Supply) (h g : HeapTree) (p q : Proc Frame) (told : Option Call) → Shows r h p → Shows r g q
+    (r : RawTree) (s : Supply) (h g : HeapTree) (p q : Proc Frame) (told : Option Call) → Represents r h p → Represents r g q
     → InNumbers p.core → ((k : ℕ) → has_number (without_number h.ports k) k ≡ false) → Silent r s p q
     → OnlyTells told → g.ports ≡ ports_after told h.ports
     → q.core.ports ≡ ports_left told p.core.ports

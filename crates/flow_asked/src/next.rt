@@ -10,17 +10,17 @@ ghost use Rattle.flow_asked.specs.Allowing.{AskAllowed};
 use flow_machine::host::Host;
 
 /// A step of an actor in memory by an effect, a call statement or an operand by an effect is a step of the class machine.
-pub fn asks_follow()
+pub fn requests_refine()
     ensures { ForActors law.AskFollows }
 {}
 
 /// What a process of valid classes keeps allows each actor that takes its next step what it asks there.
-pub fn asks_are_allowed()
+pub fn requests_are_enabled()
     ensures { AskAllowed }
 {}
 
 /// What such a step asks of the world is asked in the class machine, and what the host does for it is what the world does.
-pub fn world_is_asked<H: Host>()
+pub fn world_requests_refine<H: Host>()
     ensures { (code : Code) (processes : ℕ) (r : RawTree)
         → law.WorldAsked H.serves H.shows H.wrote code processes r }
 {}

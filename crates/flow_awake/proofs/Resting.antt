@@ -21,7 +21,7 @@ use Rattle.flow_owned.specs.Unset.{Unset}
 use Rattle.flow_owned.proofs.Owns.{owns}
 use Rattle.flow_referred.proofs.Onward.{IsThere}
 use Rattle.flow_referred.proofs.Worlds as care
-use Rattle.flow_awake.specs.Awake.{Keeps, RestsKept}
+use Rattle.flow_awake.specs.Awake.{EventInvariant, BoundaryInvariant}
 use Rattle.flow_awake.proofs.Steady.{Steady, S}
 use Rattle.flow_awake.proofs.Steps.{Fine}
 use Rattle.flow_awake.proofs.Brought.{AllFine}
@@ -38,7 +38,7 @@ awake c h i e at m = by_fine (h i)
     by_fine (inr x) =
         let same : x.entry ≡ e = same_of (sym x.at ∙ at) in absurd (no_mark m (subst (λ (z : Entry). z.marked ≡ false) same x.unmarked))
 
-pub keeps : (r : RawTree) (n : ℕ) (events : List (Pending What)) (p : Proc Frame) → FitsAmong r n events p → Unset p.core → care.Referred p → AllFine p.core → Keeps p
+pub keeps : (r : RawTree) (n : ℕ) (events : List (Pending What)) (p : Proc Frame) → FitsAmong r n events p → Unset p.core → care.Referred p → AllFine p.core → EventInvariant p
 keeps r n events p f u h fine = record {
   owned = owns r n events p f u;
   cared = record { awake = awake p.core fine; wanted = λ i k e at m own. (h k).1 (i, e, at, m, own) };
@@ -62,13 +62,13 @@ module _ (futures : ℕ → ℕ) where
           by_test true q = let same : i ≡ x.0 = grind (arith, q) in absurd (no_thing (sym (above_none es x.0 n i up.2 (omega (arith, same))) ∙ at))
           by_test false q = at
 
-pub rests : (r : RawTree) (n : ℕ) (events : List (Pending What)) (p : Proc Frame) → AtRest p.core → FitsAmong r n events p → Unset p.core → care.Referred p → ((j : ℕ) → S j p.core) → RestsKept r p
+pub rests : (r : RawTree) (n : ℕ) (events : List (Pending What)) (p : Proc Frame) → AtRest p.core → FitsAmong r n events p → Unset p.core → care.Referred p → ((j : ℕ) → S j p.core) → BoundaryInvariant r p
 rests r n events p rest f u h steady = record {
   keeps = keeps r n events p f u h (λ j. inl (steady j));
   referred = all_held _ p.core.entries 0 p.core.started rest.orderly.numbered each;
 }
   where
-    each : (i : ℕ) (e : Entry) → thing p.core.entries i ≡ Some e → (e.marked ≡ false) × IsReferred e.result (λ k. Rattle.flow_meaning.specs.Occ.Occ (Rattle.flow_meaning.specs.Step.scanned (classes r) p) Rattle.flow_meaning.specs.Cells.FutureSide k p.core)
+    each : (i : ℕ) (e : Entry) → thing p.core.entries i ≡ Some e → (e.marked ≡ false) × IsReferred e.result (λ k. Rattle.flow_meaning.specs.References.reference_count (Rattle.flow_meaning.specs.Step.scanned (classes r) p) Rattle.flow_meaning.specs.Cells.FutureSide k p.core)
     each i e at = (unmarked, by_frame (thing p.actors i) (subst (λ z. ActorAt r f.types z (thing p.actors i) (tasks_of i p.core.tasks)) at (f.fits.actors i)))
       where
         by_mark : (b : Bool) → e.marked ≡ b → e.marked ≡ false
@@ -78,7 +78,7 @@ rests r n events p rest f u h steady = record {
         unmarked : e.marked ≡ false
         unmarked = by_mark e.marked refl
 
-        by_frame : (x : Option Frame) → ActorAt r f.types (Some e) x (tasks_of i p.core.tasks) → IsReferred e.result (λ k. Rattle.flow_meaning.specs.Occ.Occ (Rattle.flow_meaning.specs.Step.scanned (classes r) p) Rattle.flow_meaning.specs.Cells.FutureSide k p.core)
+        by_frame : (x : Option Frame) → ActorAt r f.types (Some e) x (tasks_of i p.core.tasks) → IsReferred e.result (λ k. Rattle.flow_meaning.specs.References.reference_count (Rattle.flow_meaning.specs.Step.scanned (classes r) p) Rattle.flow_meaning.specs.Cells.FutureSide k p.core)
         by_frame None a = absurd a
         by_frame (Some g) a =
-            subst (λ o. IsReferred o (λ k. Rattle.flow_meaning.specs.Occ.Occ (Rattle.flow_meaning.specs.Step.scanned (classes r) p) Rattle.flow_meaning.specs.Cells.FutureSide k p.core)) (sym a.owns) ((h a.result).1 (i, e, at, unmarked, a.owns))
+            subst (λ o. IsReferred o (λ k. Rattle.flow_meaning.specs.References.reference_count (Rattle.flow_meaning.specs.Step.scanned (classes r) p) Rattle.flow_meaning.specs.Cells.FutureSide k p.core)) (sym a.owns) ((h a.result).1 (i, e, at, unmarked, a.owns))

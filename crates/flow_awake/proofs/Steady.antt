@@ -10,7 +10,7 @@ use Rattle.flow_numbered.specs.Numbered.{Numbered, thing, put, removed}
 use Rattle.flow_meaning.specs.Cells.{Side, PromiseSide, FutureSide, side_of, Waiter, Cell, held, is_ready, waiters, taken, after_taking}
 use Rattle.flow_meaning.specs.Process.{Task, Run, Give, Throw, Entry, Core}
 use Rattle.flow_meaning.specs.Lines.{take_line, cancel_line, broken_line, end_line}
-use Rattle.flow_meaning.specs.Occ.{refs_in, value_in, Scan, Occ}
+use Rattle.flow_meaning.specs.References.{refs_in, value_in, Scan, reference_count}
 use Rattle.flow_meaning.specs.Orderly.{tasks_of, Rising}
 use Rattle.flow_meaning.specs.Work.{writes, pushed, dropping_values, fill_cell, fill, free_cell, free, running, leave_for, give, take_branch, owner, marked, cancel_by, cancel, cancel_owner}
 use Rattle.flow_meaning.specs.Dropping.{Loss, Kept, Freed, Broken, Orphan, Unheard, loss, port_of, suffer, lose_cell, lose_ref, drop, fire_to, fire_at, fire_cell, fire, set_result, give_result, close}
@@ -127,8 +127,8 @@ module _ (j : ℕ) where
       by_cell None = tt
       by_cell (Some cell) =
           let o = owner k c.entries in
-          suffer_steady k (loss s (Occ scan PromiseSide k c) (Occ scan FutureSide k c) cell o (port_of k c.ports)) c
-          (owned_loss c s (Occ scan PromiseSide k c) (Occ scan FutureSide k c) cell o (port_of k c.ports) (owned k c o up refl)) h
+          suffer_steady k (loss s (reference_count scan PromiseSide k c) (reference_count scan FutureSide k c) cell o (port_of k c.ports)) c
+          (owned_loss c s (reference_count scan PromiseSide k c) (reference_count scan FutureSide k c) cell o (port_of k c.ports) (owned k c o up refl)) h
 
   pub drop_steady : (scan : Scan) (kd : Kind) (k : ℕ) (c : Core) → Rising 0 c.started c.entries → S c → Unless S (drop scan kd k c)
   drop_steady scan kd k c up h = after_turn S (lose_ref scan (side_of kd) k) c c.left (λ n. lose_steady scan (side_of kd) k (record c { left = n }) up h)
@@ -169,7 +169,7 @@ module _ (j : ℕ) where
 
       by_result : (d : Core) (x : Option ℕ) → S d → Unless S (give_result scan x o d)
       by_result d None s = unless d.halted (dropping_steady (value_in o) d s)
-      by_result d (Some k) s = by_futures d k (Occ scan FutureSide k d) s
+      by_result d (Some k) s = by_futures d k (reference_count scan FutureSide k d) s
 
   -- a task on top
   pub push_steady : (i : ℕ) (t : Task) (c : Core) → IsOf i t → ((ts : List Task) → Steps (t ∷ ts) → i ≡ j → NoOperand (thing c.entries j)) → S c → S (pushed t c)

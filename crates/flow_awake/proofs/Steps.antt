@@ -10,10 +10,10 @@ use Rattle.flow_class.specs.Classes.{ClassTree, RawTree}
 use Rattle.flow_class.specs.Code.{callback_at}
 use Rattle.flow_numbered.specs.Numbered.{Numbered, thing, put, removed}
 use Rattle.flow_meaning.specs.Cells.{Ref}
-use Rattle.flow_meaning.specs.Asks.{Spot, Act, Goes, Pass, Drops, Effects, Operand, Waits, Sends, Cancels, Prints, SendsTo, Returns, Throws, RunsOut, Stuck, Effect, Make, Start, Draw, Delay, Never, Listen, Disk, Goal, Ask, Supply}
+use Rattle.flow_meaning.specs.Requests.{Spot, Act, Goes, Pass, Drops, Effects, Operand, Waits, Sends, Cancels, Prints, SendsTo, Returns, Throws, RunsOut, Stuck, Effect, Make, Start, Draw, Delay, Never, Listen, Disk, Goal, Ask, Supply}
 use Rattle.flow_meaning.specs.Process.{Task, Run, Give, Throw, Catch, Store, Keep, Close, Fire, Drop, Entry, Halt, Core, Proc, Raised}
 use Rattle.flow_meaning.specs.Lines.{throw_line, catch_line}
-use Rattle.flow_meaning.specs.Occ.{scan_of}
+use Rattle.flow_meaning.specs.References.{scan_of}
 use Rattle.flow_meaning.specs.Orderly.{Orderly, tasks_of, is_of, NextStep}
 use Rattle.flow_meaning.specs.Dropping.{close, drop, fire}
 use Rattle.flow_meaning.specs.Effects.{effect}

@@ -42,7 +42,7 @@ use Rattle.flow_runs.proofs.Events.{Good, next_good, event_begins, at_process, e
 use Rattle.flow_owned.specs.Unset.{Unset}
 use Rattle.flow_owned.proofs.Worlds as own
 use Rattle.flow_referred.proofs.Worlds as care
-use Rattle.flow_awake.specs.Awake.{AreWhole, Keeps, RestsKept, WorldRests, StatesRest, Comes, now, later, StepsKeep}
+use Rattle.flow_awake.specs.Awake.{AreWhole, EventInvariant, BoundaryInvariant, WorldRests, StatesRest, Comes, now, later, StepsKeep}
 use Rattle.flow_awake.proofs.Groups.{Begins, group_begins}
 use Rattle.flow_awake.proofs.Steady.{S}
 use Rattle.flow_awake.proofs.Steps.{Fine, step_fine}
@@ -197,11 +197,11 @@ module _ (r : RawTree) (valid : IsValid r) (actors : List RoutineTree) (rules : 
     burst_right s t (burst.rests e) g = g
     burst_right s t (burst.steps next e k) g = burst_right next t k (next_right s next g e)
 
-    right_keeps : (l : Live Outside Frame) → Right places count n l → UnlessStopped l.proc.core.halted (Keeps l.proc)
+    right_keeps : (l : Live Outside Frame) → Right places count n l → UnlessStopped l.proc.core.halted (EventInvariant l.proc)
     right_keeps l g = by_halt l.proc.core.halted g.fits.own g.unset g.refers g.fine
       where
         by_halt : (x : Option Halt) → Meant x (FitsAmong r n l.out.events.pending l.proc) → UnlessStopped x (Unset l.proc.core) → UnlessStopped x (care.Referred l.proc) → UnlessStopped x (AllFine l.proc.core)
-            → UnlessStopped x (Keeps l.proc)
+            → UnlessStopped x (EventInvariant l.proc)
         by_halt None f u h fine = keeps r n l.out.events.pending l.proc f u h fine
         by_halt (Some x) f u h fine = tt
 
@@ -223,7 +223,7 @@ module _ (r : RawTree) (valid : IsValid r) (actors : List RoutineTree) (rules : 
         steady = active_rests w.places l.out.active 0 (record { up = b.place.up; proc = l.proc }) l.out.events.pending fits.places h.steady (subst (λ x. UnlessStopped x (AllFine l.proc.core)) go end.fine);
       }
 
-  all_rest : (ps : List (Place Frame)) (n : ℕ) (es : List (Pending What)) → AllRest r n es ps → own.AllUnset ps → care.AllReferred ps → PlacesSteady ps → AllByRecursion (λ (a : Place Frame). RestsKept r a.proc) ps
+  all_rest : (ps : List (Place Frame)) (n : ℕ) (es : List (Pending What)) → AllRest r n es ps → own.AllUnset ps → care.AllReferred ps → PlacesSteady ps → AllByRecursion (λ (a : Place Frame). BoundaryInvariant r a.proc) ps
   all_rest [] n es f u h s = tt
   all_rest (p ∷ ps) n es f u h s = (rests r n es p.proc f.0.0 f.0.1 u.0 h.0 s.0, all_rest ps (suc n) es f.1 u.1 h.1 s.1)
 
@@ -235,7 +235,7 @@ module _ (r : RawTree) (valid : IsValid r) (actors : List RoutineTree) (rules : 
   runs_rest h (spent b l e g q s) = tt
   runs_rest {w = w} h (event b l e g q go more) = let k = event_keeps w b l h g q go in (world_rests (after w b l) k, runs_rest k more)
 
-  comes_keeps : (w : World Frame) (l : Live Outside Frame) → Kept w → Comes r w l → UnlessStopped l.proc.core.halted (Keeps l.proc)
+  comes_keeps : (w : World Frame) (l : Live Outside Frame) → Kept w → Comes r w l → UnlessStopped l.proc.core.halted (EventInvariant l.proc)
   comes_keeps w l h (now b e g reach) =
       let start = event_right w h b g in
       right_keeps w.places w.out.file.processes start.0 l (reached_right w.places w.out.file.processes start.0 (before b) l reach start.1)

@@ -32,18 +32,18 @@ pub record AreWhole (r : RawTree) : Type 0 where
 
 -- What a process keeps: what it made a cell for is its own; an actor that is marked as cancelled runs, and a
 -- future refers to the result of any other unfinished actor; and each cell is referred to.
-pub record Keeps (p : Proc Frame) : Type 0 where
+pub record EventInvariant (p : Proc Frame) : Type 0 where
   pub owned : Owned p
   pub cared : Cared p
   pub referenced : Referenced p
 
 -- At rest moreover no unfinished actor is marked, so that a future refers to the result of each.
-pub record RestsKept (r : RawTree) (p : Proc Frame) : Type 0 where
-  pub keeps : Keeps p
+pub record BoundaryInvariant (r : RawTree) (p : Proc Frame) : Type 0 where
+  pub keeps : EventInvariant p
   pub referred : Referred (classes r) p
 
 abbrev pub WorldRests : RawTree → World Frame → Type 0
-WorldRests r w = AllByRecursion (λ (a : Place Frame). RestsKept r a.proc) w.places
+WorldRests r w = AllByRecursion (λ (a : Place Frame). BoundaryInvariant r a.proc) w.places
 
 -- So it is at each boundary of a run in the world of a file in range.
 abbrev pub StatesRest : RawTree → Type 0
@@ -63,4 +63,4 @@ pub data Comes (r : RawTree) : World Frame → Live Outside Frame → Type 0 whe
 abbrev pub StepsKeep : RawTree → Type 0
 StepsKeep r =
     (w : file.World) (l : Live Outside Frame) → file.IsInRange w → Comes r (at_start w) l
-    → UnlessStopped l.proc.core.halted (Keeps l.proc)
+    → UnlessStopped l.proc.core.halted (EventInvariant l.proc)

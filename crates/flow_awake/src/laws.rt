@@ -7,7 +7,7 @@ ghost use Rattle.flow_awake.specs.Awake.{AreWhole, StatesRest, StepsKeep};
 /// event, unless it is stopped, an actor that is marked as cancelled runs, a future refers to the result of each
 /// other unfinished actor, each cell is referred to, and what the process made a cell for is its own. At each
 /// boundary of the run no unfinished actor is marked, so that a future refers to the result of each.
-pub fn awake_kept()
+pub fn boundaries_have_no_marked_actor()
     ensures steps { (r : RawTree) → AreWhole r → StepsKeep r }
     ensures states { (r : RawTree) → AreWhole r → StatesRest r }
 {}

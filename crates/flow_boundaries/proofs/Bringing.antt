@@ -18,20 +18,20 @@ use Rattle.flow_picture.specs.Holds.{hold_all}
 use Rattle.flow_steps.specs.declared.process.Process.{Process}
 use Rattle.flow_steps.specs.Doing.{begun, turned}
 use Rattle.flow_steps.specs.Holding.{on_heap, outcome_refs}
-use Rattle.flow_steps.specs.Bringing.{brought, content_brought, answered, main_dropped}
-use Rattle.flow_follows.specs.Shown.{Follows, shows, ends, AreSpent}
+use Rattle.flow_steps.specs.Delivering.{brought, content_brought, answered, main_dropped}
+use Rattle.flow_follows.specs.Matching.{Matches, shows, ends, AreSpent}
 use Rattle.flow_effects.proofs.Brings.{event_begins, delivered, arrived, stopped}
-use Rattle.flow_poised.specs.Poised.{Poised}
+use Rattle.flow_poised.specs.StaleWaits.{NoStaleWaits}
 use Rattle.flow_poised.proofs.Aside as aside
 use Rattle.flow_poised.proofs.Aside.{Aside}
 use Rattle.flow_poised.proofs.Steps.{aside_poised, turned_good}
-use Rattle.flow_kept.specs.Kept.{Kept}
+use Rattle.flow_kept.specs.Invariant.{ProcessInvariant}
 use Rattle.flow_kept.specs.Allowed.{BetweenTasks}
 use Rattle.flow_kept.proofs.Rising.{HeapStays, still, and_then, hold_all_stays, filled_stays}
 use Rattle.flow_kept.proofs.Quiet.{Quiet, quiet_still, quiet_then, quiet_speaks, speaks_stay, on_heap_quiet, turned_quiet}
 use Rattle.flow_kept.proofs.Once.{sorted_stays}
-use Rattle.flow_boundaries.specs.Bringing as law
-use Rattle.flow_boundaries.specs.Bringing.{Resting, IsBrought}
+use Rattle.flow_boundaries.specs.Delivering as law
+use Rattle.flow_boundaries.specs.Delivering.{Resting, IsDelivered}
 
 -- what is brought, and what it does to the heap
 module _ (kd : Kind) (k : ℕ) (o : Outcome) (m : Process) where
@@ -48,10 +48,10 @@ module _ (kd : Kind) (k : ℕ) (o : Outcome) (m : Process) where
       by_turn true = quiet_then m (turned m) (on_heap (content_brought kd k o) (turned m)) (turned_quiet m) (on_heap_quiet (content_brought kd k o) (turned m) (content_stays (turned m).heap))
       by_turn false = turned_quiet m
 
-  brought_poised : Poised m.heap → Poised (brought kd k o m).heap
+  brought_poised : NoStaleWaits m.heap → NoStaleWaits (brought kd k o m).heap
   brought_poised p = by_turn (nat_lt 0 m.left)
     where
-      by_turn : (b : Bool) → Poised (if b then on_heap (content_brought kd k o) (turned m) else turned m).heap
+      by_turn : (b : Bool) → NoStaleWaits (if b then on_heap (content_brought kd k o) (turned m) else turned m).heap
       by_turn true = aside_poised (turned m).heap (content_brought kd k o (turned m).heap) (content_aside (turned m).heap) (turned_good m p)
       by_turn false = turned_good m p
 
@@ -73,7 +73,7 @@ module _ (r : RawTree) (m : Process) (p : Proc Frame) (now turns : ℕ) where
   abbrev start : Process
   start = begun now turns m
 
-  is_brought : (n : Process) (q : Proc Frame) → Resting r m p → Quiet start n → Poised n.heap → Follows r [] nothing_in_hand n q → IsBrought r now n q
+  is_brought : (n : Process) (q : Proc Frame) → Resting r m p → Quiet start n → NoStaleWaits n.heap → Matches r [] nothing_in_hand n q → IsDelivered r now n q
   is_brought n q rest quiet poised follows = record {
     follows = follows;
     sorted = sorted_stays start n (speaks_stay start n (quiet_speaks start n rest.shown.asked quiet)) rest.sorted;
@@ -107,6 +107,6 @@ module _ (r : RawTree) (m : Process) (p : Proc Frame) (now turns : ℕ) where
 pub burst_begins : law.BurstBegins
 burst_begins r now n p is kept = by_follows is.follows
   where
-    by_follows : Follows r [] nothing_in_hand n p → BetweenTasks r [] n p ⊎ AreSpent [] n p
-    by_follows (shows s) = inl (record { shown = s; sorted = is.sorted; kept = subst (λ h. UnlessStopped h (Kept r p)) s.goes kept })
+    by_follows : Matches r [] nothing_in_hand n p → BetweenTasks r [] n p ⊎ AreSpent [] n p
+    by_follows (shows s) = inl (record { shown = s; sorted = is.sorted; kept = subst (λ h. UnlessStopped h (ProcessInvariant r p)) s.goes kept })
     by_follows (ends s) = inr s

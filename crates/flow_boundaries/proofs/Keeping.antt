@@ -29,7 +29,7 @@ use Rattle.flow_runs.proofs.Events.{event_begins, at_process, event_kept}
 use Rattle.flow_owned.specs.Unset.{Unset}
 use Rattle.flow_owned.proofs.Worlds.{unset_at, start_unset, begun_unset, event_unset}
 use Rattle.flow_follows.specs.Working.{Sendable}
-use Rattle.flow_kept.specs.Kept.{Kept}
+use Rattle.flow_kept.specs.Invariant.{ProcessInvariant}
 use Rattle.flow_kept.proofs.Keeping.{among_kept}
 use Rattle.flow_boundaries.specs.Boundaries as law
 use Rattle.flow_boundaries.specs.Boundaries.{WorldKeeps, process_at}
@@ -60,7 +60,7 @@ module _ (r : RawTree) (v : AreValid r) where
   pub ready_kept : law.ReadyKept r
   ready_kept w n k lt = among_kept r n w.out.events.pending (ready w n).proc (fits_at w n k lt) (unset_at w.places n k.unset)
 
-  both : (n : ℕ) (events : List (Pending What)) (p : Proc Frame) (h : Option Halt) → Meant h (FitsAmong r n events p) → UnlessStopped h (Unset p.core) → UnlessStopped h (Kept r p)
+  both : (n : ℕ) (events : List (Pending What)) (p : Proc Frame) (h : Option Halt) → Meant h (FitsAmong r n events p) → UnlessStopped h (Unset p.core) → UnlessStopped h (ProcessInvariant r p)
   both n events p None f u = among_kept r n events p f u
   both n events p (Some x) f u = tt
 

@@ -20,7 +20,7 @@ use Rattle.flow_runs.specs.Due.{sets}
 use Rattle.flow_runs.specs.Among.{WorldFits}
 use Rattle.flow_owned.specs.Unset.{Unset}
 use Rattle.flow_follows.specs.Working.{Sendable}
-use Rattle.flow_kept.specs.Kept.{Kept}
+use Rattle.flow_kept.specs.Invariant.{ProcessInvariant}
 
 -- Each process of a world fits among the pending events, and the cells that it is to set itself are
 -- unset.
@@ -44,12 +44,12 @@ process_at w n = (slice_index_or w.places n (record { up = false; proc = idle })
 
 -- It keeps what it has to where an event begins, and where the burst of the event begins.
 abbrev pub ReadyKept : RawTree → Type 0
-ReadyKept r = (w : World Frame) (n : ℕ) → WorldKeeps r w → n < w.out.file.processes → Kept r (ready w n).proc
+ReadyKept r = (w : World Frame) (n : ℕ) → WorldKeeps r w → n < w.out.file.processes → ProcessInvariant r (ready w n).proc
 
 abbrev pub BegunKept : RawTree → Type 0
 BegunKept r =
     (w : World Frame) (b : Begun Frame) → WorldKeeps r w → begun_by (classes r) w (next_of w.out) ≡ Some b
-    → UnlessStopped b.place.proc.core.halted (Kept r b.place.proc)
+    → UnlessStopped b.place.proc.core.halted (ProcessInvariant r b.place.proc)
 
 -- What the next event sets is the cell of an open request, and unset.
 abbrev pub AnswerDue : RawTree → Type 0

@@ -1,2 +1,2 @@
 pub mod Boundaries
-pub mod Bringing
+pub mod Delivering

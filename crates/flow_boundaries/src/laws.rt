@@ -3,11 +3,11 @@
 ghost use Rattle.flow_class.specs.Classes.{RawTree};
 ghost use Rattle.flow_runs.specs.Laws.{AreValid};
 ghost use Rattle.flow_boundaries.specs.Boundaries.{StartKeeps, EventKeeps, ReadyKept, BegunKept, AnswerDue};
-ghost use Rattle.flow_boundaries.specs.Bringing.{BeginBrings, AnswerBrings, ElementBrings, StopBrings, BurstBegins, AtBegins};
+ghost use Rattle.flow_boundaries.specs.Delivering.{BeginBrings, AnswerBrings, ElementBrings, StopBrings, BurstBegins, AtBegins};
 
 /// The processes of a world of valid classes keep what they have to before the first event and after each; the process of an event
 /// does where it begins, and where its burst begins. What a timer or a disk answers is an open request of it.
-pub fn events_keep()
+pub fn events_preserve_invariant()
     ensures start { (r : RawTree) → StartKeeps r }
     ensures event { (r : RawTree) → AreValid r → EventKeeps r }
     ensures ready { (r : RawTree) → AreValid r → ReadyKept r }
@@ -17,7 +17,7 @@ pub fn events_keep()
 
 /// What is brought to a process in memory at the begin of an event leaves it in order, asking nothing, and showing the process of the
 /// definitions to which the same was brought. So a burst of it begins, by what that one keeps, unless the event is spent.
-pub fn bursts_begin()
+pub fn deliveries_begin_bursts()
     ensures begin { AtBegins BeginBrings }
     ensures answer { AtBegins AnswerBrings }
     ensures element { AtBegins ElementBrings }

@@ -10,7 +10,7 @@ use Rattle.flow_numbered.specs.Numbered.{Numbered}
 use Rattle.flow_meaning.specs.Process.{Proc}
 use Rattle.flow_meaning.specs.Dropping.{port_of}
 use Rattle.flow_meaning.specs.Frame.{Frame}
-use Rattle.flow_picture.specs.Shows.{Shows}
+use Rattle.flow_picture.specs.Representing.{Represents}
 use Rattle.flow_picture.specs.Rested.{PortsRise, InNumbers}
 use Rattle.flow_kept.proofs.Once.{Once, has_first, with_first, first_alone, others_once, nor_second, not_either}
 
@@ -22,7 +22,7 @@ none_above above n k (x ∷ ps) l h = by_test (nat_eq k x.1) refl (none_above x.
     by_test true e rest = absurd (let f : ⊥ = grind (arith, nat_tests, e, l, h.1) in f)
     by_test false e rest = rest
 
-pub no_port : (r : RawTree) (h : HeapTree) (p : Proc Frame) → Shows r h p → InNumbers p.core → has_number h.ports (next_cell h) ≡ false
+pub no_port : (r : RawTree) (h : HeapTree) (p : Proc Frame) → Represents r h p → InNumbers p.core → has_number h.ports (next_cell h) ≡ false
 no_port r h p s n =
     ap (has_number h.ports) s.made ∙ s.ports (suc p.core.made) ∙ ap is_some (none_above 0 p.core.made (suc p.core.made) p.core.ports (omega arith) n.ports)
 

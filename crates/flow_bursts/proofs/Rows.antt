@@ -9,7 +9,7 @@ use Rattle.flow_trace.specs.declared.line.Line.{Line}
 use Rattle.flow_cancel.specs.Heap.{has_number, next_cell}
 use Rattle.flow_cancel.specs.declared.task.Task as stack
 use Rattle.flow_numbered.specs.Numbered.{Numbered}
-use Rattle.flow_meaning.specs.Asks.{Request}
+use Rattle.flow_meaning.specs.Requests.{Request}
 use Rattle.flow_meaning.specs.Process.{Spent, Proc}
 use Rattle.flow_meaning.specs.Orderly.{UnlessStopped}
 use Rattle.flow_meaning.specs.Burst.{Host, live, serve, advanced}
@@ -26,27 +26,27 @@ use Rattle.flow_steps.specs.declared.process.Next.{Next}
 use Rattle.flow_steps.specs.declared.process.Next.TheVariants as next
 use Rattle.flow_steps.specs.declared.process.Process.{Process}
 use Rattle.flow_steps.specs.Doing.{unasked}
-use Rattle.flow_steps.specs.Sights.{program_time}
+use Rattle.flow_steps.specs.Evaluating.{program_time}
 use Rattle.flow_steps.specs.Tasks.{TopTaken, IsDone, Tasks, all_spent, no_task, task_asks, task_done}
 use Rattle.flow_machine.specs.declared.host.Burst.{Burst}
 use Rattle.flow_machine.specs.declared.host.Burst.TheVariants as burst
 use Rattle.flow_machine.specs.Serving.{Served, ServedIf}
 use Rattle.flow_machine.specs.Bursts.{Bursts, rests, runs_out, asks}
 use Rattle.flow_follows.specs.Stepped.{OnlyTells}
-use Rattle.flow_follows.specs.Shown.{told, Shown, AreSpent, shows, ends}
-use Rattle.flow_follows.specs.Shown as memory
+use Rattle.flow_follows.specs.Matching.{told, ProcessRepresents, AreSpent, shows, ends}
+use Rattle.flow_follows.specs.Matching as memory
 use Rattle.flow_served.specs.Serving as serving
-use Rattle.flow_served.specs.Serving.{Told}
+use Rattle.flow_served.specs.Serving.{WroteOrQuiet}
 use Rattle.flow_served.proofs.Serving.{line_written, port_unheard}
-use Rattle.flow_kept.specs.Kept.{Kept}
+use Rattle.flow_kept.specs.Invariant.{ProcessInvariant}
 use Rattle.flow_kept.specs.Staying.{Stays}
-use Rattle.flow_kept.specs.Allowed.{IsRun}
+use Rattle.flow_kept.specs.Allowed.{IsValidCode}
 use Rattle.flow_kept.proofs.Once.{sorted_stays}
 use Rattle.flow_kept.proofs.Stays.{task_stays}
 use Rattle.flow_bursts.specs.Bursting as law
-use Rattle.flow_bursts.specs.Bursting.{ports_left, Steadfast, Abroad, AsksWorld, TaskGoes, by_itself, by_the_world, TasksGo, Wrote, no_line, and_more, EndsAs, Follows}
+use Rattle.flow_bursts.specs.Bursting.{ports_left, HostKeepsTime, RepresentsInWorld, AsksWorld, TaskGoes, by_itself, by_the_world, TasksGo, Wrote, no_line, and_more, EndsAs, SimulatesBurst}
 use Rattle.flow_bursts.proofs.Ports.{no_port}
-use Rattle.flow_poised.specs.Poised.{Poised, Branched}
+use Rattle.flow_poised.specs.StaleWaits.{NoStaleWaits, Branched}
 use Rattle.flow_poised.proofs.Tasks.{task_keeps}
 use Rattle.flow_bursts.proofs.Service.{Serves, served_serves}
 use Rattle.flow_bursts.proofs.Standing.{served_poised}
@@ -71,19 +71,19 @@ three : (xs ys zs : List Line) → (xs ++ ys) ++ zs ≡ xs ++ (ys ++ zs)
 three [] ys zs = refl
 three (x ∷ xs) ys zs = ap (λ k. x ∷ k) (three xs ys zs)
 
-module _ {A W : Type 0} (serves : Host W) (shown_by : A → Numbered ℕ → W → Type 0) (wrote : A → List Line → A → Type 0) (code : Code) (processes : ℕ) (r : RawTree) (run : IsRun r code) where
+module _ {A W : Type 0} (serves : Host W) (shown_by : A → Numbered ℕ → W → Type 0) (wrote : A → List Line → A → Type 0) (code : Code) (processes : ℕ) (r : RawTree) (run : IsValidCode r code) where
   abbrev In : List Line → Process → A → Proc Frame → W → Type 0
-  In ls m a p w = Abroad serves shown_by wrote code processes r ls m a p w
+  In ls m a p w = RepresentsInWorld serves shown_by wrote code processes r ls m a p w
 
   abbrev To : Proc Frame → W → Proc Frame → W → Type 0
   To p w q u = Reaches (classes r) serves (live p w) (live q u)
 
   -- what holds between tasks
-  kept_then : (p q : Proc Frame) (w u : W) → Kept r p → p.core.halted ≡ None → q.core.halted ≡ None → To p w q u → Kept r q
+  kept_then : (p q : Proc Frame) (w u : W) → ProcessInvariant r p → p.core.halted ≡ None → q.core.halted ≡ None → To p w q u → ProcessInvariant r q
   kept_then p q w u k here_goes goes reach =
-      subst (λ x. UnlessStopped x (Kept r q)) goes (reaches_keep serves r run.valid (live p w) (live q u) (subst (λ x. UnlessStopped x (Kept r p)) (sym here_goes) k) reach)
+      subst (λ x. UnlessStopped x (ProcessInvariant r q)) goes (reaches_keep serves r run.valid (live p w) (live q u) (subst (λ x. UnlessStopped x (ProcessInvariant r p)) (sym here_goes) k) reach)
 
-  pub in_then : (ls : List Line) (m n : Process) (a : A) (p q : Proc Frame) (w : W) → In ls m a p w → Stays m n → Poised n.heap → To p w q w → Shown r ls nothing_in_hand n q → n.asked ≡ None → (n.spent ≡ false → q.core.ports ≡ ports_left n.asked p.core.ports) → In ls n a q w
+  pub in_then : (ls : List Line) (m n : Process) (a : A) (p q : Proc Frame) (w : W) → In ls m a p w → Stays m n → NoStaleWaits n.heap → To p w q w → ProcessRepresents r ls nothing_in_hand n q → n.asked ≡ None → (n.spent ≡ false → q.core.ports ≡ ports_left n.asked p.core.ports) → In ls n a q w
   in_then ls m n a p q w now stays poised reach s none ports = record {
     between = record { shown = s; sorted = sorted_stays m n stays now.between.sorted; kept = kept_then p q w w now.between.kept now.between.shown.goes s.goes reach };
     asked = none;
@@ -98,9 +98,9 @@ module _ {A W : Type 0} (serves : Host W) (shown_by : A → Numbered ℕ → W �
   pub data TasksEnd (ls : List Line) (m : Process) (a : A) (p : Proc Frame) (w : W) : Next → Process → Type 0 where
     rested : (n : Process) (q : Proc Frame) → To p w q w → In ls n a q w → q.core.tasks ≡ [] → TasksEnd ls m a p w next.Rested n
     spent : (n : Process) (q : Proc Frame) → To p w q w → AreSpent ls n q → n.asked ≡ None → TasksEnd ls m a p w next.Spent n
-    told_last : (n k : Process) (o q : Proc Frame) → To p w o w → In ls k a o w → Stays k n → Poised n.heap → To o w q w → memory.Follows r ls nothing_in_hand n q
+    told_last : (n k : Process) (o q : Proc Frame) → To p w o w → In ls k a o w → Stays k n → NoStaleWaits n.heap → To o w q w → memory.Matches r ls nothing_in_hand n q
         → OnlyTells n.asked → (n.spent ≡ false → q.core.ports ≡ ports_left n.asked o.core.ports) → is_some n.asked ≡ true → TasksEnd ls m a p w next.Asks n
-    asked_last : (n k : Process) (o q : Proc Frame) → To p w o w → In ls k a o w → Stays k n → Poised n.heap → To o w q w → AsksWorld serves shown_by wrote code processes r ls n a q w
+    asked_last : (n k : Process) (o q : Proc Frame) → To p w o w → In ls k a o w → Stays k n → NoStaleWaits n.heap → To o w q w → AsksWorld serves shown_by wrote code processes r ls n a q w
         → TasksEnd ls m a p w next.Asks n
 
   onward_end : (ls : List Line) (m k : Process) (a : A) (p q : Proc Frame) (w : W) (e : Next) (n : Process) → To p w q w → TasksEnd ls k a q w e n → TasksEnd ls m a p w e n
@@ -118,12 +118,12 @@ module _ {A W : Type 0} (serves : Host W) (shown_by : A → Numbered ℕ → W �
 
   -- What a step asked is served: then the process is in its world again, with the lines that were written; or the event is spent.
   pub data ServedThen (ls : List Line) (a : A) (p : Proc Frame) (w : W) (j : Process) (b : A) : Type 0 where
-    lives_on : (more : List Line) (t : Proc Frame) (u : W) → To p w t u → Told serves shown_by wrote r nothing_in_hand a more b → In (ls ++ more) j b t u → ServedThen ls a p w j b
-    is_spent : (more : List Line) (t : Proc Frame) → To p w t w → Told serves shown_by wrote r nothing_in_hand a more b → j.spent ≡ true → t.core.halted ≡ Some Spent → t.core.lines ≡ ls ++ more
+    lives_on : (more : List Line) (t : Proc Frame) (u : W) → To p w t u → WroteOrQuiet serves shown_by wrote r nothing_in_hand a more b → In (ls ++ more) j b t u → ServedThen ls a p w j b
+    is_spent : (more : List Line) (t : Proc Frame) → To p w t w → WroteOrQuiet serves shown_by wrote r nothing_in_hand a more b → j.spent ≡ true → t.core.halted ≡ Some Spent → t.core.lines ≡ ls ++ more
         → ServedThen ls a p w j b
 
-  module _ (branched : Branched code.classes.items) (steady : Steadfast serves) (go : TasksGo serves shown_by wrote code processes r) where
-    still_poised : (ls : List Line) (m start n : Process) (a : A) (p : Proc Frame) (w : W) (t : stack.Task) → In ls m a p w → TopTaken t m start → IsDone code t start n → Poised n.heap
+  module _ (branched : Branched code.classes.items) (steady : HostKeepsTime serves) (go : TasksGo serves shown_by wrote code processes r) where
+    still_poised : (ls : List Line) (m start n : Process) (a : A) (p : Proc Frame) (w : W) (t : stack.Task) → In ls m a p w → TopTaken t m start → IsDone code t start n → NoStaleWaits n.heap
     still_poised ls m start n a p w t now taken done = task_keeps code t m start n branched now.between.sorted.frames now.poised taken done
 
     pub tasks_end : (ls : List Line) (m n : Process) (e : Next) (a : A) (p : Proc Frame) (w : W) → In ls m a p w → Tasks code m e n → TasksEnd ls m a p w e n
@@ -151,10 +151,10 @@ module _ {A W : Type 0} (serves : Host W) (shown_by : A → Numbered ℕ → W �
         by_goes (by_the_world q reach world) further = absurd (no_thing (sym none ∙ world.asked))
 
     abbrev Goes : List Line → A → Proc Frame → W → Burst → Process → A → Type 0
-    Goes ls a p w e n b = Follows serves shown_by wrote code processes r ls a p w e n b
+    Goes ls a p w e n b = SimulatesBurst serves shown_by wrote code processes r ls a p w e n b
 
     -- steps before a burst, with their lines
-    before : (ls more : List Line) (a b c : A) (p q : Proc Frame) (w u : W) (e : Burst) (n : Process) → To p w q u → Told serves shown_by wrote r nothing_in_hand a more b → Goes (ls ++ more) b q u e n c → Goes ls a p w e n c
+    before : (ls more : List Line) (a b c : A) (p q : Proc Frame) (w u : W) (e : Burst) (n : Process) → To p w q u → WroteOrQuiet serves shown_by wrote r nothing_in_hand a more b → Goes (ls ++ more) b q u e n c → Goes ls a p w e n c
     before ls more a b c p q w u e n reach said f = record {
       after = f.after;
       out = f.out;
@@ -186,8 +186,8 @@ module _ {A W : Type 0} (serves : Host W) (shown_by : A → Numbered ℕ → W �
     }
 
     -- what a step told is served
-    module _ (ls : List Line) (k n j : Process) (a b : A) (o q : Proc Frame) (w : W) (now : In ls k a o w) (stays : Stays k n) (poised : Poised n.heap) (reach : To o w q w) where
-      told_in : (more : List Line) → serving.Lives serves shown_by wrote r nothing_in_hand more j b q w → Serves (unasked n) j → Poised j.heap → In more j b q w
+    module _ (ls : List Line) (k n j : Process) (a b : A) (o q : Proc Frame) (w : W) (now : In ls k a o w) (stays : Stays k n) (poised : NoStaleWaits n.heap) (reach : To o w q w) where
+      told_in : (more : List Line) → serving.Lives serves shown_by wrote r nothing_in_hand more j b q w → Serves (unasked n) j → NoStaleWaits j.heap → In more j b q w
       told_in more lives s after = record {
         between = record {
           shown = lives.shown;
@@ -202,11 +202,11 @@ module _ {A W : Type 0} (serves : Host W) (shown_by : A → Numbered ℕ → W �
         poised = after;
       }
 
-      free : Shown r ls nothing_in_hand n q → has_number (unasked n).heap.ports (next_cell (unasked n).heap) ≡ false
+      free : ProcessRepresents r ls nothing_in_hand n q → has_number (unasked n).heap.ports (next_cell (unasked n).heap) ≡ false
       free s = no_port r n.heap q s.holds.shows (kept_then o q w w now.between.kept now.between.shown.goes s.goes reach).tied.numbers
 
       -- where it told nothing more than a line, or that a port is heard no more
-      told_then : (some : is_some n.asked ≡ true) (x : Option Call) → n.asked ≡ x → OnlyTells x → (n.spent ≡ false → q.core.ports ≡ ports_left x o.core.ports) → memory.Follows r ls nothing_in_hand n q
+      told_then : (some : is_some n.asked ≡ true) (x : Option Call) → n.asked ≡ x → OnlyTells x → (n.spent ≡ false → q.core.ports ≡ ports_left x o.core.ports) → memory.Matches r ls nothing_in_hand n q
           → ServedIf serves shown_by wrote processes x (unasked n) a j b → ServedThen ls a o w j b
       told_then some None is fits ports f served = absurd (none_some n.asked some is)
       told_then some (Some (call.Line l)) is fits ports (shows s) served =

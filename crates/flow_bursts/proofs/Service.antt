@@ -9,7 +9,7 @@ use Rattle.flow_value.specs.declared.value.Kind.TheVariants as kind
 use Rattle.flow_trace.specs.declared.line.Line.{Line}
 use Rattle.flow_cancel.specs.Heap.{HeapTree, has_number, next_cell}
 use Rattle.flow_numbered.specs.Numbered.{Numbered}
-use Rattle.flow_meaning.specs.Asks.{DiskCall}
+use Rattle.flow_meaning.specs.Requests.{DiskCall}
 use Rattle.flow_meaning.specs.Burst.{Host}
 use Rattle.flow_picture.specs.Rested.{Sorted}
 use Rattle.flow_steps.specs.declared.call.Call.{Call}
@@ -17,7 +17,7 @@ use Rattle.flow_steps.specs.declared.call.Call.TheVariants as call
 use Rattle.flow_steps.specs.declared.call.Goal.{Goal}
 use Rattle.flow_steps.specs.declared.process.Process.{Process}
 use Rattle.flow_steps.specs.Holding.{on_heap}
-use Rattle.flow_steps.specs.Bringing.{made, requested, OpenGiven, PortGiven}
+use Rattle.flow_steps.specs.Delivering.{made, requested, OpenGiven, PortGiven}
 use Rattle.flow_machine.specs.Serving.{Thrown, DrawServed, DelayServed, DiskServed, PortOpened, ListenServed, SendServed, Served}
 use Rattle.flow_kept.proofs.Once.{Once}
 use Rattle.flow_kept.proofs.Rising.{HeapStays, made_stays, hold_stays}

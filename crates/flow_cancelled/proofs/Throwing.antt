@@ -4,9 +4,9 @@ use Rattle.std.specs.declared.option.Option.{Option}
 use Rattle.std.specs.declared.option.Option.TheVariants.{None, Some}
 use Rattle.flow_numbered.specs.Numbered.{thing, put}
 use Rattle.flow_meaning.specs.Cells.{Ref}
-use Rattle.flow_meaning.specs.Asks.{Spot, Supply}
+use Rattle.flow_meaning.specs.Requests.{Spot, Supply}
 use Rattle.flow_meaning.specs.Process.{Task, Run, Throw, Keep, Entry, Raised, Proc, Engine}
-use Rattle.flow_meaning.specs.Occ.{refs_in}
+use Rattle.flow_meaning.specs.References.{refs_in}
 use Rattle.flow_meaning.specs.Work.{is_ready_at}
 use Rattle.flow_meaning.specs.Step.{Stepped, silent, step_if, step_tasks, step, do_task, popped, keep, keep_by, verdict, with_operand, throw, throw_core, proc}
 use Rattle.flow_cancelled.specs.Cancelled as law

@@ -4,7 +4,7 @@ use Rattle.std.specs.declared.option.Option.TheVariants.{None, Some}
 use Rattle.flow_base.specs.ErrorNumbers.{operation_cancelled}
 use Rattle.flow_numbered.specs.Numbered.{thing}
 use Rattle.flow_meaning.specs.Cells.{Ref}
-use Rattle.flow_meaning.specs.Asks.{Spot, Supply}
+use Rattle.flow_meaning.specs.Requests.{Spot, Supply}
 use Rattle.flow_meaning.specs.Lines.{throw_line}
 use Rattle.flow_meaning.specs.Process.{Task, Run, Throw, Keep, Entry, Proc, Engine}
 use Rattle.flow_meaning.specs.Work.{drops}

@@ -11,7 +11,7 @@ ghost use Rattle.flow_cancelled.specs.Cancelled.{CancelledThrows, ThrowTells};
 
 /// An actor that was cancelled throws `operation_cancelled` (1101) at each wait whose first operand has a value, though that be
 /// ready: in programs and in classes. An error that is thrown is told by its line.
-pub fn cancelled_throws()
+pub fn cancelled_actors_throw_at_waits()
     ensures programs { (program : ProgramTree) (p : Proc Actor)
         → CancelledThrows (source program) p }
     ensures classes { (r : RawTree) (p : Proc Frame) → CancelledThrows (classes r) p }

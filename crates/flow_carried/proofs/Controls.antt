@@ -9,7 +9,7 @@ use Rattle.flow_tree.specs.Body.{Body, End, BlockStmt, IfStmt, IfElseStmt, While
 use Rattle.flow_class.specs.Classes.{ClassTree, PassLast}
 use Rattle.flow_class.specs.Code.{Last}
 use Rattle.flow_class.specs.Scopes.{Scope, Mark, outside}
-use Rattle.flow_meaning.specs.Asks.{Pass}
+use Rattle.flow_meaning.specs.Requests.{Pass}
 use Rattle.flow_meaning.specs.Process.{View, Engine}
 use Rattle.flow_meaning.specs.Evaluating.{Names, asks, quietly}
 use Rattle.flow_meaning.specs.Law.{still}
@@ -17,10 +17,10 @@ use Rattle.flow_meaning.specs.Items.{Site, Loop, Item, Do, Leave, Round, Check, 
 use Rattle.flow_meaning.specs.SourceStep as text
 use Rattle.flow_meaning.specs.Frame.{Memory, Frame}
 use Rattle.flow_meaning.specs.Class as class
-use Rattle.flow_meaning.specs.Carry.{Pos, entry, Target, At, Again, Hand, Goes, here, SimpleAt}
+use Rattle.flow_meaning.specs.Carry.{Pos, entry, Target, At, Again, Hand, JumpsTo, here, SimpleAt}
 use Rattle.flow_meaning.specs.Carries.{LoopAt, BodyAt}
 use Rattle.flow_carried.specs.Memories.{vars_of, Held, frame_at}
-use Rattle.flow_carried.specs.Standing.{Below, StmtsAt, body, part, RestAt}
+use Rattle.flow_carried.specs.Matching.{Below, StmtsAt, body, part, RestAt}
 use Rattle.flow_carried.proofs.Seen.{held_mark}
 use Rattle.flow_carried.proofs.Row.{Replied, later, next_is, jumps, agreed, free}
 use Rattle.flow_carried.proofs.Parts.{whole, throws_behind, declared_outside, Resumes, resumes, ends_at}
@@ -36,7 +36,7 @@ simple_outside ns c s r ts b p q s2 h = absurd h
 
 module _ (d : Engine Frame) (ns : Names) (steps : (v : View) (f : Frame) → d.next v f ≡ class.next_step ns v f) (v : View) (c : ClassTree) (m : Memory) where
   -- what quietly stays where it is, or is at a point further on
-  quiet_row : (s : Scope) (ts : List Target) (r : List Item) (p q : Pos) (n : ℕ) → Held c m s → RestAt ns c s r ts q → Goes ns c p q → Replied d ns steps v (quietly (actor (vars_of c m s) r)) (frame_at c m p n)
+  quiet_row : (s : Scope) (ts : List Target) (r : List Item) (p q : Pos) (n : ℕ) → Held c m s → RestAt ns c s r ts q → JumpsTo ns c p q → Replied d ns steps v (quietly (actor (vars_of c m s) r)) (frame_at c m p n)
   quiet_row s ts r p q n held at g = (frame_at c m p n, still, free d ns steps c m s ts r p q n held at g)
 
   resumed : (s : Scope) (r : List Item) (p : Pos) (n : ℕ) → Held c m s → Resumes ns c s r p → Replied d ns steps v (quietly (actor (vars_of c m s) r)) (frame_at c m p n)
@@ -128,7 +128,7 @@ module _ (d : Engine Frame) (ns : Names) (steps : (v : View) (f : Frame) → d.n
       a : Actor
       a = actor (vars_of c m s) (Check l ∷ r)
 
-      inside : (q : Pos) → Goes ns c q q → BodyAt ns c (Mark ∷ s) (Leave ∷ Made l ∷ r) (Again h.0 ∷ ts) l.site l.inner q → RestAt ns c (Mark ∷ s) (Do l.site l.inner ∷ Leave ∷ Made l ∷ r) (Again h.0 ∷ ts) q
+      inside : (q : Pos) → JumpsTo ns c q q → BodyAt ns c (Mark ∷ s) (Leave ∷ Made l ∷ r) (Again h.0 ∷ ts) l.site l.inner q → RestAt ns c (Mark ∷ s) (Do l.site l.inner ∷ Leave ∷ Made l ∷ r) (Again h.0 ∷ ts) q
       inside q g w = body w (h.2, h.3)
 
       by_condition : (o : Option ExprTree) → LoopAt ns c s r ts o h.0 (BodyAt ns c (Mark ∷ s) (Leave ∷ Made l ∷ r) (Again h.0 ∷ ts) l.site l.inner) → Replied d ns steps v (text.check ns v a l o r) (frame_at c m (entry h.0) n)

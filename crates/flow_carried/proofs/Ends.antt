@@ -19,7 +19,7 @@ use Rattle.flow_class.specs.Code.{Last}
 use Rattle.flow_class.specs.Code as code
 use Rattle.flow_class.specs.Scopes.{Scope, place_of, over, over_all, act_over}
 use Rattle.flow_meaning.specs.Orderly.{Risky}
-use Rattle.flow_meaning.specs.Asks.{Act, Goes, Pass, Drops, Effects, Operand, Waits, Sends, Cancels, Prints, SendsTo, Returns, Throws, RunsOut, Stuck}
+use Rattle.flow_meaning.specs.Requests.{Act, Goes, Pass, Drops, Effects, Operand, Waits, Sends, Cancels, Prints, SendsTo, Returns, Throws, RunsOut, Stuck}
 use Rattle.flow_meaning.specs.Process.{View, Engine}
 use Rattle.flow_meaning.specs.Evaluating.{Names, bind, StepOf, asks, evaluated, value, call_act}
 use Rattle.flow_meaning.specs.Law.{phase_after}
@@ -35,7 +35,7 @@ use Rattle.flow_meaning.specs.Carry as carry
 use Rattle.flow_meaning.specs.Carry.{Pos, after, Target, here, hand_of, CaughtBy}
 use Rattle.flow_meaning.specs.Carries.{ThrowAt}
 use Rattle.flow_carried.specs.Memories.{vars_of, Held, frame_at}
-use Rattle.flow_carried.specs.Standing.{StmtsAt, body, RestAt, ThrowsAt, Beside, Stands}
+use Rattle.flow_carried.specs.Matching.{StmtsAt, body, RestAt, ThrowsAt, Beside, ActorMatches}
 use Rattle.flow_carried.proofs.Places.{place_no_constant}
 use Rattle.flow_carried.proofs.Seen.{place_found, every_value}
 use Rattle.flow_carried.proofs.Evals.{value_over, call_over, IsMild, AllMild, call_mild}
@@ -126,7 +126,7 @@ module _ (d : Engine Frame) (ns : Names) (steps : (v : View) (f : Frame) → d.n
         by_caught (Some y) w throws = caught_row at k h throws y w.0 w.1 w.2
 
     -- a call asks for the same, and for no effect
-    mild_stands : (act : Act) (a : Actor) (f : Frame) → IsMild act → Beside ns Risky a f → Stands ns (phase_after act) a f
+    mild_stands : (act : Act) (a : Actor) (f : Frame) → IsMild act → Beside ns Risky a f → ActorMatches ns (phase_after act) a f
     mild_stands (Effects goal eff) a f i b = absurd i
     mild_stands (Operand spot q) a f i b = absurd i
     mild_stands (Waits spot vs) a f i b = absurd i

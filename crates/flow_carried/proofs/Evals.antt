@@ -23,7 +23,7 @@ use Rattle.flow_eval.specs.Functions.{run_function, deepest, read_in, Call}
 use Rattle.flow_class.specs.declared.class.Slotted.{Slotted}
 use Rattle.flow_class.specs.Classes.{ClassTree}
 use Rattle.flow_class.specs.Scopes.{Scope, place_of, var_over, name_over, over, over_all, act_over}
-use Rattle.flow_meaning.specs.Asks.{Act, Goes, Sends, SendsTo, Effects, Operand, Waits}
+use Rattle.flow_meaning.specs.Requests.{Act, Goes, Sends, SendsTo, Effects, Operand, Waits}
 use Rattle.flow_meaning.specs.Process.{View}
 use Rattle.flow_meaning.specs.Evaluating.{Names, setting, bind, Look, Effectful, effectful, effect_in, value, values, sent, cancelled, method_act, done, before_last, last_of, function_act, plain_act, based_act, call_act}
 use Rattle.flow_meaning.specs.Variables.{flat}

@@ -15,7 +15,7 @@ use Rattle.flow_class.specs.declared.class.Slotted.TheVariants.{Slot}
 use Rattle.flow_class.specs.Classes.{CallbackTree, ClassTree, RawTree, EffectInstr, DropInstr, GotoLast, ChooseLast, ReturnLast}
 use Rattle.flow_class.specs.Scopes.{Mark, none}
 use Rattle.flow_meaning.specs.Carry.{entry, here, jump}
-use Rattle.flow_meaning.specs.Sights.{Sight, SourceSeen, ClassSeen}
+use Rattle.flow_meaning.specs.Observations.{Observation, SourceSeen, ClassSeen}
 use Rattle.flow_carried.specs.Carried.{AreCarried}
 use Rattle.flow_carried.proofs.Law.{sights_of_text, sights_of_classes}
 
@@ -109,8 +109,8 @@ is_carried = record {
   numbered = (record { slots = omega arith; locals = omega arith }, tt);
 }
 
-pub class_shows : (w : file.World) (lines : List Line) (sights : List Sight) → SourceSeen program w lines sights → ClassSeen class_program w lines sights
+pub class_shows : (w : file.World) (lines : List Line) (sights : List Observation) → SourceSeen program w lines sights → ClassSeen class_program w lines sights
 class_shows w lines sights = sights_of_text program class_program w lines sights is_carried
 
-pub program_shows : (w : file.World) (lines : List Line) (sights : List Sight) → ClassSeen class_program w lines sights → SourceSeen program w lines sights
+pub program_shows : (w : file.World) (lines : List Line) (sights : List Observation) → ClassSeen class_program w lines sights → SourceSeen program w lines sights
 program_shows w lines sights = sights_of_classes program class_program w lines sights is_carried

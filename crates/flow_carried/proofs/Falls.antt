@@ -8,7 +8,7 @@ use Rattle.flow_value.specs.Values.{ValueTree, RefValue}
 use Rattle.flow_eval.specs.Eval.{Res, Done, Fails, Spent, Meaningless}
 use Rattle.flow_eval.specs.Answers.{bool_of, error_of}
 use Rattle.flow_eval.specs.Functions.{default_value}
-use Rattle.flow_meaning.specs.Asks.{Spot, Goal, Stored, Kept, Effects, Returns, Act}
+use Rattle.flow_meaning.specs.Requests.{Spot, Goal, Stored, Kept, Effects, Returns, Act}
 use Rattle.flow_meaning.specs.Process.{View}
 use Rattle.flow_meaning.specs.Evaluating.{Names, bind, StepOf, asks, given, evaluated, Effectful, effect_in, effect_of, value, values, call_act}
 use Rattle.flow_meaning.specs.Variables.{Vars, look}

@@ -8,10 +8,10 @@ use Rattle.flow_tree.specs.Decls.{ProgramTree}
 use Rattle.flow_class.specs.Classes.{ClassTree, RawTree}
 use Rattle.flow_class.specs.Code.{fetch}
 use Rattle.flow_class.specs.Scopes.{Scope, all_locals}
-use Rattle.flow_meaning.specs.Occ.{refs_in, count}
+use Rattle.flow_meaning.specs.References.{refs_in, count}
 use Rattle.flow_meaning.specs.Cells.{Side}
 use Rattle.flow_meaning.specs.Orderly.{Free}
-use Rattle.flow_meaning.specs.Asks.{Ask}
+use Rattle.flow_meaning.specs.Requests.{Ask}
 use Rattle.flow_meaning.specs.Process.{View, Engine}
 use Rattle.flow_meaning.specs.Evaluating.{Names, StepOf}
 use Rattle.flow_meaning.specs.Law.{still, MatchesAsk, Alike, Simulates}
@@ -26,9 +26,9 @@ use Rattle.flow_meaning.specs.Class.{classes, class_names}
 use Rattle.flow_meaning.specs.Class as class
 use Rattle.flow_meaning.specs.Carry.{Pos, Target}
 use Rattle.flow_meaning.specs.Views.{actor_spot, frame_spot}
-use Rattle.flow_meaning.specs.Sights.{WaitAlike}
+use Rattle.flow_meaning.specs.Observations.{WaitAlike}
 use Rattle.flow_carried.specs.Memories.{vars_of, Held, frame_at}
-use Rattle.flow_carried.specs.Standing.{StmtsAt, RestAt, Stands}
+use Rattle.flow_carried.specs.Matching.{StmtsAt, RestAt, ActorMatches}
 use Rattle.flow_carried.specs.Weights.{actor_weight}
 use Rattle.flow_carried.specs.Carried.{AreCarried}
 use Rattle.flow_carried.proofs.Seen.{every_value}
@@ -80,7 +80,7 @@ module _ (d : Engine Frame) (ns : Names) (steps : (v : View) (f : Frame) → d.n
   ended : Replied d ns steps v (text.next_step ns v item.over) frame.over
   ended = (frame.over, frame.over, still, steps v frame.over, inl (refl, refl))
 
-  next_row : (a : Actor) (f : Frame) → Stands ns Free a f → Replied d ns steps v (text.next_step ns v a) f
+  next_row : (a : Actor) (f : Frame) → ActorMatches ns Free a f → Replied d ns steps v (text.next_step ns v a) f
   next_row a f (inl h) =
       subst (λ z. Replied d ns steps v (text.next_step ns v z) f) (sym h.0) (subst (λ z. Replied d ns steps v (text.next_step ns v item.over) z) (sym h.1) ended)
   next_row a f (inr b) =
@@ -90,18 +90,18 @@ module _ (d : Engine Frame) (ns : Names) (steps : (v : View) (f : Frame) → d.n
       later d ns steps v x.0 x.1 f (frame_at f.code f.mem b.to j.0) j.1 (item_row f.code f.mem b.to j.0 b.s b.ts b.held a.rest b.at))
 
   -- a quiet step makes the actor lighter
-  pub answers : (a : Actor) (x : StepOf Actor) (f : Frame) → (x.0 ≡ None → actor_weight x.1 < actor_weight a) → Replied d ns steps v x f → MatchesAsk (Stands ns) d v (actor_weight x.1 < actor_weight a) x.0 x.1 f
+  pub answers : (a : Actor) (x : StepOf Actor) (f : Frame) → (x.0 ≡ None → actor_weight x.1 < actor_weight a) → Replied d ns steps v x f → MatchesAsk (ActorMatches ns) d v (actor_weight x.1 < actor_weight a) x.0 x.1 f
   answers a x f w h = by_ask x.0 w h
     where
-      by_ask : (o : Option Ask) → (o ≡ None → actor_weight x.1 < actor_weight a) → Replies d ns steps v o x.1 f → MatchesAsk (Stands ns) d v (actor_weight x.1 < actor_weight a) o x.1 f
+      by_ask : (o : Option Ask) → (o ≡ None → actor_weight x.1 < actor_weight a) → Replies d ns steps v o x.1 f → MatchesAsk (ActorMatches ns) d v (actor_weight x.1 < actor_weight a) o x.1 f
       by_ask None w h = (h.0, inr (h.1, w refl), h.2)
       by_ask (Some k) w h = h
 
-  pub follows : (a : Actor) (f : Frame) → Stands ns Free a f → MatchesAsk (Stands ns) d v (actor_weight (text.next_step ns v a).1 < actor_weight a) (text.next_step ns v a).0 (text.next_step ns v a).1 f
+  pub follows : (a : Actor) (f : Frame) → ActorMatches ns Free a f → MatchesAsk (ActorMatches ns) d v (actor_weight (text.next_step ns v a).1 < actor_weight a) (text.next_step ns v a).0 (text.next_step ns v a).1 f
   follows a f h = answers a (text.next_step ns v a) f (falls ns v a) (next_row a f h)
 
 -- both refer to the same cells
-occ_row : (ns : Names) (side : Side) (k : ℕ) (a : Actor) (f : Frame) → Stands ns Free a f → occ_vars side k a.vars ≡ occ_memory side k f.mem
+occ_row : (ns : Names) (side : Side) (k : ℕ) (a : Actor) (f : Frame) → ActorMatches ns Free a f → occ_vars side k a.vars ≡ occ_memory side k f.mem
 occ_row ns side k a f (inl h) = ap (λ z. occ_vars side k z.vars) h.0 ∙ ap (λ z. occ_memory side k z.mem) (sym h.1)
 occ_row ns side k a f (inr b) =
     ap (occ_vars side k) b.vars
@@ -116,7 +116,7 @@ module _ (p : ProgramTree) (r : RawTree) (h : AreCarried p r) where
   steps v f = ap (λ z. class.next_step z v f) same_names
 
   -- The classes do what the program does.
-  pub carried : Simulates (source p) (classes r) (Stands (names_of p))
+  pub carried : Simulates (source p) (classes r) (ActorMatches (names_of p))
   carried = record {
     main = ap (λ z. main_of z.actors) (sym same_names);
     label = λ k. ap (λ z. unwrap_or (slice_get z.actors k) []) (sym same_names);
@@ -128,15 +128,15 @@ module _ (p : ProgramTree) (r : RawTree) (h : AreCarried p r) where
     next = λ v a f s. follows (classes r) (names_of p) steps v a f s;
     lose = lose_row (names_of p);
     store = λ u a f b.
-        subst (λ z. Alike (Stands (names_of p) Free) ((source p).store u a) (class.store_at z u f (fetch f.code f.block f.instr))) (sym same_names)
+        subst (λ z. Alike (ActorMatches (names_of p) Free) ((source p).store u a) (class.store_at z u f (fetch f.code f.block f.instr))) (sym same_names)
         (store_row (classes r) (names_of p) steps a f b u);
     take = λ i u a f b.
-        subst (λ z. Alike (Stands (names_of p) Free) ((source p).take i u a) (class.take_at z i u f (fetch f.code f.block f.instr))) (sym same_names)
+        subst (λ z. Alike (ActorMatches (names_of p) Free) ((source p).take i u a) (class.take_at z i u f (fetch f.code f.block f.instr))) (sym same_names)
         (take_row (classes r) (names_of p) steps a f b i u);
     raise = raise_row (names_of p);
     occ = occ_row (names_of p);
   }
 
   -- where both wait, they do so at the same place
-  pub waits_alike : WaitAlike (Stands (names_of p)) actor_spot frame_spot
+  pub waits_alike : WaitAlike (ActorMatches (names_of p)) actor_spot frame_spot
   waits_alike a f b = b.way.3

@@ -13,7 +13,7 @@ use Rattle.flow_meaning.specs.Cells.{Side, Ref}
 use Rattle.flow_meaning.specs.Orderly.{Free}
 use Rattle.flow_meaning.specs.Evaluating.{Names, bind}
 use Rattle.flow_meaning.specs.Law.{BothOrNone}
-use Rattle.flow_meaning.specs.Occ.{refs_in, count}
+use Rattle.flow_meaning.specs.References.{refs_in, count}
 use Rattle.flow_meaning.specs.Source.{actors_in, names_of, routine_name, no_values, more, with_args, begun}
 use Rattle.flow_meaning.specs.Source as source
 use Rattle.flow_meaning.specs.Frame.{blanks}
@@ -23,7 +23,7 @@ use Rattle.flow_meaning.specs.Carry.{entry, here}
 use Rattle.flow_meaning.specs.Carries.{Carries, AllCarried}
 use Rattle.flow_meaning.specs.Shape.{IsClassOf, AreClassesOf, Shape}
 use Rattle.flow_carried.specs.Memories.{slots_seen, IsNumbered}
-use Rattle.flow_carried.specs.Standing.{body, Stands}
+use Rattle.flow_carried.specs.Matching.{body, ActorMatches}
 use Rattle.flow_carried.proofs.Memory.{blank, length-blanks}
 
 -- parameters with their arguments, and then state variables without values
@@ -56,7 +56,7 @@ length_slots (p ∷ ps) (v ∷ vs) ts h = ap suc (length_slots ps vs ts (omega a
 
 module _ (ns : Names) where
   begun_row : (a : RoutineTree) (c : ClassTree) (vs : List ValueTree) → IsClassOf a c → Carries ns a c → IsNumbered c → length vs ≡ length a.params
-      → Stands ns Free (begun a.body (slots_seen (slots_of a) (map Some vs ++ blanks (body_slots a.body)))) (class.begun c vs)
+      → ActorMatches ns Free (begun a.body (slots_seen (slots_of a) (map Some vs ++ blanks (body_slots a.body)))) (class.begun c vs)
   begun_row a c vs k h few same =
       let rest : drop c.params c.slots ≡ body_slots a.body = ap₂ drop k.params k.slots ∙ drop_params a.params (body_slots a.body) in
       let slots : map Some vs ++ blanks (drop c.params c.slots) ≡ map Some vs ++ blanks (body_slots a.body) = ap (λ l. map Some vs ++ blanks l) rest in
@@ -76,27 +76,27 @@ module _ (ns : Names) where
         way = here;
       })
 
-  one_fresh : (a : RoutineTree) (c : ClassTree) (vs : List ValueTree) → IsClassOf a c → Carries ns a c → IsNumbered c → BothOrNone (Stands ns Free) (source.fresh_from (Some a) vs) (class.fresh_from (Some c) vs)
+  one_fresh : (a : RoutineTree) (c : ClassTree) (vs : List ValueTree) → IsClassOf a c → Carries ns a c → IsNumbered c → BothOrNone (ActorMatches ns Free) (source.fresh_from (Some a) vs) (class.fresh_from (Some c) vs)
   one_fresh a c vs k h few = by_test (nat_eq (length vs) c.params) refl
     where
-      by_test : (b : Bool) → nat_eq (length vs) c.params ≡ b → BothOrNone (Stands ns Free) (source.fresh_from (Some a) vs) (if b then Some (class.begun c vs) else None)
+      by_test : (b : Bool) → nat_eq (length vs) c.params ≡ b → BothOrNone (ActorMatches ns Free) (source.fresh_from (Some a) vs) (if b then Some (class.begun c vs) else None)
       by_test true e =
           let same : length vs ≡ length a.params = equal (length vs) c.params e ∙ k.params in
-          subst (λ o. BothOrNone (Stands ns Free) (bind o (λ ss. Some (begun a.body ss))) (Some (class.begun c vs)))
+          subst (λ o. BothOrNone (ActorMatches ns Free) (bind o (λ ss. Some (begun a.body ss))) (Some (class.begun c vs)))
           (sym (ap (with_args a.params vs) (values_blank (body_slots a.body)) ∙ args_seen a.params vs (body_slots a.body) (blanks (body_slots a.body)) same))
           (begun_row a c vs k h few same)
         where
           equal : (n i : ℕ) → nat_eq n i ≡ true → n ≡ i
           equal n i e = grind (arith, nat_tests)
       by_test false e =
-          subst (λ o. BothOrNone (Stands ns Free) (bind o (λ ss. Some (begun a.body ss))) None)
+          subst (λ o. BothOrNone (ActorMatches ns Free) (bind o (λ ss. Some (begun a.body ss))) None)
           (sym (args_none a.params vs (no_values (body_slots a.body)) (λ f. differ (length vs) c.params e (f ∙ sym k.params)))) tt
         where
           differ : (n i : ℕ) → nat_eq n i ≡ false → n ≡ i → ⊥
           differ n i e f = grind (arith, nat_tests)
 
   pub fresh_row : (rest : List RoutineTree) (cs : List ClassTree) → AreClassesOf rest cs → AllCarried ns rest cs → AllByRecursion IsNumbered cs → (k : ℕ) (vs : List ValueTree)
-      → BothOrNone (Stands ns Free) (source.fresh_from (slice_get rest k) vs) (class.fresh_from (slice_get cs k) vs)
+      → BothOrNone (ActorMatches ns Free) (source.fresh_from (slice_get rest k) vs) (class.fresh_from (slice_get cs k) vs)
   fresh_row [] [] shape carried few k vs = tt
   fresh_row [] (c ∷ cs) shape carried few k vs = absurd shape
   fresh_row (a ∷ rest) [] shape carried few k vs = absurd shape

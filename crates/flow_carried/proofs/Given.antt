@@ -28,7 +28,7 @@ use Rattle.flow_meaning.specs.Class as class
 use Rattle.flow_meaning.specs.Carry as carry
 use Rattle.flow_meaning.specs.Carry.{Pos, after, Target, here, AssignBy, DeclareAt, FirstAt, default_expr}
 use Rattle.flow_carried.specs.Memories.{vars_of, Held, frame_at}
-use Rattle.flow_carried.specs.Standing.{RestAt, AsksFirst, pos_of, Beside, Stands}
+use Rattle.flow_carried.specs.Matching.{RestAt, AsksFirst, pos_of, Beside, ActorMatches}
 use Rattle.flow_carried.proofs.Seen.{seen_lost, held_lost, locals_values}
 use Rattle.flow_carried.proofs.Puts.{Puts, assign_puts, declare_puts}
 use Rattle.flow_carried.proofs.Row.{dues, risks, free}
@@ -37,7 +37,7 @@ use Rattle.flow_carried.proofs.Stores.{named_puts}
 use Rattle.flow_carried.proofs.Waits.{wait_stands, choose_stands, wait_taken, choose_taken}
 
 -- all locals leave the variables
-pub lose_row : (ns : Names) (a : Actor) (f : Frame) → Beside ns Due a f → Alike (Stands ns Due) (item.lose a) (frame.lose f)
+pub lose_row : (ns : Names) (a : Actor) (f : Frame) → Beside ns Due a f → Alike (ActorMatches ns Due) (item.lose a) (frame.lose f)
 lose_row ns a f b = (
   ap (λ vs. variables.filled (all_locals vs.locals)) b.vars ∙ locals_values f.code f.mem b.s b.held,
   record {
@@ -69,19 +69,19 @@ module _ (d : Engine Frame) (ns : Names) (steps : (v : View) (f : Frame) → d.n
   f = frame_at c m p n
 
   abbrev Same : List ValueTree × Actor → List ValueTree × Frame → Type 0
-  Same = Alike (Stands ns Free)
+  Same = Alike (ActorMatches ns Free)
 
-  stored_alike : (a : Actor) (later : Scope) (r : List Item) (o : Option (List ValueTree × Vars)) (q : Option (List ValueTree × Memory)) → Puts c later o q → RestAt ns c later r ts (after p) → Stands ns Free a f
+  stored_alike : (a : Actor) (later : Scope) (r : List Item) (o : Option (List ValueTree × Vars)) (q : Option (List ValueTree × Memory)) → Puts c later o q → RestAt ns c later r ts (after p) → ActorMatches ns Free a f
       → Same (source.stored a r o) (class.stored f q)
   stored_alike a later r None None h at stands = (refl, stands)
   stored_alike a later r None (Some b) h at stands = absurd h
   stored_alike a later r (Some b) None h at stands = absurd h
   stored_alike a later r (Some b) (Some q) h at stands =
-      (h.0, subst (λ vs. Stands ns Free (actor vs r) (frame_at c q.1 (after p) n)) (sym h.1) (free d ns steps c q.1 later ts r (after p) (after p) n h.2 at here))
+      (h.0, subst (λ vs. ActorMatches ns Free (actor vs r) (frame_at c q.1 (after p) n)) (sym h.1) (free d ns steps c q.1 later ts r (after p) (after p) n h.2 at here))
 
   -- the effect of a statement gives its result
   effect_alike : (a : Actor) (later : Scope) (r : List Item) (o : Option (List ValueTree × Vars)) (e : ExprTree) (g : Option (Effectful × ExprTrees)) (path : List Ident) (to : ExprTree) → effect_in ns e ≡ g → is_effect_in ns e ≡ true
-      → AssignBy ns c g path to p → Puts c later o (frame.assign ns.records m path u) → RestAt ns c later r ts (after p) → Stands ns Free a f
+      → AssignBy ns c g path to p → Puts c later o (frame.assign ns.records m path u) → RestAt ns c later r ts (after p) → ActorMatches ns Free a f
       → Same (store_if (is_effect_in ns e) a r o) (class.store_at ns u f (carry.at ns c p))
   effect_alike a later r o e None path to eg first h puts at stands = absurd (not_both (ap is_some eg) first)
     where
@@ -93,14 +93,14 @@ module _ (d : Engine Frame) (ns : Names) (steps : (v : View) (f : Frame) → d.n
 
   -- a new cell
   new_alike : (a : Actor) (later : Scope) (r : List Item) (o : Option (List ValueTree × Vars)) (t : TypeTree) (to : Slotted) → makes_cell t ≡ true → FirstAt ns c to t (default_expr ns c t) p → Puts c later o (put_at ns.records m to [] u)
-      → RestAt ns c later r ts (after p) → Stands ns Free a f → Same (store_if (makes_cell t) a r o) (class.store_at ns u f (carry.at ns c p))
+      → RestAt ns c later r ts (after p) → ActorMatches ns Free a f → Same (store_if (makes_cell t) a r o) (class.store_at ns u f (carry.at ns c p))
   new_alike a later r o (PromiseType t) to first h puts at stands =
       subst (λ q. Same (source.stored a r o) (class.store_at ns u f q)) (sym h.0) (stored_alike a later r o (put_at ns.records m to [] u) puts at stands)
   new_alike a later r o (PromiseStreamType t) to first h puts at stands =
       subst (λ q. Same (source.stored a r o) (class.store_at ns u f q)) (sym h.0) (stored_alike a later r o (put_at ns.records m to [] u) puts at stands)
   new_alike a later r o t to first h puts at stands = cc
 
-  pub store_there : (rest : List Item) → RestAt ns c s rest ts p → AsksFirst ns rest → Stands ns Free (actor (vars_of c m s) rest) f
+  pub store_there : (rest : List Item) → RestAt ns c s rest ts p → AsksFirst ns rest → ActorMatches ns Free (actor (vars_of c m s) rest) f
       → Same (source.store_at ns u (actor (vars_of c m s) rest) rest) (class.store_at ns u f (carry.at ns c p))
   store_there (Do x (DeclareStmt at i (Some e) k) ∷ r) h first stands =
       let w = declares_at ns c s r ts x at i (Some e) k p h in
@@ -121,10 +121,10 @@ module _ (d : Engine Frame) (ns : Names) (steps : (v : View) (f : Frame) → d.n
   store_there rest h first stands = absurd first
 
   -- an instruction takes no branch
-  none_taken : (a : Actor) → ((i : InstrTree) × (carry.at ns c p ≡ code.Body i)) → (b : ℕ) → Stands ns Free a f → Same ([], a) (class.take_at ns b u f (carry.at ns c p))
+  none_taken : (a : Actor) → ((i : InstrTree) × (carry.at ns c p ≡ code.Body i)) → (b : ℕ) → ActorMatches ns Free a f → Same ([], a) (class.take_at ns b u f (carry.at ns c p))
   none_taken a h b stands = subst (λ q. Same ([], a) (class.take_at ns b u f q)) (sym h.1) (refl, stands)
 
-  pub take_there : (b : ℕ) (rest : List Item) → RestAt ns c s rest ts p → AsksFirst ns rest → Stands ns Free (actor (vars_of c m s) rest) f
+  pub take_there : (b : ℕ) (rest : List Item) → RestAt ns c s rest ts p → AsksFirst ns rest → ActorMatches ns Free (actor (vars_of c m s) rest) f
       → Same (source.take_at b u (actor (vars_of c m s) rest) rest) (class.take_at ns b u f (carry.at ns c p))
   take_there b (Do x (WaitStmt at w k) ∷ r) h first stands = wait_taken d ns steps c m p n s ts held r x at w k b u h stands
   take_there b (Do x (ChooseStmt at bs k) ∷ r) h first stands = choose_taken d ns steps c m p n s ts held r x at bs k b u h stands
@@ -145,15 +145,15 @@ module _ (d : Engine Frame) (ns : Names) (steps : (v : View) (f : Frame) → d.n
   at_frame : RestAt ns f.code b.s a.rest b.ts (pos_of f)
   at_frame = subst (RestAt ns f.code b.s a.rest b.ts) (sym b.way.0) b.at
 
-  as_seen : Stands ns Free (actor (vars_of f.code f.mem b.s) a.rest) f
-  as_seen = subst (λ vs. Stands ns Free (actor vs a.rest) f) b.vars (inr (risks d ns steps a f (dues d ns steps a f b)))
+  as_seen : ActorMatches ns Free (actor (vars_of f.code f.mem b.s) a.rest) f
+  as_seen = subst (λ vs. ActorMatches ns Free (actor vs a.rest) f) b.vars (inr (risks d ns steps a f (dues d ns steps a f b)))
 
-  pub store_row : (u : ValueTree) → Alike (Stands ns Free) (source.store_at ns u a a.rest) (class.store_at ns u f (carry.at ns f.code (pos_of f)))
+  pub store_row : (u : ValueTree) → Alike (ActorMatches ns Free) (source.store_at ns u a a.rest) (class.store_at ns u f (carry.at ns f.code (pos_of f)))
   store_row u =
-      subst (λ vs. Alike (Stands ns Free) (source.store_at ns u (actor vs a.rest) a.rest) (class.store_at ns u f (carry.at ns f.code (pos_of f)))) (sym b.vars)
+      subst (λ vs. Alike (ActorMatches ns Free) (source.store_at ns u (actor vs a.rest) a.rest) (class.store_at ns u f (carry.at ns f.code (pos_of f)))) (sym b.vars)
       (store_there d ns steps f.code f.mem (pos_of f) f.state b.s b.ts b.held u a.rest at_frame b.way.2 as_seen)
 
-  pub take_row : (i : ℕ) (u : ValueTree) → Alike (Stands ns Free) (source.take_at i u a a.rest) (class.take_at ns i u f (carry.at ns f.code (pos_of f)))
+  pub take_row : (i : ℕ) (u : ValueTree) → Alike (ActorMatches ns Free) (source.take_at i u a a.rest) (class.take_at ns i u f (carry.at ns f.code (pos_of f)))
   take_row i u =
-      subst (λ vs. Alike (Stands ns Free) (source.take_at i u (actor vs a.rest) a.rest) (class.take_at ns i u f (carry.at ns f.code (pos_of f)))) (sym b.vars)
+      subst (λ vs. Alike (ActorMatches ns Free) (source.take_at i u (actor vs a.rest) a.rest) (class.take_at ns i u f (carry.at ns f.code (pos_of f)))) (sym b.vars)
       (take_there d ns steps f.code f.mem (pos_of f) f.state b.s b.ts b.held u i a.rest at_frame b.way.2 as_seen)

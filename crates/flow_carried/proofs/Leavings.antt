@@ -8,7 +8,7 @@ use Rattle.flow_value.specs.Values.{ValueTree}
 use Rattle.flow_class.specs.Classes.{ClassTree, DropInstr}
 use Rattle.flow_class.specs.Code as code
 use Rattle.flow_class.specs.Scopes.{Scope, scope, outside}
-use Rattle.flow_meaning.specs.Asks.{Drops}
+use Rattle.flow_meaning.specs.Requests.{Drops}
 use Rattle.flow_meaning.specs.Process.{View, Engine}
 use Rattle.flow_meaning.specs.Evaluating.{Names, asks, quietly}
 use Rattle.flow_meaning.specs.Law.{still}
@@ -21,7 +21,7 @@ use Rattle.flow_meaning.specs.Class as class
 use Rattle.flow_meaning.specs.Carry.{Pos, after, Target, At, Again, Hand, here, DropThen, GoesOn}
 use Rattle.flow_meaning.specs.Carries.{ExitAt}
 use Rattle.flow_carried.specs.Memories.{seen, slots_seen, vars_of, Held, frame_at}
-use Rattle.flow_carried.specs.Standing.{Below, LeavesAt, StmtsAt, leaves, RestAt}
+use Rattle.flow_carried.specs.Matching.{Below, LeavesAt, StmtsAt, leaves, RestAt}
 use Rattle.flow_carried.proofs.Lists.{at_numbers}
 use Rattle.flow_carried.proofs.Memory.{emptied_slots}
 use Rattle.flow_carried.proofs.Seen.{seen_scope, held_leave, seen_leave, scope_values}

@@ -13,9 +13,9 @@ use Rattle.flow_class.specs.Scopes.{Scope, outside, path_over}
 use Rattle.flow_meaning.specs.Evaluating.{Names}
 use Rattle.flow_meaning.specs.Items.{Site, Loop, Item, Do, Leave, Round, Made, Handler, change}
 use Rattle.flow_meaning.specs.SourceStep.{Breaks, Continues}
-use Rattle.flow_meaning.specs.Carry.{Pos, after, Target, At, Again, Hand, EndsScope, Goes, here, CaughtAt, AssignAt, ChangeAt, DeclareAt, DeclaredAs, SimpleAt, PassAt, GoesOn}
+use Rattle.flow_meaning.specs.Carry.{Pos, after, Target, At, Again, Hand, EndsScope, JumpsTo, here, CaughtAt, AssignAt, ChangeAt, DeclareAt, DeclaredAs, SimpleAt, PassAt, GoesOn}
 use Rattle.flow_meaning.specs.Carries.{ExitAt, BodyAt, TakesInto}
-use Rattle.flow_carried.specs.Standing.{LoopStands, Below, PartAt, LeavesAt, StmtsAt, body, part, leaves, RestAt, ThrowsAt}
+use Rattle.flow_carried.specs.Matching.{LoopStands, Below, PartAt, LeavesAt, StmtsAt, body, part, leaves, RestAt, ThrowsAt}
 
 -- statements that can be a part of a `for`, and those that can't and go on to what follows, or end the actor
 abbrev pub IsSimple : Body → Type 0
@@ -179,7 +179,7 @@ module _ (ns : Names) (c : ClassTree) where
   pub record Resumes (s : Scope) (r : List Item) (p : Pos) : Type 0 where
     pub targets : List Target
     pub to : Pos
-    pub goes : Goes ns c p to
+    pub goes : JumpsTo ns c p to
     pub stands : RestAt ns c s r targets to
 
   pub resumes : (s : Scope) (r : List Item) (ts : List Target) (p : Pos) → GoesOn ns c s r ts p → Below ns c s r ts → Resumes s r p

@@ -12,7 +12,7 @@ use Rattle.flow_class.specs.Code.{Fetched, Last}
 use Rattle.flow_class.specs.Code as code
 use Rattle.flow_class.specs.Scopes.{Scope, over, over_all}
 use Rattle.flow_meaning.specs.Orderly.{Free, Risky, Due}
-use Rattle.flow_meaning.specs.Asks.{Spot, Goal, Stored, Kept, Effects, Drops, Waits}
+use Rattle.flow_meaning.specs.Requests.{Spot, Goal, Stored, Kept, Effects, Drops, Waits}
 use Rattle.flow_meaning.specs.Cells.{is_some}
 use Rattle.flow_meaning.specs.Process.{View, Engine}
 use Rattle.flow_meaning.specs.Evaluating.{Names, StepOf, asks, given, Effectful, effect_in, effect_of, value, values}
@@ -26,9 +26,9 @@ use Rattle.flow_meaning.specs.Frame as frame
 use Rattle.flow_meaning.specs.Class as class
 use Rattle.flow_meaning.specs.Views.{actor_spot}
 use Rattle.flow_meaning.specs.Carry as carry
-use Rattle.flow_meaning.specs.Carry.{Pos, entry, after, Goes, here, AssignBy, AssignAt}
+use Rattle.flow_meaning.specs.Carry.{Pos, entry, after, JumpsTo, here, AssignBy, AssignAt}
 use Rattle.flow_carried.specs.Memories.{vars_of, Held, frame_at}
-use Rattle.flow_carried.specs.Standing.{ThrowsAt, RestAt, AsksFirst, Stands}
+use Rattle.flow_carried.specs.Matching.{ThrowsAt, RestAt, AsksFirst, ActorMatches}
 use Rattle.flow_carried.proofs.Seen.{seen_lost, held_lost, locals_values}
 use Rattle.flow_carried.proofs.Evals.{value_over, values_over, effect_over, effect_in_over}
 use Rattle.flow_carried.proofs.Puts.{Puts}
@@ -53,13 +53,13 @@ module _ (d : Engine Frame) (ns : Names) (steps : (v : View) (f : Frame) → d.n
   abbrev pub point_frame : Frame
   point_frame = frame_at t.c t.m t.p t.n
 
-  pub may_go : Stands ns Free point_actor point_frame
+  pub may_go : ActorMatches ns Free point_actor point_frame
   may_go = inr (record { s = t.s; ts = t.ts; to = t.p; vars = refl; held = t.held; at = t.at; way = here })
 
-  pub may_throw : Stands ns Risky point_actor point_frame
+  pub may_throw : ActorMatches ns Risky point_actor point_frame
   may_throw = record { s = t.s; ts = t.ts; to = t.p; vars = refl; held = t.held; at = t.at; way = (here, t.throws) }
 
-  pub is_due : AsksFirst ns t.rest → Stands ns Due point_actor point_frame
+  pub is_due : AsksFirst ns t.rest → ActorMatches ns Due point_actor point_frame
   is_due first = record { s = t.s; ts = t.ts; to = t.p; vars = refl; held = t.held; at = t.at; way = (refl, t.throws, first) }
 
   -- what stands at the point answers
@@ -75,7 +75,7 @@ module _ (d : Engine Frame) (ns : Names) (steps : (v : View) (f : Frame) → d.n
   placed_agree v later r left (Some a) None h at = absurd h
   placed_agree v later r left (Some a) (Some b) h at = (
     ap (λ vs. Some (record { left = left; act = Drops vs })) (sym h.0),
-    subst (λ vs. Stands ns Free (actor vs r) (frame_at t.c b.1 (after t.p) t.n)) (sym h.1)
+    subst (λ vs. ActorMatches ns Free (actor vs r) (frame_at t.c b.1 (after t.p) t.n)) (sym h.1)
         (free d ns steps t.c b.1 later t.ts r (after t.p) (after t.p) t.n h.2 at here),
   )
 
@@ -115,7 +115,7 @@ module _ (d : Engine Frame) (ns : Names) (steps : (v : View) (f : Frame) → d.n
 
   -- one of two blocks by a condition
   pub test_row : (v : View) (e : ExprTree) (y z : ℕ) (main other : Actor) → carry.at ns t.c t.p ≡ Last (TestLast (over t.c.slots t.s e) y z)
-      → Stands ns Free main (frame_at t.c t.m (entry y) 0) → Stands ns Free other (frame_at t.c t.m (entry z) 0)
+      → ActorMatches ns Free main (frame_at t.c t.m (entry y) 0) → ActorMatches ns Free other (frame_at t.c t.m (entry z) 0)
       → Replied d ns steps v (text.test ns v point_actor e main other) point_frame
   test_row v e y z main other h f g =
       answered v (Last (TestLast (over t.c.slots t.s e) y z)) (text.test ns v point_actor e main other) h

@@ -18,7 +18,7 @@ use Rattle.flow_meaning.specs.Frame as frame
 use Rattle.flow_meaning.specs.Carry.{Pos, entry, Target, At, Again, Hand, here, NewLocal, hand_of, CaughtBy}
 use Rattle.flow_meaning.specs.Carries.{BodyAt}
 use Rattle.flow_carried.specs.Memories.{seen, slots_seen, vars_of, Falling, NotIn, Held, frame_at}
-use Rattle.flow_carried.specs.Standing.{Below, body, ThrowsAt, pos_of, Beside, Stands}
+use Rattle.flow_carried.specs.Matching.{Below, body, ThrowsAt, pos_of, Beside, ActorMatches}
 use Rattle.flow_carried.proofs.Lists.{at_number, at_numbers, not_append, not_both, falling_first, falling_rest, falling_out, below_out, AllOut}
 use Rattle.flow_carried.proofs.Memory.{emptied_or, emptied_slots, emptied_length, apart_out, covered_values, covered_out}
 use Rattle.flow_carried.proofs.Seen.{locals_parts, seen_scope, seen_outside, agree_emptied, seen_same, seen_new, held_mark, held_new, new_falls, every_value}
@@ -87,7 +87,7 @@ module _ (ns : Names) (c : ClassTree) where
 
   module _ (m : Memory) (p : Pos) (n : ℕ) (s : Scope) (held : Held c m s) (err : ℕ) where
     abbrev Same : Raised × Actor → Raised × Frame → Type 0
-    Same = Alike (Stands ns Free)
+    Same = Alike (ActorMatches ns Free)
 
     -- a drop list that covers what is left names nothing that stays
     covers_stay : {ds ks : List ℕ} (ls : List ℕ) → Covers s ds ks → AllOut ks ls → ((i : ℕ) → Apart i s → NotIn i ls) → AllOut ds ls
@@ -149,6 +149,6 @@ module _ (ns : Names) (c : ClassTree) where
         subst (λ o. Same (source.raised err (vars_of c m s) o) (frame.raise err (frame_at c m p n))) (sym (t.same [] (seen m s) ∙ unwind_seen m [] s t.items))
         (by_items t.items t.targets t.below (unwind [] s t.items) refl (hand_of ns c t.items t.targets) refl t.caught)
 
-pub raise_row : (ns : Names) (err : ℕ) (a : Actor) (f : Frame) → Beside ns Risky a f → Alike (Stands ns Free) (source.raise err a) (frame.raise err f)
+pub raise_row : (ns : Names) (err : ℕ) (a : Actor) (f : Frame) → Beside ns Risky a f → Alike (ActorMatches ns Free) (source.raise err a) (frame.raise err f)
 raise_row ns err a f b =
-    subst (λ vs. Alike (Stands ns Free) (source.raise err (actor vs a.rest)) (frame.raise err f)) (sym b.vars) (raise_there ns f.code f.mem (pos_of f) f.state b.s b.held err a.rest b.way.1)
+    subst (λ vs. Alike (ActorMatches ns Free) (source.raise err (actor vs a.rest)) (frame.raise err f)) (sym b.vars) (raise_there ns f.code f.mem (pos_of f) f.state b.s b.held err a.rest b.way.1)

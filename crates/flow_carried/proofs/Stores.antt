@@ -16,7 +16,7 @@ use Rattle.flow_class.specs.Places.{place_named}
 use Rattle.flow_class.specs.Code as code
 use Rattle.flow_class.specs.Code.{type_at}
 use Rattle.flow_class.specs.Scopes.{Scope, path_over}
-use Rattle.flow_meaning.specs.Asks.{Make, Stored, Effects}
+use Rattle.flow_meaning.specs.Requests.{Make, Stored, Effects}
 use Rattle.flow_meaning.specs.Process.{View, Engine}
 use Rattle.flow_meaning.specs.Evaluating.{Names, bind, asks, given}
 use Rattle.flow_meaning.specs.Items.{Site, Declared, Path, Item, Do, actor, declare, change}
@@ -28,7 +28,7 @@ use Rattle.flow_meaning.specs.Class as class
 use Rattle.flow_meaning.specs.Carry as carry
 use Rattle.flow_meaning.specs.Carry.{Pos, after, AssignAt, ChangeAt, DeclareAt, DeclaredAs, FirstAt, default_expr}
 use Rattle.flow_carried.specs.Memories.{vars_of, Held, frame_at}
-use Rattle.flow_carried.specs.Standing.{StmtsAt}
+use Rattle.flow_carried.specs.Matching.{StmtsAt}
 use Rattle.flow_carried.proofs.Puts.{Puts, assign_puts, declare_puts}
 use Rattle.flow_carried.proofs.Row.{Agree, Replied}
 use Rattle.flow_carried.proofs.Parts.{DeclaresAt, declares_at, AssignsAt, assigns_at, modifies_at}

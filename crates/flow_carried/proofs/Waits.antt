@@ -25,7 +25,7 @@ use Rattle.flow_meaning.specs.Carry.{Pos, entry, Target, At, here}
 use Rattle.flow_meaning.specs.Carry as carry
 use Rattle.flow_meaning.specs.Carries.{GroupAt, BranchesAt, BodyAt}
 use Rattle.flow_carried.specs.Memories.{vars_of, Held, frame_at}
-use Rattle.flow_carried.specs.Standing.{Below, StmtsAt, body, RestAt, Stands}
+use Rattle.flow_carried.specs.Matching.{Below, StmtsAt, body, RestAt, ActorMatches}
 use Rattle.flow_carried.proofs.Seen.{held_mark}
 use Rattle.flow_carried.proofs.Puts.{Puts, bound_puts}
 use Rattle.flow_carried.proofs.Row.{Agree, Replied, free}
@@ -87,7 +87,7 @@ module _ (d : Engine Frame) (ns : Names) (steps : (v : View) (f : Frame) → d.n
 
   -- A branch is taken.
   abbrev Taken : List ValueTree × Actor → List ValueTree × Frame → Type 0
-  Taken = Alike (Stands ns Free)
+  Taken = Alike (ActorMatches ns Free)
 
   -- its value is put in place, and its body follows
   onward_taken : (f : Frame) (later : Scope) (rest : List Item) (targets : List Target) (b : ℕ) (o : List ValueTree × Vars) (q : Option (List ValueTree × Memory)) → f.code ≡ c → Puts c later (Some o) q
@@ -95,12 +95,12 @@ module _ (d : Engine Frame) (ns : Names) (steps : (v : View) (f : Frame) → d.n
   onward_taken f later rest targets b o None e h at = absurd h
   onward_taken f later rest targets b o (Some q) e h at = (
     h.0,
-    subst (λ l. Stands ns Free (actor o.1 rest) (frame_at l q.1 (entry b) 0)) (sym e)
-        (subst (λ vs. Stands ns Free (actor vs rest) (frame_at c q.1 (entry b) 0)) (sym h.1) (free d ns steps c q.1 later targets rest (entry b) (entry b) 0 h.2 at here)),
+    subst (λ l. ActorMatches ns Free (actor o.1 rest) (frame_at l q.1 (entry b) 0)) (sym e)
+        (subst (λ vs. ActorMatches ns Free (actor vs rest) (frame_at c q.1 (entry b) 0)) (sym h.1) (free d ns steps c q.1 later targets rest (entry b) (entry b) 0 h.2 at here)),
   )
 
   case_taken : (bs : Branches) (cs : List CallbackTree) (i : ℕ) (y : Site) (u : ValueTree) (a : Actor) (rest : List Item) (targets : List Target) → a.vars ≡ vars_of c m s → BranchesAt ns c s rest targets y bs cs → Below ns c s rest targets
-      → Stands ns Free a (frame_at c m p n) → Taken (source.take_case bs i y u a rest) (class.take_callback ns u (frame_at c m p n) (slice_get cs i))
+      → ActorMatches ns Free a (frame_at c m p n) → Taken (source.take_case bs i y u a rest) (class.take_callback ns u (frame_at c m p n) (slice_get cs i))
   case_taken NoBranches [] i y u a rest targets e h below stands = (refl, stands)
   case_taken NoBranches (k ∷ cs) i y u a rest targets e h below stands = absurd h
   case_taken (MoreBranches at w b bs) [] i y u a rest targets e h below stands = absurd h
@@ -112,7 +112,7 @@ module _ (d : Engine Frame) (ns : Names) (steps : (v : View) (f : Frame) → d.n
   case_taken (MoreBranches at w b bs) (k ∷ cs) (suc i) y u a rest targets e h below stands =
       case_taken bs cs i (site_past b y) u a rest targets e h.3 below stands
 
-  pub wait_taken : (at : Place) (w : WaitTree) (k : Body) (i : ℕ) (u : ValueTree) → StmtsAt ns c s r ts x (WaitStmt at w k) p → Stands ns Free (actor (vars_of c m s) (Do x (WaitStmt at w k) ∷ r)) (frame_at c m p n)
+  pub wait_taken : (at : Place) (w : WaitTree) (k : Body) (i : ℕ) (u : ValueTree) → StmtsAt ns c s r ts x (WaitStmt at w k) p → ActorMatches ns Free (actor (vars_of c m s) (Do x (WaitStmt at w k) ∷ r)) (frame_at c m p n)
       → Taken (source.take_at i u (actor (vars_of c m s) (Do x (WaitStmt at w k) ∷ r)) (Do x (WaitStmt at w k) ∷ r)) (class.take_at ns i u (frame_at c m p n) (carry.at ns c p))
   wait_taken at w k i u h stands =
       subst (λ q. Taken (source.take_at i u a (Do x (WaitStmt at w k) ∷ r)) (class.take_at ns i u (frame_at c m p n) q)) (sym group.0)
@@ -141,7 +141,7 @@ module _ (d : Engine Frame) (ns : Names) (steps : (v : View) (f : Frame) → d.n
   chosen at bs k zero u t = t
   chosen at bs k (suc i) u t = t
 
-  pub choose_taken : (at : Place) (bs : Branches) (k : Body) (i : ℕ) (u : ValueTree) → StmtsAt ns c s r ts x (ChooseStmt at bs k) p → Stands ns Free (actor (vars_of c m s) (Do x (ChooseStmt at bs k) ∷ r)) (frame_at c m p n)
+  pub choose_taken : (at : Place) (bs : Branches) (k : Body) (i : ℕ) (u : ValueTree) → StmtsAt ns c s r ts x (ChooseStmt at bs k) p → ActorMatches ns Free (actor (vars_of c m s) (Do x (ChooseStmt at bs k) ∷ r)) (frame_at c m p n)
       → Taken (source.take_at i u (actor (vars_of c m s) (Do x (ChooseStmt at bs k) ∷ r)) (Do x (ChooseStmt at bs k) ∷ r)) (class.take_at ns i u (frame_at c m p n) (carry.at ns c p))
   choose_taken at bs k i u h stands =
       let a = actor (vars_of c m s) (Do x (ChooseStmt at bs k) ∷ r) in

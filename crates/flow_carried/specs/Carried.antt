@@ -6,7 +6,7 @@ use Rattle.flow_class.specs.Classes.{RawTree}
 use Rattle.flow_trace.specs.declared.line.Line.{Line}
 use Rattle.flow_worldfile.specs.Worlds as file
 use Rattle.flow_meaning.specs.Runs.{SourceTrace, ClassTrace}
-use Rattle.flow_meaning.specs.Sights.{Sight, SourceSeen, ClassSeen}
+use Rattle.flow_meaning.specs.Observations.{Observation, SourceSeen, ClassSeen}
 use Rattle.flow_meaning.specs.Shape.{Shape}
 use Rattle.flow_meaning.specs.Carries.{CarriesProgram}
 use Rattle.flow_carried.specs.Memories.{IsNumbered}
@@ -29,12 +29,12 @@ TracesOfClasses =
     → AreCarried p r → ClassTrace r w lines → SourceTrace p w lines
 
 -- And at each boundary of events they show the same unfinished actors, at the same waits, with the same branches.
-abbrev pub SightsOfText : Type 0
-SightsOfText =
-    (p : ProgramTree) (r : RawTree) (w : file.World) (lines : List Line) (sights : List Sight)
+abbrev pub ObservationsOfText : Type 0
+ObservationsOfText =
+    (p : ProgramTree) (r : RawTree) (w : file.World) (lines : List Line) (sights : List Observation)
     → AreCarried p r → SourceSeen p w lines sights → ClassSeen r w lines sights
 
-abbrev pub SightsOfClasses : Type 0
-SightsOfClasses =
-    (p : ProgramTree) (r : RawTree) (w : file.World) (lines : List Line) (sights : List Sight)
+abbrev pub ObservationsOfClasses : Type 0
+ObservationsOfClasses =
+    (p : ProgramTree) (r : RawTree) (w : file.World) (lines : List Line) (sights : List Observation)
     → AreCarried p r → ClassSeen r w lines sights → SourceSeen p w lines sights

@@ -1,4 +1,4 @@
 pub mod Memories
-pub mod Standing
+pub mod Matching
 pub mod Weights
 pub mod Carried

@@ -1,12 +1,12 @@
 // The core law.
 
-ghost use Rattle.flow_carried.specs.Carried.{TracesOfText, TracesOfClasses, SightsOfText, SightsOfClasses};
+ghost use Rattle.flow_carried.specs.Carried.{TracesOfText, TracesOfClasses, ObservationsOfText, ObservationsOfClasses};
 
 /// Of a program and classes of its shape that carry its actors the same is seen in every world: the lines
 /// of the trace, and at each boundary of events the unfinished actors and the branches at which they wait.
-pub fn carried_alike()
+pub fn classes_simulate_program()
     ensures traces { TracesOfText }
     ensures traces_back { TracesOfClasses }
-    ensures views { SightsOfText }
-    ensures views_back { SightsOfClasses }
+    ensures views { ObservationsOfText }
+    ensures views_back { ObservationsOfClasses }
 {}

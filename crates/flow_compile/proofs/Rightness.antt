@@ -7,13 +7,13 @@ use Rattle.flow_valid.specs.Validity.{IsValid}
 use Rattle.flow_lower.specs.Compiled.{compiled, Has}
 use Rattle.flow_lawful.specs.Laws.{CompilesValid}
 use Rattle.flow_faithful.specs.Laws.{CompilesFaithfully}
-use Rattle.flow_preserved.specs.Laws.{TracesKept, TracesReturned, SightsKept, SightsReturned}
+use Rattle.flow_preserved.specs.Laws.{TracesPreserved, TracesReflected, ObservationsPreserved, ObservationsReflected}
 use Rattle.flow_compile.specs.Right.{IsAccepted, IsRight}
 
 pub valid_classes : (program : Program) (r : RawTree) → CompilesValid → IsAccepted program → r ≡ compiled (program_of program) → IsValid r
 valid_classes program r valid a e = rw e (valid a.0 program a.1)
 
-pub right_classes : (program : Program) (r : RawTree) → CompilesValid → CompilesFaithfully → TracesKept → TracesReturned → SightsKept → SightsReturned
+pub right_classes : (program : Program) (r : RawTree) → CompilesValid → CompilesFaithfully → TracesPreserved → TracesReflected → ObservationsPreserved → ObservationsReflected
     → IsAccepted program → r ≡ compiled (program_of program) → IsRight (program_of program) r
 right_classes program r valid faithful traces traces_back views views_back a e =
     let f = faithful a.0 program a.1.typed in

@@ -8,7 +8,7 @@ use Rattle.flow_class.specs.Classes.{RawTree}
 use Rattle.flow_meaning.specs.Runs.{SourceTrace, ClassTrace}
 use Rattle.flow_meaning.specs.Shape.{Shape}
 use Rattle.flow_meaning.specs.Carries.{CarriesProgram}
-use Rattle.flow_meaning.specs.Sights.{Sight, SourceSeen, ClassSeen}
+use Rattle.flow_meaning.specs.Observations.{Observation, SourceSeen, ClassSeen}
 use Rattle.flow_valid.specs.Validity.{IsValid}
 use Rattle.flow_front.specs.Verdict.{IsSound}
 
@@ -24,5 +24,5 @@ pub record IsRight (p : ProgramTree) (c : RawTree) : Type 0 where
   pub carries : CarriesProgram p c
   pub traces : (w : file.World) (lines : List Line) → SourceTrace p w lines → ClassTrace c w lines
   pub traces_back : (w : file.World) (lines : List Line) → ClassTrace c w lines → SourceTrace p w lines
-  pub views : (w : file.World) (lines : List Line) (sights : List Sight) → SourceSeen p w lines sights → ClassSeen c w lines sights
-  pub views_back : (w : file.World) (lines : List Line) (sights : List Sight) → ClassSeen c w lines sights → SourceSeen p w lines sights
+  pub views : (w : file.World) (lines : List Line) (sights : List Observation) → SourceSeen p w lines sights → ClassSeen c w lines sights
+  pub views_back : (w : file.World) (lines : List Line) (sights : List Observation) → ClassSeen c w lines sights → SourceSeen p w lines sights

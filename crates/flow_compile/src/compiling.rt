@@ -6,10 +6,10 @@ ghost use Rattle.flow_class.specs.View.{raw_of};
 ghost use Rattle.flow_lower.specs.Compiled.{Compiles};
 ghost use Rattle.flow_compile.specs.Right.{IsAccepted, IsRight};
 
-use flow_faithful::laws::compiled_faithfully;
-use flow_lawful::laws::compiled_valid;
+use flow_faithful::laws::compiled_classes_carry_program;
+use flow_lawful::laws::compiled_classes_are_valid;
 use flow_lower::{CompileFault, lower_program};
-use flow_preserved::laws::compiled_alike;
+use flow_preserved::laws::compile_preserves_traces;
 use flow_staterule::Sound;
 use flow_valid::program::ClassProgram;
 use std::alloc::Global;
@@ -23,9 +23,9 @@ pub fn compile(alloc: Global, sound: &Sound) -> Result<ClassProgram, CompileFaul
     ensures classes { Compiles raw_of (program_of sound.now.typed.program) result }
     ensures right { IfOk result (λ c. IsRight (program_of sound.now.typed.program) (raw_of c)) }
 {
-    compiled_valid();
-    compiled_faithfully();
-    compiled_alike();
+    compiled_classes_are_valid();
+    compiled_classes_carry_program();
+    compile_preserves_traces();
     match lower_program(alloc, sound) {
         Ok(raw) => Ok(ClassProgram::new(raw)),
         Err(fault) => Err(fault),

@@ -28,30 +28,30 @@ use Rattle.flow_picture.specs.Rested.{Sorted}
 use Rattle.flow_steps.specs.declared.call.Call.TheVariants as call
 use Rattle.flow_steps.specs.declared.process.Process.{Process}
 use Rattle.flow_steps.specs.Acting.{enrolled, with_args}
-use Rattle.flow_steps.specs.Bringing.{made}
+use Rattle.flow_steps.specs.Delivering.{made}
 use Rattle.flow_steps.specs.Doing.{begun, turned, doing, unasked}
 use Rattle.flow_steps.specs.Holding.{on_heap}
-use Rattle.flow_steps.specs.Sights.{program_time}
+use Rattle.flow_steps.specs.Evaluating.{program_time}
 use Rattle.flow_steps.specs.Tasks.{MainCalled, MainStarts, main_waits, main_starts}
 use Rattle.flow_machine.specs.declared.host.Burst.{Burst}
 use Rattle.flow_machine.specs.Bursts.{Bursts, MainBursts}
 use Rattle.flow_machine.specs.Serving.{Served, ServedIf}
-use Rattle.flow_follows.specs.Shown.{Shown, AreSpent}
-use Rattle.flow_follows.specs.Shown as memory
+use Rattle.flow_follows.specs.Matching.{ProcessRepresents, AreSpent}
+use Rattle.flow_follows.specs.Matching as memory
 use Rattle.flow_follows.proofs.Takings.{turned_asked}
 use Rattle.flow_effects.proofs.Boots.{main_boots}
 use Rattle.flow_effects.proofs.Brings.{event_begins}
 use Rattle.flow_served.specs.Serving as serving
 use Rattle.flow_served.proofs.Serving.{line_written}
-use Rattle.flow_poised.specs.Poised.{Poised}
+use Rattle.flow_poised.specs.StaleWaits.{NoStaleWaits}
 use Rattle.flow_poised.proofs.Tasks.{main_keeps}
-use Rattle.flow_kept.specs.Kept.{Kept}
+use Rattle.flow_kept.specs.Invariant.{ProcessInvariant}
 use Rattle.flow_kept.proofs.Once.{sorted_stays}
 use Rattle.flow_kept.proofs.Quiet.{Quiet, Speaks, quiet_then, quiet_is, quiet_speaks, speaks_is, speaks_stay, tells, on_heap_quiet, turned_quiet, doing_quiet}
 use Rattle.flow_kept.proofs.Rising.{and_then, made_stays, hold_stays, hold_all_stays, started_stays}
 use Rattle.flow_allowed.specs.Tasking.{IsProgram}
-use Rattle.flow_bursts.specs.Bursting.{Steadfast, Abroad, and_more, Follows}
-use Rattle.flow_boundaries.specs.Bringing.{Resting}
+use Rattle.flow_bursts.specs.Bursting.{HostKeepsTime, RepresentsInWorld, and_more, SimulatesBurst}
+use Rattle.flow_boundaries.specs.Delivering.{Resting}
 use Rattle.flow_goes.proofs.Following.{event_follows}
 use Rattle.flow_goes.proofs.Goes.{program_follows}
 use Rattle.flow_deeds.proofs.Mains.{may_start, main_is}
@@ -81,9 +81,9 @@ main_speaks code me m n none (main_starts t h) =
     let runs = quiet_then m (on_heap main h.between) (doing (task.Run h.actor) (on_heap main h.between)) held_main (doing_quiet (task.Run h.actor) (on_heap main h.between)) in
     speaks_is m n _ h.starts.told (tells m _ _ runs.calm)
 
-module _ {A W : Type 0} (serves : Host W) (shows : A → Numbered ℕ → W → Type 0) (wrote : A → List Line → A → Type 0) (code : Code) (processes : ℕ) (r : RawTree) (program : IsProgram r code) (steady : Steadfast serves) where
+module _ {A W : Type 0} (serves : Host W) (shows : A → Numbered ℕ → W → Type 0) (wrote : A → List Line → A → Type 0) (code : Code) (processes : ℕ) (r : RawTree) (program : IsProgram r code) (steady : HostKeepsTime serves) where
   abbrev Goes : List Line → A → Proc Frame → W → Burst → Process → A → Type 0
-  Goes ls a p w e n b = Follows serves shows wrote code processes r ls a p w e n b
+  Goes ls a p w e n b = SimulatesBurst serves shows wrote code processes r ls a p w e n b
 
   -- one line before a burst
   after_line : (l : Line) (a b c : A) (p : Proc Frame) (w : W) (e : Burst) (n : Process) → wrote a (l ∷ []) b → Goes (l ∷ []) b p w e n c → Goes [] a p w e n c
@@ -96,8 +96,8 @@ module _ {A W : Type 0} (serves : Host W) (shows : A → Numbered ℕ → W → 
     ends = f.ends;
   }
 
-  module _ (now turns : ℕ) (me : ProcId) (m : Process) (p : Proc Frame) (w : W) (a : A) (rest : Resting r m p) (held : Kept r (on_core (begin turns) p)) (no_main : p.core.main ≡ None)
-      (kept : let q = boot (classes r) me.0 (on_core (begin turns) p) in UnlessStopped q.core.halted (Kept r q)) (world : shows a p.core.ports w)
+  module _ (now turns : ℕ) (me : ProcId) (m : Process) (p : Proc Frame) (w : W) (a : A) (rest : Resting r m p) (held : ProcessInvariant r (on_core (begin turns) p)) (no_main : p.core.main ≡ None)
+      (kept : let q = boot (classes r) me.0 (on_core (begin turns) p) in UnlessStopped q.core.halted (ProcessInvariant r q)) (world : shows a p.core.ports w)
       (clock : program_time now ≡ pos now) (time : now ≡ (serves.supply w).now) (among : processes ≡ (serves.supply w).processes) where
     abbrev start : Process
     start = begun now turns m
@@ -105,7 +105,7 @@ module _ {A W : Type 0} (serves : Host W) (shows : A → Numbered ℕ → W → 
     abbrev booted : Proc Frame
     booted = boot (classes r) me.0 (on_core (begin turns) p)
 
-    follows : (n : Process) → MainCalled code me start n → memory.Follows r [] nothing_in_hand n booted
+    follows : (n : Process) → MainCalled code me start n → memory.Matches r [] nothing_in_hand n booted
     follows n calls =
         main_boots r [] start (on_core (begin turns) p) nothing_in_hand code me n (event_begins r m p now turns rest.shown) rest.shown.asked no_main
         (main_is r code program (on_core (begin turns) p) held refl me.0) (may_start r code program (on_core (begin turns) p) held refl me.0) calls
@@ -117,8 +117,8 @@ module _ {A W : Type 0} (serves : Host W) (shows : A → Numbered ℕ → W → 
           subst (λ (z : Process). Sorted z.heap) (sym same)
           (sorted_stays start n (speaks_stay start n (main_speaks code me start n rest.shown.asked calls)) rest.sorted)
 
-      still_poised : Poised told.heap
-      still_poised = subst (λ (z : Process). Poised z.heap) (sym same) (main_keeps code me start n calls rest.poised)
+      still_poised : NoStaleWaits told.heap
+      still_poised = subst (λ (z : Process). NoStaleWaits z.heap) (sym same) (main_keeps code me start n calls rest.poised)
 
       at_time : told.time ≡ now
       at_time = ap (λ (z : Process). z.time) same ∙ (main_speaks code me start n rest.shown.asked calls).calm.time
@@ -127,7 +127,7 @@ module _ {A W : Type 0} (serves : Host W) (shows : A → Numbered ℕ → W → 
     world_after = subst (λ ps. shows a ps w) (sym (boot_ports r ((classes r).fresh (classes r).main (IntValue (pos me.0) ∷ [])) (on_core (begin turns) p))) world
 
     -- no turn is left for the call: the event is spent
-    waits_spent : (n told : Process) (b : A) → nat_lt 0 start.left ≡ false → n ≡ turned start → memory.Follows r [] nothing_in_hand n booted
+    waits_spent : (n told : Process) (b : A) → nat_lt 0 start.left ≡ false → n ≡ turned start → memory.Matches r [] nothing_in_hand n booted
         → ServedIf serves shows wrote processes n.asked (unasked n) a told b → AreSpent [] told booted × (told ≡ unasked n) × (b ≡ a)
     waits_spent n told b t is (memory.shows s) served = absurd (both_ways (ap (λ (z : Process). z.spent) is ∙ ap (λ x. (if x then record start { left = start.left - 1 } else record start { spent = true }).spent) t) s.unspent)
     waits_spent n told b t is (memory.ends s) served =
@@ -143,7 +143,7 @@ module _ {A W : Type 0} (serves : Host W) (shows : A → Numbered ℕ → W → 
           quiet.1,
         )
 
-    waits_goes : (e : Burst) (n told k : Process) (b c : A) → MainCalled code me start n → nat_lt 0 start.left ≡ false → n ≡ turned start → memory.Follows r [] nothing_in_hand n booted
+    waits_goes : (e : Burst) (n told k : Process) (b c : A) → MainCalled code me start n → nat_lt 0 start.left ≡ false → n ≡ turned start → memory.Matches r [] nothing_in_hand n booted
         → ServedIf serves shows wrote processes n.asked (unasked n) a told b → Bursts serves shows wrote code processes told b e k c → Goes [] a booted w e k c
     waits_goes e n told k b c calls t is follows_it served bursts =
         let x = waits_spent n told b t is follows_it served in
@@ -153,8 +153,8 @@ module _ {A W : Type 0} (serves : Host W) (shows : A → Numbered ℕ → W → 
         kept (subst (λ z. shows z booted.core.ports w) (sym x.2) world_after) clock time among bursts)
 
     -- a turn is left, and the line of the start is written: a burst begins
-    line_abroad : (n told : Process) (b : A) (l : Line) → MainCalled code me start n → n.asked ≡ Some (call.Line l) → Shown r [] nothing_in_hand n booted
-        → Served serves shows wrote processes (call.Line l) (unasked n) a told b → wrote a (l ∷ []) b × (told ≡ unasked n) × Abroad serves shows wrote code processes r (l ∷ []) told b booted w
+    line_abroad : (n told : Process) (b : A) (l : Line) → MainCalled code me start n → n.asked ≡ Some (call.Line l) → ProcessRepresents r [] nothing_in_hand n booted
+        → Served serves shows wrote processes (call.Line l) (unasked n) a told b → wrote a (l ∷ []) b × (told ≡ unasked n) × RepresentsInWorld serves shows wrote code processes r (l ∷ []) told b booted w
     line_abroad n told b l calls asked s served =
         let x = line_written serves shows wrote r nothing_in_hand [] n told a b booted w processes l s asked world_after served in
         let at = at_time n told calls served.0 in (
@@ -164,7 +164,7 @@ module _ {A W : Type 0} (serves : Host W) (shows : A → Numbered ℕ → W → 
             between = record {
               shown = x.1.shown;
               sorted = still_sorted n told calls served.0;
-              kept = subst (λ h. UnlessStopped h (Kept r booted)) x.1.shown.goes kept;
+              kept = subst (λ h. UnlessStopped h (ProcessInvariant r booted)) x.1.shown.goes kept;
             };
             asked = x.1.served;
             world = x.1.world;
@@ -186,7 +186,7 @@ module _ {A W : Type 0} (serves : Host W) (shows : A → Numbered ℕ → W → 
     start_line : (n : Process) → (st : MainStarts code me (turned start) n) → n.asked ≡ Some (call.Line (line.Start st.actor st.starts.of.name))
     start_line n st = ap (λ (z : Process). z.asked) st.starts.told
 
-    starts_goes : (e : Burst) (n told k : Process) (b c : A) → MainCalled code me start n → nat_lt 0 start.left ≡ true → MainStarts code me (turned start) n → memory.Follows r [] nothing_in_hand n booted
+    starts_goes : (e : Burst) (n told k : Process) (b c : A) → MainCalled code me start n → nat_lt 0 start.left ≡ true → MainStarts code me (turned start) n → memory.Matches r [] nothing_in_hand n booted
         → ServedIf serves shows wrote processes n.asked (unasked n) a told b → Bursts serves shows wrote code processes told b e k c → Goes [] a booted w e k c
     starts_goes e n told k b c calls t st (memory.shows s) served bursts =
         let l = line.Start st.actor st.starts.of.name in
@@ -203,10 +203,10 @@ module _ {A W : Type 0} (serves : Host W) (shows : A → Numbered ℕ → W → 
 
     -- after the call and its line a burst begins, or the event is spent
     pub main_begins : (n told : Process) (b : A) → MainCalled code me start n → ServedIf serves shows wrote processes n.asked (unasked n) a told b
-        → ((l : Line) × (told ≡ unasked n) × Abroad serves shows wrote code processes r (l ∷ []) told b booted w) ⊎ (told.spent ≡ true)
+        → ((l : Line) × (told ≡ unasked n) × RepresentsInWorld serves shows wrote code processes r (l ∷ []) told b booted w) ⊎ (told.spent ≡ true)
     main_begins n told b calls served = by_call calls (follows n calls)
       where
-        by_call : MainCalled code me start n → memory.Follows r [] nothing_in_hand n booted → ((l : Line) × (told ≡ unasked n) × Abroad serves shows wrote code processes r (l ∷ []) told b booted w) ⊎ (told.spent ≡ true)
+        by_call : MainCalled code me start n → memory.Matches r [] nothing_in_hand n booted → ((l : Line) × (told ≡ unasked n) × RepresentsInWorld serves shows wrote code processes r (l ∷ []) told b booted w) ⊎ (told.spent ≡ true)
         by_call (main_waits t is) f = inr (waits_spent n told b t is f served).0.spent
         by_call (main_starts t st) (memory.shows s) =
             let l = line.Start st.actor st.starts.of.name in

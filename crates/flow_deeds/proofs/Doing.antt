@@ -26,20 +26,20 @@ use Rattle.flow_served.specs.Serving as serving
 use Rattle.flow_allowed.specs.Tasking.{IsProgram}
 use Rattle.flow_bursts.specs.Bursting as bursting
 use Rattle.flow_bursts.specs.Bursting.{Wrote, no_line, and_more}
-use Rattle.flow_kept.specs.Kept.{Kept}
-use Rattle.flow_boundaries.specs.Bringing.{IsBrought}
+use Rattle.flow_kept.specs.Invariant.{ProcessInvariant}
+use Rattle.flow_boundaries.specs.Delivering.{IsDelivered}
 use Rattle.flow_boundaries.proofs.Bringing.{answer_brings, stop_brings, element_brings}
 use Rattle.flow_goes.proofs.Following.{event_follows, event_rests}
-use Rattle.flow_world.specs.declared.deed.Deed.{Deed}
-use Rattle.flow_world.specs.declared.deed.Deed.TheVariants.{Boots, Stops, Delivers, Brings}
+use Rattle.flow_world.specs.declared.action.EventAction.{EventAction}
+use Rattle.flow_world.specs.declared.action.EventAction.TheVariants.{Boots, Stops, Delivers, Brings}
 use Rattle.flow_world.specs.declared.place.Place.{Place}
 use Rattle.flow_world.specs.Around.{Inside, Puts, no_line as nothing_put, more_lines, shows, wrote}
 use Rattle.flow_world.specs.Changes.{Surroundings}
-use Rattle.flow_world.specs.Deeds.{Follows, up_after}
+use Rattle.flow_world.specs.Actions.{BurstsAfter, up_after}
 use Rattle.flow_world.specs.Happening.{Acts, inside}
-use Rattle.flow_world.specs.Ports.{PortsShow}
-use Rattle.flow_deeds.specs.Deeds as law
-use Rattle.flow_deeds.specs.Deeds.{done_in, Ready, Done}
+use Rattle.flow_world.specs.Ports.{PortsRepresent}
+use Rattle.flow_deeds.specs.Actions as law
+use Rattle.flow_deeds.specs.Actions.{done_in, Ready, Done}
 use Rattle.flow_deeds.proofs.Booting.{boot_goes}
 use Rattle.flow_deeds.proofs.SamePorts.{deed_ports}
 use Rattle.flow_deeds.proofs.Steadily.{host_steady, burst_stays}
@@ -50,7 +50,7 @@ module _ {A : Type 0} (puts : A → Line → Result (Unit {0}) OutFault → A �
   more_puts a b c [] more nothing_put rest = rest
   more_puts a b c (l ∷ ls) more (more_lines {b = d} one next) rest = more_lines one (more_puts d b c ls more next rest)
 
-  told_puts : (r : RawTree) (a b : Inside A) (ls : List Line) → serving.Told host shows (wrote puts) r nothing_in_hand a ls b → Puts puts a.out ls b.out
+  told_puts : (r : RawTree) (a b : Inside A) (ls : List Line) → serving.WroteOrQuiet host shows (wrote puts) r nothing_in_hand a ls b → Puts puts a.out ls b.out
   told_puts r a b ls serving.quiet = nothing_put
   told_puts r a b ls (serving.told said) = said
 
@@ -61,10 +61,10 @@ module _ {A : Type 0} (puts : A → Line → Result (Unit {0}) OutFault → A �
 
   module _ (r : RawTree) (code : Code) (program : IsProgram r code) (turns : ℕ) (p : ProcId) (x : meaning.Place Frame) (o : Outside) (at : Place) (m : Surroundings) (a : A) where
     -- what it did by its machine is what the class machine does
-    abbrev Goes : Deed → Burst → Process → Inside A → Type 0
-    Goes d e q b = bursting.Follows host shows (wrote puts) code at.machine.processes r [] (inside puts p at.ports m a) (done_in r turns p.0 d x).proc o e q b
+    abbrev Goes : EventAction → Burst → Process → Inside A → Type 0
+    Goes d e q b = bursting.SimulatesBurst host shows (wrote puts) code at.machine.processes r [] (inside puts p at.ports m a) (done_in r turns p.0 d x).proc o e q b
 
-    module _ (d : Deed) (ready : Ready r turns p d x o at m) where
+    module _ (d : EventAction) (ready : Ready r turns p d x o at m) where
       rests_done : (left : Place) (n : Surroundings) (b : A) (me : ProcId) → left.up ≡ up_after d at.up → left.machine.me ≡ at.machine.me → left.machine.processes ≡ at.machine.processes
           → up_after d x.up ≡ (done_in r turns p.0 d x).up → Goes d burst.Rested left.machine.process (inside puts me left.ports n b) → Done r turns p d x o puts a burst.Rested left n b
       rests_done left n b me up same count stays f =
@@ -95,14 +95,14 @@ module _ {A : Type 0} (puts : A → Line → Result (Unit {0}) OutFault → A �
         ends = f.ends.1;
       }
 
-    around : (d : Deed) → Ready r turns p d x o at m → shows (inside puts p at.ports m a) (done_in r turns p.0 d x).proc.core.ports o
+    around : (d : EventAction) → Ready r turns p d x o at m → shows (inside puts p at.ports m a) (done_in r turns p.0 d x).proc.core.ports o
     around d ready = record {
       outside = ready.outside;
       active = ready.active;
-      ports = subst (PortsShow at.ports) (sym (deed_ports r turns p.0 d x)) ready.shows.ports;
+      ports = subst (PortsRepresent at.ports) (sym (deed_ports r turns p.0 d x)) ready.shows.ports;
     }
 
-    brought_goes : (d : Deed) (ready : Ready r turns p d x o at m) (start : Process) (e : Burst) (q : Process) (b : Inside A) → IsBrought r m.time start (done_in r turns p.0 d x).proc
+    brought_goes : (d : EventAction) (ready : Ready r turns p d x o at m) (start : Process) (e : Burst) (q : Process) (b : Inside A) → IsDelivered r m.time start (done_in r turns p.0 d x).proc
         → Bursts host shows (wrote puts) code at.machine.processes start (inside puts p at.ports m a) e q b → Goes d e q b
     brought_goes d ready start e q b is bursts =
         event_follows host shows (wrote puts) code at.machine.processes r program host_steady m.time start q (inside puts p at.ports m a) b (done_in r turns p.0 d x).proc o e is ready.kept
@@ -114,15 +114,15 @@ module _ {A : Type 0} (puts : A → Line → Result (Unit {0}) OutFault → A �
         let me = at.machine.me in
         let booted_by : ℕ → Proc Frame = λ n. boot (classes r) n (on_core (begin turns) x.proc) in
         let same : booted_by p.0 ≡ (done_in r turns p.0 Boots x).proc = ap (λ h. (booted (classes r) p.0 (with_core x (begin turns)) h).proc) (sym ready.may) in
-        let kept : UnlessStopped (booted_by me.0).core.halted (Kept r (booted_by me.0)) =
-        subst (λ n. UnlessStopped (booted_by n).core.halted (Kept r (booted_by n))) (sym ready.shows.me)
-        (subst (λ (q : Proc Frame). UnlessStopped q.core.halted (Kept r q)) (sym same) ready.kept) in
+        let kept : UnlessStopped (booted_by me.0).core.halted (ProcessInvariant r (booted_by me.0)) =
+        subst (λ n. UnlessStopped (booted_by n).core.halted (ProcessInvariant r (booted_by n))) (sym ready.shows.me)
+        (subst (λ (q : Proc Frame). UnlessStopped q.core.halted (ProcessInvariant r q)) (sym same) ready.kept) in
         let f = boot_goes host shows (wrote puts) code at.machine.processes r program host_steady m.time turns me at.machine.process x.proc o (inside puts p at.ports m a) ready.shows.rests.resting ready.held ready.may kept
         (record { outside = ready.outside; active = ready.active; ports = ready.shows.ports }) ready.clock ready.outside.time ready.shows.processes_are e q b bursts in
-        subst (λ z. bursting.Follows host shows (wrote puts) code at.machine.processes r [] (inside puts p at.ports m a) z o e q b) (ap booted_by ready.shows.me ∙ same) f
+        subst (λ z. bursting.SimulatesBurst host shows (wrote puts) code at.machine.processes r [] (inside puts p at.ports m a) z o e q b) (ap booted_by ready.shows.me ∙ same) f
 
-    deed_goes : (d : Deed) → Ready r turns p d x o at m → (e : Burst) (q : Process) (b : Inside A)
-        → Follows host shows (wrote puts) code d at.machine (begun m.time turns at.machine.process) (inside puts p at.ports m a) e q b → Goes d e q b
+    deed_goes : (d : EventAction) → Ready r turns p d x o at m → (e : Burst) (q : Process) (b : Inside A)
+        → BurstsAfter host shows (wrote puts) code d at.machine (begun m.time turns at.machine.process) (inside puts p at.ports m a) e q b → Goes d e q b
     deed_goes Boots ready e q b bursts = booting_goes ready e q b bursts
     deed_goes Stops ready e q b bursts =
         brought_goes Stops ready _ e q b (stop_brings r at.machine.process x.proc m.time turns ready.shows.rests.resting) bursts
@@ -134,13 +134,13 @@ module _ {A : Type 0} (puts : A → Line → Result (Unit {0}) OutFault → A �
         (element_brings r at.machine.process x.proc m.time turns k.0 v ready.shows.rests.resting ready.may.0 ready.may.1) bursts
 
     -- it is up after a boot, and else stays so
-    up_then : (d : Deed) → Ready r turns p d x o at m → up_after d x.up ≡ (done_in r turns p.0 d x).up
+    up_then : (d : EventAction) → Ready r turns p d x o at m → up_after d x.up ≡ (done_in r turns p.0 d x).up
     up_then Boots ready = ap (λ h. (booted (classes r) p.0 (with_core x (begin turns)) h).up) (sym ready.may)
     up_then Stops ready = refl
     up_then (Delivers k v) ready = refl
     up_then (Brings k v) ready = refl
 
-    deed_follows : (d : Deed) (left : Place) (n : Surroundings) (b : A) (e : Burst) → Ready r turns p d x o at m → Acts puts code turns p d at m a e left n b → Done r turns p d x o puts a e left n b
+    deed_follows : (d : EventAction) (left : Place) (n : Surroundings) (b : A) (e : Burst) → Ready r turns p d x o at m → Acts puts code turns p d at m a e left n b → Done r turns p d x o puts a e left n b
     deed_follows d left n b e ready acts = by_end e acts.up acts.does.me acts.does.processes (deed_goes d ready e left.machine.process (inside puts acts.me left.ports n b) acts.does.follows)
       where
         by_end : (e : Burst) → left.up ≡ up_after d at.up → left.machine.me ≡ at.machine.me → left.machine.processes ≡ at.machine.processes
@@ -148,5 +148,5 @@ module _ {A : Type 0} (puts : A → Line → Result (Unit {0}) OutFault → A �
         by_end burst.Rested up same count f = rests_done d ready left n b acts.me up same count (up_then d ready) f
         by_end burst.Spent up same count f = spent_done d ready left n b acts.me f
 
-pub deeds_follow : {A : Type 0} (puts : A → Line → Result (Unit {0}) OutFault → A → Type 0) (r : RawTree) (code : Code) → law.DeedFollows puts r code
+pub deeds_follow : {A : Type 0} (puts : A → Line → Result (Unit {0}) OutFault → A → Type 0) (r : RawTree) (code : Code) → law.ActionRefines puts r code
 deeds_follow puts r code program turns p d x o at left m n a b e ready acts = deed_follows puts r code program turns p x o at m a d left n b e ready acts

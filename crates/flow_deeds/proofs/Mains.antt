@@ -25,7 +25,7 @@ use Rattle.flow_executes.specs.Executing.{coded_by}
 use Rattle.flow_effects.specs.Starting.{MayStart}
 use Rattle.flow_effects.proofs.Fresh.{actor_free}
 use Rattle.flow_allowed.specs.Tasking.{IsProgram}
-use Rattle.flow_kept.specs.Kept.{Kept}
+use Rattle.flow_kept.specs.Invariant.{ProcessInvariant}
 
 -- the place of the first of a name
 named_place : (x : List ℕ) (k : ℕ) (ys : List (List ℕ))
@@ -66,7 +66,7 @@ module _ (r : RawTree) (code : Code) (program : IsProgram r code) where
   rules : ClassRules r (heads r)
   rules = class_rules r program.whole.valid.valid program.whole.valid.written (functions_kept r program.whole.valid.valid program.whole.valid.functions)
 
-  module _ (p : Proc Frame) (kept : Kept r p) (go : p.core.halted ≡ None) (me : ℕ) where
+  module _ (p : Proc Frame) (kept : ProcessInvariant r p) (go : p.core.halted ≡ None) (me : ℕ) where
     abbrev args : List ValueTree
     args = IntValue (pos me) ∷ []
 

@@ -17,9 +17,9 @@ use Rattle.flow_meaning.specs.Work.{turn_of, fill, fill_cell, pushed}
 use Rattle.flow_meaning.specs.World as meaning
 use Rattle.flow_meaning.specs.World.{booted, with_core}
 use Rattle.flow_value.specs.declared.value.Kind.TheVariants as kind
-use Rattle.flow_world.specs.declared.deed.Deed.{Deed}
-use Rattle.flow_world.specs.declared.deed.Deed.TheVariants.{Boots, Stops, Delivers, Brings}
-use Rattle.flow_deeds.specs.Deeds.{done_in}
+use Rattle.flow_world.specs.declared.action.EventAction.{EventAction}
+use Rattle.flow_world.specs.declared.action.EventAction.TheVariants.{Boots, Stops, Delivers, Brings}
+use Rattle.flow_deeds.specs.Actions.{done_in}
 
 main_ports : (l : ℕ) (class : ℕ) (name : List ℕ) (c : Core) → (turn_of l c (λ d. record (enrol class name d) { main = Some (suc d.made) })).ports ≡ c.ports
 main_ports zero class name c = refl
@@ -45,7 +45,7 @@ filled_ports : (l k : ℕ) (u : OutcomeTree) (c : Core) → (turn_of l c (λ d. 
 filled_ports zero k u c = refl
 filled_ports (suc n) k u c = cell_ports k u (thing c.cells k) (record c { left = n })
 
-pub deed_ports : (r : RawTree) (turns n : ℕ) (d : Deed) (x : meaning.Place Frame) → (done_in r turns n d x).proc.core.ports ≡ x.proc.core.ports
+pub deed_ports : (r : RawTree) (turns n : ℕ) (d : EventAction) (x : meaning.Place Frame) → (done_in r turns n d x).proc.core.ports ≡ x.proc.core.ports
 deed_ports r turns n Boots x = booted_ports r n (with_core x (begin turns)) x.proc.core.main
 deed_ports r turns n Stops x = stop_ports x.proc.core.main (begin turns x.proc.core)
 deed_ports r turns n (Delivers k o) x =

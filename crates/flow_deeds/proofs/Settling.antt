@@ -10,10 +10,10 @@ use Rattle.flow_meaning.specs.Step.{step_tasks, on_core}
 use Rattle.flow_picture.proofs.Starting.{idle_rests}
 use Rattle.flow_steps.specs.Doing.{never_ran}
 use Rattle.flow_effects.proofs.Brings.{event_begins}
-use Rattle.flow_deeds.specs.Settling as law
-use Rattle.flow_deeds.specs.Settling.{Settled}
+use Rattle.flow_deeds.specs.Quiescence as law
+use Rattle.flow_deeds.specs.Quiescence.{Quiescent}
 
-pub stays_settled : (r : RawTree) → law.StaysSettled r
+pub stays_settled : (r : RawTree) → law.StaysQuiescent r
 stays_settled r turns m p out s = (
   ap (λ ts. advanced host out (step_tasks (classes r) (host.supply out) ts (on_core (begin turns) p))) s.tasks,
   record {
@@ -27,7 +27,7 @@ stays_settled r turns m p out s = (
 )
 
 -- a process that never ran
-pub settled_first : (r : RawTree) (memory : Global) → Settled r (never_ran memory) idle
+pub settled_first : (r : RawTree) (memory : Global) → Quiescent r (never_ran memory) idle
 settled_first r memory =
     let z = idle_rests r in
     record { resting = record { shown = record { holds = record { shows = z.running.shows; counted = z.running.counted }; asked = refl }; sorted = z.running.sorted; poised = λ i a at. absurd (cc (at)) }; tasks = refl }

@@ -4,7 +4,7 @@ use Rattle.std.specs.declared.option.Option.{Option}
 use Rattle.std.specs.declared.option.Option.TheVariants.{None, Some}
 use Rattle.flow_simnet.specs.declared.packet.Fate.{Fate}
 use Rattle.flow_simnet.specs.declared.packet.Fate.TheVariants.{Cut, Drawn, At}
-use Rattle.flow_meaning.specs.Asks.{Request, Drew, Timer, Packet, Disks}
+use Rattle.flow_meaning.specs.Requests.{Request, Drew, Timer, Packet, Disks}
 use Rattle.flow_meaning.specs.Burst as machine
 use Rattle.flow_meaning.specs.Burst.{Live, Burst, rests, steps, advance, advanced}
 use Rattle.flow_meaning.specs.Outside.{Outside, host, serve, sent_by, fate_in}
@@ -12,8 +12,8 @@ use Rattle.flow_meaning.specs.Process.{Engine, Proc}
 use Rattle.flow_meaning.specs.Step.{Stepped, step}
 use Rattle.flow_meaning.proofs.Shifts.{same_of}
 use Rattle.flow_meaning.proofs.InOrder.{no_thing}
-use Rattle.flow_bursts.specs.Bursting.{Steadfast}
-use Rattle.flow_deeds.specs.Deeds.{StaysIn}
+use Rattle.flow_bursts.specs.Bursting.{HostKeepsTime}
+use Rattle.flow_deeds.specs.Actions.{StaysIn}
 
 stays_still : (w : Outside) → StaysIn w w
 stays_still w = record { file = refl; time = refl; ran = refl; script = refl; active = refl }
@@ -42,7 +42,7 @@ served_stays (Packet q port text) w =
     record { file = s.file; time = s.time; ran = s.ran; script = s.script; active = s.active }
 served_stays (Disks k call) w = record { file = refl; time = refl; ran = refl; script = refl; active = refl }
 
-pub host_steady : Steadfast host
+pub host_steady : HostKeepsTime host
 host_steady q w = let s = served_stays q w in (s.time, ap (λ f. f.processes) s.file)
 
 module _ {F : Type 0} (e : Engine F) where

@@ -16,18 +16,18 @@ use Rattle.flow_steps.specs.declared.process.Process.{Process}
 use Rattle.flow_steps.specs.Doing.{vanished}
 use Rattle.flow_effects.proofs.Brings.{vanishes}
 use Rattle.flow_world.specs.Changes.{Surroundings, DiskLoses}
-use Rattle.flow_world.specs.Shows.{OutsideShows}
+use Rattle.flow_world.specs.Representing.{OutsideRepresents}
 use Rattle.flow_world.proofs.Events.{found, requests_are_gone}
-use Rattle.flow_deeds.specs.Settling.{Settled}
+use Rattle.flow_deeds.specs.Quiescence.{Quiescent}
 use Rattle.flow_deeds.specs.Vanishing as law
 
 -- what is left of a process in memory
-settled_gone : (r : RawTree) (m : Process) (p : Proc Frame) → Settled r m p → Settled r (vanished m) (vanish p)
+settled_gone : (r : RawTree) (m : Process) (p : Proc Frame) → Quiescent r m p → Quiescent r (vanished m) (vanish p)
 settled_gone r m p s =
     let v = vanishes r m p s.resting.shown in
     record { resting = record { shown = v.1; sorted = v.0.running.sorted; poised = λ i a at. absurd (cc (at)) }; tasks = refl }
 
-module _ (p : ProcId) (m lost : Surroundings) (o : Outside) (fates : List Kept) (s : OutsideShows m o) (d : DiskLoses p m lost fates) where
+module _ (p : ProcId) (m lost : Surroundings) (o : Outside) (fates : List Kept) (s : OutsideRepresents m o) (d : DiskLoses p m lost fates) where
   -- what the definitions lose
   abbrev loss : Losing (List (List ℕ × File))
   loss = power_lost (word_at o.file.seed o.file.words) o.drawn (disk_of o p.0).files
@@ -46,11 +46,11 @@ module _ (p : ProcId) (m lost : Surroundings) (o : Outside) (fates : List Kept) 
   abbrev put_in : (disk : Disk) → Losing (List (List ℕ × File)) → Outside
   put_in disk l = with_disk (record o { drawn = l.taken }) p.0 (record { fails = disk.fails; files = l.left })
 
-  disks_show : OutsideShows lost (put_in (disk_of o p.0) loss)
+  disks_show : OutsideRepresents lost (put_in (disk_of o p.0) loss)
   disks_show =
-      subst (λ l. OutsideShows lost (put_in (disk_of o p.0) l)) (sym loss_is)
-      (subst (λ e. OutsideShows lost (put_in e (losing d.kept lost.draws.used fates))) (sym disk_is)
-      (subst (λ n. OutsideShows n (put_in d.disk (losing d.kept lost.draws.used fates))) (sym d.left) (record {
+      subst (λ l. OutsideRepresents lost (put_in (disk_of o p.0) l)) (sym loss_is)
+      (subst (λ e. OutsideRepresents lost (put_in e (losing d.kept lost.draws.used fates))) (sym disk_is)
+      (subst (λ n. OutsideRepresents n (put_in d.disk (losing d.kept lost.draws.used fates))) (sym d.left) (record {
         seed = s.seed;
         words = s.words;
         processes = s.processes;
@@ -80,11 +80,11 @@ loss_follows r turns p x o head at gone m lost left fates shows s d forgotten g 
         up = g.down;
         me = ap (λ (i : ProcId). i.0) g.me ∙ shows.me;
         processes_are = g.processes ∙ shows.processes_are;
-        rests = subst (λ n. Settled r n (vanish x.proc)) (sym g.vanished) settled;
+        rests = subst (λ n. Quiescent r n (vanish x.proc)) (sym g.vanished) settled;
         ports = g.ports;
       };
       outside =
-          subst (λ n. OutsideShows n (law.killed_in r turns p x o head).out) (sym (forgotten lost.timers.made now.numbers))
+          subst (λ n. OutsideRepresents n (law.killed_in r turns p x o head).out) (sym (forgotten lost.timers.made now.numbers))
           (requests_are_gone lost (put_in p m lost o fates s d (disk_of o p.0) (loss p m lost o fates s d)) p now);
       stays = record { file = refl; time = refl; ran = refl; script = refl; active = refl };
       rests = refl;

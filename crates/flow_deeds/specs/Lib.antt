@@ -1,3 +1,3 @@
-pub mod Deeds
-pub mod Settling
+pub mod Actions
+pub mod Quiescence
 pub mod Vanishing

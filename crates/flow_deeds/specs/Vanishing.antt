@@ -15,10 +15,10 @@ use Rattle.flow_meaning.specs.World.{kept_line, killed, with_core}
 use Rattle.flow_world.specs.declared.place.Place.{Place}
 use Rattle.flow_world.specs.Changes.{Surroundings, DiskLoses}
 use Rattle.flow_world.specs.Happening.{Forgotten, Gone}
-use Rattle.flow_world.specs.Shows.{OutsideShows}
-use Rattle.flow_events.specs.Showing.{PlaceShows}
-use Rattle.flow_deeds.specs.Deeds.{StaysIn}
-use Rattle.flow_deeds.specs.Settling.{Settled}
+use Rattle.flow_world.specs.Representing.{OutsideRepresents}
+use Rattle.flow_events.specs.Showing.{PlaceRepresents}
+use Rattle.flow_deeds.specs.Actions.{StaysIn}
+use Rattle.flow_deeds.specs.Quiescence.{Quiescent}
 
 module _ (r : RawTree) (turns : ℕ) (p : ProcId) (x : meaning.Place Frame) (o : Outside) (head : List Line) where
   -- what a loss of power makes of a process in an event of so many turns, with the lines that come before
@@ -28,8 +28,8 @@ module _ (r : RawTree) (turns : ℕ) (p : ProcId) (x : meaning.Place Frame) (o :
   -- That is what memory shows, with a line for each write that the disk had not synced; and nothing is left to do.
   pub record PowerGone (gone : Place) (left : Surroundings) (fates : List Kept) : Type 0 where
     pub lines : killed_in.head ≡ head ++ map kept_line fates
-    pub shows : PlaceShows (Settled r) o.file.processes p.0 gone killed_in.place
-    pub outside : OutsideShows left killed_in.out
+    pub shows : PlaceRepresents (Quiescent r) o.file.processes p.0 gone killed_in.place
+    pub outside : OutsideRepresents left killed_in.out
     pub stays : StaysIn o killed_in.out
     pub rests : advance (classes r) host (live killed_in.place.proc killed_in.out) ≡ None
 
@@ -38,5 +38,5 @@ abbrev pub LossFollows : RawTree → Type 0
 LossFollows r =
     (turns : ℕ) (p : ProcId) (x : meaning.Place Frame) (o : Outside) (head : List Line)
     (at gone : Place) (m lost left : Surroundings) (fates : List Kept)
-    → PlaceShows (Settled r) o.file.processes p.0 at x → OutsideShows m o → DiskLoses p m lost fates → Forgotten p lost left
+    → PlaceRepresents (Quiescent r) o.file.processes p.0 at x → OutsideRepresents m o → DiskLoses p m lost fates → Forgotten p lost left
     → Gone at gone → PowerGone r turns p x o head gone left fates

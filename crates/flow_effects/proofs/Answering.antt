@@ -11,10 +11,10 @@ use Rattle.flow_trace.specs.declared.line.Line.{Line}
 use Rattle.flow_cancel.specs.declared.task.Task.TheVariants as task
 use Rattle.flow_cancel.specs.Heap.{actor_id}
 use Rattle.flow_numbered.specs.Numbered.{put}
-use Rattle.flow_meaning.specs.Asks.{Throws, RunsOut, Supply}
+use Rattle.flow_meaning.specs.Requests.{Throws, RunsOut, Supply}
 use Rattle.flow_meaning.specs.Evaluating.{StepOf, evaluated, asks as asking}
 use Rattle.flow_meaning.specs.Process.{Throw, Spent as TurnsSpent, Entry, Proc}
-use Rattle.flow_meaning.specs.Occ.{Scan}
+use Rattle.flow_meaning.specs.References.{Scan}
 use Rattle.flow_meaning.specs.Work.{halt, pushed}
 use Rattle.flow_meaning.specs.Step.{view, proc, on_core}
 use Rattle.flow_meaning.specs.Class.{next_step, class_names}
@@ -22,16 +22,16 @@ use Rattle.flow_meaning.specs.Frame.{Frame}
 use Rattle.flow_picture.proofs.Acted.{same_put}
 use Rattle.flow_steps.specs.declared.call.Call.{Call}
 use Rattle.flow_steps.specs.declared.call.Call.TheVariants as call
-use Rattle.flow_steps.specs.declared.frames.Stand.{Stand}
+use Rattle.flow_steps.specs.declared.frames.ControlPoint.{ControlPoint}
 use Rattle.flow_steps.specs.declared.next.Pace.{Pace}
 use Rattle.flow_steps.specs.declared.next.Pace.TheVariants.{Off}
 use Rattle.flow_steps.specs.declared.process.Process.{Process}
 use Rattle.flow_steps.specs.Doing.{doing}
-use Rattle.flow_steps.specs.Standing.{noted}
-use Rattle.flow_steps.specs.Sights.{with_left, Halted, Evaluates, gives, throws, runs_out}
+use Rattle.flow_steps.specs.Points.{noted}
+use Rattle.flow_steps.specs.Evaluating.{with_left, Halted, Evaluates, gives, throws, runs_out}
 use Rattle.flow_follows.specs.Stepped.{OnlyTells}
-use Rattle.flow_follows.specs.Shown.{Shown, AreSpent, shows, ends, with_task}
-use Rattle.flow_follows.specs.Placing.{Stood}
+use Rattle.flow_follows.specs.Matching.{ProcessRepresents, AreSpent, shows, ends, with_task}
+use Rattle.flow_follows.specs.Placing.{RepresentsActor}
 use Rattle.flow_follows.specs.Carried.{StepsAs}
 use Rattle.flow_follows.specs.Evaluated.{GivesValue}
 use Rattle.flow_follows.proofs.Working.{as_many_shown, task_done}
@@ -55,12 +55,12 @@ evaluated_then a Meaningless go on = refl
 
 module _ (r : RawTree) (ls : List Line) (m : Process) (p : Proc Frame) (i : ℕ) (e : Entry) (f : Frame) where
   -- memory shows the process with the turns that evaluation left
-  pub resumed_stood : (x : Scan) (s : Stand) (left : ℕ) → MayAsk r ls x s m p i e f → Stood r ls x (noted s (with_left left m)) (resumed i f left p) i e f
+  pub resumed_stood : (x : Scan) (s : ControlPoint) (left : ℕ) → MayAsk r ls x s m p i e f → RepresentsActor r ls x (noted s (with_left left m)) (resumed i f left p) i e f
   resumed_stood x s left st =
-      subst (λ xs. Stood r ls x (noted s (with_left left m)) (proc (record p.core { left = left }) xs) i e f) (sym (same_put p.actors i f st.stood.acts.acting))
+      subst (λ xs. RepresentsActor r ls x (noted s (with_left left m)) (proc (record p.core { left = left }) xs) i e f) (sym (same_put p.actors i f st.stood.acts.acting))
       (with_turns r ls (noted s m) p i e f x left st.stood)
 
-  error_at : (x : Scan) (s : Stand) (w : Supply) (err : ErrorCode) (left : ℕ) (n : Process) → MayAsk r ls x s m p i e f → Halted s (halt.Thrown err) (with_left left m) n
+  error_at : (x : Scan) (s : ControlPoint) (w : Supply) (err : ErrorCode) (left : ℕ) (n : Process) → MayAsk r ls x s m p i e f → Halted s (halt.Thrown err) (with_left left m) n
       → next_step (class_names r) (view w i p.core) f ≡ asking left (Throws err.0) f → StepsAs r ls x w p i e Off n
   error_at x s w err left n st halted next =
       let there = resumed_stood x s left st in
@@ -72,11 +72,11 @@ module _ (r : RawTree) (ls : List Line) (m : Process) (p : Proc Frame) (i : ℕ)
         after = on_core (pushed u) q;
         steps = asked r ls m p i e f w (asking left (Throws err.0) f) st.stood.shown.goes st.stood.acts.acting next;
         carries = shows
-            (subst (λ z. Shown r ls x z (on_core (pushed u) q)) (sym halted)
-            (subst (λ (a : ActorId). Shown r ls x (doing (task.Throw a err) k) (on_core (pushed u) q)) (sym st.actor) thrown));
+            (subst (λ z. ProcessRepresents r ls x z (on_core (pushed u) q)) (sym halted)
+            (subst (λ (a : ActorId). ProcessRepresents r ls x (doing (task.Throw a err) k) (on_core (pushed u) q)) (sym st.actor) thrown));
       }
 
-  out_at : (x : Scan) (s : Stand) (w : Supply) (n : Process) → MayAsk r ls x s m p i e f → Halted s halt.Spent (with_left 0 m) n
+  out_at : (x : Scan) (s : ControlPoint) (w : Supply) (n : Process) → MayAsk r ls x s m p i e f → Halted s halt.Spent (with_left 0 m) n
       → next_step (class_names r) (view w i p.core) f ≡ asking 0 RunsOut f → StepsAs r ls x w p i e Off n
   out_at x s w n st halted next = record {
     after = proc (halt TurnsSpent (record p.core { left = 0 })) (put p.actors i f);
@@ -88,7 +88,7 @@ module _ (r : RawTree) (ls : List Line) (m : Process) (p : Proc Frame) (i : ℕ)
     }));
   }
 
-  pub evaluation_at : {A B : Type 0} (x : Scan) (s : Stand) (w : Supply) (seen : B → A) (comes_to : Res A) (go : A → ℕ → StepOf Frame)
+  pub evaluation_at : {A B : Type 0} (x : Scan) (s : ControlPoint) (w : Supply) (seen : B → A) (comes_to : Res A) (go : A → ℕ → StepOf Frame)
       (goal : B → Process → Pace → Process → Type 0) (pace : Pace) (n : Process) → MayAsk r ls x s m p i e f
       → next_step (class_names r) (view w i p.core) f ≡ evaluated f comes_to go → Evaluates s seen comes_to m goal pace n
       → GivesValue seen comes_to m goal pace n ⊎ Answered r ls x w p i e pace n

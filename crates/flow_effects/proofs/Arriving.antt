@@ -19,11 +19,11 @@ use Rattle.flow_cancel.specs.Heap.{HeapTree, pushed}
 use Rattle.flow_numbered.specs.Numbered.{thing}
 use Rattle.flow_meaning.specs.Cells.{Side, FutureSide, Ref, Waiter, Cell, Single, Stream}
 use Rattle.flow_meaning.specs.Process.{Proc}
-use Rattle.flow_meaning.specs.Occ.{Scan, one, count, refs_in, value_in}
+use Rattle.flow_meaning.specs.References.{Scan, one, count, refs_in, value_in}
 use Rattle.flow_meaning.specs.Work.{fill, fill_cell}
 use Rattle.flow_meaning.specs.Step.{on_core}
 use Rattle.flow_meaning.specs.Frame.{Frame}
-use Rattle.flow_picture.specs.Shows.{spot_of_actor}
+use Rattle.flow_picture.specs.Representing.{spot_of_actor}
 use Rattle.flow_picture.specs.Counted.{memory_side, references}
 use Rattle.flow_picture.specs.References.{cell_holds}
 use Rattle.flow_picture.specs.Changes.{stream_put, fire}
@@ -37,8 +37,8 @@ use Rattle.flow_picture.proofs.Referring.{of_cell}
 use Rattle.flow_picture.proofs.Sums.{refs_joined}
 use Rattle.flow_steps.specs.declared.process.Process.{Process}
 use Rattle.flow_steps.specs.Holding.{on_heap, outcome_refs}
-use Rattle.flow_steps.specs.Bringing.{content_brought}
-use Rattle.flow_follows.specs.Shown.{Shown}
+use Rattle.flow_steps.specs.Delivering.{content_brought}
+use Rattle.flow_follows.specs.Matching.{ProcessRepresents}
 use Rattle.flow_follows.proofs.Working.{changed, refs_held}
 use Rattle.flow_follows.proofs.Brought.{found_stream}
 
@@ -87,8 +87,8 @@ module _ (r : RawTree) (h : HeapTree) (p : Proc Frame) (x : Scan) (k : ℕ) (q :
       there = stored_put h.streams.things k m n e
 
 module _ (r : RawTree) (ls : List Line) (x : Scan) (m : Process) (p : Proc Frame) (k : ℕ) (v : Value) where
-  pub element_sent : Shown r ls x m p → AllThere p (outcome_refs (outcome.Value v)) → There p (kind.PromiseStream, k)
-      → Shown r ls x (on_heap (content_brought kind.PromiseStream k (outcome.Value v)) m) (on_core (fill k (outcome_of (outcome.Value v))) p)
+  pub element_sent : ProcessRepresents r ls x m p → AllThere p (outcome_refs (outcome.Value v)) → There p (kind.PromiseStream, k)
+      → ProcessRepresents r ls x (on_heap (content_brought kind.PromiseStream k (outcome.Value v)) m) (on_core (fill k (outcome_of (outcome.Value v))) p)
   element_sent s all t = by_cell t.cell t.at t.right
     where
       rs : List Ref
@@ -97,7 +97,7 @@ module _ (r : RawTree) (ls : List Line) (x : Scan) (m : Process) (p : Proc Frame
       mid : Process
       mid = on_heap (hold_all rs) m
 
-      by_cell : (c : Cell) → thing p.core.cells k ≡ Some c → RightCell kind.PromiseStream c → Shown r ls x (on_heap (content_brought kind.PromiseStream k (outcome.Value v)) m) (on_core (fill k (outcome_of (outcome.Value v))) p)
+      by_cell : (c : Cell) → thing p.core.cells k ≡ Some c → RightCell kind.PromiseStream c → ProcessRepresents r ls x (on_heap (content_brought kind.PromiseStream k (outcome.Value v)) m) (on_core (fill k (outcome_of (outcome.Value v))) p)
       by_cell (Single o ws) at right = absurd right
       by_cell (Stream q d w) at right =
           let u = refs_held r ls x m p rs s all in

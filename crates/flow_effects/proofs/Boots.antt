@@ -21,7 +21,7 @@ use Rattle.flow_cancel.specs.declared.task.Task.TheVariants as task
 use Rattle.flow_numbered.specs.Numbered.{thing, added}
 use Rattle.flow_meaning.specs.Cells.{FutureSide, Single}
 use Rattle.flow_meaning.specs.Process.{Run, Proc}
-use Rattle.flow_meaning.specs.Occ.{Scan, count_maybe, refs_in}
+use Rattle.flow_meaning.specs.References.{Scan, count_maybe, refs_in}
 use Rattle.flow_meaning.specs.Lines.{start_line}
 use Rattle.flow_meaning.specs.Work.{turn, writes, pushed, new_cell}
 use Rattle.flow_meaning.specs.Deliver.{boot_with}
@@ -37,7 +37,7 @@ use Rattle.flow_steps.specs.Doing.{turned, doing, telling}
 use Rattle.flow_steps.specs.Holding.{on_heap}
 use Rattle.flow_steps.specs.Acting.{Enrols}
 use Rattle.flow_steps.specs.Tasks.{MainStarts, MainCalled, main_waits, main_starts}
-use Rattle.flow_follows.specs.Shown.{Shown, Follows, shows, with_task}
+use Rattle.flow_follows.specs.Matching.{ProcessRepresents, Matches, shows, with_task}
 use Rattle.flow_follows.proofs.Working.{as_many_shown, changed, by_turn, task_done, ref_held, telling_shown}
 use Rattle.flow_follows.proofs.Making.{new_there}
 use Rattle.flow_follows.proofs.Takings.{turned_asked}
@@ -57,9 +57,9 @@ as_booted p class f name = refl
 
 module _ (r : RawTree) (ls : List Line) (x : Scan) (m : Process) (p : Proc Frame) where
   -- where a turn is left
-  starts_shown : (code : Code) (me : ProcId) (n : Process) → Shown r ls x m p → m.asked ≡ None → p.core.main ≡ None → code.main ≡ Some (classes r).main
+  starts_shown : (code : Code) (me : ProcId) (n : Process) → ProcessRepresents r ls x m p → m.asked ≡ None → p.core.main ≡ None → code.main ≡ Some (classes r).main
       → (may : MayStart r p code (classes r).main (IntValue (pos me.0) ∷ [])) → MainStarts code me m n
-      → Shown r ls x n (proc (record (enrol (classes r).main may.tree.name p.core) { main = Some (suc p.core.made) }) (added p.actors (suc p.core.started) (begun may.tree (IntValue (pos me.0) ∷ []))))
+      → ProcessRepresents r ls x n (proc (record (enrol (classes r).main may.tree.name p.core) { main = Some (suc p.core.made) }) (added p.actors (suc p.core.started) (begun may.tree (IntValue (pos me.0) ∷ []))))
   starts_shown code me n s none no_main main may st =
       let class = (classes r).main in
       let vs : List Value = Int (pos me.0) ∷ [] in
@@ -79,13 +79,13 @@ module _ (r : RawTree) (ls : List Line) (x : Scan) (m : Process) (p : Proc Frame
       } in
       let en = enrolled_shown r ls x m p code class vs st.actor st.cell st.between s may2 (subst (λ c. Enrols code c vs st.actor st.cell m st.between) is_class st.enrols) in
       let p3 = with_actor class st.cell.0 f (celled p may.cells) in
-      let enrolled : Shown r ls x st.between p3 = subst (λ us. Shown r ls x st.between (with_actor class st.cell.0 (begun may.tree us) (celled p may.cells))) seen en.shown in
+      let enrolled : ProcessRepresents r ls x st.between p3 = subst (λ us. ProcessRepresents r ls x st.between (with_actor class st.cell.0 (begun may.tree us) (celled p may.cells))) seen en.shown in
       let future : There p3 (kind.Future, st.cell.0) =
       let t = new_there r ls x m p kind.Future may.cells in record { cell = t.cell; at = ap (thing (celled p may.cells).core.cells) en.cell ∙ t.at; right = t.right } in
       let held = ref_held r ls x st.between p3 (kind.Future, st.cell.0) enrolled future in
       let m4 : Process = on_heap (λ h. record (hold kind.Future st.cell.0 h) { main = Some st.cell }) st.between in
       let p4 : Proc Frame = on_core (λ c. record c { main = Some st.cell.0 }) p3 in
-      let as_main : Shown r ls x m4 p4 =
+      let as_main : ProcessRepresents r ls x m4 p4 =
       changed r ls (with_refs ((kind.Future, st.cell.0) ∷ []) x) x (on_heap (hold kind.Future st.cell.0) st.between) p3 p4 (record (hold kind.Future st.cell.0 st.between.heap) { main = Some st.cell }) held (record {
         shows = main_shown r (hold kind.Future st.cell.0 st.between.heap) p3 (Some st.cell) held.holds.shows;
         counted = λ z j.
@@ -102,14 +102,14 @@ module _ (r : RawTree) (ls : List Line) (x : Scan) (m : Process) (p : Proc Frame
       let out : n ≡ telling (line.Start st.actor may.tree.name) (doing (task.Run st.actor) m4) =
       st.starts.told ∙ ap (λ l. telling (line.Start st.actor l) (doing (task.Run st.actor) m4)) named in
       let actor : st.actor ≡ actor_id (suc p.core.started) = ap actor_id en.actor in
-      subst (λ z. Shown r ls x z (proc (record (enrol class may.tree.name p.core) { main = Some (suc p.core.made) }) (added p.actors (suc p.core.started) f))) (sym out)
-      (subst (λ k. Shown r ls x (telling (line.Start st.actor may.tree.name) (doing (task.Run st.actor) m4)) (on_core (writes (start_line (suc p.core.started) may.tree.name)) (on_core (pushed (Run (suc p.core.started))) (on_core (λ c. record c { main = Some k }) (with_actor class k f (on_core (new_cell (Single None [])) p)))))) en.cell
-      (subst (λ (a : ActorId). Shown r ls x (telling (line.Start st.actor may.tree.name) (doing (task.Run st.actor) m4)) (on_core (writes (line.Start a may.tree.name)) (on_core (pushed (Run a.0)) p4))) actor told))
+      subst (λ z. ProcessRepresents r ls x z (proc (record (enrol class may.tree.name p.core) { main = Some (suc p.core.made) }) (added p.actors (suc p.core.started) f))) (sym out)
+      (subst (λ k. ProcessRepresents r ls x (telling (line.Start st.actor may.tree.name) (doing (task.Run st.actor) m4)) (on_core (writes (start_line (suc p.core.started) may.tree.name)) (on_core (pushed (Run (suc p.core.started))) (on_core (λ c. record c { main = Some k }) (with_actor class k f (on_core (new_cell (Single None [])) p)))))) en.cell
+      (subst (λ (a : ActorId). ProcessRepresents r ls x (telling (line.Start st.actor may.tree.name) (doing (task.Run st.actor) m4)) (on_core (writes (line.Start a may.tree.name)) (on_core (pushed (Run a.0)) p4))) actor told))
 
 pub main_boots : (r : RawTree) (ls : List Line) (m : Process) (p : Proc Frame) → law.MainBoots r ls m p
 main_boots r ls m p x code me n s none no_main main may called =
-    subst (λ o. Follows r ls x n (boot_with (classes r) o p)) (sym (fresh_actor r (classes r).main may.tree (IntValue (pos me.0) ∷ []) may.at may.taken))
-    (subst (λ l. Follows r ls x n (proc (turn p.core (λ d. record (enrol (classes r).main l d) { main = Some (suc d.made) })) (added p.actors (suc p.core.started) (begun may.tree (IntValue (pos me.0) ∷ []))))) (sym (label_is r (classes r).main may.tree may.at))
+    subst (λ o. Matches r ls x n (boot_with (classes r) o p)) (sym (fresh_actor r (classes r).main may.tree (IntValue (pos me.0) ∷ []) may.at may.taken))
+    (subst (λ l. Matches r ls x n (proc (turn p.core (λ d. record (enrol (classes r).main l d) { main = Some (suc d.made) })) (added p.actors (suc p.core.started) (begun may.tree (IntValue (pos me.0) ∷ []))))) (sym (label_is r (classes r).main may.tree may.at))
     (by_turn r ls x m p x n (λ d. record (enrol (classes r).main may.tree.name d) { main = Some (suc d.made) }) p.core (added p.actors (suc p.core.started) (begun may.tree (IntValue (pos me.0) ∷ []))) s refl refl
     (by_none called) (by_some called)))
   where
@@ -117,8 +117,8 @@ main_boots r ls m p x code me n s none no_main main may called =
     by_none (main_waits t q) l = q
     by_none (main_starts t st) l = let a = none_left r ls x m p l in absurd (cc (a, t))
 
-    by_some : MainCalled code me m n → (k : ℕ) → m.left ≡ suc k → Shown r ls x (turned m) (on_core (λ d. record d { left = k }) p)
-        → Follows r ls x n (proc (record (enrol (classes r).main may.tree.name (record p.core { left = k })) { main = Some (suc p.core.made) }) (added p.actors (suc p.core.started) (begun may.tree (IntValue (pos me.0) ∷ []))))
+    by_some : MainCalled code me m n → (k : ℕ) → m.left ≡ suc k → ProcessRepresents r ls x (turned m) (on_core (λ d. record d { left = k }) p)
+        → Matches r ls x n (proc (record (enrol (classes r).main may.tree.name (record p.core { left = k })) { main = Some (suc p.core.made) }) (added p.actors (suc p.core.started) (begun may.tree (IntValue (pos me.0) ∷ []))))
     by_some (main_waits t q) k l now = let a = some_left r ls x m p k l in absurd (cc (a, t))
     by_some (main_starts t st) k l now =
         shows (starts_shown r ls x (turned m) (on_core (λ d. record d { left = k }) p) code me n now (turned_asked m ∙ none) no_main main (may_turned r ls x m p k code (classes r).main (IntValue (pos me.0) ∷ []) may) st)

@@ -16,8 +16,8 @@ use Rattle.flow_picture.proofs.Starting.{vanished_rests}
 use Rattle.flow_steps.specs.declared.process.Process.{Process}
 use Rattle.flow_steps.specs.Doing.{begun, turned, vanished}
 use Rattle.flow_steps.specs.Holding.{on_heap, outcome_refs}
-use Rattle.flow_steps.specs.Bringing.{content_brought, answered}
-use Rattle.flow_follows.specs.Shown.{told, shows}
+use Rattle.flow_steps.specs.Delivering.{content_brought, answered}
+use Rattle.flow_follows.specs.Matching.{told, shows}
 use Rattle.flow_follows.proofs.Working.{turn_taken}
 use Rattle.flow_follows.proofs.Brought.{all_there_by, there_by, sendable_by, content_follows, request_follows, main_follows}
 use Rattle.flow_effects.specs.Events as law

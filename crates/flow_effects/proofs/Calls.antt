@@ -12,11 +12,11 @@ use Rattle.flow_code.specs.declared.class.Act.TheVariants as act
 use Rattle.flow_trace.specs.declared.line.Line.{Line}
 use Rattle.flow_cancel.specs.Heap.{actor_id}
 use Rattle.flow_cancel.specs.declared.task.Task.TheVariants as task
-use Rattle.flow_meaning.specs.Asks as asks
-use Rattle.flow_meaning.specs.Asks.{Supply}
+use Rattle.flow_meaning.specs.Requests as asks
+use Rattle.flow_meaning.specs.Requests.{Supply}
 use Rattle.flow_meaning.specs.Evaluating.{StepOf, bind, evaluated, done, plain_act, values, asks as asking_for}
 use Rattle.flow_meaning.specs.Process.{Run, Entry, Proc}
-use Rattle.flow_meaning.specs.Occ.{Scan}
+use Rattle.flow_meaning.specs.References.{Scan}
 use Rattle.flow_meaning.specs.Lines.{print_line}
 use Rattle.flow_meaning.specs.Work.{writes, pushed}
 use Rattle.flow_meaning.specs.React.{print}
@@ -26,17 +26,17 @@ use Rattle.flow_meaning.specs.Frame.{Frame, look, next_instr}
 use Rattle.flow_picture.specs.Acting.{put_frame}
 use Rattle.flow_steps.specs.declared.call.Call.{Call}
 use Rattle.flow_steps.specs.declared.call.Call.TheVariants as call
-use Rattle.flow_steps.specs.declared.frames.Stand.{Stand}
+use Rattle.flow_steps.specs.declared.frames.ControlPoint.{ControlPoint}
 use Rattle.flow_steps.specs.declared.next.Pace.TheVariants.{Off}
 use Rattle.flow_steps.specs.declared.process.Process.{Process}
 use Rattle.flow_steps.specs.Doing.{doing, asking, telling}
-use Rattle.flow_steps.specs.Standing.{noted, next_stand}
-use Rattle.flow_steps.specs.Sights.{with_left}
+use Rattle.flow_steps.specs.Points.{noted, next_stand}
+use Rattle.flow_steps.specs.Evaluating.{with_left}
 use Rattle.flow_steps.specs.Acting.{Values, args_of, IsMessage, PredefinedCalled}
 use Rattle.flow_steps.specs.Stepping.{IsAct}
-use Rattle.flow_follows.specs.Shown.{Shown, shows, with_task}
-use Rattle.flow_follows.specs.Placing.{Stood}
-use Rattle.flow_follows.specs.Going.{MayBeStale}
+use Rattle.flow_follows.specs.Matching.{ProcessRepresents, shows, with_task}
+use Rattle.flow_follows.specs.Placing.{RepresentsActor}
+use Rattle.flow_follows.specs.Continuing.{MayBeStale}
 use Rattle.flow_follows.specs.Carried.{StepsAs}
 use Rattle.flow_follows.specs.Evaluated.{GivesValue}
 use Rattle.flow_follows.proofs.Working.{as_many_shown, task_done, telling_shown}
@@ -49,7 +49,7 @@ use Rattle.flow_effects.proofs.Answering.{line_told, evaluated_then, evaluation_
 use Rattle.flow_effects.proofs.Effecting.{asks_the_world}
 
 -- an actor whose frame may be stale may ask
-pub may_ask : (r : RawTree) (ls : List Line) (m : Process) (p : Proc Frame) (i : ℕ) (e : Entry) (f : Frame) (x : Scan) (s : Stand) → MayBeStale r ls x s m p i e f → m.asked ≡ None → MayAsk r ls x s m p i e f
+pub may_ask : (r : RawTree) (ls : List Line) (m : Process) (p : Proc Frame) (i : ℕ) (e : Entry) (f : Frame) (x : Scan) (s : ControlPoint) → MayBeStale r ls x s m p i e f → m.asked ≡ None → MayAsk r ls x s m p i e f
 may_ask r ls m p i e f x s st none = record { actor = st.standing.actor; stood = noted_follows r ls m p i e f x s st; asked = none }
 
 module _ (r : RawTree) (ls : List Line) (m : Process) (p : Proc Frame) (i : ℕ) (e : Entry) (f : Frame) where
@@ -58,7 +58,7 @@ module _ (r : RawTree) (ls : List Line) (m : Process) (p : Proc Frame) (i : ℕ)
   next = next_instr f.mem f
 
   -- memory shows the process once the frame is told that it stands there, with the turns that evaluation left
-  pub next_stood : (x : Scan) (s : Stand) (left : ℕ) → MayBeStale r ls x s m p i e f → Stood r ls x (noted (next_stand s) (with_left left m)) (resumed i next left p) i e next
+  pub next_stood : (x : Scan) (s : ControlPoint) (left : ℕ) → MayBeStale r ls x s m p i e f → RepresentsActor r ls x (noted (next_stand s) (with_left left m)) (resumed i next left p) i e next
   next_stood x s left st =
       let before : Frame = old r ls m p i e f x s st in
       let q : Proc Frame = seen r ls m p i e f x s st in
@@ -66,11 +66,11 @@ module _ (r : RawTree) (ls : List Line) (m : Process) (p : Proc Frame) (i : ℕ)
       let there = told_there r ls m q i e before x s (next_stand s) s.place (suc s.instruction) f.state st.stood (may r ls m p i e f x s st) to in
       let here : record before { block = s.place; instr = suc s.instruction; state = f.state } ≡ next =
       ap (λ b. record f { block = b; instr = suc s.instruction }) st.standing.place ∙ ap (λ k. record f { instr = suc k }) st.instruction in
-      let now : Stood r ls x (noted (next_stand s) m) (put_frame i next q) i e next = subst (λ g. Stood r ls x (noted (next_stand s) m) (put_frame i g q) i e g) here there in
-      let over : Stood r ls x (noted (next_stand s) m) (put_frame i next p) i e next = subst (λ xs. Stood r ls x (noted (next_stand s) m) (proc p.core xs) i e next) (put_over p.actors i before next) now in
+      let now : RepresentsActor r ls x (noted (next_stand s) m) (put_frame i next q) i e next = subst (λ g. RepresentsActor r ls x (noted (next_stand s) m) (put_frame i g q) i e g) here there in
+      let over : RepresentsActor r ls x (noted (next_stand s) m) (put_frame i next p) i e next = subst (λ xs. RepresentsActor r ls x (noted (next_stand s) m) (proc p.core xs) i e next) (put_over p.actors i before next) now in
       with_turns r ls (noted (next_stand s) m) (put_frame i next p) i e next x left over
 
-  module _ (x : Scan) (s : Stand) (w : Supply) (st : MayBeStale r ls x s m p i e f) where
+  module _ (x : Scan) (s : ControlPoint) (w : Supply) (st : MayBeStale r ls x s m p i e f) where
     -- the step of the process by what its actor asks
     pub stepped : (left : ℕ) (a : asks.Act) → next_step (class_names r) (view w i p.core) f ≡ asking_for left a next
         → step (classes r) w (on_core (pushed (Run i)) p) ≡ Some (run_next (classes r) w i p.core.tasks (asking_for left a next) (on_core (pushed (Run i)) p))
@@ -88,7 +88,7 @@ module _ (r : RawTree) (ls : List Line) (m : Process) (p : Proc Frame) (i : ℕ)
         record {
           after = on_core (λ c. pushed (Run i) (writes line c)) q;
           steps = stepped left (asks.Prints v) is ∙ ap (λ o. Some (silent (on_core (print i o) q))) prints;
-          carries = shows (subst (λ z. Shown r ls x z (on_core (λ c. pushed (Run i) (writes line c)) q)) (sym out) told);
+          carries = shows (subst (λ z. ProcessRepresents r ls x z (on_core (λ c. pushed (Run i) (writes line c)) q)) (sym out) told);
         }
 
     -- a text is sent

@@ -36,7 +36,7 @@ use Rattle.flow_meaning.specs.Evaluating.{Effectful, World, Actor, world_if, eff
 use Rattle.flow_meaning.specs.Evaluating as meaning
 use Rattle.flow_meaning.specs.Class.{class_names}
 use Rattle.flow_meaning.specs.Frame.{read}
-use Rattle.flow_steps.specs.Standing.{Numbering, field_path, place_held}
+use Rattle.flow_steps.specs.Points.{Numbering, field_path, place_held}
 use Rattle.flow_follows.proofs.Places.{place_seen}
 use Rattle.flow_effects.specs.Effects.{SameEffect}
 use Rattle.flow_effects.specs.Texts as law

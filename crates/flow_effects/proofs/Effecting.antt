@@ -15,12 +15,12 @@ use Rattle.flow_trace.specs.declared.line.Line.{Line}
 use Rattle.flow_trace.specs.declared.line.Line.TheVariants as line
 use Rattle.flow_cancel.specs.Heap.{actor_id}
 use Rattle.flow_numbered.specs.Numbered.{thing, put}
-use Rattle.flow_meaning.specs.Asks as asks
-use Rattle.flow_meaning.specs.Asks.{Supply}
+use Rattle.flow_meaning.specs.Requests as asks
+use Rattle.flow_meaning.specs.Requests.{Supply}
 use Rattle.flow_meaning.specs.Evaluating.{Effectful, World, Actor, StepOf, given, evaluated, effect_of, world_effect, values, asks as asking_for}
 use Rattle.flow_meaning.specs.Effects.{gives_new, empty_cell}
 use Rattle.flow_meaning.specs.Process.{Run, Entry, Proc}
-use Rattle.flow_meaning.specs.Occ.{Scan}
+use Rattle.flow_meaning.specs.References.{Scan}
 use Rattle.flow_meaning.specs.Work.{pushed}
 use Rattle.flow_meaning.specs.React.{react}
 use Rattle.flow_meaning.specs.Orderly.{Rising}
@@ -28,7 +28,7 @@ use Rattle.flow_meaning.specs.Step.{view, silent, step, start, answer, reacted, 
 use Rattle.flow_meaning.specs.Class.{effects, fetched, choose, operand_by, next_step, class_names, classes}
 use Rattle.flow_meaning.specs.Frame.{Frame, look, spot_of}
 use Rattle.flow_meaning.specs.Views.{spot_at}
-use Rattle.flow_picture.specs.Shows.{spot_by, wait_spot}
+use Rattle.flow_picture.specs.Representing.{spot_by, wait_spot}
 use Rattle.flow_picture.proofs.Acted.{same_put}
 use Rattle.flow_steps.specs.declared.call.Call.{Call}
 use Rattle.flow_steps.specs.declared.call.Call.TheVariants as call
@@ -36,19 +36,19 @@ use Rattle.flow_steps.specs.declared.call.DiskCall.{DiskCall}
 use Rattle.flow_steps.specs.declared.call.DiskCall.TheVariants as disk
 use Rattle.flow_steps.specs.declared.call.Goal.{Goal}
 use Rattle.flow_steps.specs.declared.call.Goal.TheVariants as goal
-use Rattle.flow_steps.specs.declared.frames.Stand.{Stand}
+use Rattle.flow_steps.specs.declared.frames.ControlPoint.{ControlPoint}
 use Rattle.flow_steps.specs.declared.next.Pace.{Pace}
 use Rattle.flow_steps.specs.declared.next.Pace.TheVariants.{Off}
 use Rattle.flow_steps.specs.declared.process.Process.{Process}
 use Rattle.flow_steps.specs.Doing.{asking, unasked}
-use Rattle.flow_steps.specs.Standing.{noted}
-use Rattle.flow_steps.specs.Sights.{with_left, Evaluates}
+use Rattle.flow_steps.specs.Points.{noted}
+use Rattle.flow_steps.specs.Evaluating.{with_left, Evaluates}
 use Rattle.flow_steps.specs.Acting.{Values, args_of, disk_of, EffectAsked, ActorCalled, not_called, actor_starts, EffectDone}
 use Rattle.flow_machine.specs.Requests.{asked_of}
 use Rattle.flow_follows.specs.Stepped.{OnlyTells}
-use Rattle.flow_follows.specs.Shown.{Shown, shows, told}
+use Rattle.flow_follows.specs.Matching.{ProcessRepresents, shows, told}
 use Rattle.flow_follows.specs.Working.{SameGoal}
-use Rattle.flow_follows.specs.Placing.{Stood}
+use Rattle.flow_follows.specs.Placing.{RepresentsActor}
 use Rattle.flow_follows.specs.Evaluated.{GivesValue}
 use Rattle.flow_follows.proofs.Making.{same_goal_by, cell_given}
 use Rattle.flow_follows.proofs.Takings.{turned_asked}
@@ -68,7 +68,7 @@ disk_same (disk.Size file) = refl
 
 module _ (r : RawTree) (ls : List Line) (m : Process) (p : Proc Frame) (i : ℕ) (e : Entry) (f : Frame) where
   -- what is asked of the world is asked no more
-  pub unasked_shown : (x : Scan) (k : Process) (q : Proc Frame) → k.asked ≡ None → Shown r ls x k q → Shown r ls x (unasked k) q
+  pub unasked_shown : (x : Scan) (k : Process) (q : Proc Frame) → k.asked ≡ None → ProcessRepresents r ls x k q → ProcessRepresents r ls x (unasked k) q
   unasked_shown x k q none s = record {
     holds = s.holds;
     left = s.left;
@@ -78,8 +78,8 @@ module _ (r : RawTree) (ls : List Line) (m : Process) (p : Proc Frame) (i : ℕ)
   }
 
   -- the world is asked
-  pub asks_the_world : (x : Scan) (s : Stand) (w : Supply) (g : Frame) (left : ℕ) (c : Call) (a : asks.Act) (k n : Process)
-      → Stood r ls x k (resumed i g left p) i e g → k.asked ≡ None → Asks (resumed i g left p) (actor_id i) c a → n ≡ asking c k
+  pub asks_the_world : (x : Scan) (s : ControlPoint) (w : Supply) (g : Frame) (left : ℕ) (c : Call) (a : asks.Act) (k n : Process)
+      → RepresentsActor r ls x k (resumed i g left p) i e g → k.asked ≡ None → Asks (resumed i g left p) (actor_id i) c a → n ≡ asking c k
       → step (classes r) w (on_core (pushed (Run i)) p) ≡ Some (reacted (put p.actors i g) (react w i a (resumed i g left p).core))
       → AsksAs r ls x w p i n
   asks_the_world x s w g left c a k n st none same is steps = record {
@@ -88,12 +88,12 @@ module _ (r : RawTree) (ls : List Line) (m : Process) (p : Proc Frame) (i : ℕ)
     called = c;
     act = a;
     asked = ap (λ (z : Process). z.asked) is;
-    shown = subst (λ z. Shown r ls x (unasked z) (resumed i g left p)) (sym is) (unasked_shown x k (resumed i g left p) none st.shown);
+    shown = subst (λ z. ProcessRepresents r ls x (unasked z) (resumed i g left p)) (sym is) (unasked_shown x k (resumed i g left p) none st.shown);
     same = same;
     steps = steps;
   }
 
-  module _ (x : Scan) (s : Stand) (w : Supply) (code : Code) (g : Goal) (h : asks.Goal) (st : MayAsk r ls x s m p i e f) (same : SameGoal p i g h) where
+  module _ (x : Scan) (s : ControlPoint) (w : Supply) (code : Code) (g : Goal) (h : asks.Goal) (st : MayAsk r ls x s m p i e f) (same : SameGoal p i g h) where
     -- the goal after evaluation
     goal_then : (left : ℕ) → SameGoal (resumed i f left p) i g h
     goal_then left = same_goal_by p (resumed i f left p) i g h (same_put p.actors i f st.stood.acts.acting) refl same

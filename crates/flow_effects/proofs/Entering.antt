@@ -17,22 +17,22 @@ use Rattle.flow_frame.specs.Frames.{padded, holding}
 use Rattle.flow_cancel.specs.Heap.{HeapTree, cell_id, next_actor, with_new, new_note, started_holding}
 use Rattle.flow_numbered.specs.Numbered.{thing, added}
 use Rattle.flow_meaning.specs.Cells.{Side}
-use Rattle.flow_meaning.specs.Asks.{Spot}
+use Rattle.flow_meaning.specs.Requests.{Spot}
 use Rattle.flow_meaning.specs.Process.{Entry, Proc}
-use Rattle.flow_meaning.specs.Occ.{Scan, count, refs_in}
+use Rattle.flow_meaning.specs.References.{Scan, count, refs_in}
 use Rattle.flow_meaning.specs.Orderly.{Rising}
 use Rattle.flow_meaning.specs.Step.{kept_by, entry_of}
 use Rattle.flow_meaning.specs.Views.{spot_at}
 use Rattle.flow_meaning.specs.Class.{begun}
 use Rattle.flow_meaning.specs.Frame.{Frame, blanks}
 use Rattle.flow_meaning.proofs.Posture.{thing_added}
-use Rattle.flow_picture.specs.Shows.{Shows, OneActor, stands, here, wait_spot, spot_of_actor}
+use Rattle.flow_picture.specs.Representing.{Represents, OneActor, stands, here, wait_spot, spot_of_actor}
 use Rattle.flow_picture.specs.Acting.{Free, with_actor}
 use Rattle.flow_picture.specs.References.{frame_holds}
 use Rattle.flow_picture.specs.Holds.{with_refs, hold}
 use Rattle.flow_picture.proofs.Tasks.{tasks_aside}
 use Rattle.flow_picture.proofs.Waits.{cells_aside}
-use Rattle.flow_picture.proofs.Actors.{ActorsShow, actor_added}
+use Rattle.flow_picture.proofs.Actors.{ActorsRepresent, actor_added}
 use Rattle.flow_picture.proofs.Finds.{none_above}
 use Rattle.flow_picture.proofs.Holding.{all_held, memory_held}
 use Rattle.flow_picture.proofs.Sums.{count_joined}
@@ -40,7 +40,7 @@ use Rattle.flow_picture.proofs.Referring.{of_new_actor}
 use Rattle.flow_steps.specs.declared.process.Process.{Process}
 use Rattle.flow_steps.specs.Holding.{on_heap}
 use Rattle.flow_steps.specs.Acting.{some_values}
-use Rattle.flow_follows.specs.Shown.{Shown}
+use Rattle.flow_follows.specs.Matching.{ProcessRepresents}
 use Rattle.flow_follows.proofs.Working.{changed, ref_held}
 use Rattle.flow_effects.specs.Starting as law
 
@@ -130,15 +130,15 @@ module _ (r : RawTree) (h : HeapTree) (p : Proc Frame) where
   next_number : (a b c d : ℕ) → c ≡ suc (max a b) → c ≡ suc d → suc (max c c) ≡ suc (suc d)
   next_number a b c d e f = grind arith
 
-  entered_shown : (class places k : ℕ) (c : ClassTree) (vs : List Value) → Shows r h p → slice_get r.classes class ≡ Some c → places ≡ length c.slots + length c.locals
+  entered_shown : (class places k : ℕ) (c : ClassTree) (vs : List Value) → Represents r h p → slice_get r.classes class ≡ Some c → places ≡ length c.slots + length c.locals
       → length vs ≤ length c.slots → length vs ≡ c.params → Rising 0 p.core.started p.core.entries → Free (suc p.core.started) p.core
-      → Shows r (entered class places k vs h) (with_actor class k (begun c (map value_of vs)) p)
+      → Represents r (entered class places k vs h) (with_actor class k (begun c (map value_of vs)) p)
   entered_shown class places k c vs s e n l taken rising free =
       let i = suc p.core.started in
       let f = begun c (map value_of vs) in
       let g = entry_of class k in record {
         cells = cells_aside spots (spot_of_actor (added p.actors i f)) i (λ j d. (other_new g f j d).0) h.cells.things h.streams.things p.core.cells free.waits s.cells;
-        actors = subst (λ x. ActorsShow r (stored.added h.actors.things x (new_note (Some (cell_id k)))) (stored.added h.frames.things x (holding class places (some_values vs))) (added p.core.entries i g) (added p.actors i f)) (sym s.started)
+        actors = subst (λ x. ActorsRepresent r (stored.added h.actors.things x (new_note (Some (cell_id k)))) (stored.added h.frames.things x (holding class places (some_values vs))) (added p.core.entries i g) (added p.actors i f)) (sym s.started)
             (actor_added r h.actors.things h.frames.things p.core.entries p.actors s.actors i (none_above p.core.entries 0 p.core.started i rising (omega arith)) (new_note (Some (cell_id k))) (holding class places (some_values vs)) g f
             (new_actor class places k c vs e n l taken));
         tasks = tasks_aside spots (spot_of_actor (added p.actors i f)) kept (λ j. kept_by (thing (added p.core.entries i g) j)) i (other_new g f) h.tasks p.core.tasks free.keeps s.tasks;
@@ -161,7 +161,7 @@ module _ (r : RawTree) (ls : List Line) (x : Scan) (m : Process) (p : Proc Frame
       let us = map value_of vs in
       let held = ref_held r ls (with_refs (refs_in us) x) m p (kind.Promise, k) s there in
       let g = hold kind.Promise k m.heap in
-      subst (λ z. Shown r ls x (record m { heap = z }) (with_actor class k (begun c us) p)) (held_first class places k vs m.heap (stored.thing m.heap.cells.things k) refl)
+      subst (λ z. ProcessRepresents r ls x (record m { heap = z }) (with_actor class k (begun c us) p)) (held_first class places k vs m.heap (stored.thing m.heap.cells.things k) refl)
       (changed r ls (with_refs ((kind.Promise, k) ∷ []) (with_refs (refs_in us) x)) x (on_heap (hold kind.Promise k) m) p (with_actor class k (begun c us) p) (entered class places k vs g) held (record {
         shows = entered_shown r g p class places k c vs held.holds.shows e n l taken rising free;
         counted = λ z j.

@@ -20,21 +20,21 @@ use Rattle.flow_code.specs.View.{aim_of}
 use Rattle.flow_code.specs.Coding.{Coding}
 use Rattle.flow_code.specs.Coded.{coding}
 use Rattle.flow_trace.specs.declared.line.Line.{Line}
-use Rattle.flow_meaning.specs.Asks.{Supply}
+use Rattle.flow_meaning.specs.Requests.{Supply}
 use Rattle.flow_meaning.specs.Evaluating.{value, values, last_of}
 use Rattle.flow_meaning.specs.Process.{Entry, Proc}
-use Rattle.flow_meaning.specs.Occ.{Scan}
+use Rattle.flow_meaning.specs.References.{Scan}
 use Rattle.flow_meaning.specs.Step.{view}
 use Rattle.flow_meaning.specs.Class.{class_names}
 use Rattle.flow_meaning.specs.Frame.{Frame, look}
 use Rattle.flow_steps.specs.declared.call.Goal.TheVariants as goal
-use Rattle.flow_steps.specs.declared.frames.Stand.{Stand}
+use Rattle.flow_steps.specs.declared.frames.ControlPoint.{ControlPoint}
 use Rattle.flow_steps.specs.declared.process.Process.{Process}
-use Rattle.flow_steps.specs.Sights.{sight_in, Evaluates}
+use Rattle.flow_steps.specs.Evaluating.{sight_in, Evaluates}
 use Rattle.flow_steps.specs.Acting.{args_of, EffectDone}
 use Rattle.flow_steps.specs.Stepping.{MethodStep, IsAct, IsMethodOf}
 use Rattle.flow_follows.specs.Seeing.{IsCodeOf}
-use Rattle.flow_follows.specs.Going.{MayBeStale}
+use Rattle.flow_follows.specs.Continuing.{MayBeStale}
 use Rattle.flow_follows.proofs.Seen.{expr_follows}
 use Rattle.flow_follows.proofs.Arguments.{args_follow}
 use Rattle.flow_follows.proofs.Carrying.{old, seen, noted_follows}
@@ -51,7 +51,7 @@ module _ (r : RawTree) (ls : List Line) (m : Process) (p : Proc Frame) (i : ℕ)
   abbrev by : {code : Code} → IsCodeOf r code → Coding
   by c = coding c.coded.names c.coded.class (length f.code.slots)
 
-  module _ (x : Scan) (s : Stand) (w : Supply) (code : Code) (st : MayBeStale r ls x s m p i e f) (j : Judged r code m w f) where
+  module _ (x : Scan) (s : ControlPoint) (w : Supply) (code : Code) (st : MayBeStale r ls x s m p i e f) (j : Judged r code m w f) where
     -- arguments and an expression come to the same
     args_seen : (args : List Resolved) (es : ExprTrees) → nodes_of args ≡ resolved_all (by j.is).names es
         → values_at (sight_in code s.actor.0 m) (nodes_of args) m.left ≡ values (class_names r) (view w i p.core) (look f.mem) es

@@ -35,11 +35,11 @@ use Rattle.flow_cancel.specs.declared.task.Dropped.TheVariants as after
 use Rattle.flow_cancel.specs.declared.task.Task.TheVariants as task
 use Rattle.flow_numbered.specs.Numbered.{thing}
 use Rattle.flow_meaning.specs.Cells.{Side, PromiseSide, Ref}
-use Rattle.flow_meaning.specs.Asks as asks
-use Rattle.flow_meaning.specs.Asks.{Supply}
+use Rattle.flow_meaning.specs.Requests as asks
+use Rattle.flow_meaning.specs.Requests.{Supply}
 use Rattle.flow_meaning.specs.Evaluating.{StepOf, evaluated, done, sent, cancelled, method_act, based_act, value, values, asks as asking_for, last_of}
 use Rattle.flow_meaning.specs.Process.{Run, Entry, Proc}
-use Rattle.flow_meaning.specs.Occ.{Scan, refs_in, value_in}
+use Rattle.flow_meaning.specs.References.{Scan, refs_in, value_in}
 use Rattle.flow_meaning.specs.Work.{pushed, owner, cancel_owner}
 use Rattle.flow_meaning.specs.React.{send_in}
 use Rattle.flow_meaning.specs.Step.{view, on_core}
@@ -49,20 +49,20 @@ use Rattle.flow_picture.specs.Counted.{references}
 use Rattle.flow_picture.specs.Rested.{Sorted}
 use Rattle.flow_picture.specs.Holds.{There, AllThere}
 use Rattle.flow_picture.proofs.Referring.{of_pushed, of_frame}
-use Rattle.flow_steps.specs.declared.frames.Stand.{Stand}
+use Rattle.flow_steps.specs.declared.frames.ControlPoint.{ControlPoint}
 use Rattle.flow_steps.specs.declared.next.Pace.{Pace}
 use Rattle.flow_steps.specs.declared.next.Pace.TheVariants.{Off}
 use Rattle.flow_steps.specs.declared.process.Process.{Process}
 use Rattle.flow_steps.specs.Doing.{turned, doing}
 use Rattle.flow_steps.specs.Holding.{on_heap, outcome_refs, cancelled_if, owner_cancelled}
-use Rattle.flow_steps.specs.Bringing.{gone_to, complete_at, sent_into, sending}
-use Rattle.flow_steps.specs.Standing.{reframed, noted, next_stand, place_held, field_path, values as given_values}
-use Rattle.flow_steps.specs.Sights.{with_left}
+use Rattle.flow_steps.specs.Delivering.{gone_to, complete_at, sent_into, sending}
+use Rattle.flow_steps.specs.Points.{reframed, noted, next_stand, place_held, field_path, values as given_values}
+use Rattle.flow_steps.specs.Evaluating.{with_left}
 use Rattle.flow_steps.specs.Acting.{Sends, MethodCalled}
 use Rattle.flow_steps.specs.Stepping.{IsMethod, IsMethodOf}
 use Rattle.flow_follows.specs.Stepped.{OnlyTells}
-use Rattle.flow_follows.specs.Shown.{Shown, Follows, shows, with_task, Sound}
-use Rattle.flow_follows.specs.Going.{MayBeStale}
+use Rattle.flow_follows.specs.Matching.{ProcessRepresents, Matches, shows, with_task, Sound}
+use Rattle.flow_follows.specs.Continuing.{MayBeStale}
 use Rattle.flow_follows.specs.Evaluated.{GivesValue}
 use Rattle.flow_follows.proofs.Working.{as_many_shown, task_done}
 use Rattle.flow_follows.proofs.Cancelling.{owner_stopped}
@@ -152,7 +152,7 @@ module _ (r : RawTree) (ls : List Line) (m : Process) (p : Proc Frame) (i : ℕ)
     };
   }
 
-  module _ (x : Scan) (s : Stand) (w : Supply) (st : MayBeStale r ls x s m p i e f) (may : MayCall m p) where
+  module _ (x : Scan) (s : ControlPoint) (w : Supply) (st : MayBeStale r ls x s m p i e f) (may : MayCall m p) where
     abbrev onward : asks.Act → ℕ → StepOf Frame
     onward a left = asking_for left a (next r ls m p i e f)
 
@@ -174,7 +174,7 @@ module _ (r : RawTree) (ls : List Line) (m : Process) (p : Proc Frame) (i : ℕ)
         by_itself (record {
           after = on_core (λ c. send_in (thing c.cells k.0) i k.0 o c) q;
           steps = stepped r ls m p i e f x s w st left (asks.Sends k.0 o) (is ∙ ap (λ z. evaluated f (done (option_map (asks.Sends k.0) z) left) onward) t.sent);
-          carries = subst (λ z. Follows r ls x z (on_core (λ c. send_in (thing c.cells k.0) i k.0 o c) q)) (sym t.sends)
+          carries = subst (λ z. Matches r ls x z (on_core (λ c. send_in (thing c.cells k.0) i k.0 o c) q)) (sym t.sends)
               (sending_follows r ls x (noted (next_stand s) (with_left left m)) q (actor_id i) kd k.0 t.outcome there_now.shown all (there_by p q (kd, k.0) refl there));
         }) (nothing_told n.asked (ap (λ (z : Process). z.asked) t.sends ∙ sending_asked (actor_id i) kd k.0 t.outcome (noted (next_stand s) (with_left left m)) ∙ may.asked))
 
@@ -192,7 +192,7 @@ module _ (r : RawTree) (ls : List Line) (m : Process) (p : Proc Frame) (i : ℕ)
         by_itself (record {
           after = on_core (λ c. cancel_owner (owner k.0 c.entries) c) (ran left);
           steps = stepped r ls m p i e f x s w st left (asks.Cancels k.0) is;
-          carries = shows (subst (λ z. Shown r ls x z (on_core (λ c. cancel_owner (owner k.0 c.entries) c) (ran left))) (sym out)
+          carries = shows (subst (λ z. ProcessRepresents r ls x z (on_core (λ c. cancel_owner (owner k.0 c.entries) c) (ran left))) (sym out)
               (owner_stopped r ls x (doing (task.Run (actor_id i)) n1) (ran left) k.0 run may.asked (sound_then left st.acting may.sound) sorted_then));
         }) (subst (λ (z : Process). OnlyTells z.asked) (sym out) (cancelled_told (dropping.cancel_owner n1.heap.actors.things (heap.owner k.0 n1.heap.actors.things)) (doing (task.Run (actor_id i)) n1) may.asked))
 

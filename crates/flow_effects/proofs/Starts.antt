@@ -22,10 +22,10 @@ use Rattle.flow_code.specs.Coded.{coded}
 use Rattle.flow_cancel.specs.Heap.{actor_id, next_cell, with_result}
 use Rattle.flow_cancel.specs.declared.task.Task.TheVariants as task
 use Rattle.flow_numbered.specs.Numbered.{thing, added}
-use Rattle.flow_meaning.specs.Asks as asks
+use Rattle.flow_meaning.specs.Requests as asks
 use Rattle.flow_meaning.specs.Cells.{Ref as Reference, Single}
 use Rattle.flow_meaning.specs.Process.{Run, Proc}
-use Rattle.flow_meaning.specs.Occ.{Scan, refs_in}
+use Rattle.flow_meaning.specs.References.{Scan, refs_in}
 use Rattle.flow_meaning.specs.Orderly.{Rising}
 use Rattle.flow_meaning.specs.Lines.{start_line}
 use Rattle.flow_meaning.specs.Work.{turn, writes, pushed, new_cell}
@@ -38,7 +38,7 @@ use Rattle.flow_meaning.proofs.Posture.{each_number, thing_added}
 use Rattle.flow_picture.specs.Acting.{Free, with_actor}
 use Rattle.flow_picture.specs.Holds.{with_refs, There, AllThere, hold_all}
 use Rattle.flow_picture.specs.Counted.{branches_of, waiters_at}
-use Rattle.flow_picture.specs.Shows.{wait_spot}
+use Rattle.flow_picture.specs.Representing.{wait_spot}
 use Rattle.flow_picture.proofs.Finds.{none_above, thing_new}
 use Rattle.flow_picture.proofs.Tasks.{refs_same}
 use Rattle.flow_steps.specs.declared.call.Goal.{Goal}
@@ -46,9 +46,9 @@ use Rattle.flow_steps.specs.declared.call.Goal.TheVariants as goal
 use Rattle.flow_steps.specs.declared.process.Process.{Process}
 use Rattle.flow_steps.specs.Doing.{turned, doing, telling}
 use Rattle.flow_steps.specs.Holding.{on_heap, value_refs}
-use Rattle.flow_steps.specs.Bringing.{made}
+use Rattle.flow_steps.specs.Delivering.{made}
 use Rattle.flow_steps.specs.Acting.{with_args, Enrols, Starts, ActorCalled, not_called, actor_starts}
-use Rattle.flow_follows.specs.Shown.{Shown, Follows, shows, with_task}
+use Rattle.flow_follows.specs.Matching.{ProcessRepresents, Matches, shows, with_task}
 use Rattle.flow_follows.specs.Working.{SameGoal}
 use Rattle.flow_follows.specs.Coded.{CodedBy}
 use Rattle.flow_follows.proofs.Working.{as_many_shown, by_turn, task_done, refs_held, telling_shown}
@@ -119,9 +119,9 @@ module _ (r : RawTree) (ls : List Line) (x : Scan) (m : Process) (p : Proc Frame
   pub record Enrolled (class : ℕ) (f : Frame) (i : ActorId) (k : CellId) (n : Process) : Type 0 where
     pub cell : k.0 ≡ suc p.core.made
     pub actor : i.0 ≡ suc p.core.started
-    pub shown : Shown r ls x n (with_actor class k.0 f (on_core (new_cell (Single None [])) p))
+    pub shown : ProcessRepresents r ls x n (with_actor class k.0 f (on_core (new_cell (Single None [])) p))
 
-  pub enrolled_shown : (code : Code) (class : ℕ) (vs : List Value) (i : ActorId) (k : CellId) (n : Process) → Shown r ls x m p → (may : MayStart r p code class (map value_of vs))
+  pub enrolled_shown : (code : Code) (class : ℕ) (vs : List Value) (i : ActorId) (k : CellId) (n : Process) → ProcessRepresents r ls x m p → (may : MayStart r p code class (map value_of vs))
       → Enrols code class vs i k m n → Enrolled class (begun may.tree (map value_of vs)) i k n
   enrolled_shown code class vs i k n s may en =
       let us = map value_of vs in
@@ -131,7 +131,7 @@ module _ (r : RawTree) (ls : List Line) (x : Scan) (m : Process) (p : Proc Frame
       let m1 : Process = on_heap (made kind.Future) m in
       let held = refs_held r ls x m1 p2 (refs_in us) one (all_still p may.cells (refs_in us) may.there) in
       let heap_is : hold_all (refs_in us) (made kind.Future m.heap) ≡ with_args vs m.heap = ap (λ qs. hold_all qs (with_result (next_cell m.heap) m.heap)) (sym (refs_same vs)) in
-      let two : Shown r ls (with_refs (refs_in us) x) (on_heap (with_args vs) m) p2 = subst (λ h. Shown r ls (with_refs (refs_in us) x) (record m { heap = h }) p2) heap_is held in
+      let two : ProcessRepresents r ls (with_refs (refs_in us) x) (on_heap (with_args vs) m) p2 = subst (λ h. ProcessRepresents r ls (with_refs (refs_in us) x) (record m { heap = h }) p2) heap_is held in
       let same = same_class r code.classes.items may.coded class en.of may.tree en.at may.at in
       let places : en.of.places ≡ length may.tree.slots + length may.tree.locals = ap (λ (c : ClassCode). c.places) same in
       let taken : length vs ≡ may.tree.params = sym (as_many vs) ∙ may.taken in
@@ -140,7 +140,7 @@ module _ (r : RawTree) (ls : List Line) (x : Scan) (m : Process) (p : Proc Frame
       record {
         cell = number;
         actor = en.actor ∙ two.holds.shows.started;
-        shown = subst (λ z. Shown r ls x z (with_actor class k.0 (begun may.tree us) p2)) (sym en.made)
+        shown = subst (λ z. ProcessRepresents r ls x z (with_actor class k.0 (begun may.tree us) p2)) (sym en.made)
             (actor_holds r ls x (on_heap (with_args vs) m) p2 class en.of.places k.0 may.tree vs two may.at places few taken may.entries (free_still p may.cells (suc p.core.started) may.free) there);
       }
 
@@ -163,9 +163,9 @@ as_enrolled p class f i (asks.Kept spot) name = refl
 
 module _ (r : RawTree) (ls : List Line) (x : Scan) (m : Process) (p : Proc Frame) where
   -- where a turn is left
-  starts_shown : (code : Code) (i : ActorId) (g : Goal) (h : asks.Goal) (class : ℕ) (vs : List Value) (n : Process) → Shown r ls x m p → m.asked ≡ None → (suc p.core.started ≡ i.0 → ⊥)
+  starts_shown : (code : Code) (i : ActorId) (g : Goal) (h : asks.Goal) (class : ℕ) (vs : List Value) (n : Process) → ProcessRepresents r ls x m p → m.asked ≡ None → (suc p.core.started ≡ i.0 → ⊥)
       → (may : MayStart r p code class (map value_of vs)) → SameGoal p i.0 g h → Starts code i g class vs m n
-      → Shown r ls x n (proc (enrol class may.tree.name (push_result i.0 (result_task i.0 h (RefValue kind.Future (suc p.core.made))) p.core)) (added p.actors (suc p.core.started) (begun may.tree (map value_of vs))))
+      → ProcessRepresents r ls x n (proc (enrol class may.tree.name (push_result i.0 (result_task i.0 h (RefValue kind.Future (suc p.core.made))) p.core)) (added p.actors (suc p.core.started) (begun may.tree (map value_of vs))))
   starts_shown code i g h class vs n s none other may same st =
       let f = begun may.tree (map value_of vs) in
       let en = enrolled_shown r ls x m p code class vs st.actor st.cell st.enrolled s may st.enrols in
@@ -173,7 +173,7 @@ module _ (r : RawTree) (ls : List Line) (x : Scan) (m : Process) (p : Proc Frame
       let future : There p3 (kind.Future, st.cell.0) =
       let t = new_there r ls x m p kind.Future may.cells in record { cell = t.cell; at = ap (thing (celled p may.cells).core.cells) en.cell ∙ t.at; right = t.right } in
       let there : AllThere p3 (value_refs (Ref kind.Future st.cell)) = subst (λ v. AllThere p3 (refs_of v)) (sym (ref_seen kind.Future st.cell)) (future, tt) in
-      let q3 = subst (λ v. Shown r ls x st.given (on_core (gives i.0 h v) p3)) (ref_seen kind.Future st.cell)
+      let q3 = subst (λ v. ProcessRepresents r ls x st.given (on_core (gives i.0 h v) p3)) (ref_seen kind.Future st.cell)
       (result_given r ls x st.enrolled p3 g h i (Ref kind.Future st.cell) st.given en.shown there (same_goal_then (celled p may.cells) class st.cell.0 f i.0 g h other (same_goal_by p (celled p may.cells) i.0 g h refl refl same)) st.gives) in
       let p4 = on_core (gives i.0 h (RefValue kind.Future st.cell.0)) p3 in
       let u = Run st.actor.0 in
@@ -185,10 +185,10 @@ module _ (r : RawTree) (ls : List Line) (x : Scan) (m : Process) (p : Proc Frame
       let out : n ≡ telling (line.Start st.actor may.tree.name) (doing (task.Run st.actor) st.given) =
       st.starts.told ∙ ap (λ l. telling (line.Start st.actor l) (doing (task.Run st.actor) st.given)) named in
       let actor : st.actor ≡ actor_id (suc p.core.started) = ap actor_id en.actor in
-      subst (λ z. Shown r ls x z (proc (enrol class may.tree.name (push_result i.0 (result_task i.0 h (RefValue kind.Future (suc p.core.made))) p.core)) (added p.actors (suc p.core.started) f))) (sym out)
-      (subst (λ z. Shown r ls x (telling (line.Start st.actor may.tree.name) (doing (task.Run st.actor) st.given)) z) (as_enrolled p class f i.0 h may.tree.name)
-      (subst (λ k. Shown r ls x (telling (line.Start st.actor may.tree.name) (doing (task.Run st.actor) st.given)) (on_core (writes (start_line (suc p.core.started) may.tree.name)) (on_core (pushed (Run (suc p.core.started))) (on_core (gives i.0 h (RefValue kind.Future k)) (with_actor class k f (on_core (new_cell (Single None [])) p)))))) en.cell
-      (subst (λ (a : ActorId). Shown r ls x (telling (line.Start st.actor may.tree.name) (doing (task.Run st.actor) st.given)) (on_core (writes (line.Start a may.tree.name)) (on_core (pushed (Run a.0)) p4))) actor told)))
+      subst (λ z. ProcessRepresents r ls x z (proc (enrol class may.tree.name (push_result i.0 (result_task i.0 h (RefValue kind.Future (suc p.core.made))) p.core)) (added p.actors (suc p.core.started) f))) (sym out)
+      (subst (λ z. ProcessRepresents r ls x (telling (line.Start st.actor may.tree.name) (doing (task.Run st.actor) st.given)) z) (as_enrolled p class f i.0 h may.tree.name)
+      (subst (λ k. ProcessRepresents r ls x (telling (line.Start st.actor may.tree.name) (doing (task.Run st.actor) st.given)) (on_core (writes (start_line (suc p.core.started) may.tree.name)) (on_core (pushed (Run (suc p.core.started))) (on_core (gives i.0 h (RefValue kind.Future k)) (with_actor class k f (on_core (new_cell (Single None [])) p)))))) en.cell
+      (subst (λ (a : ActorId). ProcessRepresents r ls x (telling (line.Start st.actor may.tree.name) (doing (task.Run st.actor) st.given)) (on_core (writes (line.Start a may.tree.name)) (on_core (pushed (Run a.0)) p4))) actor told)))
 
   abbrev pub may_turned : (k : ℕ) (code : Code) (class : ℕ) (us : List ValueTree) → MayStart r p code class us → MayStart r (on_core (λ c. record c { left = k }) p) code class us
   may_turned k code class us may = record {
@@ -213,8 +213,8 @@ module _ (r : RawTree) (ls : List Line) (x : Scan) (m : Process) (p : Proc Frame
 module _ (r : RawTree) (ls : List Line) (x : Scan) (m : Process) (p : Proc Frame) where
   pub call_starts : law.CallStarts r ls x m p
   call_starts code i g h class vs e f n s none acts may same called =
-      subst (λ o. Follows r ls x n (start (classes r) i.0 h class o p).0) (sym (fresh_actor r class may.tree (map value_of vs) may.at may.taken))
-      (subst (λ l. Follows r ls x n (proc (turn p.core (λ d. enrol class l (push_result i.0 (result_task i.0 h (RefValue kind.Future (suc d.made))) d))) (added p.actors (suc p.core.started) (begun may.tree (map value_of vs))))) (sym (label_is r class may.tree may.at))
+      subst (λ o. Matches r ls x n (start (classes r) i.0 h class o p).0) (sym (fresh_actor r class may.tree (map value_of vs) may.at may.taken))
+      (subst (λ l. Matches r ls x n (proc (turn p.core (λ d. enrol class l (push_result i.0 (result_task i.0 h (RefValue kind.Future (suc d.made))) d))) (added p.actors (suc p.core.started) (begun may.tree (map value_of vs))))) (sym (label_is r class may.tree may.at))
       (by_turn r ls x m p x n (λ d. enrol class may.tree.name (push_result i.0 (result_task i.0 h (RefValue kind.Future (suc d.made))) d)) p.core (added p.actors (suc p.core.started) (begun may.tree (map value_of vs))) s refl refl
       (by_none called) (by_some called)))
     where
@@ -228,8 +228,8 @@ module _ (r : RawTree) (ls : List Line) (x : Scan) (m : Process) (p : Proc Frame
       by_none (not_called t q) l = q
       by_none (actor_starts t st) l = let a = none_left r ls x m p l in absurd (cc (a, t))
 
-      by_some : ActorCalled code i g class vs m n → (k : ℕ) → m.left ≡ suc k → Shown r ls x (turned m) (on_core (λ d. record d { left = k }) p)
-          → Follows r ls x n (proc (enrol class may.tree.name (push_result i.0 (result_task i.0 h (RefValue kind.Future (suc p.core.made))) (record p.core { left = k }))) (added p.actors (suc p.core.started) (begun may.tree (map value_of vs))))
+      by_some : ActorCalled code i g class vs m n → (k : ℕ) → m.left ≡ suc k → ProcessRepresents r ls x (turned m) (on_core (λ d. record d { left = k }) p)
+          → Matches r ls x n (proc (enrol class may.tree.name (push_result i.0 (result_task i.0 h (RefValue kind.Future (suc p.core.made))) (record p.core { left = k }))) (added p.actors (suc p.core.started) (begun may.tree (map value_of vs))))
       by_some (not_called t q) k l now = let a = some_left r ls x m p k l in absurd (cc (a, t))
       by_some (actor_starts t st) k l now =
           let q : Proc Frame = on_core (λ d. record d { left = k }) p in

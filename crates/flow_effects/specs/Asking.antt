@@ -6,10 +6,10 @@ use Rattle.flow_class.specs.Classes.{RawTree}
 use Rattle.flow_trace.specs.declared.line.Line.{Line}
 use Rattle.flow_cancel.specs.Heap.{actor_id}
 use Rattle.flow_numbered.specs.Numbered.{put}
-use Rattle.flow_meaning.specs.Asks as asks
-use Rattle.flow_meaning.specs.Asks.{Supply}
+use Rattle.flow_meaning.specs.Requests as asks
+use Rattle.flow_meaning.specs.Requests.{Supply}
 use Rattle.flow_meaning.specs.Process.{Run, Entry, Proc}
-use Rattle.flow_meaning.specs.Occ.{Scan}
+use Rattle.flow_meaning.specs.References.{Scan}
 use Rattle.flow_meaning.specs.Work.{pushed}
 use Rattle.flow_meaning.specs.React.{react}
 use Rattle.flow_meaning.specs.Step.{reacted, step, proc, on_core}
@@ -19,17 +19,17 @@ use Rattle.flow_steps.specs.declared.call.Call.{Call}
 use Rattle.flow_steps.specs.declared.call.Call.TheVariants as call
 use Rattle.flow_steps.specs.declared.call.DiskCall.{DiskCall}
 use Rattle.flow_steps.specs.declared.call.Goal.{Goal}
-use Rattle.flow_steps.specs.declared.frames.Stand.{Stand}
+use Rattle.flow_steps.specs.declared.frames.ControlPoint.{ControlPoint}
 use Rattle.flow_steps.specs.declared.next.Pace.{Pace}
 use Rattle.flow_steps.specs.declared.next.Pace.TheVariants.{Off}
 use Rattle.flow_steps.specs.declared.process.Process.{Process}
 use Rattle.flow_steps.specs.Doing.{unasked}
-use Rattle.flow_steps.specs.Standing.{noted}
+use Rattle.flow_steps.specs.Points.{noted}
 use Rattle.flow_machine.specs.Requests.{asked_of}
 use Rattle.flow_follows.specs.Stepped.{OnlyTells}
-use Rattle.flow_follows.specs.Shown.{Shown}
+use Rattle.flow_follows.specs.Matching.{ProcessRepresents}
 use Rattle.flow_follows.specs.Working.{SameGoal}
-use Rattle.flow_follows.specs.Placing.{Stood}
+use Rattle.flow_follows.specs.Placing.{RepresentsActor}
 use Rattle.flow_follows.specs.Carried.{StepsAs}
 
 -- a call that memory makes of an actor's act, kind by kind
@@ -56,7 +56,7 @@ pub record AsksAs (r : RawTree) (ls : List Line) (x : Scan) (w : Supply) (p : Pr
   pub called : Call
   pub act : asks.Act
   pub asked : n.asked ≡ Some called
-  pub shown : Shown r ls x (unasked n) (resumed i frame left p)
+  pub shown : ProcessRepresents r ls x (unasked n) (resumed i frame left p)
   pub same : Asks (resumed i frame left p) (actor_id i) called act
   pub steps : step (classes r) w (on_core (pushed (Run i)) p)
       ≡ Some (reacted (put p.actors i frame) (react w i act (resumed i frame left p).core))
@@ -68,8 +68,8 @@ pub data Answered (r : RawTree) (ls : List Line) (x : Scan) (w : Supply) (p : Pr
   by_the_world : pace ≡ Off → AsksAs r ls x w p i n → Answered r ls x w p i e pace n
 
 -- An actor that takes a step: memory shows it once its frame there is told where it stands.
-pub record MayAsk (r : RawTree) (ls : List Line) (x : Scan) (s : Stand) (m : Process) (p : Proc Frame) (i : ℕ) (e : Entry) (f : Frame)
+pub record MayAsk (r : RawTree) (ls : List Line) (x : Scan) (s : ControlPoint) (m : Process) (p : Proc Frame) (i : ℕ) (e : Entry) (f : Frame)
     : Type 0 where
   pub actor : s.actor ≡ actor_id i
-  pub stood : Stood r ls x (noted s m) p i e f
+  pub stood : RepresentsActor r ls x (noted s m) p i e f
   pub asked : m.asked ≡ None

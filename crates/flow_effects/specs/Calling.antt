@@ -20,24 +20,24 @@ use Rattle.flow_code.specs.declared.class.Act.TheVariants as act
 use Rattle.flow_code.specs.declared.class.Aim.{Aim}
 use Rattle.flow_code.specs.declared.program.Code.{Code}
 use Rattle.flow_trace.specs.declared.line.Line.{Line}
-use Rattle.flow_meaning.specs.Asks.{Supply}
+use Rattle.flow_meaning.specs.Requests.{Supply}
 use Rattle.flow_meaning.specs.Evaluating.{value, values, before_last, last_of}
 use Rattle.flow_meaning.specs.Process.{Entry, Proc}
-use Rattle.flow_meaning.specs.Occ.{Scan}
+use Rattle.flow_meaning.specs.References.{Scan}
 use Rattle.flow_meaning.specs.Step.{view}
 use Rattle.flow_meaning.specs.Class.{class_names}
 use Rattle.flow_meaning.specs.Frame.{Frame, look}
 use Rattle.flow_picture.specs.Rested.{Sorted}
 use Rattle.flow_picture.specs.Holds.{There, AllThere}
-use Rattle.flow_steps.specs.declared.frames.Stand.{Stand}
+use Rattle.flow_steps.specs.declared.frames.ControlPoint.{ControlPoint}
 use Rattle.flow_steps.specs.declared.next.Pace.{Pace}
 use Rattle.flow_steps.specs.declared.process.Process.{Process}
-use Rattle.flow_steps.specs.Standing.{field_path, place_held}
-use Rattle.flow_steps.specs.Sights.{Evaluates}
+use Rattle.flow_steps.specs.Points.{field_path, place_held}
+use Rattle.flow_steps.specs.Evaluating.{Evaluates}
 use Rattle.flow_steps.specs.Acting.{args_of}
 use Rattle.flow_steps.specs.Stepping.{IsAct, IsMethod, IsMethodOf}
-use Rattle.flow_follows.specs.Shown.{Sound}
-use Rattle.flow_follows.specs.Going.{MayBeStale}
+use Rattle.flow_follows.specs.Matching.{Sound}
+use Rattle.flow_follows.specs.Continuing.{MayBeStale}
 use Rattle.flow_effects.specs.Asking.{Answered}
 
 -- Where an aim leads in memory, the names of a path lead in the frame: to a reference that is there.
@@ -56,7 +56,7 @@ module _ (r : RawTree) (ls : List Line) (m : Process) (p : Proc Frame) (i : ℕ)
   -- a value is printed, or a text is sent
   abbrev pub PredefinedStep : Type 0
   PredefinedStep =
-      (x : Scan) (s : Stand) (w : Supply) (code : Code) (name : Ident) (es : ExprTrees) (called : Predefined) (comes_to : Res (List ValueTree))
+      (x : Scan) (s : ControlPoint) (w : Supply) (code : Code) (name : Ident) (es : ExprTrees) (called : Predefined) (comes_to : Res (List ValueTree))
       (pace : Pace) (n : Process) → MayBeStale r ls x s m p i e f → m.asked ≡ None
       → fetch f.code f.block f.instr ≡ Body (ActInstr (name ∷ []) es) → named call_names name.name ≡ Some called
       → comes_to ≡ values (class_names r) (view w i p.core) (look f.mem) es
@@ -70,7 +70,7 @@ module _ (r : RawTree) (ls : List Line) (m : Process) (p : Proc Frame) (i : ℕ)
   -- a method without an argument, and with one
   abbrev pub MethodStep : Type 0
   MethodStep =
-      (x : Scan) (s : Stand) (w : Supply) (code : Code) (y z : Ident) (ys : List Ident) (aim : Aim) (called : Method) (pace : Pace) (n : Process)
+      (x : Scan) (s : ControlPoint) (w : Supply) (code : Code) (y z : Ident) (ys : List Ident) (aim : Aim) (called : Method) (pace : Pace) (n : Process)
       → MayBeStale r ls x s m p i e f → MayCall m p
       → fetch f.code f.block f.instr ≡ Body (ActInstr (y ∷ z ∷ ys) NoExprs) → named method_names (last_of z ys).name ≡ Some called
       → AimsAtRef r code m p i f aim (based y z ys)
@@ -79,7 +79,7 @@ module _ (r : RawTree) (ls : List Line) (m : Process) (p : Proc Frame) (i : ℕ)
 
   abbrev pub MethodOfStep : Type 0
   MethodOfStep =
-      (x : Scan) (s : Stand) (w : Supply) (code : Code) (y z : Ident) (ys : List Ident) (t : ExprTree) (aim : Aim) (called : Method)
+      (x : Scan) (s : ControlPoint) (w : Supply) (code : Code) (y z : Ident) (ys : List Ident) (t : ExprTree) (aim : Aim) (called : Method)
       (comes_to : Res ValueTree) (pace : Pace) (n : Process)
       → MayBeStale r ls x s m p i e f → MayCall m p
       → fetch f.code f.block f.instr ≡ Body (ActInstr (y ∷ z ∷ ys) (MoreExprs t NoExprs))

@@ -11,20 +11,20 @@ use Rattle.flow_code.specs.declared.class.Effect.{Effect}
 use Rattle.flow_code.specs.declared.class.Effect.TheVariants as effect
 use Rattle.flow_code.specs.declared.program.Code.{Code}
 use Rattle.flow_trace.specs.declared.line.Line.{Line}
-use Rattle.flow_meaning.specs.Asks.{Supply}
+use Rattle.flow_meaning.specs.Requests.{Supply}
 use Rattle.flow_meaning.specs.Evaluating.{Effectful, World, Actor, effect_in, values}
 use Rattle.flow_numbered.specs.Numbered.{thing}
 use Rattle.flow_meaning.specs.Process.{Entry, Proc}
-use Rattle.flow_meaning.specs.Occ.{Scan}
+use Rattle.flow_meaning.specs.References.{Scan}
 use Rattle.flow_meaning.specs.Orderly.{Rising}
 use Rattle.flow_meaning.specs.Step.{kept_by, view}
 use Rattle.flow_meaning.specs.Class.{class_names}
 use Rattle.flow_meaning.specs.Frame.{Frame, look, spot_of}
 use Rattle.flow_steps.specs.declared.call.Goal.TheVariants as goal
-use Rattle.flow_steps.specs.declared.frames.Stand.{Stand}
+use Rattle.flow_steps.specs.declared.frames.ControlPoint.{ControlPoint}
 use Rattle.flow_steps.specs.declared.next.Pace.{Pace}
 use Rattle.flow_steps.specs.declared.process.Process.{Process}
-use Rattle.flow_steps.specs.Sights.{Evaluates}
+use Rattle.flow_steps.specs.Evaluating.{Evaluates}
 use Rattle.flow_steps.specs.Acting.{args_of, EffectDone}
 use Rattle.flow_effects.specs.Asking.{MayAsk, Answered}
 use Rattle.flow_effects.specs.Starting.{MayStart}
@@ -45,7 +45,7 @@ module _ (r : RawTree) (ls : List Line) (m : Process) (p : Proc Frame) (i : ℕ)
   -- an effect whose result is stored
   abbrev pub EffectStep : Type 0
   EffectStep =
-      (x : Scan) (s : Stand) (w : Supply) (code : Code) (path : List Ident) (t : ExprTree) (es : ExprTrees) (called : Effectful) (eff : Effect)
+      (x : Scan) (s : ControlPoint) (w : Supply) (code : Code) (path : List Ident) (t : ExprTree) (es : ExprTrees) (called : Effectful) (eff : Effect)
       (comes_to : Res (List ValueTree)) (pace : Pace) (n : Process)
       → MayAsk r ls x s m p i e f → MayMake r code p called comes_to
       → fetch f.code f.block f.instr ≡ Body (EffectInstr path t) → effect_in (class_names r) t ≡ Some (called, es) → SameEffect eff called
@@ -56,7 +56,7 @@ module _ (r : RawTree) (ls : List Line) (m : Process) (p : Proc Frame) (i : ℕ)
   -- an effect whose result is the next operand of a wait, with the number of its callback
   abbrev pub EffectOperandStep : Type 0
   EffectOperandStep =
-      (x : Scan) (s : Stand) (w : Supply) (code : Code) (group k : ℕ) (b : CallbackTree) (es : ExprTrees) (called : Effectful) (eff : Effect)
+      (x : Scan) (s : ControlPoint) (w : Supply) (code : Code) (group k : ℕ) (b : CallbackTree) (es : ExprTrees) (called : Effectful) (eff : Effect)
       (comes_to : Res (List ValueTree)) (pace : Pace) (n : Process)
       → MayAsk r ls x s m p i e f → MayMake r code p called comes_to
       → fetch f.code f.block f.instr ≡ Last (ChooseLast group)

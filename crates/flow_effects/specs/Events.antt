@@ -17,8 +17,8 @@ use Rattle.flow_picture.specs.Holds.{Holds, There, AllThere}
 use Rattle.flow_steps.specs.declared.process.Process.{Process}
 use Rattle.flow_steps.specs.Doing.{begun, vanished}
 use Rattle.flow_steps.specs.Holding.{on_heap, outcome_refs}
-use Rattle.flow_steps.specs.Bringing.{brought, answered, main_dropped}
-use Rattle.flow_follows.specs.Shown.{Shown, Follows}
+use Rattle.flow_steps.specs.Delivering.{brought, answered, main_dropped}
+use Rattle.flow_follows.specs.Matching.{ProcessRepresents, Matches}
 use Rattle.flow_follows.specs.Working.{Sendable}
 
 -- A process in memory between events shows one of the definitions: its lines and turns are those of the event before.
@@ -29,27 +29,27 @@ pub record ShownBetween (r : RawTree) (m : Process) (p : Proc Frame) : Type 0 wh
 module _ (r : RawTree) (m : Process) (p : Proc Frame) (now turns : ℕ) where
   -- an event begins
   abbrev pub EventBegins : Type 0
-  EventBegins = ShownBetween r m p → Shown r [] nothing_in_hand (begun now turns m) (on_core (begin turns) p)
+  EventBegins = ShownBetween r m p → ProcessRepresents r [] nothing_in_hand (begun now turns m) (on_core (begin turns) p)
 
   -- a timer or a disk answers
   abbrev pub Delivered : Type 0
   Delivered =
       (k : ℕ) (o : Outcome) → ShownBetween r m p → has k p.core.requests ≡ true → Sendable p kind.Promise k → AllThere p (outcome_refs o)
-      → Follows r [] nothing_in_hand (brought kind.Promise k o (on_heap (answered k) (begun now turns m)))
+      → Matches r [] nothing_in_hand (brought kind.Promise k o (on_heap (answered k) (begun now turns m)))
       (on_core (deliver k (outcome_of o)) (on_core (begin turns) p))
 
   -- an element comes to the stream of a port, whether or not the stream has an end
   abbrev pub Arrived : Type 0
   Arrived =
       (k : ℕ) (v : Value) → ShownBetween r m p → There p (kind.PromiseStream, k) → AllThere p (outcome_refs (outcome.Value v))
-      → Follows r [] nothing_in_hand (brought kind.PromiseStream k (outcome.Value v) (begun now turns m))
+      → Matches r [] nothing_in_hand (brought kind.PromiseStream k (outcome.Value v) (begun now turns m))
       (on_core (arrive k (value_of v)) (on_core (begin turns) p))
 
   -- the hold on the result of `main` is dropped
   abbrev pub Stopped : Type 0
   Stopped =
       ShownBetween r m p
-      → Follows r [] nothing_in_hand (on_heap (main_dropped (begun now turns m).heap.main) (begun now turns m))
+      → Matches r [] nothing_in_hand (on_heap (main_dropped (begun now turns m).heap.main) (begun now turns m))
       (on_core stop (on_core (begin turns) p))
 
 -- a loss of power: what is left rests

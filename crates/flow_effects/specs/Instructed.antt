@@ -24,23 +24,23 @@ use Rattle.flow_code.specs.View.{instruction_of, operand_of}
 use Rattle.flow_code.specs.Coding.{coded_instruction, coded_operand}
 use Rattle.flow_code.specs.Coded.{coding}
 use Rattle.flow_trace.specs.declared.line.Line.{Line}
-use Rattle.flow_meaning.specs.Asks.{Supply}
+use Rattle.flow_meaning.specs.Requests.{Supply}
 use Rattle.flow_meaning.specs.Evaluating.{Effectful, effect_in, value, values, before_last}
 use Rattle.flow_numbered.specs.Numbered.{thing}
 use Rattle.flow_meaning.specs.Process.{Entry, Proc}
-use Rattle.flow_meaning.specs.Occ.{Scan}
+use Rattle.flow_meaning.specs.References.{Scan}
 use Rattle.flow_meaning.specs.Step.{kept_by, view}
 use Rattle.flow_meaning.specs.Class.{class_names}
 use Rattle.flow_meaning.specs.Frame.{Frame, look, spot_of}
 use Rattle.flow_picture.specs.Holds.{AllThere}
-use Rattle.flow_steps.specs.declared.frames.Stand.{Stand}
+use Rattle.flow_steps.specs.declared.frames.ControlPoint.{ControlPoint}
 use Rattle.flow_steps.specs.declared.next.Pace.{Pace}
 use Rattle.flow_steps.specs.declared.process.Process.{Process}
-use Rattle.flow_steps.specs.Sights.{program_time}
+use Rattle.flow_steps.specs.Evaluating.{program_time}
 use Rattle.flow_steps.specs.Stepping.{Does, OperandStep}
-use Rattle.flow_follows.specs.Placing.{Stood}
+use Rattle.flow_follows.specs.Placing.{RepresentsActor}
 use Rattle.flow_follows.specs.Seeing.{IsCodeOf}
-use Rattle.flow_follows.specs.Going.{MayBeStale}
+use Rattle.flow_follows.specs.Continuing.{MayBeStale}
 use Rattle.flow_effects.specs.Asking.{MayAsk, Answered}
 use Rattle.flow_effects.specs.Effects.{MayMake}
 use Rattle.flow_effects.specs.Calling.{AimsAtRef, MayCall}
@@ -65,7 +65,7 @@ module _ (r : RawTree) (ls : List Line) (m : Process) (p : Proc Frame) (i : ℕ)
 
   abbrev pub EffectDoes : Type 0
   EffectDoes =
-      (x : Scan) (s : Stand) (w : Supply) (code : Code) (aim : Aim) (eff : Effect) (args : Vec Resolved Global) (text : InstrTree) (pace : Pace)
+      (x : Scan) (s : ControlPoint) (w : Supply) (code : Code) (aim : Aim) (eff : Effect) (args : Vec Resolved Global) (text : InstrTree) (pace : Pace)
       (n : Process) → MayBeStale r ls x s m p i e f → m.asked ≡ None → (j : Judged r code m w f)
       → FromText j.is f (instruction.Effect aim eff args) text
       → ((path : List Ident) (t : ExprTree) → text ≡ EffectInstr path t → ExprMakes code w t)
@@ -74,8 +74,8 @@ module _ (r : RawTree) (ls : List Line) (m : Process) (p : Proc Frame) (i : ℕ)
   -- the next operand of a wait at which the actor stands
   abbrev pub OperandDoes : Type 0
   OperandDoes =
-      (x : Scan) (s : Stand) (w : Supply) (code : Code) (group k : ℕ) (b : CallbackTree) (eff : Effect) (args : Vec Resolved Global)
-      (pace : Pace) (n : Process) → MayAsk r ls x s m p i e f → Stood r ls x m p i e f → (j : Judged r code m w f)
+      (x : Scan) (s : ControlPoint) (w : Supply) (code : Code) (group k : ℕ) (b : CallbackTree) (eff : Effect) (args : Vec Resolved Global)
+      (pace : Pace) (n : Process) → MayAsk r ls x s m p i e f → RepresentsActor r ls x m p i e f → (j : Judged r code m w f)
       → fetch f.code f.block f.instr ≡ Last (ChooseLast group)
       → callback_at f.code group (kept_by (thing p.core.entries i)) ≡ Some b
       → k ≡ (spot_of f.code group).first + kept_by (thing p.core.entries i)
@@ -85,7 +85,7 @@ module _ (r : RawTree) (ls : List Line) (m : Process) (p : Proc Frame) (i : ℕ)
 
   abbrev pub CallDoes : Type 0
   CallDoes =
-      (x : Scan) (s : Stand) (w : Supply) (code : Code) (called : Predefined) (args : Vec Resolved Global) (text : InstrTree) (pace : Pace)
+      (x : Scan) (s : ControlPoint) (w : Supply) (code : Code) (called : Predefined) (args : Vec Resolved Global) (text : InstrTree) (pace : Pace)
       (n : Process) → MayBeStale r ls x s m p i e f → m.asked ≡ None → (j : Judged r code m w f)
       → FromText j.is f (instruction.Act (act.World called) args) text
       → Does code s (instruction.Act (act.World called) args) m pace n → Answered r ls x w p i e pace n
@@ -99,7 +99,7 @@ module _ (r : RawTree) (ls : List Line) (m : Process) (p : Proc Frame) (i : ℕ)
 
   abbrev pub MethodDoes : Type 0
   MethodDoes =
-      (x : Scan) (s : Stand) (w : Supply) (code : Code) (aim : Aim) (called : Method) (args : Vec Resolved Global) (text : InstrTree)
+      (x : Scan) (s : ControlPoint) (w : Supply) (code : Code) (aim : Aim) (called : Method) (args : Vec Resolved Global) (text : InstrTree)
       (pace : Pace) (n : Process) → MayBeStale r ls x s m p i e f → MayCall m p → (j : Judged r code m w f)
       → FromText j.is f (instruction.Method aim called args) text → MethodMay code w aim text
       → Does code s (instruction.Method aim called args) m pace n → Answered r ls x w p i e pace n

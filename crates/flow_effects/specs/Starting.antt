@@ -10,9 +10,9 @@ use Rattle.flow_class.specs.Classes.{ClassTree, RawTree}
 use Rattle.flow_code.specs.declared.program.Code.{Code}
 use Rattle.flow_trace.specs.declared.line.Line.{Line}
 use Rattle.flow_cancel.specs.Heap.{cell_id, started_holding}
-use Rattle.flow_meaning.specs.Asks as asks
+use Rattle.flow_meaning.specs.Requests as asks
 use Rattle.flow_meaning.specs.Process.{Entry, Proc}
-use Rattle.flow_meaning.specs.Occ.{Scan, refs_in}
+use Rattle.flow_meaning.specs.References.{Scan, refs_in}
 use Rattle.flow_meaning.specs.Orderly.{Rising}
 use Rattle.flow_meaning.specs.Deliver.{boot}
 use Rattle.flow_meaning.specs.Step.{start}
@@ -26,7 +26,7 @@ use Rattle.flow_steps.specs.Holding.{on_heap}
 use Rattle.flow_steps.specs.Acting.{some_values, ActorCalled}
 use Rattle.flow_steps.specs.Tasks.{MainCalled}
 use Rattle.flow_value.specs.declared.value.Kind.TheVariants as kind
-use Rattle.flow_follows.specs.Shown.{Shown, Follows}
+use Rattle.flow_follows.specs.Matching.{ProcessRepresents, Matches}
 use Rattle.flow_follows.specs.Working.{SameGoal}
 use Rattle.flow_follows.specs.Placing.{Acts}
 use Rattle.flow_follows.specs.Coded.{CodedBy}
@@ -48,24 +48,24 @@ module _ (r : RawTree) (ls : List Line) (x : Scan) (m : Process) (p : Proc Frame
   -- An actor of a class gets its frame: its arguments, which are in hand, fill the first slots; its result is there.
   abbrev pub ActorHolds : Type 0
   ActorHolds =
-      (class places k : ℕ) (c : ClassTree) (vs : List Value) → Shown r ls (with_refs (refs_in (map value_of vs)) x) m p
+      (class places k : ℕ) (c : ClassTree) (vs : List Value) → ProcessRepresents r ls (with_refs (refs_in (map value_of vs)) x) m p
       → slice_get r.classes class ≡ Some c → places ≡ length c.slots + length c.locals → length vs ≤ length c.slots
       → length vs ≡ c.params
       → Rising 0 p.core.started p.core.entries → Free (suc p.core.started) p.core → There p (kind.Promise, k)
-      → Shown r ls x (on_heap (started_holding class places (some_values vs) (Some (cell_id k))) m)
+      → ProcessRepresents r ls x (on_heap (started_holding class places (some_values vs) (Some (cell_id k))) m)
       (with_actor class k (begun c (map value_of vs)) p)
 
   -- the call of an actor by another, where a turn is left
   abbrev pub CallStarts : Type 0
   CallStarts =
       (code : Code) (i : ActorId) (g : Goal) (h : asks.Goal) (class : ℕ) (vs : List Value) (e : Entry) (f : Frame) (n : Process)
-      → Shown r ls x m p → m.asked ≡ None → Acts r m.heap p i.0 e f → MayStart r p code class (map value_of vs) → SameGoal p i.0 g h
+      → ProcessRepresents r ls x m p → m.asked ≡ None → Acts r m.heap p i.0 e f → MayStart r p code class (map value_of vs) → SameGoal p i.0 g h
       → ActorCalled code i g class vs m n
-      → Follows r ls x n (start (classes r) i.0 h class ((classes r).fresh class (map value_of vs)) p).0
+      → Matches r ls x n (start (classes r) i.0 h class ((classes r).fresh class (map value_of vs)) p).0
 
 -- the call of `main`, whose result the process holds
 abbrev pub MainBoots : RawTree → List Line → Process → Proc Frame → Type 0
 MainBoots r ls m p =
-    (x : Scan) (code : Code) (me : ProcId) (n : Process) → Shown r ls x m p → m.asked ≡ None → p.core.main ≡ None
+    (x : Scan) (code : Code) (me : ProcId) (n : Process) → ProcessRepresents r ls x m p → m.asked ≡ None → p.core.main ≡ None
     → code.main ≡ Some (classes r).main → MayStart r p code (classes r).main (IntValue (pos me.0) ∷ []) → MainCalled code me m n
-    → Follows r ls x n (boot (classes r) me.0 p)
+    → Matches r ls x n (boot (classes r) me.0 p)

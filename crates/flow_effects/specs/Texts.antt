@@ -26,13 +26,13 @@ use Rattle.flow_code.specs.Coded.{class_named}
 use Rattle.flow_trace.specs.declared.line.Line.{Line}
 use Rattle.flow_meaning.specs.Evaluating.{Effectful, effect_in, before_last, last_of}
 use Rattle.flow_meaning.specs.Process.{Entry, Proc}
-use Rattle.flow_meaning.specs.Occ.{Scan}
+use Rattle.flow_meaning.specs.References.{Scan}
 use Rattle.flow_meaning.specs.Class.{class_names}
 use Rattle.flow_meaning.specs.Frame.{Frame, look}
-use Rattle.flow_picture.specs.Standing.{HasPlace, number_in}
+use Rattle.flow_picture.specs.FrameChanges.{HasPlace, number_in}
 use Rattle.flow_steps.specs.declared.process.Process.{Process}
-use Rattle.flow_steps.specs.Standing.{field_path, place_held}
-use Rattle.flow_follows.specs.Placing.{Stood}
+use Rattle.flow_steps.specs.Points.{field_path, place_held}
+use Rattle.flow_follows.specs.Placing.{RepresentsActor}
 use Rattle.flow_effects.specs.Effects.{SameEffect}
 
 -- the expression that an effect with its arguments is coded from
@@ -98,7 +98,7 @@ MethodCoded =
 abbrev pub PathSeen : Type 0
 PathSeen =
     (r : RawTree) (ls : List Line) (m : Process) (p : Proc Frame) (i : ℕ) (e : Entry) (f : Frame) (x : Scan) (code : Code)
-    (root : Ident) (fields : List Ident) (aim : Aim) (q : Slotted) (field : List ℕ → Option ℕ) → Stood r ls x m p i e f
+    (root : Ident) (fields : List Ident) (aim : Aim) (q : Slotted) (field : List ℕ → Option ℕ) → RepresentsActor r ls x m p i e f
     → place_named root.name ≡ Some q → HasPlace f q → aim.place ≡ number_in (length f.code.slots) q
     → fields_of field fields ≡ Some aim.path.items → IsNumbering r.records field (places_in code.fields)
     → field_path (places_in code.fields) aim.path.items (option_map value_of (place_held i aim.place m.heap))

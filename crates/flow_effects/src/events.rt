@@ -4,7 +4,7 @@ ghost use Rattle.flow_effects.specs.Events as law;
 
 /// An event begins in memory as in the process that is shown; a timer or a disk answers, an element comes to a port, and the hold
 /// on the result of `main` is dropped, as the definitions have it.
-pub fn events_follow()
+pub fn event_beginnings_refine()
     ensures begins { law.AtEvents law.EventBegins }
     ensures delivered { law.AtEvents law.Delivered }
     ensures arrived { law.AtEvents law.Arrived }
@@ -12,6 +12,6 @@ pub fn events_follow()
 {}
 
 /// After a loss of power memory shows what the definitions leave, and that rests.
-pub fn vanishing_follows()
+pub fn power_loss_refines()
     ensures { law.Vanished }
 {}

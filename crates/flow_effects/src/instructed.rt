@@ -5,7 +5,7 @@ ghost use Rattle.flow_effects.specs.Instructed as law;
 
 /// Where a program's code has an actor do something by an effect, an operand that is an effect, a predefined call or a method, that
 /// is a step of the class machine.
-pub fn instructions_follow()
+pub fn effect_instructions_refine()
     ensures effect { ForActors law.EffectDoes }
     ensures operand { ForActors law.OperandDoes }
     ensures call { ForActors law.CallDoes }

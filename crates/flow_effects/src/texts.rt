@@ -3,7 +3,7 @@
 ghost use Rattle.flow_effects.specs.Texts as law;
 
 /// An effect or a call statement of the code is coded from one of the class text, with the same arguments and the same path.
-pub fn texts_follow()
+pub fn code_matches_texts()
     ensures effect { law.EffectCoded }
     ensures operand { law.OperandCoded }
     ensures call { law.CallCoded }
@@ -11,6 +11,6 @@ pub fn texts_follow()
 {}
 
 /// Where the fields of an aim lead in memory, the names of its path lead in the frame.
-pub fn paths_follow()
+pub fn aims_match_paths()
     ensures { law.PathSeen }
 {}

@@ -10,8 +10,8 @@ use Rattle.flow_worldfile.specs.declared.world.Act.TheVariants.{Boot}
 use Rattle.flow_worldfile.specs.declared.world.At.{At}
 use Rattle.flow_worldfile.specs.Worlds.{timed}
 use Rattle.flow_meaning.specs.World.{soonest, sooner}
-use Rattle.flow_world.specs.Starting.{InOrder}
-use Rattle.flow_events.specs.Showing.{ScriptShows}
+use Rattle.flow_world.specs.Starting.{ScriptInOrder}
+use Rattle.flow_events.specs.Showing.{ScriptRepresents}
 
 -- the lines of one time, in their order
 abbrev of_time : ℕ → List At → List At
@@ -83,7 +83,7 @@ SameTimes ls xs = (t : ℕ) → of_time t ls ≡ of_time t xs
 not_empty : (x : At) (xs : List At) → of_time x.time (x ∷ xs) ≡ [] → ⊥
 not_empty x xs e = let same : nat_eq x.time x.time ≡ true = grind (arith, nat_tests) in absurd (cc (rw same at e))
 
-pub script_shows : (k : ℕ) (ls xs : List At) → Rise k ls → SameTimes ls xs → ScriptShows ls (map timed xs)
+pub script_shows : (k : ℕ) (ls xs : List At) → Rise k ls → SameTimes ls xs → ScriptRepresents ls (map timed xs)
 script_shows k [] [] r s = refl
 script_shows k [] (x ∷ xs) r s = absurd (not_empty x xs (sym (s x.time)))
 script_shows k (l ∷ ls) [] r s = absurd (not_empty l ls (s l.time))
@@ -105,7 +105,7 @@ script_shows k (l ∷ ls) (x ∷ xs) r s = by_first (has_first (x ∷ xs)) (λ y
         absurd (cc (sym none ∙ s y.time ∙ h.own))
     by_order y ys h false false e f = grind (arith, nat_tests)
 
-    by_first : HasFirst (x ∷ xs) → ((ys : List At) → SameTimes ls ys → ScriptShows ls (map timed ys)) → ScriptShows (l ∷ ls) (map timed (x ∷ xs))
+    by_first : HasFirst (x ∷ xs) → ((ys : List At) → SameTimes ls ys → ScriptRepresents ls (map timed ys)) → ScriptRepresents (l ∷ ls) (map timed (x ∷ xs))
     by_first (first y ys h) others =
         let time : l.time ≡ y.time = by_order y ys h (nat_lt l.time y.time) (nat_lt y.time l.time) refl refl in
         let both : l ∷ of_time l.time ls ≡ y ∷ of_time y.time ys = sym own_time ∙ s l.time ∙ ap (λ t. of_time t (x ∷ xs)) time ∙ h.own in
@@ -170,5 +170,5 @@ rise : (ls : List At) → IsSortedByKey (λ x. x.time) nat_cmp ls → Rise 0 ls
 rise [] s = tt
 rise (l ∷ ls) s = rises 0 l ls (omega arith) s
 
-pub sorted_shows : (written lines : List At) → InOrder written lines → ScriptShows lines (map timed written)
+pub sorted_shows : (written lines : List At) → ScriptInOrder written lines → ScriptRepresents lines (map timed written)
 sorted_shows written lines o = script_shows 0 lines written (rise lines o.sorted) (same_times written lines o.stable)

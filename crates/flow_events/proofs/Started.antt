@@ -17,10 +17,10 @@ use Rattle.flow_meaning.specs.World.{Place, outside_at_start}
 use Rattle.flow_steps.specs.declared.process.Process.{Process}
 use Rattle.flow_steps.specs.Doing.{never_ran}
 use Rattle.flow_world.specs.declared.place.Place as memory
-use Rattle.flow_world.specs.Shows.{EventsShow, OutsideShows, coming, having}
+use Rattle.flow_world.specs.Representing.{EventsRepresent, OutsideRepresents, coming, having}
 use Rattle.flow_world.specs.Starting.{AreFresh, boot_of}
 use Rattle.flow_world.specs.Starting as start
-use Rattle.flow_events.specs.Showing.{PlacesShow}
+use Rattle.flow_events.specs.Showing.{PlacesRepresent}
 use Rattle.flow_events.specs.Beginning.{StartShown}
 use Rattle.flow_events.proofs.Scripts.{sorted_shows}
 
@@ -29,7 +29,7 @@ down = record { up = false; proc = idle }
 
 places_show :
     (Rests : Process → Proc Frame → Type 0) → ((m : Global) → Rests (never_ran m) idle) → (n k count : ℕ) (ats : List memory.Place) → AreFresh n k ats
-    → length ats ≡ count → PlacesShow Rests n k ats (replicate count down)
+    → length ats ≡ count → PlacesRepresent Rests n k ats (replicate count down)
 places_show Rests fresh n k zero [] f e = tt
 places_show Rests fresh n k (suc count) [] f e = absurd (omega (arith, e))
 places_show Rests fresh n k zero (at ∷ ats) f e = absurd (omega (arith, e))
@@ -47,7 +47,7 @@ places_show Rests fresh n k (suc count) (at ∷ ats) f e = (
 abbrev boot_by : ℕ → Pending meaning.What
 boot_by p = record { time = 0; number = suc p; what = meaning.Boots p }
 
-events_show : (k n : ℕ) → EventsShow [] (map boot_of (range_with_len k n)) (map boot_by (range_with_len k n))
+events_show : (k n : ℕ) → EventsRepresent [] (map boot_of (range_with_len k n)) (map boot_by (range_with_len k n))
 events_show k zero = tt
 events_show k (suc n) = (record { time = refl; number = refl; what = refl }, events_show (k + 1) n)
 
@@ -84,7 +84,7 @@ none_cut zero i = refl
 none_cut (suc n) zero = refl
 none_cut (suc n) (suc i) = none_cut n i
 
-outside_shows : (file : World0) → OutsideShows (start.outside_at_start file) (outside_at_start (seen file))
+outside_shows : (file : World0) → OutsideRepresents (start.outside_at_start file) (outside_at_start (seen file))
 outside_shows file = record {
   seed = refl;
   words = refl;
@@ -107,7 +107,7 @@ outside_shows file = record {
 pub start_shown : (Rests : Process → Proc Frame → Type 0) → StartShown Rests
 start_shown Rests classes file w fresh s = record {
   places = places_show Rests fresh file.processes 0 file.processes w.places s.places s.count;
-  outside = subst (λ m. OutsideShows m (outside_at_start (seen file))) (sym s.outside) (outside_shows file);
+  outside = subst (λ m. OutsideRepresents m (outside_at_start (seen file))) (sym s.outside) (outside_shows file);
   script = sorted_shows file.script.items w.script s.script;
   ran = s.ran;
   bound = s.bound;

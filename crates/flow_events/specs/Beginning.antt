@@ -11,10 +11,10 @@ use Rattle.flow_steps.specs.declared.process.Process.{Process}
 use Rattle.flow_steps.specs.Doing.{never_ran}
 use Rattle.flow_world.specs.Ending.{Seen}
 use Rattle.flow_world.specs.Starting.{Starts}
-use Rattle.flow_events.specs.Showing.{WorldShows}
+use Rattle.flow_events.specs.Showing.{WorldRepresents}
 
 -- where a process that never ran rests as one of the definitions that never ran
 abbrev pub StartShown : (Rests : Process → Proc Frame → Type 0) → Type 0
 StartShown Rests =
     (classes : RawClasses) (file : World0) (w : Seen) → ((memory : Global) → Rests (never_ran memory) idle) → Starts classes file w
-    → WorldShows Rests w (at_start (seen file))
+    → WorldRepresents Rests w (at_start (seen file))

@@ -16,13 +16,13 @@ pub trait Resting {
 /// Whatever is meant by a process that rests: a world in memory before its first event shows the first
 /// state of the definitions; and where a world shows one of the definitions, the same line of the
 /// script or the same pending event comes next.
-pub fn comes_shown<R: Resting>()
+pub fn next_events_match<R: Resting>()
     ensures start { StartShown R.rests }
     ensures next { SameNext R.rests }
 {}
 
 /// Where a world shows one of the definitions, a run is idle or comes to its bound where they say so,
 /// and an event runs or is spent only where they have one.
-pub fn ends_shown<R: Resting, L: LineOut>()
+pub fn ends_of_runs_match<R: Resting, L: LineOut>()
     ensures { SameEnd R.rests L.puts }
 {}

@@ -10,7 +10,7 @@ use Rattle.flow_worldfile.specs.Worlds as file
 use Rattle.flow_worldfile.specs.declared.directive.Order.{Order}
 use Rattle.flow_worldfile.specs.declared.directive.Order.TheVariants as order
 use Rattle.flow_class.specs.Classes.{RawTree}
-use Rattle.flow_meaning.specs.Asks.{Request, Drew, Timer, Packet, Disks}
+use Rattle.flow_meaning.specs.Requests.{Request, Drew, Timer, Packet, Disks}
 use Rattle.flow_meaning.specs.Burst as burst
 use Rattle.flow_meaning.specs.Burst.{Live, Burst, rests, steps, advance, advanced}
 use Rattle.flow_meaning.specs.Class.{classes}

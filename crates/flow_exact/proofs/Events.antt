@@ -5,7 +5,7 @@ use Rattle.std.specs.Option.{option_map}
 use Rattle.std.specs.List.{AllByRecursion}
 use Rattle.flow_numbered.specs.Numbered.{Numbered, thing}
 use Rattle.flow_meaning.specs.Cells.{PromiseSide, Cell, Single, Stream}
-use Rattle.flow_meaning.specs.Occ.{one, in_ports, refs_in, value_in}
+use Rattle.flow_meaning.specs.References.{one, in_ports, refs_in, value_in}
 use Rattle.flow_meaning.specs.Outside.{Outside, host}
 use Rattle.flow_meaning.specs.World.{Place, World, Begun, Next, Nothing, Script, Event as ComesEvent, next_of, begun_by, ordered, happened, ready, counted, with_left, with_core, with_disk, disk_of, disk_outcome, packet, listener, process_of, process_in}
 use Rattle.flow_meaning.specs.Deliver.{deliver, arrive}
@@ -16,20 +16,20 @@ use Rattle.flow_meaning.proofs.Shifts.{same_of}
 use Rattle.flow_meaning.proofs.InOrder.{no_thing}
 use Rattle.flow_worldfile.specs.Worlds.{order_of}
 use Rattle.flow_worldfile.specs.Directives.{OrderNames}
-use Rattle.flow_world.specs.Straying.{NoProcess, NoLink, NoDisk, ActsAmiss, ActsAtAmiss, no_process, not_among, acts_amiss, RunsAmiss, OrderedAmiss, TakenAmiss, ArrivedAmiss, not_on_way, taken_amiss, AnsweredAmiss, no_disk, answer_amiss, HappenedAmiss, LineAmiss, PendingAmiss, ComesAmiss}
+use Rattle.flow_world.specs.StuckEvents.{NoProcess, NoLink, NoDisk, ActsStuck, ActsAtStuck, no_process, not_among, acts_stuck, EventRunsStuck, OrderedStuck, TakenStuck, ArrivedStuck, not_on_way, taken_stuck, AnsweredStuck, no_disk, answer_stuck, HappenedStuck, LineStuck, PendingStuck, ComesStuck}
 use Rattle.flow_world.specs.Ending.{Seen}
 use Rattle.flow_world.specs.Changes.{with_events}
 use Rattle.flow_world.specs.Happening.{HeardIn, begins, with_outside, arrived}
-use Rattle.flow_world.specs.Shows.{WhatShows, ArrivalShows, letter_at, coming}
+use Rattle.flow_world.specs.Representing.{PendingRepresents, ArrivalRepresents, letter_at, coming}
 use Rattle.flow_world.specs.declared.outside.What.{What}
-use Rattle.flow_world.specs.declared.deed.Deed.{Deed}
-use Rattle.flow_world.specs.declared.deed.Deed.TheVariants.{Boots, Stops, Delivers, Brings}
+use Rattle.flow_world.specs.declared.action.EventAction.{EventAction}
+use Rattle.flow_world.specs.declared.action.EventAction.TheVariants.{Boots, Stops, Delivers, Brings}
 use Rattle.flow_world.proofs.Events.{disk_served}
 use Rattle.flow_open.specs.Open.{IsOpen}
 use Rattle.flow_open.proofs.Worlds.{open_at}
-use Rattle.flow_lasting.specs.Lasting.{latest}
+use Rattle.flow_lasting.specs.Invariant.{latest}
 use Rattle.flow_lasting.proofs.Mid.{clock_tells, next_early}
-use Rattle.flow_deeds.specs.Deeds.{MayBeDone, done_in}
+use Rattle.flow_deeds.specs.Actions.{MayBeDone, done_in}
 use Rattle.flow_deeds.proofs.Doing.{deeds_follow}
 use Rattle.flow_deeds.proofs.Settling.{stays_settled}
 use Rattle.flow_happens.proofs.Placing.{place_of, Found, place_found}
@@ -37,15 +37,15 @@ use Rattle.flow_happens.proofs.Acting.{Going, shown_at}
 use Rattle.flow_happens.proofs.Beginning.{line_begins, event_begins}
 use Rattle.flow_happens.proofs.Doing.{GoesOn, Begins, letter_taken, answers_plain, void_seen}
 use Rattle.flow_happens.proofs.Events.{heard_there, none_other}
-use Rattle.flow_picture.specs.Shows.{cell_number}
+use Rattle.flow_picture.specs.Representing.{cell_number}
 use Rattle.flow_picture.specs.Holds.{AllThere}
 use Rattle.flow_value.specs.declared.value.Value.TheVariants.{Void}
 use Rattle.flow_value.specs.Values.{GoodOutcome}
 use Rattle.flow_machine.specs.declared.host.Burst.TheVariants.{Rested}
-use Rattle.flow_events.specs.Coming.{LineNext, EventNext, NextShows}
+use Rattle.flow_events.specs.Coming.{LineNext, EventNext, NextMatches}
 use Rattle.flow_events.proofs.Next.{same_next}
-use Rattle.flow_exact.specs.Deeds.{MayHear}
-use Rattle.flow_exact.specs.Events.{Upheld}
+use Rattle.flow_exact.specs.Actions.{MayHear}
+use Rattle.flow_exact.specs.Events.{MemoryWorldInvariant}
 use Rattle.flow_exact.proofs.Deeds.{deed_well}
 use Rattle.flow_base.specs.declared.ids.CellId.{CellId}
 use Rattle.flow_base.specs.declared.ids.ProcId.{ProcId}
@@ -58,14 +58,14 @@ use Rattle.flow_class.specs.Classes.{RawTree}
 use Rattle.flow_meaning.specs.Class.{classes}
 use Rattle.flow_meaning.specs.Frame.{Frame}
 use Rattle.flow_machine.specs.Requests.{call_of}
-use Rattle.flow_steps.specs.Sights.{program_time}
-use Rattle.flow_events.specs.Showing.{WorldShows}
+use Rattle.flow_steps.specs.Evaluating.{program_time}
+use Rattle.flow_events.specs.Showing.{WorldRepresents}
 use Rattle.flow_runs.proofs.Dues.{own_sets}
 use Rattle.flow_runs.specs.Among.{EventNames}
 use Rattle.flow_boundaries.proofs.Keeping.{ready_kept, answer_due, begun_kept}
 use Rattle.flow_allowed.specs.Tasking.{IsProgram}
-use Rattle.flow_kept.specs.Kept.{Kept}
-use Rattle.flow_deeds.specs.Settling.{Settled}
+use Rattle.flow_kept.specs.Invariant.{ProcessInvariant}
+use Rattle.flow_deeds.specs.Quiescence.{Quiescent}
 use Rattle.flow_worldfile.specs.declared.world.Act.{Act}
 use Rattle.flow_worldfile.specs.declared.directive.Order.{Order}
 use Rattle.flow_runs.proofs.Worlds.{next_in, order_process}
@@ -111,14 +111,14 @@ open_sends p k (Some (Single content ws)) at h = absurd h
 open_sends p k (Some (Stream queue None w)) at h = record { cell = Stream queue None w; at = at; right = tt; incomplete = refl }
 open_sends p k (Some (Stream queue (Some end) w)) at h = absurd h
 
-module _ (r : RawTree) {A : Type 0} (puts : A → Line → Result (Unit {0}) OutFault → A → Type 0) (m : World Frame) (up : Upheld r m) where
+module _ (r : RawTree) {A : Type 0} (puts : A → Line → Result (Unit {0}) OutFault → A → Type 0) (m : World Frame) (up : MemoryWorldInvariant r m) where
   abbrev was : ProcId → Place Frame
   was p = place_of m.places p.0
 
   -- a deed that is done to a process
   module _ (u : Seen) (o : Outside) (p : ProcId) (g : Begins r puts m u o p) (within : p.0 < m.out.file.processes) where
     here : Found u.places p.0
-    here = place_found (Settled r) m.out.file.processes 0 p.0 u.places m.places g.going.places (subst (λ k. p.0 < k) (sym up.lasting.keeps.fits.count) within)
+    here = place_found (Quiescent r) m.out.file.processes 0 p.0 u.places m.places g.going.places (subst (λ k. p.0 < k) (sym up.lasting.keeps.fits.count) within)
 
     process_there : NoProcess p u → ⊥
     process_there none = none_some none here.there
@@ -126,14 +126,14 @@ module _ (r : RawTree) {A : Type 0} (puts : A → Line → Result (Unit {0}) Out
     among : u.outside.net.processes ≡ m.out.file.processes
     among = g.going.outside.processes ∙ ap (λ (f : file.World). f.processes) g.going.file
 
-    module _ (d : Deed) (a : A) (hear : MayHear d (was p).proc)
-        (kept : let x = (done_in r m.out.file.turns p.0 d (was p)).proc in UnlessStopped x.core.halted (Kept r x)) where
-      acts_sure : ((at : memory.Place) → slice_get u.places p.0 ≡ Some at → MayBeDone d (was p).proc) → ActsAtAmiss puts p d u a → ⊥
+    module _ (d : EventAction) (a : A) (hear : MayHear d (was p).proc)
+        (kept : let x = (done_in r m.out.file.turns p.0 d (was p)).proc in UnlessStopped x.core.halted (ProcessInvariant r x)) where
+      acts_sure : ((at : memory.Place) → slice_get u.places p.0 ≡ Some at → MayBeDone d (was p).proc) → ActsAtStuck puts p d u a → ⊥
       acts_sure may (no_process none) = process_there none
       acts_sure may (not_among at there (inl few)) = let same = among in omega (arith, few, same, within)
       acts_sure may (not_among at there (inr other)) =
           other ((shown_at r m u o p at g.going there).processes_are ∙ sym g.going.outside.processes)
-      acts_sure may (acts_amiss at there amiss) =
+      acts_sure may (acts_stuck at there stuck) =
           deed_well puts r u.code g.program m.out.file.turns p d (was p) o at u.outside a
           (record {
             shows = shown_at r m u o p at g.going there;
@@ -143,17 +143,17 @@ module _ (r : RawTree) {A : Type 0} (puts : A → Line → Result (Unit {0}) Out
             may = may at there;
             held = g.held;
             kept = kept;
-          }) hear (subst (λ n. ActsAmiss puts u.code n p d at u.outside a) g.going.turns amiss)
+          }) hear (subst (λ n. ActsStuck puts u.code n p d at u.outside a) g.going.turns stuck)
 
       -- it may be done whether or not it boots
-      pub does_sure : MayBeDone d (was p).proc → RunsAmiss puts p d u a → ⊥
+      pub does_sure : MayBeDone d (was p).proc → EventRunsStuck puts p d u a → ⊥
       does_sure may (inl none) = process_there none
-      does_sure may (inr (held, amiss)) = acts_sure (λ at there. may) amiss
+      does_sure may (inr (held, stuck)) = acts_sure (λ at there. may) stuck
 
     -- where the process holds its `main` it doesn't boot
-    pub boot_sure : (a : A) → (let x = (done_in r m.out.file.turns p.0 Boots (was p)).proc in UnlessStopped x.core.halted (Kept r x)) → RunsAmiss puts p Boots u a → ⊥
+    pub boot_sure : (a : A) → (let x = (done_in r m.out.file.turns p.0 Boots (was p)).proc in UnlessStopped x.core.halted (ProcessInvariant r x)) → EventRunsStuck puts p Boots u a → ⊥
     boot_sure a kept (inl none) = process_there none
-    boot_sure a kept (inr (held, amiss)) = acts_sure Boots a tt kept (λ at there. main_none at there) amiss
+    boot_sure a kept (inr (held, stuck)) = acts_sure Boots a tt kept (λ at there. main_none at there) stuck
       where
         some_not : (x : Option CellId) → is_some x ≡ false → x ≡ None
         some_not None e = refl
@@ -170,7 +170,7 @@ module _ (r : RawTree) {A : Type 0} (puts : A → Line → Result (Unit {0}) Out
     disk_there same none =
         let few = up.disks in found_below m.out.disks p.0 (omega (arith, few, within)) (ap (λ ds. slice_get ds p.0) (sym same) ∙ none)
 
-  module _ (w : Seen) (program : IsProgram r w.code) (s : WorldShows (Settled r) w m) (bound : w.ran < w.bound) where
+  module _ (w : Seen) (program : IsProgram r w.code) (s : WorldRepresents (Quiescent r) w m) (bound : w.ran < w.bound) where
     -- programs can tell the time of the next event
     tells : (t : ℕ) → t ≤ latest m.out.ran → program_time t ≡ pos t
     tells t early =
@@ -212,21 +212,21 @@ module _ (r : RawTree) {A : Type 0} (puts : A → Line → Result (Unit {0}) Out
       no_link x p q going first second (inl few) = let same = same_many x going in omega (arith, few, same, first)
       no_link x p q going first second (inr few) = let same = same_many x going in omega (arith, few, same, second)
 
-      order_sure : (x : Act) → next_of m.out ≡ Script t (order_of x) left → OrderNames m.out.file.processes (order_of x) → Going r m u (out x) → OrderedAmiss puts x u a → ⊥
-      order_sure (act.Boot p) comes names going amiss =
+      order_sure : (x : Act) → next_of m.out ≡ Script t (order_of x) left → OrderNames m.out.file.processes (order_of x) → Going r m u (out x) → OrderedStuck puts x u a → ⊥
+      order_sure (act.Boot p) comes names going stuck =
           let within = order_process m.out.file.processes (order_of (act.Boot p)) names in
-          boot_sure u (out (act.Boot p)) p (begins_at u (out (act.Boot p)) p code going refl clock within) within amiss.between (kept_of (act.Boot p) comes) amiss.rest
-      order_sure (act.Stop p) comes names going amiss =
+          boot_sure u (out (act.Boot p)) p (begins_at u (out (act.Boot p)) p code going refl clock within) within stuck.between (kept_of (act.Boot p) comes) stuck.rest
+      order_sure (act.Stop p) comes names going stuck =
           let within = order_process m.out.file.processes (order_of (act.Stop p)) names in
-          does_sure u (out (act.Stop p)) p (begins_at u (out (act.Stop p)) p code going refl clock within) within Stops amiss.between tt (kept_of (act.Stop p) comes) tt amiss.rest
+          does_sure u (out (act.Stop p)) p (begins_at u (out (act.Stop p)) p code going refl clock within) within Stops stuck.between tt (kept_of (act.Stop p) comes) tt stuck.rest
       order_sure (act.Kill p) comes names going (inl none) =
           let within = order_process m.out.file.processes (order_of (act.Kill p)) names in
           disk_there u (out (act.Kill p)) p (begins_at u (out (act.Kill p)) p code going refl clock within) within going.outside.disks none
       order_sure (act.Kill p) comes names going (inr none) =
           let within = order_process m.out.file.processes (order_of (act.Kill p)) names in
           process_there u (out (act.Kill p)) p (begins_at u (out (act.Kill p)) p code going refl clock within) within none
-      order_sure (act.Cut p q) comes names going amiss = no_link (act.Cut p q) p q going names.0 names.1 amiss
-      order_sure (act.Heal p q) comes names going amiss = no_link (act.Heal p q) p q going names.0 names.1 amiss
+      order_sure (act.Cut p q) comes names going stuck = no_link (act.Cut p q) p q going names.0 names.1 stuck
+      order_sure (act.Heal p q) comes names going stuck = no_link (act.Heal p q) p q going names.0 names.1 stuck
       order_sure (act.DiskFail p n) comes names going none =
           let within = order_process m.out.file.processes (order_of (act.DiskFail p n)) names in
           disk_there u (out (act.DiskFail p n)) p (begins_at u (out (act.DiskFail p n)) p code going refl clock within) within going.outside.disks none
@@ -260,24 +260,24 @@ module _ (r : RawTree) {A : Type 0} (puts : A → Line → Result (Unit {0}) Out
 
       -- the process of an event once something comes to it
       abbrev KeptWith : ProcId → (Core → Core) → Type 0
-      KeptWith p f = let x = (with_core (ready m p.0) f).proc in UnlessStopped x.core.halted (Kept r x)
+      KeptWith p f = let x = (with_core (ready m p.0) f).proc in UnlessStopped x.core.halted (ProcessInvariant r x)
 
-      boot_now : (p : ProcId) → Coming (meaning.Boots p.0) → OrderedAmiss puts (act.Boot p) u a → ⊥
-      boot_now p c amiss =
-          let z = meaning.Boots p.0 in boot_sure u (now z) p (begins_as z c p refl) (within z c) amiss.between (kept_as z c) amiss.rest
+      boot_now : (p : ProcId) → Coming (meaning.Boots p.0) → OrderedStuck puts (act.Boot p) u a → ⊥
+      boot_now p c stuck =
+          let z = meaning.Boots p.0 in boot_sure u (now z) p (begins_as z c p refl) (within z c) stuck.between (kept_as z c) stuck.rest
 
-      timer_now : (p : ProcId) (k : CellId) → Coming (meaning.Rings p.0 k.0) → HappenedAmiss puts (what.Rings p k) u a → ⊥
-      timer_now p k c amiss =
+      timer_now : (p : ProcId) (k : CellId) → Coming (meaning.Rings p.0 k.0) → HappenedStuck puts (what.Rings p k) u a → ⊥
+      timer_now p k c stuck =
           let z = meaning.Rings p.0 k.0 in
           let due = answer_due r program.whole.valid m p.0 k.0 (timed z) left up.lasting.keeps (within z c) c.pending (own_sets p.0 k.0) in
-          does_sure u (now z) p (begins_as z c p refl) (within z c) (Delivers k (outcome.Value Void)) amiss.between tt
+          does_sure u (now z) p (begins_as z c p refl) (within z c) (Delivers k (outcome.Value Void)) stuck.between tt
           (subst (λ y. KeptWith p (deliver k.0 (GoodOutcome y))) (sym void_seen) (kept_as z c))
-          (due.0, due.1, subst (AllThere (was p).proc) (ap (λ y. refs_in (value_in (GoodOutcome y))) (sym void_seen)) tt) amiss.rest
+          (due.0, due.1, subst (AllThere (was p).proc) (ap (λ y. refs_in (value_in (GoodOutcome y))) (sym void_seen)) tt) stuck.rest
 
-      answer_now : (p : ProcId) (k : CellId) (asked : DiskAsk) → Coming (meaning.Answers p.0 k.0 (call_of asked)) → AnsweredAmiss puts p k asked u a → ⊥
+      answer_now : (p : ProcId) (k : CellId) (asked : DiskAsk) → Coming (meaning.Answers p.0 k.0 (call_of asked)) → AnsweredStuck puts p k asked u a → ⊥
       answer_now p k asked c (no_disk none) =
           let z = meaning.Answers p.0 k.0 (call_of asked) in disk_there u (now z) p (begins_as z c p refl) (within z c) c.going.outside.disks none
-      answer_now p k asked c (answer_amiss b served_now reply o serves answer told amiss) =
+      answer_now p k asked c (answer_stuck b served_now reply o serves answer told stuck) =
           let z = meaning.Answers p.0 k.0 (call_of asked) in
           let g = begins_as z c p refl in
           let due = answer_due r program.whole.valid m p.0 k.0 (timed z) left up.lasting.keeps (within z c) c.pending (own_sets p.0 k.0) in
@@ -286,7 +286,7 @@ module _ (r : RawTree) {A : Type 0} (puts : A → Line → Result (Unit {0}) Out
           let then_begun = doing.serves r puts m u (now z) p g served_now gives.0 (ap (λ y. y.time) serves.left) shown.1 in
           does_sure (with_outside served_now u) (with_disk (now z) (now z).active gives.0) p then_begun (within z c) (Delivers k o) b tt
           (subst (λ y. KeptWith p (deliver k.0 y)) (sym (answer ∙ ap disk_outcome shown.0)) (kept_as z c))
-          (due.0, due.1, subst (AllThere (was p).proc) (sym (ap (λ y. refs_in (value_in y)) answer ∙ answers_plain reply)) tt) amiss
+          (due.0, due.1, subst (AllThere (was p).proc) (sym (ap (λ y. refs_in (value_in y)) answer ∙ answers_plain reply)) tt) stuck
 
       -- a packet that comes
       module _ (p : ProcId) (n : ℕ) (l : Letter) (there : letter_at u.outside.net.on_way n ≡ Some l) (none_other_comes : coming n u.outside.timers.pending ≡ 0) where
@@ -321,40 +321,40 @@ module _ (r : RawTree) {A : Type 0} (puts : A → Line → Result (Unit {0}) Out
           heard_up true k e = e
           heard_up false k e = absurd (cc (e))
 
-          taken : (b : A) (heard : Option CellId) → option_map (λ (k : CellId). k.0) heard ≡ listener (ready m p.0) l.port → TakenAmiss puts heard p (numbered n l) (arrived n u) b → ⊥
-          taken b None hears amiss = amiss
-          taken b (Some k) hears amiss =
+          taken : (b : A) (heard : Option CellId) → option_map (λ (k : CellId). k.0) heard ≡ listener (ready m p.0) l.port → TakenStuck puts heard p (numbered n l) (arrived n u) b → ⊥
+          taken b None hears stuck = stuck
+          taken b (Some k) hears stuck =
               let port = heard_up (was p).up k.0 (sym hears) in
               let there = heard_there r (ready m p.0).proc l.port k.0 g.held port in
               let sends = open_sends (was p).proc k.0 (thing (was p).proc.core.cells k.0) refl (open_at m.places p.0 up.heard k.0 (port_counts l.port k.0 (was p).proc.core.ports port)) in
               let kept : KeptWith p (arrive k.0 (packet l.from.0 l.port l.text)) = subst (λ y. GoesOn r puts (meaning_world.arrived n l.from.0 l.port l.text (ready m p.0) (now arrives) y)) (sym hears) (kept_as arrives c) in
-              does_sure (arrived n u) (now arrives) p arrived_begins (within arrives c) (Brings k amiss.0) b sends (subst (λ y. KeptWith p (arrive k.0 y)) (sym amiss.1) kept)
-              (record { cell = there.cell; at = there.at; right = there.right }, subst (AllThere (was p).proc) (ap (λ y. refs_in (value_in (GoodOutcome y))) (sym amiss.1)) tt) amiss.2
+              does_sure (arrived n u) (now arrives) p arrived_begins (within arrives c) (Brings k stuck.0) b sends (subst (λ y. KeptWith p (arrive k.0 y)) (sym stuck.1) kept)
+              (record { cell = there.cell; at = there.at; right = there.right }, subst (AllThere (was p).proc) (ap (λ y. refs_in (value_in (GoodOutcome y))) (sym stuck.1)) tt) stuck.2
 
-          packet_now : ArrivedAmiss puts p n u a → ⊥
+          packet_now : ArrivedStuck puts p n u a → ⊥
           packet_now (not_on_way none) = none_some none there
-          packet_now (taken_amiss b other heard told on_way hears amiss) =
+          packet_now (taken_stuck b other heard told on_way hears stuck) =
               let same : other ≡ l = same_of (sym on_way ∙ there) in
               taken b heard
               (doing.heard_is r puts m u (now arrives) p g a a Rested u l.port heard (here u (now arrives) p g (within arrives c)) (subst (λ (y : Letter). HeardIn (slice_get u.places p.0) y.port heard) same hears))
-              (subst (λ y. TakenAmiss puts heard p (numbered n y) (arrived n u) b) same amiss)
+              (subst (λ y. TakenStuck puts heard p (numbered n y) (arrived n u) b) same stuck)
 
     -- the line that comes
     line_sure : (time : ℕ) (a : A) (t : ℕ) (k : Order) (left : List (ℕ × Order)) (n : LineNext time w.script t k left) → next_of m.out ≡ Script t k left
-        → OrderedAmiss puts n.line.act (record (begins time w) { script = n.rest }) a → ⊥
-    line_sure time a t k left n comes amiss =
+        → OrderedStuck puts n.line.act (record (begins time w) { script = n.rest }) a → ⊥
+    line_sure time a t k left n comes stuck =
         let u : Seen = record (begins time w) { script = n.rest } in
         let early = (next_early m.out up.lasting.times).line t k left comes in
         let go = line_begins r w m s time t k left n in
         let names : OrderNames m.out.file.processes k = ((next_in m.out.file.processes m.out up.lasting.keeps.fits.script).script t k left comes).0 in
         order_sure t left u a refl (subst (λ z. program_time z ≡ pos z) (sym n.same) (tells t early.0)) n.line.act
         (subst (λ z. next_of m.out ≡ Script t z left) (sym n.orders) comes) (subst (OrderNames m.out.file.processes) (sym n.orders) names)
-        (subst (λ z. Going r m u (counted t (process_of z) (record m.out { script = left }))) (sym n.orders) go) amiss
+        (subst (λ z. Going r m u (counted t (process_of z) (record m.out { script = left }))) (sym n.orders) go) stuck
 
     -- the event that comes
     event_comes : (time : ℕ) (a : A) (x : Pending meaning.What) (left : List (Pending meaning.What)) (n : EventNext w time x) → next_of m.out ≡ ComesEvent x left → m.out.events.pending ≡ x ∷ left
-        → HappenedAmiss puts n.first.what (with_outside (with_events n.rest (begins time w).outside) (begins time w)) a → ⊥
-    event_comes time a x left n comes pending amiss = by_what n.first.what refl amiss n.shows.what
+        → HappenedStuck puts n.first.what (with_outside (with_events n.rest (begins time w).outside) (begins time w)) a → ⊥
+    event_comes time a x left n comes pending stuck = by_what n.first.what refl stuck n.shows.what
       where
         u : Seen
         u = with_outside (with_events n.rest (begins time w).outside) (begins time w)
@@ -371,27 +371,27 @@ module _ (r : RawTree) {A : Type 0} (puts : A → Line → Result (Unit {0}) Out
         coming_as : (z : meaning.What) → x.what ≡ z → Coming u left x.time x.number a refl clock z
         coming_as z q = subst (λ y. Coming u left x.time x.number a refl clock y) q (record { comes = comes; pending = pending; going = event_begins r w m s time x left n pending })
 
-        by_letter : (p : ProcId) (k : ℕ) (o : Option Letter) → letter_at w.outside.net.on_way k ≡ o → n.first.what ≡ what.Arrives p k → ArrivedAmiss puts p k u a → ArrivalShows p.0 k o x.what → ⊥
+        by_letter : (p : ProcId) (k : ℕ) (o : Option Letter) → letter_at w.outside.net.on_way k ≡ o → n.first.what ≡ what.Arrives p k → ArrivedStuck puts p k u a → ArrivalRepresents p.0 k o x.what → ⊥
         by_letter p k None q is d shown = absurd shown
         by_letter p k (Some l) q is d shown =
             let once = subst (λ es. coming k es ≤ 1) n.are (s.outside.packets k).0 in
             packet_now u left x.time x.number a refl clock p k l q (none_other k p n.first n.rest is once) (coming_as _ shown.1) d
 
-        by_what : (y : What) → n.first.what ≡ y → HappenedAmiss puts y u a → WhatShows w.outside.net.on_way y x.what → ⊥
+        by_what : (y : What) → n.first.what ≡ y → HappenedStuck puts y u a → PendingRepresents w.outside.net.on_way y x.what → ⊥
         by_what (what.Boots p) is d shown = boot_now u left x.time x.number a refl clock p (coming_as _ shown) d
         by_what (what.Rings p k) is d shown = timer_now u left x.time x.number a refl clock p k (coming_as _ shown) d
         by_what (what.Answers p k asked) is d shown = answer_now u left x.time x.number a refl clock p k asked (coming_as _ shown) d
         by_what (what.Arrives p k) is d shown = by_letter p k (letter_at w.outside.net.on_way k) refl is d shown
 
-    any_sure : (a : A) (time : ℕ) (scripted : Bool) (x : Next) → next_of m.out ≡ x → NextShows w (Some (time, scripted)) x m.out → ComesAmiss puts scripted (begins time w) a → ⊥
+    any_sure : (a : A) (time : ℕ) (scripted : Bool) (x : Next) → next_of m.out ≡ x → NextMatches w (Some (time, scripted)) x m.out → ComesStuck puts scripted (begins time w) a → ⊥
     any_sure a time true Nothing q n d = absurd n
     any_sure a time false Nothing q n d = absurd n
     any_sure a time true (ComesEvent x left) q n d = absurd n
     any_sure a time false (Script t k left) q n d = absurd n
-    any_sure a time true (Script t k left) q n d = line_sure time a t k left n q (subst (λ ls. LineAmiss puts ls (begins time w) a) n.are d)
-    any_sure a time false (ComesEvent x left) q n d = event_comes time a x left n.0 q n.1 (subst (λ es. PendingAmiss puts es (begins time w) a) n.0.are d)
+    any_sure a time true (Script t k left) q n d = line_sure time a t k left n q (subst (λ ls. LineStuck puts ls (begins time w) a) n.are d)
+    any_sure a time false (ComesEvent x left) q n d = event_comes time a x left n.0 q n.1 (subst (λ es. PendingStuck puts es (begins time w) a) n.0.are d)
 
-pub event_sure : {A : Type 0} (puts : A → Line → Result (Unit {0}) OutFault → A → Type 0) (r : RawTree) → law.EventSure puts r
-event_sure puts r w m a program s up amiss =
-    any_sure r puts m up w program s amiss.bound a amiss.time amiss.scripted (next_of m.out) refl
-    (subst (λ n. NextShows w n (next_of m.out) m.out) amiss.comes (same_next (Settled r) w m s)) amiss.amiss
+pub event_sure : {A : Type 0} (puts : A → Line → Result (Unit {0}) OutFault → A → Type 0) (r : RawTree) → law.EventNeverStuck puts r
+event_sure puts r w m a program s up stuck =
+    any_sure r puts m up w program s stuck.bound a stuck.time stuck.scripted (next_of m.out) refl
+    (subst (λ n. NextMatches w n (next_of m.out) m.out) stuck.comes (same_next (Quiescent r) w m s)) stuck.stuck

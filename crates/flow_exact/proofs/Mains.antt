@@ -21,23 +21,23 @@ use Rattle.flow_numbered.specs.Numbered.{Numbered, thing}
 use Rattle.flow_meaning.specs.Process.{Proc}
 use Rattle.flow_meaning.specs.Step.{on_core}
 use Rattle.flow_picture.specs.Counted.{nothing_in_hand}
-use Rattle.flow_picture.specs.Shows.{cell_number}
+use Rattle.flow_picture.specs.Representing.{cell_number}
 use Rattle.flow_unstuck.proofs.CellStates.{cell_there}
 use Rattle.flow_steps.specs.declared.process.Process.{Process}
 use Rattle.flow_steps.specs.Doing.{begun, unasked}
 use Rattle.flow_steps.specs.Tasks.{MainCalled, main_waits, main_starts}
-use Rattle.flow_steps.specs.AmissCalls.{EnrolsAmiss}
-use Rattle.flow_steps.specs.AmissTasks.{MainStartsAmiss, no_main, enrols_amiss}
+use Rattle.flow_steps.specs.StuckCalls.{EnrolsStuck}
+use Rattle.flow_steps.specs.StuckTasks.{MainStartsStuck, no_main, enrols_stuck}
 use Rattle.flow_machine.specs.declared.host.RunFault.{RunFault}
-use Rattle.flow_machine.specs.declared.host.RunFault.TheVariants.{Astray}
-use Rattle.flow_machine.specs.Breaking.{ServingAmiss, BreaksOff, MainBreaksOff, uncalled, main_strays, untold, called}
-use Rattle.flow_follows.specs.Shown.{Shown}
+use Rattle.flow_machine.specs.declared.host.RunFault.TheVariants.{Stuck}
+use Rattle.flow_machine.specs.Breaking.{ServingStuck, BreaksOff, MainBreaksOff, uncalled, main_stuck, untold, called}
+use Rattle.flow_follows.specs.Matching.{ProcessRepresents}
 use Rattle.flow_follows.proofs.Takings.{turned_asked}
 use Rattle.flow_effects.specs.Starting.{MayStart}
 use Rattle.flow_effects.proofs.Brings.{event_begins}
-use Rattle.flow_kept.specs.Kept.{Kept}
+use Rattle.flow_kept.specs.Invariant.{ProcessInvariant}
 use Rattle.flow_kept.proofs.Off.{unfinished}
-use Rattle.flow_bursts.specs.Bursting.{Abroad}
+use Rattle.flow_bursts.specs.Bursting.{RepresentsInWorld}
 use Rattle.flow_deeds.proofs.Mains.{may_start, main_is}
 use Rattle.flow_effects.proofs.Boots.{int_seen}
 use Rattle.flow_deeds.proofs.Booting.{main_begins}
@@ -46,10 +46,10 @@ use Rattle.flow_storing.specs.Storing.{NoPromiseStored}
 use Rattle.flow_storing.proofs.Tasks.{main_stores}
 use Rattle.flow_sure.proofs.Brought.{spent_well}
 use Rattle.flow_sure.proofs.Bursts.{all_bursts_sure}
-use Rattle.flow_exact.specs.Deeds as law
+use Rattle.flow_exact.specs.Actions as law
 
 -- the results of actors are cells
-results_there : (r : RawTree) (p : Proc Frame) → Kept r p → ResultsThere p
+results_there : (r : RawTree) (p : Proc Frame) → ProcessInvariant r p → ResultsThere p
 results_there r p k j n e at result =
     let u = unfinished r p k j e at in
     let same : u.fits.result ≡ n = let a = u.fits.owns in cc (a, result) in
@@ -59,8 +59,8 @@ not_held : (x : Option ℕ) (o : Option CellId) → x ≡ None → x ≡ option_
 not_held x None e f h = false≢true h
 not_held x (Some k) e f h = cc (e, f)
 
-pub main_well : law.MainSure
-main_well r m p now turns code me program rest kept none amiss = by_amiss amiss
+pub main_well : law.MainNeverStuck
+main_well r m p now turns code me program rest kept none stuck = by_stuck stuck
   where
     start : Process
     start = begun now turns m
@@ -68,7 +68,7 @@ main_well r m p now turns code me program rest kept none amiss = by_amiss amiss
     begins : Proc Frame
     begins = on_core (begin turns) p
 
-    shown : Shown r [] nothing_in_hand start begins
+    shown : ProcessRepresents r [] nothing_in_hand start begins
     shown = event_begins r m p now turns rest.shown
 
     main : code.main ≡ Some (classes r).main
@@ -80,20 +80,20 @@ main_well r m p now turns code me program rest kept none amiss = by_amiss amiss
     may : MayStart r begins code (classes r).main (map value_of vs)
     may = subst (λ v. MayStart r begins code (classes r).main (v ∷ [])) (sym (int_seen (pos me.0))) (may_start r code program begins kept refl me.0)
 
-    by_start : MainStartsAmiss code me start.heap → ⊥
+    by_start : MainStartsStuck code me start.heap → ⊥
     by_start (no_main gone) = cc (gone, main)
-    by_start (enrols_amiss class is strayed) =
+    by_start (enrols_stuck class is got_stuck) =
         let same : class ≡ (classes r).main = let a = main in cc (a, is) in
         enrols_found r [] nothing_in_hand start begins shown kept.fits.numbered code (classes r).main vs may rest.sorted.actors (results_there r begins kept)
-        (subst (λ c. EnrolsAmiss code c vs start.heap) same strayed)
+        (subst (λ c. EnrolsStuck code c vs start.heap) same got_stuck)
 
-    by_amiss : (is_some start.heap.main ≡ true) ⊎ MainStartsAmiss code me start.heap → ⊥
-    by_amiss (inl held) = not_held p.core.main start.heap.main none shown.holds.shows.main held
-    by_amiss (inr strayed) = by_start strayed
+    by_stuck : (is_some start.heap.main ≡ true) ⊎ MainStartsStuck code me start.heap → ⊥
+    by_stuck (inl held) = not_held p.core.main start.heap.main none shown.holds.shows.main held
+    by_stuck (inr got_stuck) = by_start got_stuck
 
 module _ {A W : Type 0} (serves : Host W) (shows : A → Numbered ℕ → W → Type 0) (wrote broke : A → List Line → A → Type 0) (code : Code) (processes : ℕ) (r : RawTree) where
-  pub boot_well : law.BootSure serves shows wrote broke code processes r
-  boot_well program steady now turns me m p w a b rest stored held none kept world clock time count breaks = by_fault Astray b refl breaks
+  pub boot_well : law.BootNeverStuck serves shows wrote broke code processes r
+  boot_well program steady now turns me m p w a b rest stored held none kept world clock time count breaks = by_fault Stuck b refl breaks
     where
       start : Process
       start = begun now turns m
@@ -102,20 +102,20 @@ module _ {A W : Type 0} (serves : Host W) (shows : A → Numbered ℕ → W → 
       booted = boot (classes r) me.0 (on_core (begin turns) p)
 
       -- the call asks for a line at most
-      asks_line : (n : Process) → MainCalled code me start n → ServingAmiss n.asked → ⊥
-      asks_line n (main_waits t is) amiss = subst ServingAmiss (ap (λ (z : Process). z.asked) is ∙ turned_asked start ∙ rest.shown.asked) amiss
-      asks_line n (main_starts t st) amiss = subst ServingAmiss (ap (λ (z : Process). z.asked) st.starts.told) amiss
+      asks_line : (n : Process) → MainCalled code me start n → ServingStuck n.asked → ⊥
+      asks_line n (main_waits t is) stuck = subst ServingStuck (ap (λ (z : Process). z.asked) is ∙ turned_asked start ∙ rest.shown.asked) stuck
+      asks_line n (main_starts t st) stuck = subst ServingStuck (ap (λ (z : Process). z.asked) st.starts.told) stuck
 
-      by_begin : (n told : Process) (c d : A) → MainCalled code me start n → BreaksOff serves shows wrote broke code processes told c Astray d
-          → ((l : Line) × (told ≡ unasked n) × Abroad serves shows wrote code processes r (l ∷ []) told c booted w) ⊎ (told.spent ≡ true) → ⊥
+      by_begin : (n told : Process) (c d : A) → MainCalled code me start n → BreaksOff serves shows wrote broke code processes told c Stuck d
+          → ((l : Line) × (told ≡ unasked n) × RepresentsInWorld serves shows wrote code processes r (l ∷ []) told c booted w) ⊎ (told.spent ≡ true) → ⊥
       by_begin n told c d calls off (inl x) =
           all_bursts_sure serves shows wrote broke code processes r program steady (x.0 ∷ []) told c d booted w x.2 (subst (λ (z : Process). NoPromiseStored z.heap) (sym x.1) (main_stores code me start n calls stored)) off
       by_begin n told c d calls off (inr spent) = spent_well serves shows wrote broke code processes r told c d spent off
 
-      by_fault : (f : RunFault) (c : A) → f ≡ Astray → MainBreaksOff serves shows wrote broke code processes me start a f c → ⊥
+      by_fault : (f : RunFault) (c : A) → f ≡ Stuck → MainBreaksOff serves shows wrote broke code processes me start a f c → ⊥
       by_fault f c e uncalled = cc (e)
-      by_fault f c e (main_strays amiss) = main_well r m p now turns code me program rest held none amiss
-      by_fault f c e (untold n _ _ calls broken amiss) = asks_line n calls (amiss e)
+      by_fault f c e (main_stuck stuck) = main_well r m p now turns code me program rest held none stuck
+      by_fault f c e (untold n _ _ calls broken stuck) = asks_line n calls (stuck e)
       by_fault f c e (called n told d _ _ calls served off) =
           by_begin n told d c calls (subst (λ g. BreaksOff serves shows wrote broke code processes told d g c) e off)
           (main_begins serves shows wrote code processes r program steady now turns me m p w a rest held none kept world clock time count n told d calls served)

@@ -10,7 +10,7 @@ use Rattle.flow_worldfile.specs.declared.world.World0.{World0}
 use Rattle.flow_class.specs.Classes.{RawTree}
 use Rattle.flow_class.specs.View.{raw_of}
 use Rattle.flow_class.specs.declared.class.RawClasses.{RawClasses}
-use Rattle.flow_meaning.specs.Asks.{Spot}
+use Rattle.flow_meaning.specs.Requests.{Spot}
 use Rattle.flow_meaning.specs.Class.{classes}
 use Rattle.flow_meaning.specs.Process.{Engine}
 use Rattle.flow_meaning.specs.Runs as run
@@ -22,18 +22,18 @@ use Rattle.flow_awake.specs.Awake.{AreWhole}
 use Rattle.flow_allowed.specs.Tasking.{IsProgram}
 use Rattle.flow_world.specs.Ending.{Seen}
 use Rattle.flow_world.specs.Starting.{Starts}
-use Rattle.flow_world.specs.Telling.{tells, whole, failed}
+use Rattle.flow_world.specs.FaultedLines.{tells, whole, failed}
 use Rattle.flow_world.proofs.Putting.{puts_more}
 use Rattle.flow_world.proofs.Telling.{no_more}
 use Rattle.flow_run.specs.Tracing.{begun, all}
-use Rattle.flow_runs.proofs.Runs.{runs_exist}
+use Rattle.flow_runs.proofs.Runs.{run_exists}
 use Rattle.flow_framed.specs.Framed.{ClassShown, seen_if, Shows, ends, spent, event}
 use Rattle.flow_framed.proofs.Alike.{shown_of_classes}
 use Rattle.flow_preserved.proofs.Carried.{are_carried}
 use Rattle.flow_faithful.proofs.Whole.{compiles_faithfully}
-use Rattle.flow_lasting.specs.Lasting.{Lasting}
+use Rattle.flow_lasting.specs.Invariant.{WorldInvariant}
 use Rattle.flow_lasting.proofs.Lasting.{lasting_starts, lasting_stays}
-use Rattle.flow_deeds.specs.Settling.{Settled}
+use Rattle.flow_deeds.specs.Quiescence.{Quiescent}
 use Rattle.flow_deeds.proofs.Settling.{settled_first}
 use Rattle.flow_happens.proofs.Whole.{happening, spent_happening}
 use Rattle.flow_views.proofs.Traced.{frames_traced, beginning_traced}
@@ -62,7 +62,7 @@ module _ {A : Type 0} (puts : A → Line → Result (Unit {0}) OutFault → A �
   pub classes_shown : ClassesShown puts
   classes_shown c file frames a b e whole few range t =
       let r = raw_of c in
-      frames_traced (Settled r) (Lasting r) (IsProgram r) puts frames c file a b e (settled_first r)
+      frames_traced (Quiescent r) (WorldInvariant r) (IsProgram r) puts frames c file a b e (settled_first r)
       (code_first c file whole few) (lasting_starts r (seen file) range) (lasting_stays r whole.valid)
       (λ m p s. (s.resting.shown.holds.shows, s.resting.sorted)) (λ m k. k.keeps.fits.count)
       (happening puts r) (spent_happening puts r) t
@@ -80,10 +80,10 @@ module _ {A : Type 0} (puts : A → Line → Result (Unit {0}) OutFault → A �
   pub classes_begun : ClassesBegun puts
   classes_begun c file frames a b whole few range t =
       let r = raw_of c in
-      let trace = (runs_exist r whole.valid (seen file) range).is.1 in
+      let trace = (run_exists r whole.valid (seen file) range).is.1 in
       let all = shown_by (classes r) frame_spot frames (at_start (seen file)) trace.later trace.rest trace.runs in
       let shown : ClassShown frames r (seen file) (line.Head ∷ all.0) = record { rest = all.0; shows = all.1; with_head = refl } in
-      let x = beginning_traced (Settled r) (Lasting r) (IsProgram r) puts frames c file a b (line.Head ∷ all.0) (settled_first r)
+      let x = beginning_traced (Quiescent r) (WorldInvariant r) (IsProgram r) puts frames c file a b (line.Head ∷ all.0) (settled_first r)
       (code_first c file whole few) (lasting_starts r (seen file) range) (lasting_stays r whole.valid)
       (λ m p s. (s.resting.shown.holds.shows, s.resting.sorted)) (λ m k. k.keeps.fits.count)
       (happening puts r) t shown in

@@ -26,20 +26,20 @@ use Rattle.flow_meaning.proofs.Posture.{above_none}
 use Rattle.flow_follows.proofs.Stands.{get_mapped}
 use Rattle.flow_awake.specs.Awake.{AreWhole}
 use Rattle.flow_allowed.specs.Tasking.{IsProgram}
-use Rattle.flow_kept.specs.Kept.{Kept}
+use Rattle.flow_kept.specs.Invariant.{ProcessInvariant}
 use Rattle.flow_kept.proofs.Off as kept
 use Rattle.flow_boundaries.proofs.Keeping.{ready_kept}
 use Rattle.flow_machine.specs.declared.host.Burst.TheVariants.{Rested}
 use Rattle.flow_world.specs.Ending.{Seen}
-use Rattle.flow_events.specs.Showing.{WorldShows}
+use Rattle.flow_events.specs.Showing.{WorldRepresents}
 use Rattle.flow_events.proofs.Started.{start_shown}
-use Rattle.flow_run.specs.Tracing.{Goes}
-use Rattle.flow_run.specs.Straying.{SomeNoClass, FramesAmiss, FramesAmissIf, EventsAmiss, event_amiss, frames_amiss}
-use Rattle.flow_lasting.specs.Lasting.{Lasting}
-use Rattle.flow_deeds.specs.Settling.{Settled}
+use Rattle.flow_run.specs.Tracing.{RunsEvents}
+use Rattle.flow_run.specs.StuckTraces.{SomeNoClass, FramesStuck, FramesStuckIf, EventsStuck, event_stuck, frames_stuck}
+use Rattle.flow_lasting.specs.Invariant.{WorldInvariant}
+use Rattle.flow_deeds.specs.Quiescence.{Quiescent}
 use Rattle.flow_deeds.proofs.Settling.{settled_first}
 use Rattle.flow_happens.proofs.Whole.{happening}
-use Rattle.flow_exact.specs.Events.{Upheld}
+use Rattle.flow_exact.specs.Events.{MemoryWorldInvariant}
 use Rattle.flow_exact.proofs.Events.{event_sure}
 use Rattle.flow_exact.proofs.Upheld.{upheld_starts, upheld_stays}
 use Rattle.flow_traced.specs.Traced.{EventBegan, EventsFollow}
@@ -52,7 +52,7 @@ use Rattle.flow_views.proofs.Told.{world_told}
 use Rattle.flow_views.proofs.Waiting.{start_waits}
 use Rattle.flow_traces.proofs.Whole.{compiles_whole}
 use Rattle.flow_written.proofs.Compiled.{compiled_few}
-use Rattle.flow_exact.specs.Exact.{HaveFewPlaces, ClassesSure, ProgramSure}
+use Rattle.flow_exact.specs.Exact.{HaveFewPlaces, ClassesNeverStuck, ProgramNeverStuck}
 use Rattle.flow_exact.proofs.Shown.{code_first}
 
 -- a class that is there by its text is there
@@ -99,18 +99,18 @@ place_seen (p ∷ ps) (suc n) d = by_rest (place_seen ps n d)
 
 module _ (r : RawTree) (whole : AreWhole r) where
   -- so it is of each process of a world that keeps what it has to
-  process_there : (w : Seen) (m : World Frame) → map class_of w.code.program.classes.items ≡ r.classes → Lasting r m → (n : ℕ) → n < m.out.file.processes
+  process_there : (w : Seen) (m : World Frame) → map class_of w.code.program.classes.items ≡ r.classes → WorldInvariant r m → (n : ℕ) → n < m.out.file.processes
       → SomeNoClass w.code.program.classes.items (map told_frame (unfinished frame_spot (ready m n).proc.actors (ready m n).proc.core.entries)) → ⊥
   process_there w m same k n lt t =
       let p : Proc Frame = (ready m n).proc in
-      let held : Kept r p = ready_kept r whole.valid m n k.keeps lt in
+      let held : ProcessInvariant r p = ready_kept r whole.valid m n k.keeps lt in
       some_there w.code.program.classes.items p.actors 0 p.core.started p.core.entries held.orderly.numbered
       (λ i e at. let u = kept.unfinished r p held i e at in class_there w.code.program.classes.items r e.class u.fits.class same u.fits.is) t
 
-  frames_there : (w : Seen) (m : World Frame) → map class_of w.code.program.classes.items ≡ r.classes → WorldShows (Settled r) w m → Lasting r m → WorldWaits m → FramesAmiss w → ⊥
+  frames_there : (w : Seen) (m : World Frame) → map class_of w.code.program.classes.items ≡ r.classes → WorldRepresents (Quiescent r) w m → WorldInvariant r m → WorldWaits m → FramesStuck w → ⊥
   frames_there w m same s k waits (p, t) =
       by_place (place_seen m.places p.0 nobody)
-      (subst (SomeNoClass cs) ((world_told (Settled r) r (λ q x s. (s.resting.shown.holds.shows, s.resting.sorted)) w m s waits).frames p.0) t)
+      (subst (SomeNoClass cs) ((world_told (Quiescent r) r (λ q x s. (s.resting.shown.holds.shows, s.resting.sorted)) w m s waits).frames p.0) t)
     where
       cs : List Class
       cs = w.code.program.classes.items
@@ -121,49 +121,49 @@ module _ (r : RawTree) (whole : AreWhole r) where
 
 module _ {A : Type 0} (puts : A → Line → Result (Unit {0}) OutFault → A → Type 0) where
   -- each event follows, whatever else a world keeps
-  event_began : (r : RawTree) (m : World Frame) (a b : A) → EventBegan (Settled r) (Lasting r) (IsProgram r) puts r m a b → EventBegan (Settled r) (Upheld r) (IsProgram r) puts r m a b
+  event_began : (r : RawTree) (m : World Frame) (a b : A) → EventBegan (Quiescent r) (WorldInvariant r) (IsProgram r) puts r m a b → EventBegan (Quiescent r) (MemoryWorldInvariant r) (IsProgram r) puts r m a b
   event_began r m a b e = record { begun = e.begun; left = e.left; begins = e.begins; follows = e.follows; lines = e.lines }
 
-  events_follow : (r : RawTree) → EventsFollow (Settled r) (Upheld r) (IsProgram r) puts r
+  events_follow : (r : RawTree) → EventsFollow (Quiescent r) (MemoryWorldInvariant r) (IsProgram r) puts r
   unfolding event_began
   events_follow r w v m a b code s k h =
       let e = happening puts r w v m a b code s k.lasting h in
       record { event = event_began r m a b e.event; rests = e.rests; shows = e.shows }
 
-  pub classes_sure : ClassesSure puts
+  pub classes_sure : ClassesNeverStuck puts
   classes_sure c file with_frames a whole few range t = by_end t.events
     where
       r : RawTree
       r = raw_of c
 
       Keeps : World Frame → Type 0
-      Keeps = Waits (Settled r) (Upheld r) (IsProgram r)
+      Keeps = Waits (Quiescent r) (MemoryWorldInvariant r) (IsProgram r)
 
-      first : WorldShows (Settled r) t.first (at_start (seen file))
-      first = start_shown (Settled r) c file t.first (settled_first r) t.starts
+      first : WorldRepresents (Quiescent r) t.first (at_start (seen file))
+      first = start_shown (Quiescent r) c file t.first (settled_first r) t.starts
 
       Came : Seen → A → Type 0
-      Came v b = Went (Settled r) Keeps (IsProgram r) puts r with_frames (at_start (seen file)) t.headed v b
+      Came v b = Went (Quiescent r) Keeps (IsProgram r) puts r with_frames (at_start (seen file)) t.headed v b
 
-      came : (v : Seen) (b : A) → Goes puts with_frames t.first t.headed v b → Came v b
+      came : (v : Seen) (b : A) → RunsEvents puts with_frames t.first t.headed v b → Came v b
       came v b goes =
-          went (Settled r) Keeps (IsProgram r) puts r with_frames (events (Settled r) (Upheld r) (IsProgram r) puts r (events_follow r))
-          (keeps_on (Settled r) (Upheld r) (IsProgram r) r (upheld_stays r whole.valid))
-          (frames (Settled r) (Upheld r) (IsProgram r) with_frames r (λ q x s. (s.resting.shown.holds.shows, s.resting.sorted)) (λ m k. k.lasting.keeps.fits.count))
+          went (Quiescent r) Keeps (IsProgram r) puts r with_frames (events (Quiescent r) (MemoryWorldInvariant r) (IsProgram r) puts r (events_follow r))
+          (keeps_on (Quiescent r) (MemoryWorldInvariant r) (IsProgram r) r (upheld_stays r whole.valid))
+          (frames (Quiescent r) (MemoryWorldInvariant r) (IsProgram r) with_frames r (λ q x s. (s.resting.shown.holds.shows, s.resting.sorted)) (λ m k. k.lasting.keeps.fits.count))
           t.first v (at_start (seen file)) t.headed b (code_first c file whole few t.first t.starts) (ap raw_of t.starts.program) first (upheld_starts r (seen file) range, start_waits (seen file)) goes
 
-      by_frames : (frames_asked : Bool) (v : Seen) (m : World Frame) → raw_of v.code.program ≡ r → WorldShows (Settled r) v m → Keeps m → FramesAmissIf frames_asked v → ⊥
-      by_frames true v m text s k amiss = frames_there r whole v m (ap (λ (x : RawTree). x.classes) text) s k.0.lasting k.1 amiss
-      by_frames false v m text s k amiss = amiss
+      by_frames : (frames_asked : Bool) (v : Seen) (m : World Frame) → raw_of v.code.program ≡ r → WorldRepresents (Quiescent r) v m → Keeps m → FramesStuckIf frames_asked v → ⊥
+      by_frames true v m text s k stuck = frames_there r whole v m (ap (λ (x : RawTree). x.classes) text) s k.0.lasting k.1 stuck
+      by_frames false v m text s k stuck = stuck
 
-      by_end : EventsAmiss puts with_frames t.first t.headed → ⊥
-      by_end (event_amiss {v = v} {b = b} goes amiss) = let x = came v b goes in event_sure puts r v x.last b x.code x.shows x.keeps.0 amiss
-      by_end (frames_amiss {u = u} {v = v} {b = b} {c = d} goes does amiss) =
+      by_end : EventsStuck puts with_frames t.first t.headed → ⊥
+      by_end (event_stuck {v = v} {b = b} goes stuck) = let x = came v b goes in event_sure puts r v x.last b x.code x.shows x.keeps.0 stuck
+      by_end (frames_stuck {u = u} {v = v} {b = b} {c = d} goes does stuck) =
           let x = came u b goes in
           let shown = events_follow r u v x.last b d x.code x.shows x.keeps.0 does in
-          let kept = keeps_on (Settled r) (Upheld r) (IsProgram r) r (upheld_stays r whole.valid) x.last shown.event.begun shown.event.left x.keeps shown.event.begins shown.event.follows shown.rests in
-          by_frames with_frames v (after x.last shown.event.begun shown.event.left) (ap (λ (z : Code). raw_of z.program) (code_stays puts u v b d Rested does) ∙ x.text) shown.shows kept amiss
+          let kept = keeps_on (Quiescent r) (MemoryWorldInvariant r) (IsProgram r) r (upheld_stays r whole.valid) x.last shown.event.begun shown.event.left x.keeps shown.event.begins shown.event.follows shown.rests in
+          by_frames with_frames v (after x.last shown.event.begun shown.event.left) (ap (λ (z : Code). raw_of z.program) (code_stays puts u v b d Rested does) ∙ x.text) shown.shows kept stuck
 
-  pub program_sure : ProgramSure puts
+  pub program_sure : ProgramNeverStuck puts
   program_sure text program c file with_frames a sound light has range t =
       classes_sure c file with_frames a (subst AreWhole (sym has) (compiles_whole text program sound)) (subst HaveFewPlaces (sym has) (compiled_few text program sound light)) range t

@@ -6,10 +6,10 @@ use Rattle.flow_open.proofs.Worlds.{start_open, valid_open}
 use Rattle.flow_exact.specs.Events as law
 use Rattle.flow_exact.proofs.Disks.{disks_start, disks_stay}
 
-pub upheld_starts : (r : RawTree) → law.UpheldStarts r
+pub upheld_starts : (r : RawTree) → law.MemoryWorldInvariantStarts r
 upheld_starts r w range = record { lasting = lasting_starts r w range; heard = start_open w; disks = disks_start w }
 
-pub upheld_stays : (r : RawTree) → AreValid r → law.UpheldStays r
+pub upheld_stays : (r : RawTree) → AreValid r → law.MemoryWorldInvariantStays r
 upheld_stays r valid w b l h g q go = record {
   lasting = lasting_stays r valid w b l h.lasting g q go;
   heard = valid_open r valid w b l h.lasting.keeps.fits h.heard g q go;

@@ -12,11 +12,11 @@ use Rattle.flow_meaning.specs.Outside.{Outside, host}
 use Rattle.flow_meaning.specs.Runs.{before, after}
 use Rattle.flow_meaning.specs.World.{World, Begun, next_of, begun_by, at_start}
 use Rattle.flow_world.specs.Ending.{Seen}
-use Rattle.flow_world.specs.Straying.{EventAmiss}
-use Rattle.flow_events.specs.Showing.{WorldShows}
+use Rattle.flow_world.specs.StuckEvents.{EventStuck}
+use Rattle.flow_events.specs.Showing.{WorldRepresents}
 use Rattle.flow_allowed.specs.Tasking.{IsProgram}
-use Rattle.flow_deeds.specs.Settling.{Settled}
-use Rattle.flow_lasting.specs.Lasting.{Lasting}
+use Rattle.flow_deeds.specs.Quiescence.{Quiescent}
+use Rattle.flow_lasting.specs.Invariant.{WorldInvariant}
 use Rattle.flow_open.specs.Open.{WorldOpen}
 
 -- each process of a world has a disk
@@ -25,21 +25,21 @@ HasDisks o = length o.disks ≡ o.file.processes
 
 -- What a world keeps from event to event so that processes in memory can follow it; besides, no stream of a port has an end, and
 -- each process has a disk.
-pub record Upheld (r : RawTree) (m : World Frame) : Type 0 where
-  pub lasting : Lasting r m
+pub record MemoryWorldInvariant (r : RawTree) (m : World Frame) : Type 0 where
+  pub lasting : WorldInvariant r m
   pub heard : WorldOpen m
   pub disks : HasDisks m.out
 
 -- So it is in the world of a file in range before its first event, and after each event.
-abbrev pub UpheldStarts : RawTree → Type 0
-UpheldStarts r = (w : file.World) → file.IsInRange w → Upheld r (at_start w)
+abbrev pub MemoryWorldInvariantStarts : RawTree → Type 0
+MemoryWorldInvariantStarts r = (w : file.World) → file.IsInRange w → MemoryWorldInvariant r (at_start w)
 
-abbrev pub UpheldStays : RawTree → Type 0
-UpheldStays r =
-    (w : World Frame) (b : Begun Frame) (l : Live Outside Frame) → Upheld r w → begun_by (classes r) w (next_of w.out) ≡ Some b
-    → Burst (classes r) host (before b) l → l.proc.core.halted ≡ None → Upheld r (after w b l)
+abbrev pub MemoryWorldInvariantStays : RawTree → Type 0
+MemoryWorldInvariantStays r =
+    (w : World Frame) (b : Begun Frame) (l : Live Outside Frame) → MemoryWorldInvariant r w → begun_by (classes r) w (next_of w.out) ≡ Some b
+    → Burst (classes r) host (before b) l → l.proc.core.halted ≡ None → MemoryWorldInvariant r (after w b l)
 
 -- And no event of a world in memory that shows such a one goes astray.
-abbrev pub EventSure : {A : Type 0} (puts : A → Line → Result (Unit {0}) OutFault → A → Type 0) → RawTree → Type 0
-EventSure {A} puts r =
-    (w : Seen) (m : World Frame) (a : A) → IsProgram r w.code → WorldShows (Settled r) w m → Upheld r m → EventAmiss puts w a → ⊥
+abbrev pub EventNeverStuck : {A : Type 0} (puts : A → Line → Result (Unit {0}) OutFault → A → Type 0) → RawTree → Type 0
+EventNeverStuck {A} puts r =
+    (w : Seen) (m : World Frame) (a : A) → IsProgram r w.code → WorldRepresents (Quiescent r) w m → MemoryWorldInvariant r m → EventStuck puts w a → ⊥

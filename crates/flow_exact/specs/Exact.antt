@@ -15,11 +15,11 @@ use Rattle.flow_lower.specs.Weighing.{first_heavy}
 use Rattle.flow_lower.specs.Compiled.{Has}
 use Rattle.flow_awake.specs.Awake.{AreWhole}
 use Rattle.flow_world.specs.Around.{Puts}
-use Rattle.flow_world.specs.Telling.{tells, whole, failed}
+use Rattle.flow_world.specs.FaultedLines.{tells, whole, failed}
 use Rattle.flow_run.specs.declared.ending.Ending.{Ending}
 use Rattle.flow_run.specs.Ends.{end_line, LastIs}
 use Rattle.flow_run.specs.Tracing.{Traces, Begins, TracesPart}
-use Rattle.flow_run.specs.Straying.{TraceAmiss}
+use Rattle.flow_run.specs.StuckTraces.{TraceStuck}
 use Rattle.flow_framed.specs.Framed.{SourceShown, ClassShown}
 
 -- each class has 2^32 places at most
@@ -61,14 +61,14 @@ module _ {A : Type 0} (puts : A → Line → Result (Unit {0}) OutFault → A �
       × Puts (tells puts) (whole a) lines (failed b)
 
   -- No run of valid classes goes astray.
-  abbrev pub ClassesSure : Type 0
-  ClassesSure =
+  abbrev pub ClassesNeverStuck : Type 0
+  ClassesNeverStuck =
       (c : RawClasses) (file : World0) (with_frames : Bool) (a : A) → AreWhole (raw_of c) → HaveFewPlaces (raw_of c)
-      → IsInRange (seen file) → TraceAmiss puts with_frames c file a → ⊥
+      → IsInRange (seen file) → TraceStuck puts with_frames c file a → ⊥
 
   -- nor one of the classes of a text
-  abbrev pub ProgramSure : Type 0
-  ProgramSure =
+  abbrev pub ProgramNeverStuck : Type 0
+  ProgramNeverStuck =
       (text : List ℕ) (program : Program) (c : RawClasses) (file : World0) (with_frames : Bool) (a : A)
       → IsSound text program → first_heavy (program_of program).decls ≡ None → Has (program_of program) (raw_of c)
-      → IsInRange (seen file) → TraceAmiss puts with_frames c file a → ⊥
+      → IsInRange (seen file) → TraceStuck puts with_frames c file a → ⊥

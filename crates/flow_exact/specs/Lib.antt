@@ -1,3 +1,3 @@
-pub mod Deeds
+pub mod Actions
 pub mod Events
 pub mod Exact

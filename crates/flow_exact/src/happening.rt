@@ -2,17 +2,17 @@
 
 ghost use Rattle.flow_class.specs.Classes.{RawTree};
 ghost use Rattle.flow_runs.specs.Laws.{AreValid};
-ghost use Rattle.flow_exact.specs.Events.{UpheldStarts, UpheldStays, EventSure};
+ghost use Rattle.flow_exact.specs.Events.{MemoryWorldInvariantStarts, MemoryWorldInvariantStays, EventNeverStuck};
 
 use flow_trace::out::LineOut;
 
 /// What a world keeps so that no event goes astray it has before its first event, and after each event.
-pub fn worlds_upheld()
-    ensures starts { (r : RawTree) → UpheldStarts r }
-    ensures stays { (r : RawTree) → AreValid r → UpheldStays r }
+pub fn worlds_preserve_memory_invariant()
+    ensures starts { (r : RawTree) → MemoryWorldInvariantStarts r }
+    ensures stays { (r : RawTree) → AreValid r → MemoryWorldInvariantStays r }
 {}
 
 /// No event goes astray.
-pub fn events_sure<L: LineOut>()
-    ensures { (r : RawTree) → EventSure L.puts r }
+pub fn events_are_never_stuck<L: LineOut>()
+    ensures { (r : RawTree) → EventNeverStuck L.puts r }
 {}

@@ -19,10 +19,10 @@ use Rattle.flow_code.specs.declared.program.Code.{Code}
 use Rattle.flow_trace.specs.declared.line.Line.{Line}
 use Rattle.flow_cancel.specs.Heap.{HeapTree, next_cell}
 use Rattle.flow_numbered.specs.Numbered.{thing, added, put}
-use Rattle.flow_meaning.specs.Asks.{Stored, Make, Effects, Drops, Supply}
+use Rattle.flow_meaning.specs.Requests.{Stored, Make, Effects, Drops, Supply}
 use Rattle.flow_meaning.specs.Evaluating.{StepOf, bind, evaluated, given, asks}
 use Rattle.flow_meaning.specs.Process.{Run, Store, Entry, Core, Proc}
-use Rattle.flow_meaning.specs.Occ.{Scan, refs_in}
+use Rattle.flow_meaning.specs.References.{Scan, refs_in}
 use Rattle.flow_meaning.specs.Orderly.{Rising}
 use Rattle.flow_meaning.specs.Work as work
 use Rattle.flow_meaning.specs.Work.{pushed, new_cell}
@@ -35,19 +35,19 @@ use Rattle.flow_meaning.proofs.Posture.{each_number, thing_put, thing_added}
 use Rattle.flow_picture.specs.Counted.{branches_of, waiters_at}
 use Rattle.flow_picture.proofs.Finds.{none_above, thing_new}
 use Rattle.flow_picture.specs.Acting.{Free, put_frame}
-use Rattle.flow_picture.specs.Standing.{HasPlace, number_in}
+use Rattle.flow_picture.specs.FrameChanges.{HasPlace, number_in}
 use Rattle.flow_picture.specs.Holding.{held}
 use Rattle.flow_picture.specs.Holds.{with_refs, There, AllThere, hold, hold_all}
-use Rattle.flow_steps.specs.declared.frames.Stand.{Stand}
+use Rattle.flow_steps.specs.declared.frames.ControlPoint.{ControlPoint}
 use Rattle.flow_steps.specs.declared.next.Pace.{Pace}
 use Rattle.flow_steps.specs.declared.process.Process.{Process}
 use Rattle.flow_steps.specs.Holding.{on_heap, value_refs}
-use Rattle.flow_steps.specs.Bringing.{made}
-use Rattle.flow_steps.specs.Standing.{place_held, place_put, referring, next_stand, Assigns}
-use Rattle.flow_steps.specs.Sights.{with_left}
+use Rattle.flow_steps.specs.Delivering.{made}
+use Rattle.flow_steps.specs.Points.{place_held, place_put, referring, next_stand, Assigns}
+use Rattle.flow_steps.specs.Evaluating.{with_left}
 use Rattle.flow_steps.specs.Stepping.{OnAfter, IsSet}
-use Rattle.flow_follows.specs.Placing.{Stood, with_memory}
-use Rattle.flow_follows.specs.Going.{stale, MayBeStale}
+use Rattle.flow_follows.specs.Placing.{RepresentsActor, with_memory}
+use Rattle.flow_follows.specs.Continuing.{stale, MayBeStale}
 use Rattle.flow_follows.specs.Carried.{Carries, StepsAs}
 use Rattle.flow_follows.specs.Evaluated.{GivesValue}
 use Rattle.flow_follows.proofs.Brought.{all_there_by}
@@ -58,7 +58,7 @@ use Rattle.flow_follows.proofs.Emptied.{referring_refs}
 use Rattle.flow_follows.proofs.Parting.{acts_by}
 use Rattle.flow_follows.proofs.Carrying.{old, asked}
 use Rattle.flow_follows.proofs.Evaluations.{evaluation_follows}
-use Rattle.flow_executes.specs.Going.{Silent, no_more, then_on}
+use Rattle.flow_executes.specs.Continuing.{Silent, no_more, then_on}
 use Rattle.flow_executes.specs.Assigning as law
 use Rattle.flow_executes.specs.Assigning.{AimsAt, CanAssign}
 use Rattle.flow_executes.proofs.Onward.{carried, later_after, carries_over, stale_left, stale_held, with_held}
@@ -73,7 +73,7 @@ made_frames kind.FutureStream h = (refl, refl)
 
 module _ (r : RawTree) (ls : List Line) (m : Process) (p : Proc Frame) (i : ℕ) (e : Entry) (f : Frame) where
   -- an assignment with its value known
-  sets : (x : Scan) (s : Stand) (w : Supply) (code : Code) (path : List Ident) (aim : Aim) (v : Value) (left : ℕ) (pace : Pace) (n : Process)
+  sets : (x : Scan) (s : ControlPoint) (w : Supply) (code : Code) (path : List Ident) (aim : Aim) (v : Value) (left : ℕ) (pace : Pace) (n : Process)
       → MayBeStale r ls x s m p i e f
       → next_step (class_names r) (view w i p.core) f ≡ given f (assign r.records f.mem path (value_of v)) (placed (class_names r) (view w i p.core) f left)
       → AllThere p (value_refs v) → AimsAt r.records code f path aim → CanAssign r.records f path (value_of v)
@@ -141,7 +141,7 @@ free_new i kd c rising free = record {
 }
 
 -- a new cell is made
-module _ (r : RawTree) (ls : List Line) (m : Process) (p : Proc Frame) (i : ℕ) (e : Entry) (f : Frame) (x : Scan) (s : Stand) (kd : Kind) where
+module _ (r : RawTree) (ls : List Line) (m : Process) (p : Proc Frame) (i : ℕ) (e : Entry) (f : Frame) (x : Scan) (s : ControlPoint) (kd : Kind) where
   abbrev with_new : Proc Frame
   with_new = on_core (new_cell (empty_cell kd)) p
 
@@ -205,7 +205,7 @@ module _ (r : RawTree) (ls : List Line) (m : Process) (p : Proc Frame) (i : ℕ)
       then_on (on_core (pushed (Run i)) p) making storing (first_step goes acting there kind)
       (then_on making storing storing (second_step goes acting there) (no_more storing))
 
-module _ (r : RawTree) (ls : List Line) (m : Process) (p : Proc Frame) (i : ℕ) (e : Entry) (f : Frame) (x : Scan) (s : Stand) (q : Slotted) (kd : Kind)
+module _ (r : RawTree) (ls : List Line) (m : Process) (p : Proc Frame) (i : ℕ) (e : Entry) (f : Frame) (x : Scan) (s : ControlPoint) (q : Slotted) (kd : Kind)
     (st : MayBeStale r ls x s m p i e f) (rising : Rising 0 p.core.made p.core.cells) (cell : CellId) (is_next : cell.0 ≡ next_cell m.heap) where
   abbrev made_proc : Proc Frame
   made_proc = on_core (new_cell (empty_cell kd)) p
@@ -241,13 +241,13 @@ module _ (r : RawTree) (ls : List Line) (m : Process) (p : Proc Frame) (i : ℕ)
   written_is = ap (λ v. write f.mem q (Some v)) (ref_seen kd cell ∙ ap (RefValue kd) number_is)
 
   -- the reference in hand
-  in_hand : Stood r ls hand held_heap seen_made i e frame_before
+  in_hand : RepresentsActor r ls hand held_heap seen_made i e frame_before
   in_hand =
       with_held r ls made_heap seen_made i e frame_before x ((kd, cell.0) ∷ []) (stale_made r ls m p i e f x s kd st rising).stood
       (subst (λ c. There seen_made (kd, c)) (sym number_is) (new_there r ls x m (put_frame i frame_before p) kd rising), tt)
 
   -- and in its place
-  in_place : HasPlace f q → Stood r ls (with_refs (refs_in over) x) (on_heap (place_put i number (Some (Ref kd cell))) held_heap) (put_frame i (with_memory written frame_before) seen_made) i e (with_memory written frame_before)
+  in_place : HasPlace f q → RepresentsActor r ls (with_refs (refs_in over) x) (on_heap (place_put i number (Some (Ref kd cell))) held_heap) (put_frame i (with_memory written frame_before) seen_made) i e (with_memory written frame_before)
   in_place has =
       place_changed r ls held_heap seen_made i e frame_before hand (with_refs (refs_in over) x) q (Some (Ref kd cell)) in_hand has
       (λ z j. let a = ap (λ v. held z j (Some v)) (ref_seen kd cell) in omega (arith, a))

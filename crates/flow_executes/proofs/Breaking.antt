@@ -9,36 +9,36 @@ use Rattle.flow_trace.specs.declared.line.Line.{Line}
 use Rattle.flow_cancel.specs.declared.task.Task.TheVariants as task
 use Rattle.flow_cancel.specs.Heap.{actor_id}
 use Rattle.flow_numbered.specs.Numbered.{put}
-use Rattle.flow_meaning.specs.Asks.{Throws, RunsOut, Supply}
+use Rattle.flow_meaning.specs.Requests.{Throws, RunsOut, Supply}
 use Rattle.flow_meaning.specs.Evaluating.{StepOf, evaluated, asks}
 use Rattle.flow_meaning.specs.Process.{Run, Throw, Spent, Entry, Proc}
-use Rattle.flow_meaning.specs.Occ.{Scan}
+use Rattle.flow_meaning.specs.References.{Scan}
 use Rattle.flow_meaning.specs.Work.{halt, pushed}
 use Rattle.flow_meaning.specs.Step.{view, proc, on_core}
 use Rattle.flow_meaning.specs.Class.{next_step, class_names}
 use Rattle.flow_meaning.specs.Frame.{Frame}
 use Rattle.flow_picture.proofs.Acted.{same_put}
-use Rattle.flow_steps.specs.declared.frames.Stand.{Stand}
+use Rattle.flow_steps.specs.declared.frames.ControlPoint.{ControlPoint}
 use Rattle.flow_steps.specs.declared.next.Pace.{Pace}
 use Rattle.flow_steps.specs.declared.next.Pace.TheVariants.{Off}
 use Rattle.flow_steps.specs.declared.process.Process.{Process}
 use Rattle.flow_steps.specs.Doing.{doing}
 use Rattle.flow_steps.specs.Holding.{on_heap}
-use Rattle.flow_steps.specs.Sights.{with_left, Halted, Evaluates, gives, throws, runs_out}
-use Rattle.flow_steps.specs.Standing.{noting, noted}
-use Rattle.flow_follows.specs.Shown.{Shown, AreSpent, shows, ends, with_task}
-use Rattle.flow_follows.specs.Placing.{Stood}
+use Rattle.flow_steps.specs.Evaluating.{with_left, Halted, Evaluates, gives, throws, runs_out}
+use Rattle.flow_steps.specs.Points.{noting, noted}
+use Rattle.flow_follows.specs.Matching.{ProcessRepresents, AreSpent, shows, ends, with_task}
+use Rattle.flow_follows.specs.Placing.{RepresentsActor}
 use Rattle.flow_follows.specs.Evaluated.{GivesValue}
 use Rattle.flow_follows.proofs.Working.{as_many_shown, task_done}
 use Rattle.flow_follows.proofs.Carrying.{with_turns, asked}
-use Rattle.flow_executes.specs.Going.{no_more, then_on, GoesBy}
+use Rattle.flow_executes.specs.Continuing.{no_more, then_on, GoesBy}
 
 -- a frame that says where it stands isn't told
-pub noted_same : (s : Stand) (m : Process) → s.noted ≡ true → noted s m ≡ m
+pub noted_same : (s : ControlPoint) (m : Process) → s.noted ≡ true → noted s m ≡ m
 noted_same s m h = ap (λ b. on_heap (noting b s.actor.0 s.place s.instruction) m) h
 
-module _ (r : RawTree) (ls : List Line) (m : Process) (p : Proc Frame) (i : ℕ) (e : Entry) (f : Frame) (x : Scan) (s : Stand) (w : Supply)
-    (actor : s.actor ≡ actor_id i) (noted_there : s.noted ≡ true) (st : Stood r ls x m p i e f) where
+module _ (r : RawTree) (ls : List Line) (m : Process) (p : Proc Frame) (i : ℕ) (e : Entry) (f : Frame) (x : Scan) (s : ControlPoint) (w : Supply)
+    (actor : s.actor ≡ actor_id i) (noted_there : s.noted ≡ true) (st : RepresentsActor r ls x m p i e f) where
   pub error_off : (err : ErrorCode) (left : ℕ) (n : Process) → Halted s (halt.Thrown err) (with_left left m) n
       → next_step (class_names r) (view w i p.core) f ≡ asks left (Throws err.0) f → GoesBy r ls x w i e.class (on_core (pushed (Run i)) p) Off n
   error_off err left n halted next =
@@ -52,9 +52,9 @@ module _ (r : RawTree) (ls : List Line) (m : Process) (p : Proc Frame) (i : ℕ)
         after = after;
         steps = then_on (on_core (pushed (Run i)) p) after after (asked r ls m p i e f w (asks left (Throws err.0) f) st.shown.goes st.acts.acting next) (no_more after);
         onward = shows
-            (subst (λ z. Shown r ls x z after) (sym (halted ∙ ap (doing (task.Throw s.actor err)) (noted_same s (with_left left m) noted_there)))
-            (subst (λ (a : ActorId). Shown r ls x (doing (task.Throw a err) (with_left left m)) after) (sym actor)
-            (subst (λ xs. Shown r ls x (doing (task.Throw (actor_id i) err) (with_left left m)) (proc (pushed u q.core) xs)) (sym (same_put p.actors i f st.acts.acting)) thrown)));
+            (subst (λ z. ProcessRepresents r ls x z after) (sym (halted ∙ ap (doing (task.Throw s.actor err)) (noted_same s (with_left left m) noted_there)))
+            (subst (λ (a : ActorId). ProcessRepresents r ls x (doing (task.Throw a err) (with_left left m)) after) (sym actor)
+            (subst (λ xs. ProcessRepresents r ls x (doing (task.Throw (actor_id i) err) (with_left left m)) (proc (pushed u q.core) xs)) (sym (same_put p.actors i f st.acts.acting)) thrown)));
       }
 
   pub ran_off : (n : Process) → Halted s halt.Spent (with_left 0 m) n → next_step (class_names r) (view w i p.core) f ≡ asks 0 RunsOut f

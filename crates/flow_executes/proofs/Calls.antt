@@ -16,25 +16,25 @@ use Rattle.flow_code.specs.declared.class.Act.TheVariants as act
 use Rattle.flow_code.specs.declared.program.Code.{Code}
 use Rattle.flow_trace.specs.declared.line.Line.{Line}
 use Rattle.flow_numbered.specs.Numbered.{put}
-use Rattle.flow_meaning.specs.Asks.{Act, Goes, Supply}
+use Rattle.flow_meaning.specs.Requests.{Act, Goes, Supply}
 use Rattle.flow_meaning.specs.Evaluating.{StepOf, evaluated, asks, setting, function_act, plain_act}
 use Rattle.flow_meaning.specs.Process.{Run, Entry, Proc}
-use Rattle.flow_meaning.specs.Occ.{Scan}
+use Rattle.flow_meaning.specs.References.{Scan}
 use Rattle.flow_meaning.specs.Work.{pushed}
 use Rattle.flow_meaning.specs.Step.{view, proc, on_core}
 use Rattle.flow_meaning.specs.Class.{fetched, next_step, class_names}
 use Rattle.flow_meaning.specs.Frame.{Frame, look, next_instr}
 use Rattle.flow_picture.specs.Acting.{put_frame}
 use Rattle.flow_picture.specs.Holds.{with_refs}
-use Rattle.flow_steps.specs.declared.frames.Stand.{Stand}
+use Rattle.flow_steps.specs.declared.frames.ControlPoint.{ControlPoint}
 use Rattle.flow_steps.specs.declared.next.Pace.{Pace}
 use Rattle.flow_steps.specs.declared.next.Pace.TheVariants.{On}
-use Rattle.flow_steps.specs.Standing.{next_stand}
+use Rattle.flow_steps.specs.Points.{next_stand}
 use Rattle.flow_steps.specs.declared.process.Process.{Process}
 use Rattle.flow_steps.specs.Acting.{Values, args_of}
-use Rattle.flow_steps.specs.Sights.{with_left, Evaluates, gives, throws, runs_out, setting_in}
+use Rattle.flow_steps.specs.Evaluating.{with_left, Evaluates, gives, throws, runs_out, setting_in}
 use Rattle.flow_steps.specs.Stepping.{GoesNext, function_result, FunctionCalled, IsAct}
-use Rattle.flow_follows.specs.Going.{stale, MayBeStale}
+use Rattle.flow_follows.specs.Continuing.{stale, MayBeStale}
 use Rattle.flow_follows.specs.Carried.{StepsAs}
 use Rattle.flow_follows.specs.Evaluated.{GivesValue}
 use Rattle.flow_follows.proofs.Places.{as_many_stood}
@@ -46,14 +46,14 @@ use Rattle.flow_executes.specs.Calling.{CallsFunction}
 use Rattle.flow_executes.proofs.Onward.{carries_over, stale_left}
 
 -- evaluation with turns that an evaluation left
-later : {A B : Type 0} (s : Stand) (seen : B → A) (c : Res A) (m : Process) (left : ℕ) (goal : B → Process → Pace → Process → Type 0) (pace : Pace) (n : Process)
+later : {A B : Type 0} (s : ControlPoint) (seen : B → A) (c : Res A) (m : Process) (left : ℕ) (goal : B → Process → Pace → Process → Type 0) (pace : Pace) (n : Process)
     → Evaluates s seen c (with_left left m) goal pace n → Evaluates s seen c m goal pace n
 later s seen c m left goal pace n (gives b l a q done goes) = gives b l a q done goes
 later s seen c m left goal pace n (throws err l q fails halted) = throws err l q fails halted
 later s seen c m left goal pace n (runs_out q spent halted) = runs_out q spent halted
 
 -- what has no meaning comes to nothing
-no_meaning : {A B : Type 0} (s : Stand) (seen : B → A) (c : Res A) (p : Process) (goal : B → Process → Pace → Process → Type 0) (pace : Pace) (n : Process)
+no_meaning : {A B : Type 0} (s : ControlPoint) (seen : B → A) (c : Res A) (p : Process) (goal : B → Process → Pace → Process → Type 0) (pace : Pace) (n : Process)
     → c ≡ Meaningless → Evaluates s seen c p goal pace n → ⊥
 no_meaning s seen c p goal pace n h (gives b l a q done goes) = cc (h, done)
 no_meaning s seen c p goal pace n h (throws err l q fails halted) = cc (h, fails)
@@ -73,7 +73,7 @@ module _ (r : RawTree) (ls : List Line) (m : Process) (p : Proc Frame) (i : ℕ)
       evaluated f (plain_act (class_names r) (view w i p.core) (look f.mem) (named call_names name.name) name.name vs left) (λ a l. asks l a (next_instr f.mem f))
 
   -- the actor goes on at the next instruction with these turns
-  goes_next : (x : Scan) (s : Stand) (w : Supply) (left : ℕ) (pace : Pace) (n : Process) → MayBeStale r ls x s m p i e f
+  goes_next : (x : Scan) (s : ControlPoint) (w : Supply) (left : ℕ) (pace : Pace) (n : Process) → MayBeStale r ls x s m p i e f
       → next_step (class_names r) (view w i p.core) f ≡ asks left Goes (next_instr f.mem f) → (pace ≡ On (next_stand s)) × (n ≡ with_left left m)
       → StepsAs r ls x w p i e pace n
   goes_next x s w left pace n st next goes =
@@ -88,7 +88,7 @@ module _ (r : RawTree) (ls : List Line) (m : Process) (p : Proc Frame) (i : ℕ)
         carries = carries_over r ls m1 q i e f x s st1 f.mem [] [] m1 pace n held refl goes;
       }
 
-  module _ (x : Scan) (s : Stand) (w : Supply) (code : Code) (name : Ident) (k : ℕ) (function : RoutineTree) (is : slice_get r.functions k ≡ Some function) (calls : CallsFunction r name k)
+  module _ (x : Scan) (s : ControlPoint) (w : Supply) (code : Code) (name : Ident) (k : ℕ) (function : RoutineTree) (is : slice_get r.functions k ≡ Some function) (calls : CallsFunction r name k)
       (same_setting : setting_in code m ≡ setting (class_names r) (view w i p.core)) where
     abbrev set : Setting
     set = setting (class_names r) (view w i p.core)

@@ -16,43 +16,43 @@ use Rattle.flow_frame.specs.Frames.{FrameTree}
 use Rattle.flow_cancel.specs.Heap.{cell_id}
 use Rattle.flow_cancel.specs.Leaving.{waits}
 use Rattle.flow_numbered.specs.Numbered.{thing, put}
-use Rattle.flow_meaning.specs.Asks.{Operand, Waits, Supply}
+use Rattle.flow_meaning.specs.Requests.{Operand, Waits, Supply}
 use Rattle.flow_meaning.specs.Cells.{Ref}
 use Rattle.flow_meaning.specs.Evaluating.{StepOf, evaluated, asks, value}
 use Rattle.flow_meaning.specs.Process.{Run, Keep, Entry, Proc}
-use Rattle.flow_meaning.specs.Occ.{Scan, refs_in, value_in}
+use Rattle.flow_meaning.specs.References.{Scan, refs_in, value_in}
 use Rattle.flow_meaning.specs.React.{wait}
 use Rattle.flow_meaning.specs.Work.{pushed}
 use Rattle.flow_meaning.specs.Step.{kept_by, view, OperandFate, GoesOn, Cancelled, Ready, keep_by, keep, silent, step_if, step, proc, on_core}
 use Rattle.flow_meaning.specs.Class.{operand_ref, operand_by, choose, fetched, next_step, class_names, classes}
 use Rattle.flow_meaning.specs.Frame.{Frame, look, spot_of, lose}
-use Rattle.flow_picture.specs.Shows.{Stands, spot_by, wait_spot, held_from}
+use Rattle.flow_picture.specs.Representing.{LiveFrameRepresents, spot_by, wait_spot, held_from}
 use Rattle.flow_picture.specs.Leaving.{wait_kind}
-use Rattle.flow_picture.specs.Standing.{next_callback}
+use Rattle.flow_picture.specs.FrameChanges.{next_callback}
 use Rattle.flow_picture.specs.Holds.{hold}
 use Rattle.flow_picture.proofs.Acted.{same_put}
 use Rattle.flow_picture.proofs.Finds.{stored_put}
-use Rattle.flow_steps.specs.declared.frames.Stand.{Stand}
+use Rattle.flow_steps.specs.declared.frames.ControlPoint.{ControlPoint}
 use Rattle.flow_steps.specs.declared.next.Pace.{Pace}
 use Rattle.flow_steps.specs.declared.next.Pace.TheVariants.{On, Off}
 use Rattle.flow_steps.specs.declared.process.Process.{Process}
 use Rattle.flow_steps.specs.Holding.{on_heap}
-use Rattle.flow_steps.specs.Sights.{with_left}
-use Rattle.flow_steps.specs.Bringing.{gone_to}
-use Rattle.flow_steps.specs.Standing.{reframed, gone, noting, noted}
+use Rattle.flow_steps.specs.Evaluating.{with_left}
+use Rattle.flow_steps.specs.Delivering.{gone_to}
+use Rattle.flow_steps.specs.Points.{reframed, gone, noting, noted}
 use Rattle.flow_steps.specs.Stepping.{ReferenceKept, OperandKept}
-use Rattle.flow_steps.specs.Waiting.{Keeps}
-use Rattle.flow_follows.specs.Placing.{Acts, Stood}
-use Rattle.flow_follows.specs.Going.{MayBeStale}
-use Rattle.flow_follows.specs.Keeping.{MayKeep, with_one}
-use Rattle.flow_follows.specs.Keeping as keeping
+use Rattle.flow_steps.specs.Waiting.{KeepsOperand}
+use Rattle.flow_follows.specs.Placing.{Acts, RepresentsActor}
+use Rattle.flow_follows.specs.Continuing.{MayBeStale}
+use Rattle.flow_follows.specs.Operands.{MayKeep, with_one}
+use Rattle.flow_follows.specs.Operands as keeping
 use Rattle.flow_follows.specs.Evaluated.{GivesValue}
 use Rattle.flow_follows.proofs.Brought.{there_by, all_there_by}
 use Rattle.flow_follows.proofs.Takings.{all_frames}
 use Rattle.flow_follows.proofs.Kept.{go_with_one, operand_follows}
 use Rattle.flow_follows.proofs.Waited.{wait_done}
 use Rattle.flow_follows.proofs.Carrying.{noted_follows, with_turns, asked}
-use Rattle.flow_executes.specs.Going.{Silent, no_more, then_on, AtOperands, chooses, GoesBy}
+use Rattle.flow_executes.specs.Continuing.{Silent, no_more, then_on, AtOperands, chooses, GoesBy}
 use Rattle.flow_executes.specs.Choosing as law
 use Rattle.flow_executes.specs.Choosing.{CanWaitAt}
 use Rattle.flow_executes.proofs.Onward.{same_memory, with_held, awake_without}
@@ -64,7 +64,7 @@ in_no_state zero xs y ys e h = refl
 in_no_state (suc n) [] y ys e h = absurd (cc (e))
 in_no_state (suc n) (x ∷ xs) y ys e h = absurd (cc (h))
 
-runs_with : (r : RawTree) (m : FrameTree Value) (e : Entry) (f : Frame) (q : Ref) (qs : List Ref) → Stands r m e f → e.operands ≡ q ∷ qs → e.suspended ≡ false → m.state ≡ 0
+runs_with : (r : RawTree) (m : FrameTree Value) (e : Entry) (f : Frame) (q : Ref) (qs : List Ref) → LiveFrameRepresents r m e f → e.operands ≡ q ∷ qs → e.suspended ≡ false → m.state ≡ 0
 runs_with r m e f q qs s many awake =
     in_no_state m.state m.callbacks (record { callback = (wait_spot f).first; cell = cell_id q.1 }) (held_from (suc (wait_spot f).first) qs)
     (s.callbacks ∙ ap (held_from (wait_spot f).first) many) (s.suspended ∙ awake)
@@ -81,8 +81,8 @@ kept_silently r i b Cancelled q en f p = refl
 kept_silently r i b Ready q en f p = refl
 
 -- where its frame is told, it is in no state of a wait
-module _ (r : RawTree) (ls : List Line) (m : Process) (p : Proc Frame) (i : ℕ) (e : Entry) (f : Frame) (x : Scan) (s : Stand) (st : MayBeStale r ls x s m p i e f) where
-  runs_noted : (s.noted ≡ true → st.stood.acts.memory.state ≡ 0) → (there : Stood r ls x (noted s m) p i e f) → there.acts.memory.state ≡ 0
+module _ (r : RawTree) (ls : List Line) (m : Process) (p : Proc Frame) (i : ℕ) (e : Entry) (f : Frame) (x : Scan) (s : ControlPoint) (st : MayBeStale r ls x s m p i e f) where
+  runs_noted : (s.noted ≡ true → st.stood.acts.memory.state ≡ 0) → (there : RepresentsActor r ls x (noted s m) p i e f) → there.acts.memory.state ≡ 0
   runs_noted zero_state there = by_flag s.noted refl
     where
       state_in : Option (FrameTree Value) → ℕ
@@ -107,7 +107,7 @@ pub with_last : (r : RawTree) (w : Supply) (start p q : Proc Frame) → Silent r
 with_last r w start p q (no_more a) last = then_on a q q last (no_more q)
 with_last r w start p q (then_on a b c one rest) last = then_on a b q one (with_last r w b c q rest last)
 
-module _ (r : RawTree) (ls : List Line) (m : Process) (p : Proc Frame) (i : ℕ) (e : Entry) (f : Frame) (x : Scan) (s : Stand) (w : Supply) (q : Ref) where
+module _ (r : RawTree) (ls : List Line) (m : Process) (p : Proc Frame) (i : ℕ) (e : Entry) (f : Frame) (x : Scan) (s : ControlPoint) (w : Supply) (q : Ref) where
   abbrev running_then : Proc Frame
   running_then = on_core (pushed (Run i)) p
 
@@ -138,7 +138,7 @@ module _ (r : RawTree) (ls : List Line) (m : Process) (p : Proc Frame) (i : ℕ)
       frame = f;
       runs = refl;
       same = refl;
-      next = chooses (subst (λ (y : Stand). AtOperands r ls x y n (keeping.kept_in r ls m p i e f q) i (with_one e f q) f) (sym after.0) (record {
+      next = chooses (subst (λ (y : ControlPoint). AtOperands r ls x y n (keeping.kept_in r ls m p i e f q) i (with_one e f q) f) (sym after.0) (record {
         group = group;
         stood = after.2;
         runs = let a = appended_first e.operands q in runs_with r after.2.acts.memory (with_one e f q) f a.0 a.1.0 after.2.acts.stands a.1.1 may.awake;
@@ -173,9 +173,9 @@ module _ (r : RawTree) (ls : List Line) (m : Process) (p : Proc Frame) (i : ℕ)
       }
 
   -- the next operand, with its value known
-  operand_given : (x : Scan) (s : Stand) (w : Supply) (at : AtOperands r ls x s m p i e f) → m.asked ≡ None → (q : Ref) → CanWaitAt p q → (left : ℕ)
+  operand_given : (x : Scan) (s : ControlPoint) (w : Supply) (at : AtOperands r ls x s m p i e f) → m.asked ≡ None → (q : Ref) → CanWaitAt p q → (left : ℕ)
       → next_step (class_names r) (view w i p.core) f ≡ asks left (Operand (wait_spot f) q) f → (pace : Pace) (n : Process)
-      → Keeps s (record { callback = next_callback e f; cell = cell_id q.1 }) (on_heap (hold q.0 q.1) (with_left left m)) pace n
+      → KeepsOperand s (record { callback = next_callback e f; cell = cell_id q.1 }) (on_heap (hold q.0 q.1) (with_left left m)) pace n
       → GoesBy r ls x w i e.class (on_core (pushed (Run i)) p) pace n
   operand_given x s w at none q can left next pace n keeps =
       let p1 : Proc Frame = on_core (λ c. record c { left = left }) p in

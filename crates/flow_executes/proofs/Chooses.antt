@@ -25,31 +25,31 @@ use Rattle.flow_code.specs.View.{operand_of, branch_of, group_numbered}
 use Rattle.flow_code.specs.Coding.{Coding, operand_code, effect_in, coded_branch}
 use Rattle.flow_code.specs.Coded.{coding}
 use Rattle.flow_trace.specs.declared.line.Line.{Line}
-use Rattle.flow_meaning.specs.Asks.{Supply}
+use Rattle.flow_meaning.specs.Requests.{Supply}
 use Rattle.flow_meaning.specs.Cells.{Ref}
 use Rattle.flow_meaning.specs.Evaluating as effects
 use Rattle.flow_meaning.specs.Evaluating.{value}
 use Rattle.flow_meaning.specs.Process.{Run, Entry, Proc}
-use Rattle.flow_meaning.specs.Occ.{Scan}
+use Rattle.flow_meaning.specs.References.{Scan}
 use Rattle.flow_meaning.specs.Work.{pushed}
 use Rattle.flow_meaning.specs.Step.{view, on_core}
 use Rattle.flow_meaning.specs.Class.{class_names}
 use Rattle.flow_meaning.specs.Frame.{Frame, look}
-use Rattle.flow_picture.specs.Shows.{wait_spot, held_from}
-use Rattle.flow_picture.specs.Standing.{next_callback}
-use Rattle.flow_steps.specs.declared.frames.Stand.{Stand}
+use Rattle.flow_picture.specs.Representing.{wait_spot, held_from}
+use Rattle.flow_picture.specs.FrameChanges.{next_callback}
+use Rattle.flow_steps.specs.declared.frames.ControlPoint.{ControlPoint}
 use Rattle.flow_steps.specs.declared.next.Pace.{Pace}
 use Rattle.flow_steps.specs.declared.next.Pace.TheVariants.{Off}
 use Rattle.flow_steps.specs.declared.process.Process.{Process}
-use Rattle.flow_steps.specs.Sights.{sight_in, program_time, Evaluates}
-use Rattle.flow_steps.specs.Standing.{noted, noted_stand}
+use Rattle.flow_steps.specs.Evaluating.{sight_in, program_time, Evaluates}
+use Rattle.flow_steps.specs.Points.{noted, noted_stand}
 use Rattle.flow_steps.specs.Stepping.{value_for, OperandKept, OperandStep, kept_by, Chooses, asks_operand, all_kept, IsChoose}
 use Rattle.flow_steps.specs.Waiting.{Waits, callbacks_in, callbacks_of}
 use Rattle.flow_follows.specs.Taking.{AtWait}
 use Rattle.flow_follows.specs.Coded.{CodedBy}
 use Rattle.flow_follows.proofs.Seen.{expr_follows}
 use Rattle.flow_follows.proofs.Stands.{both_mapped}
-use Rattle.flow_executes.specs.Going.{AtOperands, GoesBy}
+use Rattle.flow_executes.specs.Continuing.{AtOperands, GoesBy}
 use Rattle.flow_executes.specs.Decoding.{IsGroup, effect_of_name}
 use Rattle.flow_executes.specs.Executing.{MayChoose, coded_by, InProgram, Asks, by_operand}
 use Rattle.flow_executes.proofs.Decodes.{both_there, group_there}
@@ -64,7 +64,7 @@ pub nothing_mapped : {A B : Type 0} (g : A → B) (o : Option A) → None ≡ op
 nothing_mapped g None e = refl
 nothing_mapped g (Some a) e = absurd (cc (e))
 
-module _ (r : RawTree) (ls : List Line) (m : Process) (p : Proc Frame) (i : ℕ) (e : Entry) (f : Frame) (x : Scan) (s : Stand) (w : Supply) (code : Code)
+module _ (r : RawTree) (ls : List Line) (m : Process) (p : Proc Frame) (i : ℕ) (e : Entry) (f : Frame) (x : Scan) (s : ControlPoint) (w : Supply) (code : Code)
     (inp : InProgram r code s f) (time : program_time m.time ≡ pos w.now) (none : m.asked ≡ None)
     (at : AtOperands r ls x (noted_stand s) (noted s m) p i e f) (g : ℕ) (fetched : fetch f.code f.block f.instr ≡ Last (ChooseLast g)) (last_is : s.block.now.last ≡ last.Choose g)
     (may : MayChoose r w p i e f g) (pace : Pace) (n : Process) where

@@ -13,10 +13,10 @@ use Rattle.flow_class.specs.Classes.{RawTree}
 use Rattle.flow_trace.specs.declared.line.Line.{Line}
 use Rattle.flow_cancel.specs.Heap.{pushed}
 use Rattle.flow_numbered.specs.Numbered.{put}
-use Rattle.flow_meaning.specs.Asks.{Returns, Supply}
+use Rattle.flow_meaning.specs.Requests.{Returns, Supply}
 use Rattle.flow_meaning.specs.Evaluating.{StepOf, evaluated, asks}
 use Rattle.flow_meaning.specs.Process.{Close, Entry, Core, Proc}
-use Rattle.flow_meaning.specs.Occ.{Scan, refs_in}
+use Rattle.flow_meaning.specs.References.{Scan, refs_in}
 use Rattle.flow_meaning.specs.Work as work
 use Rattle.flow_meaning.specs.Step.{view, proc, on_core}
 use Rattle.flow_meaning.specs.Class.{test, fetched, next_step, class_names}
@@ -24,16 +24,16 @@ use Rattle.flow_meaning.specs.Frame.{Frame, everything, over}
 use Rattle.flow_picture.specs.Changes.{SameTask}
 use Rattle.flow_picture.specs.Acting.{Free}
 use Rattle.flow_picture.specs.Holds.{with_refs, AllThere, hold_all}
-use Rattle.flow_steps.specs.declared.frames.Stand.{Stand}
+use Rattle.flow_steps.specs.declared.frames.ControlPoint.{ControlPoint}
 use Rattle.flow_steps.specs.declared.next.Pace.{Pace}
 use Rattle.flow_steps.specs.declared.process.Process.{Process}
 use Rattle.flow_steps.specs.Holding.{on_heap, value_refs}
-use Rattle.flow_steps.specs.Standing.{noted, lost_from}
-use Rattle.flow_steps.specs.Sights.{with_left}
+use Rattle.flow_steps.specs.Points.{noted, lost_from}
+use Rattle.flow_steps.specs.Evaluating.{with_left}
 use Rattle.flow_steps.specs.Stepping.{truth_value, IsTest, IsReturn}
-use Rattle.flow_follows.specs.Shown.{Shown, shows, with_task}
-use Rattle.flow_follows.specs.Placing.{Stood, with_memory, nothing_in}
-use Rattle.flow_follows.specs.Going.{MayBeStale}
+use Rattle.flow_follows.specs.Matching.{ProcessRepresents, shows, with_task}
+use Rattle.flow_follows.specs.Placing.{RepresentsActor, with_memory, nothing_in}
+use Rattle.flow_follows.specs.Continuing.{MayBeStale}
 use Rattle.flow_follows.specs.Carried.{StepsAs}
 use Rattle.flow_follows.specs.Evaluated.{GivesValue}
 use Rattle.flow_follows.proofs.Working.{as_many_shown, task_done}
@@ -84,7 +84,7 @@ module _ (r : RawTree) (ls : List Line) (m : Process) (p : Proc Frame) (i : ℕ)
       by_case (inr a) = a
 
   -- everything leaves the variables of an actor and is dropped before it is closed with a value
-  closes : (x : Scan) (s : Stand) (w : Supply) (v : Value) (left : ℕ) (pace : Pace) (n : Process) → MayBeStale r ls x s m p i e f
+  closes : (x : Scan) (s : ControlPoint) (w : Supply) (v : Value) (left : ℕ) (pace : Pace) (n : Process) → MayBeStale r ls x s m p i e f
       → next_step (class_names r) (view w i p.core) f ≡ asks left (Returns (value_of v) (everything f.mem)) over → AllThere p (value_refs v)
       → IsReturn s v (with_left left m) pace n → StepsAs r ls x w p i e pace n
   closes x s w v left pace n st next there is =
@@ -101,7 +101,7 @@ module _ (r : RawTree) (ls : List Line) (m : Process) (p : Proc Frame) (i : ℕ)
       let same = subst (λ (a : ActorId). SameTask q is.task (Close a.0 (GoodOutcome (value_of v)))) actor (close_same q s.actor (outcome.Value v) is.task is.closes) in
       let q4 : Proc Frame = on_core (work.pushed u) q in
       let m4 : Process = on_heap (pushed is.task) m3 in
-      let st4 : Stood r ls x m4 q4 i e f = record {
+      let st4 : RepresentsActor r ls x m4 q4 i e f = record {
         shown = task_done r ls x m3 q is.task u (as_many_shown r ls (with_refs qs x) (with_task u x) m3 q (λ z j. let a = appended z j qs in omega (arith, a)) st3.shown) same;
         acts = acts_by r m3.heap m4.heap q q4 i e f refl refl refl refl st3.acts;
       } in
@@ -113,13 +113,13 @@ module _ (r : RawTree) (ls : List Line) (m : Process) (p : Proc Frame) (i : ℕ)
       let awake = awake_without r lost.acts.memory e none lost.acts.stands st.operands in
       let free : Free i c5 = record { waits = st.free.waits; keeps = no_keep_under i (refs_in (everything f.mem)) (u ∷ p.core.tasks) st.free.keeps } in
       let gone = is_over_shown r ls x m5 q5 i e f lost st.operands awake free in
-      let over_there = subst (λ xs. Shown r ls x m5 (proc c5 xs)) (put_over p.actors i none over) gone in
+      let over_there = subst (λ xs. ProcessRepresents r ls x m5 (proc c5 xs)) (put_over p.actors i none over) gone in
       subst (λ y. StepsAs r ls x w p i e y n) (sym is.off) (record {
         after = proc c5 (put p.actors i over);
         steps = asked r ls m p i e f w (asks left (Returns (value_of v) (everything f.mem)) over) st.stood.shown.goes st.acting next;
         carries = shows
-            (subst (λ z. Shown r ls x z (proc c5 (put p.actors i over))) (sym is.ends)
-            (subst (λ (a : ActorId). Shown r ls x (on_heap (λ h. lost_from a.0 0 (pushed is.task h)) m3) (proc c5 (put p.actors i over))) (sym actor) over_there));
+            (subst (λ z. ProcessRepresents r ls x z (proc c5 (put p.actors i over))) (sym is.ends)
+            (subst (λ (a : ActorId). ProcessRepresents r ls x (on_heap (λ h. lost_from a.0 0 (pushed is.task h)) m3) (proc c5 (put p.actors i over))) (sym actor) over_there));
       })
 
   abbrev ends_with : ValueTree → ℕ → StepOf Frame

@@ -20,10 +20,10 @@ use Rattle.flow_code.specs.Coding.{Coding, homes_of, fields_of, aim_at, coded_in
 use Rattle.flow_code.specs.Coded.{coding, coded}
 use Rattle.flow_frame.specs.Frames.{FrameTree}
 use Rattle.flow_meaning.specs.Frame.{Frame}
-use Rattle.flow_picture.specs.Shows.{spot_by, wait_spot}
-use Rattle.flow_picture.specs.Standing.{number_in}
-use Rattle.flow_steps.specs.declared.frames.Stand.{Stand}
-use Rattle.flow_follows.specs.Taking.{Standing, AtWait}
+use Rattle.flow_picture.specs.Representing.{spot_by, wait_spot}
+use Rattle.flow_picture.specs.FrameChanges.{number_in}
+use Rattle.flow_steps.specs.declared.frames.ControlPoint.{ControlPoint}
+use Rattle.flow_follows.specs.Taking.{PointMatches, AtWait}
 use Rattle.flow_follows.specs.Coded.{CodedBy}
 use Rattle.flow_follows.proofs.Stands.{get_mapped, as_many, both_mapped, at_end, group_coded, choose_is}
 use Rattle.flow_executes.specs.Decoding as law
@@ -64,7 +64,7 @@ end_in : (is : List InstrTree) (k : LastTree) → fetch_in is k (length is) ≡ 
 end_in [] k = refl
 end_in (i ∷ is) k = end_in is k
 
-module _ (r : RawTree) (classes : List Class) (s : Stand) (i : ℕ) (f : Frame) (c : CodedBy r classes) (at : InCode c s f) where
+module _ (r : RawTree) (classes : List Class) (s : ControlPoint) (i : ℕ) (f : Frame) (c : CodedBy r classes) (at : InCode c s f) where
   abbrev code : Coding
   code = coding c.names c.class (length f.code.slots)
 
@@ -73,7 +73,7 @@ module _ (r : RawTree) (classes : List Class) (s : Stand) (i : ℕ) (f : Frame) 
     there : slice_get f.code.blocks f.block ≡ Some block
     same : block_of s.block.now ≡ coded_block code f.code block
 
-  the_block : Standing s i f → TheBlock
+  the_block : PointMatches s i f → TheBlock
   the_block standing =
       let blocks = both_mapped block_of (coded_block code f.code) s.class.now.blocks.items f.code.blocks f.block (ap (λ (k : ClassCode). k.blocks) at.class) in
       let here : option_map block_of (slice_get s.class.now.blocks.items f.block) ≡ Some (block_of s.block.now) =
@@ -84,7 +84,7 @@ module _ (r : RawTree) (classes : List Class) (s : Stand) (i : ℕ) (f : Frame) 
   same_groups : map group_of s.class.now.groups.items ≡ coded_groups code 0 (homes_of f.code) f.code.groups
   same_groups = ap (λ (k : ClassCode). k.groups) at.class
 
-  pub the_instruction : (x : Instruction) → Standing s i f → s.instruction ≡ f.instr → slice_get s.block.now.body.items s.instruction ≡ Some x → AtInstruction code f x
+  pub the_instruction : (x : Instruction) → PointMatches s i f → s.instruction ≡ f.instr → slice_get s.block.now.body.items s.instruction ≡ Some x → AtInstruction code f x
   the_instruction x standing number there =
       let b = the_block standing in
       let body = both_mapped instruction_of (coded_instruction code f.code) s.block.now.body.items b.block.body s.instruction (ap (λ (k : BlockCode). k.body) b.same) in
@@ -95,7 +95,7 @@ module _ (r : RawTree) (classes : List Class) (s : Stand) (i : ℕ) (f : Frame) 
         coded = text.1.1;
       }
 
-  pub the_end : Standing s i f → s.instruction ≡ f.instr → s.instruction ≡ length s.block.now.body.items → AtEnd code f s.block.now.last
+  pub the_end : PointMatches s i f → s.instruction ≡ f.instr → s.instruction ≡ length s.block.now.body.items → AtEnd code f s.block.now.last
   the_end standing number ends =
       let b = the_block standing in
       let long : length s.block.now.body.items ≡ length b.block.body =
@@ -105,7 +105,7 @@ module _ (r : RawTree) (classes : List Class) (s : Stand) (i : ℕ) (f : Frame) 
         coded = ap (λ (k : BlockCode). k.last) b.same;
       }
 
-  pub the_wait : (number : ℕ) → Standing s i f → fetch f.code f.block f.instr ≡ Last (ChooseLast number) → AtWait s f number
+  pub the_wait : (number : ℕ) → PointMatches s i f → fetch f.code f.block f.instr ≡ Last (ChooseLast number) → AtWait s f number
   the_wait g standing fetched =
       let b = the_block standing in
       let ends = at_end f.code f.block f.instr (ChooseLast g) fetched in
@@ -137,7 +137,7 @@ branches_coded k first (h ∷ hs) (g ∷ gs) zero y e =
     (g, (refl, ap (λ (z : GroupCode). z.branches) (sym same)))
 branches_coded k first (h ∷ hs) (g ∷ gs) (suc n) y e = branches_coded k (first + length g) hs gs n y e
 
-pub group_there : (r : RawTree) (classes : List Class) (s : Stand) (i : ℕ) (f : Frame) → law.GroupAt r classes s i f
+pub group_there : (r : RawTree) (classes : List Class) (s : ControlPoint) (i : ℕ) (f : Frame) → law.GroupAt r classes s i f
 group_there r classes s i f zero g c at there = absurd (cc (there))
 group_there r classes s i f (suc n) g c at there =
     let code : Coding = coding c.names c.class (length f.code.slots) in
@@ -151,13 +151,13 @@ group_there r classes s i f (suc n) g c at there =
       coded = a.1.1;
     }
 
-pub instruction_there : (r : RawTree) (classes : List Class) (s : Stand) (i : ℕ) (f : Frame) → law.InstructionAt r classes s i f
+pub instruction_there : (r : RawTree) (classes : List Class) (s : ControlPoint) (i : ℕ) (f : Frame) → law.InstructionAt r classes s i f
 instruction_there r classes s i f x c at standing number there = the_instruction r classes s i f c at x standing number there
 
-pub end_there : (r : RawTree) (classes : List Class) (s : Stand) (i : ℕ) (f : Frame) → law.EndAt r classes s i f
+pub end_there : (r : RawTree) (classes : List Class) (s : ControlPoint) (i : ℕ) (f : Frame) → law.EndAt r classes s i f
 end_there r classes s i f c at standing number ends = the_end r classes s i f c at standing number ends
 
-pub wait_there : (r : RawTree) (classes : List Class) (s : Stand) (i : ℕ) (f : Frame) → law.WaitAt r classes s i f
+pub wait_there : (r : RawTree) (classes : List Class) (s : ControlPoint) (i : ℕ) (f : Frame) → law.WaitAt r classes s i f
 wait_there r classes s i f number c at standing fetched = the_wait r classes s i f c at number standing fetched
 
 -- a place by its name

@@ -12,27 +12,27 @@ use Rattle.flow_code.specs.declared.program.Code.{Code}
 use Rattle.flow_code.specs.View.{end_of}
 use Rattle.flow_code.specs.Coding.{ended}
 use Rattle.flow_trace.specs.declared.line.Line.{Line}
-use Rattle.flow_meaning.specs.Asks.{Supply}
+use Rattle.flow_meaning.specs.Requests.{Supply}
 use Rattle.flow_meaning.specs.Evaluating.{value}
 use Rattle.flow_meaning.specs.Process.{Run, Entry, Proc}
-use Rattle.flow_meaning.specs.Occ.{Scan}
+use Rattle.flow_meaning.specs.References.{Scan}
 use Rattle.flow_meaning.specs.Work.{pushed}
 use Rattle.flow_meaning.specs.Step.{view, on_core}
 use Rattle.flow_meaning.specs.Class.{class_names}
 use Rattle.flow_meaning.specs.Frame.{Frame, look}
-use Rattle.flow_steps.specs.declared.frames.Stand.{Stand}
+use Rattle.flow_steps.specs.declared.frames.ControlPoint.{ControlPoint}
 use Rattle.flow_steps.specs.declared.next.Pace.{Pace}
 use Rattle.flow_steps.specs.declared.next.Pace.TheVariants.{On}
 use Rattle.flow_steps.specs.declared.process.Process.{Process}
 use Rattle.flow_steps.specs.Holding.{on_heap}
-use Rattle.flow_steps.specs.Sights.{program_time}
-use Rattle.flow_steps.specs.Standing.{noting, noted, noted_stand}
+use Rattle.flow_steps.specs.Evaluating.{program_time}
+use Rattle.flow_steps.specs.Points.{noting, noted, noted_stand}
 use Rattle.flow_steps.specs.Stepping.{value_for, Ends, StepsOn, by_instruction, by_last}
-use Rattle.flow_follows.specs.Going.{MayBeStale}
+use Rattle.flow_follows.specs.Continuing.{MayBeStale}
 use Rattle.flow_follows.specs.Carried.{StepsAs}
 use Rattle.flow_follows.proofs.Carrying.{goto_step, pass_step}
 use Rattle.flow_follows.proofs.Evaluations.{throw_step}
-use Rattle.flow_executes.specs.Going.{AtOperands, moves, chooses, GoesBy}
+use Rattle.flow_executes.specs.Continuing.{AtOperands, moves, chooses, GoesBy}
 use Rattle.flow_executes.specs.Executing as law
 use Rattle.flow_executes.specs.Executing.{MayDoNext, MayChoose, coded_by, InProgram, Asks}
 use Rattle.flow_executes.proofs.Onward.{one_step}
@@ -43,7 +43,7 @@ use Rattle.flow_executes.proofs.Choices.{choice_begins}
 use Rattle.flow_executes.proofs.Chooses.{choice_follows}
 use Rattle.flow_executes.proofs.Executes.{by, coding_now, value_is, does_follows}
 
-module _ (r : RawTree) (ls : List Line) (m : Process) (p : Proc Frame) (i : ℕ) (e : Entry) (f : Frame) (x : Scan) (s : Stand) (w : Supply) (code : Code)
+module _ (r : RawTree) (ls : List Line) (m : Process) (p : Proc Frame) (i : ℕ) (e : Entry) (f : Frame) (x : Scan) (s : ControlPoint) (w : Supply) (code : Code)
     (inp : InProgram r code s f) (time : program_time m.time ≡ pos w.now) (none : m.asked ≡ None) (pace : Pace) (n : Process) where
   abbrev row : Type 0
   row = GoesBy r ls x w i e.class (on_core (pushed (Run i)) p) pace n
@@ -52,7 +52,7 @@ module _ (r : RawTree) (ls : List Line) (m : Process) (p : Proc Frame) (i : ℕ)
   either = row ⊎ Asks code s m pace n
 
   -- a step after which its frame isn't told
-  one : ((t : Stand) → pace ≡ On t → t.noted ≡ false) → StepsAs r ls x w p i e pace n → either
+  one : ((t : ControlPoint) → pace ≡ On t → t.noted ≡ false) → StepsAs r ls x w p i e pace n → either
   one later steps = inl (one_step r ls x w p i e pace n later steps)
 
   module _ (st : MayBeStale r ls x s m p i e f) (zero_state : s.noted ≡ true → st.stood.acts.memory.state ≡ 0) (may : MayDoNext r w p i e f (fetch f.code f.block f.instr)) where

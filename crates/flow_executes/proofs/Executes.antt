@@ -27,32 +27,32 @@ use Rattle.flow_code.specs.Coding as coding_of
 use Rattle.flow_code.specs.Coding.{Coding, act_named}
 use Rattle.flow_code.specs.Coded.{coding}
 use Rattle.flow_trace.specs.declared.line.Line.{Line}
-use Rattle.flow_meaning.specs.Asks.{Supply}
+use Rattle.flow_meaning.specs.Requests.{Supply}
 use Rattle.flow_meaning.specs.Evaluating.{bind, value, values}
 use Rattle.flow_meaning.specs.Process.{Run, Entry, Proc}
-use Rattle.flow_meaning.specs.Occ.{Scan}
+use Rattle.flow_meaning.specs.References.{Scan}
 use Rattle.flow_meaning.specs.Work.{pushed}
 use Rattle.flow_meaning.specs.Step.{view, on_core}
 use Rattle.flow_meaning.specs.Class.{promise_kind, class_names}
 use Rattle.flow_meaning.specs.Frame.{Frame, look}
 use Rattle.flow_picture.specs.Acting.{put_frame}
-use Rattle.flow_picture.specs.Standing.{number_in}
-use Rattle.flow_steps.specs.declared.frames.Stand.{Stand}
+use Rattle.flow_picture.specs.FrameChanges.{number_in}
+use Rattle.flow_steps.specs.declared.frames.ControlPoint.{ControlPoint}
 use Rattle.flow_steps.specs.declared.next.Pace.{Pace}
 use Rattle.flow_steps.specs.declared.next.Pace.TheVariants.{On}
 use Rattle.flow_steps.specs.declared.process.Process.{Process}
 use Rattle.flow_steps.specs.Holding.{on_heap}
 use Rattle.flow_steps.specs.Acting.{args_of}
-use Rattle.flow_steps.specs.Sights.{sight_in, program_time, Evaluates}
-use Rattle.flow_steps.specs.Standing.{next_stand, places_taken, places_emptied}
+use Rattle.flow_steps.specs.Evaluating.{sight_in, program_time, Evaluates}
+use Rattle.flow_steps.specs.Points.{next_stand, places_taken, places_emptied}
 use Rattle.flow_steps.specs.Stepping.{OnAfter, value_for, values_for, IsAct, IsNew, Does}
-use Rattle.flow_follows.specs.Going.{stale, MayBeStale}
+use Rattle.flow_follows.specs.Continuing.{stale, MayBeStale}
 use Rattle.flow_follows.specs.Carried.{StepsAs}
 use Rattle.flow_follows.specs.Coded.{CodedBy}
 use Rattle.flow_follows.proofs.Seen.{expr_follows}
 use Rattle.flow_follows.proofs.Arguments.{same_setting, args_follow}
 use Rattle.flow_follows.proofs.Carrying.{drop_step}
-use Rattle.flow_executes.specs.Going.{GoesBy}
+use Rattle.flow_executes.specs.Continuing.{GoesBy}
 use Rattle.flow_executes.specs.Decoding.{AtInstruction, CodedFrom, from_set, from_effect, from_new, from_act, from_method, from_drop, from_none}
 use Rattle.flow_executes.specs.Executing.{MayDoNext, coded_by, InProgram, Asks, by_effect, by_act, by_method}
 use Rattle.flow_executes.proofs.Onward.{one_step}
@@ -81,7 +81,7 @@ function_is (Some p) k n e = absurd (cc (e))
 function_is None None n e = absurd (cc (e))
 function_is None (Some j) n e = let same : j ≡ n = cc (e) in (refl, ap (λ y. Some y) same)
 
-module _ (r : RawTree) (ls : List Line) (m : Process) (p : Proc Frame) (i : ℕ) (e : Entry) (f : Frame) (x : Scan) (s : Stand) (w : Supply) (code : Code)
+module _ (r : RawTree) (ls : List Line) (m : Process) (p : Proc Frame) (i : ℕ) (e : Entry) (f : Frame) (x : Scan) (s : ControlPoint) (w : Supply) (code : Code)
     (st : MayBeStale r ls x s m p i e f) (inp : InProgram r code s f) (time : program_time m.time ≡ pos w.now) where
   abbrev pub by : CodedBy r code.classes.items
   by = coded_by inp.program
@@ -105,7 +105,7 @@ module _ (r : RawTree) (ls : List Line) (m : Process) (p : Proc Frame) (i : ℕ)
       ∙ ap (λ k. values_at (sight_in code i m) k m.left) same
       ∙ args_follow r ls x m (put_frame i (stale st.block st.instr st.state f) p) i e (stale st.block st.instr st.state f) code w st.stood inp.program time inp.few es
 
-  module _ (pace : Pace) (n : Process) (later : (t : Stand) → pace ≡ On t → t.noted ≡ false) where
+  module _ (pace : Pace) (n : Process) (later : (t : ControlPoint) → pace ≡ On t → t.noted ≡ false) where
     one : StepsAs r ls x w p i e pace n → row pace n
     one steps = one_step r ls x w p i e pace n later steps
 

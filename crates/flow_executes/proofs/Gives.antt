@@ -17,28 +17,28 @@ use Rattle.flow_cancel.specs.Dropping.{dropping}
 use Rattle.flow_numbered.specs.Numbered.{put}
 use Rattle.flow_meaning.specs.Cells.{Ref}
 use Rattle.flow_meaning.specs.Process.{Run, Give, Throw, Store, Keep, Entry, Proc}
-use Rattle.flow_meaning.specs.Occ.{Scan, refs_in, in_task}
+use Rattle.flow_meaning.specs.References.{Scan, refs_in, in_task}
 use Rattle.flow_meaning.specs.Work.{pushed}
 use Rattle.flow_meaning.specs.Step.{silent, replaced, give, store, popped, step_if, step, proc, on_core}
 use Rattle.flow_meaning.specs.Class.{stored, store_at, take_callback, take_at, class_names, classes}
 use Rattle.flow_meaning.specs.Frame.{Frame, go, next_instr}
-use Rattle.flow_picture.specs.Shows.{Position, here, at_wait, wait_spot}
+use Rattle.flow_picture.specs.Representing.{Position, here, at_wait, wait_spot}
 use Rattle.flow_picture.specs.Acting.{put_frame}
 use Rattle.flow_picture.specs.Holds.{with_refs}
 use Rattle.flow_picture.proofs.Shown.{popped_shown}
 use Rattle.flow_picture.proofs.Referring.{of_popped}
-use Rattle.flow_steps.specs.declared.frames.Stand.{Stand}
+use Rattle.flow_steps.specs.declared.frames.ControlPoint.{ControlPoint}
 use Rattle.flow_steps.specs.declared.next.Pace.{Pace}
 use Rattle.flow_steps.specs.declared.next.Pace.TheVariants.{On, Off}
 use Rattle.flow_steps.specs.declared.process.Process.{Process}
 use Rattle.flow_steps.specs.Holding.{on_heap, refs_dropped, value_refs}
-use Rattle.flow_steps.specs.Standing.{StandsNow, next_stand, noted, gone, values, GoesTo}
+use Rattle.flow_steps.specs.Points.{IsAtPoint, next_stand, noted, gone, values, GoesTo}
 use Rattle.flow_steps.specs.Tasks.{TopTaken, bound as bound_in, BranchAt, bound_over}
-use Rattle.flow_follows.specs.Shown.{Shown, shows, with_task}
-use Rattle.flow_follows.specs.Placing.{Acts, Stood, with_memory}
+use Rattle.flow_follows.specs.Matching.{ProcessRepresents, shows, with_task}
+use Rattle.flow_follows.specs.Placing.{Acts, RepresentsActor, with_memory}
 use Rattle.flow_frame.specs.declared.held.Held.{Held}
-use Rattle.flow_steps.specs.Waiting.{Keeps, kept_marked, kept_unready, kept_ready}
-use Rattle.flow_follows.specs.Going.{MayMove}
+use Rattle.flow_steps.specs.Waiting.{KeepsOperand, kept_marked, kept_unready, kept_ready}
+use Rattle.flow_follows.specs.Continuing.{MayMove}
 use Rattle.flow_follows.proofs.Working.{changed, as_many_shown, task_done, refs_dropped_shown}
 use Rattle.flow_follows.proofs.Places.{dropped_values}
 use Rattle.flow_follows.proofs.Lost.{put_over, unchanged}
@@ -46,28 +46,28 @@ use Rattle.flow_follows.proofs.Parting.{acts_by, no_keep_under}
 use Rattle.flow_follows.proofs.Kept.{operand_follows}
 use Rattle.flow_follows.proofs.Moving.{goes_in}
 use Rattle.flow_follows.proofs.Gone.{value_bound}
-use Rattle.flow_executes.specs.Going.{no_more, then_on, moves, chooses, Onward, InClass, by_value, by_operand, GoesBy, MayStep}
+use Rattle.flow_executes.specs.Continuing.{no_more, then_on, moves, chooses, Onward, InClass, by_value, by_operand, GoesBy, MayStep}
 use Rattle.flow_executes.proofs.Onward.{same_memory, goes_after}
 use Rattle.flow_executes.proofs.Paths.{path_put}
 use Rattle.flow_executes.proofs.Choices.{goes_kept}
 use Rattle.flow_executes.proofs.Telling.{over_told, keeps_told}
 use Rattle.flow_steps.specs.Stepping.{OnAfter}
 use Rattle.flow_executes.specs.Giving.{MayRun, MayBranch}
-use Rattle.flow_follows.specs.Keeping.{MayKeep}
-use Rattle.flow_picture.specs.Standing.{next_callback}
+use Rattle.flow_follows.specs.Operands.{MayKeep}
+use Rattle.flow_picture.specs.FrameChanges.{next_callback}
 use Rattle.flow_value.specs.declared.value.Kind.{Kind}
 use Rattle.flow_base.specs.declared.ids.CellId.{CellId}
 use Rattle.flow_code.specs.declared.class.Branch.{Branch}
-use Rattle.flow_meaning.specs.Asks.{Supply}
+use Rattle.flow_meaning.specs.Requests.{Supply}
 use Rattle.flow_cancel.specs.declared.task.Task.TheVariants as task
 use Rattle.flow_meaning.specs.Work as work
-use Rattle.flow_follows.specs.Going as going
+use Rattle.flow_follows.specs.Continuing as going
 use Rattle.flow_executes.specs.Giving as law
 
 -- A row of steps of the class machine leads to where an actor goes on, in its class.
 pub record GoesFrom (code : Code) (r : RawTree) (ls : List Line) (x : Scan) (w : Supply) (i class : ℕ) (start : Proc Frame) (pace : Pace) (n : Process) : Type 0 where
   pub goes : GoesBy r ls x w i class start pace n
-  pub stands : (t : Stand) → pace ≡ On t → InClass code class t
+  pub stands : (t : ControlPoint) → pace ≡ On t → InClass code class t
 
 module _ (r : RawTree) (ls : List Line) (m : Process) (p : Proc Frame) (i : ℕ) (e : Entry) (f : Frame) where
   -- in the same state
@@ -75,7 +75,7 @@ module _ (r : RawTree) (ls : List Line) (m : Process) (p : Proc Frame) (i : ℕ)
   same_state q g a b = ap (λ (y : FrameTree Value). y.state) (same_memory r m.heap m.heap p q i e e f g refl b a)
 
   -- where the code has it stand is in its class
-  pub in_class : (code : Code) (s : Stand) → Acts r m.heap p i e f → StandsNow code.classes.items (actor_id i) m s → InClass code e.class s
+  pub in_class : (code : Code) (s : ControlPoint) → Acts r m.heap p i e f → IsAtPoint code.classes.items (actor_id i) m s → InClass code e.class s
   in_class code s a now =
       let same : now.frame ≡ a.memory = let b = now.at in let c = a.framed in cc (b, c) in record {
         class = ap (slice_get code.classes.items) (a.class ∙ ap (λ (y : FrameTree Value). y.class) (sym same)) ∙ now.stands.class;
@@ -83,21 +83,21 @@ module _ (r : RawTree) (ls : List Line) (m : Process) (p : Proc Frame) (i : ℕ)
       }
 
   -- and so is where it goes
-  goes_in_class : (code : Code) (number : ℕ) (s t : Stand) (b k : ℕ) → InClass code number s → GoesTo s b k t → InClass code number t
+  goes_in_class : (code : Code) (number : ℕ) (s t : ControlPoint) (b k : ℕ) → InClass code number s → GoesTo s b k t → InClass code number t
   goes_in_class code number s t b k within to =
-      let same : t.class ≡ s.class = ap (λ (y : Stand). y.class) to.same in record {
+      let same : t.class ≡ s.class = ap (λ (y : ControlPoint). y.class) to.same in record {
         class = within.class ∙ ap (λ y. Some y.now) (sym same);
-        block = ap (λ y. slice_get y.now.blocks.items t.place) same ∙ ap (λ (y : Stand). slice_get s.class.now.blocks.items y.place) to.same ∙ to.at;
+        block = ap (λ y. slice_get y.now.blocks.items t.place) same ∙ ap (λ (y : ControlPoint). slice_get s.class.now.blocks.items y.place) to.same ∙ to.at;
       }
 
   -- where it keeps an operand it stays
-  keeps_there : (s t : Stand) (x : Held) (start n : Process) (pace : Pace) → pace ≡ On t → Keeps s x start pace n → s ≡ t
+  keeps_there : (s t : ControlPoint) (x : Held) (start n : Process) (pace : Pace) → pace ≡ On t → KeepsOperand s x start pace n → s ≡ t
   keeps_there s t x start n pace on (kept_unready q unmarked unready is) = let e : s ≡ t = cc (on) in e
   keeps_there s t x start n pace on (kept_marked q marked is) = absurd (cc (on))
   keeps_there s t x start n pace on (kept_ready q b unmarked ready at takes) = absurd (cc (on))
 
   -- An actor that is free takes its next step from where the code has it stand.
-  pub free_steps : (x : Scan) (code : Code) (st : Stood r ls x m p i e f) → st.acts.memory.state ≡ 0 → MayRun code m p i e f → (s : Stand) → StandsNow code.classes.items (actor_id i) m s → MayStep r ls x s m p i e f
+  pub free_steps : (x : Scan) (code : Code) (st : RepresentsActor r ls x m p i e f) → st.acts.memory.state ≡ 0 → MayRun code m p i e f → (s : ControlPoint) → IsAtPoint code.classes.items (actor_id i) m s → MayStep r ls x s m p i e f
   free_steps x code st zero_state may s stands =
       moves (record {
         block = f.block;
@@ -129,7 +129,7 @@ module _ (r : RawTree) (ls : List Line) (m : Process) (p : Proc Frame) (i : ℕ)
   }
 
   -- values are left over at a task
-  after_task : (x : Scan) (t : Stand) (rs : List Ref) (g : Frame) (pace : Pace) (n : Process) → t.noted ≡ false → going.AfterValues r ls m p i e f x t rs g pace n
+  after_task : (x : Scan) (t : ControlPoint) (rs : List Ref) (g : Frame) (pace : Pace) (n : Process) → t.noted ≡ false → going.AfterValues r ls m p i e f x t rs g pace n
       → Onward r ls x i e.class pace n (proc (work.dropping rs (pushed (Run i) p.core)) (put p.actors i g))
   after_task x t rs g (On u) n later a = record {
     process = put_frame i g p;
@@ -137,7 +137,7 @@ module _ (r : RawTree) (ls : List Line) (m : Process) (p : Proc Frame) (i : ℕ)
     frame = g;
     runs = ap (λ us. proc (work.dropping us (pushed (Run i) p.core)) (put p.actors i g)) a.1;
     same = refl;
-    next = moves (subst (λ (y : Stand). going.Goes r ls x y n p i e g) (sym a.0) a.2) (λ h. let b = ap (λ (y : Stand). y.noted) a.0 ∙ later in absurd (cc (b, h)));
+    next = moves (subst (λ (y : ControlPoint). going.ContinuesAt r ls x y n p i e g) (sym a.0) a.2) (λ h. let b = ap (λ (y : ControlPoint). y.noted) a.0 ∙ later in absurd (cc (b, h)));
   }
   after_task x t rs g Off n later a = shows a
 
@@ -153,8 +153,8 @@ module _ (r : RawTree) (ls : List Line) (m : Process) (p : Proc Frame) (i : ℕ)
       by_place (Some q) = refl
 
   -- One that gets what a branch took goes on at that branch.
-  pub given_goes : (x : Scan) (code : Code) (w : Supply) (number : ℕ) (v : Value) (s t : Stand) (branch : Branch) (pace : Pace) (n : Process) → Stood r ls (with_refs (value_refs v) x) m p i e f
-      → MayBranch code r ls m p i number e f → StandsNow code.classes.items (actor_id i) m s → BranchAt s number branch → GoesTo s branch.block 0 t
+  pub given_goes : (x : Scan) (code : Code) (w : Supply) (number : ℕ) (v : Value) (s t : ControlPoint) (branch : Branch) (pace : Pace) (n : Process) → RepresentsActor r ls (with_refs (value_refs v) x) m p i e f
+      → MayBranch code r ls m p i number e f → IsAtPoint code.classes.items (actor_id i) m s → BranchAt s number branch → GoesTo s branch.block 0 t
       → OnAfter t (bound_over i branch.into v m.heap) (on_heap (bound_in i branch.into v) m) pace n
       → GoesFrom code r ls x w i e.class (on_core (pushed (Give i number (GoodOutcome (value_of v)))) p) pace n
   given_goes x code w number v s t branch pace n st may stands at to after =
@@ -183,7 +183,7 @@ module _ (r : RawTree) (ls : List Line) (m : Process) (p : Proc Frame) (i : ℕ)
         goes = record {
           after = end;
           steps = then_on start end end one (no_more end);
-          onward = after_task x t (refs_in over) g pace n (ap (λ (y : Stand). y.noted) to.same) there;
+          onward = after_task x t (refs_in over) g pace n (ap (λ (y : ControlPoint). y.noted) to.same) there;
         };
         stands = λ y on. subst (InClass code e.class) (goes_after t y _ _ n pace after on) (goes_in_class code e.class s t branch.block 0 (in_class code s st.acts stands) to);
       }
@@ -224,7 +224,7 @@ module _ (r : RawTree) (ls : List Line) (m : Process) (p : Proc Frame) (i : ℕ)
       let m1 : Process = is.between in
       let p2 : Proc Frame = on_core (work.dropping rs) p1 in
       let m2 : Process = on_heap (refs_dropped rs) m1 in
-      let st2 : Stood r ls x m2 p2 i e k = record {
+      let st2 : RepresentsActor r ls x m2 p2 i e k = record {
         shown = refs_dropped_shown r ls x m1 p1 rs put_there.stood.shown;
         acts = acts_by r m1.heap m2.heap p1 p2 i e k refl refl refl refl put_there.stood.acts;
       } in
@@ -232,7 +232,7 @@ module _ (r : RawTree) (ls : List Line) (m : Process) (p : Proc Frame) (i : ℕ)
       let gone_there = goes_in r ls x m2 p2 i e k f.block (suc f.instr) f.state st2 may.operands (record { waits = may.free.waits; keeps = no_keep_under i rs p.core.tasks may.free.keeps }) in
       let m3 : Process = on_heap (gone i f.block (suc f.instr)) m2 in
       let after : Proc Frame = proc (work.dropping rs p.core) (put p.actors i g) in
-      let there : Shown r ls x m3 after = subst (λ xs. Shown r ls x m3 (proc (work.dropping rs p.core) xs)) (put_over p.actors i k g) gone_there.shown in
+      let there : ProcessRepresents r ls x m3 after = subst (λ xs. ProcessRepresents r ls x m3 (proc (work.dropping rs p.core) xs)) (put_over p.actors i k g) gone_there.shown in
       let dropped : on_heap (dropping (values is.old)) m1 ≡ m2 =
       ap (λ h. record m1 { heap = h }) (dropped_values r ls m p i e f is.old m1.heap ∙ ap (λ l. refs_dropped (refs_in l) m1.heap) (sym put_there.same)) in
       let memory_is : n ≡ m3 =
@@ -247,11 +247,11 @@ module _ (r : RawTree) (ls : List Line) (m : Process) (p : Proc Frame) (i : ℕ)
             ∙ ap (λ a. Some (store (classes r) i u a p)) st.acts.acting
             ∙ ap (λ y. Some (replaced i (store_at (class_names r) u f y) p)) may.fetched
             ∙ ap (λ y. Some (replaced i (stored f y) p)) put_there.assigned;
-        follows = shows (subst (λ z. Shown r ls x z after) (sym memory_is) there);
+        follows = shows (subst (λ z. ProcessRepresents r ls x z after) (sym memory_is) there);
       }
 
 -- the task of the actor is taken off
-pub run_off : (r : RawTree) (ls : List Line) (m start : Process) (p : Proc Frame) (i : ℕ) (x : Scan) → Shown r ls x m (on_core (pushed (Run i)) p) → TopTaken (task.Run (actor_id i)) m start → Shown r ls x start p
+pub run_off : (r : RawTree) (ls : List Line) (m start : Process) (p : Proc Frame) (i : ℕ) (x : Scan) → ProcessRepresents r ls x m (on_core (pushed (Run i)) p) → TopTaken (task.Run (actor_id i)) m start → ProcessRepresents r ls x start p
 run_off r ls m start p i x s taken =
     let ran : Proc Frame = on_core (pushed (Run i)) p in
     let a = popped_shown r m.heap ran (task.Run (actor_id i)) taken.tasks s.holds.shows taken.top in
@@ -263,11 +263,11 @@ run_off r ls m start p i x s taken =
           let c = s.holds.counted z j in
           let d = ap (λ y. in_task z j y) a.same in omega (arith, b, c, d);
     }) refl refl refl in
-    subst (λ q. Shown r ls x q p) (sym taken.rest) (subst (λ us. Shown r ls x (on_heap (λ h. record h { tasks = taken.tasks }) m) (popped us ran)) below off)
+    subst (λ q. ProcessRepresents r ls x q p) (sym taken.rest) (subst (λ us. ProcessRepresents r ls x (on_heap (λ h. record h { tasks = taken.tasks }) m) (popped us ran)) below off)
 
 module _ (r : RawTree) (m : Process) (p : Proc Frame) (i : ℕ) (e : Entry) (f : Frame) where
   -- where the code has an actor stand that is in no state of a wait
-  stands_here : (code : Code) (s : Stand) → (a : Acts r m.heap p i e f) → a.memory.state ≡ 0 → StandsNow code.classes.items (actor_id i) m s → s.instruction ≡ f.instr
+  stands_here : (code : Code) (s : ControlPoint) → (a : Acts r m.heap p i e f) → a.memory.state ≡ 0 → IsAtPoint code.classes.items (actor_id i) m s → s.instruction ≡ f.instr
   stands_here code s a zero_state now = now.stands.instruction ∙ ap (λ (y : FrameTree Value). y.instruction) same ∙ by_position a.stands.position
     where
       same : now.frame ≡ a.memory
@@ -279,17 +279,17 @@ module _ (r : RawTree) (m : Process) (p : Proc Frame) (i : ℕ) (e : Entry) (f :
 
 module _ (r : RawTree) (ls : List Line) (m : Process) (p : Proc Frame) (i : ℕ) (e : Entry) (f : Frame) where
   -- One that keeps an operand goes on where it stands; its own task is the next.
-  pub kept_goes : (x : Scan) (code : Code) (w : Supply) (group : ℕ) (kd : Kind) (k : CellId) (start : Process) (s : Stand) (pace : Pace) (n : Process)
-      → (st : Stood r ls (with_refs ((kd, k.0) ∷ []) x) m (on_core (pushed (Run i)) p) i e f) → st.acts.memory.state ≡ 0 → m.asked ≡ None
-      → ((s : Stand) (start : Process) → start.heap.frames ≡ m.heap.frames → StandsNow code.classes.items (actor_id i) start s → MayKeep s p i group (kd, k.0) e f)
-      → TopTaken (task.Run (actor_id i)) m start → StandsNow code.classes.items (actor_id i) start s → Keeps s (record { callback = next_callback e f; cell = k }) start pace n
+  pub kept_goes : (x : Scan) (code : Code) (w : Supply) (group : ℕ) (kd : Kind) (k : CellId) (start : Process) (s : ControlPoint) (pace : Pace) (n : Process)
+      → (st : RepresentsActor r ls (with_refs ((kd, k.0) ∷ []) x) m (on_core (pushed (Run i)) p) i e f) → st.acts.memory.state ≡ 0 → m.asked ≡ None
+      → ((s : ControlPoint) (start : Process) → start.heap.frames ≡ m.heap.frames → IsAtPoint code.classes.items (actor_id i) start s → MayKeep s p i group (kd, k.0) e f)
+      → TopTaken (task.Run (actor_id i)) m start → IsAtPoint code.classes.items (actor_id i) start s → KeepsOperand s (record { callback = next_callback e f; cell = k }) start pace n
       → GoesFrom code r ls x w i e.class (on_core (pushed (Keep i (wait_spot f) (kd, k.0))) (on_core (pushed (Run i)) p)) pace n
   kept_goes x code w group kd k start s pace n st zero_state none mays next stands keeps =
       let q : Ref = (kd, k.0) in
       let frames : start.heap.frames ≡ m.heap.frames = ap (λ (y : Process). y.heap.frames) next.rest in
       let actors : start.heap.actors ≡ m.heap.actors = ap (λ (y : Process). y.heap.actors) next.rest in
       let ran : Proc Frame = on_core (pushed (Run i)) p in
-      let st1 : Stood r ls (with_refs (q ∷ []) x) start p i e f = record {
+      let st1 : RepresentsActor r ls (with_refs (q ∷ []) x) start p i e f = record {
         shown = run_off r ls m start p i (with_refs (q ∷ []) x) st.shown next;
         acts = acts_by r m.heap start.heap ran p i e f frames actors refl refl st.acts;
       } in

@@ -21,9 +21,9 @@ use Rattle.flow_resolved.specs.Tree.{Nodes}
 use Rattle.flow_trace.specs.declared.line.Line.{Line}
 use Rattle.flow_meaning.specs.Process.{Entry, Proc}
 use Rattle.flow_meaning.specs.Frame.{Frame}
-use Rattle.flow_picture.specs.Standing.{HasPlace}
+use Rattle.flow_picture.specs.FrameChanges.{HasPlace}
 use Rattle.flow_steps.specs.declared.process.Process.{Process}
-use Rattle.flow_follows.specs.Going.{SameInto}
+use Rattle.flow_follows.specs.Continuing.{SameInto}
 use Rattle.flow_follows.proofs.Stands.{both_mapped}
 use Rattle.flow_executes.specs.Decoding.{CodedFrom, from_set, from_effect, from_new, from_act, from_method, from_drop, from_none}
 use Rattle.flow_executes.specs.Matching as law

@@ -23,19 +23,19 @@ use Rattle.flow_trace.specs.declared.line.Line.{Line}
 use Rattle.flow_frame.specs.Frames.{with_place}
 use Rattle.flow_cancel.specs.Heap.{actor_id}
 use Rattle.flow_meaning.specs.Evaluating.{bind}
-use Rattle.flow_meaning.specs.Occ.{Scan, refs_in}
+use Rattle.flow_meaning.specs.References.{Scan, refs_in}
 use Rattle.flow_meaning.specs.Process.{Entry, Proc}
 use Rattle.flow_meaning.specs.Variables.{filled}
 use Rattle.flow_meaning.specs.Frame.{Memory, Frame, read, write, put_root, put_at, assign, occ_memory}
 use Rattle.flow_picture.specs.Acting.{put_frame}
-use Rattle.flow_picture.specs.Standing.{number_in}
+use Rattle.flow_picture.specs.FrameChanges.{number_in}
 use Rattle.flow_picture.specs.Holds.{with_refs}
 use Rattle.flow_picture.proofs.Holding.{of_path}
 use Rattle.flow_picture.proofs.Standing.{place_written}
 use Rattle.flow_steps.specs.declared.process.Process.{Process}
 use Rattle.flow_steps.specs.Holding.{on_heap, value_refs}
-use Rattle.flow_steps.specs.Standing.{Numbering, Exchange, within, exchanged, reframed, place_held, place_put, Assigns}
-use Rattle.flow_follows.specs.Placing.{Stood, with_memory}
+use Rattle.flow_steps.specs.Points.{Numbering, Exchange, within, exchanged, reframed, place_held, place_put, Assigns}
+use Rattle.flow_follows.specs.Placing.{RepresentsActor, with_memory}
 use Rattle.flow_follows.proofs.Places.{framed_anew, in_memory, place_seen}
 use Rattle.flow_follows.proofs.Gone.{appended}
 use Rattle.flow_executes.specs.Assigning as law
@@ -143,7 +143,7 @@ module _ (rs : List RecordTree) (field : List ℕ → Option ℕ) (at : Numberin
           record { memory = sym two ∙ ap (write m q) (sym x.new); values = sym one ∙ ap (λ o. filled (o ∷ [])) x.old }
 
 module _ (r : RawTree) (ls : List Line) (m : Process) (p : Proc Frame) (i : ℕ) (e : Entry) (f : Frame) (x : Scan) (code : Code) (path : List Ident) (aim : Aim) (v : Value) (old : Option Value) (n : Process)
-    (st : Stood r ls (with_refs (value_refs v) x) m p i e f) (aims : AimsAt r.records code f path aim) (is : Assigns code.fields (actor_id i) aim v m old n) where
+    (st : RepresentsActor r ls (with_refs (value_refs v) x) m p i e f) (aims : AimsAt r.records code f path aim) (is : Assigns code.fields (actor_id i) aim v m old n) where
   abbrev at_place_of : Slotted
   at_place_of = aims.place
 
@@ -172,16 +172,16 @@ module _ (r : RawTree) (ls : List Line) (m : Process) (p : Proc Frame) (i : ℕ)
       let a = of_path z j f.mem r.records at_place_of aims.fields (value_of v) vs mem (in_memory f at_place_of aims.has) g in
       let b = ap (λ y. occ_memory z j y) w.memory in
       let c = appended z j (value_refs v) in omega (arith, a, b, c)) in
-      let there : Stood r ls (with_refs (refs_in vs) x) (on_heap (place_put i number is.root) m) (put_frame i k p) i e k =
-      subst (λ o. Stood r ls (with_refs (refs_in vs) x) (on_heap (reframed (λ y. with_place y number is.root) i o) m) (put_frame i k p) i e k) (sym st.acts.framed) anew in
+      let there : RepresentsActor r ls (with_refs (refs_in vs) x) (on_heap (place_put i number is.root) m) (put_frame i k p) i e k =
+      subst (λ o. RepresentsActor r ls (with_refs (refs_in vs) x) (on_heap (reframed (λ y. with_place y number is.root) i o) m) (put_frame i k p) i e k) (sym st.acts.framed) anew in
       record {
         values = vs;
         memory = mem;
         assigned = assigns ∙ g;
         same = w.values;
-        stood = subst (λ y. Stood r ls (with_refs (refs_in vs) x) n (put_frame i y p) i e y) (sym same)
-            (subst (λ z. Stood r ls (with_refs (refs_in vs) x) z (put_frame i k p) i e k) (sym is.put)
-            (subst (λ y. Stood r ls (with_refs (refs_in vs) x) (on_heap (place_put i y is.root) m) (put_frame i k p) i e k) (sym aims.number) there));
+        stood = subst (λ y. RepresentsActor r ls (with_refs (refs_in vs) x) n (put_frame i y p) i e y) (sym same)
+            (subst (λ z. RepresentsActor r ls (with_refs (refs_in vs) x) z (put_frame i k p) i e k) (sym is.put)
+            (subst (λ y. RepresentsActor r ls (with_refs (refs_in vs) x) (on_heap (place_put i y is.root) m) (put_frame i k p) i e k) (sym aims.number) there));
       }
 
   by_option : CanAssign r.records f path (value_of v) → (o : Option (List ValueTree × Memory)) → put_at r.records f.mem at_place_of aims.fields (value_of v) ≡ o → law.Assigned r ls m p i e f x path v old n

@@ -14,15 +14,15 @@ use Rattle.flow_code.specs.declared.class.Operand.{Operand}
 use Rattle.flow_code.specs.declared.class.Operand.TheVariants as operand
 use Rattle.flow_code.specs.declared.program.Code.{Code}
 use Rattle.flow_frame.specs.declared.held.Held.{Held}
-use Rattle.flow_steps.specs.declared.frames.Stand.{Stand}
+use Rattle.flow_steps.specs.declared.frames.ControlPoint.{ControlPoint}
 use Rattle.flow_steps.specs.declared.next.Pace.{Pace}
 use Rattle.flow_steps.specs.declared.next.Pace.TheVariants.{On}
 use Rattle.flow_steps.specs.declared.process.Process.{Process}
 use Rattle.flow_steps.specs.Doing.{turned}
 use Rattle.flow_steps.specs.Acting.{Values}
-use Rattle.flow_steps.specs.Standing.{noted_stand}
+use Rattle.flow_steps.specs.Points.{noted_stand}
 use Rattle.flow_steps.specs.Stepping.{OnAfter, IsAct, Does, GoesOnAt, Passes, no_pass, pass_begins, IsTest, ReferenceKept, OperandStep, Chooses, asks_operand, all_kept, Ends, StepsOn, by_instruction, by_last}
-use Rattle.flow_steps.specs.Waiting.{Keeps, kept_marked, kept_unready, kept_ready}
+use Rattle.flow_steps.specs.Waiting.{KeepsOperand, kept_marked, kept_unready, kept_ready}
 use Rattle.flow_executes.proofs.Stays.{never, evaluated_on, by_method, by_effect, by_throw}
 
 -- the same time, and nothing more asked for
@@ -33,7 +33,7 @@ pub record Quiet (m n : Process) : Type 0 where
 quiet_by : (m k n : Process) → n ≡ k → k.asked ≡ m.asked → k.time ≡ m.time → Quiet m n
 quiet_by m k n e a b = record { asked = ap (λ (y : Process). y.asked) e ∙ a; time = ap (λ (y : Process). y.time) e ∙ b }
 
-after_quiet : (m k : Process) (u t : Stand) (vs : List Value) (pace : Pace) (n : Process) → pace ≡ On t → OnAfter u vs k pace n → k.asked ≡ m.asked → k.time ≡ m.time → Quiet m n
+after_quiet : (m k : Process) (u t : ControlPoint) (vs : List Value) (pace : Pace) (n : Process) → pace ≡ On t → OnAfter u vs k pace n → k.asked ≡ m.asked → k.time ≡ m.time → Quiet m n
 after_quiet m k u t [] pace n on after a b = quiet_by m k n after.1 a b
 after_quiet m k u t (v ∷ vs) pace n on after a b = absurd (never t (sym after.0 ∙ on))
 
@@ -44,7 +44,7 @@ turned_quiet m = by_test (nat_lt 0 m.left)
     by_test true = (refl, refl)
     by_test false = (refl, refl)
 
-module _ (code : Code) (s : Stand) (m n : Process) (t : Stand) where
+module _ (code : Code) (s : ControlPoint) (m n : Process) (t : ControlPoint) where
   act_quiet : (a : Act) (args : Values) (k : Process) (pace : Pace) → pace ≡ On t → IsAct code s a args k pace n → k.asked ≡ m.asked → k.time ≡ m.time → Quiet m n
   act_quiet (act.World called) args k pace on does a b = absurd (never t (sym does.0 ∙ on))
   act_quiet (act.Function f) args k pace on does a b = let c = evaluated_on s _ _ k _ t pace n on does in quiet_by m _ n c.1.1.1 a b
@@ -71,7 +71,7 @@ module _ (code : Code) (s : Stand) (m n : Process) (t : Stand) where
   test_quiet one other true k pace to a c = block_quiet one k pace to a c
   test_quiet one other false k pace to a c = block_quiet other k pace to a c
 
-  keep_quiet : (x : Held) (k : Process) (pace : Pace) → pace ≡ On t → Keeps (noted_stand s) x k pace n → k.asked ≡ m.asked → k.time ≡ m.time → Quiet m n
+  keep_quiet : (x : Held) (k : Process) (pace : Pace) → pace ≡ On t → KeepsOperand (noted_stand s) x k pace n → k.asked ≡ m.asked → k.time ≡ m.time → Quiet m n
   keep_quiet x k pace on (kept_marked q marked is) a b = absurd (never t on)
   keep_quiet x k pace on (kept_unready q unmarked unready is) a b = quiet_by m _ n is a b
   keep_quiet x k pace on (kept_ready q c unmarked ready at takes) a b = absurd (never t on)

@@ -14,7 +14,7 @@ use Rattle.flow_numbered.specs.Numbered.{thing}
 use Rattle.flow_meaning.specs.Cells.{Ref, Cell, Single, Stream}
 use Rattle.flow_meaning.specs.Evaluating.{bind, setting}
 use Rattle.flow_meaning.specs.Process.{Proc}
-use Rattle.flow_meaning.specs.Occ.{refs_in}
+use Rattle.flow_meaning.specs.References.{refs_in}
 use Rattle.flow_meaning.specs.Step.{view}
 use Rattle.flow_meaning.specs.Class.{class_names}
 use Rattle.flow_meaning.specs.Frame.{Frame, read, look}

@@ -7,24 +7,24 @@ use Rattle.flow_class.specs.Classes.{RawTree}
 use Rattle.flow_code.specs.declared.program.Code.{Code}
 use Rattle.flow_trace.specs.declared.line.Line.{Line}
 use Rattle.flow_numbered.specs.Numbered.{thing}
-use Rattle.flow_meaning.specs.Asks.{Supply}
+use Rattle.flow_meaning.specs.Requests.{Supply}
 use Rattle.flow_meaning.specs.Process.{Halt, Run, Entry, Proc}
-use Rattle.flow_meaning.specs.Occ.{Scan}
+use Rattle.flow_meaning.specs.References.{Scan}
 use Rattle.flow_meaning.specs.Work.{pushed}
 use Rattle.flow_meaning.specs.Step.{Stepped, silent, step_if, step, on_core}
 use Rattle.flow_meaning.specs.Class.{classes}
 use Rattle.flow_meaning.specs.Frame.{Frame}
-use Rattle.flow_steps.specs.declared.frames.Stand.{Stand}
+use Rattle.flow_steps.specs.declared.frames.ControlPoint.{ControlPoint}
 use Rattle.flow_steps.specs.declared.next.Pace.{Pace}
 use Rattle.flow_steps.specs.declared.next.Pace.TheVariants.{On, Off}
 use Rattle.flow_steps.specs.declared.process.Process.{Process}
-use Rattle.flow_steps.specs.Sights.{program_time}
+use Rattle.flow_steps.specs.Evaluating.{program_time}
 use Rattle.flow_steps.specs.Stepping.{GoesOn, StepsOn, Runs, runs_on, runs_off}
 use Rattle.flow_follows.specs.Stepped.{OnlyTells}
-use Rattle.flow_follows.specs.Shown.{Follows}
+use Rattle.flow_follows.specs.Matching.{Matches}
 use Rattle.flow_follows.specs.Seeing.{IsCodeOf}
-use Rattle.flow_executes.specs.Going as going
-use Rattle.flow_executes.specs.Going.{Silent, no_more, then_on, MayStep, moves, chooses, GoesBy, Leads, InClass, GoesFurther}
+use Rattle.flow_executes.specs.Continuing as going
+use Rattle.flow_executes.specs.Continuing.{Silent, no_more, then_on, MayStep, moves, chooses, GoesBy, Leads, InClass, GoesFurther}
 use Rattle.flow_executes.specs.Executing.{coded_by, InProgram, Asks, by_effect, by_act, by_method, by_operand}
 use Rattle.flow_executes.specs.Running as law
 use Rattle.flow_executes.specs.Running.{Allows, AsksAtLast, RanOff}
@@ -36,7 +36,7 @@ use Rattle.flow_executes.proofs.Ends.{step_follows}
 use Rattle.flow_executes.proofs.Telling.{step_told}
 
 -- what asks something doesn't go on at once
-pub asks_off : (code : Code) (s : Stand) (m : Process) (pace : Pace) (n : Process) (t : Stand) → pace ≡ On t → Asks code s m pace n → ⊥
+pub asks_off : (code : Code) (s : ControlPoint) (m : Process) (pace : Pace) (n : Process) (t : ControlPoint) → pace ≡ On t → Asks code s m pace n → ⊥
 asks_off code s m pace n t on (by_effect aim eff args at does) = stays.by_effect code s t _ eff args.items m n pace s on does
 asks_off code s m pace n t on (by_act called args at does) = let a = evaluated_on s _ _ m _ t pace n on does in never t (sym a.1.1.0 ∙ on)
 asks_off code s m pace n t on (by_method aim g args at does) = stays.by_method code s t aim g args.items m n pace on does
@@ -60,7 +60,7 @@ module _ (r : RawTree) (w : Supply) where
     holds_then p q (then_on a b c one (then_on d g z two rest)) h goes = holds_then b q (then_on d g z two rest) (allows.kept a b h one (unstopped b b.core.halted (silent g) refl two)) goes
 
 -- what is known of an actor that takes a step
-module _ (r : RawTree) (ls : List Line) (x : Scan) (s : Stand) (m : Process) (p : Proc Frame) (i : ℕ) (e : Entry) (f : Frame) where
+module _ (r : RawTree) (ls : List Line) (x : Scan) (s : ControlPoint) (m : Process) (p : Proc Frame) (i : ℕ) (e : Entry) (f : Frame) where
   pub entered : MayStep r ls x s m p i e f → thing p.core.entries i ≡ Some e
   entered (moves st zero) = st.stood.acts.entered
   entered (chooses at) = at.stood.acts.entered
@@ -101,7 +101,7 @@ module _ (r : RawTree) (ls : List Line) (x : Scan) (w : Supply) (holds : Proc Fr
   })
 
   module _ (i : ℕ) where
-    pub in_program : (s : Stand) (m : Process) (p : Proc Frame) (e : Entry) (f : Frame) → holds (on_core (pushed (Run i)) p) → MayStep r ls x s m p i e f → InClass code e.class s → InProgram r code s f
+    pub in_program : (s : ControlPoint) (m : Process) (p : Proc Frame) (e : Entry) (f : Frame) → holds (on_core (pushed (Run i)) p) → MayStep r ls x s m p i e f → InClass code e.class s → InProgram r code s f
     in_program s m p e f held may here = record {
       program = program;
       standing = in_code_of r code e.class s f (coded_by program) here (class_of r ls x s m p i e f may);
@@ -109,7 +109,7 @@ module _ (r : RawTree) (ls : List Line) (x : Scan) (w : Supply) (holds : Proc Fr
     }
 
     -- after one step the actor goes on with the others
-    goes_further : (s : Stand) (m n : Process) (p : Proc Frame) (e : Entry) (f : Frame) (t : Stand) (between : Process) → holds (on_core (pushed (Run i)) p) → InClass code e.class s → m.asked ≡ None
+    goes_further : (s : ControlPoint) (m n : Process) (p : Proc Frame) (e : Entry) (f : Frame) (t : ControlPoint) (between : Process) → holds (on_core (pushed (Run i)) p) → InClass code e.class s → m.asked ≡ None
         → program_time m.time ≡ pos w.now → StepsOn code s m (On t) between → GoesBy r ls x w i e.class (on_core (pushed (Run i)) p) (On t) between ⊎ Asks code s m (On t) between
         → ((q : Proc Frame) (d : Entry) (g : Frame) → holds (on_core (pushed (Run i)) q) → MayStep r ls x t between q i d g → InClass code d.class t → between.asked ≡ None
         → program_time between.time ≡ pos w.now → ending i (on_core (pushed (Run i)) q) between n)
@@ -124,7 +124,7 @@ module _ (r : RawTree) (ls : List Line) (x : Scan) (w : Supply) (holds : Proc Fr
         (rest a.process a.entry a.frame held2 a.next (subst (λ k. InClass code k t) (sym a.same) (in_class_stays code e.class s t m between here steps))
         (quiet.asked ∙ none) (ap program_time quiet.time ∙ time))
 
-    runs : (s : Stand) (m n : Process) (p : Proc Frame) (e : Entry) (f : Frame) → holds (on_core (pushed (Run i)) p) → MayStep r ls x s m p i e f → InClass code e.class s → m.asked ≡ None
+    runs : (s : ControlPoint) (m n : Process) (p : Proc Frame) (e : Entry) (f : Frame) → holds (on_core (pushed (Run i)) p) → MayStep r ls x s m p i e f → InClass code e.class s → m.asked ≡ None
         → program_time m.time ≡ pos w.now → Runs code s m n → ending i (on_core (pushed (Run i)) p) m n
     runs s m n p e f held may here none time (runs_off a b c steps) =
         by_step (step_follows r ls m p i e f x s w code Off n may (in_program s m p e f held may here) none time
@@ -161,11 +161,11 @@ module _ (r : RawTree) (ls : List Line) (x : Scan) (w : Supply) (holds : Proc Fr
         → ending i start g.between n
     further number start m n held g quiet time = by_pace g.pace g.goes g.stands g.told g.further quiet
       where
-        by_pace : (pace : Pace) → GoesBy r ls x w i number start pace g.between → ((t : Stand) → pace ≡ On t → InClass code number t) → (pace ≡ Off → OnlyTells g.between.asked) → GoesOn code pace g.between n → g.between.asked ≡ None ⊎ (pace ≡ Off) → ending i start g.between n
+        by_pace : (pace : Pace) → GoesBy r ls x w i number start pace g.between → ((t : ControlPoint) → pace ≡ On t → InClass code number t) → (pace ≡ Off → OnlyTells g.between.asked) → GoesOn code pace g.between n → g.between.asked ≡ None ⊎ (pace ≡ Off) → ending i start g.between n
         by_pace Off goes stands told is quiet = inl (record {
           after = goes.after;
           steps = goes.steps;
-          follows = subst (λ (y : Process). Follows r ls x y goes.after) (sym is) goes.onward;
+          follows = subst (λ (y : Process). Matches r ls x y goes.after) (sym is) goes.onward;
           told = subst (λ (y : Process). OnlyTells y.asked) (sym is) (told refl);
         })
         by_pace (On t) goes stands told is (inr off) = absurd (cc (off))

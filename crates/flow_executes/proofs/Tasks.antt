@@ -15,28 +15,28 @@ use Rattle.flow_trace.specs.declared.line.Line.{Line}
 use Rattle.flow_cancel.specs.declared.task.Task as stack
 use Rattle.flow_cancel.specs.declared.task.Task.TheVariants as task
 use Rattle.flow_numbered.specs.Numbered.{thing}
-use Rattle.flow_meaning.specs.Asks.{Supply}
+use Rattle.flow_meaning.specs.Requests.{Supply}
 use Rattle.flow_meaning.specs.Process.{Task, Run, Give, Store, Keep, Entry, Proc}
 use Rattle.flow_meaning.specs.Work.{pushed}
 use Rattle.flow_meaning.specs.Step.{kept_by, popped, proc, on_core}
 use Rattle.flow_meaning.specs.Views.{spot_at}
 use Rattle.flow_meaning.specs.Frame.{Frame}
-use Rattle.flow_picture.specs.Shows.{spot_of_actor, wait_spot}
+use Rattle.flow_picture.specs.Representing.{spot_of_actor, wait_spot}
 use Rattle.flow_picture.specs.Changes.{SameTask}
 use Rattle.flow_picture.specs.Counted.{nothing_in_hand}
-use Rattle.flow_picture.specs.Standing.{next_callback}
+use Rattle.flow_picture.specs.FrameChanges.{next_callback}
 use Rattle.flow_picture.specs.Holds.{with_refs}
 use Rattle.flow_steps.specs.declared.process.Process.{Process}
 use Rattle.flow_steps.specs.Holding.{value_refs}
 use Rattle.flow_steps.specs.Tasks.{Given, Stored, TopTaken, IsKept, IsDone}
-use Rattle.flow_follows.specs.Shown.{Shown, with_task}
-use Rattle.flow_follows.specs.Placing.{Acts, Stood}
-use Rattle.flow_follows.specs.Stepped.{OnlyTells, TopOff, Doable}
+use Rattle.flow_follows.specs.Matching.{ProcessRepresents, with_task}
+use Rattle.flow_follows.specs.Placing.{Acts, RepresentsActor}
+use Rattle.flow_follows.specs.Stepped.{OnlyTells, TopOff, IsEnabled}
 use Rattle.flow_follows.proofs.Working.{as_many_shown}
 use Rattle.flow_follows.proofs.Gone.{appended}
 use Rattle.flow_follows.proofs.Doing as stepped
 use Rattle.flow_follows.proofs.Doing.{top_follows}
-use Rattle.flow_executes.specs.Going.{GoesFurther}
+use Rattle.flow_executes.specs.Continuing.{GoesFurther}
 use Rattle.flow_executes.specs.Giving.{MayStore, TaskSteps}
 use Rattle.flow_executes.specs.Tasking as law
 use Rattle.flow_executes.specs.Tasking.{TaskGoes, is_step, goes_further, runs, MayGo, is_free, has_operands, MayGet, MayKeepOne, MayBeDone}
@@ -56,11 +56,11 @@ module _ (r : RawTree) (ls : List Line) (p : Proc Frame) (code : Code) (w : Supp
   from_row i k u below h g = goes_further i k (subst (λ q. GoesFurther code r ls nothing_in_hand w i k q start n) (whole u below h) g)
 
   -- the actor takes its steps
-  run_follows : (i : ActorId) (below : List Task) → p.core.tasks ≡ Run i.0 ∷ below → Shown r ls (with_task (Run i.0) nothing_in_hand) start (popped below p) → MayGo code r ls start (popped below p) i.0
+  run_follows : (i : ActorId) (below : List Task) → p.core.tasks ≡ Run i.0 ∷ below → ProcessRepresents r ls (with_task (Run i.0) nothing_in_hand) start (popped below p) → MayGo code r ls start (popped below p) i.0
       → IsDone code (task.Run i) start n → TaskGoes code r ls w p start n
   run_follows i below h shown (is_free e f acts zero_state may) is =
       let q : Proc Frame = popped below p in
-      let st : Stood r ls nothing_in_hand start q i.0 e f = record {
+      let st : RepresentsActor r ls nothing_in_hand start q i.0 e f = record {
         shown = as_many_shown r ls (with_task (Run i.0) nothing_in_hand) nothing_in_hand start q (λ z j. omega arith) shown;
         acts = acts;
       } in
@@ -73,12 +73,12 @@ module _ (r : RawTree) (ls : List Line) (p : Proc Frame) (code : Code) (w : Supp
 
   -- a branch gets what it took
   give_follows : (i : ActorId) (b : ℕ) (o : Outcome) (below : List Task) → p.core.tasks ≡ Give i.0 b (outcome_of o) ∷ below
-      → Shown r ls (with_task (Give i.0 b (outcome_of o)) nothing_in_hand) start (popped below p) → MayGet code r ls start (popped below p) i.0 b o
+      → ProcessRepresents r ls (with_task (Give i.0 b (outcome_of o)) nothing_in_hand) start (popped below p) → MayGet code r ls start (popped below p) i.0 b o
       → start.asked ≡ None → Given code i b o start n → TaskGoes code r ls w p start n
   give_follows i b (outcome.Value v) below h shown may none is =
       let q : Proc Frame = popped below p in
       let u = Give i.0 b (GoodOutcome (value_of v)) in
-      let st : Stood r ls (with_refs (value_refs v) nothing_in_hand) start q i.0 may.0 may.1.0 = record {
+      let st : RepresentsActor r ls (with_refs (value_refs v) nothing_in_hand) start q i.0 may.0 may.1.0 = record {
         shown = as_many_shown r ls (with_task u nothing_in_hand) (with_refs (value_refs v) nothing_in_hand) start q (λ z j. let a = appended z j (value_refs v) in omega (arith, a)) shown;
         acts = may.1.1.0;
       } in
@@ -86,7 +86,7 @@ module _ (r : RawTree) (ls : List Line) (p : Proc Frame) (code : Code) (w : Supp
   give_follows i b (outcome.Error err) below h shown may none is =
       let q : Proc Frame = popped below p in
       let u = Give i.0 b (BadOutcome err.0) in
-      let st : Stood r ls nothing_in_hand start q i.0 may.0 may.1.0 = record {
+      let st : RepresentsActor r ls nothing_in_hand start q i.0 may.0 may.1.0 = record {
         shown = as_many_shown r ls (with_task u nothing_in_hand) nothing_in_hand start q (λ z j. omega arith) shown;
         acts = may.1.1;
       } in
@@ -94,16 +94,16 @@ module _ (r : RawTree) (ls : List Line) (p : Proc Frame) (code : Code) (w : Supp
 
   -- an operand is kept
   keep_follows : (i : ActorId) (m k : ℕ) (kd : Kind) (below : List Task) (u : Task) → p.core.tasks ≡ u ∷ below → (may : MayKeepOne code r start (popped below p) i.0 k u)
-      → u ≡ Keep i.0 (wait_spot may.frame) (kd, k) → m ≡ next_callback may.entry may.frame → Shown r ls (with_task u nothing_in_hand) start (popped below p) → start.asked ≡ None
+      → u ≡ Keep i.0 (wait_spot may.frame) (kd, k) → m ≡ next_callback may.entry may.frame → ProcessRepresents r ls (with_task u nothing_in_hand) start (popped below p) → start.asked ≡ None
       → IsKept code i (record { callback = m; cell = record { 0 = k } }) start n → TaskGoes code r ls w p start n
   keep_follows i m k kd below u h may is_keep number shown none is =
       let q : Proc Frame = popped below p in
       let ran : Proc Frame = on_core (pushed (Run i.0)) may.rest in
       let v = Keep i.0 (wait_spot may.frame) (kd, k) in
       let hand = with_refs ((kd, k) ∷ []) nothing_in_hand in
-      let shown_keep = subst (λ y. Shown r ls (with_task y nothing_in_hand) start q) is_keep shown in
-      let st : Stood r ls hand start ran i.0 may.entry may.frame = record {
-        shown = subst (λ y. Shown r ls hand start y) may.next (as_many_shown r ls (with_task v nothing_in_hand) hand start q (λ z j. omega arith) shown_keep);
+      let shown_keep = subst (λ y. ProcessRepresents r ls (with_task y nothing_in_hand) start q) is_keep shown in
+      let st : RepresentsActor r ls hand start ran i.0 may.entry may.frame = record {
+        shown = subst (λ y. ProcessRepresents r ls hand start y) may.next (as_many_shown r ls (with_task v nothing_in_hand) hand start q (λ z j. omega arith) shown_keep);
         acts = may.acts;
       } in
       let kept = subst (λ y. IsKept code i (record { callback = y; cell = record { 0 = k } }) start n) number is in
@@ -114,7 +114,7 @@ module _ (r : RawTree) (ls : List Line) (p : Proc Frame) (code : Code) (w : Supp
       (subst (λ y. GoesFurther code r ls nothing_in_hand w i.0 may.entry.class (on_core (pushed v) y) start n) (sym may.next) goes))
 
   keep_task : (i : ActorId) (m : ℕ) (k : CellId) (below : List Task) (u : Task) → p.core.tasks ≡ u ∷ below → SameTask p (task.Keep i m k) u → MayKeepOne code r start (popped below p) i.0 k.0 u
-      → Shown r ls (with_task u nothing_in_hand) start (popped below p) → start.asked ≡ None → IsKept code i (record { callback = m; cell = k }) start n → TaskGoes code r ls w p start n
+      → ProcessRepresents r ls (with_task u nothing_in_hand) start (popped below p) → start.asked ≡ None → IsKept code i (record { callback = m; cell = k }) start n → TaskGoes code r ls w p start n
   keep_task i m k below u h same may shown none is =
       let acting : thing p.actors i.0 ≡ Some may.frame = ap (λ (y : Proc Frame). thing y.actors i.0) may.next ∙ may.acts.acting in
       let entered : thing p.core.entries i.0 ≡ Some may.entry = ap (λ (y : Proc Frame). thing y.core.entries i.0) may.next ∙ may.acts.entered in
@@ -124,12 +124,12 @@ module _ (r : RawTree) (ls : List Line) (p : Proc Frame) (code : Code) (w : Supp
       keep_follows i m k.0 same.0 below u h may (same.2 ∙ ap (λ y. Keep i.0 y (same.0, k.0)) spot) number shown none is
 
   -- the result of an effect is stored
-  store_follows : (i : ActorId) (v : Value) (below : List Task) → p.core.tasks ≡ Store i.0 (value_of v) ∷ below → Shown r ls (with_task (Store i.0 (value_of v)) nothing_in_hand) start (popped below p)
+  store_follows : (i : ActorId) (v : Value) (below : List Task) → p.core.tasks ≡ Store i.0 (value_of v) ∷ below → ProcessRepresents r ls (with_task (Store i.0 (value_of v)) nothing_in_hand) start (popped below p)
       → (may : (e : Entry) × ((f : Frame) × (Acts r start.heap (popped below p) i.0 e f × MayStore code r start (popped below p) i.0 (value_of v) e f))) → start.asked ≡ None → Stored code i v start n → TaskGoes code r ls w p start n
   store_follows i v below h shown may none is =
       let q : Proc Frame = popped below p in
       let u = Store i.0 (value_of v) in
-      let st : Stood r ls (with_refs (value_refs v) nothing_in_hand) start q i.0 may.0 may.1.0 = record {
+      let st : RepresentsActor r ls (with_refs (value_refs v) nothing_in_hand) start q i.0 may.0 may.1.0 = record {
         shown = as_many_shown r ls (with_task u nothing_in_hand) (with_refs (value_refs v) nothing_in_hand) start q (λ z j. omega arith) shown;
         acts = may.1.1.0;
       } in
@@ -137,8 +137,8 @@ module _ (r : RawTree) (ls : List Line) (p : Proc Frame) (code : Code) (w : Supp
 
 module _ (r : RawTree) (ls : List Line) (m : Process) (p : Proc Frame) where
   -- the tasks that need no step of an actor
-  other : (code : Code) (w : Supply) (t : stack.Task) (start n : Process) → Shown r ls nothing_in_hand m p → m.asked ≡ None → TopTaken t m start
-      → ((below : List Task) (u : Task) → p.core.tasks ≡ u ∷ below → Doable code r start (popped below p) t) → IsDone code t start n → OnlyTells n.asked → TaskGoes code r ls w p start n
+  other : (code : Code) (w : Supply) (t : stack.Task) (start n : Process) → ProcessRepresents r ls nothing_in_hand m p → m.asked ≡ None → TopTaken t m start
+      → ((below : List Task) (u : Task) → p.core.tasks ≡ u ∷ below → IsEnabled code r start (popped below p) t) → IsDone code t start n → OnlyTells n.asked → TaskGoes code r ls w p start n
   other code w t start n shown none taken may done told = is_step (stepped.task_follows r ls m p code w t start n shown none taken may done) told
 
   pub task_follows : law.TaskFollows r ls m p
@@ -151,13 +151,13 @@ module _ (r : RawTree) (ls : List Line) (m : Process) (p : Proc Frame) where
           → IsDone code t start n → TaskGoes code r ls w p start n
       by_task (task.Run i) taken o may done =
           let tasks = o.tasks ∙ ap (λ y. y ∷ o.below) o.same in
-          run_follows r ls p code w start n i o.below tasks (subst (λ y. Shown r ls (with_task y nothing_in_hand) start (popped o.below p)) o.same o.shown) (may o.below o.top o.tasks).may done
+          run_follows r ls p code w start n i o.below tasks (subst (λ y. ProcessRepresents r ls (with_task y nothing_in_hand) start (popped o.below p)) o.same o.shown) (may o.below o.top o.tasks).may done
       by_task (task.Give i b v) taken o may done =
           let tasks = o.tasks ∙ ap (λ y. y ∷ o.below) o.same in
-          give_follows r ls p code w start n i b v.value o.below tasks (subst (λ y. Shown r ls (with_task y nothing_in_hand) start (popped o.below p)) o.same o.shown) (may o.below o.top o.tasks).may (asks_none (task.Give i b v) taken) done
+          give_follows r ls p code w start n i b v.value o.below tasks (subst (λ y. ProcessRepresents r ls (with_task y nothing_in_hand) start (popped o.below p)) o.same o.shown) (may o.below o.top o.tasks).may (asks_none (task.Give i b v) taken) done
       by_task (task.Store i v) taken o may done =
           let tasks = o.tasks ∙ ap (λ y. y ∷ o.below) o.same in
-          store_follows r ls p code w start n i v.value o.below tasks (subst (λ y. Shown r ls (with_task y nothing_in_hand) start (popped o.below p)) o.same o.shown) (may o.below o.top o.tasks).may (asks_none (task.Store i v) taken) done
+          store_follows r ls p code w start n i v.value o.below tasks (subst (λ y. ProcessRepresents r ls (with_task y nothing_in_hand) start (popped o.below p)) o.same o.shown) (may o.below o.top o.tasks).may (asks_none (task.Store i v) taken) done
       by_task (task.Keep i b k) taken o may done =
           keep_task r ls p code w start n i b k o.below o.top o.tasks o.same (may o.below o.top o.tasks).may o.shown (asks_none (task.Keep i b k) taken) done
       by_task (task.Throw i err) taken o may done =

@@ -32,15 +32,15 @@ use Rattle.flow_cancel.specs.Heap.{finished}
 use Rattle.flow_cancel.specs.Dropping.{Lost, dropped}
 use Rattle.flow_cancel.specs.declared.task.Dropped.TheVariants as after
 use Rattle.flow_cancel.specs.declared.task.Task.TheVariants as task
-use Rattle.flow_steps.specs.declared.frames.Stand.{Stand}
+use Rattle.flow_steps.specs.declared.frames.ControlPoint.{ControlPoint}
 use Rattle.flow_steps.specs.declared.next.Pace.{Pace}
 use Rattle.flow_steps.specs.declared.process.Process.{Process}
 use Rattle.flow_steps.specs.Doing.{turned, telling}
 use Rattle.flow_steps.specs.Holding.{on_heap, with_heap, filled_broken, broken, lost_by, lost}
-use Rattle.flow_steps.specs.Bringing.{end_line, ended_with, closing}
-use Rattle.flow_steps.specs.Standing.{noted, noted_stand}
-use Rattle.flow_steps.specs.Waiting.{TakesBranch, no_turn, takes_branch, Keeps, kept_marked, kept_unready, kept_ready, Waits, waits_ready, waits_refused, waits_suspended}
-use Rattle.flow_steps.specs.Sights.{Evaluates, gives, throws, runs_out}
+use Rattle.flow_steps.specs.Delivering.{end_line, ended_with, closing}
+use Rattle.flow_steps.specs.Points.{noted, noted_stand}
+use Rattle.flow_steps.specs.Waiting.{TakesBranch, no_turn, takes_branch, KeepsOperand, kept_marked, kept_unready, kept_ready, Waits, waits_ready, waits_refused, waits_suspended}
+use Rattle.flow_steps.specs.Evaluating.{Evaluates, gives, throws, runs_out}
 use Rattle.flow_steps.specs.Stepping.{OnAfter, IsSet, Does, Passes, no_pass, pass_begins, IsTest, ReferenceKept, OperandStep, Chooses, asks_operand, all_kept, ErrorThrown, Ends, by_instruction, by_last, kept_by, StepsOn}
 use Rattle.flow_steps.specs.Tasks.{FiresAt, drops_one, IsDone, Stored}
 use Rattle.flow_follows.specs.Stepped.{OnlyTells}
@@ -61,36 +61,36 @@ turned_told : (m n : Process) → m.asked ≡ None → n ≡ turned m → OnlyTe
 turned_told m n none e = quiet_is m n (turned m) none e (turned_asked m)
 
 -- values are left over
-pub over_told : (s : Stand) (vs : List Value) (m n : Process) (pace : Pace) → m.asked ≡ None → OnAfter s vs m pace n → OnlyTells n.asked
+pub over_told : (s : ControlPoint) (vs : List Value) (m n : Process) (pace : Pace) → m.asked ≡ None → OnAfter s vs m pace n → OnlyTells n.asked
 over_told s [] m n pace none h = quiet_is m n m none h.1 refl
 over_told s (v ∷ vs) m n pace none h = quiet n (ap (λ (z : Process). z.asked) h.1 ∙ none)
 
 -- evaluation
-evaluates_told : {A B : Type 0} (s : Stand) (seen : B → A) (comes_to : Res A) (m n : Process) (goes : B → Process → Pace → Process → Type 0) (pace : Pace) → m.asked ≡ None
+evaluates_told : {A B : Type 0} (s : ControlPoint) (seen : B → A) (comes_to : Res A) (m n : Process) (goes : B → Process → Pace → Process → Type 0) (pace : Pace) → m.asked ≡ None
     → ((v : B) (k n : Process) (pace : Pace) → k.asked ≡ None → goes v k pace n → OnlyTells n.asked) → Evaluates s seen comes_to m goes pace n → OnlyTells n.asked
 evaluates_told s seen comes_to m n goes pace none further (gives b left _ _ done h) = further b _ n pace none h
 evaluates_told s seen comes_to m n goes pace none further (throws e left _ fails h) = quiet n (ap (λ (z : Process). z.asked) h ∙ none)
 evaluates_told s seen comes_to m n goes pace none further (runs_out _ spent h) = quiet n (ap (λ (z : Process). z.asked) h ∙ none)
 
-set_told : (code : Code) (s : Stand) (aim : Aim) (v : Value) (m n : Process) (pace : Pace) → m.asked ≡ None → IsSet code s aim v m pace n → OnlyTells n.asked
+set_told : (code : Code) (s : ControlPoint) (aim : Aim) (v : Value) (m n : Process) (pace : Pace) → m.asked ≡ None → IsSet code s aim v m pace n → OnlyTells n.asked
 set_told code s aim v m n pace none h = over_told _ _ h.between n pace (ap (λ (z : Process). z.asked) h.assigns.put ∙ none) h.after
 
 -- branches and waits
-branch_told : (s : Stand) (b : ℕ) (k : CellId) (m n : Process) → m.asked ≡ None → TakesBranch s b k m n → OnlyTells n.asked
+branch_told : (s : ControlPoint) (b : ℕ) (k : CellId) (m n : Process) → m.asked ≡ None → TakesBranch s b k m n → OnlyTells n.asked
 branch_told s b k m n none (no_turn t e) = turned_told m n none e
 branch_told s b k m n none (takes_branch t h) = told_is n _ h.leaves tt
 
-pub keeps_told : (s : Stand) (x : Held) (m n : Process) (pace : Pace) → m.asked ≡ None → Keeps s x m pace n → OnlyTells n.asked
+pub keeps_told : (s : ControlPoint) (x : Held) (m n : Process) (pace : Pace) → m.asked ≡ None → KeepsOperand s x m pace n → OnlyTells n.asked
 keeps_told s x m n pace none (kept_marked _ marked e) = quiet n (ap (λ (z : Process). z.asked) e ∙ none)
 keeps_told s x m n pace none (kept_unready _ marked ready e) = quiet n (ap (λ (z : Process). z.asked) e ∙ none)
 keeps_told s x m n pace none (kept_ready _ b marked ready of h) = branch_told s b x.cell _ n none h
 
-waits_told : (s : Stand) (group : ℕ) (m n : Process) → m.asked ≡ None → Waits s group m n → OnlyTells n.asked
+waits_told : (s : ControlPoint) (group : ℕ) (m n : Process) → m.asked ≡ None → Waits s group m n → OnlyTells n.asked
 waits_told s group m n none (waits_ready x b first of h) = branch_told s b x.cell m n none h
 waits_told s group m n none (waits_refused h first all e) = quiet n (ap (λ (z : Process). z.asked) e ∙ none)
 waits_told s group m n none (waits_suspended h first all e) = told_is n _ e tt
 
-reference_told : (s : Stand) (n : ℕ) (v : ValueTree) (m k : Process) (pace : Pace) → m.asked ≡ None → ReferenceKept s n v m pace k → OnlyTells k.asked
+reference_told : (s : ControlPoint) (n : ℕ) (v : ValueTree) (m k : Process) (pace : Pace) → m.asked ≡ None → ReferenceKept s n v m pace k → OnlyTells k.asked
 reference_told s n (RefValue kd c) m k pace none h = keeps_told s _ _ k pace none h
 reference_told s n (IntValue i) m k pace none h = absurd h
 reference_told s n (BoolValue b) m k pace none h = absurd h
@@ -100,7 +100,7 @@ reference_told s n (ErrorValue e) m k pace none h = absurd h
 reference_told s n (RecordValue r vs) m k pace none h = absurd h
 
 -- the ends of blocks
-thrown_told : (s : Stand) (v : ValueTree) (m n : Process) (pace : Pace) → m.asked ≡ None → ErrorThrown s v m pace n → OnlyTells n.asked
+thrown_told : (s : ControlPoint) (v : ValueTree) (m n : Process) (pace : Pace) → m.asked ≡ None → ErrorThrown s v m pace n → OnlyTells n.asked
 thrown_told s (ErrorValue e) m n pace none h = quiet n (ap (λ (z : Process). z.asked) h.1 ∙ none)
 thrown_told s (IntValue i) m n pace none h = absurd h
 thrown_told s (BoolValue b) m n pace none h = absurd h
@@ -109,15 +109,15 @@ thrown_told s VoidValue m n pace none h = absurd h
 thrown_told s (RefValue kd c) m n pace none h = absurd h
 thrown_told s (RecordValue r vs) m n pace none h = absurd h
 
-test_told : (s : Stand) (one other : ℕ) (b : Bool) (m n : Process) (pace : Pace) → m.asked ≡ None → IsTest s one other b m pace n → OnlyTells n.asked
+test_told : (s : ControlPoint) (one other : ℕ) (b : Bool) (m n : Process) (pace : Pace) → m.asked ≡ None → IsTest s one other b m pace n → OnlyTells n.asked
 test_told s one other true m n pace none h = quiet n (ap (λ (z : Process). z.asked) h.3 ∙ none)
 test_told s one other false m n pace none h = quiet n (ap (λ (z : Process). z.asked) h.3 ∙ none)
 
-passes_told : (s : Stand) (b : ℕ) (m n : Process) (pace : Pace) → m.asked ≡ None → Passes s b m pace n → OnlyTells n.asked
+passes_told : (s : ControlPoint) (b : ℕ) (m n : Process) (pace : Pace) → m.asked ≡ None → Passes s b m pace n → OnlyTells n.asked
 passes_told s b m n pace none (no_pass t _ to left e) = quiet n (ap (λ (z : Process). z.asked) e ∙ turned_asked m ∙ none)
 passes_told s b m n pace none (pass_begins t _ to left e) = turned_told m n none e
 
-module _ (code : Code) (s : Stand) (m n : Process) (pace : Pace) (none : m.asked ≡ None) where
+module _ (code : Code) (s : ControlPoint) (m n : Process) (pace : Pace) (none : m.asked ≡ None) where
   -- an instruction
   by_instruction_told : (x : Instruction) → slice_get s.block.now.body.items s.instruction ≡ Some x → Does code s x m pace n → OnlyTells n.asked ⊎ Asks code s m pace n
   by_instruction_told (instruction.Set aim e) at h = inl (evaluates_told s value_of _ m n _ pace none (λ v k n pace none h. set_told code s aim v k n pace none h) h)
@@ -152,7 +152,7 @@ module _ (code : Code) (s : Stand) (m n : Process) (pace : Pace) (none : m.asked
   by_end_told end (last.Return e) is h = inl (evaluates_told s value_of _ m n _ pace none (λ v k n pace none h. quiet n (ap (λ (z : Process). z.asked) h.ends ∙ none)) h)
   by_end_told end (last.Throw e) is h = inl (evaluates_told s value_of _ m n _ pace none (λ v k n pace none h. thrown_told s (value_of v) k n pace none h) h)
 
-pub step_told : (code : Code) (s : Stand) (m n : Process) (pace : Pace) → m.asked ≡ None → StepsOn code s m pace n → OnlyTells n.asked ⊎ Asks code s m pace n
+pub step_told : (code : Code) (s : ControlPoint) (m n : Process) (pace : Pace) → m.asked ≡ None → StepsOn code s m pace n → OnlyTells n.asked ⊎ Asks code s m pace n
 step_told code s m n pace none (by_instruction x at h) = by_instruction_told code s m n pace none x at h
 step_told code s m n pace none (by_last end h) = by_end_told code s m n pace none end s.block.now.last refl h
 

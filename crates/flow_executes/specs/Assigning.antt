@@ -23,10 +23,10 @@ use Rattle.flow_code.specs.declared.program.Code.{Code}
 use Rattle.flow_code.specs.Coding.{fields_of}
 use Rattle.flow_trace.specs.declared.line.Line.{Line}
 use Rattle.flow_cancel.specs.Heap.{actor_id}
-use Rattle.flow_meaning.specs.Asks.{Supply}
+use Rattle.flow_meaning.specs.Requests.{Supply}
 use Rattle.flow_meaning.specs.Evaluating.{bind, value}
 use Rattle.flow_meaning.specs.Process.{Run, Entry, Proc}
-use Rattle.flow_meaning.specs.Occ.{Scan, refs_in}
+use Rattle.flow_meaning.specs.References.{Scan, refs_in}
 use Rattle.flow_meaning.specs.Orderly.{Rising}
 use Rattle.flow_meaning.specs.Work.{pushed}
 use Rattle.flow_meaning.specs.Step.{view, on_core}
@@ -34,19 +34,19 @@ use Rattle.flow_meaning.specs.Class.{promise_kind, class_names}
 use Rattle.flow_meaning.specs.Variables.{filled}
 use Rattle.flow_meaning.specs.Frame.{Memory, Frame, look, assign}
 use Rattle.flow_picture.specs.Acting.{put_frame}
-use Rattle.flow_picture.specs.Standing.{HasPlace, number_in}
+use Rattle.flow_picture.specs.FrameChanges.{HasPlace, number_in}
 use Rattle.flow_picture.specs.Holds.{with_refs}
-use Rattle.flow_steps.specs.declared.frames.Stand.{Stand}
+use Rattle.flow_steps.specs.declared.frames.ControlPoint.{ControlPoint}
 use Rattle.flow_steps.specs.declared.next.Pace.{Pace}
 use Rattle.flow_steps.specs.declared.process.Process.{Process}
 use Rattle.flow_steps.specs.Holding.{value_refs}
-use Rattle.flow_steps.specs.Sights.{Evaluates}
-use Rattle.flow_steps.specs.Standing.{Assigns}
+use Rattle.flow_steps.specs.Evaluating.{Evaluates}
+use Rattle.flow_steps.specs.Points.{Assigns}
 use Rattle.flow_steps.specs.Stepping.{IsSet, IsNew}
-use Rattle.flow_follows.specs.Placing.{Stood, with_memory}
-use Rattle.flow_follows.specs.Going.{MayBeStale}
+use Rattle.flow_follows.specs.Placing.{RepresentsActor, with_memory}
+use Rattle.flow_follows.specs.Continuing.{MayBeStale}
 use Rattle.flow_follows.specs.Carried.{StepsAs}
-use Rattle.flow_executes.specs.Going.{GoesBy}
+use Rattle.flow_executes.specs.Continuing.{GoesBy}
 use Rattle.flow_executes.specs.Deciding.{GivesThere}
 
 -- An aim in memory is that of a path: its place is that of the first name, which the frame has; its
@@ -79,19 +79,19 @@ module _ (r : RawTree) (ls : List Line) (m : Process) (p : Proc Frame) (i : ℕ)
     pub memory : Memory
     pub assigned : assign r.records f.mem path (value_of v) ≡ Some (values, memory)
     pub same : values ≡ filled (option_map value_of old ∷ [])
-    pub stood : Stood r ls (with_refs (refs_in values) x) n (put_frame i (with_memory memory f) p) i e (with_memory memory f)
+    pub stood : RepresentsActor r ls (with_refs (refs_in values) x) n (put_frame i (with_memory memory f) p) i e (with_memory memory f)
 
   abbrev pub PathPut : Type 0
   PathPut =
       (x : Scan) (code : Code) (path : List Ident) (aim : Aim) (v : Value) (old : Option Value) (n : Process)
-      → Stood r ls (with_refs (value_refs v) x) m p i e f → AimsAt r.records code f path aim
+      → RepresentsActor r ls (with_refs (value_refs v) x) m p i e f → AimsAt r.records code f path aim
       → CanAssign r.records f path (value_of v)
       → Assigns code.fields (actor_id i) aim v m old n → Assigned x path v old n
 
   -- an assignment of a value
   abbrev pub SetStep : Type 0
   SetStep =
-      (x : Scan) (s : Stand) (w : Supply) (code : Code) (path : List Ident) (t : ExprTree) (aim : Aim)
+      (x : Scan) (s : ControlPoint) (w : Supply) (code : Code) (path : List Ident) (t : ExprTree) (aim : Aim)
       (comes_to : Res ValueTree) (pace : Pace)
       (n : Process) → MayBeStale r ls x s m p i e f → fetch f.code f.block f.instr ≡ Body (SetInstr path t)
       → comes_to ≡ value (class_names r) (view w i p.core) (look f.mem) t → GivesThere p comes_to
@@ -101,7 +101,7 @@ module _ (r : RawTree) (ls : List Line) (m : Process) (p : Proc Frame) (i : ℕ)
   -- A new cell goes into a place: in the class machine it is made by one step, and stored by the next.
   abbrev pub NewStep : Type 0
   NewStep =
-      (x : Scan) (s : Stand) (w : Supply) (q : Slotted) (kd : Kind) (pace : Pace) (n : Process)
+      (x : Scan) (s : ControlPoint) (w : Supply) (q : Slotted) (kd : Kind) (pace : Pace) (n : Process)
       → MayBeStale r ls x s m p i e f → fetch f.code f.block f.instr ≡ Body (NewInstr q) → HasPlace f q
       → bind (type_at f.code q) promise_kind ≡ Some kd → Rising 0 p.core.made p.core.cells
       → IsNew s (number_in (length f.code.slots) q) kd m pace n

@@ -15,22 +15,22 @@ use Rattle.flow_code.specs.declared.class.Act.TheVariants as act
 use Rattle.flow_code.specs.declared.program.Code.{Code}
 use Rattle.flow_code.specs.Places.{place_in}
 use Rattle.flow_trace.specs.declared.line.Line.{Line}
-use Rattle.flow_meaning.specs.Asks.{Supply}
+use Rattle.flow_meaning.specs.Requests.{Supply}
 use Rattle.flow_meaning.specs.Evaluating.{setting, values}
 use Rattle.flow_meaning.specs.Process.{Entry, Proc}
-use Rattle.flow_meaning.specs.Occ.{Scan}
+use Rattle.flow_meaning.specs.References.{Scan}
 use Rattle.flow_meaning.specs.Step.{view}
 use Rattle.flow_meaning.specs.Class.{class_names}
 use Rattle.flow_meaning.specs.Frame.{Frame, look}
-use Rattle.flow_steps.specs.declared.frames.Stand.{Stand}
+use Rattle.flow_steps.specs.declared.frames.ControlPoint.{ControlPoint}
 use Rattle.flow_steps.specs.declared.next.Pace.{Pace}
 use Rattle.flow_steps.specs.declared.process.Process.{Process}
 use Rattle.flow_steps.specs.Acting.{args_of}
-use Rattle.flow_steps.specs.Sights.{Evaluates, setting_in, sight_in, program_time}
+use Rattle.flow_steps.specs.Evaluating.{Evaluates, setting_in, sight_in, program_time}
 use Rattle.flow_steps.specs.Stepping.{IsAct}
-use Rattle.flow_follows.specs.Placing.{Stood}
+use Rattle.flow_follows.specs.Placing.{RepresentsActor}
 use Rattle.flow_follows.specs.Seeing.{IsCodeOf}
-use Rattle.flow_follows.specs.Going.{MayBeStale}
+use Rattle.flow_follows.specs.Continuing.{MayBeStale}
 use Rattle.flow_follows.specs.Carried.{StepsAs}
 
 -- a plain function of a program by its name, which no predefined one has, and by its number
@@ -44,7 +44,7 @@ abbrev pub ArgumentsFollow : Type 0
 ArgumentsFollow =
     (r : RawTree) (ls : List Line) (x : Scan) (m : Process) (p : Proc Frame) (i : ℕ) (e : Entry) (f : Frame)
     (code : Code) (s : Supply)
-    (es : ExprTrees) → Stood r ls x m p i e f → (c : IsCodeOf r code) → program_time m.time ≡ pos s.now
+    (es : ExprTrees) → RepresentsActor r ls x m p i e f → (c : IsCodeOf r code) → program_time m.time ≡ pos s.now
     → length f.code.slots + length f.mem.locals ≤ 2 ^ 32
     → values_at (sight_in code i m)
     (resolved_all (record c.coded.names { place = place_in (length f.code.slots) }) es) m.left
@@ -54,7 +54,7 @@ module _ (r : RawTree) (ls : List Line) (m : Process) (p : Proc Frame) (i : ℕ)
   -- its value is forgotten
   abbrev pub FunctionStep : Type 0
   FunctionStep =
-      (x : Scan) (s : Stand) (w : Supply) (code : Code) (name : Ident) (es : ExprTrees) (k : ℕ)
+      (x : Scan) (s : ControlPoint) (w : Supply) (code : Code) (name : Ident) (es : ExprTrees) (k : ℕ)
       (comes_to : Res (List ValueTree)) (pace : Pace)
       (n : Process) → MayBeStale r ls x s m p i e f → fetch f.code f.block f.instr
       ≡ Body (ActInstr (name ∷ []) es)

@@ -8,31 +8,31 @@ use Rattle.flow_eval.specs.Eval.{Res, Done}
 use Rattle.flow_class.specs.Classes.{CallbackTree, RawTree}
 use Rattle.flow_class.specs.Code.{callback_at}
 use Rattle.flow_trace.specs.declared.line.Line.{Line}
-use Rattle.flow_meaning.specs.Asks.{Supply}
+use Rattle.flow_meaning.specs.Requests.{Supply}
 use Rattle.flow_meaning.specs.Cells.{Ref, Cell}
 use Rattle.flow_meaning.specs.Evaluating.{effect_in, value}
 use Rattle.flow_meaning.specs.Process.{Run, Entry, Proc}
-use Rattle.flow_meaning.specs.Occ.{Scan}
+use Rattle.flow_meaning.specs.References.{Scan}
 use Rattle.flow_meaning.specs.Work.{pushed}
 use Rattle.flow_meaning.specs.Step.{view, on_core}
 use Rattle.flow_meaning.specs.Class.{class_names}
 use Rattle.flow_meaning.specs.Frame.{Frame, look}
 use Rattle.flow_picture.specs.Leaving.{wait_kind}
-use Rattle.flow_picture.specs.Standing.{next_callback}
+use Rattle.flow_picture.specs.FrameChanges.{next_callback}
 use Rattle.flow_picture.specs.Holds.{There}
-use Rattle.flow_steps.specs.declared.frames.Stand.{Stand}
+use Rattle.flow_steps.specs.declared.frames.ControlPoint.{ControlPoint}
 use Rattle.flow_steps.specs.declared.next.Pace.{Pace}
 use Rattle.flow_steps.specs.declared.next.Pace.TheVariants.{Off}
 use Rattle.flow_steps.specs.declared.process.Process.{Process}
-use Rattle.flow_steps.specs.Sights.{Evaluates}
-use Rattle.flow_steps.specs.Standing.{noted, noted_stand}
+use Rattle.flow_steps.specs.Evaluating.{Evaluates}
+use Rattle.flow_steps.specs.Points.{noted, noted_stand}
 use Rattle.flow_steps.specs.Stepping.{OperandKept}
 use Rattle.flow_steps.specs.Waiting.{Waits}
-use Rattle.flow_follows.specs.Placing.{Stood}
+use Rattle.flow_follows.specs.Placing.{RepresentsActor}
 use Rattle.flow_follows.specs.Taking.{AtWait, MayGo, Takeable}
-use Rattle.flow_follows.specs.Going.{MayBeStale}
+use Rattle.flow_follows.specs.Continuing.{MayBeStale}
 use Rattle.flow_follows.specs.Waiting.{MayAwait}
-use Rattle.flow_executes.specs.Going.{AtOperands, GoesBy}
+use Rattle.flow_executes.specs.Continuing.{AtOperands, GoesBy}
 
 -- a reference by which one waits at its cell, and what a branch takes from that is there
 pub record CanWaitAt (p : Proc Frame) (q : Ref) : Type 0 where
@@ -49,7 +49,7 @@ module _ (r : RawTree) (ls : List Line) (m : Process) (p : Proc Frame) (i : ℕ)
   -- an actor comes to its wait: its frame is told
   abbrev pub ChoiceBegins : Type 0
   ChoiceBegins =
-      (x : Scan) (s : Stand) (group : ℕ) → (st : MayBeStale r ls x s m p i e f) → AtWait s f group
+      (x : Scan) (s : ControlPoint) (group : ℕ) → (st : MayBeStale r ls x s m p i e f) → AtWait s f group
       → MayGo i e p.core
       → (s.noted ≡ true → st.stood.acts.memory.state ≡ 0) → AtOperands r ls x (noted_stand s)
       (noted s m) p i e f
@@ -57,7 +57,7 @@ module _ (r : RawTree) (ls : List Line) (m : Process) (p : Proc Frame) (i : ℕ)
   -- The next operand by its value: in the class machine it is asked for by one step, and kept by the next.
   abbrev pub OperandStep : Type 0
   OperandStep =
-      (x : Scan) (s : Stand) (w : Supply) (b : CallbackTree) (comes_to : Res ValueTree) (pace : Pace)
+      (x : Scan) (s : ControlPoint) (w : Supply) (b : CallbackTree) (comes_to : Res ValueTree) (pace : Pace)
       (n : Process)
       → (at : AtOperands r ls x s m p i e f) → m.asked ≡ None
       → callback_at f.code at.group (length e.operands) ≡ Some b
@@ -69,7 +69,7 @@ module _ (r : RawTree) (ls : List Line) (m : Process) (p : Proc Frame) (i : ℕ)
   -- all operands are kept: one that is ready is taken, or the actor waits
   abbrev pub WaitStep : Type 0
   WaitStep =
-      (x : Scan) (s : Stand) (w : Supply) (group : ℕ) (n : Process) → Stood r ls x m p i e f → m.asked ≡ None
+      (x : Scan) (s : ControlPoint) (w : Supply) (group : ℕ) (n : Process) → RepresentsActor r ls x m p i e f → m.asked ≡ None
       → MayAwait s p i group e f → callback_at f.code (suc group) (length e.operands) ≡ None
       → Waits s (suc group) m n
       → GoesBy r ls x w i e.class (on_core (pushed (Run i)) p) Off n

@@ -7,20 +7,20 @@ use Rattle.flow_eval.specs.Eval.{Res, Done, truth_of}
 use Rattle.flow_class.specs.Classes.{TestLast, ReturnLast, RawTree}
 use Rattle.flow_class.specs.Code.{Last, fetch}
 use Rattle.flow_trace.specs.declared.line.Line.{Line}
-use Rattle.flow_meaning.specs.Asks.{Supply}
+use Rattle.flow_meaning.specs.Requests.{Supply}
 use Rattle.flow_meaning.specs.Evaluating.{value}
 use Rattle.flow_meaning.specs.Process.{Entry, Proc}
-use Rattle.flow_meaning.specs.Occ.{Scan}
+use Rattle.flow_meaning.specs.References.{Scan}
 use Rattle.flow_meaning.specs.Step.{view}
 use Rattle.flow_meaning.specs.Class.{class_names}
 use Rattle.flow_meaning.specs.Frame.{Frame, look}
 use Rattle.flow_picture.specs.Holds.{AllThere}
-use Rattle.flow_steps.specs.declared.frames.Stand.{Stand}
+use Rattle.flow_steps.specs.declared.frames.ControlPoint.{ControlPoint}
 use Rattle.flow_steps.specs.declared.next.Pace.{Pace}
 use Rattle.flow_steps.specs.declared.process.Process.{Process}
-use Rattle.flow_steps.specs.Sights.{Evaluates}
+use Rattle.flow_steps.specs.Evaluating.{Evaluates}
 use Rattle.flow_steps.specs.Stepping.{truth_value, IsTest, IsReturn}
-use Rattle.flow_follows.specs.Going.{MayBeStale}
+use Rattle.flow_follows.specs.Continuing.{MayBeStale}
 use Rattle.flow_follows.specs.Carried.{StepsAs}
 
 -- what evaluation gives refers to what is there
@@ -31,7 +31,7 @@ module _ (r : RawTree) (ls : List Line) (m : Process) (p : Proc Frame) (i : ℕ)
   -- one of two blocks, by a truth value
   abbrev pub TestStep : Type 0
   TestStep =
-      (x : Scan) (s : Stand) (w : Supply) (t : ExprTree) (one other : ℕ) (comes_to : Res ValueTree)
+      (x : Scan) (s : ControlPoint) (w : Supply) (t : ExprTree) (one other : ℕ) (comes_to : Res ValueTree)
       (pace : Pace) (n : Process)
       → MayBeStale r ls x s m p i e f → fetch f.code f.block f.instr ≡ Last (TestLast t one other)
       → comes_to ≡ value (class_names r) (view w i p.core) (look f.mem) t
@@ -41,7 +41,7 @@ module _ (r : RawTree) (ls : List Line) (m : Process) (p : Proc Frame) (i : ℕ)
   -- the actor ends with a value, which refers to what is there
   abbrev pub ReturnStep : Type 0
   ReturnStep =
-      (x : Scan) (s : Stand) (w : Supply) (t : ExprTree) (comes_to : Res ValueTree) (pace : Pace)
+      (x : Scan) (s : ControlPoint) (w : Supply) (t : ExprTree) (comes_to : Res ValueTree) (pace : Pace)
       (n : Process)
       → MayBeStale r ls x s m p i e f → fetch f.code f.block f.instr ≡ Last (ReturnLast t)
       → comes_to ≡ value (class_names r) (view w i p.core) (look f.mem) t → GivesThere p comes_to

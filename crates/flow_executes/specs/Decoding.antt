@@ -34,20 +34,20 @@ use Rattle.flow_meaning.specs.Evaluating as effects
 use Rattle.flow_meaning.specs.Process.{Entry, Proc}
 use Rattle.flow_meaning.specs.Class.{class_names}
 use Rattle.flow_meaning.specs.Frame.{Frame}
-use Rattle.flow_picture.specs.Standing.{HasPlace}
-use Rattle.flow_steps.specs.declared.frames.Stand.{Stand}
+use Rattle.flow_picture.specs.FrameChanges.{HasPlace}
+use Rattle.flow_steps.specs.declared.frames.ControlPoint.{ControlPoint}
 use Rattle.flow_steps.specs.declared.next.Pace.TheVariants.{On}
 use Rattle.flow_steps.specs.declared.process.Process.{Process}
-use Rattle.flow_steps.specs.Standing.{StandsNow}
+use Rattle.flow_steps.specs.Points.{IsAtPoint}
 use Rattle.flow_steps.specs.Stepping.{StepsOn}
 use Rattle.flow_follows.specs.Placing.{Acts}
-use Rattle.flow_follows.specs.Taking.{Standing, AtWait}
+use Rattle.flow_follows.specs.Taking.{PointMatches, AtWait}
 use Rattle.flow_follows.specs.Coded.{CodedBy}
-use Rattle.flow_executes.specs.Going.{InClass}
+use Rattle.flow_executes.specs.Continuing.{InClass}
 use Rattle.flow_executes.specs.Assigning.{AimsAt}
 
 -- An actor stands in a block of the class that is coded from that of its frame.
-pub record InCode {r : RawTree} {classes : List Class} (c : CodedBy r classes) (s : Stand) (f : Frame)
+pub record InCode {r : RawTree} {classes : List Class} (c : CodedBy r classes) (s : ControlPoint) (f : Frame)
     : Type 0 where
   pub class : code_of s.class.now ≡ coded c.names c.class f.code
   pub block : slice_get s.class.now.blocks.items s.place ≡ Some s.block.now
@@ -106,37 +106,37 @@ Rooted f path = (q : Slotted) → root_of path ≡ Some q → HasPlace f q
 abbrev pub BeginsInCode : Type 0
 BeginsInCode =
     (r : RawTree) (classes : List Class) (m : Process) (p : Proc Frame) (i : ℕ) (e : Entry) (f : Frame)
-    (s : Stand)
-    → (c : CodedBy r classes) → Acts r m.heap p i e f → StandsNow classes (actor_id i) m s → InCode c s f
+    (s : ControlPoint)
+    → (c : CodedBy r classes) → Acts r m.heap p i e f → IsAtPoint classes (actor_id i) m s → InCode c s f
 
 abbrev pub StaysInCode : Type 0
 StaysInCode =
-    (r : RawTree) (classes : List Class) (code : Code) (s t : Stand) (f g : Frame) (m n : Process)
+    (r : RawTree) (classes : List Class) (code : Code) (s t : ControlPoint) (f g : Frame) (m n : Process)
     → (c : CodedBy r classes)
     → InCode c s f → g.code ≡ f.code → StepsOn code s m (On t) n → InCode c t g
 
 -- the same by the number of its class
 abbrev pub InClassStays : Type 0
 InClassStays =
-    (code : Code) (number : ℕ) (s t : Stand) (m n : Process) → InClass code number s
+    (code : Code) (number : ℕ) (s t : ControlPoint) (m n : Process) → InClass code number s
     → StepsOn code s m (On t) n
     → InClass code number t
 
 abbrev pub InCodeOf : Type 0
 InCodeOf =
-    (r : RawTree) (code : Code) (number : ℕ) (s : Stand) (f : Frame) → (c : CodedBy r code.classes.items)
+    (r : RawTree) (code : Code) (number : ℕ) (s : ControlPoint) (f : Frame) → (c : CodedBy r code.classes.items)
     → InClass code number s → slice_get r.classes number ≡ Some f.code → InCode c s f
 
-module _ (r : RawTree) (classes : List Class) (s : Stand) (i : ℕ) (f : Frame) where
+module _ (r : RawTree) (classes : List Class) (s : ControlPoint) (i : ℕ) (f : Frame) where
   abbrev pub InstructionAt : Type 0
   InstructionAt =
-      (x : Instruction) → (c : CodedBy r classes) → InCode c s f → Standing s i f → s.instruction ≡ f.instr
+      (x : Instruction) → (c : CodedBy r classes) → InCode c s f → PointMatches s i f → s.instruction ≡ f.instr
       → slice_get s.block.now.body.items s.instruction ≡ Some x
       → AtInstruction (coding c.names c.class (length f.code.slots)) f x
 
   abbrev pub EndAt : Type 0
   EndAt =
-      (c : CodedBy r classes) → InCode c s f → Standing s i f → s.instruction ≡ f.instr
+      (c : CodedBy r classes) → InCode c s f → PointMatches s i f → s.instruction ≡ f.instr
       → s.instruction ≡ length s.block.now.body.items
       → AtEnd (coding c.names c.class (length f.code.slots)) f s.block.now.last
 
@@ -148,7 +148,7 @@ module _ (r : RawTree) (classes : List Class) (s : Stand) (i : ℕ) (f : Frame) 
 
   abbrev pub WaitAt : Type 0
   WaitAt =
-      (number : ℕ) → (c : CodedBy r classes) → InCode c s f → Standing s i f
+      (number : ℕ) → (c : CodedBy r classes) → InCode c s f → PointMatches s i f
       → fetch f.code f.block f.instr ≡ Last (ChooseLast number) → AtWait s f number
 
 -- where an actor aims by what its code is coded from

@@ -25,32 +25,32 @@ use Rattle.flow_code.specs.declared.program.Code.{Code}
 use Rattle.flow_code.specs.View.{group_numbered}
 use Rattle.flow_trace.specs.declared.line.Line.{Line}
 use Rattle.flow_numbered.specs.Numbered.{thing}
-use Rattle.flow_meaning.specs.Asks.{Supply}
+use Rattle.flow_meaning.specs.Requests.{Supply}
 use Rattle.flow_meaning.specs.Cells.{Ref, Cell, taken}
 use Rattle.flow_meaning.specs.Evaluating.{effect_in, value}
 use Rattle.flow_meaning.specs.Process.{Run, Entry, Proc}
-use Rattle.flow_meaning.specs.Occ.{Scan, refs_in, value_in}
+use Rattle.flow_meaning.specs.References.{Scan, refs_in, value_in}
 use Rattle.flow_meaning.specs.Orderly.{Rising}
 use Rattle.flow_meaning.specs.Work.{pushed}
 use Rattle.flow_meaning.specs.Step.{view, on_core}
 use Rattle.flow_meaning.specs.Class.{class_names}
 use Rattle.flow_meaning.specs.Frame.{Frame, look}
-use Rattle.flow_picture.specs.Standing.{HasPlace}
+use Rattle.flow_picture.specs.FrameChanges.{HasPlace}
 use Rattle.flow_picture.specs.Holds.{AllThere}
 use Rattle.flow_steps.specs.declared.call.Goal.TheVariants as goal
-use Rattle.flow_steps.specs.declared.frames.Stand.{Stand}
+use Rattle.flow_steps.specs.declared.frames.ControlPoint.{ControlPoint}
 use Rattle.flow_steps.specs.declared.next.Pace.{Pace}
 use Rattle.flow_steps.specs.declared.process.Process.{Process}
 use Rattle.flow_steps.specs.Acting.{IsEffect}
-use Rattle.flow_steps.specs.Sights.{program_time}
-use Rattle.flow_steps.specs.Standing.{noted, noted_stand}
+use Rattle.flow_steps.specs.Evaluating.{program_time}
+use Rattle.flow_steps.specs.Points.{noted, noted_stand}
 use Rattle.flow_steps.specs.Stepping.{Does, StepsOn, kept_by}
 use Rattle.flow_follows.specs.Placing.{HasLocals}
 use Rattle.flow_follows.specs.Taking.{MayGo}
 use Rattle.flow_follows.specs.Seeing.{IsCodeOf}
 use Rattle.flow_follows.specs.Coded.{CodedBy}
 use Rattle.flow_follows.specs.Waiting.{Waitable}
-use Rattle.flow_executes.specs.Going.{MayStep, GoesBy}
+use Rattle.flow_executes.specs.Continuing.{MayStep, GoesBy}
 use Rattle.flow_executes.specs.Deciding.{GivesThere}
 use Rattle.flow_executes.specs.Assigning.{CanAssignAll}
 use Rattle.flow_executes.specs.Choosing.{GivesOperand}
@@ -95,14 +95,14 @@ module _ (r : RawTree) (w : Supply) (p : Proc Frame) (i : ℕ) (e : Entry) (f : 
 abbrev pub coded_by : {r : RawTree} {code : Code} → IsCodeOf r code → CodedBy r code.classes.items
 coded_by c = record { names = c.coded.names; class = c.coded.class; are_coded = c.coded.are_coded }
 
-pub record InProgram (r : RawTree) (code : Code) (s : Stand) (f : Frame) : Type 0 where
+pub record InProgram (r : RawTree) (code : Code) (s : ControlPoint) (f : Frame) : Type 0 where
   pub program : IsCodeOf r code
   pub standing : InCode (coded_by program) s f
   pub few : length f.code.slots + length f.mem.locals ≤ 2 ^ 32
 
 -- A step that asks something of the process or of the world: an effect, a call statement, a method, or an
 -- operand by an effect.
-pub data Asks (code : Code) (s : Stand) (m : Process) (pace : Pace) (n : Process) : Type 0 where
+pub data Asks (code : Code) (s : ControlPoint) (m : Process) (pace : Pace) (n : Process) : Type 0 where
   by_effect : (aim : Aim) (effect : Effect) (args : Vec Resolved Global)
       → slice_get s.block.now.body.items s.instruction ≡ Some (instruction.Effect aim effect args)
       → Does code s (instruction.Effect aim effect args) m pace n → Asks code s m pace n
@@ -123,7 +123,7 @@ pub data Asks (code : Code) (s : Stand) (m : Process) (pace : Pace) (n : Process
 module _ (r : RawTree) (ls : List Line) (m : Process) (p : Proc Frame) (i : ℕ) (e : Entry) (f : Frame) where
   abbrev pub StepFollows : Type 0
   StepFollows =
-      (x : Scan) (s : Stand) (w : Supply) (code : Code) (pace : Pace) (n : Process)
+      (x : Scan) (s : ControlPoint) (w : Supply) (code : Code) (pace : Pace) (n : Process)
       → MayStep r ls x s m p i e f
       → InProgram r code s f → m.asked ≡ None → program_time m.time ≡ pos w.now
       → MayDoNext r w p i e f (fetch f.code f.block f.instr) → StepsOn code s m pace n

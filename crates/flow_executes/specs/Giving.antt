@@ -22,30 +22,30 @@ use Rattle.flow_code.specs.declared.program.Code.{Code}
 use Rattle.flow_trace.specs.declared.line.Line.{Line}
 use Rattle.flow_cancel.specs.declared.task.Task.TheVariants as task
 use Rattle.flow_cancel.specs.Heap.{actor_id}
-use Rattle.flow_meaning.specs.Asks.{Supply}
+use Rattle.flow_meaning.specs.Requests.{Supply}
 use Rattle.flow_meaning.specs.Process.{Run, Give, Store, Keep, Entry, Proc}
-use Rattle.flow_meaning.specs.Occ.{Scan}
+use Rattle.flow_meaning.specs.References.{Scan}
 use Rattle.flow_meaning.specs.Work.{pushed}
 use Rattle.flow_meaning.specs.Step.{silent, step, on_core}
 use Rattle.flow_meaning.specs.Class.{classes}
 use Rattle.flow_meaning.specs.Frame.{Frame}
-use Rattle.flow_picture.specs.Shows.{wait_spot}
+use Rattle.flow_picture.specs.Representing.{wait_spot}
 use Rattle.flow_picture.specs.Acting.{Free}
-use Rattle.flow_picture.specs.Standing.{next_callback}
+use Rattle.flow_picture.specs.FrameChanges.{next_callback}
 use Rattle.flow_picture.specs.Holds.{with_refs}
-use Rattle.flow_steps.specs.declared.frames.Stand.{Stand}
+use Rattle.flow_steps.specs.declared.frames.ControlPoint.{ControlPoint}
 use Rattle.flow_steps.specs.declared.process.Process.{Process}
 use Rattle.flow_steps.specs.Doing.{doing}
 use Rattle.flow_steps.specs.Holding.{value_refs}
-use Rattle.flow_steps.specs.Standing.{StandsNow}
+use Rattle.flow_steps.specs.Points.{IsAtPoint}
 use Rattle.flow_steps.specs.Stepping.{Runs}
 use Rattle.flow_steps.specs.Tasks.{RunsNow, BranchAt, ValueGiven, Stored, IsKept}
-use Rattle.flow_follows.specs.Shown.{Follows}
-use Rattle.flow_follows.specs.Placing.{Stood}
-use Rattle.flow_follows.specs.Taking.{Standing}
-use Rattle.flow_follows.specs.Going.{SameInto}
-use Rattle.flow_follows.specs.Keeping.{MayKeep}
-use Rattle.flow_executes.specs.Going.{MayStep, AtOperands, InClass, GoesFurther}
+use Rattle.flow_follows.specs.Matching.{Matches}
+use Rattle.flow_follows.specs.Placing.{RepresentsActor}
+use Rattle.flow_follows.specs.Taking.{PointMatches}
+use Rattle.flow_follows.specs.Continuing.{SameInto}
+use Rattle.flow_follows.specs.Operands.{MayKeep}
+use Rattle.flow_executes.specs.Continuing.{MayStep, AtOperands, InClass, GoesFurther}
 use Rattle.flow_executes.specs.Assigning.{AimsAt, CanAssign}
 
 -- An actor whose task is next, without operands and in no state of a wait: where the code has it stand is
@@ -53,8 +53,8 @@ use Rattle.flow_executes.specs.Assigning.{AimsAt, CanAssign}
 pub record MayRun (code : Code) (m : Process) (p : Proc Frame) (i : ℕ) (e : Entry) (f : Frame) : Type 0 where
   pub free : Free i p.core
   pub operands : e.operands ≡ []
-  pub stands : (s : Stand) → StandsNow code.classes.items (actor_id i) m s
-      → Standing s i f × (s.instruction ≡ f.instr)
+  pub stands : (s : ControlPoint) → IsAtPoint code.classes.items (actor_id i) m s
+      → PointMatches s i f × (s.instruction ≡ f.instr)
 
 -- An actor that goes on at a branch of its wait, without operands; the branch is coded from a callback.
 pub record MayBranch (code : Code) (r : RawTree) (ls : List Line) (m : Process) (p : Proc Frame)
@@ -66,8 +66,8 @@ pub record MayBranch (code : Code) (r : RawTree) (ls : List Line) (m : Process) 
   pub callback : CallbackTree
   pub fetched : fetch f.code f.block f.instr ≡ Last (ChooseLast group)
   pub at : callback_at f.code group number ≡ Some callback
-  pub stands : (s : Stand) → StandsNow code.classes.items (actor_id i) m s → Standing s i f
-  pub same : (s : Stand) (b : Branch) → StandsNow code.classes.items (actor_id i) m s → BranchAt s number b
+  pub stands : (s : ControlPoint) → IsAtPoint code.classes.items (actor_id i) m s → PointMatches s i f
+  pub same : (s : ControlPoint) (b : Branch) → IsAtPoint code.classes.items (actor_id i) m s → BranchAt s number b
       → (b.block ≡ callback.block) × SameInto r ls m p i e f b.into callback.into
 
 -- the result of an effect comes to where the instruction of an actor aims, that has no operand
@@ -80,10 +80,10 @@ pub record MayStore (code : Code) (r : RawTree) (m : Process) (p : Proc Frame) (
   pub from : ExprTree
   pub fetched : fetch f.code f.block f.instr ≡ Body (EffectInstr path from)
   pub can : CanAssign r.records f path v
-  pub stands : (s : Stand) → StandsNow code.classes.items (actor_id i) m s
-      → Standing s i f × (s.instruction ≡ f.instr)
-  pub aims : (s : Stand) (aim : Aim) (eff : Effect) (args : Vec Resolved Global)
-      → StandsNow code.classes.items (actor_id i) m s
+  pub stands : (s : ControlPoint) → IsAtPoint code.classes.items (actor_id i) m s
+      → PointMatches s i f × (s.instruction ≡ f.instr)
+  pub aims : (s : ControlPoint) (aim : Aim) (eff : Effect) (args : Vec Resolved Global)
+      → IsAtPoint code.classes.items (actor_id i) m s
       → slice_get s.block.now.body.items s.instruction ≡ Some (instruction.Effect aim eff args)
       → AimsAt r.records code f path aim
 
@@ -92,39 +92,39 @@ pub record TaskSteps (r : RawTree) (ls : List Line) (x : Scan) (w : Supply) (sta
     (n : Process) : Type 0 where
   pub after : Proc Frame
   pub steps : step (classes r) w start ≡ Some (silent after)
-  pub follows : Follows r ls x n after
+  pub follows : Matches r ls x n after
 
 module _ (r : RawTree) (ls : List Line) (m : Process) (p : Proc Frame) (i : ℕ) (e : Entry) (f : Frame) where
   -- an actor takes its next step, by its task, which is off
   pub record Begins (x : Scan) (code : Code) (n : Process) : Type 0 where
-    pub stand : Stand
+    pub stand : ControlPoint
     pub may : MayStep r ls x stand m p i e f
     pub stands : InClass code e.class stand
     pub runs : Runs code stand m n
 
   abbrev pub RunBegins : Type 0
   RunBegins =
-      (x : Scan) (code : Code) (n : Process) → (st : Stood r ls x m p i e f) → st.acts.memory.state ≡ 0
+      (x : Scan) (code : Code) (n : Process) → (st : RepresentsActor r ls x m p i e f) → st.acts.memory.state ≡ 0
       → MayRun code m p i e f → RunsNow code (actor_id i) m n → Begins x code n
 
   abbrev pub RunAtWait : Type 0
   RunAtWait =
       (x : Scan) (code : Code) (n : Process)
-      → ((s : Stand) → StandsNow code.classes.items (actor_id i) m s → AtOperands r ls x s m p i e f)
+      → ((s : ControlPoint) → IsAtPoint code.classes.items (actor_id i) m s → AtOperands r ls x s m p i e f)
       → RunsNow code (actor_id i) m n → Begins x code n
 
   -- it goes on at a branch that was taken, with its value in hand
   abbrev pub GiveGoes : Type 0
   GiveGoes =
       (x : Scan) (code : Code) (w : Supply) (number : ℕ) (v : Value) (n : Process)
-      → Stood r ls (with_refs (value_refs v) x) m p i e f → m.asked ≡ None
+      → RepresentsActor r ls (with_refs (value_refs v) x) m p i e f → m.asked ≡ None
       → MayBranch code r ls m p i number e f → ValueGiven code (actor_id i) number v m n
       → GoesFurther code r ls x w i e.class (on_core (pushed (Give i number (GoodOutcome (value_of v)))) p) m n
 
   -- or is thrown an error
   abbrev pub GiveThrows : Type 0
   GiveThrows =
-      (x : Scan) (w : Supply) (number : ℕ) (err : ErrorCode) → Stood r ls x m p i e f
+      (x : Scan) (w : Supply) (number : ℕ) (err : ErrorCode) → RepresentsActor r ls x m p i e f
       → TaskSteps r ls x w (on_core (pushed (Give i number (BadOutcome err.0))) p)
       (doing (task.Throw (actor_id i) err) m)
 
@@ -132,7 +132,7 @@ module _ (r : RawTree) (ls : List Line) (m : Process) (p : Proc Frame) (i : ℕ)
   abbrev pub StoreDone : Type 0
   StoreDone =
       (x : Scan) (code : Code) (w : Supply) (v : Value) (n : Process)
-      → Stood r ls (with_refs (value_refs v) x) m p i e f
+      → RepresentsActor r ls (with_refs (value_refs v) x) m p i e f
       → MayStore code r m p i (value_of v) e f → Stored code (actor_id i) v m n
       → TaskSteps r ls x w (on_core (pushed (Store i (value_of v))) p) n
 
@@ -140,9 +140,9 @@ module _ (r : RawTree) (ls : List Line) (m : Process) (p : Proc Frame) (i : ℕ)
   abbrev pub KeepGoes : Type 0
   KeepGoes =
       (x : Scan) (code : Code) (w : Supply) (group : ℕ) (kd : Kind) (k : CellId) (n : Process)
-      → (st : Stood r ls (with_refs ((kd, k.0) ∷ []) x) m (on_core (pushed (Run i)) p) i e f)
+      → (st : RepresentsActor r ls (with_refs ((kd, k.0) ∷ []) x) m (on_core (pushed (Run i)) p) i e f)
       → st.acts.memory.state ≡ 0 → m.asked ≡ None
-      → ((s : Stand) (start : Process) → start.heap.frames ≡ m.heap.frames
-      → StandsNow code.classes.items (actor_id i) start s → MayKeep s p i group (kd, k.0) e f)
+      → ((s : ControlPoint) (start : Process) → start.heap.frames ≡ m.heap.frames
+      → IsAtPoint code.classes.items (actor_id i) start s → MayKeep s p i group (kd, k.0) e f)
       → IsKept code (actor_id i) (record { callback = next_callback e f; cell = k }) m n
       → GoesFurther code r ls x w i e.class (on_core (pushed (Keep i (wait_spot f) (kd, k.0))) (on_core (pushed (Run i)) p)) m n

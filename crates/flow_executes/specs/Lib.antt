@@ -1,4 +1,4 @@
-pub mod Going
+pub mod Continuing
 pub mod Deciding
 pub mod Assigning
 pub mod Calling

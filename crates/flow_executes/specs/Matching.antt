@@ -20,12 +20,12 @@ use Rattle.flow_code.specs.declared.program.Code.{Code}
 use Rattle.flow_trace.specs.declared.line.Line.{Line}
 use Rattle.flow_meaning.specs.Process.{Entry, Proc}
 use Rattle.flow_meaning.specs.Frame.{Frame}
-use Rattle.flow_picture.specs.Standing.{HasPlace}
-use Rattle.flow_steps.specs.declared.frames.Stand.{Stand}
+use Rattle.flow_picture.specs.FrameChanges.{HasPlace}
+use Rattle.flow_steps.specs.declared.frames.ControlPoint.{ControlPoint}
 use Rattle.flow_steps.specs.declared.process.Process.{Process}
 use Rattle.flow_steps.specs.Tasks.{BranchAt}
-use Rattle.flow_follows.specs.Taking.{Standing}
-use Rattle.flow_follows.specs.Going.{SameInto}
+use Rattle.flow_follows.specs.Taking.{PointMatches}
+use Rattle.flow_follows.specs.Continuing.{SameInto}
 use Rattle.flow_follows.specs.Coded.{CodedBy}
 use Rattle.flow_executes.specs.Assigning.{AimsAt}
 use Rattle.flow_executes.specs.Decoding.{InCode, Rooted}
@@ -33,9 +33,9 @@ use Rattle.flow_executes.specs.Decoding.{InCode, Rooted}
 -- where the result of an effect is stored
 abbrev pub EffectAims : Type 0
 EffectAims =
-    (r : RawTree) (classes : List Class) (code : Code) (s : Stand) (i : ℕ) (f : Frame) (path : List Ident)
+    (r : RawTree) (classes : List Class) (code : Code) (s : ControlPoint) (i : ℕ) (f : Frame) (path : List Ident)
     (from : ExprTree) (aim : Aim)
-    (effect : Effect) (args : Vec Resolved Global) → (c : CodedBy r classes) → InCode c s f → Standing s i f
+    (effect : Effect) (args : Vec Resolved Global) → (c : CodedBy r classes) → InCode c s f → PointMatches s i f
     → s.instruction ≡ f.instr → fetch f.code f.block f.instr ≡ Body (EffectInstr path from)
     → slice_get s.block.now.body.items s.instruction ≡ Some (instruction.Effect aim effect args)
     → IsNumbering r.records c.names.field (places_in code.fields) → Rooted f path
@@ -45,9 +45,9 @@ EffectAims =
 abbrev pub BranchCoded : Type 0
 BranchCoded =
     (r : RawTree) (ls : List Line) (m : Process) (p : Proc Frame) (i : ℕ) (e : Entry) (f : Frame)
-    (classes : List Class) (s : Stand)
+    (classes : List Class) (s : ControlPoint)
     (group number : ℕ) (callback : CallbackTree) (b : Branch) → (c : CodedBy r classes) → InCode c s f
-    → Standing s i f
+    → PointMatches s i f
     → fetch f.code f.block f.instr ≡ Last (ChooseLast group) → callback_at f.code group number ≡ Some callback
     → length f.mem.slots ≡ length f.code.slots → length f.code.slots + length f.mem.locals ≤ 2 ^ 32
     → ((q : Slotted) → callback.into ≡ Some q → HasPlace f q) → BranchAt s number b

@@ -6,22 +6,22 @@ use Rattle.flow_class.specs.Code.{fetch}
 use Rattle.flow_code.specs.declared.program.Code.{Code}
 use Rattle.flow_trace.specs.declared.line.Line.{Line}
 use Rattle.flow_numbered.specs.Numbered.{thing}
-use Rattle.flow_meaning.specs.Asks.{Supply}
+use Rattle.flow_meaning.specs.Requests.{Supply}
 use Rattle.flow_meaning.specs.Process.{Run, Entry, Proc}
-use Rattle.flow_meaning.specs.Occ.{Scan}
+use Rattle.flow_meaning.specs.References.{Scan}
 use Rattle.flow_meaning.specs.Work.{pushed}
 use Rattle.flow_meaning.specs.Step.{silent, step, on_core}
 use Rattle.flow_meaning.specs.Class.{classes}
 use Rattle.flow_meaning.specs.Frame.{Frame}
-use Rattle.flow_steps.specs.declared.frames.Stand.{Stand}
+use Rattle.flow_steps.specs.declared.frames.ControlPoint.{ControlPoint}
 use Rattle.flow_steps.specs.declared.next.Pace.TheVariants.{Off}
 use Rattle.flow_steps.specs.declared.process.Process.{Process}
-use Rattle.flow_steps.specs.Sights.{program_time}
+use Rattle.flow_steps.specs.Evaluating.{program_time}
 use Rattle.flow_steps.specs.Stepping.{Runs}
 use Rattle.flow_follows.specs.Stepped.{OnlyTells}
-use Rattle.flow_follows.specs.Shown.{Follows}
+use Rattle.flow_follows.specs.Matching.{Matches}
 use Rattle.flow_follows.specs.Seeing.{IsCodeOf}
-use Rattle.flow_executes.specs.Going.{MayStep, Silent, Leads, InClass, GoesFurther}
+use Rattle.flow_executes.specs.Continuing.{MayStep, Silent, Leads, InClass, GoesFurther}
 use Rattle.flow_executes.specs.Executing.{MayDoNext, InProgram, Asks}
 
 -- What holds of each process of an event is kept by its steps, and allows the next step of an actor whose
@@ -41,7 +41,7 @@ module _ (r : RawTree) (ls : List Line) (x : Scan) (w : Supply) (holds : Proc Fr
   -- The actor has come to a step that asks something, with its own task the newest of the process.
   pub record AsksAtLast (program : IsCodeOf r code) (i : ℕ) (start : Proc Frame) (m n : Process)
       : Type 0 where
-    pub stand : Stand
+    pub stand : ControlPoint
     pub memory : Process
     pub process : Proc Frame
     pub entry : Entry
@@ -59,12 +59,12 @@ module _ (r : RawTree) (ls : List Line) (x : Scan) (w : Supply) (holds : Proc Fr
   pub record RanOff (start : Proc Frame) (n : Process) : Type 0 where
     pub after : Proc Frame
     pub steps : Silent r w start after
-    pub follows : Follows r ls x n after
+    pub follows : Matches r ls x n after
     pub told : OnlyTells n.asked
 
   abbrev pub RunsFollow : Type 0
   RunsFollow =
-      (m : Process) (p : Proc Frame) (i : ℕ) (e : Entry) (f : Frame) (s : Stand) (n : Process)
+      (m : Process) (p : Proc Frame) (i : ℕ) (e : Entry) (f : Frame) (s : ControlPoint) (n : Process)
       → (program : IsCodeOf r code)
       → Allows r w holds → holds (on_core (pushed (Run i)) p) → MayStep r ls x s m p i e f
       → InClass code e.class s → m.asked ≡ None → program_time m.time ≡ pos w.now → Runs code s m n

@@ -11,22 +11,22 @@ use Rattle.flow_trace.specs.declared.line.Line.{Line}
 use Rattle.flow_cancel.specs.declared.task.Task as stack
 use Rattle.flow_cancel.specs.declared.task.Task.TheVariants as task
 use Rattle.flow_cancel.specs.Heap.{actor_id}
-use Rattle.flow_meaning.specs.Asks.{Spot, Supply}
+use Rattle.flow_meaning.specs.Requests.{Spot, Supply}
 use Rattle.flow_meaning.specs.Process.{Task, Run, Keep, Entry, Proc}
 use Rattle.flow_meaning.specs.Work.{pushed}
 use Rattle.flow_meaning.specs.Step.{popped, on_core}
 use Rattle.flow_meaning.specs.Frame.{Frame}
 use Rattle.flow_picture.specs.Counted.{nothing_in_hand}
 use Rattle.flow_picture.specs.Rested.{Sorted}
-use Rattle.flow_steps.specs.declared.frames.Stand.{Stand}
+use Rattle.flow_steps.specs.declared.frames.ControlPoint.{ControlPoint}
 use Rattle.flow_steps.specs.declared.process.Process.{Process}
-use Rattle.flow_steps.specs.Standing.{StandsNow}
+use Rattle.flow_steps.specs.Points.{IsAtPoint}
 use Rattle.flow_steps.specs.Tasks.{TopTaken, IsDone}
-use Rattle.flow_follows.specs.Shown.{Shown, Sound}
+use Rattle.flow_follows.specs.Matching.{ProcessRepresents, Sound}
 use Rattle.flow_follows.specs.Placing.{Acts}
-use Rattle.flow_follows.specs.Keeping.{MayKeep}
+use Rattle.flow_follows.specs.Operands.{MayKeep}
 use Rattle.flow_follows.specs.Stepped.{OnlyTells, MayDo, Steps}
-use Rattle.flow_executes.specs.Going.{AtOperands, GoesFurther}
+use Rattle.flow_executes.specs.Continuing.{AtOperands, GoesFurther}
 use Rattle.flow_executes.specs.Giving.{Begins, MayRun, MayBranch, MayStore}
 
 -- what a task that was the newest leads to, when it is off
@@ -44,7 +44,7 @@ pub data MayGo (code : Code) (r : RawTree) (ls : List Line) (m : Process) (p : P
   is_free : (e : Entry) (f : Frame) → (a : Acts r m.heap p i e f) → a.memory.state ≡ 0 → MayRun code m p i e f
       → MayGo code r ls m p i
   has_operands : (e : Entry) (f : Frame)
-      → ((s : Stand) → StandsNow code.classes.items (actor_id i) m s → AtOperands r ls nothing_in_hand s m p i e f)
+      → ((s : ControlPoint) → IsAtPoint code.classes.items (actor_id i) m s → AtOperands r ls nothing_in_hand s m p i e f)
       → MayGo code r ls m p i
 
 -- a branch that was taken gets what it took
@@ -63,8 +63,8 @@ pub record MayKeepOne (code : Code) (r : RawTree) (m : Process) (p : Proc Frame)
   pub acts : Acts r m.heap (on_core (pushed (Run i)) rest) i entry frame
   pub state : acts.memory.state ≡ 0
   pub group : ℕ
-  pub may : (kd : Kind) (spot : Spot) (s : Stand) (start : Process) → u ≡ Keep i spot (kd, cell)
-      → start.heap.frames ≡ m.heap.frames → StandsNow code.classes.items (actor_id i) start s
+  pub may : (kd : Kind) (spot : Spot) (s : ControlPoint) (start : Process) → u ≡ Keep i spot (kd, cell)
+      → start.heap.frames ≡ m.heap.frames → IsAtPoint code.classes.items (actor_id i) start s
       → MayKeep s rest i group (kd, cell) entry frame
 
 -- What has to hold of a task, and of that of the process, when it is off.
@@ -84,7 +84,7 @@ pub record MayBeDone (code : Code) (r : RawTree) (ls : List Line) (m : Process) 
 
 abbrev pub TaskFollows : RawTree → List Line → Process → Proc Frame → Type 0
 TaskFollows r ls m p =
-    (code : Code) (w : Supply) (t : stack.Task) (start n : Process) → Shown r ls nothing_in_hand m p
+    (code : Code) (w : Supply) (t : stack.Task) (start n : Process) → ProcessRepresents r ls nothing_in_hand m p
     → m.asked ≡ None
     → TopTaken t m start
     → ((below : List Task) (u : Task) → p.core.tasks ≡ u ∷ below → MayBeDone code r ls start (popped below p) t u)

@@ -5,7 +5,7 @@ ghost use Rattle.flow_executes.specs.Calling as law;
 
 /// A call statement of a plain function in memory is a step of the class machine; its arguments come to
 /// the same.
-pub fn calls_follow()
+pub fn function_calls_refine()
     ensures arguments { law.ArgumentsFollow }
     ensures function { ForActors law.FunctionStep }
 {}

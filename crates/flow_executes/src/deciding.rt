@@ -4,7 +4,7 @@ ghost use Rattle.flow_follows.specs.Placing.{ForActors};
 ghost use Rattle.flow_executes.specs.Deciding as law;
 
 /// A test and the end of an actor with a value, in memory, are each a step of the class machine.
-pub fn decisions_follow()
+pub fn tests_and_returns_refine()
     ensures test { ForActors law.TestStep }
     ensures ends { ForActors law.ReturnStep }
 {}

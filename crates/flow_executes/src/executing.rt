@@ -6,6 +6,6 @@ ghost use Rattle.flow_executes.specs.Executing as law;
 /// A step of an actor in memory, by what stands in the code where it stands, is a row of steps of the
 /// class machine that ask nothing of the world; or it asks something: an effect, a call statement, a
 /// method, or an operand by an effect.
-pub fn steps_follow()
+pub fn actor_steps_refine()
     ensures { ForActors law.StepFollows }
 {}

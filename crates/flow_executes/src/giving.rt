@@ -6,7 +6,7 @@ ghost use Rattle.flow_executes.specs.Giving as law;
 /// An actor whose task is next in memory takes its steps from where its frame stands. A branch that gets
 /// what it took, the result of an effect that is stored and an operand that is kept are each a step of
 /// the class machine, after which the actor goes on at once or other tasks come first.
-pub fn tasks_go()
+pub fn actor_tasks_refine()
     ensures runs { ForActors law.RunBegins }
     ensures waits { ForActors law.RunAtWait }
     ensures gives { ForActors law.GiveGoes }

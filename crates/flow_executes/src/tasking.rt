@@ -10,6 +10,6 @@ ghost use Rattle.flow_executes.specs.Tasking.{TaskFollows};
 
 /// Each task, done in memory, is a step of the class machine, or a row of steps after which its actor
 /// goes on; or its actor takes its steps.
-pub fn each_task_follows()
+pub fn every_task_refines()
     ensures { (r : RawTree) (ls : List Line) (m : Process) (p : Proc Frame) → TaskFollows r ls m p }
 {}

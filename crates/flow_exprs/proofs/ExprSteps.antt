@@ -31,7 +31,7 @@ use Rattle.flow_exprs.specs.declared.stop.Stop.{Stop}
 use Rattle.flow_exprs.specs.declared.stop.Stop.TheVariants.{Short, Deep, NoMemory}
 use Rattle.flow_exprs.specs.Kinds.{kind_of, sign_kind, kind_at}
 use Rattle.flow_exprs.specs.Machine.{leaf, word_leaf, name_bytes, ident, Head, Function, Method, called, Unary, Negation, Minus, unary, Stack, Top, InParen, InUnary, InTwo, InArgs, State, Want, Have, WantArgs, WantName, WantOpen, WantClose, Dead, push, closed_stack, step_kind, step, height, heights, head_height, hole, fits_stack, fits, Outcome, Ended, ShortAt, DeepAt, halt, turn, run, Below}
-use Rattle.flow_exprs.specs.Answer.{NotCallable, KindStops, Stops, Fit, ReadsExpr, Goes, ReadsArgs, Ends, Refuses, RefusesArgs, next_op, leaf_of_word, leaf_of, leaf_in, leaf_at, ident_of, ident_in, ident_at, NoSign, RefusalIs}
+use Rattle.flow_exprs.specs.Answer.{NotCallable, KindStops, Stops, Fit, ReadsExpr, Extends, ReadsArgs, Ends, Refuses, RefusesArgs, next_op, leaf_of_word, leaf_of, leaf_in, leaf_at, ident_of, ident_in, ident_at, NoSign, RefusalIs}
 use Rattle.flow_exprs.proofs.Sound.{heights_push, called_height, height_some}
 use Rattle.flow_exprs.proofs.Steps.{nat_lt_ge, level_small}
 use Rattle.flow_exprs.proofs.Goes.{Alive}
@@ -513,7 +513,7 @@ module _ (spots : List Spot) where
       ∙ go (j + 1) (WantName t K) (Have (FieldExpr t v) K) kind.Name (name_kind (j + 1) v n) (λ x e. ap (λ w. Have (FieldExpr t w) K) (ident_is (j + 1) v x n e)) tt (and_true (hole K + suc (height t)) 65 (fits_stack K) (omega arith) fs)
       ∙ ap (λ m. run m (Have (FieldExpr t v) K) (drop m spots)) e1
 
-  pub field_goes : (j d : ℕ) (t : ExprTree) (high : ℕ) (v : Ident) → kind_at spots j ≡ Some kind.Dot → high ≡ height t → d + high ≤ 64 → ident_at spots (j + 1) ≡ Some v → (kind_at spots (j + 2) ≡ Some kind.Open → ⊥) → Goes spots t j 6 d 8 (FieldExpr t v) (high + 1) (j + 2)
+  pub field_goes : (j d : ℕ) (t : ExprTree) (high : ℕ) (v : Ident) → kind_at spots j ≡ Some kind.Dot → high ≡ height t → d + high ≤ 64 → ident_at spots (j + 1) ≡ Some v → (kind_at spots (j + 2) ≡ Some kind.Open → ⊥) → Extends spots t j 6 d 8 (FieldExpr t v) (high + 1) (j + 2)
   field_goes j d t high v h hi le n differs = record {
     after = omega arith;
     within = omega (arith, kind_within (j + 1) kind.Name (name_kind (j + 1) v n));
@@ -530,7 +530,7 @@ module _ (spots : List Spot) where
       ∙ go (j + 2) (Have (FieldExpr t v) K) (WantArgs (Method t v) K) kind.Open o (λ x e. refl) tt (and_true (hole K + height t) 64 (fits_stack K) (omega arith) fs)
       ∙ ap (λ m. run m (WantArgs (Method t v) K) (drop m spots)) e1
 
-  pub method_goes : (j d : ℕ) (t : ExprTree) (high : ℕ) (v : Ident) (ts : ExprTrees) (wide to : ℕ) → kind_at spots j ≡ Some kind.Dot → high ≡ height t → d + high ≤ 64 → ident_at spots (j + 1) ≡ Some v → kind_at spots (j + 2) ≡ Some kind.Open → ReadsArgs spots (j + 3) d ts wide to → Goes spots t j 6 d 8 (MethodExpr t v ts) (max high wide + 1) to
+  pub method_goes : (j d : ℕ) (t : ExprTree) (high : ℕ) (v : Ident) (ts : ExprTrees) (wide to : ℕ) → kind_at spots j ≡ Some kind.Dot → high ≡ height t → d + high ≤ 64 → ident_at spots (j + 1) ≡ Some v → kind_at spots (j + 2) ≡ Some kind.Open → ReadsArgs spots (j + 3) d ts wide to → Extends spots t j 6 d 8 (MethodExpr t v ts) (max high wide + 1) to
   method_goes j d t high v ts wide to h hi le n o r = record {
     after = omega (arith, r.after);
     within = r.within;
@@ -569,7 +569,7 @@ module _ (spots : List Spot) where
       same_turn Dead o = same_halt
       same_turn _ o = refl
 
-  pub right_goes : (j d : ℕ) (op : Op) (t u : ExprTree) (high wide to : ℕ) → kind_at spots j ≡ Some (kind.Op op) → high ≡ height t → d + high ≤ 64 → ReadsExpr spots (j + 1) (level op + 1) (d + 1) (level op + 1) u wide to → Goes spots t j (level op) d 7 (BinaryExpr op t u) (max high wide + 1) to
+  pub right_goes : (j d : ℕ) (op : Op) (t u : ExprTree) (high wide to : ℕ) → kind_at spots j ≡ Some (kind.Op op) → high ≡ height t → d + high ≤ 64 → ReadsExpr spots (j + 1) (level op + 1) (d + 1) (level op + 1) u wide to → Extends spots t j (level op) d 7 (BinaryExpr op t u) (max high wide + 1) to
   right_goes j d op t u high wide to h hi le r = record {
     after = omega (arith, r.after);
     within = r.within;
@@ -588,7 +588,7 @@ module _ (spots : List Spot) where
   right_refused j d op t s K h le r f = ends_is (run j (Have t K) (drop j spots)) (run (j + 1) (Want (InTwo op t K)) (drop (j + 1) spots)) s (right_comes j d op t K h le f) (r (InTwo op t K) (right_fit d op t K le f))
 
   -- going on
-  pub goes_on : (i n m d k : ℕ) (t u : ExprTree) (high to wide end : ℕ) → n ≤ m → ReadsExpr spots i n d k t high to → Goes spots t to m d k u wide end → ReadsExpr spots i n d k u wide end
+  pub goes_on : (i n m d k : ℕ) (t u : ExprTree) (high to wide end : ℕ) → n ≤ m → ReadsExpr spots i n d k t high to → Extends spots t to m d k u wide end → ReadsExpr spots i n d k u wide end
   goes_on i n m d k t u high to wide end le r g = record {
     after = omega (arith, r.after, g.after);
     within = g.within;
@@ -708,8 +708,8 @@ module _ (spots : List Spot) where
   pub reads_is : (i n d m : ℕ) (t u : ExprTree) (high to : ℕ) → u ≡ t → ReadsExpr spots i n d m t high to → ReadsExpr spots i n d m u high to
   reads_is i n d m t u high to e r = subst (λ w. ReadsExpr spots i n d m w high to) (sym e) r
 
-  pub goes_is : (j n d m : ℕ) (t u v : ExprTree) (high wide to : ℕ) → u ≡ v → high ≡ wide → Goes spots t j n d m v wide to → Goes spots t j n d m u high to
-  goes_is j n d m t u v high wide to e f g = subst (λ w. Goes spots t j n d m w high to) (sym e) (subst (λ h. Goes spots t j n d m v h to) (sym f) g)
+  pub goes_is : (j n d m : ℕ) (t u v : ExprTree) (high wide to : ℕ) → u ≡ v → high ≡ wide → Extends spots t j n d m v wide to → Extends spots t j n d m u high to
+  goes_is j n d m t u v high wide to e f g = subst (λ w. Extends spots t j n d m w high to) (sym e) (subst (λ h. Extends spots t j n d m v h to) (sym f) g)
 
   op_begins : (op : Op) → NoSign (kind.Op op) → Begins spots (kind.Op op) → ⊥
   op_begins Sub s b = s

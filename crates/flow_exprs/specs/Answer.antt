@@ -67,7 +67,7 @@ pub record ReadsExpr (spots : List Spot) (from n depth m : ℕ) (t : ExprTree) (
   pub stops : Stops m t (kind_at spots to)
 
 -- behind an expression, from one token to another, more is read that makes it another expression
-pub record Goes (spots : List Spot) (t : ExprTree) (from n depth m : ℕ) (u : ExprTree) (high to : ℕ) : Type 0 where
+pub record Extends (spots : List Spot) (t : ExprTree) (from n depth m : ℕ) (u : ExprTree) (high to : ℕ) : Type 0 where
   pub after : from < to
   pub within : to ≤ length spots
   pub high_is : high ≡ height u
@@ -143,7 +143,7 @@ ArgsAnswer spots from depth (Err s) = RefusesArgs spots from depth s
 
 -- what is answered where an expression goes on
 abbrev pub GoesAnswer : List Spot → Read → ℕ → ℕ → ℕ → Result Read Stop → Type 0
-GoesAnswer spots left n depth m (Ok r) = Goes spots (expr_of left.expr) left.to n depth m (expr_of r.expr) r.high r.to
+GoesAnswer spots left n depth m (Ok r) = Extends spots (expr_of left.expr) left.to n depth m (expr_of r.expr) r.high r.to
 GoesAnswer spots left n depth m (Err s) = (K : Stack) → Fit n depth K → Ends (run left.to (Have (expr_of left.expr) K) (drop left.to spots)) s
 
 -- no sign stands before an operand

@@ -8,10 +8,10 @@ use Rattle.flow_base.specs.ErrorNumbers.{operation_cancelled, second_waiter}
 use Rattle.flow_value.specs.Values.{ValueTree, OutcomeTree}
 use Rattle.flow_numbered.specs.Numbered.{Numbered, thing, added, put, removed}
 use Rattle.flow_meaning.specs.Cells.{Ref, Waiter, Cell, Single, Stream, is_busy, is_ready, waiters, taken, after_taking, with_waiter, without, without_one, as_list, left_by, filled, held}
-use Rattle.flow_meaning.specs.Asks.{Spot}
+use Rattle.flow_meaning.specs.Requests.{Spot}
 use Rattle.flow_meaning.specs.Process.{Task, Run, Give, Throw, Catch, Store, Keep, Close, Fire, Drop, Entry, Core}
 use Rattle.flow_meaning.specs.Lines.{take_line, cancel_line}
-use Rattle.flow_meaning.specs.Occ.{refs_in}
+use Rattle.flow_meaning.specs.References.{refs_in}
 use Rattle.flow_meaning.specs.Orderly.{Rising}
 use Rattle.flow_meaning.specs.React.{at_spot, suspend, wait_by, wait}
 use Rattle.flow_meaning.specs.Work.{drops, fill_cell, fill, free_cell, free, leave_for, give, take_branch, is_ready_at, first_ready, Registration, Registered, Refused, Missing, register_at, register, marked, cancel_by, cancel, cancel_owner, writes}

@@ -13,22 +13,22 @@ use Rattle.flow_eval.specs.Predefined.{natural}
 use Rattle.flow_class.specs.Classes.{RawTree}
 use Rattle.flow_numbered.specs.Numbered.{Numbered, thing, added, put, removed}
 use Rattle.flow_meaning.specs.Cells.{Side, PromiseSide, FutureSide, side_of, Ref, Waiter, Cell, Single, Stream, is_complete, is_ready, waiters}
-use Rattle.flow_meaning.specs.Asks.{DiskCall, Effect, Make, Start, Draw, Delay, Never, Listen, Disk, Goal, Act, Goes, Pass, Drops, Effects, Operand, Waits as WaitsFor, Sends, Cancels, Prints, SendsTo, Returns, Throws, RunsOut, Stuck, Ask, Spot, Supply}
+use Rattle.flow_meaning.specs.Requests.{DiskCall, Effect, Make, Start, Draw, Delay, Never, Listen, Disk, Goal, Act, Goes, Pass, Drops, Effects, Operand, Waits as WaitsFor, Sends, Cancels, Prints, SendsTo, Returns, Throws, RunsOut, Stuck, Ask, Spot, Supply}
 use Rattle.flow_meaning.specs.Process.{Task, Run, Give, Throw, Catch, Store, Keep, Close, Fire, Drop, Entry, Halt, Core, Proc, Raised}
-use Rattle.flow_meaning.specs.Occ.{Scan, Occ, scan_of}
+use Rattle.flow_meaning.specs.References.{Scan, reference_count, scan_of}
 use Rattle.flow_meaning.specs.Orderly.{Rising, NextStep, Paired, Orderly}
 use Rattle.flow_meaning.specs.Work.{fill, new_cell, pushed, writes, owner, is_ready_at, take_branch}
 use Rattle.flow_meaning.specs.Effects.{Reaction, result_task, push_result, gives_open, empty_cell, between, is_port, open_port, judged, ask_disk, effect}
 use Rattle.flow_meaning.specs.React.{send_by, send_in, print, react}
 use Rattle.flow_meaning.specs.Dropping.{port_of, promises_gone, futures_gone, loss, suffer, lose_cell, lose_ref, fire, fire_to, fire_at, fire_cell, set_result, give_result, close}
 use Rattle.flow_meaning.specs.Lines.{print_line, end_line, throw_line, broken_line}
-use Rattle.flow_meaning.specs.Occ.{refs_in, value_in}
+use Rattle.flow_meaning.specs.References.{refs_in, value_in}
 use Rattle.flow_meaning.specs.Step as steps
 use Rattle.flow_meaning.specs.Step.{proc, Stepped, view, enrol, start, answer, run_next, run, fate, throw_core, OperandFate, GoesOn, Cancelled, Ready, verdict, with_operand, below, keep_by, keep, close_actor, scanned, do_task, step_tasks, step_if, step}
 use Rattle.flow_meaning.specs.Frame.{Frame}
 use Rattle.flow_meaning.specs.Class.{classes}
 use Rattle.flow_meaning.proofs.Posture.{Unless, unless, after_turn}
-use Rattle.flow_picture.specs.Keeps.{Tied}
+use Rattle.flow_picture.specs.CellsTied.{CellsTied}
 use Rattle.flow_fired.specs.Fired.{is_due, Fires}
 use Rattle.flow_fired.proofs.Cells.{P, alone, unready, more, under_drops, fill_fired, removed_due, free_fired, leave_fired, branch_fired, wait_fired, cancel_fired, owner_fired, new_due}
 
@@ -58,7 +58,7 @@ module _ (k : ℕ) where
     where
       by_cell : (x : Option Cell) → Unless (P k) (lose_cell scan s j x c)
       by_cell None = tt
-      by_cell (Some cell) = suffer_fired s j (Occ scan PromiseSide j c) (Occ scan FutureSide j c) cell c up h
+      by_cell (Some cell) = suffer_fired s j (reference_count scan PromiseSide j c) (reference_count scan FutureSide j c) cell c up h
 
   -- A fire ends only where nobody waits any more, or the cell isn't ready any more.
   module _ (scan : Scan) (j : ℕ) (c : Core) (up : Rising 0 c.made c.cells) (h : is_due (thing c.cells k) ≡ true → (j ≡ k) ⊎ Fires k c.tasks) where
@@ -99,7 +99,7 @@ module _ (k : ℕ) where
 
       by_result : (d : Core) → Rising 0 d.made d.cells → P k d → (x : Option ℕ) → Unless (P k) (give_result scan x o d)
       by_result d up h None = unless d.halted (λ e. under_drops k (refs_in (value_in o)) d.tasks (h e))
-      by_result d up h (Some j) = by_futures d up h j (Occ scan FutureSide j d)
+      by_result d up h (Some j) = by_futures d up h j (reference_count scan FutureSide j d)
 
   -- sends and prints
   send_fired : (i j : ℕ) (o : OutcomeTree) (c : Core) → P k c → Unless (P k) (send_in (thing c.cells j) i j o c)
@@ -295,5 +295,5 @@ module _ (k : ℕ) where
     if_good (Some x) h o = tt
     if_good None h o = tasks_good c.tasks h refl o
 
-  pub step_fired : (r : RawTree) (s : Supply) (p : Proc Frame) (q : Stepped Frame) → Orderly p.core → Tied p.core → P k p.core → step (classes r) s p ≡ Some q → Unless (P k) q.0.core
+  pub step_fired : (r : RawTree) (s : Supply) (p : Proc Frame) (q : Stepped Frame) → Orderly p.core → CellsTied p.core → P k p.core → step (classes r) s p ≡ Some q → Unless (P k) q.0.core
   step_fired r s p q o t h e = subst (MaybeGood r s p.core p.actors t.numbers.cells) e (if_good r s p.core p.actors t.numbers.cells p.core.halted h o.paired)

@@ -7,7 +7,7 @@ use Rattle.flow_worldfile.specs.Worlds as file
 use Rattle.flow_class.specs.Classes.{RawTree}
 use Rattle.flow_numbered.specs.Numbered.{thing}
 use Rattle.flow_meaning.specs.Cells.{Waiter, Cell, is_ready, waiters}
-use Rattle.flow_meaning.specs.Asks.{Supply}
+use Rattle.flow_meaning.specs.Requests.{Supply}
 use Rattle.flow_meaning.specs.Process.{Task, Fire, Core, Proc}
 use Rattle.flow_meaning.specs.Orderly.{Orderly, UnlessStopped}
 use Rattle.flow_meaning.specs.Step.{Stepped, step}
@@ -15,7 +15,7 @@ use Rattle.flow_meaning.specs.Class.{classes}
 use Rattle.flow_meaning.specs.Runs.{ClassStates}
 use Rattle.flow_meaning.specs.World.{Place, World}
 use Rattle.flow_meaning.specs.Frame.{Frame}
-use Rattle.flow_picture.specs.Keeps.{Tied}
+use Rattle.flow_picture.specs.CellsTied.{CellsTied}
 
 -- somebody waits, and at a cell that is ready
 abbrev pub some_wait : List Waiter → Bool
@@ -38,7 +38,7 @@ Fired c = (k : ℕ) → is_due (thing c.cells k) ≡ true → Fires k c.tasks
 -- Each step keeps it, of any classes.
 abbrev pub StepsFire : Type 0
 StepsFire =
-    (r : RawTree) (s : Supply) (p : Proc Frame) (q : Stepped Frame) → Orderly p.core → Tied p.core
+    (r : RawTree) (s : Supply) (p : Proc Frame) (q : Stepped Frame) → Orderly p.core → CellsTied p.core
     → Fired p.core → step (classes r) s p ≡ Some q
     → UnlessStopped q.0.core.halted (Fired q.0.core)
 

@@ -8,14 +8,14 @@ ghost use Rattle.flow_tree.specs.GrammarDecl.{IsProgram};
 ghost use Rattle.flow_rules.specs.Rules.{refusal_of};
 ghost use Rattle.flow_fits.specs.Joined.{AcceptedFits};
 
-use flow_walks::laws::parts_are_simple;
+use flow_walks::laws::grammar_keeps_for_parts_simple;
 
 /// A program that the grammar derives and no rule refuses is well typed: an expression in which no rule fails has the type that
 /// its form gives, and no effects but a whole one in an actor; its functions fit, as their evaluation asks, and so do its
 /// actors.
-pub fn accepted_fits()
+pub fn accepted_programs_are_well_typed()
     ensures { (tokens : Tokens) (program : ProgramTree) → IsProgram tokens program
         → refusal_of program ≡ None → AcceptedFits program }
 {
-    parts_are_simple();
+    grammar_keeps_for_parts_simple();
 }

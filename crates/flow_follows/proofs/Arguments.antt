@@ -8,7 +8,7 @@ use Rattle.flow_eval.specs.Eval.{Setting, more_args, eval, eval_all}
 use Rattle.flow_eval.specs.Functions.{run_function, deepest}
 use Rattle.flow_class.specs.Classes.{RawTree}
 use Rattle.flow_resolved.specs.Resolving.{Naming, AreRecords, AreFunctions, IsNumbering, SameMeaning, resolved_all}
-use Rattle.flow_resolved.specs.Evaluation.{Sight, values_at}
+use Rattle.flow_resolved.specs.Evaluation.{ActorViewTree, values_at}
 use Rattle.flow_resolved.specs.View.{places_in}
 use Rattle.flow_resolved.proofs.Alike.{resolved_alike}
 use Rattle.flow_code.specs.Places.{place_in}
@@ -17,23 +17,23 @@ use Rattle.flow_trace.specs.declared.line.Line.{Line}
 use Rattle.flow_numbered.specs.Numbered as stored
 use Rattle.flow_numbered.specs.Numbered.{thing}
 use Rattle.flow_meaning.specs.Cells.{outcome}
-use Rattle.flow_meaning.specs.Asks.{Supply}
+use Rattle.flow_meaning.specs.Requests.{Supply}
 use Rattle.flow_meaning.specs.Process.{Entry, Proc}
-use Rattle.flow_meaning.specs.Occ.{Scan}
+use Rattle.flow_meaning.specs.References.{Scan}
 use Rattle.flow_meaning.specs.Evaluating.{setting, values}
 use Rattle.flow_meaning.specs.Step.{view}
 use Rattle.flow_meaning.specs.Class.{class_names}
 use Rattle.flow_meaning.specs.Frame.{Frame, look}
-use Rattle.flow_picture.specs.Shows.{spot_of_actor}
+use Rattle.flow_picture.specs.Representing.{spot_of_actor}
 use Rattle.flow_steps.specs.declared.process.Process.{Process}
 use Rattle.flow_steps.specs.Seen.{content_in}
-use Rattle.flow_steps.specs.Sights.{setting_in, sight_in, program_time}
-use Rattle.flow_follows.specs.Placing.{Stood}
+use Rattle.flow_steps.specs.Evaluating.{setting_in, sight_in, program_time}
+use Rattle.flow_follows.specs.Placing.{RepresentsActor}
 use Rattle.flow_follows.specs.Seeing.{IsCodeOf}
 use Rattle.flow_follows.proofs.Seen.{seen, content_same}
 
 -- arguments in order, each of which comes to the same
-args_same : (n : Naming) (s : Sight) (look : List ℕ → Option ValueTree) → SameMeaning n s look → (es : ExprTrees) (left : ℕ)
+args_same : (n : Naming) (s : ActorViewTree) (look : List ℕ → Option ValueTree) → SameMeaning n s look → (es : ExprTrees) (left : ℕ)
     → values_at s (resolved_all n es) left ≡ eval_all s.setting s.run look es left
 args_same n s look same NoExprs left = refl
 args_same n s look same (MoreExprs e es) left =
@@ -41,7 +41,7 @@ args_same n s look same (MoreExprs e es) left =
     ∙ ap (more_args (eval s.setting s.run look e left)) (fun_ext (args_same n s look same es))
 
 module _ (r : RawTree) (ls : List Line) (x : Scan) (m : Process) (p : Proc Frame) (i : ℕ) (e : Entry) (f : Frame) (code : Code) (s : Supply)
-    (st : Stood r ls x m p i e f) (c : IsCodeOf r code) (time : program_time m.time ≡ pos s.now) where
+    (st : RepresentsActor r ls x m p i e f) (c : IsCodeOf r code) (time : program_time m.time ≡ pos s.now) where
   -- the setting is that of the class program
   pub same_setting : setting_in code m ≡ setting (class_names r) (view s i p.core)
   same_setting =

@@ -15,7 +15,7 @@ use Rattle.flow_cancel.specs.declared.task.Task.{Task}
 use Rattle.flow_cancel.specs.Heap.{HeapTree}
 use Rattle.flow_cancel.specs.Dropping.{dropping}
 use Rattle.flow_cancel.specs.Leaving.{waiter_of}
-use Rattle.flow_steps.specs.Standing.{reframed, values, places_lost, losing_from, lost_from}
+use Rattle.flow_steps.specs.Points.{reframed, values, places_lost, losing_from, lost_from}
 use Rattle.flow_steps.specs.Waiting.{Registered, stream_awaited, awaited, register, registered_then, register_all}
 
 abbrev pub Frames : Type 0

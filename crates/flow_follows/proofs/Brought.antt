@@ -25,13 +25,13 @@ use Rattle.flow_numbered.specs.Numbered.{thing}
 use Rattle.flow_meaning.specs.Cells.{Side, FutureSide, Ref, Waiter, Cell, Single, Stream, is_complete}
 use Rattle.flow_meaning.specs.Cells as cells
 use Rattle.flow_meaning.specs.Process.{Task, Run, Throw, Drop, Proc}
-use Rattle.flow_meaning.specs.Occ.{Scan, count_maybe, in_task}
+use Rattle.flow_meaning.specs.References.{Scan, count_maybe, in_task}
 use Rattle.flow_meaning.specs.Work.{pushed, fill}
 use Rattle.flow_meaning.specs.React.{send_by, send_in}
 use Rattle.flow_meaning.specs.Deliver.{closed_request, stop, stop_main}
 use Rattle.flow_meaning.specs.Step.{on_core}
 use Rattle.flow_meaning.specs.Frame.{Frame}
-use Rattle.flow_picture.specs.Shows.{Shows, CellShows, spot_of_actor, cell_number, error_number}
+use Rattle.flow_picture.specs.Representing.{Represents, CellRepresents, spot_of_actor, cell_number, error_number}
 use Rattle.flow_picture.specs.Losing.{RightCell}
 use Rattle.flow_picture.specs.Holds.{with_refs, There, AllThere, hold_all}
 use Rattle.flow_picture.proofs.Beside.{main_shown, request_closed}
@@ -42,23 +42,23 @@ use Rattle.flow_picture.proofs.Loss.{memory_single, memory_stream}
 use Rattle.flow_steps.specs.declared.process.Process.{Process}
 use Rattle.flow_steps.specs.Doing.{turned, doing}
 use Rattle.flow_steps.specs.Holding.{on_heap, outcome_refs}
-use Rattle.flow_steps.specs.Bringing.{content_brought, answered, main_dropped, complete_at, is_set, is_ended, sent_into, sending}
-use Rattle.flow_follows.specs.Shown.{Shown, Follows, shows, with_task}
+use Rattle.flow_steps.specs.Delivering.{content_brought, answered, main_dropped, complete_at, is_set, is_ended, sent_into, sending}
+use Rattle.flow_follows.specs.Matching.{ProcessRepresents, Matches, shows, with_task}
 use Rattle.flow_follows.specs.Working.{Sendable}
-use Rattle.flow_follows.specs.Bringing as law
+use Rattle.flow_follows.specs.Delivering as law
 use Rattle.flow_follows.proofs.Working.{changed, as_many_shown, turn_taken, task_done, refs_held, cell_filled}
 
 -- what stands in memory at the number of a cell
 module _ (r : RawTree) (h : HeapTree) (p : Proc Frame) where
-  pub found_single : (k : ℕ) (o : Option OutcomeTree) (ws : List Waiter) → Shows r h p → thing p.core.cells k ≡ Some (Single o ws) → (m : CellTree Outcome) × (stored.thing h.cells.things k ≡ Some m)
+  pub found_single : (k : ℕ) (o : Option OutcomeTree) (ws : List Waiter) → Represents r h p → thing p.core.cells k ≡ Some (Single o ws) → (m : CellTree Outcome) × (stored.thing h.cells.things k ≡ Some m)
   found_single k o ws s at =
       memory_single (spot_of_actor p.actors) (stored.thing h.cells.things k) (stored.thing h.streams.things k) o ws
-      (subst (CellShows (spot_of_actor p.actors) (stored.thing h.cells.things k) (stored.thing h.streams.things k)) at (s.cells k))
+      (subst (CellRepresents (spot_of_actor p.actors) (stored.thing h.cells.things k) (stored.thing h.streams.things k)) at (s.cells k))
 
-  pub found_stream : (k : ℕ) (q : List ValueTree) (e : Option ℕ) (w : Option Waiter) → Shows r h p → thing p.core.cells k ≡ Some (Stream q e w) → (m : StreamTree Value) × (stored.thing h.streams.things k ≡ Some m)
+  pub found_stream : (k : ℕ) (q : List ValueTree) (e : Option ℕ) (w : Option Waiter) → Represents r h p → thing p.core.cells k ≡ Some (Stream q e w) → (m : StreamTree Value) × (stored.thing h.streams.things k ≡ Some m)
   found_stream k q e w s at =
       memory_stream (spot_of_actor p.actors) (stored.thing h.cells.things k) (stored.thing h.streams.things k) q e w
-      (subst (CellShows (spot_of_actor p.actors) (stored.thing h.cells.things k) (stored.thing h.streams.things k)) at (s.cells k))
+      (subst (CellRepresents (spot_of_actor p.actors) (stored.thing h.cells.things k) (stored.thing h.streams.things k)) at (s.cells k))
 
 -- what is there stays where cells do
 pub there_by : (p q : Proc Frame) (z : Ref) → q.core.cells ≡ p.core.cells → There p z → There q z
@@ -72,12 +72,12 @@ pub sendable_by : (p q : Proc Frame) (kd : Kind) (k : ℕ) → q.core.cells ≡ 
 sendable_by p q kd k e t = record { cell = t.cell; at = ap (λ cs. thing cs k) e ∙ t.at; right = t.right; incomplete = t.incomplete }
 
 module _ (r : RawTree) (ls : List Line) (x : Scan) (m : Process) (p : Proc Frame) where
-  filled_at_once : (kd : Kind) (k : ℕ) (o : Outcome) → Shown r ls x m p → AllThere p (outcome_refs o) → Sendable p kd k
-      → Shown r ls x (on_heap (content_brought kd k o) m) (on_core (fill k (outcome_of o)) p)
+  filled_at_once : (kd : Kind) (k : ℕ) (o : Outcome) → ProcessRepresents r ls x m p → AllThere p (outcome_refs o) → Sendable p kd k
+      → ProcessRepresents r ls x (on_heap (content_brought kd k o) m) (on_core (fill k (outcome_of o)) p)
   filled_at_once kd k o s t to = cell_filled r ls x (on_heap (hold_all (outcome_refs o)) m) p kd k o (refs_held r ls x m p (outcome_refs o) s t) to
 
 module _ (r : RawTree) (ls : List Line) (x : Scan) (m : Process) (p : Proc Frame) where
-  pub content_follows : law.ContentBrought r ls x m p
+  pub content_follows : law.ContentDelivered r ls x m p
   content_follows kd k o s t to =
       turn_taken r ls x m p x (on_heap (content_brought kd k o)) (λ d. fill k (outcome_of o) d) s (λ n e s.
       let q : Proc Frame = on_core (λ c. record c { left = n }) p in
@@ -96,14 +96,14 @@ module _ (r : RawTree) (ls : List Line) (x : Scan) (m : Process) (p : Proc Frame
   pub main_follows : law.MainDropped r ls x m p
   main_follows s = by_main m.heap.main refl
     where
-      by_main : (o : Option CellId) → m.heap.main ≡ o → Shown r ls x (on_heap (main_dropped o) m) (on_core stop p)
+      by_main : (o : Option CellId) → m.heap.main ≡ o → ProcessRepresents r ls x (on_heap (main_dropped o) m) (on_core stop p)
       by_main None e =
           let f : p.core.main ≡ None = s.holds.shows.main ∙ ap (option_map cell_number) e in
-          subst (λ o. Shown r ls x m (on_core (stop_main o) p)) (sym f) s
+          subst (λ o. ProcessRepresents r ls x m (on_core (stop_main o) p)) (sym f) s
       by_main (Some k) e =
           let f : p.core.main ≡ Some k.0 = s.holds.shows.main ∙ ap (option_map cell_number) e in
           let q : Proc Frame = on_core (λ c. record c { main = None }) p in
-          subst (λ o. Shown r ls x (on_heap (main_dropped (Some k)) m) (on_core (stop_main o) p)) (sym f)
+          subst (λ o. ProcessRepresents r ls x (on_heap (main_dropped (Some k)) m) (on_core (stop_main o) p)) (sym f)
           (changed r ls x x m p (on_core (pushed (Drop kind.Future k.0)) q) (main_dropped (Some k) m.heap) s (record {
             shows = pushed_shown r (record m.heap { main = None }) q (task.Drop kind.Future k) (Drop kind.Future k.0) (main_shown r m.heap p None s.holds.shows) refl;
             counted = λ z j.
@@ -122,21 +122,21 @@ module _ (r : RawTree) (ls : List Line) (x : Scan) (m : Process) (p : Proc Frame
   ended_same None = refl
   ended_same (Some e) = refl
 
-  single_complete : (k : ℕ) (o : Option OutcomeTree) (ws : List Waiter) → Shown r ls x m p → thing p.core.cells k ≡ Some (Single o ws) → is_set (stored.thing m.heap.cells.things k) ≡ cells.is_some o
+  single_complete : (k : ℕ) (o : Option OutcomeTree) (ws : List Waiter) → ProcessRepresents r ls x m p → thing p.core.cells k ≡ Some (Single o ws) → is_set (stored.thing m.heap.cells.things k) ≡ cells.is_some o
   single_complete k o ws s at =
       let f = found_single r m.heap p k o ws s.holds.shows at in
-      let a = as_single (spot_of_actor p.actors) f.0 (stored.thing m.heap.streams.things k) (thing p.core.cells k) (subst (λ c. CellShows (spot_of_actor p.actors) c (stored.thing m.heap.streams.things k) (thing p.core.cells k)) f.1 (s.holds.shows.cells k)) in
+      let a = as_single (spot_of_actor p.actors) f.0 (stored.thing m.heap.streams.things k) (thing p.core.cells k) (subst (λ c. CellRepresents (spot_of_actor p.actors) c (stored.thing m.heap.streams.things k) (thing p.core.cells k)) f.1 (s.holds.shows.cells k)) in
       let same : (Single (option_map outcome_of f.0.content) a.waiters) ≡ Single o ws = let b = a.cell in cc (b, at) in
       ap is_set f.1 ∙ set_same f.0.content ∙ ap cells.is_some (cc (same))
 
-  stream_complete : (k : ℕ) (q : List ValueTree) (d : Option ℕ) (w : Option Waiter) → Shown r ls x m p → thing p.core.cells k ≡ Some (Stream q d w) → is_ended (stored.thing m.heap.streams.things k) ≡ cells.is_some d
+  stream_complete : (k : ℕ) (q : List ValueTree) (d : Option ℕ) (w : Option Waiter) → ProcessRepresents r ls x m p → thing p.core.cells k ≡ Some (Stream q d w) → is_ended (stored.thing m.heap.streams.things k) ≡ cells.is_some d
   stream_complete k q d w s at =
       let f = found_stream r m.heap p k q d w s.holds.shows at in
-      let a = as_stream (spot_of_actor p.actors) f.0 (stored.thing m.heap.cells.things k) (thing p.core.cells k) (subst (λ c. CellShows (spot_of_actor p.actors) (stored.thing m.heap.cells.things k) c (thing p.core.cells k)) f.1 (s.holds.shows.cells k)) in
+      let a = as_stream (spot_of_actor p.actors) f.0 (stored.thing m.heap.cells.things k) (thing p.core.cells k) (subst (λ c. CellRepresents (spot_of_actor p.actors) (stored.thing m.heap.cells.things k) c (thing p.core.cells k)) f.1 (s.holds.shows.cells k)) in
       let same : (Stream (map value_of f.0.queue) (option_map error_number f.0.end) a.waiter) ≡ Stream q d w = let b = a.cell in cc (b, at) in
       ap is_ended f.1 ∙ ended_same f.0.end ∙ ap cells.is_some (cc (same))
 
-  complete_same : (kd : Kind) (k : ℕ) (c : Cell) → Shown r ls x m p → thing p.core.cells k ≡ Some c → RightCell kd c → complete_at kd k m.heap ≡ is_complete c
+  complete_same : (kd : Kind) (k : ℕ) (c : Cell) → ProcessRepresents r ls x m p → thing p.core.cells k ≡ Some c → RightCell kd c → complete_at kd k m.heap ≡ is_complete c
   complete_same kind.Promise k (Single o ws) s at t = single_complete k o ws s at
   complete_same kind.Future k (Single o ws) s at t = single_complete k o ws s at
   complete_same kind.PromiseStream k (Stream q d w) s at t = stream_complete k q d w s at
@@ -147,12 +147,12 @@ module _ (r : RawTree) (ls : List Line) (x : Scan) (m : Process) (p : Proc Frame
   complete_same kind.FutureStream k (Single o ws) s at t = absurd t
 
 -- a task that holds nothing
-nothing_held : (r : RawTree) (ls : List Line) (x : Scan) (m : Process) (p : Proc Frame) (u : Task) → ((z : Side) (j : ℕ) → in_task z j u ≡ 0) → Shown r ls x m p → Shown r ls (with_task u x) m p
+nothing_held : (r : RawTree) (ls : List Line) (x : Scan) (m : Process) (p : Proc Frame) (u : Task) → ((z : Side) (j : ℕ) → in_task z j u ≡ 0) → ProcessRepresents r ls x m p → ProcessRepresents r ls (with_task u x) m p
 nothing_held r ls x m p u none s = as_many_shown r ls x (with_task u x) m p (λ z j. let a = none z j in omega (arith, a)) s
 
 module _ (r : RawTree) (ls : List Line) (x : Scan) (m : Process) (p : Proc Frame) where
-  sent_at_once : (i : ActorId) (kd : Kind) (k : ℕ) (o : Outcome) → Shown r ls x m p → AllThere p (outcome_refs o) → Sendable p kd k
-      → Shown r ls x (on_heap (sent_into i kd k o) m) (on_core (λ c. fill k (outcome_of o) (pushed (Run i.0) c)) p)
+  sent_at_once : (i : ActorId) (kd : Kind) (k : ℕ) (o : Outcome) → ProcessRepresents r ls x m p → AllThere p (outcome_refs o) → Sendable p kd k
+      → ProcessRepresents r ls x (on_heap (sent_into i kd k o) m) (on_core (λ c. fill k (outcome_of o) (pushed (Run i.0) c)) p)
   sent_at_once i kd k o s t to =
       let held = refs_held r ls x m p (outcome_refs o) s t in
       let n : Process = on_heap (hold_all (outcome_refs o)) m in
@@ -163,17 +163,17 @@ module _ (r : RawTree) (ls : List Line) (x : Scan) (m : Process) (p : Proc Frame
 module _ (r : RawTree) (ls : List Line) (x : Scan) (m : Process) (p : Proc Frame) where
   pub sending_follows : law.OutcomeSent r ls x m p
   sending_follows i kd k o s t to =
-      subst (λ c. Follows r ls x (sending i kd k o m) (on_core (send_in c i.0 k (outcome_of o)) p)) (sym to.at)
+      subst (λ c. Matches r ls x (sending i kd k o m) (on_core (send_in c i.0 k (outcome_of o)) p)) (sym to.at)
       (by_complete (is_complete to.cell) (complete_same r ls x m p kd k to.cell s to.at to.right) refl)
     where
       by_complete : (b : Bool) → complete_at kd k m.heap ≡ b → is_complete to.cell ≡ b
-          → Follows r ls x (if complete_at kd k m.heap then doing (task.Throw i (record { 0 = already_set })) m else if nat_lt 0 m.left then on_heap (sent_into i kd k o) (turned m) else turned m)
+          → Matches r ls x (if complete_at kd k m.heap then doing (task.Throw i (record { 0 = already_set })) m else if nat_lt 0 m.left then on_heap (sent_into i kd k o) (turned m) else turned m)
           (on_core (send_by b i.0 k (outcome_of o)) p)
       by_complete true e f =
-          subst (λ b. Follows r ls x (if b then doing (task.Throw i (record { 0 = already_set })) m else if nat_lt 0 m.left then on_heap (sent_into i kd k o) (turned m) else turned m) (on_core (send_by true i.0 k (outcome_of o)) p)) (sym e)
+          subst (λ b. Matches r ls x (if b then doing (task.Throw i (record { 0 = already_set })) m else if nat_lt 0 m.left then on_heap (sent_into i kd k o) (turned m) else turned m) (on_core (send_by true i.0 k (outcome_of o)) p)) (sym e)
           (shows (task_done r ls x m p (task.Throw i (record { 0 = already_set })) (Throw i.0 already_set) (nothing_held r ls x m p (Throw i.0 already_set) (λ z j. refl) s) refl))
       by_complete false e f =
-          subst (λ b. Follows r ls x (if b then doing (task.Throw i (record { 0 = already_set })) m else if nat_lt 0 m.left then on_heap (sent_into i kd k o) (turned m) else turned m) (on_core (send_by false i.0 k (outcome_of o)) p)) (sym e)
+          subst (λ b. Matches r ls x (if b then doing (task.Throw i (record { 0 = already_set })) m else if nat_lt 0 m.left then on_heap (sent_into i kd k o) (turned m) else turned m) (on_core (send_by false i.0 k (outcome_of o)) p)) (sym e)
           (turn_taken r ls x m p x (on_heap (sent_into i kd k o)) (λ d. fill k (outcome_of o) (pushed (Run i.0) d)) s (λ n e s.
           let q : Proc Frame = on_core (λ c. record c { left = n }) p in
           shows (sent_at_once r ls x (turned m) q i kd k o s (all_there_by p q (outcome_refs o) refl t) (record { cell = to.cell; at = to.at; right = to.right; incomplete = f }))))

@@ -17,12 +17,12 @@ use Rattle.flow_cancel.specs.Leaving.{withdrawn, cancelled}
 use Rattle.flow_numbered.specs.Numbered.{Numbered, thing}
 use Rattle.flow_meaning.specs.Cells.{PromiseSide}
 use Rattle.flow_meaning.specs.Process.{Entry, Core, Proc}
-use Rattle.flow_meaning.specs.Occ.{Scan, in_entries}
+use Rattle.flow_meaning.specs.References.{Scan, in_entries}
 use Rattle.flow_meaning.specs.Lines.{cancel_line}
 use Rattle.flow_meaning.specs.Work.{writes, cancel, cancel_by, cancel_owner, owner}
 use Rattle.flow_meaning.specs.Step.{on_core}
 use Rattle.flow_meaning.specs.Frame.{Frame}
-use Rattle.flow_picture.specs.Shows.{cell_number}
+use Rattle.flow_picture.specs.Representing.{cell_number}
 use Rattle.flow_picture.specs.Rested.{Sorted}
 use Rattle.flow_picture.specs.Acting.{At}
 use Rattle.flow_picture.specs.Leaving.{left_wait}
@@ -33,7 +33,7 @@ use Rattle.flow_picture.proofs.Further.{wait_left, actor_cancelled}
 use Rattle.flow_steps.specs.declared.process.Process.{Process}
 use Rattle.flow_steps.specs.Doing.{stopped}
 use Rattle.flow_steps.specs.Holding.{cancelled_if}
-use Rattle.flow_follows.specs.Shown.{told, Shown, Sound}
+use Rattle.flow_follows.specs.Matching.{told, ProcessRepresents, Sound}
 use Rattle.flow_follows.specs.Working as law
 use Rattle.flow_follows.specs.Working.{Sendable}
 use Rattle.flow_follows.proofs.Working.{changed, no_more}
@@ -121,11 +121,11 @@ module _ (r : RawTree) (h : HeapTree) (p : Proc Frame) (x : Scan) (hs : Holds r 
   same_owner = by_owner (heap.owner k h.actors.things) refl (owner k p.core.entries) refl
 
 module _ (r : RawTree) (ls : List Line) (x : Scan) (m : Process) (p : Proc Frame) where
-  cancelled_same : (d : Dropped) (y : Option (ℕ × Entry)) → SameOwner p.core.entries d y → Shown r ls x m p → m.asked ≡ None → MayWait p.core
-      → Shown r ls x (cancelled_if d m) (on_core (cancel_owner y) p)
+  cancelled_same : (d : Dropped) (y : Option (ℕ × Entry)) → SameOwner p.core.entries d y → ProcessRepresents r ls x m p → m.asked ≡ None → MayWait p.core
+      → ProcessRepresents r ls x (cancelled_if d m) (on_core (cancel_owner y) p)
   cancelled_same after.Nothing None o s none w = s
   cancelled_same (after.Cancel a) (Some y) o s none w =
-      subst (λ b. Shown r ls x (stopped b.0 m) (on_core (cancel y.0 y.1) p)) (sym o.0) (actor_stopped r ls x m p y.0 y.1 s none w o.1)
+      subst (λ b. ProcessRepresents r ls x (stopped b.0 m) (on_core (cancel y.0 y.1) p)) (sym o.0) (actor_stopped r ls x m p y.0 y.1 s none w o.1)
   cancelled_same after.Nothing (Some y) o s none w = absurd o
   cancelled_same (after.Cancel a) None o s none w = absurd o
   cancelled_same after.Freed y o s none w = absurd o

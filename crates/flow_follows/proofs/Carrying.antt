@@ -8,28 +8,28 @@ use Rattle.flow_trace.specs.declared.line.Line.{Line}
 use Rattle.flow_numbered.specs.Numbered.{thing, put}
 use Rattle.flow_cancel.specs.declared.task.Task.TheVariants as task
 use Rattle.flow_cancel.specs.Heap.{actor_id}
-use Rattle.flow_meaning.specs.Asks.{Throws, RunsOut, Supply}
+use Rattle.flow_meaning.specs.Requests.{Throws, RunsOut, Supply}
 use Rattle.flow_meaning.specs.Evaluating.{StepOf, asks}
 use Rattle.flow_meaning.specs.Cells.{Ref}
 use Rattle.flow_meaning.specs.Process.{Run, Throw, Spent, Entry, Proc}
-use Rattle.flow_meaning.specs.Occ.{Scan, refs_in}
+use Rattle.flow_meaning.specs.References.{Scan, refs_in}
 use Rattle.flow_meaning.specs.Work as work
 use Rattle.flow_meaning.specs.Work.{turn, turn_of, halt, pushed}
 use Rattle.flow_meaning.specs.Step.{view, run, run_next, step_if, step, proc, on_core}
 use Rattle.flow_meaning.specs.Class.{fetched, next_step, class_names, classes}
 use Rattle.flow_meaning.specs.Frame.{Frame, held_in, emptied, go, next_instr}
 use Rattle.flow_picture.specs.Acting.{put_frame}
-use Rattle.flow_steps.specs.declared.frames.Stand.{Stand}
+use Rattle.flow_steps.specs.declared.frames.ControlPoint.{ControlPoint}
 use Rattle.flow_steps.specs.declared.next.Pace.{Pace}
 use Rattle.flow_steps.specs.declared.next.Pace.TheVariants.{On, Off}
 use Rattle.flow_steps.specs.declared.process.Process.{Process}
 use Rattle.flow_steps.specs.Doing.{doing}
 use Rattle.flow_steps.specs.Holding.{on_heap}
-use Rattle.flow_steps.specs.Sights.{with_left}
-use Rattle.flow_steps.specs.Standing.{gone, noting, noted, next_stand}
-use Rattle.flow_follows.specs.Shown.{Shown, AreSpent, shows, ends, with_task}
-use Rattle.flow_follows.specs.Placing.{Stood}
-use Rattle.flow_follows.specs.Going.{stale, MayBeStale, MayMove}
+use Rattle.flow_steps.specs.Evaluating.{with_left}
+use Rattle.flow_steps.specs.Points.{gone, noting, noted, next_stand}
+use Rattle.flow_follows.specs.Matching.{ProcessRepresents, AreSpent, shows, ends, with_task}
+use Rattle.flow_follows.specs.Placing.{RepresentsActor}
+use Rattle.flow_follows.specs.Continuing.{stale, MayBeStale, MayMove}
 use Rattle.flow_follows.specs.Carried.{Carries, StepsAs}
 use Rattle.flow_picture.proofs.Acted.{same_put}
 use Rattle.flow_follows.proofs.Working.{as_many_shown, holds_aside, task_done}
@@ -37,10 +37,10 @@ use Rattle.flow_follows.proofs.Parting.{acts_by}
 use Rattle.flow_follows.proofs.Moving.{goes_in}
 use Rattle.flow_follows.proofs.Lost.{put_over}
 use Rattle.flow_follows.specs.Carried as law
-use Rattle.flow_follows.specs.Going as going
+use Rattle.flow_follows.specs.Continuing as going
 use Rattle.flow_follows.proofs.Gone.{locals_dropped, went_to, pass_began}
 
-module _ (r : RawTree) (ls : List Line) (m : Process) (p : Proc Frame) (i : ℕ) (e : Entry) (f : Frame) (x : Scan) (s : Stand) (st : MayBeStale r ls x s m p i e f) where
+module _ (r : RawTree) (ls : List Line) (m : Process) (p : Proc Frame) (i : ℕ) (e : Entry) (f : Frame) (x : Scan) (s : ControlPoint) (st : MayBeStale r ls x s m p i e f) where
   -- the frame as memory has it, and the process with that
   abbrev pub old : Frame
   old = stale st.block st.instr st.state f
@@ -66,7 +66,7 @@ module _ (r : RawTree) (ls : List Line) (m : Process) (p : Proc Frame) (i : ℕ)
       ∙ ap (λ l. Some (run_next (classes r) w i p.core.tasks (fetched (class_names r) (view w i (pushed (Run i) p.core)) f l) (on_core (pushed (Run i)) p))) at
 
   -- values that are left over
-  pub after_values : (t : Stand) (rs : List Ref) (g : Frame) (pace : Pace) (n : Process) → going.AfterValues r ls m seen i e old x t rs g pace n
+  pub after_values : (t : ControlPoint) (rs : List Ref) (g : Frame) (pace : Pace) (n : Process) → going.AfterValues r ls m seen i e old x t rs g pace n
       → Carries r ls x i e pace n (proc (work.dropping rs (pushed (Run i) p.core)) (put p.actors i g))
   after_values t rs g (On u) n a = (
     seen,
@@ -74,11 +74,11 @@ module _ (r : RawTree) (ls : List Line) (m : Process) (p : Proc Frame) (i : ℕ)
       g,
       (
         ap (λ us. proc (work.dropping us (pushed (Run i) p.core)) (put p.actors i g)) a.1 ∙ ap (λ xs. proc (pushed (Run i) p.core) xs) (sym (put_over p.actors i old g)),
-        subst (λ (v : Stand). going.Goes r ls x v n seen i e g) (sym a.0) a.2,
+        subst (λ (v : ControlPoint). going.ContinuesAt r ls x v n seen i e g) (sym a.0) a.2,
       ),
     ),
   )
-  after_values t rs g Off n a = shows (subst (λ xs. Shown r ls x n (proc (work.dropping rs (pushed (Run i) p.core)) xs)) (put_over p.actors i old g) a)
+  after_values t rs g Off n a = shows (subst (λ xs. ProcessRepresents r ls x n (proc (work.dropping rs (pushed (Run i) p.core)) xs)) (put_over p.actors i old g) a)
 
   -- a block
   pub at_block : (g : Frame) (pace : Pace) (n : Process) → going.GoesAt r ls m seen i e old x g pace n → Carries r ls x i e pace n (on_core (pushed (Run i)) (put_frame i g p))
@@ -145,22 +145,22 @@ module _ (r : RawTree) (ls : List Line) (m : Process) (p : Proc Frame) (i : ℕ)
       same : put p.actors i f ≡ p.actors
       same = same_put p.actors i f st.acting
 
-      by_flag : (b : Bool) → s.noted ≡ b → Stood r ls x (noted s m) p i e f
+      by_flag : (b : Bool) → s.noted ≡ b → RepresentsActor r ls x (noted s m) p i e f
       by_flag true h =
-          subst (λ b. Stood r ls x (on_heap (noting b s.actor.0 s.place s.instruction) m) p i e f) (sym h)
-          (subst (λ xs. Stood r ls x m (proc p.core xs) i e f) same
-          (subst (λ g. Stood r ls x m (put_frame i g p) i e g) (st.told h) st.stood))
+          subst (λ b. RepresentsActor r ls x (on_heap (noting b s.actor.0 s.place s.instruction) m) p i e f) (sym h)
+          (subst (λ xs. RepresentsActor r ls x m (proc p.core xs) i e f) same
+          (subst (λ g. RepresentsActor r ls x m (put_frame i g p) i e g) (st.told h) st.stood))
       by_flag false h =
           let gone_there = goes_in r ls x m (put_frame i (stale st.block st.instr st.state f) p) i e (stale st.block st.instr st.state f) f.block f.instr f.state st.stood st.operands
           (record { waits = st.free.waits; keeps = st.free.keeps }) in
-          subst (λ b. Stood r ls x (on_heap (noting b s.actor.0 s.place s.instruction) m) p i e f) (sym h)
-          (subst (λ (a : ActorId). Stood r ls x (on_heap (gone a.0 s.place s.instruction) m) p i e f) (sym st.standing.actor)
-          (subst (λ b. Stood r ls x (on_heap (gone i b s.instruction) m) p i e f) (sym st.standing.place)
-          (subst (λ k. Stood r ls x (on_heap (gone i f.block k) m) p i e f) (sym st.instruction)
-          (subst (λ xs. Stood r ls x (on_heap (gone i f.block f.instr) m) (proc p.core xs) i e f) (put_over p.actors i (stale st.block st.instr st.state f) f ∙ same) gone_there))))
+          subst (λ b. RepresentsActor r ls x (on_heap (noting b s.actor.0 s.place s.instruction) m) p i e f) (sym h)
+          (subst (λ (a : ActorId). RepresentsActor r ls x (on_heap (gone a.0 s.place s.instruction) m) p i e f) (sym st.standing.actor)
+          (subst (λ b. RepresentsActor r ls x (on_heap (gone i b s.instruction) m) p i e f) (sym st.standing.place)
+          (subst (λ k. RepresentsActor r ls x (on_heap (gone i f.block k) m) p i e f) (sym st.instruction)
+          (subst (λ xs. RepresentsActor r ls x (on_heap (gone i f.block f.instr) m) (proc p.core xs) i e f) (put_over p.actors i (stale st.block st.instr st.state f) f ∙ same) gone_there))))
 
 -- with other turns
-pub with_turns : (r : RawTree) (ls : List Line) (m : Process) (p : Proc Frame) (i : ℕ) (e : Entry) (f : Frame) (x : Scan) (n : ℕ) → Stood r ls x m p i e f → Stood r ls x (with_left n m) (on_core (λ c. record c { left = n }) p) i e f
+pub with_turns : (r : RawTree) (ls : List Line) (m : Process) (p : Proc Frame) (i : ℕ) (e : Entry) (f : Frame) (x : Scan) (n : ℕ) → RepresentsActor r ls x m p i e f → RepresentsActor r ls x (with_left n m) (on_core (λ c. record c { left = n }) p) i e f
 with_turns r ls m p i e f x n st = record {
   shown = record { holds = holds_aside r x m.heap p p.core.lines n st.shown.holds; left = refl; lines = st.shown.lines; unspent = st.shown.unspent; goes = st.shown.goes };
   acts = acts_by r m.heap m.heap p (on_core (λ c. record c { left = n }) p) i e f refl refl refl refl st.acts;
@@ -186,9 +186,9 @@ module _ (r : RawTree) (ls : List Line) (m : Process) (p : Proc Frame) (i : ℕ)
         after = proc (pushed u q.core) (put p.actors i f);
         steps = asked w (asks left (Throws err.0) f) st.stood.shown.goes st.acting next;
         carries = shows
-            (subst (λ z. Shown r ls x z (proc (pushed u q.core) (put p.actors i f))) (sym halted)
-            (subst (λ (a : ActorId). Shown r ls x (doing (task.Throw a err) (with_left left (noted s m))) (proc (pushed u q.core) (put p.actors i f))) (sym st.standing.actor)
-            (subst (λ xs. Shown r ls x (doing (task.Throw (actor_id i) err) (with_left left (noted s m))) (proc (pushed u q.core) xs)) (sym (same_put p.actors i f st.acting)) thrown)));
+            (subst (λ z. ProcessRepresents r ls x z (proc (pushed u q.core) (put p.actors i f))) (sym halted)
+            (subst (λ (a : ActorId). ProcessRepresents r ls x (doing (task.Throw a err) (with_left left (noted s m))) (proc (pushed u q.core) (put p.actors i f))) (sym st.standing.actor)
+            (subst (λ xs. ProcessRepresents r ls x (doing (task.Throw (actor_id i) err) (with_left left (noted s m))) (proc (pushed u q.core) xs)) (sym (same_put p.actors i f st.acting)) thrown)));
       }
 
   pub ran_out : law.RanOut r ls m p i e f

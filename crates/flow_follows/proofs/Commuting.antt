@@ -11,7 +11,7 @@ use Rattle.flow_cancel.specs.Heap.{HeapTree}
 use Rattle.flow_cancel.specs.Dropping.{dropping}
 use Rattle.flow_picture.specs.Acting.{frame_put}
 use Rattle.flow_picture.proofs.Finds.{stored_put}
-use Rattle.flow_steps.specs.Standing.{reframed, with_frame, place_held, place_put, values, place_lost, places_lost, losing_from, lost_from}
+use Rattle.flow_steps.specs.Points.{reframed, with_frame, place_held, place_put, values, place_lost, places_lost, losing_from, lost_from}
 use Rattle.flow_steps.specs.Waiting.{suspended_at}
 
 stored_over : {A : Type 0} (xs : stored.Numbered A) (i : ℕ) (a b : A) → stored.put (stored.put xs i a) i b ≡ stored.put xs i b

@@ -13,19 +13,19 @@ use Rattle.flow_frame.specs.Frames.{FrameTree}
 use Rattle.flow_cancel.specs.Heap.{HeapTree}
 use Rattle.flow_numbered.specs.Numbered.{put}
 use Rattle.flow_meaning.specs.Process.{Entry, Proc}
-use Rattle.flow_meaning.specs.Occ.{refs_in}
+use Rattle.flow_meaning.specs.References.{refs_in}
 use Rattle.flow_meaning.specs.Step.{proc}
 use Rattle.flow_meaning.specs.Work as work
 use Rattle.flow_meaning.specs.Variables.{filled}
 use Rattle.flow_meaning.specs.Frame.{Frame, read, write, held_in, emptied, reversed, blanks, everything, lose}
-use Rattle.flow_picture.specs.Shows.{Stands}
+use Rattle.flow_picture.specs.Representing.{LiveFrameRepresents}
 use Rattle.flow_picture.specs.Acting.{put_frame}
 use Rattle.flow_picture.specs.Holds.{with_refs}
 use Rattle.flow_picture.proofs.Sums.{refs_joined}
 use Rattle.flow_steps.specs.declared.process.Process.{Process}
 use Rattle.flow_steps.specs.Holding.{on_heap}
-use Rattle.flow_steps.specs.Standing.{place_held, place_put, place_lost, places_lost, losing_from, may_refer, if_refers, referring, places_taken, places_emptied}
-use Rattle.flow_follows.specs.Placing.{Stood, with_memory, HasLocals, nothing_in}
+use Rattle.flow_steps.specs.Points.{place_held, place_put, place_lost, places_lost, losing_from, may_refer, if_refers, referring, places_taken, places_emptied}
+use Rattle.flow_follows.specs.Placing.{RepresentsActor, with_memory, HasLocals, nothing_in}
 use Rattle.flow_follows.specs.Placing as law
 use Rattle.flow_follows.proofs.Places.{as_many_stood, place_seen, place_changed}
 use Rattle.flow_follows.proofs.Lost.{put_over, as_long, all_refs_joined, drops_joined, with_slots, unchanged, locals_from, slots_from}
@@ -39,7 +39,7 @@ both_long : {A : Type 0} (xs ys : List A) → length (xs ++ ys) ≡ length xs + 
 both_long [] ys = omega arith
 both_long (x ∷ xs) ys = let a = both_long xs ys in omega (arith, a)
 
-pub all_places : (r : RawTree) (m : FrameTree Value) (e : Entry) (f : Frame) → Stands r m e f → length m.places ≡ length f.mem.slots + length f.mem.locals
+pub all_places : (r : RawTree) (m : FrameTree Value) (e : Entry) (f : Frame) → LiveFrameRepresents r m e f → length m.places ≡ length f.mem.slots + length f.mem.locals
 all_places r m e f s = sym (mapped_length (option_map value_of) m.places) ∙ ap length s.places ∙ both_long f.mem.slots f.mem.locals
 
 -- so many places after so many
@@ -56,9 +56,9 @@ module _ (r : RawTree) (ls : List Line) (m : Process) (p : Proc Frame) (i : ℕ)
       let count : length s.acts.memory.places - length f.code.slots ≡ length f.mem.locals =
       let a = all_places r s.acts.memory e f s.acts.stands in let b = s.acts.stands.slots in omega (arith, a, b) in
       let first : length f.code.slots + 0 ≡ length f.code.slots = omega arith in
-      subst (λ o. Stood r ls x (on_heap (losing_from i (length f.code.slots) o) m) (proc (work.dropping_values (lose f).0 p.core) (put p.actors i (lose f).1)) i e (lose f).1) (sym s.acts.framed)
-      (subst (λ n. Stood r ls x (on_heap (places_lost i (length f.code.slots) n) m) (proc (work.dropping_values (lose f).0 p.core) (put p.actors i (lose f).1)) i e (lose f).1) (sym count)
-      (subst (λ n. Stood r ls x (on_heap (places_lost i n (length f.mem.locals)) m) (proc (work.dropping_values (lose f).0 p.core) (put p.actors i (lose f).1)) i e (lose f).1) first
+      subst (λ o. RepresentsActor r ls x (on_heap (losing_from i (length f.code.slots) o) m) (proc (work.dropping_values (lose f).0 p.core) (put p.actors i (lose f).1)) i e (lose f).1) (sym s.acts.framed)
+      (subst (λ n. RepresentsActor r ls x (on_heap (places_lost i (length f.code.slots) n) m) (proc (work.dropping_values (lose f).0 p.core) (put p.actors i (lose f).1)) i e (lose f).1) (sym count)
+      (subst (λ n. RepresentsActor r ls x (on_heap (places_lost i n (length f.mem.locals)) m) (proc (work.dropping_values (lose f).0 p.core) (put p.actors i (lose f).1)) i e (lose f).1) first
       (locals_from r ls i e x f.mem.locals [] m p f s refl)))
 
   pub all_lost : law.AllLost r ls m p i e f
@@ -76,12 +76,12 @@ module _ (r : RawTree) (ls : List Line) (m : Process) (p : Proc Frame) (i : ℕ)
       let order : work.drops (refs_in (filled (reversed f.mem.locals))) (work.drops (refs_in (filled (reversed f.mem.slots))) p.core.tasks) ≡ work.drops (refs_in (everything f.mem)) p.core.tasks =
       sym (drops_joined (refs_in (filled (reversed f.mem.locals))) (refs_in (filled (reversed f.mem.slots))) p.core.tasks)
       ∙ ap (λ rs. work.drops rs p.core.tasks) (sym (all_refs_joined (filled (reversed f.mem.locals)) (filled (reversed f.mem.slots)))) in
-      subst (λ o. Stood r ls x (on_heap (losing_from i 0 o) m) done i e none) (sym s.acts.framed)
-      (subst (λ k. Stood r ls x (on_heap (places_lost i 0 k) m) done i e none) (sym count)
-      (subst (λ h. Stood r ls x (record m { heap = h }) done i e none) (sym (lost_after i (length f.mem.slots) (length f.mem.locals) 0 m.heap))
-      (subst (λ k. Stood r ls x (on_heap (places_lost i k (length f.mem.locals)) n) done i e none) first
-      (subst (λ ts. Stood r ls x (on_heap (places_lost i (length f.code.slots + 0) (length f.mem.locals)) n) (proc (record p.core { tasks = ts }) (put p.actors i none)) i e none) order
-      (subst (λ xs. Stood r ls x (on_heap (places_lost i (length f.code.slots + 0) (length f.mem.locals)) n) (proc (work.dropping (refs_in (filled (reversed f.mem.locals))) q.core) xs) i e none) (put_over p.actors i slotless none) two)))))
+      subst (λ o. RepresentsActor r ls x (on_heap (losing_from i 0 o) m) done i e none) (sym s.acts.framed)
+      (subst (λ k. RepresentsActor r ls x (on_heap (places_lost i 0 k) m) done i e none) (sym count)
+      (subst (λ h. RepresentsActor r ls x (record m { heap = h }) done i e none) (sym (lost_after i (length f.mem.slots) (length f.mem.locals) 0 m.heap))
+      (subst (λ k. RepresentsActor r ls x (on_heap (places_lost i k (length f.mem.locals)) n) done i e none) first
+      (subst (λ ts. RepresentsActor r ls x (on_heap (places_lost i (length f.code.slots + 0) (length f.mem.locals)) n) (proc (record p.core { tasks = ts }) (put p.actors i none)) i e none) order
+      (subst (λ xs. RepresentsActor r ls x (on_heap (places_lost i (length f.code.slots + 0) (length f.mem.locals)) n) (proc (work.dropping (refs_in (filled (reversed f.mem.locals))) q.core) xs) i e none) (put_over p.actors i slotless none) two)))))
 
 -- values that can't refer hold no reference
 no_refs : (v : ValueTree) → may_refer v ≡ false → refs_of v ≡ []
@@ -129,5 +129,5 @@ locals_taken r ls m p i e f x (n ∷ ns) s h =
           ∙ sym (all_refs_joined (filled (read f.mem q ∷ [])) (held_in g.mem ns)),
       as_many_stood r ls (with_refs (refs_in (held_in g.mem ns)) (with_refs one x)) (with_refs (refs_in (held_in f.mem (n ∷ ns))) x) (on_heap (places_emptied i (map (λ k. length f.code.slots + k) (n ∷ ns))) m) (put_frame i k p) i e k
           (λ z j. let a = refs_joined z j (filled (read f.mem q ∷ [])) (held_in g.mem ns) in omega (arith, a))
-          (subst (λ xs. Stood r ls (with_refs (refs_in (held_in g.mem ns)) (with_refs one x)) (on_heap (places_emptied i (map (λ k. length f.code.slots + k) (n ∷ ns))) m) (proc p.core xs) i e k) (put_over p.actors i g k) rest.1),
+          (subst (λ xs. RepresentsActor r ls (with_refs (refs_in (held_in g.mem ns)) (with_refs one x)) (on_heap (places_emptied i (map (λ k. length f.code.slots + k) (n ∷ ns))) m) (proc p.core xs) i e k) (put_over p.actors i g k) rest.1),
     )

@@ -20,7 +20,7 @@ use Rattle.flow_cancel.specs.Dropping.{drop_cell}
 use Rattle.flow_numbered.specs.Numbered.{thing}
 use Rattle.flow_meaning.specs.Cells.{Side, PromiseSide, FutureSide, Waiter, Cell, Single, Stream}
 use Rattle.flow_meaning.specs.Process.{Entry, Proc}
-use Rattle.flow_meaning.specs.Occ.{Scan, one, count, count_maybe, count_kept, count_waiters}
+use Rattle.flow_meaning.specs.References.{Scan, one, count, count_maybe, count_kept, count_waiters}
 use Rattle.flow_meaning.specs.Lines as lines
 use Rattle.flow_meaning.specs.Work.{turn, writes, fill}
 use Rattle.flow_meaning.specs.Orderly.{Rising}
@@ -28,7 +28,7 @@ use Rattle.flow_meaning.specs.Dropping.{set_result, give_result}
 use Rattle.flow_meaning.specs.Step.{proc, on_core}
 use Rattle.flow_meaning.specs.Frame.{Frame}
 use Rattle.flow_meaning.proofs.Posture.{each_number}
-use Rattle.flow_picture.specs.Shows.{CellShows, spot_of_actor, cell_number}
+use Rattle.flow_picture.specs.Representing.{CellRepresents, spot_of_actor, cell_number}
 use Rattle.flow_picture.specs.Counted.{kept_count, count_at, references, frames_hold, nothing_in_hand}
 use Rattle.flow_picture.specs.Rested.{IsUnset, Sorted}
 use Rattle.flow_picture.specs.Changes.{cell_put, without_cell}
@@ -44,8 +44,8 @@ use Rattle.flow_picture.proofs.Acted.{finished_shown}
 use Rattle.flow_steps.specs.declared.process.Process.{Process}
 use Rattle.flow_steps.specs.Doing.{turned, telling}
 use Rattle.flow_steps.specs.Holding.{on_heap, outcome_refs, refs_dropped, futures_of, lost_by, lost}
-use Rattle.flow_steps.specs.Bringing.{promise_ended, without_promise, result_set, end_line, ended_in, ended_with}
-use Rattle.flow_follows.specs.Shown.{Shown, Follows, shows, Sound}
+use Rattle.flow_steps.specs.Delivering.{promise_ended, without_promise, result_set, end_line, ended_in, ended_with}
+use Rattle.flow_follows.specs.Matching.{ProcessRepresents, Matches, shows, Sound}
 use Rattle.flow_follows.specs.Closing as law
 use Rattle.flow_follows.specs.Closing.{MayClose}
 use Rattle.flow_follows.proofs.Working.{changed, as_many_shown, turn_taken, refs_dropped_shown, cell_filled, telling_shown}
@@ -79,13 +79,13 @@ set_told k o l n = by_test (nat_lt 0 n.left)
     by_test true = refl
     by_test false = refl
 
-module _ (r : RawTree) (ls : List Line) (o : Outcome) (k : ℕ) (n : Process) (q : Proc Frame) (s : Shown r ls (in_hand o (Some k)) n q) (lone : Lone q o k) where
+module _ (r : RawTree) (ls : List Line) (o : Outcome) (k : ℕ) (n : Process) (q : Proc Frame) (s : ProcessRepresents r ls (in_hand o (Some k)) n q) (lone : Lone q o k) where
   stored_as : (m : CellTree Outcome) × (stored.thing n.heap.cells.things k ≡ Some m)
   stored_as = found_single r n.heap q k None lone.waiters s.holds.shows lone.at
 
   picture : AsSingle (spot_of_actor q.actors) stored_as.0 (stored.thing n.heap.streams.things k) (thing q.core.cells k)
   picture = as_single (spot_of_actor q.actors) stored_as.0 (stored.thing n.heap.streams.things k) (thing q.core.cells k)
-      (subst (λ c. CellShows (spot_of_actor q.actors) c (stored.thing n.heap.streams.things k) (thing q.core.cells k)) stored_as.1 (s.holds.shows.cells k))
+      (subst (λ c. CellRepresents (spot_of_actor q.actors) c (stored.thing n.heap.streams.things k) (thing q.core.cells k)) stored_as.1 (s.holds.shows.cells k))
 
   same_cell : (Single (option_map outcome_of stored_as.0.content) picture.waiters) ≡ Single None lone.waiters
   same_cell = let a = picture.cell in let b = lone.at in cc (a, b)
@@ -113,11 +113,11 @@ module _ (r : RawTree) (ls : List Line) (o : Outcome) (k : ℕ) (n : Process) (q
   futures_seen = ap futures_of stored_as.1 ∙ futures_are
 
   -- the promise counts no more
-  pub promise_shown : Shown r ls (with_refs (outcome_refs o) nothing_in_hand) (on_heap (without_promise k) n) q
+  pub promise_shown : ProcessRepresents r ls (with_refs (outcome_refs o) nothing_in_hand) (on_heap (without_promise k) n) q
   promise_shown =
       let less = record stored_as.0 { references = released Promise stored_as.0.references } in
       let some : 0 < stored_as.0.references.promises = let a = promises_are in omega (arith, a) in
-      subst (λ c. Shown r ls (with_refs (outcome_refs o) nothing_in_hand) (on_heap (promise_ended k c) n) q) (sym stored_as.1)
+      subst (λ c. ProcessRepresents r ls (with_refs (outcome_refs o) nothing_in_hand) (on_heap (promise_ended k c) n) q) (sym stored_as.1)
       (changed r ls (in_hand o (Some k)) (with_refs (outcome_refs o) nothing_in_hand) n q q (cell_put k less n.heap) s (record {
         shows = cell_counted r n.heap q k stored_as.0 (released Promise stored_as.0.references) s.holds.shows stored_as.1;
         counted = λ z j. let a = cell_released n.heap z j k stored_as.0 PromiseSide stored_as.1 some in let b = s.holds.counted z j in omega (arith, a, b);
@@ -160,7 +160,7 @@ module _ (r : RawTree) (ls : List Line) (o : Outcome) (k : ℕ) (n : Process) (q
         let d = s.holds.counted z j in
         let e = no_one z k j PromiseSide differ in omega (arith, a, b, c, d, e))
 
-    pub gone_shown : Shown r ls (with_refs (outcome_refs o) nothing_in_hand) (on_heap without_it n) (on_core (without_cell k) q)
+    pub gone_shown : ProcessRepresents r ls (with_refs (outcome_refs o) nothing_in_hand) (on_heap without_it n) (on_core (without_cell k) q)
     gone_shown = changed r ls (in_hand o (Some k)) (with_refs (outcome_refs o) nothing_in_hand) n q (on_core (without_cell k) q) (without_it n.heap) s (record {
       shows = cell_gone r n.heap q k stored_as.0 s.holds.shows stored_as.1 sorted lone.rising;
       counted = gone_counts;
@@ -177,43 +177,43 @@ lone_by q t o k a b c l = record {
 
 -- the outcome of an actor goes to its result, with the line told
 module _ (r : RawTree) (ls : List Line) (l : Line) (o : Outcome) (n : Process) (q : Proc Frame) where
-  result_follows : (k : ℕ) → Shown r ls (in_hand o (Some k)) (telling l n) q → Lone q o k
-      → Follows r ls nothing_in_hand (telling l (result_set k o n)) (on_core (λ c. turn c (λ d. fill k (outcome_of o) d)) q)
+  result_follows : (k : ℕ) → ProcessRepresents r ls (in_hand o (Some k)) (telling l n) q → Lone q o k
+      → Matches r ls nothing_in_hand (telling l (result_set k o n)) (on_core (λ c. turn c (λ d. fill k (outcome_of o) d)) q)
   result_follows k s lone =
-      subst (λ t. Follows r ls nothing_in_hand t (on_core (λ c. turn c (λ d. fill k (outcome_of o) d)) q)) (set_told k o l n)
+      subst (λ t. Matches r ls nothing_in_hand t (on_core (λ c. turn c (λ d. fill k (outcome_of o) d)) q)) (set_told k o l n)
       (turn_taken r ls (in_hand o (Some k)) (telling l n) q nothing_in_hand (λ t. on_heap (filled_in kind.Future k o) (on_heap (without_promise k) t)) (λ d. fill k (outcome_of o) d) s (λ i e now.
       let t : Proc Frame = on_core (λ c. record c { left = i }) q in
       let there = lone_by q t o k refl refl refl lone in
       shows (cell_filled r ls nothing_in_hand (on_heap (without_promise k) (turned (telling l n))) t kind.Future k o (promise_shown r ls o k (turned (telling l n)) t now there)
       (record { cell = Single None there.waiters; at = there.at; right = tt; incomplete = refl }))))
 
-  in_follows : (k : ℕ) → Shown r ls (in_hand o (Some k)) (telling l n) q → Lone q o k → CellsRise n.heap
-      → Follows r ls nothing_in_hand (telling l (ended_in k o n)) (proc (set_result k (outcome_of o) (references FutureSide k q) q.core) q.actors)
+  in_follows : (k : ℕ) → ProcessRepresents r ls (in_hand o (Some k)) (telling l n) q → Lone q o k → CellsRise n.heap
+      → Matches r ls nothing_in_hand (telling l (ended_in k o n)) (proc (set_result k (outcome_of o) (references FutureSide k q) q.core) q.actors)
   in_follows k s lone sorted = by_count (references FutureSide k q) refl
     where
-      by_count : (f : ℕ) → references FutureSide k q ≡ f → Follows r ls nothing_in_hand (telling l (ended_in k o n)) (proc (set_result k (outcome_of o) (references FutureSide k q) q.core) q.actors)
+      by_count : (f : ℕ) → references FutureSide k q ≡ f → Matches r ls nothing_in_hand (telling l (ended_in k o n)) (proc (set_result k (outcome_of o) (references FutureSide k q) q.core) q.actors)
       by_count zero e =
           let t : nat_lt 0 (futures_of (stored.thing n.heap.cells.things k)) ≡ false = let a = futures_seen r ls o k (telling l n) q s lone ∙ e in grind (arith, nat_tests, a) in
-          subst (λ f. Follows r ls nothing_in_hand (telling l (ended_in k o n)) (proc (set_result k (outcome_of o) f q.core) q.actors)) (sym e)
-          (subst (λ b. Follows r ls nothing_in_hand (telling l (if b then result_set k o n else on_heap (refs_dropped (outcome_refs o)) (lost kind.Promise k n))) (proc (set_result k (outcome_of o) zero q.core) q.actors)) (sym t)
-          (subst (λ g. Follows r ls nothing_in_hand (telling l (on_heap (refs_dropped (outcome_refs o)) g)) (proc (set_result k (outcome_of o) zero q.core) q.actors)) (sym (lost_is r ls o k (telling l n) q s lone e sorted n refl))
+          subst (λ f. Matches r ls nothing_in_hand (telling l (ended_in k o n)) (proc (set_result k (outcome_of o) f q.core) q.actors)) (sym e)
+          (subst (λ b. Matches r ls nothing_in_hand (telling l (if b then result_set k o n else on_heap (refs_dropped (outcome_refs o)) (lost kind.Promise k n))) (proc (set_result k (outcome_of o) zero q.core) q.actors)) (sym t)
+          (subst (λ g. Matches r ls nothing_in_hand (telling l (on_heap (refs_dropped (outcome_refs o)) g)) (proc (set_result k (outcome_of o) zero q.core) q.actors)) (sym (lost_is r ls o k (telling l n) q s lone e sorted n refl))
           (shows (refs_dropped_shown r ls nothing_in_hand (on_heap (λ h. record h { cells = without h.cells k }) (telling l n)) (on_core (without_cell k) q) (outcome_refs o)
           (gone_shown r ls o k (telling l n) q s lone e sorted)))))
       by_count (suc f) e =
           let t : nat_lt 0 (futures_of (stored.thing n.heap.cells.things k)) ≡ true = let a = futures_seen r ls o k (telling l n) q s lone ∙ e in grind (arith, nat_tests, a) in
-          subst (λ f. Follows r ls nothing_in_hand (telling l (ended_in k o n)) (proc (set_result k (outcome_of o) f q.core) q.actors)) (sym e)
-          (subst (λ b. Follows r ls nothing_in_hand (telling l (if b then result_set k o n else on_heap (refs_dropped (outcome_refs o)) (lost kind.Promise k n))) (proc (set_result k (outcome_of o) (suc f) q.core) q.actors)) (sym t)
+          subst (λ f. Matches r ls nothing_in_hand (telling l (ended_in k o n)) (proc (set_result k (outcome_of o) f q.core) q.actors)) (sym e)
+          (subst (λ b. Matches r ls nothing_in_hand (telling l (if b then result_set k o n else on_heap (refs_dropped (outcome_refs o)) (lost kind.Promise k n))) (proc (set_result k (outcome_of o) (suc f) q.core) q.actors)) (sym t)
           (result_follows k s lone))
 
   -- where it has one
-  with_follows : (x : Option CellId) (y : Option ℕ) → y ≡ option_map cell_number x → Shown r ls (in_hand o y) (telling l n) q → ((k : ℕ) → y ≡ Some k → Lone q o k) → CellsRise n.heap
-      → Follows r ls nothing_in_hand (telling l (ended_with x o n)) (proc (give_result (frames_hold q.actors) y (outcome_of o) q.core) q.actors)
+  with_follows : (x : Option CellId) (y : Option ℕ) → y ≡ option_map cell_number x → ProcessRepresents r ls (in_hand o y) (telling l n) q → ((k : ℕ) → y ≡ Some k → Lone q o k) → CellsRise n.heap
+      → Matches r ls nothing_in_hand (telling l (ended_with x o n)) (proc (give_result (frames_hold q.actors) y (outcome_of o) q.core) q.actors)
   with_follows None None e s lone sorted =
       shows (refs_dropped_shown r ls nothing_in_hand (telling l n) q (outcome_refs o)
       (as_many_shown r ls (in_hand o None) (with_refs (outcome_refs o) nothing_in_hand) (telling l n) q (λ z j. omega arith) s))
   with_follows (Some c) (Some k) e s lone sorted =
       let same : c.0 ≡ k = cc (e) in
-      subst (λ j. Follows r ls nothing_in_hand (telling l (ended_in j o n)) (proc (give_result (frames_hold q.actors) (Some k) (outcome_of o) q.core) q.actors)) (sym same) (in_follows k s (lone k refl) sorted)
+      subst (λ j. Matches r ls nothing_in_hand (telling l (ended_in j o n)) (proc (give_result (frames_hold q.actors) (Some k) (outcome_of o) q.core) q.actors)) (sym same) (in_follows k s (lone k refl) sorted)
   with_follows None (Some k) e s lone sorted = absurd (cc)
   with_follows (Some c) None e s lone sorted = absurd (cc)
 
@@ -240,14 +240,14 @@ none_kept : (s : Side) (j : ℕ) (b : Bool) (e : Entry) → e.operands ≡ [] �
 none_kept s j true e f = refl
 none_kept s j false e f = ap (count s j) f
 
-module _ (r : RawTree) (ls : List Line) (m : Process) (p : Proc Frame) (i : ActorId) (o : Outcome) (s : Shown r ls (with_refs (outcome_refs o) nothing_in_hand) m p) (sound : Sound p) (sorted : Sorted m.heap) (may : MayClose r m.heap p i.0 o) where
+module _ (r : RawTree) (ls : List Line) (m : Process) (p : Proc Frame) (i : ActorId) (o : Outcome) (s : ProcessRepresents r ls (with_refs (outcome_refs o) nothing_in_hand) m p) (sound : Sound p) (sorted : Sorted m.heap) (may : MayClose r m.heap p i.0 o) where
   abbrev entry : Entry
   entry = may.actor.entry
 
   abbrev left_proc : Proc Frame
   left_proc = without_actor i.0 p
 
-  pub forgotten : Shown r ls (in_hand o entry.result) (on_heap (finished i.0) m) left_proc
+  pub forgotten : ProcessRepresents r ls (in_hand o entry.result) (on_heap (finished i.0) m) left_proc
   forgotten = changed r ls (with_refs (outcome_refs o) nothing_in_hand) (in_hand o entry.result) m p left_proc (finished i.0 m.heap) s (record {
     shows = finished_shown r m.heap p i.0 may.most s.holds.shows may.actor may.free sorted.actors sorted.frames sound.entries may.actors;
     counted = λ z j.
@@ -288,6 +288,6 @@ actor_closed r ls m p i o s none sound sorted may =
     let t : Proc Frame = on_core (λ c. record c { left = n }) q in
     let line = lines.end_line i.0 (outcome_of o) in
     let told = telling_shown r ls (in_hand o result) line (turned gone) t now (still_unasked gone none) in
-    subst (λ (l : Line). Follows r ls nothing_in_hand (telling l (ended_with may.actor.note.result o (turned gone))) (proc (give_result (frames_hold t.actors) result (outcome_of o) (writes line t.core)) t.actors)) (sym (end_lines i o))
+    subst (λ (l : Line). Matches r ls nothing_in_hand (telling l (ended_with may.actor.note.result o (turned gone))) (proc (give_result (frames_hold t.actors) result (outcome_of o) (writes line t.core)) t.actors)) (sym (end_lines i o))
     (with_follows r ls line o (turned gone) (on_core (writes line) t) may.actor.note.result result may.actor.same.result told (λ k f. lone_by q (on_core (writes line) t) o k refl refl refl (lone r ls m p i o s sound sorted may k f))
     (still_sorted gone sorted.cells)))

@@ -6,26 +6,26 @@ use Rattle.flow_eval.specs.Answers.{error_of}
 use Rattle.flow_eval.specs.Eval.{Res}
 use Rattle.flow_class.specs.Classes.{RawTree}
 use Rattle.flow_trace.specs.declared.line.Line.{Line}
-use Rattle.flow_meaning.specs.Asks.{Supply}
+use Rattle.flow_meaning.specs.Requests.{Supply}
 use Rattle.flow_meaning.specs.Evaluating.{StepOf, evaluated}
 use Rattle.flow_meaning.specs.Process.{Entry, Proc}
-use Rattle.flow_meaning.specs.Occ.{Scan}
+use Rattle.flow_meaning.specs.References.{Scan}
 use Rattle.flow_meaning.specs.Step.{view}
 use Rattle.flow_meaning.specs.Class.{throw_value, fetched, next_step, class_names}
 use Rattle.flow_meaning.specs.Frame.{Frame}
-use Rattle.flow_steps.specs.declared.frames.Stand.{Stand}
+use Rattle.flow_steps.specs.declared.frames.ControlPoint.{ControlPoint}
 use Rattle.flow_steps.specs.declared.next.Pace.{Pace}
 use Rattle.flow_steps.specs.declared.process.Process.{Process}
-use Rattle.flow_steps.specs.Sights.{with_left, Evaluates, gives, throws, runs_out}
+use Rattle.flow_steps.specs.Evaluating.{with_left, Evaluates, gives, throws, runs_out}
 use Rattle.flow_steps.specs.Stepping.{ErrorThrown, IsThrow}
-use Rattle.flow_follows.specs.Going.{MayBeStale}
+use Rattle.flow_follows.specs.Continuing.{MayBeStale}
 use Rattle.flow_follows.specs.Carried.{StepsAs}
 use Rattle.flow_follows.specs.Evaluated.{GivesValue}
 use Rattle.flow_follows.specs.Evaluated as law
 use Rattle.flow_follows.proofs.Carrying.{error_thrown, ran_out}
 
 module _ (r : RawTree) (ls : List Line) (m : Process) (p : Proc Frame) (i : ℕ) (e : Entry) (f : Frame) where
-  pub evaluation_follows : {A B : Type 0} (x : Scan) (s : Stand) (w : Supply) (seen : B → A) (comes_to : Res A) (go : A → ℕ → StepOf Frame)
+  pub evaluation_follows : {A B : Type 0} (x : Scan) (s : ControlPoint) (w : Supply) (seen : B → A) (comes_to : Res A) (go : A → ℕ → StepOf Frame)
       (goal : B → Process → Pace → Process → Type 0) (pace : Pace) (n : Process) → MayBeStale r ls x s m p i e f
       → next_step (class_names r) (view w i p.core) f ≡ evaluated f comes_to go → Evaluates s seen comes_to m goal pace n
       → GivesValue seen comes_to m goal pace n ⊎ StepsAs r ls x w p i e pace n
@@ -36,7 +36,7 @@ module _ (r : RawTree) (ls : List Line) (m : Process) (p : Proc Frame) (i : ℕ)
       inr (ran_out r ls m p i e f x s w n st halted (next ∙ ap (λ k. evaluated f k go) spent))
 
   -- the value of a `throw` is an error
-  by_value : (x : Scan) (s : Stand) (w : Supply) (left : ℕ) (v : ValueTree) (pace : Pace) (n : Process) → MayBeStale r ls x s m p i e f
+  by_value : (x : Scan) (s : ControlPoint) (w : Supply) (left : ℕ) (v : ValueTree) (pace : Pace) (n : Process) → MayBeStale r ls x s m p i e f
       → next_step (class_names r) (view w i p.core) f ≡ throw_value (class_names r) (view w i p.core) f left (error_of v) → ErrorThrown s v (with_left left m) pace n → StepsAs r ls x w p i e pace n
   by_value x s w left (ErrorValue k) pace n st next thrown =
       subst (λ q. StepsAs r ls x w p i e q n) (sym thrown.0) (error_thrown r ls m p i e f x s w (record { 0 = k }) left n st thrown.1 next)

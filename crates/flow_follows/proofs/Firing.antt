@@ -19,17 +19,17 @@ use Rattle.flow_stream.specs.Streams.{StreamTree}
 use Rattle.flow_cancel.specs.declared.task.Task.TheVariants as task
 use Rattle.flow_cancel.specs.Heap.{HeapTree, cell_id}
 use Rattle.flow_numbered.specs.Numbered.{thing, put}
-use Rattle.flow_meaning.specs.Asks.{Spot}
+use Rattle.flow_meaning.specs.Requests.{Spot}
 use Rattle.flow_meaning.specs.Cells.{FutureSide, side_of, Waiter, Cell, Single, Stream, waiters, is_ready, as_list}
 use Rattle.flow_meaning.specs.Process.{Run, Fire, Proc}
-use Rattle.flow_meaning.specs.Occ.{one, refs_in, value_in}
+use Rattle.flow_meaning.specs.References.{one, refs_in, value_in}
 use Rattle.flow_meaning.specs.Lines.{catch_line}
 use Rattle.flow_meaning.specs.Work as work
 use Rattle.flow_meaning.specs.Work.{running, take_branch, is_ready_at}
 use Rattle.flow_meaning.specs.Dropping.{fire_cell, fire_at, fire_to, lose_ref}
 use Rattle.flow_meaning.specs.Step.{proc, on_core}
 use Rattle.flow_meaning.specs.Frame.{Frame}
-use Rattle.flow_picture.specs.Shows.{Shows, CellShows, spot_of_actor, spot_by, wait_spot, waiter_in}
+use Rattle.flow_picture.specs.Representing.{Represents, CellRepresents, spot_of_actor, spot_by, wait_spot, waiter_in}
 use Rattle.flow_meaning.specs.Views.{spot_at}
 use Rattle.flow_picture.specs.Counted.{frames_hold, nothing_in_hand}
 use Rattle.flow_picture.specs.Rested.{Sorted}
@@ -40,8 +40,8 @@ use Rattle.flow_steps.specs.Doing.{turned, doing}
 use Rattle.flow_steps.specs.Holding.{lost, kind_in}
 use Rattle.flow_steps.specs.Waiting.{TakesBranch}
 use Rattle.flow_steps.specs.Tasks.{cell_waiter, stream_waiter, next_waiter, WaiterTakes, FiresAt}
-use Rattle.flow_follows.specs.Shown.{Shown, Follows, with_task, Sound}
-use Rattle.flow_follows.specs.Placing.{Stood}
+use Rattle.flow_follows.specs.Matching.{ProcessRepresents, Matches, with_task, Sound}
+use Rattle.flow_follows.specs.Placing.{RepresentsActor}
 use Rattle.flow_follows.specs.Taking.{MayGo, Takeable}
 use Rattle.flow_follows.specs.Tasking.{Suspended, MayFire}
 use Rattle.flow_follows.specs.Tasking as law
@@ -79,7 +79,7 @@ next_of spots false ws = None
 next_of spots true [] = None
 next_of spots true (w ∷ ws) = Some (waiter_in spots w)
 
-module _ (r : RawTree) (h : HeapTree) (p : Proc Frame) (s : Shows r h p) (k : ℕ) where
+module _ (r : RawTree) (h : HeapTree) (p : Proc Frame) (s : Represents r h p) (k : ℕ) where
   abbrev spots : ℕ → Spot
   spots = spot_of_actor p.actors
 
@@ -94,7 +94,7 @@ module _ (r : RawTree) (h : HeapTree) (p : Proc Frame) (s : Shows r h p) (k : �
   only_of true (Some w) = refl
 
   by_memory : (kd : Kind) (a : Option (CellTree Outcome)) (b : Option (StreamTree Value)) (c : Cell) → stored.thing h.cells.things k ≡ a → stored.thing h.streams.things k ≡ b → thing p.core.cells k ≡ Some c
-      → CellShows spots a b (Some c) → kind_in a b ≡ Some kd → (next_waiter kd k h ≡ next_of spots (is_ready c) (waiters c)) × RightCell kd c × (side_of kd ≡ FutureSide)
+      → CellRepresents spots a b (Some c) → kind_in a b ≡ Some kd → (next_waiter kd k h ≡ next_of spots (is_ready c) (waiters c)) × RightCell kd c × (side_of kd ≡ FutureSide)
   by_memory kind.Future (Some m) None (Single o ws) ea eb ec t e = (
     ap (λ y. if y then cell_waiter (stored.thing h.cells.things k) else None) (ready_same r h p s k ∙ ap is_ready_at ec)
         ∙ ap (λ y. if is_ready (Single o ws) then cell_waiter y else None) ea
@@ -126,20 +126,20 @@ module _ (r : RawTree) (h : HeapTree) (p : Proc Frame) (s : Shows r h p) (k : �
       → (next_waiter kd k h ≡ next_of spots (is_ready c) (waiters c)) × RightCell kd c × (side_of kd ≡ FutureSide)
   next_same kd c ec e =
       by_memory kd (stored.thing h.cells.things k) (stored.thing h.streams.things k) c refl refl ec
-      (subst (CellShows spots (stored.thing h.cells.things k) (stored.thing h.streams.things k)) ec (s.cells k)) e
+      (subst (CellRepresents spots (stored.thing h.cells.things k) (stored.thing h.streams.things k)) ec (s.cells k)) e
 
 module _ (r : RawTree) (ls : List Line) (m : Process) (p : Proc Frame) where
   -- the oldest waiter takes its branch
-  waiter_takes : (code : Code) (k : ℕ) (n : Process) (c : Cell) (w : Waiter) → Shown r ls (λ s j. one s j FutureSide k) m p → m.asked ≡ None → Takeable p k c → Suspended code r m p w
+  waiter_takes : (code : Code) (k : ℕ) (n : Process) (c : Cell) (w : Waiter) → ProcessRepresents r ls (λ s j. one s j FutureSide k) m p → m.asked ≡ None → Takeable p k c → Suspended code r m p w
       → WaiterTakes code (cell_id k) (waiter_in (spot_of_actor p.actors) w) m n
-      → Follows r ls nothing_in_hand n (on_core (fire_to k c w (thing p.core.entries w.actor)) p)
+      → Matches r ls nothing_in_hand n (on_core (fire_to k c w (thing p.core.entries w.actor)) p)
   waiter_takes code k n c w s none t sus takes =
       let i = w.actor in
       let e = sus.entry in
       let f = sus.frame in
       let m1 : Process = doing (task.Fire (cell_id k)) m in
       let p1 : Proc Frame = on_core (work.pushed (Fire k)) p in
-      let st : Stood r ls nothing_in_hand m1 p1 i e f = record {
+      let st : RepresentsActor r ls nothing_in_hand m1 p1 i e f = record {
         shown = task_done r ls nothing_in_hand m p (task.Fire (cell_id k)) (Fire k)
             (as_many_shown r ls (λ z j. one z j FutureSide k) (with_task (Fire k) nothing_in_hand) m p (λ z j. omega arith) s) refl;
         acts = acts_by r m.heap m1.heap p p1 i e f refl refl refl refl sus.acts;
@@ -157,22 +157,22 @@ module _ (r : RawTree) (ls : List Line) (m : Process) (p : Proc Frame) where
       let out = branch_follows r ls m1 p1 i e f nothing_in_hand takes.stand sus.group w.branch k c n p.core.entries st refl none now.0 now.1 spot go
       (record { at = t.at; there = λ o h. all_there_by p p1 (refs_in (value_in o)) refl (t.there o h) })
       (subst (λ b. TakesBranch takes.stand b (cell_id k) m1 n) branch takes.takes) in
-      subst (λ o. Follows r ls nothing_in_hand n (on_core (fire_to k c w o) p)) (sym sus.acts.entered)
-      (subst (λ xs. Follows r ls nothing_in_hand n (proc (take_branch i w.branch k e [] (Some c) p1.core) xs)) (same_put p.actors i f sus.acts.acting)
-      (subst (λ l. Follows r ls nothing_in_hand n (proc (take_branch i w.branch k e l.0 (Some c) p1.core) (put p.actors i l.1))) sus.emptied out))
+      subst (λ o. Matches r ls nothing_in_hand n (on_core (fire_to k c w o) p)) (sym sus.acts.entered)
+      (subst (λ xs. Matches r ls nothing_in_hand n (proc (take_branch i w.branch k e [] (Some c) p1.core) xs)) (same_put p.actors i f sus.acts.acting)
+      (subst (λ l. Matches r ls nothing_in_hand n (proc (take_branch i w.branch k e l.0 (Some c) p1.core) (put p.actors i l.1))) sus.emptied out))
 
-  fire_ends : (k : ℕ) (n : Process) (c : Cell) (kd : Kind) → Shown r ls (λ s j. one s j FutureSide k) m p → m.asked ≡ None → Sound p → Sorted m.heap
+  fire_ends : (k : ℕ) (n : Process) (c : Cell) (kd : Kind) → ProcessRepresents r ls (λ s j. one s j FutureSide k) m p → m.asked ≡ None → Sound p → Sorted m.heap
       → Takeable p k c → RightCell kd c → side_of kd ≡ FutureSide → n ≡ lost kd k m
-      → Follows r ls nothing_in_hand n (on_core (lose_ref (frames_hold p.actors) FutureSide k) p)
+      → Matches r ls nothing_in_hand n (on_core (lose_ref (frames_hold p.actors) FutureSide k) p)
   fire_ends k n c kd s none sound sorted t right side is =
-      subst (λ z. Follows r ls nothing_in_hand z (on_core (lose_ref (frames_hold p.actors) FutureSide k) p)) (sym is)
-      (subst (λ d. Follows r ls nothing_in_hand (lost kd k m) (on_core (lose_ref (frames_hold p.actors) d k) p)) side
-      (ref_lost r ls m p kd k (subst (λ d. Shown r ls (λ z j. one z j d k) m p) (sym side) s) none sound sorted (record { cell = c; at = t.at; right = right })))
+      subst (λ z. Matches r ls nothing_in_hand z (on_core (lose_ref (frames_hold p.actors) FutureSide k) p)) (sym is)
+      (subst (λ d. Matches r ls nothing_in_hand (lost kd k m) (on_core (lose_ref (frames_hold p.actors) d k) p)) side
+      (ref_lost r ls m p kd k (subst (λ d. ProcessRepresents r ls (λ z j. one z j d k) m p) (sym side) s) none sound sorted (record { cell = c; at = t.at; right = right })))
 
-  fire_by : (code : Code) (k : ℕ) (n : Process) (c : Cell) (kd : Kind) (b : Bool) (ws : List Waiter) → Shown r ls (λ s j. one s j FutureSide k) m p → m.asked ≡ None → Sound p → Sorted m.heap
+  fire_by : (code : Code) (k : ℕ) (n : Process) (c : Cell) (kd : Kind) (b : Bool) (ws : List Waiter) → ProcessRepresents r ls (λ s j. one s j FutureSide k) m p → m.asked ≡ None → Sound p → Sorted m.heap
       → Takeable p k c → RightCell kd c → side_of kd ≡ FutureSide → ((w : Waiter) (us : List Waiter) → ws ≡ w ∷ us → Suspended code r m p w)
       → FiresAt code kd (cell_id k) (next_of (spot_of_actor p.actors) b ws) m n
-      → Follows r ls nothing_in_hand n (on_core (fire_at (frames_hold p.actors) k c b ws) p)
+      → Matches r ls nothing_in_hand n (on_core (fire_at (frames_hold p.actors) k c b ws) p)
   fire_by code k n c kd false [] s none sound sorted t right side waits f = fire_ends k n c kd s none sound sorted t right side f
   fire_by code k n c kd true [] s none sound sorted t right side waits f = fire_ends k n c kd s none sound sorted t right side f
   fire_by code k n c kd false (w ∷ ws) s none sound sorted t right side waits f = fire_ends k n c kd s none sound sorted t right side f
@@ -181,6 +181,6 @@ module _ (r : RawTree) (ls : List Line) (m : Process) (p : Proc Frame) where
   pub fire_done : law.FireDone r ls m p
   fire_done code k n s none sound sorted may fires =
       let same = next_same r m.heap p s.holds.shows k fires.kind may.cell may.takeable.at fires.at in
-      subst (λ c. Follows r ls nothing_in_hand n (on_core (fire_cell (frames_hold p.actors) k c) p)) (sym may.takeable.at)
+      subst (λ c. Matches r ls nothing_in_hand n (on_core (fire_cell (frames_hold p.actors) k c) p)) (sym may.takeable.at)
       (fire_by code k n may.cell fires.kind (is_ready may.cell) (waiters may.cell) s none sound sorted may.takeable same.1 same.2 may.waits
       (subst (λ o. FiresAt code fires.kind (cell_id k) o m n) same.0 fires.fires))

@@ -8,16 +8,16 @@ use Rattle.flow_class.specs.Classes.{RawTree}
 use Rattle.flow_trace.specs.declared.line.Line.{Line}
 use Rattle.flow_cancel.specs.declared.task.Task as stack
 use Rattle.flow_cancel.specs.declared.task.Task.TheVariants as task
-use Rattle.flow_meaning.specs.Asks as asks
+use Rattle.flow_meaning.specs.Requests as asks
 use Rattle.flow_meaning.specs.Cells.{Side, Ref}
 use Rattle.flow_meaning.specs.Process.{Task, Run, Store, Keep, Proc}
-use Rattle.flow_meaning.specs.Occ.{Scan, count, in_task}
+use Rattle.flow_meaning.specs.References.{Scan, count, in_task}
 use Rattle.flow_meaning.specs.Work.{pushed}
 use Rattle.flow_meaning.specs.Effects.{gives}
 use Rattle.flow_numbered.specs.Numbered.{thing}
 use Rattle.flow_meaning.specs.Step.{kept_by, on_core}
 use Rattle.flow_meaning.specs.Frame.{Frame}
-use Rattle.flow_picture.specs.Shows.{spot_of_actor}
+use Rattle.flow_picture.specs.Representing.{spot_of_actor}
 use Rattle.flow_picture.specs.Changes.{SameTask}
 use Rattle.flow_picture.specs.Holds.{AllThere, given}
 use Rattle.flow_picture.proofs.Holds.{given_holds}
@@ -25,23 +25,23 @@ use Rattle.flow_steps.specs.declared.call.Goal.{Goal}
 use Rattle.flow_steps.specs.declared.call.Goal.TheVariants as goal
 use Rattle.flow_steps.specs.declared.process.Process.{Process}
 use Rattle.flow_steps.specs.Holding.{on_heap, value_refs, IsGiving}
-use Rattle.flow_follows.specs.Shown.{Shown}
+use Rattle.flow_follows.specs.Matching.{ProcessRepresents}
 use Rattle.flow_follows.specs.Working as law
 use Rattle.flow_follows.specs.Working.{SameGoal}
 use Rattle.flow_follows.proofs.Working.{changed}
 
 module _ (r : RawTree) (ls : List Line) (x : Scan) (m : Process) (p : Proc Frame) where
-  by_one : (i : ℕ) (t : stack.Task) (u : Task) (qs : List Ref) → Shown r ls x m p → AllThere p qs → SameTask p t u → ((s : Side) (j : ℕ) → in_task s j u ≡ count s j qs)
-      → Shown r ls x (on_heap (given i t qs) m) (on_core (λ c. pushed u (pushed (Run i) c)) p)
+  by_one : (i : ℕ) (t : stack.Task) (u : Task) (qs : List Ref) → ProcessRepresents r ls x m p → AllThere p qs → SameTask p t u → ((s : Side) (j : ℕ) → in_task s j u ≡ count s j qs)
+      → ProcessRepresents r ls x (on_heap (given i t qs) m) (on_core (λ c. pushed u (pushed (Run i) c)) p)
   by_one i t u qs s there same n =
       changed r ls x x m p (on_core (λ c. pushed u (pushed (Run i) c)) p) (given i t qs m.heap) s (given_holds r m.heap p x i t u qs s.holds there same n) refl refl refl
 
-  by_task : (g : Goal) (h : asks.Goal) (i : ActorId) (v : Value) (t : stack.Task) → Shown r ls x m p → AllThere p (value_refs v) → SameGoal p i.0 g h → IsGiving g i v t
-      → Shown r ls x (on_heap (given i.0 t (value_refs v)) m) (on_core (gives i.0 h (value_of v)) p)
+  by_task : (g : Goal) (h : asks.Goal) (i : ActorId) (v : Value) (t : stack.Task) → ProcessRepresents r ls x m p → AllThere p (value_refs v) → SameGoal p i.0 g h → IsGiving g i v t
+      → ProcessRepresents r ls x (on_heap (given i.0 t (value_refs v)) m) (on_core (gives i.0 h (value_of v)) p)
   by_task goal.Stored asks.Stored i v (task.Store j b) s there same is =
       by_one i.0 (task.Store j b) (Store i.0 (value_of v)) (value_refs v) s there (ap (λ (k : ActorId). Store k.0 (value_of v)) (sym is.0) ∙ ap (λ w. Store j.0 (value_of w)) (sym is.1)) (λ s j. refl)
   by_task (goal.Kept n) (asks.Kept spot) i v (task.Keep j q k) s there same is =
-      subst (λ w. Shown r ls x (on_heap (given i.0 (task.Keep j q k) (value_refs v)) m) (on_core (gives i.0 (asks.Kept spot) w) p)) (sym is.3)
+      subst (λ w. ProcessRepresents r ls x (on_heap (given i.0 (task.Keep j q k) (value_refs v)) m) (on_core (gives i.0 (asks.Kept spot) w) p)) (sym is.3)
       (by_one i.0 (task.Keep j q k) (Keep i.0 spot (is.2, k.0)) (value_refs v) s there keeps (λ s j. one_of s j ∙ sym (ap (λ w. count s j (refs_of w)) is.3)))
     where
       keeps : SameTask p (task.Keep j q k) (Keep i.0 spot (is.2, k.0))
@@ -61,4 +61,4 @@ module _ (r : RawTree) (ls : List Line) (x : Scan) (m : Process) (p : Proc Frame
 
   pub result_given : law.ResultGiven r ls x m p
   result_given g h i v n s there same gs =
-      subst (λ q. Shown r ls x q (on_core (gives i.0 h (value_of v)) p)) (sym gs.given_by) (by_task g h i v gs.task s there same gs.giving)
+      subst (λ q. ProcessRepresents r ls x q (on_core (gives i.0 h (value_of v)) p)) (sym gs.given_by) (by_task g h i v gs.task s there same gs.giving)

@@ -15,31 +15,31 @@ use Rattle.flow_cancel.specs.Dropping as dropping
 use Rattle.flow_numbered.specs.Numbered.{put}
 use Rattle.flow_meaning.specs.Cells.{Side, Ref}
 use Rattle.flow_meaning.specs.Process.{Run, Entry, Proc}
-use Rattle.flow_meaning.specs.Occ.{Scan, count, refs_in}
+use Rattle.flow_meaning.specs.References.{Scan, count, refs_in}
 use Rattle.flow_meaning.specs.Work as work
 use Rattle.flow_meaning.specs.Work.{turn, turn_of, pushed}
 use Rattle.flow_meaning.specs.Step.{proc, on_core}
 use Rattle.flow_meaning.specs.Variables.{filled}
 use Rattle.flow_meaning.specs.Frame.{Frame, read, write, held_in, emptied, go}
 use Rattle.flow_picture.specs.Acting.{put_frame}
-use Rattle.flow_picture.specs.Standing.{number_in}
+use Rattle.flow_picture.specs.FrameChanges.{number_in}
 use Rattle.flow_picture.specs.Holds.{with_refs}
 use Rattle.flow_meaning.proofs.Posture.{thing_put}
 use Rattle.flow_picture.proofs.Acted.{same_put}
 use Rattle.flow_picture.proofs.Tasks.{refs_same}
-use Rattle.flow_steps.specs.declared.frames.Stand.{Stand}
+use Rattle.flow_steps.specs.declared.frames.ControlPoint.{ControlPoint}
 use Rattle.flow_steps.specs.declared.next.Pace.{Pace}
 use Rattle.flow_steps.specs.declared.next.Pace.TheVariants.{On, Off}
 use Rattle.flow_steps.specs.declared.process.Process.{Process}
 use Rattle.flow_steps.specs.Doing.{turned, doing}
 use Rattle.flow_steps.specs.Holding.{on_heap, value_refs, refs_dropped}
-use Rattle.flow_steps.specs.Standing.{gone, noting, noted, GoesTo, next_stand, place_held, place_put, referring, places_taken, places_emptied}
+use Rattle.flow_steps.specs.Points.{gone, noting, noted, GoesTo, next_stand, place_held, place_put, referring, places_taken, places_emptied}
 use Rattle.flow_steps.specs.Tasks.{bound_over, bound}
 use Rattle.flow_steps.specs.Stepping.{OnAfter, Passes, no_pass, pass_begins}
-use Rattle.flow_follows.specs.Shown.{Shown, AreSpent, with_task}
-use Rattle.flow_follows.specs.Placing.{Stood, with_memory}
-use Rattle.flow_follows.specs.Going.{MayBeStale, MayMove, Goes}
-use Rattle.flow_follows.specs.Going as law
+use Rattle.flow_follows.specs.Matching.{ProcessRepresents, AreSpent, with_task}
+use Rattle.flow_follows.specs.Placing.{RepresentsActor, with_memory}
+use Rattle.flow_follows.specs.Continuing.{MayBeStale, MayMove, ContinuesAt}
+use Rattle.flow_follows.specs.Continuing as law
 use Rattle.flow_follows.proofs.Working.{as_many_shown, task_done, refs_dropped_shown, with_turn, without_turn}
 use Rattle.flow_follows.proofs.Places.{as_many_stood, place_seen, place_changed}
 use Rattle.flow_follows.proofs.Lost.{put_over}
@@ -49,44 +49,44 @@ use Rattle.flow_follows.proofs.Takings.{turned_heap}
 use Rattle.flow_follows.proofs.Moving.{goes_in}
 
 -- the stand that an actor goes to
-pub record Stands (s : Stand) (b n : ℕ) (t : Stand) : Type 0 where
+pub record Stands (s : ControlPoint) (b n : ℕ) (t : ControlPoint) : Type 0 where
   pub actor : t.actor ≡ s.actor
   pub class : t.class ≡ s.class
   pub place : t.place ≡ b
   pub instruction : t.instruction ≡ n
   pub noted : t.noted ≡ false
 
-pub goes_stands : (s : Stand) (b n : ℕ) (t : Stand) → GoesTo s b n t → Stands s b n t
+pub goes_stands : (s : ControlPoint) (b n : ℕ) (t : ControlPoint) → GoesTo s b n t → Stands s b n t
 goes_stands s b n t g = record {
-  actor = ap (λ (u : Stand). u.actor) g.same;
-  class = ap (λ (u : Stand). u.class) g.same;
-  place = ap (λ (u : Stand). u.place) g.same;
-  instruction = ap (λ (u : Stand). u.instruction) g.same;
-  noted = ap (λ (u : Stand). u.noted) g.same;
+  actor = ap (λ (u : ControlPoint). u.actor) g.same;
+  class = ap (λ (u : ControlPoint). u.class) g.same;
+  place = ap (λ (u : ControlPoint). u.place) g.same;
+  instruction = ap (λ (u : ControlPoint). u.instruction) g.same;
+  noted = ap (λ (u : ControlPoint). u.noted) g.same;
 }
 
 module _ (r : RawTree) (ls : List Line) (m : Process) (p : Proc Frame) (i : ℕ) (e : Entry) (f : Frame) where
   -- its frame is told
-  pub told_there : (x : Scan) (s t : Stand) (b n k : ℕ) → Stood r ls x m p i e f → MayMove s p i e f → Stands s b n t
-      → Stood r ls x (noted t m) (put_frame i (record f { block = b; instr = n; state = k }) p) i e (record f { block = b; instr = n; state = k })
+  pub told_there : (x : Scan) (s t : ControlPoint) (b n k : ℕ) → RepresentsActor r ls x m p i e f → MayMove s p i e f → Stands s b n t
+      → RepresentsActor r ls x (noted t m) (put_frame i (record f { block = b; instr = n; state = k }) p) i e (record f { block = b; instr = n; state = k })
   told_there x s t b n k st may to =
       let g : Frame = record f { block = b; instr = n; state = k } in
       let told = goes_in r ls x m p i e f b n k st may.operands may.free in
       let actor : t.actor ≡ actor_id i = to.actor ∙ may.actor in
-      subst (λ y. Stood r ls x (on_heap (noting y t.actor.0 t.place t.instruction) m) (put_frame i g p) i e g) (sym to.noted)
-      (subst (λ (a : ActorId). Stood r ls x (on_heap (gone a.0 t.place t.instruction) m) (put_frame i g p) i e g) (sym actor)
-      (subst (λ y. Stood r ls x (on_heap (gone i y t.instruction) m) (put_frame i g p) i e g) (sym to.place)
-      (subst (λ y. Stood r ls x (on_heap (gone i b y) m) (put_frame i g p) i e g) (sym to.instruction) told)))
+      subst (λ y. RepresentsActor r ls x (on_heap (noting y t.actor.0 t.place t.instruction) m) (put_frame i g p) i e g) (sym to.noted)
+      (subst (λ (a : ActorId). RepresentsActor r ls x (on_heap (gone a.0 t.place t.instruction) m) (put_frame i g p) i e g) (sym actor)
+      (subst (λ y. RepresentsActor r ls x (on_heap (gone i y t.instruction) m) (put_frame i g p) i e g) (sym to.place)
+      (subst (λ y. RepresentsActor r ls x (on_heap (gone i b y) m) (put_frame i g p) i e g) (sym to.instruction) told)))
 
   -- or it isn't yet
-  pub moved : (x : Scan) (s t : Stand) (b n k : ℕ) → Stood r ls x m p i e f → MayMove s p i e f → Stands s b n t → Goes r ls x t m p i e (record f { block = b; instr = n; state = k })
+  pub moved : (x : Scan) (s t : ControlPoint) (b n k : ℕ) → RepresentsActor r ls x m p i e f → MayMove s p i e f → Stands s b n t → ContinuesAt r ls x t m p i e (record f { block = b; instr = n; state = k })
   moved x s t b n k st may to =
       let g : Frame = record f { block = b; instr = n; state = k } in
       let back : put (put p.actors i g) i f ≡ p.actors = put_over p.actors i g f ∙ same_put p.actors i f st.acts.acting in record {
         block = f.block;
         instr = f.instr;
         state = f.state;
-        stood = subst (λ xs. Stood r ls x m (proc p.core xs) i e f) (sym back) st;
+        stood = subst (λ xs. RepresentsActor r ls x m (proc p.core xs) i e f) (sym back) st;
         told = λ y. let z = to.noted in absurd (cc (y, z));
         acting = thing_put p.actors i f g st.acts.acting;
         standing = record { actor = to.actor ∙ may.actor; slots = ap (λ c. c.now.slots) to.class ∙ may.slots; place = to.place };
@@ -99,7 +99,7 @@ module _ (r : RawTree) (ls : List Line) (m : Process) (p : Proc Frame) (i : ℕ)
   gone_on x s t b n k st may to = moved x s t b n k st may (goes_stands s b n t to)
 
   -- values are left over
-  pub left_over : (x : Scan) (s t : Stand) (b j k : ℕ) (vs : List Value) (pace : Pace) (n : Process) → Stood r ls (with_refs (refs_in (map value_of vs)) x) m p i e f → MayMove s p i e f → Stands s b j t → OnAfter t vs m pace n
+  pub left_over : (x : Scan) (s t : ControlPoint) (b j k : ℕ) (vs : List Value) (pace : Pace) (n : Process) → RepresentsActor r ls (with_refs (refs_in (map value_of vs)) x) m p i e f → MayMove s p i e f → Stands s b j t → OnAfter t vs m pace n
       → law.AfterValues r ls m p i e f x t (refs_in (map value_of vs)) (record f { block = b; instr = j; state = k }) pace n
   left_over x s t b j k [] pace n st may to after =
       let g : Frame = record f { block = b; instr = j; state = k } in
@@ -107,7 +107,7 @@ module _ (r : RawTree) (ls : List Line) (m : Process) (p : Proc Frame) (i : ℕ)
       subst (λ q. law.AfterValues r ls m p i e f x t [] g q n) (sym after.0) (
         refl,
         refl,
-        subst (λ q. Goes r ls x t q p i e g) (sym after.1) went,
+        subst (λ q. ContinuesAt r ls x t q p i e g) (sym after.1) went,
       )
   left_over x s t b j k (v ∷ vs) pace n st may to after =
       let g : Frame = record f { block = b; instr = j; state = k } in
@@ -119,9 +119,9 @@ module _ (r : RawTree) (ls : List Line) (m : Process) (p : Proc Frame) (i : ℕ)
       let ran = task_done r ls (with_refs rs x) m1 q1 (task.Run (actor_id i)) (Run i) (as_many_shown r ls (with_refs rs x) (with_task (Run i) (with_refs rs x)) m1 q1 (λ z y. omega arith) went.shown) refl in
       let dropped = refs_dropped_shown r ls x (doing (task.Run (actor_id i)) m1) (on_core (pushed (Run i)) q1) rs ran in
       subst (λ q. law.AfterValues r ls m p i e f x t rs g q n) (sym after.0)
-      (subst (λ q. Shown r ls x q (proc (work.dropping rs (pushed (Run i) p.core)) (put p.actors i g))) (sym after.1)
-      (subst (λ (a : ActorId). Shown r ls x (on_heap (dropping.dropping (v ∷ vs)) (doing (task.Run a) m1)) (proc (work.dropping rs (pushed (Run i) p.core)) (put p.actors i g))) (sym actor)
-      (subst (λ us. Shown r ls x (on_heap (refs_dropped us) (doing (task.Run (actor_id i)) m1)) (proc (work.dropping rs (pushed (Run i) p.core)) (put p.actors i g))) (sym (refs_same (v ∷ vs))) dropped)))
+      (subst (λ q. ProcessRepresents r ls x q (proc (work.dropping rs (pushed (Run i) p.core)) (put p.actors i g))) (sym after.1)
+      (subst (λ (a : ActorId). ProcessRepresents r ls x (on_heap (dropping.dropping (v ∷ vs)) (doing (task.Run a) m1)) (proc (work.dropping rs (pushed (Run i) p.core)) (put p.actors i g))) (sym actor)
+      (subst (λ us. ProcessRepresents r ls x (on_heap (refs_dropped us) (doing (task.Run (actor_id i)) m1)) (proc (work.dropping rs (pushed (Run i) p.core)) (put p.actors i g))) (sym (refs_same (v ∷ vs))) dropped)))
 
   pub values_left : law.ValuesLeft r ls m p i e f
   values_left x s t b j k vs pace n st may to after = left_over x s t b j k vs pace n st may (goes_stands s b j t to) after
@@ -130,10 +130,10 @@ module _ (r : RawTree) (ls : List Line) (m : Process) (p : Proc Frame) (i : ℕ)
   pub went_to : law.WentTo r ls m p i e f
   went_to x s b pace n st may to =
       subst (λ q. law.GoesAt r ls m p i e f x (go b f.mem f) q n) (sym to.2)
-      (subst (λ q. Goes r ls x to.0 q p i e (go b f.mem f)) (sym to.3) (gone_on x s to.0 b 0 0 st may to.1))
+      (subst (λ q. ContinuesAt r ls x to.0 q p i e (go b f.mem f)) (sym to.3) (gone_on x s to.0 b 0 0 st may to.1))
 
 -- the same actor, put twice
-pub over_after : (r : RawTree) (ls : List Line) (m n1 : Process) (p : Proc Frame) (i : ℕ) (e : Entry) (f h g : Frame) (x : Scan) (t : Stand) (rs qs : List Ref) (pace : Pace) (n : Process) → rs ≡ qs
+pub over_after : (r : RawTree) (ls : List Line) (m n1 : Process) (p : Proc Frame) (i : ℕ) (e : Entry) (f h g : Frame) (x : Scan) (t : ControlPoint) (rs qs : List Ref) (pace : Pace) (n : Process) → rs ≡ qs
     → law.AfterValues r ls n1 (put_frame i h p) i e h x t rs g pace n → law.AfterValues r ls m p i e f x t qs g pace n
 over_after r ls m n1 p i e f h g x t rs qs (On u) n same a = (
   a.0,
@@ -141,13 +141,13 @@ over_after r ls m n1 p i e f h g x t rs qs (On u) n same a = (
   subst (λ xs. MayBeStale r ls x t n (proc p.core xs) i e g) (put_over p.actors i h g) a.2,
 )
 over_after r ls m n1 p i e f h g x t rs qs Off n same a =
-    subst (λ us. Shown r ls x n (proc (work.dropping us (pushed (Run i) p.core)) (put p.actors i g))) same
-    (subst (λ xs. Shown r ls x n (proc (work.dropping rs (pushed (Run i) p.core)) xs)) (put_over p.actors i h g) a)
+    subst (λ us. ProcessRepresents r ls x n (proc (work.dropping us (pushed (Run i) p.core)) (put p.actors i g))) same
+    (subst (λ xs. ProcessRepresents r ls x n (proc (work.dropping rs (pushed (Run i) p.core)) xs)) (put_over p.actors i h g) a)
 
-pub same_refs : (r : RawTree) (ls : List Line) (m : Process) (p : Proc Frame) (i : ℕ) (e : Entry) (f g : Frame) (x : Scan) (t : Stand) (rs qs : List Ref) (pace : Pace) (n : Process) → rs ≡ qs
+pub same_refs : (r : RawTree) (ls : List Line) (m : Process) (p : Proc Frame) (i : ℕ) (e : Entry) (f g : Frame) (x : Scan) (t : ControlPoint) (rs qs : List Ref) (pace : Pace) (n : Process) → rs ≡ qs
     → law.AfterValues r ls m p i e f x t rs g pace n → law.AfterValues r ls m p i e f x t qs g pace n
 same_refs r ls m p i e f g x t rs qs (On u) n same a = (a.0, sym same ∙ a.1, a.2)
-same_refs r ls m p i e f g x t rs qs Off n same a = subst (λ us. Shown r ls x n (proc (work.dropping us (pushed (Run i) p.core)) (put p.actors i g))) same a
+same_refs r ls m p i e f g x t rs qs Off n same a = subst (λ us. ProcessRepresents r ls x n (proc (work.dropping us (pushed (Run i) p.core)) (put p.actors i g))) same a
 
 -- nothing is appended
 pub appended : (s : Side) (j : ℕ) (rs : List Ref) → count s j rs ≡ count s j (rs ++ [])
@@ -170,7 +170,7 @@ module _ (r : RawTree) (ls : List Line) (m : Process) (p : Proc Frame) (i : ℕ)
         operands = may.operands;
       } in
       let to : Stands s s.place (suc s.instruction) (next_stand s) = record { actor = refl; class = refl; place = refl; instruction = refl; noted = refl } in
-      let st1 = subst (λ rs. Stood r ls (with_refs rs x) m1 p1 i e f2) (sym lt.0) lt.1 in
+      let st1 = subst (λ rs. RepresentsActor r ls (with_refs rs x) m1 p1 i e f2) (sym lt.0) lt.1 in
       over_after r ls m m1 p i e f f2 (record f2 { block = s.place; instr = suc s.instruction; state = k }) x (next_stand s) (refs_in (map value_of taken)) (refs_in (held_in f.mem ns)) pace n lt.0
       (left_over r ls m1 p1 i e f2 x s (next_stand s) s.place (suc s.instruction) k taken pace n st1 may1 to after)
 
@@ -186,7 +186,7 @@ module _ (r : RawTree) (ls : List Line) (m : Process) (p : Proc Frame) (i : ℕ)
           let k = m.left - 1 in
           let left : m.left ≡ suc k = grind (arith, nat_tests, some) in
           let p1 : Proc Frame = on_core (λ c. record c { left = k }) p in
-          let st1 : Stood r ls x (turned m) p1 i e f = record {
+          let st1 : RepresentsActor r ls x (turned m) p1 i e f = record {
             shown = with_turn r ls x m p k left st.shown;
             acts = acts_by r m.heap (turned m).heap p p1 i e f (ap (λ (h : HeapTree). h.frames) (turned_heap m)) (ap (λ (h : HeapTree). h.actors) (turned_heap m)) refl refl st.acts;
           } in
@@ -198,7 +198,7 @@ module _ (r : RawTree) (ls : List Line) (m : Process) (p : Proc Frame) (i : ℕ)
           } in (
             k,
             left,
-            subst (λ z. Goes r ls x t z p1 i e (go b f.mem f)) (sym is) (gone_on r ls (turned m) p1 i e f x s t b 0 0 st1 may1 to),
+            subst (λ z. ContinuesAt r ls x t z p1 i e (go b f.mem f)) (sym is) (gone_on r ls (turned m) p1 i e f x s t b 0 0 st1 may1 to),
           )
 
   -- a value goes to the place of a branch
@@ -213,7 +213,7 @@ module _ (r : RawTree) (ls : List Line) (m : Process) (p : Proc Frame) (i : ℕ)
       by_place None None same after =
           let rs = referring_refs (Some v) in
           let hand : (z : Side) (j : ℕ) → with_refs (value_refs v) x z j ≡ with_refs (refs_in (value_of v ∷ [])) x z j = λ z j. ap (λ k. k + x z j) (appended z j (value_refs v)) in
-          let st1 = subst (λ us. Stood r ls (with_refs us x) m p i e f) (sym rs) (as_many_stood r ls (with_refs (value_refs v) x) (with_refs (refs_in (value_of v ∷ [])) x) m p i e f hand st) in
+          let st1 = subst (λ us. RepresentsActor r ls (with_refs us x) m p i e f) (sym rs) (as_many_stood r ls (with_refs (value_refs v) x) (with_refs (refs_in (value_of v ∷ [])) x) m p i e f hand st) in
           same_refs r ls m p i e f (go b f.mem f) x t (refs_in (map value_of (referring (Some v)))) (refs_in (value_of v ∷ [])) pace n rs
           (left_over r ls m p i e f x s t b 0 0 (referring (Some v)) pace n st1 may goes after)
       by_place (Some k) (Some q) same after =
@@ -226,7 +226,7 @@ module _ (r : RawTree) (ls : List Line) (m : Process) (p : Proc Frame) (i : ℕ)
           (λ z j. let a = appended z j (value_refs v) in omega (arith, a)) in
           let rs : refs_in (map value_of (referring (place_held i number m.heap))) ≡ one =
           referring_refs (place_held i number m.heap) ∙ ap (λ o. refs_in (filled (o ∷ []))) (place_seen r ls m p i e f (with_refs (value_refs v) x) q st same.1) in
-          let st2 = subst (λ us. Stood r ls (with_refs us x) m1 p1 i e f2) (sym rs) st1 in
+          let st2 = subst (λ us. RepresentsActor r ls (with_refs us x) m1 p1 i e f2) (sym rs) st1 in
           let may1 : MayMove s p1 i e f2 = record {
             actor = may.actor;
             slots = may.slots;

@@ -23,13 +23,13 @@ use Rattle.flow_numbered.specs.Numbered.{Numbered, thing, put}
 use Rattle.flow_meaning.specs.Cells.{Side, FutureSide, Ref, Waiter, Cell, Single, Stream, is_ready}
 use Rattle.flow_meaning.specs.Cells as cells
 use Rattle.flow_meaning.specs.Process.{Run, Throw, Entry, Core, Proc}
-use Rattle.flow_meaning.specs.Occ.{Scan, count, count_kept, refs_in, value_in}
+use Rattle.flow_meaning.specs.References.{Scan, count, count_kept, refs_in, value_in}
 use Rattle.flow_meaning.specs.Work.{pushed, running, leave_for, is_ready_at, take_branch}
 use Rattle.flow_meaning.specs.Step.{verdict, keep_by, proc, on_core}
 use Rattle.flow_meaning.specs.Class.{classes}
 use Rattle.flow_meaning.specs.Frame.{Frame, lose}
 use Rattle.flow_meaning.proofs.Posture.{each_number, thing_put, thing_put_other}
-use Rattle.flow_picture.specs.Shows.{Shows, CellShows, Stands, OneActor, stands, spot_of_actor, spot_by, wait_spot, error_number}
+use Rattle.flow_picture.specs.Representing.{Represents, CellRepresents, LiveFrameRepresents, OneActor, stands, spot_of_actor, spot_by, wait_spot, error_number}
 use Rattle.flow_picture.specs.Counted.{branches_at, waiting_of, waiting_by}
 use Rattle.flow_picture.specs.Acting.{Free, put_actor, frame_put}
 use Rattle.flow_picture.specs.Leaving.{wait_kind, RightKinds}
@@ -43,14 +43,14 @@ use Rattle.flow_numbered.proofs.Things.{put_same}
 use Rattle.flow_steps.specs.declared.next.Pace.{Pace}
 use Rattle.flow_steps.specs.declared.process.Process.{Process}
 use Rattle.flow_steps.specs.Holding.{on_heap}
-use Rattle.flow_steps.specs.Standing.{reframed}
+use Rattle.flow_steps.specs.Points.{reframed}
 use Rattle.flow_steps.specs.Waiting as waiting
-use Rattle.flow_steps.specs.Waiting.{ready_in, ready_at, is_marked, marked_at, left_for, BranchOf, TakesBranch, Keeps, kept_marked, kept_unready, kept_ready}
-use Rattle.flow_follows.specs.Shown.{Follows, shows, with_task}
-use Rattle.flow_follows.specs.Placing.{Acts, Stood}
+use Rattle.flow_steps.specs.Waiting.{ready_in, ready_at, is_marked, marked_at, left_for, BranchOf, TakesBranch, KeepsOperand, kept_marked, kept_unready, kept_ready}
+use Rattle.flow_follows.specs.Matching.{Matches, shows, with_task}
+use Rattle.flow_follows.specs.Placing.{Acts, RepresentsActor}
 use Rattle.flow_follows.specs.Taking.{MayGo}
-use Rattle.flow_follows.specs.Keeping.{MayKeep, callback_of, with_one}
-use Rattle.flow_follows.specs.Keeping as law
+use Rattle.flow_follows.specs.Operands.{MayKeep, callback_of, with_one}
+use Rattle.flow_follows.specs.Operands as law
 use Rattle.flow_follows.proofs.Working.{changed}
 use Rattle.flow_follows.proofs.Brought.{all_there_by}
 use Rattle.flow_follows.proofs.Places.{at_of, as_many_stood}
@@ -59,7 +59,7 @@ use Rattle.flow_follows.proofs.Parting.{left_for_task}
 use Rattle.flow_follows.proofs.Takings.{branch_follows}
 
 -- whether a wait at a cell needn't suspend
-module _ (r : RawTree) (h : HeapTree) (p : Proc Frame) (s : Shows r h p) (k : ℕ) where
+module _ (r : RawTree) (h : HeapTree) (p : Proc Frame) (s : Represents r h p) (k : ℕ) where
   content_ready : (o : Option Outcome) → is_some o ≡ cells.is_some (option_map outcome_of o)
   content_ready None = refl
   content_ready (Some o) = refl
@@ -69,7 +69,7 @@ module _ (r : RawTree) (h : HeapTree) (p : Proc Frame) (s : Shows r h p) (k : �
   queue_ready [] (Some e) w = refl
   queue_ready (v ∷ vs) d w = refl
 
-  by_memory : (a : Option (CellTree Outcome)) (b : Option (StreamTree Value)) (c : Option Cell) → CellShows (spot_of_actor p.actors) a b c → ready_in a b ≡ is_ready_at c
+  by_memory : (a : Option (CellTree Outcome)) (b : Option (StreamTree Value)) (c : Option Cell) → CellRepresents (spot_of_actor p.actors) a b c → ready_in a b ≡ is_ready_at c
   by_memory None None None t = refl
   by_memory None None (Some c) t = absurd t
   by_memory (Some m) None None t = absurd t
@@ -105,21 +105,21 @@ free_awake i e c at awake go = record {
 
 module _ (r : RawTree) (ls : List Line) (m : Process) (p : Proc Frame) (i : ℕ) (e : Entry) (f : Frame) where
   -- one operand more, in memory and in the process
-  pub operand_more : (x : Scan) (q : Ref) (st : Stood r ls (with_refs (q ∷ []) x) m p i e f) → st.acts.memory.state ≡ 0 → e.suspended ≡ false → MayGo i e p.core
-      → Stood r ls x (on_heap (waiting.operand_kept i (callback_of e f q)) m) (law.kept_in r ls m p i e f q) i (with_one e f q) f
+  pub operand_more : (x : Scan) (q : Ref) (st : RepresentsActor r ls (with_refs (q ∷ []) x) m p i e f) → st.acts.memory.state ≡ 0 → e.suspended ≡ false → MayGo i e p.core
+      → RepresentsActor r ls x (on_heap (waiting.operand_kept i (callback_of e f q)) m) (law.kept_in r ls m p i e f q) i (with_one e f q) f
   operand_more x q st zero_state awake go =
       let a = st.acts in
       let en = with_one e f q in
       let n = with_callback a.memory (callback_of e f q) in
-      let now : Stands r n en f = operand_kept r a.memory e f q (wait_spot f) a.stands zero_state awake in
+      let now : LiveFrameRepresents r n en f = operand_kept r a.memory e f q (wait_spot f) a.stands zero_state awake in
       let same : OneActor r a.note n en f = record { class = a.class; result = a.result; marked = a.marked; frame = stands now } in
       let moved = actor_moved r m.heap p i a.note n en f st.shown.holds.shows (at_of r m.heap p i e f a) same (free_awake i e p.core a.entered awake go) in
       let notes = put_same m.heap.actors.things i a.note a.noted in
       let frames = same_put p.actors i f a.acting in
-      let shown : Shows r (frame_put i n m.heap) (law.kept_in r ls m p i e f q) =
-      subst (λ xs. Shows r (frame_put i n m.heap) (proc (record p.core { entries = put p.core.entries i en }) xs)) frames
-      (subst (λ ns. Shows r (record m.heap { actors = record m.heap.actors { things = ns }; frames = stored.with_thing m.heap.frames i n }) (put_actor i en f p)) notes moved) in
-      subst (λ o. Stood r ls x (on_heap (reframed (λ k. with_callback k (callback_of e f q)) i o) m) (law.kept_in r ls m p i e f q) i en f) (sym a.framed) (record {
+      let shown : Represents r (frame_put i n m.heap) (law.kept_in r ls m p i e f q) =
+      subst (λ xs. Represents r (frame_put i n m.heap) (proc (record p.core { entries = put p.core.entries i en }) xs)) frames
+      (subst (λ ns. Represents r (record m.heap { actors = record m.heap.actors { things = ns }; frames = stored.with_thing m.heap.frames i n }) (put_actor i en f p)) notes moved) in
+      subst (λ o. RepresentsActor r ls x (on_heap (reframed (λ k. with_callback k (callback_of e f q)) i o) m) (law.kept_in r ls m p i e f q) i en f) (sym a.framed) (record {
         shown = changed r ls (with_refs (q ∷ []) x) x m p (law.kept_in r ls m p i e f q) (frame_put i n m.heap) st.shown (record {
           shows = shown;
           counted = λ z j.
@@ -170,7 +170,7 @@ module _ (r : RawTree) (ls : List Line) (m : Process) (p : Proc Frame) (i : ℕ)
       right : q.0 ≡ wait_kind (thing p.core.cells q.1)
       right = may.kind ∙ sym (ap wait_kind may.takeable.at)
 
-      one_more : Stood r ls x n1 kept i en f
+      one_more : RepresentsActor r ls x n1 kept i en f
       one_more = operand_more x q st zero_state may.awake may.go
 
       go1 : MayGo i en kept.core
@@ -179,14 +179,14 @@ module _ (r : RawTree) (ls : List Line) (m : Process) (p : Proc Frame) (i : ℕ)
       marked_is : (a : ActorId) → a ≡ actor_id i → marked_at a.0 m.heap ≡ e.marked
       marked_is a b = ap (λ y. marked_at y.0 m.heap) b ∙ ap is_marked st.acts.noted ∙ sym st.acts.marked
 
-      by_case : (pace : Pace) → Keeps s (callback_of e f q) m pace n → law.AfterKeeping r ls m p i e f x s q pace n
+      by_case : (pace : Pace) → KeepsOperand s (callback_of e f q) m pace n → law.AfterKeeping r ls m p i e f x s q pace n
       by_case pace (kept_unready k unmarked unready is) =
           let mk : e.marked ≡ false = sym (marked_is s.actor may.standing.actor) ∙ unmarked in
           let rd : is_ready_at (thing p.core.cells q.1) ≡ false = sym (ready_same r m.heap p st.shown.holds.shows q.1) ∙ unready in (
             refl,
             ap (λ b. verdict b (is_ready_at (thing p.core.cells q.1))) mk ∙ ap (verdict false) rd,
-            subst (λ z. Stood r ls x z kept i en f) (sym is)
-                (subst (λ (a : ActorId). Stood r ls x (on_heap (waiting.operand_kept a.0 (callback_of e f q)) m) kept i en f) (sym may.standing.actor) one_more),
+            subst (λ z. RepresentsActor r ls x z kept i en f) (sym is)
+                (subst (λ (a : ActorId). RepresentsActor r ls x (on_heap (waiting.operand_kept a.0 (callback_of e f q)) m) kept i en f) (sym may.standing.actor) one_more),
           )
       by_case pace (kept_marked k marked is) =
           let mk : e.marked ≡ true = sym (marked_is s.actor may.standing.actor) ∙ marked in
@@ -194,10 +194,10 @@ module _ (r : RawTree) (ls : List Line) (m : Process) (p : Proc Frame) (i : ℕ)
           let t = task.Throw s.actor (record { 0 = operation_cancelled }) in
           let same : u ≡ Throw s.actor.0 operation_cancelled = ap (λ (a : ActorId). Throw a.0 operation_cancelled) (sym may.standing.actor) in
           let left = left_for_task r ls n1 kept i en f x s t u (as_many_stood r ls x (with_task u x) n1 kept i en f (λ z j. omega arith) one_more) may.standing may.wait.end same go1 tt in
-          subst (λ v. Follows r ls x n (keep_by (classes r) i (length e.operands) v q en f (on_core (pushed (Run i)) p)).0) (sym (ap (λ b. verdict b (is_ready_at (thing p.core.cells q.1))) mk))
-          (subst (λ z. Follows r ls x z (proc (leave_for i en (lose f).0 u p.core) (put p.actors i (lose f).1))) (sym is)
-          (subst (λ (a : ActorId). Follows r ls x (on_heap (left_for s t) (on_heap (waiting.operand_kept a.0 (callback_of e f q)) m)) (proc (leave_for i en (lose f).0 u p.core) (put p.actors i (lose f).1))) (sym may.standing.actor)
-          (subst (λ xs. Follows r ls x (on_heap (left_for s t) n1) (proc (record (leave_for i en (lose f).0 u p.core) { entries = xs }) (put p.actors i (lose f).1))) (put_over p.core.entries i en (running en))
+          subst (λ v. Matches r ls x n (keep_by (classes r) i (length e.operands) v q en f (on_core (pushed (Run i)) p)).0) (sym (ap (λ b. verdict b (is_ready_at (thing p.core.cells q.1))) mk))
+          (subst (λ z. Matches r ls x z (proc (leave_for i en (lose f).0 u p.core) (put p.actors i (lose f).1))) (sym is)
+          (subst (λ (a : ActorId). Matches r ls x (on_heap (left_for s t) (on_heap (waiting.operand_kept a.0 (callback_of e f q)) m)) (proc (leave_for i en (lose f).0 u p.core) (put p.actors i (lose f).1))) (sym may.standing.actor)
+          (subst (λ xs. Matches r ls x (on_heap (left_for s t) n1) (proc (record (leave_for i en (lose f).0 u p.core) { entries = xs }) (put p.actors i (lose f).1))) (put_over p.core.entries i en (running en))
           (shows left.shown))))
       by_case pace (kept_ready k b unmarked ready at takes) =
           let mk : e.marked ≡ false = sym (marked_is s.actor may.standing.actor) ∙ unmarked in
@@ -210,6 +210,6 @@ module _ (r : RawTree) (ls : List Line) (m : Process) (p : Proc Frame) (i : ℕ)
           subst (λ (a : ActorId). TakesBranch s b (record { 0 = q.1 }) (on_heap (waiting.operand_kept a.0 (callback_of e f q)) m) n) may.standing.actor takes in
           let out = branch_follows r ls n1 kept i en f x s group b q.1 may.cell n p.core.entries one_more (sym (put_over p.core.entries i en (running en))) none may.standing may.wait spot go1
           (record { at = may.takeable.at; there = λ o h. all_there_by p kept (refs_in (value_in o)) refl (may.takeable.there o h) }) taken in
-          subst (λ v. Follows r ls x n (keep_by (classes r) i (length e.operands) v q en f (on_core (pushed (Run i)) p)).0) (sym (ap (λ c. verdict c (is_ready_at (thing p.core.cells q.1))) mk ∙ ap (verdict false) rd))
-          (subst (λ c. Follows r ls x n (proc (take_branch i (length e.operands) q.1 en (lose f).0 c p.core) (put p.actors i (lose f).1))) (sym may.takeable.at)
-          (subst (λ c. Follows r ls x n (proc (take_branch i c q.1 en (lose f).0 (Some may.cell) p.core) (put p.actors i (lose f).1))) branch out))
+          subst (λ v. Matches r ls x n (keep_by (classes r) i (length e.operands) v q en f (on_core (pushed (Run i)) p)).0) (sym (ap (λ c. verdict c (is_ready_at (thing p.core.cells q.1))) mk ∙ ap (verdict false) rd))
+          (subst (λ c. Matches r ls x n (proc (take_branch i (length e.operands) q.1 en (lose f).0 c p.core) (put p.actors i (lose f).1))) (sym may.takeable.at)
+          (subst (λ c. Matches r ls x n (proc (take_branch i c q.1 en (lose f).0 (Some may.cell) p.core) (put p.actors i (lose f).1))) branch out))

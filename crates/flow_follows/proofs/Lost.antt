@@ -10,7 +10,7 @@ use Rattle.flow_trace.specs.declared.line.Line.{Line}
 use Rattle.flow_numbered.specs.Numbered.{Numbered, put}
 use Rattle.flow_meaning.specs.Cells.{Ref}
 use Rattle.flow_meaning.specs.Process.{Task, Drop, Entry, Proc}
-use Rattle.flow_meaning.specs.Occ.{Scan, count, refs_in}
+use Rattle.flow_meaning.specs.References.{Scan, count, refs_in}
 use Rattle.flow_meaning.specs.Step.{proc, on_core}
 use Rattle.flow_meaning.specs.Work as work
 use Rattle.flow_meaning.specs.Variables.{flat, filled}
@@ -19,8 +19,8 @@ use Rattle.flow_picture.specs.Acting.{put_frame}
 use Rattle.flow_picture.proofs.Acted.{same_put}
 use Rattle.flow_steps.specs.declared.process.Process.{Process}
 use Rattle.flow_steps.specs.Holding.{on_heap}
-use Rattle.flow_steps.specs.Standing.{place_lost, places_lost}
-use Rattle.flow_follows.specs.Placing.{Stood, with_memory}
+use Rattle.flow_steps.specs.Points.{place_lost, places_lost}
+use Rattle.flow_follows.specs.Placing.{RepresentsActor, with_memory}
 use Rattle.flow_follows.proofs.Places.{one_lost}
 
 -- lists
@@ -85,25 +85,25 @@ with_slots os f = record f { mem = record f.mem { slots = os } }
 
 module _ (r : RawTree) (ls : List Line) (i : ℕ) (e : Entry) (x : Scan) where
   -- the same frame put again
-  pub unchanged : (m : Process) (p : Proc Frame) (f : Frame) → Stood r ls x m p i e f → Stood r ls x m (proc p.core (put p.actors i f)) i e f
-  unchanged m p f s = subst (λ xs. Stood r ls x m (proc p.core xs) i e f) (sym (same_put p.actors i f s.acts.acting)) s
+  pub unchanged : (m : Process) (p : Proc Frame) (f : Frame) → RepresentsActor r ls x m p i e f → RepresentsActor r ls x m (proc p.core (put p.actors i f)) i e f
+  unchanged m p f s = subst (λ xs. RepresentsActor r ls x m (proc p.core xs) i e f) (sym (same_put p.actors i f s.acts.acting)) s
 
   -- what is left to do after the first place
   further : (m : Process) (p : Proc Frame) (f g k : Frame) (n1 n2 count : ℕ) (o : Option ValueTree) (os : List (Option ValueTree)) (a : Option ValueTree) → a ≡ o → n1 ≡ n2 → g ≡ k
-      → Stood r ls x (on_heap (places_lost i n1 count) m)
+      → RepresentsActor r ls x (on_heap (places_lost i n1 count) m)
       (proc (work.dropping (refs_in (filled (reversed os))) (work.dropping (refs_in (filled (a ∷ []))) p.core)) (put (put p.actors i f) i g)) i e g
-      → Stood r ls x (on_heap (places_lost i n2 count) m) (proc (work.dropping (refs_in (filled (reversed os ++ o ∷ []))) p.core) (put p.actors i k)) i e k
+      → RepresentsActor r ls x (on_heap (places_lost i n2 count) m) (proc (work.dropping (refs_in (filled (reversed os ++ o ∷ []))) p.core) (put p.actors i k)) i e k
   further m p f g k n1 n2 count o os a ao nn gk s =
-      subst (λ h. Stood r ls x (on_heap (places_lost i n2 count) m) (proc (work.dropping (refs_in (filled (reversed os ++ o ∷ []))) p.core) (put p.actors i h)) i e h) gk
-      (subst (λ n. Stood r ls x (on_heap (places_lost i n count) m) (proc (work.dropping (refs_in (filled (reversed os ++ o ∷ []))) p.core) (put p.actors i g)) i e g) nn
-      (subst (λ ts. Stood r ls x (on_heap (places_lost i n1 count) m) (proc (record p.core { tasks = ts }) (put p.actors i g)) i e g) (sym (drops_in_order (reversed os) (o ∷ []) p.core.tasks))
-      (subst (λ b. Stood r ls x (on_heap (places_lost i n1 count) m) (proc (work.dropping (refs_in (filled (reversed os))) (work.dropping (refs_in (filled (b ∷ []))) p.core)) (put p.actors i g)) i e g) ao
-      (subst (λ xs. Stood r ls x (on_heap (places_lost i n1 count) m) (proc (work.dropping (refs_in (filled (reversed os))) (work.dropping (refs_in (filled (a ∷ []))) p.core)) xs) i e g) (put_over p.actors i f g) s))))
+      subst (λ h. RepresentsActor r ls x (on_heap (places_lost i n2 count) m) (proc (work.dropping (refs_in (filled (reversed os ++ o ∷ []))) p.core) (put p.actors i h)) i e h) gk
+      (subst (λ n. RepresentsActor r ls x (on_heap (places_lost i n count) m) (proc (work.dropping (refs_in (filled (reversed os ++ o ∷ []))) p.core) (put p.actors i g)) i e g) nn
+      (subst (λ ts. RepresentsActor r ls x (on_heap (places_lost i n1 count) m) (proc (record p.core { tasks = ts }) (put p.actors i g)) i e g) (sym (drops_in_order (reversed os) (o ∷ []) p.core.tasks))
+      (subst (λ b. RepresentsActor r ls x (on_heap (places_lost i n1 count) m) (proc (work.dropping (refs_in (filled (reversed os))) (work.dropping (refs_in (filled (b ∷ []))) p.core)) (put p.actors i g)) i e g) ao
+      (subst (λ xs. RepresentsActor r ls x (on_heap (places_lost i n1 count) m) (proc (work.dropping (refs_in (filled (reversed os))) (work.dropping (refs_in (filled (a ∷ []))) p.core)) xs) i e g) (put_over p.actors i f g) s))))
 
-  pub locals_from : (os ds : List (Option ValueTree)) (m : Process) (p : Proc Frame) (f : Frame) → Stood r ls x m p i e f → f.mem.locals ≡ ds ++ os
-      → Stood r ls x (on_heap (places_lost i (length f.code.slots + length ds) (length os)) m)
+  pub locals_from : (os ds : List (Option ValueTree)) (m : Process) (p : Proc Frame) (f : Frame) → RepresentsActor r ls x m p i e f → f.mem.locals ≡ ds ++ os
+      → RepresentsActor r ls x (on_heap (places_lost i (length f.code.slots + length ds) (length os)) m)
       (proc (work.dropping (refs_in (filled (reversed os))) p.core) (put p.actors i (with_locals (ds ++ blanks os) f))) i e (with_locals (ds ++ blanks os) f)
-  locals_from [] ds m p f s h = subst (λ g. Stood r ls x m (proc p.core (put p.actors i g)) i e g) (ap (λ ys. with_locals ys f) h) (unchanged m p f s)
+  locals_from [] ds m p f s h = subst (λ g. RepresentsActor r ls x m (proc p.core (put p.actors i g)) i e g) (ap (λ ys. with_locals ys f) h) (unchanged m p f s)
   locals_from (o ∷ os) ds m p f s h =
       let q = Local (length ds) in
       let there : length ds < length f.mem.locals = let a = ap length h in let b = length_after ds o os in omega (arith, a, b) in
@@ -116,10 +116,10 @@ module _ (r : RawTree) (ls : List Line) (i : ℕ) (e : Entry) (x : Scan) where
       (ap (λ l. flat (slice_get l (length ds))) h ∙ got_after ds o os) (length_more (length f.code.slots) ds None)
       (ap (λ l. with_locals l f) (append_assoc ds (None ∷ []) (blanks os))) rest
 
-  pub slots_from : (os ds : List (Option ValueTree)) (m : Process) (p : Proc Frame) (f : Frame) → Stood r ls x m p i e f → f.mem.slots ≡ ds ++ os
-      → Stood r ls x (on_heap (places_lost i (length ds) (length os)) m)
+  pub slots_from : (os ds : List (Option ValueTree)) (m : Process) (p : Proc Frame) (f : Frame) → RepresentsActor r ls x m p i e f → f.mem.slots ≡ ds ++ os
+      → RepresentsActor r ls x (on_heap (places_lost i (length ds) (length os)) m)
       (proc (work.dropping (refs_in (filled (reversed os))) p.core) (put p.actors i (with_slots (ds ++ blanks os) f))) i e (with_slots (ds ++ blanks os) f)
-  slots_from [] ds m p f s h = subst (λ g. Stood r ls x m (proc p.core (put p.actors i g)) i e g) (ap (λ ys. with_slots ys f) h) (unchanged m p f s)
+  slots_from [] ds m p f s h = subst (λ g. RepresentsActor r ls x m (proc p.core (put p.actors i g)) i e g) (ap (λ ys. with_slots ys f) h) (unchanged m p f s)
   slots_from (o ∷ os) ds m p f s h =
       let q = Slot (length ds) in
       let there : length ds < length f.mem.slots = let a = ap length h in let b = length_after ds o os in omega (arith, a, b) in

@@ -15,16 +15,16 @@ use Rattle.flow_trace.specs.declared.line.Line.{Line}
 use Rattle.flow_numbered.specs.Numbered as stored
 use Rattle.flow_cancel.specs.Heap.{next_cell, with_result, with_stream}
 use Rattle.flow_numbered.specs.Numbered.{thing, added}
-use Rattle.flow_meaning.specs.Asks as asks
+use Rattle.flow_meaning.specs.Requests as asks
 use Rattle.flow_meaning.specs.Cells.{Cell, Single, Stream}
 use Rattle.flow_meaning.specs.Process.{Task, Run, Store, Keep, Proc}
-use Rattle.flow_meaning.specs.Occ.{Scan}
+use Rattle.flow_meaning.specs.References.{Scan}
 use Rattle.flow_meaning.specs.Orderly.{Rising}
 use Rattle.flow_meaning.specs.Work.{pushed, new_cell}
 use Rattle.flow_meaning.specs.Effects.{result_task, push_result, gives, gives_open, empty_cell, open_port}
 use Rattle.flow_meaning.specs.Step.{kept_by, proc, on_core}
 use Rattle.flow_meaning.specs.Frame.{Frame}
-use Rattle.flow_picture.specs.Shows.{spot_of_actor}
+use Rattle.flow_picture.specs.Representing.{spot_of_actor}
 use Rattle.flow_picture.specs.Rested.{InNumbers}
 use Rattle.flow_picture.specs.Losing.{RightCell}
 use Rattle.flow_picture.specs.Holds.{with_refs, There, AllThere, hold}
@@ -38,10 +38,10 @@ use Rattle.flow_steps.specs.declared.call.Goal.{Goal}
 use Rattle.flow_steps.specs.declared.call.Goal.TheVariants as goal
 use Rattle.flow_steps.specs.declared.process.Process.{Process}
 use Rattle.flow_steps.specs.Holding.{on_heap, value_refs}
-use Rattle.flow_steps.specs.Bringing.{made, requested, heard}
-use Rattle.flow_follows.specs.Shown.{Shown}
+use Rattle.flow_steps.specs.Delivering.{made, requested, heard}
+use Rattle.flow_follows.specs.Matching.{ProcessRepresents}
 use Rattle.flow_follows.specs.Working.{SameGoal}
-use Rattle.flow_follows.specs.Bringing as law
+use Rattle.flow_follows.specs.Delivering as law
 use Rattle.flow_follows.proofs.Working.{changed, ref_held}
 use Rattle.flow_follows.proofs.Giving.{result_given}
 
@@ -77,12 +77,12 @@ module _ (r : RawTree) (ls : List Line) (x : Scan) (m : Process) (p : Proc Frame
   not_there : Rising 0 p.core.made p.core.cells → thing p.core.cells (suc p.core.made) ≡ None
   not_there rising = none_above p.core.cells 0 p.core.made (suc p.core.made) rising (omega arith)
 
-  nothing_there : Shown r ls x m p → Rising 0 p.core.made p.core.cells → (stored.thing m.heap.cells.things (next_cell m.heap) ≡ None) × (stored.thing m.heap.streams.things (next_cell m.heap) ≡ None)
+  nothing_there : ProcessRepresents r ls x m p → Rising 0 p.core.made p.core.cells → (stored.thing m.heap.cells.things (next_cell m.heap) ≡ None) × (stored.thing m.heap.streams.things (next_cell m.heap) ≡ None)
   nothing_there s rising =
       nothing_at (spot_of_actor p.actors) m.heap.cells.things m.heap.streams.things p.core.cells s.holds.shows.cells (next_cell m.heap)
       (ap (thing p.core.cells) s.holds.shows.made ∙ not_there rising)
 
-  single_made : Shown r ls x m p → Rising 0 p.core.made p.core.cells → Shown r ls x (on_heap (λ h. with_result (next_cell h) h) m) (on_core (new_cell (Single None [])) p)
+  single_made : ProcessRepresents r ls x m p → Rising 0 p.core.made p.core.cells → ProcessRepresents r ls x (on_heap (λ h. with_result (next_cell h) h) m) (on_core (new_cell (Single None [])) p)
   single_made s rising =
       let none = nothing_there s rising in
       changed r ls x x m p (on_core (new_cell (Single None [])) p) (with_result (next_cell m.heap) m.heap) s (record {
@@ -90,7 +90,7 @@ module _ (r : RawTree) (ls : List Line) (x : Scan) (m : Process) (p : Proc Frame
         counted = λ z j. let a = result_keeps m.heap z j none.0 none.1 in let b = of_new_cell p z j (Single None []) in let c = s.holds.counted z j in omega (arith, a, b, c);
       }) refl refl refl
 
-  queue_made : Shown r ls x m p → Rising 0 p.core.made p.core.cells → Shown r ls x (on_heap (λ h. with_stream (next_cell h) h) m) (on_core (new_cell (Stream [] None None)) p)
+  queue_made : ProcessRepresents r ls x m p → Rising 0 p.core.made p.core.cells → ProcessRepresents r ls x (on_heap (λ h. with_stream (next_cell h) h) m) (on_core (new_cell (Stream [] None None)) p)
   queue_made s rising =
       let none = nothing_there s rising in
       changed r ls x x m p (on_core (new_cell (Stream [] None None)) p) (with_stream (next_cell m.heap) m.heap) s (record {
@@ -117,7 +117,7 @@ module _ (r : RawTree) (ls : List Line) (x : Scan) (m : Process) (p : Proc Frame
       let e : k.0 ≡ suc p.core.made = num ∙ s.holds.shows.made in
       let one : AllThere q ((kd, k.0) ∷ []) = (subst (λ c. There q (kd, c)) (sym e) (new_there kd rising), tt) in
       let there : AllThere q (value_refs (Ref kd k)) = subst (λ v. AllThere q (refs_of v)) (sym (ref_seen kd k)) one in
-      subst (λ v. Shown r ls x n (on_core (gives i.0 h v) q)) (ref_seen kd k ∙ ap (RefValue kd) e)
+      subst (λ v. ProcessRepresents r ls x n (on_core (gives i.0 h v) q)) (ref_seen kd k ∙ ap (RefValue kd) e)
       (result_given r ls x (on_heap (made kd) m) q g h i (Ref kd k) n (cell_made kd s rising) there (same_goal_by p q i.0 g h refl refl same) gs)
 
 -- with an open request, and with a port
@@ -133,28 +133,28 @@ module _ (r : RawTree) (ls : List Line) (x : Scan) (m : Process) (p : Proc Frame
     right = right_new kd;
   }
 
-  with_request : (o : Option Task) (u : Task) → o ≡ Some u → Shown r ls x m (proc (push_result i o (new_cell (Single None []) p.core)) p.actors)
-      → Shown r ls x (on_heap (requested k) (on_heap (hold kind.Promise k) m))
+  with_request : (o : Option Task) (u : Task) → o ≡ Some u → ProcessRepresents r ls x m (proc (push_result i o (new_cell (Single None []) p.core)) p.actors)
+      → ProcessRepresents r ls x (on_heap (requested k) (on_heap (hold kind.Promise k) m))
       (proc (push_result i o (new_cell (Single None []) (record p.core { requests = p.core.requests ++ suc p.core.made ∷ [] }))) p.actors)
   with_request None u e s = absurd (cc)
   with_request (Some v) u e s =
       let q = given_by (Single None []) v in
       let held = ref_held r ls x m q (kind.Promise, k) s (there_then kind.Promise v) in
       let l : p.core.made < k = omega (arith, number) in
-      subst (λ c. Shown r ls x (on_heap (requested k) (on_heap (hold kind.Promise k) m)) (on_core (λ d. record d { requests = d.requests ++ c ∷ [] }) q)) number
+      subst (λ c. ProcessRepresents r ls x (on_heap (requested k) (on_heap (hold kind.Promise k) m)) (on_core (λ d. record d { requests = d.requests ++ c ∷ [] }) q)) number
       (changed r ls (with_refs ((kind.Promise, k) ∷ []) x) x (on_heap (hold kind.Promise k) m) q (on_core (λ d. record d { requests = d.requests ++ k ∷ [] }) q) (requested k (hold kind.Promise k m.heap)) held (record {
         shows = request_shown r (hold kind.Promise k m.heap) q k 0 p.core.made held.holds.shows numbers.requests l;
         counted = λ z j. let a = of_request q z j k in let b = held.holds.counted z j in omega (arith, a, b);
       }) refl refl refl)
 
-  with_port : (port : ℕ) (o : Option Task) (u : Task) → o ≡ Some u → Shown r ls x m (proc (push_result i o (new_cell (Stream [] None None) p.core)) p.actors)
-      → Shown r ls x (on_heap (heard k) (on_heap (hold kind.PromiseStream k) m))
+  with_port : (port : ℕ) (o : Option Task) (u : Task) → o ≡ Some u → ProcessRepresents r ls x m (proc (push_result i o (new_cell (Stream [] None None) p.core)) p.actors)
+      → ProcessRepresents r ls x (on_heap (heard k) (on_heap (hold kind.PromiseStream k) m))
       (proc (push_result i o (new_cell (Stream [] None None) (record p.core { ports = added p.core.ports port (suc p.core.made) }))) p.actors)
   with_port port None u e s = absurd (cc)
   with_port port (Some v) u e s =
       let q = given_by (Stream [] None None) v in
       let held = ref_held r ls x m q (kind.PromiseStream, k) s (there_then kind.PromiseStream v) in
-      subst (λ c. Shown r ls x (on_heap (heard k) (on_heap (hold kind.PromiseStream k) m)) (on_core (λ d. record d { ports = added d.ports port c }) q)) number
+      subst (λ c. ProcessRepresents r ls x (on_heap (heard k) (on_heap (hold kind.PromiseStream k) m)) (on_core (λ d. record d { ports = added d.ports port c }) q)) number
       (changed r ls (with_refs ((kind.PromiseStream, k) ∷ []) x) x (on_heap (hold kind.PromiseStream k) m) q (on_core (λ d. record d { ports = added d.ports port k }) q) (heard k (hold kind.PromiseStream k m.heap)) held (record {
         shows = port_shown r (hold kind.PromiseStream k m.heap) q port k held.holds.shows;
         counted = λ z j. let a = of_port q z j port k in let b = held.holds.counted z j in omega (arith, a, b);
@@ -166,7 +166,7 @@ module _ (r : RawTree) (ls : List Line) (x : Scan) (m : Process) (p : Proc Frame
       let number : k.0 ≡ suc p.core.made = og.number ∙ s.holds.shows.made in
       let a = cell_given r ls x m p g h i kind.Future k og.between s numbers.cells same og.number og.given in (
         number,
-        subst (λ q. Shown r ls x q (on_core (gives_open i.0 h) p)) (sym og.requested_then)
+        subst (λ q. ProcessRepresents r ls x q (on_core (gives_open i.0 h) p)) (sym og.requested_then)
             (with_request r ls x og.between p numbers i.0 k.0 number (result_task i.0 h (RefValue kind.Future (suc p.core.made))) (given_task i.0 h kind.Future (suc p.core.made)) (given_as i.0 h kind.Future (suc p.core.made)) a),
       )
 
@@ -175,7 +175,7 @@ module _ (r : RawTree) (ls : List Line) (x : Scan) (m : Process) (p : Proc Frame
       let number : k.0 ≡ suc p.core.made = og.number ∙ s.holds.shows.made in
       let a = cell_given r ls x m p g h i kind.FutureStream k og.between s numbers.cells same og.number og.given in (
         number,
-        subst (λ o. Shown r ls x n (on_core (λ c. (open_port i.0 h port o c).0) p)) (sym none)
-            (subst (λ q. Shown r ls x q (on_core (λ c. (open_port i.0 h port None c).0) p)) (sym og.heard_then)
+        subst (λ o. ProcessRepresents r ls x n (on_core (λ c. (open_port i.0 h port o c).0) p)) (sym none)
+            (subst (λ q. ProcessRepresents r ls x q (on_core (λ c. (open_port i.0 h port None c).0) p)) (sym og.heard_then)
             (with_port r ls x og.between p numbers i.0 k.0 number port (result_task i.0 h (RefValue kind.FutureStream (suc p.core.made))) (given_task i.0 h kind.FutureStream (suc p.core.made)) (given_as i.0 h kind.FutureStream (suc p.core.made)) a)),
       )

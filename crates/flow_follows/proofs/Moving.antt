@@ -12,10 +12,10 @@ use Rattle.flow_frame.specs.Frames.{FrameTree, all_empty}
 use Rattle.flow_numbered.specs.Numbered.{thing}
 use Rattle.flow_meaning.specs.Cells.{Side, Waiter, Cell, Single, Stream, as_list, without, without_one, left_by}
 use Rattle.flow_meaning.specs.Process.{Entry, Core, Proc}
-use Rattle.flow_meaning.specs.Occ.{Scan}
+use Rattle.flow_meaning.specs.References.{Scan}
 use Rattle.flow_meaning.specs.Frame.{Memory, Frame, blanks, over, occ_memory}
 use Rattle.flow_meaning.proofs.Posture.{thing_put}
-use Rattle.flow_picture.specs.Shows.{Shows, Stands, OneActor, stands, here}
+use Rattle.flow_picture.specs.Representing.{Represents, LiveFrameRepresents, OneActor, stands, here}
 use Rattle.flow_picture.specs.Counted.{branches_of, waiters_at}
 use Rattle.flow_picture.specs.Acting.{Free, frame_put, put_frame}
 use Rattle.flow_picture.specs.Leaving.{left_wait}
@@ -28,10 +28,10 @@ use Rattle.flow_picture.proofs.Standing.{goes_on, is_over}
 use Rattle.flow_numbered.proofs.Things.{put_same}
 use Rattle.flow_steps.specs.declared.process.Process.{Process}
 use Rattle.flow_steps.specs.Holding.{on_heap}
-use Rattle.flow_steps.specs.Bringing.{gone_to}
-use Rattle.flow_steps.specs.Standing.{reframed, gone}
-use Rattle.flow_follows.specs.Shown.{Shown}
-use Rattle.flow_follows.specs.Placing.{Stood, with_memory, nothing_in}
+use Rattle.flow_steps.specs.Delivering.{gone_to}
+use Rattle.flow_steps.specs.Points.{reframed, gone}
+use Rattle.flow_follows.specs.Matching.{ProcessRepresents}
+use Rattle.flow_follows.specs.Placing.{RepresentsActor, with_memory, nothing_in}
 use Rattle.flow_follows.specs.Taking.{MayGo}
 use Rattle.flow_follows.proofs.Working.{changed}
 use Rattle.flow_follows.proofs.Places.{at_of}
@@ -70,20 +70,20 @@ module _ (r : RawTree) (ls : List Line) (x : Scan) (m : Process) (p : Proc Frame
   abbrev gone_frame : (block instruction state : ℕ) → Frame
   gone_frame b n k = record f { block = b; instr = n; state = k }
 
-  stands_gone : (b n k : ℕ) (mem : FrameTree Value) → Stands r mem e f → e.operands ≡ [] → Stands r (gone_to b n mem) e (gone_frame b n k)
+  stands_gone : (b n k : ℕ) (mem : FrameTree Value) → LiveFrameRepresents r mem e f → e.operands ≡ [] → LiveFrameRepresents r (gone_to b n mem) e (gone_frame b n k)
   stands_gone b n k mem s none =
       let a = goes_on r mem e f b n s none in
       record { code = a.code; places = a.places; slots = a.slots; position = here refl refl refl; callbacks = a.callbacks; suspended = a.suspended; spot = a.spot }
 
-  pub goes_in : (b n k : ℕ) → Stood r ls x m p i e f → e.operands ≡ [] → Free i p.core
-      → Stood r ls x (on_heap (gone i b n) m) (put_frame i (record f { block = b; instr = n; state = k }) p) i e (record f { block = b; instr = n; state = k })
+  pub goes_in : (b n k : ℕ) → RepresentsActor r ls x m p i e f → e.operands ≡ [] → Free i p.core
+      → RepresentsActor r ls x (on_heap (gone i b n) m) (put_frame i (record f { block = b; instr = n; state = k }) p) i e (record f { block = b; instr = n; state = k })
   goes_in b n k s none free =
       let a = s.acts in
       let told = gone_to b n a.memory in
       let g : Frame = gone_frame b n k in
-      let now : Stands r told e g = stands_gone b n k a.memory a.stands none in
+      let now : LiveFrameRepresents r told e g = stands_gone b n k a.memory a.stands none in
       let same : OneActor r a.note told e g = record { class = a.class; result = a.result; marked = a.marked; frame = stands now } in
-      subst (λ o. Stood r ls x (on_heap (reframed (gone_to b n) i o) m) (put_frame i g p) i e g) (sym a.framed) (record {
+      subst (λ o. RepresentsActor r ls x (on_heap (reframed (gone_to b n) i o) m) (put_frame i g p) i e g) (sym a.framed) (record {
         shown = changed r ls x x m p (put_frame i g p) (frame_put i told m.heap) s.shown (record {
           shows = frame_moved r m.heap p i told g s.shown.holds.shows (at_of r m.heap p i e f a) same free;
           counted = λ z j. let c = of_frame p z j i f g a.acting in let d = s.shown.holds.counted z j in omega (arith, c, d);
@@ -102,8 +102,8 @@ module _ (r : RawTree) (ls : List Line) (x : Scan) (m : Process) (p : Proc Frame
         };
       })
 
-  pub goes_to : (b n : ℕ) → Stood r ls x m p i e f → e.operands ≡ [] → Free i p.core
-      → Stood r ls x (on_heap (gone i b n) m) (put_frame i (record f { block = b; instr = n; state = 0 }) p) i e (record f { block = b; instr = n; state = 0 })
+  pub goes_to : (b n : ℕ) → RepresentsActor r ls x m p i e f → e.operands ≡ [] → Free i p.core
+      → RepresentsActor r ls x (on_heap (gone i b n) m) (put_frame i (record f { block = b; instr = n; state = 0 }) p) i e (record f { block = b; instr = n; state = 0 })
   goes_to b n s none free = goes_in b n 0 s none free
 
 -- a frame whose places are all empty holds nothing
@@ -126,7 +126,7 @@ empty_places (Some v ∷ xs) (y ∷ ys) zs h = absurd (cc)
 
 module _ (r : RawTree) (ls : List Line) (x : Scan) (m : Process) (p : Proc Frame) (i : ℕ) (e : Entry) (f : Frame) where
   -- a free actor that runs, and whose frame holds nothing, is over
-  pub is_over_shown : Stood r ls x m p i e (with_memory (nothing_in f.mem) f) → e.operands ≡ [] → e.suspended ≡ false → Free i p.core → Shown r ls x m (put_frame i over p)
+  pub is_over_shown : RepresentsActor r ls x m p i e (with_memory (nothing_in f.mem) f) → e.operands ≡ [] → e.suspended ≡ false → Free i p.core → ProcessRepresents r ls x m (put_frame i over p)
   is_over_shown s none awake free =
       let a = s.acts in
       let g : Frame = with_memory (nothing_in f.mem) f in
@@ -135,7 +135,7 @@ module _ (r : RawTree) (ls : List Line) (x : Scan) (m : Process) (p : Proc Frame
       let moved = frame_moved r m.heap p i a.memory over s.shown.holds.shows (at_of r m.heap p i e g a) ended free in
       let same : frame_put i a.memory m.heap ≡ m.heap = ap (λ ms. record m.heap { frames = record m.heap.frames { things = ms } }) (put_same m.heap.frames.things i a.memory a.framed) in
       changed r ls x x m p (put_frame i over p) m.heap s.shown (record {
-        shows = subst (λ h. Shows r h (put_frame i over p)) same moved;
+        shows = subst (λ h. Represents r h (put_frame i over p)) same moved;
         counted = λ z j.
             let c = of_frame p z j i g over a.acting in
             let d = s.shown.holds.counted z j in

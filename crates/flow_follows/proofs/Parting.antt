@@ -19,13 +19,13 @@ use Rattle.flow_numbered.specs.Numbered.{thing, put}
 use Rattle.flow_meaning.specs.Cells.{Ref}
 use Rattle.flow_meaning.specs.Process.{Task, Entry, Core, Proc}
 use Rattle.flow_meaning.specs.Process as process
-use Rattle.flow_meaning.specs.Occ.{refs_in}
+use Rattle.flow_meaning.specs.References.{refs_in}
 use Rattle.flow_meaning.specs.Work.{running, leave_for}
 use Rattle.flow_meaning.specs.Work as work
 use Rattle.flow_meaning.specs.Step.{proc, on_core}
 use Rattle.flow_meaning.specs.Frame.{Frame, lose}
 use Rattle.flow_meaning.proofs.Posture.{thing_put}
-use Rattle.flow_picture.specs.Shows.{Stands, Position, here, at_wait}
+use Rattle.flow_picture.specs.Representing.{LiveFrameRepresents, Position, here, at_wait}
 use Rattle.flow_picture.specs.Counted.{branches_at, waiting_by, waiting_of}
 use Rattle.flow_picture.specs.Acting.{NoKeep, frame_put}
 use Rattle.flow_picture.specs.Leaving.{MayLeave, left_wait, first_part}
@@ -36,10 +36,10 @@ use Rattle.flow_picture.proofs.Referring.{of_left}
 use Rattle.flow_picture.proofs.Further.{kept_withdrawn}
 use Rattle.flow_steps.specs.declared.process.Process.{Process}
 use Rattle.flow_steps.specs.Holding.{on_heap}
-use Rattle.flow_steps.specs.Bringing.{gone_to}
-use Rattle.flow_steps.specs.Standing.{reframed, gone, lost_from}
-use Rattle.flow_follows.specs.Placing.{Acts, Stood}
-use Rattle.flow_follows.specs.Taking.{Standing, MayGo}
+use Rattle.flow_steps.specs.Delivering.{gone_to}
+use Rattle.flow_steps.specs.Points.{reframed, gone, lost_from}
+use Rattle.flow_follows.specs.Placing.{Acts, RepresentsActor}
+use Rattle.flow_follows.specs.Taking.{PointMatches, MayGo}
 use Rattle.flow_follows.specs.Taking as law
 use Rattle.flow_follows.proofs.Working.{changed, task_done}
 use Rattle.flow_follows.proofs.Places.{at_of, framed_anew}
@@ -103,7 +103,7 @@ may_leave i e c at w = by_flag e.suspended refl
     }
 
 -- a frame without its callbacks, of an actor that runs without operands
-runs : (r : RawTree) (m : FrameTree Value) (e : Entry) (f : Frame) → Stands r m e f → Stands r (record m { callbacks = [] }) (running e) f
+runs : (r : RawTree) (m : FrameTree Value) (e : Entry) (f : Frame) → LiveFrameRepresents r m e f → LiveFrameRepresents r (record m { callbacks = [] }) (running e) f
 runs r m e f s = record {
   code = s.code;
   places = s.places;
@@ -148,7 +148,7 @@ module _ (r : RawTree) (ls : List Line) (m : Process) (p : Proc Frame) (i : ℕ)
   }
 
   -- the frame of an actor that waits for nothing says where it stands
-  here_then : (n : FrameTree Value) → Stands r n e f → e.operands ≡ [] → e.suspended ≡ false → Stands r (gone_to f.block f.instr n) e f
+  here_then : (n : FrameTree Value) → LiveFrameRepresents r n e f → e.operands ≡ [] → e.suspended ≡ false → LiveFrameRepresents r (gone_to f.block f.instr n) e f
   here_then n s none runs = record {
     code = s.code;
     places = s.places;
@@ -163,8 +163,8 @@ module _ (r : RawTree) (ls : List Line) (m : Process) (p : Proc Frame) (i : ℕ)
   frame_told x s none runs =
       let n = gone_to f.block f.instr s.acts.memory in
       let t = framed_anew r ls x x m p i e f s n f (here_then s.acts.memory s.acts.stands none runs) refl refl (λ z j. refl) in
-      subst (λ o. Stood r ls x (on_heap (reframed (gone_to f.block f.instr) i o) m) p i e f) (sym s.acts.framed)
-      (subst (λ xs. Stood r ls x (on_heap (frame_put i n) m) (proc p.core xs) i e f) (same_frames s.acts.acting) t)
+      subst (λ o. RepresentsActor r ls x (on_heap (reframed (gone_to f.block f.instr) i o) m) p i e f) (sym s.acts.framed)
+      (subst (λ xs. RepresentsActor r ls x (on_heap (frame_put i n) m) (proc p.core xs) i e f) (same_frames s.acts.acting) t)
     where
       same_frames : thing p.actors i ≡ Some f → put p.actors i f ≡ p.actors
       same_frames a = same_put p.actors i f a
@@ -189,7 +189,7 @@ module _ (r : RawTree) (ls : List Line) (m : Process) (p : Proc Frame) (i : ℕ)
   pub left_for_task : law.LeftFor r ls m p i e f
   left_for_task x s t u st standing end same go free =
       let q : Proc Frame = on_core (work.pushed u) p in
-      let one : Stood r ls x (on_heap (pushed t) m) q i e f = record {
+      let one : RepresentsActor r ls x (on_heap (pushed t) m) q i e f = record {
         shown = task_done r ls x m p t u st.shown same;
         acts = acts_by r m.heap (pushed t m.heap) p q i e f refl refl refl refl st.acts;
       } in
@@ -204,7 +204,7 @@ module _ (r : RawTree) (ls : List Line) (m : Process) (p : Proc Frame) (i : ℕ)
       } in
       let three = actor_withdrawn r ls n2 q2 i e (lose f).1 x two go2 in
       let four = frame_told r ls (on_heap (withdrawn i) n2) (on_core (left_wait i e) q2) i (running e) (lose f).1 x three refl refl in
-      subst (λ a. Stood r ls x (on_heap (λ h. gone a.0 s.place (length s.block.now.body.items) (withdrawn a.0 (lost_from a.0 s.class.now.slots (pushed t h)))) m) (on_core (left_wait i e) q2) i (running e) (lose f).1) (sym standing.actor)
-      (subst (λ n. Stood r ls x (on_heap (λ h. gone i s.place (length s.block.now.body.items) (withdrawn i (lost_from i n (pushed t h)))) m) (on_core (left_wait i e) q2) i (running e) (lose f).1) (sym standing.slots)
-      (subst (λ b. Stood r ls x (on_heap (λ h. gone i b (length s.block.now.body.items) (withdrawn i (lost_from i (length f.code.slots) (pushed t h)))) m) (on_core (left_wait i e) q2) i (running e) (lose f).1) (sym standing.place)
-      (subst (λ n. Stood r ls x (on_heap (λ h. gone i f.block n (withdrawn i (lost_from i (length f.code.slots) (pushed t h)))) m) (on_core (left_wait i e) q2) i (running e) (lose f).1) (sym end) four)))
+      subst (λ a. RepresentsActor r ls x (on_heap (λ h. gone a.0 s.place (length s.block.now.body.items) (withdrawn a.0 (lost_from a.0 s.class.now.slots (pushed t h)))) m) (on_core (left_wait i e) q2) i (running e) (lose f).1) (sym standing.actor)
+      (subst (λ n. RepresentsActor r ls x (on_heap (λ h. gone i s.place (length s.block.now.body.items) (withdrawn i (lost_from i n (pushed t h)))) m) (on_core (left_wait i e) q2) i (running e) (lose f).1) (sym standing.slots)
+      (subst (λ b. RepresentsActor r ls x (on_heap (λ h. gone i b (length s.block.now.body.items) (withdrawn i (lost_from i (length f.code.slots) (pushed t h)))) m) (on_core (left_wait i e) q2) i (running e) (lose f).1) (sym standing.place)
+      (subst (λ n. RepresentsActor r ls x (on_heap (λ h. gone i f.block n (withdrawn i (lost_from i (length f.code.slots) (pushed t h)))) m) (on_core (left_wait i e) q2) i (running e) (lose f).1) (sym end) four)))

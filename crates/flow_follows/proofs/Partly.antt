@@ -12,7 +12,7 @@ use Rattle.flow_meaning.specs.Process.{Proc}
 use Rattle.flow_meaning.specs.Work.{left_cells}
 use Rattle.flow_meaning.specs.Frame.{Frame}
 use Rattle.flow_meaning.proofs.Posture.{each_number, thing_put, thing_put_other}
-use Rattle.flow_picture.specs.Shows.{Shows, held_from}
+use Rattle.flow_picture.specs.Representing.{Represents, held_from}
 use Rattle.flow_picture.specs.Counted.{kept_count, branches_of, branches_at, waiters_at}
 use Rattle.flow_picture.specs.Leaving.{wait_kind, first_part}
 use Rattle.flow_steps.specs.Waiting as waiting
@@ -81,7 +81,7 @@ module _ (r : RawTree) (h : HeapTree) (p : Proc Frame) (i : ℕ) where
   pub record Partly (g k : HeapTree) (ds : Numbered Cell) (rs : List Ref) (b : ℕ) : Type 0 where
     pub cells : Numbered Cell
     pub many : ℕ
-    pub shows : Shows r k (with_cells cells p)
+    pub shows : Represents r k (with_cells cells p)
     pub counts : (s : Side) (j : ℕ) → kept_count s j k ≡ kept_count s j h
     pub kinds : (n : ℕ) → wait_kind (thing cells n) ≡ wait_kind (thing p.core.cells n)
     pub left : left_cells i cells ≡ left_cells i ds
@@ -149,7 +149,7 @@ module _ (r : RawTree) (h : HeapTree) (p : Proc Frame) (i : ℕ) where
           let same : g ≡ k = ap (λ (y : waiting.Registered). y.1) (ap rest (sym a.1) ∙ reg) in record {
             cells = ds;
             many = 0;
-            shows = subst (λ y. Shows r y (with_cells ds p)) same w.shows;
+            shows = subst (λ y. Represents r y (with_cells ds p)) same w.shows;
             counts = λ s j. ap (kept_count s j) (sym same) ∙ w.counts s j;
             kinds = w.kinds;
             left = refl;

@@ -15,15 +15,15 @@ use Rattle.flow_cancel.specs.Heap.{HeapTree}
 use Rattle.flow_cancel.specs.Dropping as dropping
 use Rattle.flow_meaning.specs.Cells.{Side}
 use Rattle.flow_meaning.specs.Process.{Entry, Proc}
-use Rattle.flow_meaning.specs.Occ.{Scan, refs_in}
+use Rattle.flow_meaning.specs.References.{Scan, refs_in}
 use Rattle.flow_meaning.specs.Step.{on_core}
 use Rattle.flow_meaning.specs.Work as work
 use Rattle.flow_meaning.specs.Variables.{filled}
 use Rattle.flow_meaning.specs.Frame.{Frame, read, write}
 use Rattle.flow_meaning.proofs.Posture.{thing_put}
-use Rattle.flow_picture.specs.Shows.{Stands, OneActor, stands, wait_spot}
+use Rattle.flow_picture.specs.Representing.{LiveFrameRepresents, OneActor, stands, wait_spot}
 use Rattle.flow_picture.specs.Acting.{At, frame_put, put_frame}
-use Rattle.flow_picture.specs.Standing.{HasPlace, number_in}
+use Rattle.flow_picture.specs.FrameChanges.{HasPlace, number_in}
 use Rattle.flow_picture.specs.Holding.{InMemory}
 use Rattle.flow_picture.specs.References.{frame_holds}
 use Rattle.flow_picture.specs.Holds.{with_refs}
@@ -34,8 +34,8 @@ use Rattle.flow_picture.proofs.Standing.{place_read, place_written}
 use Rattle.flow_picture.proofs.Holding.{of_written}
 use Rattle.flow_steps.specs.declared.process.Process.{Process}
 use Rattle.flow_steps.specs.Holding.{on_heap, refs_dropped}
-use Rattle.flow_steps.specs.Standing.{reframed, place_held, place_put, values, place_lost}
-use Rattle.flow_follows.specs.Placing.{Acts, Stood, Exchanged, with_memory}
+use Rattle.flow_steps.specs.Points.{reframed, place_held, place_put, values, place_lost}
+use Rattle.flow_follows.specs.Placing.{Acts, RepresentsActor, Exchanged, with_memory}
 use Rattle.flow_follows.specs.Placing as law
 use Rattle.flow_follows.proofs.Working.{changed, as_many_shown, refs_dropped_shown}
 
@@ -54,14 +54,14 @@ at_of r h p i e f a = record {
 }
 
 -- other references in hand, as many
-pub as_many_stood : (r : RawTree) (ls : List Line) (x y : Scan) (m : Process) (p : Proc Frame) (i : ℕ) (e : Entry) (f : Frame) → ((s : Side) (j : ℕ) → x s j ≡ y s j) → Stood r ls x m p i e f → Stood r ls y m p i e f
+pub as_many_stood : (r : RawTree) (ls : List Line) (x y : Scan) (m : Process) (p : Proc Frame) (i : ℕ) (e : Entry) (f : Frame) → ((s : Side) (j : ℕ) → x s j ≡ y s j) → RepresentsActor r ls x m p i e f → RepresentsActor r ls y m p i e f
 as_many_stood r ls x y m p i e f same s = record { shown = as_many_shown r ls x y m p same s.shown; acts = s.acts }
 
 module _ (r : RawTree) (ls : List Line) (x y : Scan) (m : Process) (p : Proc Frame) (i : ℕ) (e : Entry) (f : Frame) where
   -- the frame of an actor is another, at the same wait
-  pub framed_anew : (s : Stood r ls x m p i e f) (n : FrameTree Value) (g : Frame) → Stands r n e g → n.class ≡ s.acts.memory.class → wait_spot g ≡ wait_spot f
+  pub framed_anew : (s : RepresentsActor r ls x m p i e f) (n : FrameTree Value) (g : Frame) → LiveFrameRepresents r n e g → n.class ≡ s.acts.memory.class → wait_spot g ≡ wait_spot f
       → ((z : Side) (j : ℕ) → x z j + frame_holds z j f ≡ y z j + frame_holds z j g)
-      → Stood r ls y (on_heap (frame_put i n) m) (put_frame i g p) i e g
+      → RepresentsActor r ls y (on_heap (frame_put i n) m) (put_frame i g p) i e g
   framed_anew s n g now same spot hand =
       let a = s.acts in
       let one : OneActor r a.note n e g = record { class = a.class ∙ sym same; result = a.result; marked = a.marked; frame = stands now } in record {
@@ -100,7 +100,7 @@ module _ (r : RawTree) (ls : List Line) (m : Process) (p : Proc Frame) (i : ℕ)
   place_changed x y q v s l hand =
       let n = with_place s.acts.memory (number_in (length f.code.slots) q) v in
       let g = with_memory (write f.mem q (option_map value_of v)) f in
-      subst (λ o. Stood r ls y (on_heap (reframed (λ k. with_place k (number_in (length f.code.slots) q) v) i o) m) (put_frame i g p) i e g) (sym s.acts.framed)
+      subst (λ o. RepresentsActor r ls y (on_heap (reframed (λ k. with_place k (number_in (length f.code.slots) q) v) i o) m) (put_frame i g p) i e g) (sym s.acts.framed)
       (framed_anew r ls x y m p i e f s n g (place_written r s.acts.memory e f q v s.acts.stands l) refl refl
       (λ z j. let a = of_written z j f.mem q (option_map value_of v) (in_memory f q l) in let b = hand z j in omega (arith, a, b)))
 
@@ -109,8 +109,8 @@ module _ (r : RawTree) (ls : List Line) (m : Process) (p : Proc Frame) (i : ℕ)
   dropped_values None h = refl
   dropped_values (Some v) h = refl
 
-  pub one_lost : (x : Scan) (q : Slotted) → Stood r ls x m p i e f → HasPlace f q
-      → Stood r ls x (on_heap (place_lost i (number_in (length f.code.slots) q)) m)
+  pub one_lost : (x : Scan) (q : Slotted) → RepresentsActor r ls x m p i e f → HasPlace f q
+      → RepresentsActor r ls x (on_heap (place_lost i (number_in (length f.code.slots) q)) m)
       (on_core (work.dropping (refs_in (filled (read f.mem q ∷ [])))) (put_frame i (with_memory (write f.mem q None) f) p)) i e (with_memory (write f.mem q None) f)
   one_lost x q s l =
       let g = with_memory (write f.mem q None) f in
@@ -119,7 +119,7 @@ module _ (r : RawTree) (ls : List Line) (m : Process) (p : Proc Frame) (i : ℕ)
       let t = place_changed x (with_refs rs x) q None s l (λ z j. omega arith) in
       let is : place_lost i n m.heap ≡ refs_dropped rs (place_put i n None m.heap) =
       dropped_values (place_held i n m.heap) (place_put i n None m.heap) ∙ ap (λ o. refs_dropped (refs_in (filled (o ∷ []))) (place_put i n None m.heap)) (place_seen x q s l) in
-      subst (λ h. Stood r ls x (record m { heap = h }) (on_core (work.dropping rs) (put_frame i g p)) i e g) (sym is) (record {
+      subst (λ h. RepresentsActor r ls x (record m { heap = h }) (on_core (work.dropping rs) (put_frame i g p)) i e g) (sym is) (record {
         shown = refs_dropped_shown r ls x (on_heap (place_put i n None) m) (put_frame i g p) rs t.shown;
         acts = record {
           note = t.acts.note;

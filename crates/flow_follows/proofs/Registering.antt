@@ -15,14 +15,14 @@ use Rattle.flow_cancel.specs.Leaving as leaving
 use Rattle.flow_numbered.specs.Numbered.{Numbered, thing, put}
 use Rattle.flow_meaning.specs.Cells.{Side, FutureSide, side_of, Ref, Waiter, Cell, Single, Stream, with_waiter, is_busy}
 use Rattle.flow_meaning.specs.Process.{Proc}
-use Rattle.flow_meaning.specs.Occ.{one, count}
+use Rattle.flow_meaning.specs.References.{one, count}
 use Rattle.flow_meaning.specs.Orderly.{Rising}
 use Rattle.flow_meaning.specs.Work.{Registered, Refused, register_at, register}
 use Rattle.flow_meaning.specs.Step.{on_core}
 use Rattle.flow_meaning.specs.Frame.{Frame}
 use Rattle.flow_meaning.proofs.Posture.{each_number, thing_put, thing_put_other}
 use Rattle.flow_meaning.proofs.Order.{rising_put}
-use Rattle.flow_picture.specs.Shows.{Shows, CellShows, spot_of_actor, held_from, waiter_in}
+use Rattle.flow_picture.specs.Representing.{Represents, CellRepresents, spot_of_actor, held_from, waiter_in}
 use Rattle.flow_picture.specs.Counted.{kept_count, references}
 use Rattle.flow_picture.specs.Changes.{cell_put, stream_put}
 use Rattle.flow_picture.specs.Leaving.{wait_kind}
@@ -39,7 +39,7 @@ with_cells ds p = on_core (λ c. record c { cells = ds }) p
 
 -- the heap and the cells after some operands came to wait
 pub record Waited (r : RawTree) (h : HeapTree) (p : Proc Frame) (g : HeapTree) (ds : Numbered Cell) (done : List Ref) : Type 0 where
-  pub shows : Shows r g (with_cells ds p)
+  pub shows : Represents r g (with_cells ds p)
   pub counts : (s : Side) (j : ℕ) → kept_count s j g ≡ kept_count s j h
   pub kinds : (k : ℕ) → wait_kind (thing ds k) ≡ wait_kind (thing p.core.cells k)
   pub rising : Rising 0 p.core.made ds
@@ -76,7 +76,7 @@ module _ (r : RawTree) (h : HeapTree) (p : Proc Frame) (i : ℕ) where
 
   -- what changes beside the cells
   after_one : (g k : HeapTree) (ds : Numbered Cell) (done : List Ref) (q : Ref) (b : ℕ) (c : Cell) → Waited r h p g ds done → thing ds q.1 ≡ Some c → q.0 ≡ wait_kind (Some c) → is_busy c ≡ false
-      → Shows r k (with_cells (put ds q.1 (with_waiter c (waiter b))) p) → ((s : Side) (j : ℕ) → kept_count s j k ≡ kept_count s j g) → k.frames ≡ g.frames → k.actors ≡ g.actors
+      → Represents r k (with_cells (put ds q.1 (with_waiter c (waiter b))) p) → ((s : Side) (j : ℕ) → kept_count s j k ≡ kept_count s j g) → k.frames ≡ g.frames → k.actors ≡ g.actors
       → Waited r h p k (put ds q.1 (with_waiter c (waiter b))) (done ++ q ∷ [])
   after_one g k ds done q b c w at right free shows counts frames actors = record {
     shows = shows;
@@ -116,7 +116,7 @@ module _ (r : RawTree) (h : HeapTree) (p : Proc Frame) (i : ℕ) where
     found = found_stream r g (with_cells ds p) q.1 u d v w.shows at
 
     no_cell : stored.thing g.cells.things q.1 ≡ None
-    no_cell = (as_stream (spot_of_actor p.actors) found.0 (stored.thing g.cells.things q.1) (thing ds q.1) (subst (λ c. CellShows (spot_of_actor p.actors) (stored.thing g.cells.things q.1) c (thing ds q.1)) found.1 (w.shows.cells q.1))).no_single
+    no_cell = (as_stream (spot_of_actor p.actors) found.0 (stored.thing g.cells.things q.1) (thing ds q.1) (subst (λ c. CellRepresents (spot_of_actor p.actors) (stored.thing g.cells.things q.1) c (thing ds q.1)) found.1 (w.shows.cells q.1))).no_single
 
     registers : waiting.register i held g ≡ waiting.stream_awaited q.1 (leaving.waiter_of i held) found.0 found.0.waiter g
     registers =
@@ -125,9 +125,9 @@ module _ (r : RawTree) (h : HeapTree) (p : Proc Frame) (i : ℕ) where
 
     same_waiter : found.0.waiter ≡ option_map (waiter_in (spot_of_actor p.actors)) v
     same_waiter =
-        let a = subst (λ c. CellShows (spot_of_actor p.actors) (stored.thing g.cells.things q.1) c (thing ds q.1)) found.1 (w.shows.cells q.1) in
-        let x = subst (λ c. CellShows (spot_of_actor p.actors) c (Some found.0) (thing ds q.1)) no_cell a in
-        (subst (λ c. CellShows (spot_of_actor p.actors) None (Some found.0) c) at x).2
+        let a = subst (λ c. CellRepresents (spot_of_actor p.actors) (stored.thing g.cells.things q.1) c (thing ds q.1)) found.1 (w.shows.cells q.1) in
+        let x = subst (λ c. CellRepresents (spot_of_actor p.actors) c (Some found.0) (thing ds q.1)) no_cell a in
+        (subst (λ c. CellRepresents (spot_of_actor p.actors) None (Some found.0) c) at x).2
 
   stream_waits : (g : HeapTree) (ds : Numbered Cell) (done : List Ref) (q : Ref) (b : ℕ) (u : List ValueTree) (d : Option ℕ) (v : Option Waiter) (w : Waited r h p g ds done) (at : thing ds q.1 ≡ Some (Stream u d v)) → q.0 ≡ wait_kind (Some (Stream u d v))
       → OneWaits g ds done q b (Stream u d v) ⊎ OneRefused g q b (Stream u d v)
@@ -223,7 +223,7 @@ module _ (r : RawTree) (h : HeapTree) (p : Proc Frame) (i : ℕ) where
       by_one rest (inr a) =
           one_refused g (ap (waiting.registered_then (waiting.register_all i (held_from (suc (first + b)) rs))) a.1) (registers true a.0 ∙ refused_stays rs (suc b))
 
-  pub none_waited : Shows r h p → Rising 0 p.core.made p.core.cells → Waited r h p h p.core.cells []
+  pub none_waited : Represents r h p → Rising 0 p.core.made p.core.cells → Waited r h p h p.core.cells []
   none_waited s rising = record {
     shows = s;
     counts = λ s j. refl;

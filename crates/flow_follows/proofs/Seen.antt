@@ -26,19 +26,19 @@ use Rattle.flow_stream.specs.Streams.{StreamTree}
 use Rattle.flow_frame.specs.Frames.{held_in}
 use Rattle.flow_numbered.specs.Numbered.{thing}
 use Rattle.flow_meaning.specs.Cells.{Cell, Single, Stream, outcome}
-use Rattle.flow_meaning.specs.Asks.{Spot}
+use Rattle.flow_meaning.specs.Requests.{Spot}
 use Rattle.flow_meaning.specs.Process.{Entry, Proc}
-use Rattle.flow_meaning.specs.Occ.{Scan}
+use Rattle.flow_meaning.specs.References.{Scan}
 use Rattle.flow_meaning.specs.Evaluating.{bind, setting}
 use Rattle.flow_meaning.specs.Variables.{flat}
 use Rattle.flow_meaning.specs.Step.{view}
 use Rattle.flow_meaning.specs.Class.{class_names}
 use Rattle.flow_meaning.specs.Frame.{Frame, read, look}
-use Rattle.flow_picture.specs.Shows.{CellShows, spot_of_actor}
+use Rattle.flow_picture.specs.Representing.{CellRepresents, spot_of_actor}
 use Rattle.flow_steps.specs.declared.process.Process.{Process}
 use Rattle.flow_steps.specs.Seen.{value_in, content_of, content_in}
-use Rattle.flow_steps.specs.Sights.{setting_in, sight_in, program_time}
-use Rattle.flow_follows.specs.Placing.{Stood}
+use Rattle.flow_steps.specs.Evaluating.{setting_in, sight_in, program_time}
+use Rattle.flow_follows.specs.Placing.{RepresentsActor}
 use Rattle.flow_follows.specs.Seeing.{IsCodeOf}
 use Rattle.flow_follows.specs.Seeing as law
 use Rattle.flow_follows.proofs.Places.{place_seen}
@@ -50,7 +50,7 @@ beyond [] n l = refl
 beyond (x ∷ xs) zero l = absurd (omega (arith, l))
 beyond (x ∷ xs) (suc n) l = beyond xs n (omega (arith, l))
 
-module _ (r : RawTree) (ls : List Line) (x : Scan) (m : Process) (p : Proc Frame) (i : ℕ) (e : Entry) (f : Frame) (st : Stood r ls x m p i e f) where
+module _ (r : RawTree) (ls : List Line) (x : Scan) (m : Process) (p : Proc Frame) (i : ℕ) (e : Entry) (f : Frame) (st : RepresentsActor r ls x m p i e f) where
   abbrev held : ℕ → Option ValueTree
   held n = value_in m.heap.frames i (Some n)
 
@@ -109,7 +109,7 @@ module _ (r : RawTree) (ls : List Line) (x : Scan) (m : Process) (p : Proc Frame
       by_name (Some (Local n)) = sym (local_seen n few)
 
 -- what set cells hold
-pub content_same : (a : Option (CellTree Outcome)) (b : Option (StreamTree Value)) (c : Option Cell) (spots : ℕ → Spot) → CellShows spots a b c → content_of a ≡ outcome c
+pub content_same : (a : Option (CellTree Outcome)) (b : Option (StreamTree Value)) (c : Option Cell) (spots : ℕ → Spot) → CellRepresents spots a b c → content_of a ≡ outcome c
 content_same None None None spots t = refl
 content_same None None (Some c) spots t = absurd t
 content_same (Some y) None None spots t = absurd t

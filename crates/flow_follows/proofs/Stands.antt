@@ -20,14 +20,14 @@ use Rattle.flow_frame.specs.Frames.{FrameTree}
 use Rattle.flow_cancel.specs.Heap.{actor_id}
 use Rattle.flow_meaning.specs.Process.{Entry, Proc}
 use Rattle.flow_meaning.specs.Frame.{Frame}
-use Rattle.flow_picture.specs.Shows.{Position, here, at_wait, spot_by, wait_spot}
-use Rattle.flow_steps.specs.declared.frames.Stand.{Stand}
+use Rattle.flow_picture.specs.Representing.{Position, here, at_wait, spot_by, wait_spot}
+use Rattle.flow_steps.specs.declared.frames.ControlPoint.{ControlPoint}
 use Rattle.flow_steps.specs.declared.process.Process.{Process}
-use Rattle.flow_steps.specs.Standing.{block_in, StandsNow}
+use Rattle.flow_steps.specs.Points.{block_in, IsAtPoint}
 use Rattle.flow_follows.specs.Placing.{Acts}
 use Rattle.flow_follows.specs.Taking.{AtWait}
 use Rattle.flow_follows.specs.Throwing.{SameCatcher}
-use Rattle.flow_follows.specs.Coded.{CodedBy, AtHome, StandsBy}
+use Rattle.flow_follows.specs.Coded.{CodedBy, AtHome, PointIsCoded}
 use Rattle.flow_follows.specs.Coded as law
 
 -- lists
@@ -102,7 +102,7 @@ same_catcher k (Some c) (Some t) e =
 same_catcher k None (Some t) e = absurd (cc (e))
 same_catcher k (Some c) None e = absurd (cc (e))
 
-module _ (r : RawTree) (classes : List Class) (m : Process) (p : Proc Frame) (i : ℕ) (e : Entry) (f : Frame) (s : Stand) (c : CodedBy r classes) (home : AtHome f.code) (a : Acts r m.heap p i e f) (now : StandsNow classes (actor_id i) m s) where
+module _ (r : RawTree) (classes : List Class) (m : Process) (p : Proc Frame) (i : ℕ) (e : Entry) (f : Frame) (s : ControlPoint) (c : CodedBy r classes) (home : AtHome f.code) (a : Acts r m.heap p i e f) (now : IsAtPoint classes (actor_id i) m s) where
   abbrev code : Coding
   code = coding c.names c.class (length f.code.slots)
 
@@ -184,7 +184,7 @@ module _ (r : RawTree) (classes : List Class) (m : Process) (p : Proc Frame) (i 
           let k = (group_is n x at).1 in
           let u = ap (λ y. (spot_by f.code y).first) h in omega (arith, k, u)
 
-  pub stand_by : StandsBy c s i f
+  pub stand_by : PointIsCoded c s i f
   stand_by = record {
     standing = record { actor = now.stands.actor; slots = ap (λ (k : ClassCode). k.slots) same_class; place = place_is };
     block = the_block.block;

@@ -28,12 +28,12 @@ use Rattle.flow_cancel.specs.Heap.{HeapTree, actor_id}
 use Rattle.flow_numbered.specs.Numbered.{Numbered, thing, put}
 use Rattle.flow_meaning.specs.Cells.{Ref, Waiter, Cell, Single, Stream, waiters, taken, after_taking}
 use Rattle.flow_meaning.specs.Process.{Give, Entry, Proc}
-use Rattle.flow_meaning.specs.Occ.{Scan, refs_in, value_in}
+use Rattle.flow_meaning.specs.References.{Scan, refs_in, value_in}
 use Rattle.flow_meaning.specs.Lines.{take_line}
 use Rattle.flow_meaning.specs.Work.{running, leave_for, give, take_branch, writes}
 use Rattle.flow_meaning.specs.Step.{proc, on_core}
 use Rattle.flow_meaning.specs.Frame.{Frame, lose}
-use Rattle.flow_picture.specs.Shows.{CellShows, spot_of_actor, error_number}
+use Rattle.flow_picture.specs.Representing.{CellRepresents, spot_of_actor, error_number}
 use Rattle.flow_picture.specs.Counted.{waiters_at}
 use Rattle.flow_picture.specs.Changes.{SameTask, put_cell, stream_put}
 use Rattle.flow_picture.specs.Holds.{with_refs, held_cell, held_stream, hold, hold_all}
@@ -47,16 +47,16 @@ use Rattle.flow_numbered.proofs.Things.{put_same}
 use Rattle.flow_picture.proofs.Shown.{element_taken}
 use Rattle.flow_picture.proofs.Keeping.{stream_keeps}
 use Rattle.flow_picture.proofs.Referring.{of_taken}
-use Rattle.flow_steps.specs.declared.frames.Stand.{Stand}
+use Rattle.flow_steps.specs.declared.frames.ControlPoint.{ControlPoint}
 use Rattle.flow_steps.specs.declared.process.Process.{Process}
 use Rattle.flow_steps.specs.Doing.{turned, telling}
 use Rattle.flow_steps.specs.Seen.{content_of, content_in}
 use Rattle.flow_steps.specs.Holding.{on_heap, outcome_refs}
-use Rattle.flow_steps.specs.Bringing.{head_of}
+use Rattle.flow_steps.specs.Delivering.{head_of}
 use Rattle.flow_steps.specs.Waiting.{left_for, Takes, copied, popped, IsGive, BranchTaken, TakesBranch, no_turn, takes_branch}
-use Rattle.flow_follows.specs.Shown.{Shown, Follows, shows}
-use Rattle.flow_follows.specs.Placing.{Acts, Stood}
-use Rattle.flow_follows.specs.Taking.{Standing, AtWait, MayGo, Takeable}
+use Rattle.flow_follows.specs.Matching.{ProcessRepresents, Matches, shows}
+use Rattle.flow_follows.specs.Placing.{Acts, RepresentsActor}
+use Rattle.flow_follows.specs.Taking.{PointMatches, AtWait, MayGo, Takeable}
 use Rattle.flow_follows.specs.Taking as law
 use Rattle.flow_follows.proofs.Working.{changed, as_many_shown, refs_held, telling_shown, by_turn}
 use Rattle.flow_follows.proofs.Brought.{found_single, found_stream, all_there_by}
@@ -77,32 +77,32 @@ nothing_is (outcome.Error y) e = cc
 
 module _ (r : RawTree) (ls : List Line) (x : Scan) (m : Process) (p : Proc Frame) where
   -- a single result gives a copy
-  copy_taken : (k : ℕ) (o : Outcome) (c : Option OutcomeTree) (ws : List Waiter) (n : Process) → Shown r ls x m p → Takeable p k (Single c ws) → content_in m.heap.cells k ≡ Some (outcome_of o) → n ≡ on_heap (hold_all (outcome_refs o)) m
-      → (c ≡ Some (outcome_of o)) × Shown r ls (with_refs (outcome_refs o) x) n (on_core (put_cell k (Single c ws)) p)
+  copy_taken : (k : ℕ) (o : Outcome) (c : Option OutcomeTree) (ws : List Waiter) (n : Process) → ProcessRepresents r ls x m p → Takeable p k (Single c ws) → content_in m.heap.cells k ≡ Some (outcome_of o) → n ≡ on_heap (hold_all (outcome_refs o)) m
+      → (c ≡ Some (outcome_of o)) × ProcessRepresents r ls (with_refs (outcome_refs o) x) n (on_core (put_cell k (Single c ws)) p)
   copy_taken k o c ws n s t seen is =
       let f = found_single r m.heap p k c ws s.holds.shows t.at in
-      let a = as_single (spot_of_actor p.actors) f.0 (stored.thing m.heap.streams.things k) (thing p.core.cells k) (subst (λ y. CellShows (spot_of_actor p.actors) y (stored.thing m.heap.streams.things k) (thing p.core.cells k)) f.1 (s.holds.shows.cells k)) in
+      let a = as_single (spot_of_actor p.actors) f.0 (stored.thing m.heap.streams.things k) (thing p.core.cells k) (subst (λ y. CellRepresents (spot_of_actor p.actors) y (stored.thing m.heap.streams.things k) (thing p.core.cells k)) f.1 (s.holds.shows.cells k)) in
       let same : (Single (option_map outcome_of f.0.content) a.waiters) ≡ Single c ws = let b = a.cell in let d = t.at in cc (b, d) in
       let content : c ≡ Some (outcome_of o) = sym (let z : option_map outcome_of f.0.content ≡ c = cc (same) in z) ∙ sym (ap content_of f.1) ∙ seen in (
         content,
-        subst (λ q. Shown r ls (with_refs (outcome_refs o) x) q (on_core (put_cell k (Single c ws)) p)) (sym is)
-            (subst (λ cs. Shown r ls (with_refs (outcome_refs o) x) (on_heap (hold_all (outcome_refs o)) m) (proc (record p.core { cells = cs }) p.actors)) (sym (same_put p.core.cells k (Single c ws) t.at))
+        subst (λ q. ProcessRepresents r ls (with_refs (outcome_refs o) x) q (on_core (put_cell k (Single c ws)) p)) (sym is)
+            (subst (λ cs. ProcessRepresents r ls (with_refs (outcome_refs o) x) (on_heap (hold_all (outcome_refs o)) m) (proc (record p.core { cells = cs }) p.actors)) (sym (same_put p.core.cells k (Single c ws) t.at))
             (refs_held r ls x m p (outcome_refs o) s (t.there (outcome_of o) content))),
       )
 
   -- a stream gives its first element, or else its end
-  module _ (k : ℕ) (q : List ValueTree) (d : Option ℕ) (w : Option Waiter) (s : Shown r ls x m p) (t : Takeable p k (Stream q d w)) (y : StreamTree Value) (at : stored.thing m.heap.streams.things k ≡ Some y) where
+  module _ (k : ℕ) (q : List ValueTree) (d : Option ℕ) (w : Option Waiter) (s : ProcessRepresents r ls x m p) (t : Takeable p k (Stream q d w)) (y : StreamTree Value) (at : stored.thing m.heap.streams.things k ≡ Some y) where
     picture : AsStream (spot_of_actor p.actors) y (stored.thing m.heap.cells.things k) (thing p.core.cells k)
-    picture = as_stream (spot_of_actor p.actors) y (stored.thing m.heap.cells.things k) (thing p.core.cells k) (subst (λ c. CellShows (spot_of_actor p.actors) (stored.thing m.heap.cells.things k) c (thing p.core.cells k)) at (s.holds.shows.cells k))
+    picture = as_stream (spot_of_actor p.actors) y (stored.thing m.heap.cells.things k) (thing p.core.cells k) (subst (λ c. CellRepresents (spot_of_actor p.actors) (stored.thing m.heap.cells.things k) c (thing p.core.cells k)) at (s.holds.shows.cells k))
 
     same_cell : Stream (map value_of y.queue) (option_map error_number y.end) picture.waiter ≡ Stream q d w
     same_cell = let b = picture.cell in let c = t.at in cc (b, c)
 
     element_goes : (o : Outcome) (v : Value) (vs : List Value) → y.queue ≡ v ∷ vs → o ≡ outcome.Value v
-        → (taken (Stream q d w) ≡ Some (outcome_of o)) × Shown r ls (with_refs (outcome_refs o) x) (on_heap (stream_put k (record y { queue = vs })) m) (on_core (put_cell k (after_taking (Stream q d w))) p)
+        → (taken (Stream q d w) ≡ Some (outcome_of o)) × ProcessRepresents r ls (with_refs (outcome_refs o) x) (on_heap (stream_put k (record y { queue = vs })) m) (on_core (put_cell k (after_taking (Stream q d w))) p)
     element_goes o v vs e is =
         let a = element_taken r m.heap p k y v vs (Stream q d w) s.holds.shows at e t.at in
-        subst (λ z. (taken (Stream q d w) ≡ Some (outcome_of z)) × Shown r ls (with_refs (outcome_refs z) x) (on_heap (stream_put k (record y { queue = vs })) m) (on_core (put_cell k (after_taking (Stream q d w))) p)) (sym is) (
+        subst (λ z. (taken (Stream q d w) ≡ Some (outcome_of z)) × ProcessRepresents r ls (with_refs (outcome_refs z) x) (on_heap (stream_put k (record y { queue = vs })) m) (on_core (put_cell k (after_taking (Stream q d w))) p)) (sym is) (
           a.0,
           changed r ls x (with_refs (outcome_refs (outcome.Value v)) x) m p (on_core (put_cell k (after_taking (Stream q d w))) p) (stream_put k (record y { queue = vs }) m.heap) s (record {
             shows = a.1;
@@ -114,7 +114,7 @@ module _ (r : RawTree) (ls : List Line) (x : Scan) (m : Process) (p : Proc Frame
         )
 
     end_given : (o : Outcome) (z : ErrorCode) → y.queue ≡ [] → y.end ≡ Some z → o ≡ outcome.Error z
-        → (taken (Stream q d w) ≡ Some (outcome_of o)) × Shown r ls (with_refs (outcome_refs o) x) (on_heap (stream_put k (record y { queue = [] })) m) (on_core (put_cell k (after_taking (Stream q d w))) p)
+        → (taken (Stream q d w) ≡ Some (outcome_of o)) × ProcessRepresents r ls (with_refs (outcome_refs o) x) (on_heap (stream_put k (record y { queue = [] })) m) (on_core (put_cell k (after_taking (Stream q d w))) p)
     end_given o z e f is =
         let c : Cell = Stream [] (Some z.0) picture.waiter in
         let cell_is : c ≡ Stream q d w =
@@ -124,16 +124,16 @@ module _ (r : RawTree) (ls : List Line) (x : Scan) (m : Process) (p : Proc Frame
         let same_stream : stream_put k (record y { queue = [] }) m.heap ≡ m.heap =
         ap (λ vs. stream_put k (record y { queue = vs }) m.heap) (sym e)
         ∙ ap (λ ss. record m.heap { streams = record m.heap.streams { things = ss } }) (put_same m.heap.streams.things k y at) in
-        subst (λ u. (taken (Stream q d w) ≡ Some (outcome_of u)) × Shown r ls (with_refs (outcome_refs u) x) (on_heap (stream_put k (record y { queue = [] })) m) (on_core (put_cell k (after_taking (Stream q d w))) p)) (sym is)
-        (subst (λ u. (taken u ≡ Some (BadOutcome z.0)) × Shown r ls (with_refs [] x) (on_heap (stream_put k (record y { queue = [] })) m) (on_core (put_cell k (after_taking u)) p)) cell_is (
+        subst (λ u. (taken (Stream q d w) ≡ Some (outcome_of u)) × ProcessRepresents r ls (with_refs (outcome_refs u) x) (on_heap (stream_put k (record y { queue = [] })) m) (on_core (put_cell k (after_taking (Stream q d w))) p)) (sym is)
+        (subst (λ u. (taken u ≡ Some (BadOutcome z.0)) × ProcessRepresents r ls (with_refs [] x) (on_heap (stream_put k (record y { queue = [] })) m) (on_core (put_cell k (after_taking u)) p)) cell_is (
           refl,
-          subst (λ h. Shown r ls (with_refs [] x) (record m { heap = h }) (on_core (put_cell k c) p)) (sym same_stream)
-              (subst (λ cs. Shown r ls (with_refs [] x) m (proc (record p.core { cells = cs }) p.actors)) (sym (same_put p.core.cells k c (t.at ∙ ap Some (sym cell_is))))
+          subst (λ h. ProcessRepresents r ls (with_refs [] x) (record m { heap = h }) (on_core (put_cell k c) p)) (sym same_stream)
+              (subst (λ cs. ProcessRepresents r ls (with_refs [] x) m (proc (record p.core { cells = cs }) p.actors)) (sym (same_put p.core.cells k c (t.at ∙ ap Some (sym cell_is))))
               (as_many_shown r ls x (with_refs [] x) m p (λ u j. omega arith) s)),
         ))
 
     by_queue : (o : Outcome) (vs : List Value) (u : Option ErrorCode) → y.queue ≡ vs → y.end ≡ u → head vs u ≡ head_of o
-        → (taken (Stream q d w) ≡ Some (outcome_of o)) × Shown r ls (with_refs (outcome_refs o) x) (on_heap (stream_put k (record y { queue = tail vs })) m) (on_core (put_cell k (after_taking (Stream q d w))) p)
+        → (taken (Stream q d w) ≡ Some (outcome_of o)) × ProcessRepresents r ls (with_refs (outcome_refs o) x) (on_heap (stream_put k (record y { queue = tail vs })) m) (on_core (put_cell k (after_taking (Stream q d w))) p)
     by_queue o (v ∷ vs) u e f h = element_goes o v vs e (item_is o v h)
     by_queue o [] (Some z) e f h = end_given o z e f (end_is o z h)
     by_queue o [] None e f h = absurd (nothing_is o h)
@@ -141,16 +141,16 @@ module _ (r : RawTree) (ls : List Line) (x : Scan) (m : Process) (p : Proc Frame
   pub content_taken : law.ContentTaken r ls x m p
   content_taken k o c n s t takes = by_cell c t takes
     where
-      by_cell : (c : Cell) → Takeable p k c → Takes k o m n → (taken c ≡ Some (outcome_of o)) × Shown r ls (with_refs (outcome_refs o) x) n (on_core (put_cell k (after_taking c)) p)
+      by_cell : (c : Cell) → Takeable p k c → Takes k o m n → (taken c ≡ Some (outcome_of o)) × ProcessRepresents r ls (with_refs (outcome_refs o) x) n (on_core (put_cell k (after_taking c)) p)
       by_cell (Single u ws) t (copied seen is) = copy_taken k o u ws n s t seen is
       by_cell (Single u ws) t (popped y none at h is) =
           let f = found_single r m.heap p k u ws s.holds.shows t.at in let g = f.1 in absurd (cc (none, g))
       by_cell (Stream q d w) t (popped y none at h is) =
-          subst (λ z. (taken (Stream q d w) ≡ Some (outcome_of o)) × Shown r ls (with_refs (outcome_refs o) x) z (on_core (put_cell k (after_taking (Stream q d w))) p)) (sym is)
+          subst (λ z. (taken (Stream q d w) ≡ Some (outcome_of o)) × ProcessRepresents r ls (with_refs (outcome_refs o) x) z (on_core (put_cell k (after_taking (Stream q d w))) p)) (sym is)
           (by_queue k q d w s t y at o y.queue y.end refl refl h)
       by_cell (Stream q d w) t (copied seen is) =
           let f = found_stream r m.heap p k q d w s.holds.shows t.at in
-          let a = as_stream (spot_of_actor p.actors) f.0 (stored.thing m.heap.cells.things k) (thing p.core.cells k) (subst (λ y. CellShows (spot_of_actor p.actors) (stored.thing m.heap.cells.things k) y (thing p.core.cells k)) f.1 (s.holds.shows.cells k)) in
+          let a = as_stream (spot_of_actor p.actors) f.0 (stored.thing m.heap.cells.things k) (thing p.core.cells k) (subst (λ y. CellRepresents (spot_of_actor p.actors) (stored.thing m.heap.cells.things k) y (thing p.core.cells k)) f.1 (s.holds.shows.cells k)) in
           let none = ap content_of a.no_single in absurd (cc (none, seen))
 
 -- a cell from which something was taken has the waiters and the kind that it had
@@ -225,7 +225,7 @@ took_frames k o m n (popped s none at h is) =
     subst (λ q. (q.heap.frames ≡ m.heap.frames) × (q.heap.actors ≡ m.heap.actors) × (q.asked ≡ m.asked)) (sym is) (refl, refl, refl)
 
 -- the task by which a branch gets what it took
-give_same : (p : Proc Frame) (s : Stand) (i b : ℕ) (o : Outcome) (t : stack.Task) → s.actor ≡ actor_id i → IsGive s.actor b o t → SameTask p t (Give i b (outcome_of o))
+give_same : (p : Proc Frame) (s : ControlPoint) (i b : ℕ) (o : Outcome) (t : stack.Task) → s.actor ≡ actor_id i → IsGive s.actor b o t → SameTask p t (Give i b (outcome_of o))
 give_same p s i b o (task.Give j c v) a is =
     let e : j.0 ≡ i = ap (λ (x : ActorId). x.0) (is.0 ∙ a) in
     ap (λ n. Give n b (outcome_of o)) (sym e) ∙ ap (λ n. Give j.0 n (outcome_of o)) (sym is.1) ∙ ap (λ u. Give j.0 c (outcome_of u)) (sym is.2)
@@ -246,10 +246,10 @@ module _ (r : RawTree) (ls : List Line) (m : Process) (p : Proc Frame) (i : ℕ)
       (give i b e (lose f).0 o (record (writes (take_line i group b) (record p.core { left = left; entries = es })) { cells = put p.core.cells k (after_taking c) }))
       (put p.actors i (lose f).1)
 
-  branch_gives : (x : Scan) (s : Stand) (group b k : ℕ) (c : Cell) (left : ℕ) (n : Process) (es : Numbered Entry) → put es i (running e) ≡ put p.core.entries i (running e)
-      → Shown r ls x (turned m) (on_core (λ d. record d { left = left }) p) → Acts r m.heap p i e f → m.asked ≡ None
-      → Standing s i f → AtWait s f group → e.spot.group ≡ group → MayGo i e p.core → Takeable p k c → BranchTaken s b (record { 0 = k }) (turned m) n
-      → Stood r ls x n (gives_there es left e.spot.group b k c (taken c)) i (running e) (lose f).1
+  branch_gives : (x : Scan) (s : ControlPoint) (group b k : ℕ) (c : Cell) (left : ℕ) (n : Process) (es : Numbered Entry) → put es i (running e) ≡ put p.core.entries i (running e)
+      → ProcessRepresents r ls x (turned m) (on_core (λ d. record d { left = left }) p) → Acts r m.heap p i e f → m.asked ≡ None
+      → PointMatches s i f → AtWait s f group → e.spot.group ≡ group → MayGo i e p.core → Takeable p k c → BranchTaken s b (record { 0 = k }) (turned m) n
+      → RepresentsActor r ls x n (gives_there es left e.spot.group b k c (taken c)) i (running e) (lose f).1
   branch_gives x s group b k c left n es over now acts none standing wait spot go t bt =
       let p1 : Proc Frame = on_core (λ d. record d { left = left }) p in
       let q1 : Proc Frame = on_core (put_cell k (after_taking c)) p1 in
@@ -265,17 +265,17 @@ module _ (r : RawTree) (ls : List Line) (m : Process) (p : Proc Frame) (i : ℕ)
       (give_same q2 s i b bt.outcome bt.task standing.actor bt.gives) (may_go_on i e p k c left told t.at go) tt in
       let number : bt.group ≡ group = let a = bt.waits in let d = wait.last in cc (a, d) in
       let after : Process = on_heap (left_for s bt.task) bt.between in
-      subst (λ z. Stood r ls x z (gives_there es left e.spot.group b k c (taken c)) i (running e) (lose f).1) (sym bt.leaves)
-      (subst (λ g. Stood r ls x (telling (line.Take s.actor bt.group b) after) (gives_there es left g b k c (taken c)) i (running e) (lose f).1) (sym spot)
-      (subst (λ o. Stood r ls x (telling (line.Take s.actor bt.group b) after) (gives_there es left group b k c o) i (running e) (lose f).1) (sym ct.0)
-      (subst (λ xs. Stood r ls x (telling (line.Take s.actor bt.group b) after) (proc (record (leave_for i e (lose f).0 u q2.core) { entries = xs }) (put p.actors i (lose f).1)) i (running e) (lose f).1) (sym over)
-      (subst (λ g. Stood r ls x (telling (line.Take s.actor g b) after) (proc (leave_for i e (lose f).0 u q2.core) (put p.actors i (lose f).1)) i (running e) (lose f).1) (sym number)
-      (subst (λ a. Stood r ls x (telling (line.Take a group b) after) (proc (leave_for i e (lose f).0 u q2.core) (put p.actors i (lose f).1)) i (running e) (lose f).1) (sym standing.actor) done)))))
+      subst (λ z. RepresentsActor r ls x z (gives_there es left e.spot.group b k c (taken c)) i (running e) (lose f).1) (sym bt.leaves)
+      (subst (λ g. RepresentsActor r ls x (telling (line.Take s.actor bt.group b) after) (gives_there es left g b k c (taken c)) i (running e) (lose f).1) (sym spot)
+      (subst (λ o. RepresentsActor r ls x (telling (line.Take s.actor bt.group b) after) (gives_there es left group b k c o) i (running e) (lose f).1) (sym ct.0)
+      (subst (λ xs. RepresentsActor r ls x (telling (line.Take s.actor bt.group b) after) (proc (record (leave_for i e (lose f).0 u q2.core) { entries = xs }) (put p.actors i (lose f).1)) i (running e) (lose f).1) (sym over)
+      (subst (λ g. RepresentsActor r ls x (telling (line.Take s.actor g b) after) (proc (leave_for i e (lose f).0 u q2.core) (put p.actors i (lose f).1)) i (running e) (lose f).1) (sym number)
+      (subst (λ a. RepresentsActor r ls x (telling (line.Take a group b) after) (proc (leave_for i e (lose f).0 u q2.core) (put p.actors i (lose f).1)) i (running e) (lose f).1) (sym standing.actor) done)))))
 
   pub branch_follows : law.BranchFollows r ls m p i e f
   branch_follows x s group b k c n es st over none standing wait spot go t takes = by_case takes
     where
-      by_case : TakesBranch s b (record { 0 = k }) m n → Follows r ls x n (proc (take_branch i b k e (lose f).0 (Some c) (record p.core { entries = es })) (put p.actors i (lose f).1))
+      by_case : TakesBranch s b (record { 0 = k }) m n → Matches r ls x n (proc (take_branch i b k e (lose f).0 (Some c) (record p.core { entries = es })) (put p.actors i (lose f).1))
       by_case (no_turn lt is) =
           by_turn r ls x m p x n (λ d. give i b e (lose f).0 (taken c) (record (writes (take_line i e.spot.group b) d) { cells = put d.cells k (after_taking c) }))
           (record p.core { entries = es }) (put p.actors i (lose f).1) st.shown refl refl (λ z. is)

@@ -9,14 +9,14 @@ use Rattle.flow_cancel.specs.Heap.{HeapTree, pushed}
 use Rattle.flow_cancel.specs.Leaving.{withdrawn}
 use Rattle.flow_numbered.specs.Numbered.{put}
 use Rattle.flow_meaning.specs.Process.{Task, Entry, Proc}
-use Rattle.flow_meaning.specs.Occ.{Scan, refs_in}
+use Rattle.flow_meaning.specs.References.{Scan, refs_in}
 use Rattle.flow_meaning.specs.Work as work
 use Rattle.flow_meaning.specs.Work.{running, leave_for}
 use Rattle.flow_meaning.specs.Step.{proc, on_core}
 use Rattle.flow_meaning.specs.Views.{spot_at}
 use Rattle.flow_meaning.specs.Frame.{Frame, lose}
 use Rattle.flow_meaning.proofs.Posture.{thing_put}
-use Rattle.flow_picture.specs.Shows.{Shows, spot_of_actor, wait_spot, held_from}
+use Rattle.flow_picture.specs.Representing.{Represents, spot_of_actor, wait_spot, held_from}
 use Rattle.flow_picture.specs.Changes.{SameTask}
 use Rattle.flow_picture.specs.Counted.{branches_at}
 use Rattle.flow_picture.specs.Acting.{NoKeep}
@@ -24,15 +24,15 @@ use Rattle.flow_picture.specs.Leaving.{MayLeave, first_part, left_wait}
 use Rattle.flow_picture.proofs.Left.{withdrawn_shown}
 use Rattle.flow_picture.proofs.Further.{kept_withdrawn}
 use Rattle.flow_picture.proofs.Referring.{of_left}
-use Rattle.flow_steps.specs.declared.frames.Stand.{Stand}
+use Rattle.flow_steps.specs.declared.frames.ControlPoint.{ControlPoint}
 use Rattle.flow_steps.specs.declared.process.Process.{Process}
 use Rattle.flow_steps.specs.Holding.{on_heap, with_heap}
-use Rattle.flow_steps.specs.Standing.{gone, lost_from}
+use Rattle.flow_steps.specs.Points.{gone, lost_from}
 use Rattle.flow_steps.specs.Waiting as waiting
 use Rattle.flow_steps.specs.Waiting.{left_for}
-use Rattle.flow_follows.specs.Shown.{with_task}
-use Rattle.flow_follows.specs.Placing.{Acts, Stood}
-use Rattle.flow_follows.specs.Taking.{Standing, MayGo}
+use Rattle.flow_follows.specs.Matching.{with_task}
+use Rattle.flow_follows.specs.Placing.{Acts, RepresentsActor}
+use Rattle.flow_follows.specs.Taking.{PointMatches, MayGo}
 use Rattle.flow_follows.specs.Waiting.{Waitable}
 use Rattle.flow_follows.proofs.Working.{changed, task_done}
 use Rattle.flow_follows.proofs.Places.{at_of}
@@ -61,8 +61,8 @@ moved_aside i n t xs h k reg =
 
 module _ (r : RawTree) (ls : List Line) (m : Process) (p : Proc Frame) (i : ℕ) (e : Entry) (f : Frame) where
   -- operands of which a first part waits leave all cells
-  partly_left : (x : Scan) (k : HeapTree) → Stood r ls x m p i e f → MayGo i e p.core → e.suspended ≡ false → Partly r m.heap p i m.heap k p.core.cells e.operands 0
-      → Stood r ls x (on_heap (withdrawn i) (with_heap k m)) (on_core (left_wait i e) p) i (running e) f
+  partly_left : (x : Scan) (k : HeapTree) → RepresentsActor r ls x m p i e f → MayGo i e p.core → e.suspended ≡ false → Partly r m.heap p i m.heap k p.core.cells e.operands 0
+      → RepresentsActor r ls x (on_heap (withdrawn i) (with_heap k m)) (on_core (left_wait i e) p) i (running e) f
   partly_left x k st go awake part =
       let q : Proc Frame = with_cells part.cells p in
       let acts : Acts r k q i e f = acts_by r m.heap k p q i e f part.frames part.actors refl refl st.acts in
@@ -76,7 +76,7 @@ module _ (r : RawTree) (ls : List Line) (m : Process) (p : Proc Frame) (i : ℕ)
       let shows = withdrawn_shown r k q i part.shows (at_of r k q i e f acts) may in
       let left : on_core (left_wait i e) q ≡ on_core (left_wait i e) p = ap (λ cs. on_core (λ c. record (left_wait i e c) { cells = cs }) p) part.left in record {
         shown = changed r ls x x m p (on_core (left_wait i e) p) (withdrawn i k) st.shown (record {
-          shows = subst (Shows r (withdrawn i k)) left shows;
+          shows = subst (Represents r (withdrawn i k)) left shows;
           counted = λ z j.
               let a = kept_withdrawn z j i k in
               let b = of_left p z j i e st.acts.entered go.agree go.kinds go.cells in
@@ -87,13 +87,13 @@ module _ (r : RawTree) (ls : List Line) (m : Process) (p : Proc Frame) (i : ℕ)
       }
 
 module _ (r : RawTree) (ls : List Line) (m : Process) (p : Proc Frame) (i : ℕ) (e : Entry) (f : Frame) where
-  pub left_refused : (x : Scan) (s : Stand) (t : stack.Task) (u : Task) (k : HeapTree) → Stood r ls (with_task u x) m p i e f → Standing s i f → length s.block.now.body.items ≡ f.instr
+  pub left_refused : (x : Scan) (s : ControlPoint) (t : stack.Task) (u : Task) (k : HeapTree) → RepresentsActor r ls (with_task u x) m p i e f → PointMatches s i f → length s.block.now.body.items ≡ f.instr
       → SameTask p t u → MayGo i e p.core → NoKeep i (u ∷ []) → e.suspended ≡ false → Waitable p.core.cells e.operands
       → waiting.register_all i (held_from ((wait_spot f).first + 0) e.operands) m.heap ≡ (false, k)
-      → Stood r ls x (on_heap (left_for s t) (with_heap k m)) (proc (leave_for i e (lose f).0 u p.core) (put p.actors i (lose f).1)) i (running e) (lose f).1
+      → RepresentsActor r ls x (on_heap (left_for s t) (with_heap k m)) (proc (leave_for i e (lose f).0 u p.core) (put p.actors i (lose f).1)) i (running e) (lose f).1
   left_refused x s t u k st standing end same go free awake has reg =
       let q : Proc Frame = on_core (work.pushed u) p in
-      let one : Stood r ls x (on_heap (pushed t) m) q i e f = record {
+      let one : RepresentsActor r ls x (on_heap (pushed t) m) q i e f = record {
         shown = task_done r ls x m p t u st.shown same;
         acts = acts_by r m.heap (pushed t m.heap) p q i e f refl refl refl refl st.acts;
       } in
@@ -117,7 +117,7 @@ module _ (r : RawTree) (ls : List Line) (m : Process) (p : Proc Frame) (i : ℕ)
       let four = frame_told r ls (on_heap (withdrawn i) (with_heap k2 n2)) (on_core (left_wait i e) q2) i (running e) g x three refl refl in
       let km : Process = with_heap k m in
       let out : Proc Frame = on_core (left_wait i e) q2 in
-      subst (λ a. Stood r ls x (on_heap (λ h. gone a.0 s.place (length s.block.now.body.items) (withdrawn a.0 (lost_from a.0 s.class.now.slots (pushed t h)))) km) out i (running e) g) (sym standing.actor)
-      (subst (λ n. Stood r ls x (on_heap (λ h. gone i s.place (length s.block.now.body.items) (withdrawn i (lost_from i n (pushed t h)))) km) out i (running e) g) (sym standing.slots)
-      (subst (λ b. Stood r ls x (on_heap (λ h. gone i b (length s.block.now.body.items) (withdrawn i (lost_from i (length f.code.slots) (pushed t h)))) km) out i (running e) g) (sym standing.place)
-      (subst (λ n. Stood r ls x (on_heap (λ h. gone i f.block n (withdrawn i (lost_from i (length f.code.slots) (pushed t h)))) km) out i (running e) g) (sym end) four)))
+      subst (λ a. RepresentsActor r ls x (on_heap (λ h. gone a.0 s.place (length s.block.now.body.items) (withdrawn a.0 (lost_from a.0 s.class.now.slots (pushed t h)))) km) out i (running e) g) (sym standing.actor)
+      (subst (λ n. RepresentsActor r ls x (on_heap (λ h. gone i s.place (length s.block.now.body.items) (withdrawn i (lost_from i n (pushed t h)))) km) out i (running e) g) (sym standing.slots)
+      (subst (λ b. RepresentsActor r ls x (on_heap (λ h. gone i b (length s.block.now.body.items) (withdrawn i (lost_from i (length f.code.slots) (pushed t h)))) km) out i (running e) g) (sym standing.place)
+      (subst (λ n. RepresentsActor r ls x (on_heap (λ h. gone i f.block n (withdrawn i (lost_from i (length f.code.slots) (pushed t h)))) km) out i (running e) g) (sym end) four)))

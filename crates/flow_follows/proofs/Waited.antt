@@ -18,7 +18,7 @@ use Rattle.flow_cancel.specs.Heap.{HeapTree, cell_id}
 use Rattle.flow_numbered.specs.Numbered.{Numbered, thing, put}
 use Rattle.flow_meaning.specs.Cells.{Side, Ref, Cell}
 use Rattle.flow_meaning.specs.Process.{Task, Throw, Entry, Proc}
-use Rattle.flow_meaning.specs.Occ.{Scan, refs_in, value_in}
+use Rattle.flow_meaning.specs.References.{Scan, refs_in, value_in}
 use Rattle.flow_meaning.specs.Lines.{wait_line}
 use Rattle.flow_meaning.specs.Work as work
 use Rattle.flow_meaning.specs.Work.{writes, running, leave_for, take_branch, is_ready_at, Registered, Refused, register, dropping_values}
@@ -27,7 +27,7 @@ use Rattle.flow_meaning.specs.Step.{proc, on_core}
 use Rattle.flow_meaning.specs.Frame.{Frame, lose}
 use Rattle.flow_meaning.specs.Views.{spot_at}
 use Rattle.flow_meaning.proofs.Posture.{each_number, thing_put, thing_put_other}
-use Rattle.flow_picture.specs.Shows.{Shows, Stands, OneActor, stands, Position, here, at_wait, spot_of_actor, spot_by, wait_spot, held_from}
+use Rattle.flow_picture.specs.Representing.{Represents, LiveFrameRepresents, OneActor, stands, Position, here, at_wait, spot_of_actor, spot_by, wait_spot, held_from}
 use Rattle.flow_picture.specs.Counted.{references, waiting_of}
 use Rattle.flow_picture.specs.Changes.{SameTask}
 use Rattle.flow_picture.specs.Acting.{frame_put, put_actor}
@@ -38,16 +38,16 @@ use Rattle.flow_picture.proofs.Finds.{stored_put}
 use Rattle.flow_picture.proofs.Referring.{of_entry, of_frame}
 use Rattle.flow_picture.proofs.Standing.{suspends}
 use Rattle.flow_numbered.proofs.Things.{put_same}
-use Rattle.flow_steps.specs.declared.frames.Stand.{Stand}
+use Rattle.flow_steps.specs.declared.frames.ControlPoint.{ControlPoint}
 use Rattle.flow_steps.specs.declared.process.Process.{Process}
 use Rattle.flow_steps.specs.Doing.{telling}
 use Rattle.flow_steps.specs.Holding.{on_heap, with_heap}
-use Rattle.flow_steps.specs.Standing.{reframed, lost_from}
+use Rattle.flow_steps.specs.Points.{reframed, lost_from}
 use Rattle.flow_steps.specs.Waiting as waiting
 use Rattle.flow_steps.specs.Waiting.{ready_at, left_for, callbacks_in, callbacks_of, suspended_at, TakesBranch, Waits, waits_ready, waits_refused, waits_suspended}
-use Rattle.flow_follows.specs.Shown.{Shown, Follows, shows, with_task}
-use Rattle.flow_follows.specs.Placing.{Acts, Stood}
-use Rattle.flow_follows.specs.Taking.{Standing, AtWait, MayGo}
+use Rattle.flow_follows.specs.Matching.{ProcessRepresents, Matches, shows, with_task}
+use Rattle.flow_follows.specs.Placing.{Acts, RepresentsActor}
+use Rattle.flow_follows.specs.Taking.{PointMatches, AtWait, MayGo}
 use Rattle.flow_follows.specs.Waiting.{MayAwait}
 use Rattle.flow_follows.specs.Waiting as law
 use Rattle.flow_follows.proofs.Working.{telling_shown}
@@ -63,14 +63,14 @@ use Rattle.flow_follows.proofs.Turned.{left_refused}
 use Rattle.flow_follows.proofs.Registering.{with_cells, Waited, AllWait, all_wait, one_refused, all_waits, none_waited}
 
 -- an actor with another entry and frame, at the same wait and with as many operands
-module _ (r : RawTree) (h : HeapTree) (p : Proc Frame) (i : ℕ) (e g : Entry) (f k : Frame) (n : FrameTree Value) (shown : Shows r h p) (a : Acts r h p i e f) (now : Stands r n g k)
+module _ (r : RawTree) (h : HeapTree) (p : Proc Frame) (i : ℕ) (e g : Entry) (f k : Frame) (n : FrameTree Value) (shown : Represents r h p) (a : Acts r h p i e f) (now : LiveFrameRepresents r n g k)
     (class : n.class ≡ a.memory.class) (same_class : g.class ≡ e.class) (result : g.result ≡ e.result) (marked : g.marked ≡ e.marked) where
   restated_one : OneActor r a.note n g k
   restated_one = record { class = same_class ∙ a.class ∙ sym class; result = result ∙ a.result; marked = marked ∙ a.marked; frame = stands now }
 
-  pub restated_shows : wait_spot k ≡ wait_spot f → length g.operands ≡ length e.operands → Shows r (frame_put i n h) (put_actor i g k p)
+  pub restated_shows : wait_spot k ≡ wait_spot f → length g.operands ≡ length e.operands → Represents r (frame_put i n h) (put_actor i g k p)
   restated_shows spot many =
-      subst (λ ns. Shows r (record h { actors = record h.actors { things = ns }; frames = stored.with_thing h.frames i n }) (put_actor i g k p)) (put_same h.actors.things i a.note a.noted)
+      subst (λ ns. Represents r (record h { actors = record h.actors { things = ns }; frames = stored.with_thing h.frames i n }) (put_actor i g k p)) (put_same h.actors.things i a.note a.noted)
       (actor_kept r h p i a.note n g k shown (at_of r h p i e f a) restated_one spot many)
 
   pub restated_acts : Acts r (frame_put i n h) (put_actor i g k p) i g k
@@ -99,7 +99,7 @@ FirstSame n cs (Some x) (Some y) = (x.callback ≡ n + y.0) × (x.cell ≡ cell_
 FirstSame n cs None (Some y) = ⊥
 FirstSame n cs (Some x) None = ⊥
 
-first_same : (r : RawTree) (h : HeapTree) (p : Proc Frame) (first : ℕ) → Shows r h p → (rs : List Ref) (b : ℕ)
+first_same : (r : RawTree) (h : HeapTree) (p : Proc Frame) (first : ℕ) → Represents r h p → (rs : List Ref) (b : ℕ)
     → FirstSame first p.core.cells (waiting.first_ready h (held_from (first + b) rs)) (work.first_ready p.core.cells b rs)
 first_same r h p first s [] b = tt
 first_same r h p first s (q ∷ rs) b = by_test (ready_at q.1 h) (is_ready_at (thing p.core.cells q.1)) (ready_same r h p s q.1) refl (first_same r h p first s rs (suc b))
@@ -114,7 +114,7 @@ first_same r h p first s (q ∷ rs) b = by_test (ready_at q.1 h) (is_ready_at (t
     by_test true false e ready rest = absurd (cc)
     by_test false true e ready rest = absurd (cc)
 
-module _ (r : RawTree) (ls : List Line) (m : Process) (p : Proc Frame) (x : Scan) (s : Stand) (i group : ℕ) (e : Entry) (f : Frame) (st : Stood r ls x m p i e f) (none : m.asked ≡ None) (may : MayAwait s p i group e f) where
+module _ (r : RawTree) (ls : List Line) (m : Process) (p : Proc Frame) (x : Scan) (s : ControlPoint) (i group : ℕ) (e : Entry) (f : Frame) (st : RepresentsActor r ls x m p i e f) (none : m.asked ≡ None) (may : MayAwait s p i group e f) where
   abbrev spotted : Entry
   spotted = at_spot (wait_spot f) e
 
@@ -139,7 +139,7 @@ module _ (r : RawTree) (ls : List Line) (m : Process) (p : Proc Frame) (x : Scan
   position (here a b c) = here a b c
   position (at_wait g a b) = at_wait g a b
 
-  stands_there : Stands r st.acts.memory spotted waiting_frame
+  stands_there : LiveFrameRepresents r st.acts.memory spotted waiting_frame
   stands_there =
       let a = st.acts.stands in record {
         code = a.code;
@@ -151,12 +151,12 @@ module _ (r : RawTree) (ls : List Line) (m : Process) (p : Proc Frame) (x : Scan
         spot = λ y. refl;
       }
 
-  there : Stood r ls x m (put_actor i spotted waiting_frame p) i spotted waiting_frame
+  there : RepresentsActor r ls x m (put_actor i spotted waiting_frame p) i spotted waiting_frame
   there =
       let same : frame_put i st.acts.memory m.heap ≡ m.heap = ap (λ ms. record m.heap { frames = record m.heap.frames { things = ms } }) (put_same m.heap.frames.things i st.acts.memory st.acts.framed) in record {
         shown = record {
           holds = record {
-            shows = subst (λ h. Shows r h (put_actor i spotted waiting_frame p)) same (restated_shows r m.heap p i e spotted f waiting_frame st.acts.memory st.shown.holds.shows st.acts stands_there refl refl refl refl refl refl);
+            shows = subst (λ h. Represents r h (put_actor i spotted waiting_frame p)) same (restated_shows r m.heap p i e spotted f waiting_frame st.acts.memory st.shown.holds.shows st.acts stands_there refl refl refl refl refl refl);
             counted = λ z j.
                 let a = restated_refs r m.heap p i e spotted f waiting_frame st.acts.memory st.shown.holds.shows st.acts stands_there refl refl refl refl z j in
                 let b = st.shown.holds.counted z j in omega (arith, a, b);
@@ -172,7 +172,7 @@ module _ (r : RawTree) (ls : List Line) (m : Process) (p : Proc Frame) (x : Scan
   abbrev out_of : Option (ℕ × ℕ) → Proc Frame
   out_of o = proc (wait_by i (wait_spot f) spotted (lose f).0 o p.core) (put p.actors i (record (lose f).1 { state = suc group }))
 
-  standing_there : Standing s i waiting_frame
+  standing_there : PointMatches s i waiting_frame
   standing_there = record { actor = may.standing.actor; slots = may.standing.slots; place = may.standing.place }
 
   wait_there : AtWait s waiting_frame (suc group)
@@ -190,7 +190,7 @@ module _ (r : RawTree) (ls : List Line) (m : Process) (p : Proc Frame) (x : Scan
   }
 
   -- the first that is ready is taken
-  first_taken : (n : Process) (y : Held) (b : ℕ) (z : ℕ × ℕ) → FirstSame first p.core.cells (Some y) (Some z) → waiting.BranchOf s y.callback b → TakesBranch s b y.cell m n → Follows r ls x n (out_of (Some z))
+  first_taken : (n : Process) (y : Held) (b : ℕ) (z : ℕ × ℕ) → FirstSame first p.core.cells (Some y) (Some z) → waiting.BranchOf s y.callback b → TakesBranch s b y.cell m n → Matches r ls x n (out_of (Some z))
   first_taken n y b z same at takes = by_cell (thing p.core.cells z.1) refl
     where
       number : at.number ≡ suc group
@@ -205,14 +205,14 @@ module _ (r : RawTree) (ls : List Line) (m : Process) (p : Proc Frame) (x : Scan
       taken : TakesBranch s z.0 (record { 0 = z.1 }) m n
       taken = subst (λ k. TakesBranch s z.0 k m n) same.1 (subst (λ c. TakesBranch s c y.cell m n) branch takes)
 
-      by_cell : (o : Option Cell) → thing p.core.cells z.1 ≡ o → Follows r ls x n (out_of (Some z))
+      by_cell : (o : Option Cell) → thing p.core.cells z.1 ≡ o → Matches r ls x n (out_of (Some z))
       by_cell None h = let a = same.2 in let u : false ≡ true = sym (ap is_ready_at h) ∙ a in absurd (cc (u))
       by_cell (Some c) h =
           let out = branch_follows r ls m (put_actor i spotted waiting_frame p) i spotted waiting_frame x s (suc group) z.0 z.1 c n p.core.entries there
           (sym (put_over p.core.entries i spotted (running spotted))) none standing_there wait_there spot_group go_there
           (record { at = h; there = λ o k. all_there_by p (put_actor i spotted waiting_frame p) (refs_in (value_in o)) refl (may.contents z.1 c o h k) }) taken in
-          subst (λ o. Follows r ls x n (proc (take_branch i z.0 z.1 spotted (lose f).0 o p.core) (put p.actors i (record (lose f).1 { state = suc group })))) (sym h)
-          (subst (λ xs. Follows r ls x n (proc (take_branch i z.0 z.1 spotted (lose f).0 (Some c) p.core) xs)) (put_over p.actors i waiting_frame (record (lose f).1 { state = suc group })) out)
+          subst (λ o. Matches r ls x n (proc (take_branch i z.0 z.1 spotted (lose f).0 o p.core) (put p.actors i (record (lose f).1 { state = suc group })))) (sym h)
+          (subst (λ xs. Matches r ls x n (proc (take_branch i z.0 z.1 spotted (lose f).0 (Some c) p.core) xs)) (put_over p.actors i waiting_frame (record (lose f).1 { state = suc group })) out)
 
   -- or all wait
   module _ (k : HeapTree) (es : Numbered Cell) (w : Waited r m.heap p k es e.operands) where
@@ -225,25 +225,25 @@ module _ (r : RawTree) (ls : List Line) (m : Process) (p : Proc Frame) (x : Scan
     abbrev asleep : Entry
     asleep = record spotted { suspended = true }
 
-    told_shows : Shows r k told_proc
+    told_shows : Represents r k told_proc
     told_shows = let a = w.shows in
         record { cells = a.cells; actors = a.actors; tasks = a.tasks; made = a.made; started = a.started; main = a.main; ports = a.ports; requests = a.requests }
 
     told_acts : Acts r k told_proc i e f
     told_acts = acts_by r m.heap k p told_proc i e f w.frames w.actors refl refl st.acts
 
-    stands_asleep : Stands r (in_state (suc group) told_acts.memory) asleep waiting_frame
+    stands_asleep : LiveFrameRepresents r (in_state (suc group) told_acts.memory) asleep waiting_frame
     stands_asleep = suspends r told_acts.memory e f group may.first may.others told_acts.stands spot_group may.operands
 
     asleep_proc : Proc Frame
     asleep_proc = put_actor i asleep waiting_frame told_proc
 
-    fallen : Stood r ls x (telling said (with_heap (suspended_at i (suc group) k) m)) (put_actor i asleep waiting_frame told_proc) i asleep waiting_frame
+    fallen : RepresentsActor r ls x (telling said (with_heap (suspended_at i (suc group) k) m)) (put_actor i asleep waiting_frame told_proc) i asleep waiting_frame
     fallen =
         let n = in_state (suc group) told_acts.memory in
         let sh = restated_shows r k told_proc i e asleep f waiting_frame n told_shows told_acts stands_asleep refl refl refl refl refl refl in
         let line_told = telling_shown r ls x said m p st.shown none in
-        subst (λ o. Stood r ls x (telling said (with_heap (reframed (in_state (suc group)) i o k) m)) (put_actor i asleep waiting_frame told_proc) i asleep waiting_frame) (sym told_acts.framed) (record {
+        subst (λ o. RepresentsActor r ls x (telling said (with_heap (reframed (in_state (suc group)) i o k) m)) (put_actor i asleep waiting_frame told_proc) i asleep waiting_frame) (sym told_acts.framed) (record {
           shown = record {
             holds = record {
               shows = sh;
@@ -263,20 +263,20 @@ module _ (r : RawTree) (ls : List Line) (m : Process) (p : Proc Frame) (x : Scan
         })
 
     all_asleep : register i 0 e.operands (Registered p.core.cells) ≡ Registered es
-        → Shown r ls x (telling said (on_heap (λ g. suspended_at i (suc group) (lost_from i (length f.code.slots) g)) (with_heap k m))) (out_of None)
+        → ProcessRepresents r ls x (telling said (on_heap (λ g. suspended_at i (suc group) (lost_from i (length f.code.slots) g)) (with_heap k m))) (out_of None)
     all_asleep reg =
         let lost = locals_lost r ls (telling said (with_heap (suspended_at i (suc group) k) m)) (put_actor i asleep waiting_frame told_proc) i asleep waiting_frame x fallen in
         let ended : Frame = record (lose f).1 { state = suc group } in
-        subst (λ q. Shown r ls x (telling said (on_heap (λ g. suspended_at i (suc group) (lost_from i (length f.code.slots) g)) (with_heap k m))) (proc (suspend i (wait_spot f) spotted (lose f).0 q p.core) (put p.actors i ended))) (sym reg)
-        (subst (λ g. Shown r ls x (telling said (on_heap (λ g. suspended_at i (suc group) (lost_from i (length f.code.slots) g)) (with_heap k m)))
+        subst (λ q. ProcessRepresents r ls x (telling said (on_heap (λ g. suspended_at i (suc group) (lost_from i (length f.code.slots) g)) (with_heap k m))) (proc (suspend i (wait_spot f) spotted (lose f).0 q p.core) (put p.actors i ended))) (sym reg)
+        (subst (λ g. ProcessRepresents r ls x (telling said (on_heap (λ g. suspended_at i (suc group) (lost_from i (length f.code.slots) g)) (with_heap k m)))
         (proc (dropping_values (lose f).0 (record (writes (wait_line i g) p.core) { cells = es; entries = put p.core.entries i asleep })) (put p.actors i ended))) (sym spot_group)
-        (subst (λ h. Shown r ls x (telling said (with_heap h m)) (proc (dropping_values (lose f).0 (record (writes said p.core) { cells = es; entries = put p.core.entries i asleep })) (put p.actors i ended))) (sym (suspended_first i group (length f.code.slots) k))
-        (subst (λ xs. Shown r ls x (telling said (with_heap (lost_from i (length f.code.slots) (suspended_at i (suc group) k)) m)) (proc (dropping_values (lose f).0 (record (writes said p.core) { cells = es; entries = put p.core.entries i asleep })) xs))
+        (subst (λ h. ProcessRepresents r ls x (telling said (with_heap h m)) (proc (dropping_values (lose f).0 (record (writes said p.core) { cells = es; entries = put p.core.entries i asleep })) (put p.actors i ended))) (sym (suspended_first i group (length f.code.slots) k))
+        (subst (λ xs. ProcessRepresents r ls x (telling said (with_heap (lost_from i (length f.code.slots) (suspended_at i (suc group) k)) m)) (proc (dropping_values (lose f).0 (record (writes said p.core) { cells = es; entries = put p.core.entries i asleep })) xs))
         (put_over p.actors i waiting_frame ended) lost.shown)))
 
   by_registration : (n : Process) (h : HeapTree) → waiting.register_all i (held_from (first + 0) e.operands) m.heap ≡ (true, h)
       → n ≡ telling (wait_line i (suc group)) (on_heap (λ g. suspended_at i (suc group) (lost_from i (length f.code.slots) g)) (with_heap h m)) → AllWait r m.heap p i m.heap p.core.cells [] e.operands 0
-      → Follows r ls x n (out_of None)
+      → Matches r ls x n (out_of None)
   by_registration n h reg is (one_refused k mem refused) =
       let mem2 = ap (λ u. waiting.register_all i (held_from (u + 0) e.operands) m.heap) (sym spots_first) ∙ mem in
       absurd (false≢true (ap (λ (y : waiting.Registered). y.0) (sym mem2 ∙ reg)))
@@ -284,8 +284,8 @@ module _ (r : RawTree) (ls : List Line) (m : Process) (p : Proc Frame) (x : Scan
       let mem2 = ap (λ u. waiting.register_all i (held_from (u + 0) e.operands) m.heap) (sym spots_first) ∙ mem in
       let pair : (true, h) ≡ (true, k) = sym reg ∙ mem2 in
       let same : h ≡ k = ap (λ (y : waiting.Registered). y.1) pair in
-      subst (λ z. Follows r ls x z (out_of None)) (sym is)
-      (subst (λ g. Follows r ls x (telling (wait_line i (suc group)) (on_heap (λ g. suspended_at i (suc group) (lost_from i (length f.code.slots) g)) (with_heap g m))) (out_of None)) (sym same)
+      subst (λ z. Matches r ls x z (out_of None)) (sym is)
+      (subst (λ g. Matches r ls x (telling (wait_line i (suc group)) (on_heap (λ g. suspended_at i (suc group) (lost_from i (length f.code.slots) g)) (with_heap g m))) (out_of None)) (sym same)
       (shows (all_asleep k es w reg2)))
 
   registration : AllWait r m.heap p i m.heap p.core.cells [] e.operands 0
@@ -300,7 +300,7 @@ module _ (r : RawTree) (ls : List Line) (m : Process) (p : Proc Frame) (x : Scan
       absurd (false≢true (ap (λ (y : waiting.Registered). y.0) (sym reg ∙ mem2)))
 
   refused_way : (n : Process) (h : HeapTree) (o : Option (ℕ × ℕ)) → FirstSame first p.core.cells None o → waiting.register_all i (held_from (first + 0) e.operands) m.heap ≡ (false, h)
-      → n ≡ on_heap (left_for s (task.Throw s.actor (record { 0 = second_waiter }))) (with_heap h m) → Follows r ls x n (out_of o)
+      → n ≡ on_heap (left_for s (task.Throw s.actor (record { 0 = second_waiter }))) (with_heap h m) → Matches r ls x n (out_of o)
   refused_way n h (Some z) same reg is = absurd same
   refused_way n h None same reg is =
       let u : Task = Throw i second_waiter in
@@ -308,26 +308,26 @@ module _ (r : RawTree) (ls : List Line) (m : Process) (p : Proc Frame) (x : Scan
       let task_same : SameTask q (task.Throw s.actor (record { 0 = second_waiter })) u = ap (λ (k : ActorId). Throw k.0 second_waiter) (sym may.standing.actor) in
       let left = left_refused r ls m q i spotted waiting_frame x s (task.Throw s.actor (record { 0 = second_waiter })) u h
       (as_many_stood r ls x (with_task u x) m q i spotted waiting_frame (λ z j. omega arith) there) standing_there may.wait.end task_same go_there tt may.awake may.waitable reg in
-      subst (λ y. Follows r ls x n (proc (suspend i (wait_spot f) spotted (lose f).0 y p.core) (put p.actors i (record (lose f).1 { state = suc group })))) (sym (refused_there h reg registration))
-      (subst (λ z. Follows r ls x z (proc (leave_for i spotted (lose f).0 u p.core) (put p.actors i (record (lose f).1 { state = suc group })))) (sym is)
-      (subst (λ xs. Follows r ls x (on_heap (left_for s (task.Throw s.actor (record { 0 = second_waiter }))) (with_heap h m)) (proc (record (leave_for i spotted (lose f).0 u p.core) { entries = xs }) (put p.actors i (record (lose f).1 { state = suc group })))) (put_over p.core.entries i spotted (running spotted))
-      (subst (λ xs. Follows r ls x (on_heap (left_for s (task.Throw s.actor (record { 0 = second_waiter }))) (with_heap h m)) (proc (leave_for i spotted (lose f).0 u q.core) xs)) (put_over p.actors i waiting_frame (record (lose f).1 { state = suc group }))
+      subst (λ y. Matches r ls x n (proc (suspend i (wait_spot f) spotted (lose f).0 y p.core) (put p.actors i (record (lose f).1 { state = suc group })))) (sym (refused_there h reg registration))
+      (subst (λ z. Matches r ls x z (proc (leave_for i spotted (lose f).0 u p.core) (put p.actors i (record (lose f).1 { state = suc group })))) (sym is)
+      (subst (λ xs. Matches r ls x (on_heap (left_for s (task.Throw s.actor (record { 0 = second_waiter }))) (with_heap h m)) (proc (record (leave_for i spotted (lose f).0 u p.core) { entries = xs }) (put p.actors i (record (lose f).1 { state = suc group })))) (put_over p.core.entries i spotted (running spotted))
+      (subst (λ xs. Matches r ls x (on_heap (left_for s (task.Throw s.actor (record { 0 = second_waiter }))) (with_heap h m)) (proc (leave_for i spotted (lose f).0 u q.core) xs)) (put_over p.actors i waiting_frame (record (lose f).1 { state = suc group }))
       (shows left.shown))))
 
   -- each way
-  ready_way : (n : Process) (y : Held) (b : ℕ) (o : Option (ℕ × ℕ)) → FirstSame first p.core.cells (Some y) o → waiting.BranchOf s y.callback b → TakesBranch s b y.cell m n → Follows r ls x n (out_of o)
+  ready_way : (n : Process) (y : Held) (b : ℕ) (o : Option (ℕ × ℕ)) → FirstSame first p.core.cells (Some y) o → waiting.BranchOf s y.callback b → TakesBranch s b y.cell m n → Matches r ls x n (out_of o)
   ready_way n y b None same at takes = absurd same
   ready_way n y b (Some z) same at takes = first_taken n y b z same at takes
 
   waiting_way : (n : Process) (h : HeapTree) (o : Option (ℕ × ℕ)) → FirstSame first p.core.cells None o → waiting.register_all i (held_from (first + 0) e.operands) m.heap ≡ (true, h)
-      → n ≡ telling (wait_line i (suc group)) (on_heap (λ g. suspended_at i (suc group) (lost_from i (length f.code.slots) g)) (with_heap h m)) → Follows r ls x n (out_of o)
+      → n ≡ telling (wait_line i (suc group)) (on_heap (λ g. suspended_at i (suc group) (lost_from i (length f.code.slots) g)) (with_heap h m)) → Matches r ls x n (out_of o)
   waiting_way n h (Some z) same reg is = absurd same
   waiting_way n h None same reg is = by_registration n h reg is registration
 
   first_there : (c : List Held) → callbacks_of s.actor.0 m.heap ≡ c → callbacks_of s.actor.0 m.heap ≡ held_from (first + 0) e.operands
   first_there c a = ap (λ (k : ActorId). callbacks_of k.0 m.heap) may.standing.actor ∙ callbacks_are
 
-  pub each_way : (n : Process) → Waits s (suc group) m n → Follows r ls x n (out_of (work.first_ready p.core.cells 0 e.operands))
+  pub each_way : (n : Process) → Waits s (suc group) m n → Matches r ls x n (out_of (work.first_ready p.core.cells 0 e.operands))
   each_way n (waits_ready y b at branch takes) =
       let held = first_there (callbacks_of s.actor.0 m.heap) refl in
       let is : waiting.first_ready m.heap (held_from (first + 0) e.operands) ≡ Some y = ap (waiting.first_ready m.heap) (sym held) ∙ at in
@@ -354,5 +354,5 @@ module _ (r : RawTree) (ls : List Line) (m : Process) (p : Proc Frame) (x : Scan
 
 pub wait_done : (r : RawTree) (ls : List Line) (m : Process) (p : Proc Frame) → law.WaitDone r ls m p
 wait_done r ls m p x s i group e f n st none may waits =
-    subst (λ o. Follows r ls x n (proc (wait i (wait_spot f) o (lose f).0 p.core) (put p.actors i (record (lose f).1 { state = suc group })))) (sym st.acts.entered)
+    subst (λ o. Matches r ls x n (proc (wait i (wait_spot f) o (lose f).0 p.core) (put p.actors i (record (lose f).1 { state = suc group })))) (sym st.acts.entered)
     (each_way r ls m p x s i group e f st none may n waits)

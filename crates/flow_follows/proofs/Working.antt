@@ -14,7 +14,7 @@ use Rattle.flow_cancel.specs.Heap as heap
 use Rattle.flow_numbered.specs.Numbered.{Numbered}
 use Rattle.flow_meaning.specs.Cells.{Side}
 use Rattle.flow_meaning.specs.Process.{Core, Proc}
-use Rattle.flow_meaning.specs.Occ.{Scan}
+use Rattle.flow_meaning.specs.References.{Scan}
 use Rattle.flow_meaning.specs.Lines.{broken_line}
 use Rattle.flow_meaning.specs.Work.{turn, turn_of, writes, pushed, dropping, fill, fill_cell}
 use Rattle.flow_meaning.specs.Step.{proc, on_core}
@@ -27,7 +27,7 @@ use Rattle.flow_picture.proofs.Further.{aside}
 use Rattle.flow_steps.specs.declared.process.Process.{Process}
 use Rattle.flow_steps.specs.Doing.{turned, telling}
 use Rattle.flow_steps.specs.Holding.{outcome_refs, refs_dropped, filled_broken}
-use Rattle.flow_follows.specs.Shown.{told, Shown, AreSpent, Follows, shows, ends, with_task}
+use Rattle.flow_follows.specs.Matching.{told, ProcessRepresents, AreSpent, Matches, shows, ends, with_task}
 use Rattle.flow_follows.specs.Working as law
 use Rattle.flow_follows.specs.Working.{Sendable}
 
@@ -42,13 +42,13 @@ turned_some m n e =
     ap (λ b. if b then record m { left = m.left - 1 } else record m { spent = true }) t ∙ ap (λ k. record m { left = k }) l
 
 -- a part of the heap changes, and as much of the core
-pub changed : (r : RawTree) (ls : List Line) (x y : Scan) (m : Process) (p q : Proc Frame) (h : HeapTree) → Shown r ls x m p → Holds r y h q
+pub changed : (r : RawTree) (ls : List Line) (x y : Scan) (m : Process) (p q : Proc Frame) (h : HeapTree) → ProcessRepresents r ls x m p → Holds r y h q
     → q.core.lines ≡ p.core.lines → q.core.left ≡ p.core.left → q.core.halted ≡ p.core.halted
-    → Shown r ls y (record m { heap = h }) q
+    → ProcessRepresents r ls y (record m { heap = h }) q
 changed r ls x y m p q h s hs a b c = record { holds = hs; left = b ∙ s.left; lines = a ∙ s.lines; unspent = s.unspent; goes = c ∙ s.goes }
 
 -- other references in hand, as many
-pub as_many_shown : (r : RawTree) (ls : List Line) (x y : Scan) (m : Process) (p : Proc Frame) → ((s : Side) (j : ℕ) → x s j ≡ y s j) → Shown r ls x m p → Shown r ls y m p
+pub as_many_shown : (r : RawTree) (ls : List Line) (x y : Scan) (m : Process) (p : Proc Frame) → ((s : Side) (j : ℕ) → x s j ≡ y s j) → ProcessRepresents r ls x m p → ProcessRepresents r ls y m p
 as_many_shown r ls x y m p e s = record { holds = as_many r m.heap p x y e s.holds; left = s.left; lines = s.lines; unspent = s.unspent; goes = s.goes }
 
 -- lines and turns are seen in the process alone
@@ -57,9 +57,9 @@ holds_aside r x h p ls n hs = record { shows = aside r h p ls n hs.shows; counte
 
 module _ (r : RawTree) (ls : List Line) (x : Scan) (m : Process) (p : Proc Frame) where
   -- turns
-  pub with_turn : (n : ℕ) → m.left ≡ suc n → Shown r ls x m p → Shown r ls x (turned m) (on_core (λ c. record c { left = n }) p)
+  pub with_turn : (n : ℕ) → m.left ≡ suc n → ProcessRepresents r ls x m p → ProcessRepresents r ls x (turned m) (on_core (λ c. record c { left = n }) p)
   with_turn n e s =
-      subst (λ k. Shown r ls x k (on_core (λ c. record c { left = n }) p)) (sym (turned_some m n e)) (record {
+      subst (λ k. ProcessRepresents r ls x k (on_core (λ c. record c { left = n }) p)) (sym (turned_some m n e)) (record {
         holds = holds_aside r x m.heap p p.core.lines n s.holds;
         left = refl;
         lines = s.lines;
@@ -67,7 +67,7 @@ module _ (r : RawTree) (ls : List Line) (x : Scan) (m : Process) (p : Proc Frame
         goes = s.goes;
       })
 
-  pub without_turn : (act : Core → Core) (c : Core) (xs : Numbered Frame) → m.left ≡ 0 → c.left ≡ p.core.left → c.lines ≡ p.core.lines → Shown r ls x m p → AreSpent ls (turned m) (proc (turn c act) xs)
+  pub without_turn : (act : Core → Core) (c : Core) (xs : Numbered Frame) → m.left ≡ 0 → c.left ≡ p.core.left → c.lines ≡ p.core.lines → ProcessRepresents r ls x m p → AreSpent ls (turned m) (proc (turn c act) xs)
   without_turn act c xs e same lines s =
       subst (λ k. AreSpent ls k (proc (turn c act) xs)) (sym (turned_none m e))
       (subst (λ n. AreSpent ls (record m { spent = true }) (proc (turn_of n c act) xs)) (sym (same ∙ s.left ∙ e)) (record {
@@ -77,16 +77,16 @@ module _ (r : RawTree) (ls : List Line) (x : Scan) (m : Process) (p : Proc Frame
       }))
 
   -- a turn is left, or none; whatever else there is then
-  pub by_turn : (y : Scan) (n : Process) (act : Core → Core) (c : Core) (xs : Numbered Frame) → Shown r ls x m p → c.left ≡ p.core.left → c.lines ≡ p.core.lines
+  pub by_turn : (y : Scan) (n : Process) (act : Core → Core) (c : Core) (xs : Numbered Frame) → ProcessRepresents r ls x m p → c.left ≡ p.core.left → c.lines ≡ p.core.lines
       → (m.left ≡ 0 → n ≡ turned m)
-      → ((k : ℕ) → m.left ≡ suc k → Shown r ls x (turned m) (on_core (λ d. record d { left = k }) p)
-      → Follows r ls y n (proc (act (record c { left = k })) xs))
-      → Follows r ls y n (proc (turn c act) xs)
+      → ((k : ℕ) → m.left ≡ suc k → ProcessRepresents r ls x (turned m) (on_core (λ d. record d { left = k }) p)
+      → Matches r ls y n (proc (act (record c { left = k })) xs))
+      → Matches r ls y n (proc (turn c act) xs)
   by_turn y n act c xs s same lines none go = by_left m.left refl
     where
-      by_left : (k : ℕ) → m.left ≡ k → Follows r ls y n (proc (turn c act) xs)
-      by_left zero e = subst (λ t. Follows r ls y t (proc (turn c act) xs)) (sym (none e)) (ends (without_turn act c xs e same lines s))
-      by_left (suc k) e = subst (λ t. Follows r ls y n (proc (turn_of t c act) xs)) (sym (same ∙ s.left ∙ e)) (go k e (with_turn k e s))
+      by_left : (k : ℕ) → m.left ≡ k → Matches r ls y n (proc (turn c act) xs)
+      by_left zero e = subst (λ t. Matches r ls y t (proc (turn c act) xs)) (sym (none e)) (ends (without_turn act c xs e same lines s))
+      by_left (suc k) e = subst (λ t. Matches r ls y n (proc (turn_of t c act) xs)) (sym (same ∙ s.left ∙ e)) (go k e (with_turn k e s))
 
   pub turn_taken : law.TurnTaken r ls x m p
   turn_taken y f act s go =
@@ -94,7 +94,7 @@ module _ (r : RawTree) (ls : List Line) (x : Scan) (m : Process) (p : Proc Frame
       (λ e. let t : nat_lt 0 m.left ≡ false = grind (arith, nat_tests, e) in ap (λ b. if b then f (turned m) else turned m) t)
       (λ k e now.
       let t : nat_lt 0 m.left ≡ true = grind (arith, nat_tests, e) in
-      subst (λ b. Follows r ls y (if b then f (turned m) else turned m) (on_core act (on_core (λ c. record c { left = k }) p))) (sym t) (go k e now))
+      subst (λ b. Matches r ls y (if b then f (turned m) else turned m) (on_core act (on_core (λ c. record c { left = k }) p))) (sym t) (go k e now))
 
   -- tasks
   pub task_done : law.TaskDone r ls x m p
@@ -130,7 +130,7 @@ no_more [] = refl
 no_more (y ∷ ys) = ap (λ l. y ∷ l) (no_more ys)
 
 -- a line is told
-pub telling_shown : (r : RawTree) (ls : List Line) (x : Scan) (l : Line) (m : Process) (p : Proc Frame) → Shown r ls x m p → m.asked ≡ None → Shown r ls x (telling l m) (on_core (writes l) p)
+pub telling_shown : (r : RawTree) (ls : List Line) (x : Scan) (l : Line) (m : Process) (p : Proc Frame) → ProcessRepresents r ls x m p → m.asked ≡ None → ProcessRepresents r ls x (telling l m) (on_core (writes l) p)
 telling_shown r ls x l m p s none = record {
   holds = holds_aside r x m.heap p (p.core.lines ++ l ∷ []) p.core.left s.holds;
   left = s.left;
@@ -140,8 +140,8 @@ telling_shown r ls x l m p s none = record {
 }
 
 module _ (r : RawTree) (ls : List Line) (x : Scan) (m : Process) (p : Proc Frame) where
-  broken_filled : (kd : Kind) (k : ℕ) → Shown r ls x m p → m.asked ≡ None → Sendable p kd k
-      → Shown r ls x (filled_broken kd k m) (on_core (fill k (BadOutcome broken_promise)) (on_core (writes (broken_line k)) p))
+  broken_filled : (kd : Kind) (k : ℕ) → ProcessRepresents r ls x m p → m.asked ≡ None → Sendable p kd k
+      → ProcessRepresents r ls x (filled_broken kd k m) (on_core (fill k (BadOutcome broken_promise)) (on_core (writes (broken_line k)) p))
   broken_filled kd k s none t =
       cell_filled r ls x (telling (broken_line k) m) (on_core (writes (broken_line k)) p) kd k (outcome.Error (record { 0 = broken_promise }))
       (as_many_shown r ls x (with_refs [] x) (telling (broken_line k) m) (on_core (writes (broken_line k)) p) (λ s j. omega arith) (telling_shown r ls x (broken_line k) m p s none))

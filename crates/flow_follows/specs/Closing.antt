@@ -10,7 +10,7 @@ use Rattle.flow_cancel.specs.Heap.{HeapTree}
 use Rattle.flow_numbered.specs.Numbered.{removed}
 use Rattle.flow_meaning.specs.Cells.{Side}
 use Rattle.flow_meaning.specs.Process.{Proc}
-use Rattle.flow_meaning.specs.Occ.{count}
+use Rattle.flow_meaning.specs.References.{count}
 use Rattle.flow_meaning.specs.Orderly.{Rising}
 use Rattle.flow_meaning.specs.Dropping.{close}
 use Rattle.flow_meaning.specs.Step.{proc}
@@ -22,8 +22,8 @@ use Rattle.flow_picture.specs.References.{frame_holds}
 use Rattle.flow_picture.specs.Holds.{with_refs}
 use Rattle.flow_steps.specs.declared.process.Process.{Process}
 use Rattle.flow_steps.specs.Holding.{outcome_refs}
-use Rattle.flow_steps.specs.Bringing.{closed}
-use Rattle.flow_follows.specs.Shown.{Shown, Follows, Sound}
+use Rattle.flow_steps.specs.Delivering.{closed}
+use Rattle.flow_follows.specs.Matching.{ProcessRepresents, Matches, Sound}
 
 -- An actor that ends with an outcome: nothing is left for it to do, its frame holds nothing, and the outcome doesn't refer to its
 -- own result.
@@ -39,7 +39,7 @@ pub record MayClose (r : RawTree) (h : HeapTree) (p : Proc Frame) (i : ℕ) (o :
 -- with its outcome in hand
 abbrev pub ActorClosed : RawTree → List Line → Process → Proc Frame → Type 0
 ActorClosed r ls m p =
-    (i : ActorId) (o : Outcome) → Shown r ls (with_refs (outcome_refs o) nothing_in_hand) m p → m.asked ≡ None → Sound p
+    (i : ActorId) (o : Outcome) → ProcessRepresents r ls (with_refs (outcome_refs o) nothing_in_hand) m p → m.asked ≡ None → Sound p
     → Sorted m.heap → (may : MayClose r m.heap p i.0 o)
-    → Follows r ls nothing_in_hand (closed i o may.actor.note.result m)
+    → Matches r ls nothing_in_hand (closed i o may.actor.note.result m)
     (proc (close (frames_hold (removed p.actors i.0)) i.0 may.actor.entry.result (outcome_of o) p.core) (removed p.actors i.0))

@@ -12,11 +12,11 @@ use Rattle.flow_code.specs.Coded.{coding, coded}
 use Rattle.flow_cancel.specs.Heap.{actor_id}
 use Rattle.flow_meaning.specs.Process.{Entry, Proc}
 use Rattle.flow_meaning.specs.Frame.{Frame}
-use Rattle.flow_steps.specs.declared.frames.Stand.{Stand}
+use Rattle.flow_steps.specs.declared.frames.ControlPoint.{ControlPoint}
 use Rattle.flow_steps.specs.declared.process.Process.{Process}
-use Rattle.flow_steps.specs.Standing.{StandsNow}
+use Rattle.flow_steps.specs.Points.{IsAtPoint}
 use Rattle.flow_follows.specs.Placing.{Acts}
-use Rattle.flow_follows.specs.Taking.{Standing, AtWait}
+use Rattle.flow_follows.specs.Taking.{PointMatches, AtWait}
 use Rattle.flow_follows.specs.Throwing.{SameCatcher}
 
 -- the classes that are run are coded from those of a program
@@ -32,8 +32,8 @@ AtHome c =
     → slice_get (homes_of c) g ≡ Some b
 
 -- An actor stands where its frame does: in the same block, with its catch part, and at the same wait.
-pub record StandsBy {r : RawTree} {classes : List Class} (c : CodedBy r classes) (s : Stand) (i : ℕ) (f : Frame) : Type 0 where
-  pub standing : Standing s i f
+pub record PointIsCoded {r : RawTree} {classes : List Class} (c : CodedBy r classes) (s : ControlPoint) (i : ℕ) (f : Frame) : Type 0 where
+  pub standing : PointMatches s i f
   pub block : BlockTree
   pub there : slice_get f.code.blocks f.block ≡ Some block
   pub same : block_of s.block.now ≡ coded_block (coding c.names c.class (length f.code.slots)) f.code block
@@ -42,5 +42,5 @@ pub record StandsBy {r : RawTree} {classes : List Class} (c : CodedBy r classes)
 
 abbrev pub StandFollows : Type 0
 StandFollows =
-    (r : RawTree) (classes : List Class) (m : Process) (p : Proc Frame) (i : ℕ) (e : Entry) (f : Frame) (s : Stand)
-    → (c : CodedBy r classes) → AtHome f.code → Acts r m.heap p i e f → StandsNow classes (actor_id i) m s → StandsBy c s i f
+    (r : RawTree) (classes : List Class) (m : Process) (p : Proc Frame) (i : ℕ) (e : Entry) (f : Frame) (s : ControlPoint)
+    → (c : CodedBy r classes) → AtHome f.code → Acts r m.heap p i e f → IsAtPoint classes (actor_id i) m s → PointIsCoded c s i f

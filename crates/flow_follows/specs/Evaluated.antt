@@ -7,19 +7,19 @@ use Rattle.flow_eval.specs.Eval.{Res, Done}
 use Rattle.flow_class.specs.Classes.{ThrowLast, RawTree}
 use Rattle.flow_class.specs.Code.{Last, fetch}
 use Rattle.flow_trace.specs.declared.line.Line.{Line}
-use Rattle.flow_meaning.specs.Asks.{Supply}
+use Rattle.flow_meaning.specs.Requests.{Supply}
 use Rattle.flow_meaning.specs.Evaluating.{value}
 use Rattle.flow_meaning.specs.Process.{Entry, Proc}
-use Rattle.flow_meaning.specs.Occ.{Scan}
+use Rattle.flow_meaning.specs.References.{Scan}
 use Rattle.flow_meaning.specs.Step.{view}
 use Rattle.flow_meaning.specs.Class.{class_names}
 use Rattle.flow_meaning.specs.Frame.{Frame, look}
-use Rattle.flow_steps.specs.declared.frames.Stand.{Stand}
+use Rattle.flow_steps.specs.declared.frames.ControlPoint.{ControlPoint}
 use Rattle.flow_steps.specs.declared.next.Pace.{Pace}
 use Rattle.flow_steps.specs.declared.process.Process.{Process}
-use Rattle.flow_steps.specs.Sights.{with_left, Evaluates}
+use Rattle.flow_steps.specs.Evaluating.{with_left, Evaluates}
 use Rattle.flow_steps.specs.Stepping.{IsThrow}
-use Rattle.flow_follows.specs.Going.{MayBeStale}
+use Rattle.flow_follows.specs.Continuing.{MayBeStale}
 use Rattle.flow_follows.specs.Carried.{StepsAs}
 
 -- A value was given, with these turns left, and memory goes on with it.
@@ -33,7 +33,7 @@ module _ (r : RawTree) (ls : List Line) (m : Process) (p : Proc Frame) (i : ℕ)
   -- an error is thrown by an expression
   abbrev pub ThrowStep : Type 0
   ThrowStep =
-      (x : Scan) (s : Stand) (w : Supply) (t : ExprTree) (comes_to : Res ValueTree) (pace : Pace) (n : Process)
+      (x : Scan) (s : ControlPoint) (w : Supply) (t : ExprTree) (comes_to : Res ValueTree) (pace : Pace) (n : Process)
       → MayBeStale r ls x s m p i e f → fetch f.code f.block f.instr ≡ Last (ThrowLast t)
       → comes_to ≡ value (class_names r) (view w i p.core) (look f.mem) t
       → Evaluates s value_of comes_to m (IsThrow s) pace n → StepsAs r ls x w p i e pace n

@@ -9,16 +9,16 @@ use Rattle.flow_code.specs.Coded.{IsCoded}
 use Rattle.flow_resolved.specs.Resolving.{resolved}
 use Rattle.flow_resolved.specs.Evaluation.{value_at}
 use Rattle.flow_trace.specs.declared.line.Line.{Line}
-use Rattle.flow_meaning.specs.Asks.{Supply}
+use Rattle.flow_meaning.specs.Requests.{Supply}
 use Rattle.flow_meaning.specs.Process.{Entry, Proc}
-use Rattle.flow_meaning.specs.Occ.{Scan}
+use Rattle.flow_meaning.specs.References.{Scan}
 use Rattle.flow_meaning.specs.Evaluating.{value}
 use Rattle.flow_meaning.specs.Step.{view}
 use Rattle.flow_meaning.specs.Class.{class_names}
 use Rattle.flow_meaning.specs.Frame.{Frame, look}
 use Rattle.flow_steps.specs.declared.process.Process.{Process}
-use Rattle.flow_steps.specs.Sights.{sight_in, program_time}
-use Rattle.flow_follows.specs.Placing.{Stood}
+use Rattle.flow_steps.specs.Evaluating.{sight_in, program_time}
+use Rattle.flow_follows.specs.Placing.{RepresentsActor}
 
 -- The code is that of a program, and coded by some naming of it.
 pub record IsCodeOf (r : RawTree) (code : Code) : Type 0 where
@@ -30,7 +30,7 @@ pub record IsCodeOf (r : RawTree) (code : Code) : Type 0 where
 abbrev pub ExprFollows : Type 0
 ExprFollows =
     (r : RawTree) (ls : List Line) (x : Scan) (m : Process) (p : Proc Frame) (i : ℕ) (e : Entry) (f : Frame) (code : Code) (s : Supply)
-    (t : ExprTree) → Stood r ls x m p i e f → (c : IsCodeOf r code) → program_time m.time ≡ pos s.now
+    (t : ExprTree) → RepresentsActor r ls x m p i e f → (c : IsCodeOf r code) → program_time m.time ≡ pos s.now
     → length f.code.slots + length f.mem.locals ≤ 2 ^ 32
     → value_at (sight_in code i m) (resolved (record c.coded.names { place = place_in (length f.code.slots) }) t) m.left
     ≡ value (class_names r) (view s i p.core) (look f.mem) t

@@ -7,7 +7,7 @@ use Rattle.flow_code.specs.declared.program.Code.{Code}
 use Rattle.flow_trace.specs.declared.line.Line.{Line}
 use Rattle.flow_cancel.specs.declared.task.Task as stack
 use Rattle.flow_cancel.specs.declared.task.Task.TheVariants as task
-use Rattle.flow_meaning.specs.Asks.{Supply}
+use Rattle.flow_meaning.specs.Requests.{Supply}
 use Rattle.flow_meaning.specs.Process.{Task, Entry, Proc}
 use Rattle.flow_meaning.specs.Step.{silent, popped, step}
 use Rattle.flow_meaning.specs.Class.{classes}
@@ -20,7 +20,7 @@ use Rattle.flow_steps.specs.declared.call.Call.{Call}
 use Rattle.flow_steps.specs.declared.call.Call.TheVariants as call
 use Rattle.flow_steps.specs.declared.process.Process.{Process}
 use Rattle.flow_steps.specs.Tasks.{TopTaken, IsDone}
-use Rattle.flow_follows.specs.Shown.{Shown, Follows, Sound, with_task}
+use Rattle.flow_follows.specs.Matching.{ProcessRepresents, Matches, Sound, with_task}
 use Rattle.flow_follows.specs.Placing.{Acts}
 use Rattle.flow_follows.specs.Closing.{MayClose}
 use Rattle.flow_follows.specs.Tasking.{MayFire}
@@ -39,11 +39,11 @@ pub record TopOff (r : RawTree) (ls : List Line) (t : stack.Task) (start : Proce
   pub below : List Task
   pub tasks : p.core.tasks ≡ top ∷ below
   pub same : SameTask p t top
-  pub shown : Shown r ls (with_task top nothing_in_hand) start (popped below p)
+  pub shown : ProcessRepresents r ls (with_task top nothing_in_hand) start (popped below p)
 
 abbrev pub TopFollows : RawTree → List Line → Process → Proc Frame → Type 0
 TopFollows r ls m p =
-    (t : stack.Task) (start : Process) → Shown r ls nothing_in_hand m p → TopTaken t m start → TopOff r ls t start p
+    (t : stack.Task) (start : Process) → ProcessRepresents r ls nothing_in_hand m p → TopTaken t m start → TopOff r ls t start p
 
 -- What has to hold of a task when it is off. Of those that go on with steps of an actor nothing is said here.
 abbrev pub MayDo : Code → RawTree → Process → Proc Frame → stack.Task → Type 0
@@ -54,7 +54,7 @@ MayDo code r m p (task.Throw i err) = (e : Entry) × ((f : Frame) × (Acts r m.h
 MayDo code r m p (task.Catch i err) = Unit {0}
 MayDo code r m p _ = ⊥
 
-pub record Doable (code : Code) (r : RawTree) (m : Process) (p : Proc Frame) (t : stack.Task) : Type 0 where
+pub record IsEnabled (code : Code) (r : RawTree) (m : Process) (p : Proc Frame) (t : stack.Task) : Type 0 where
   pub sound : Sound p
   pub sorted : Sorted m.heap
   pub may : MayDo code r m p t
@@ -63,11 +63,11 @@ pub record Doable (code : Code) (r : RawTree) (m : Process) (p : Proc Frame) (t 
 pub record Steps (r : RawTree) (ls : List Line) (s : Supply) (p : Proc Frame) (n : Process) : Type 0 where
   pub after : Proc Frame
   pub steps : step (classes r) s p ≡ Some (silent after)
-  pub follows : Follows r ls nothing_in_hand n after
+  pub follows : Matches r ls nothing_in_hand n after
 
 abbrev pub TaskFollows : RawTree → List Line → Process → Proc Frame → Type 0
 TaskFollows r ls m p =
-    (code : Code) (s : Supply) (t : stack.Task) (start n : Process) → Shown r ls nothing_in_hand m p → m.asked ≡ None
+    (code : Code) (s : Supply) (t : stack.Task) (start n : Process) → ProcessRepresents r ls nothing_in_hand m p → m.asked ≡ None
     → TopTaken t m start
-    → ((below : List Task) (u : Task) → p.core.tasks ≡ u ∷ below → Doable code r start (popped below p) t)
+    → ((below : List Task) (u : Task) → p.core.tasks ≡ u ∷ below → IsEnabled code r start (popped below p) t)
     → IsDone code t start n → Steps r ls s p n

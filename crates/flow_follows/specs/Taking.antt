@@ -16,33 +16,33 @@ use Rattle.flow_cancel.specs.Leaving.{withdrawn}
 use Rattle.flow_numbered.specs.Numbered.{Numbered, thing, put}
 use Rattle.flow_meaning.specs.Cells.{Cell, taken, after_taking}
 use Rattle.flow_meaning.specs.Process.{Task, Entry, Core, Proc}
-use Rattle.flow_meaning.specs.Occ.{Scan, refs_in, value_in}
+use Rattle.flow_meaning.specs.References.{Scan, refs_in, value_in}
 use Rattle.flow_meaning.specs.Orderly.{Rising}
 use Rattle.flow_meaning.specs.Work.{running, leave_for, take_branch}
 use Rattle.flow_meaning.specs.Step.{proc, on_core}
 use Rattle.flow_meaning.specs.Frame.{Frame, lose}
-use Rattle.flow_picture.specs.Shows.{wait_spot}
+use Rattle.flow_picture.specs.Representing.{wait_spot}
 use Rattle.flow_picture.specs.Counted.{Agree}
 use Rattle.flow_picture.specs.Changes.{SameTask, put_cell}
 use Rattle.flow_picture.specs.Acting.{NoKeep}
 use Rattle.flow_picture.specs.Leaving.{RightKinds, left_wait}
 use Rattle.flow_picture.specs.Holds.{with_refs, AllThere}
-use Rattle.flow_steps.specs.declared.frames.Stand.{Stand}
+use Rattle.flow_steps.specs.declared.frames.ControlPoint.{ControlPoint}
 use Rattle.flow_steps.specs.declared.process.Process.{Process}
 use Rattle.flow_steps.specs.Holding.{on_heap, outcome_refs}
-use Rattle.flow_steps.specs.Standing.{gone}
+use Rattle.flow_steps.specs.Points.{gone}
 use Rattle.flow_steps.specs.Waiting.{left_for, Takes, TakesBranch}
-use Rattle.flow_follows.specs.Shown.{Shown, Follows, with_task}
-use Rattle.flow_follows.specs.Placing.{Stood}
+use Rattle.flow_follows.specs.Matching.{ProcessRepresents, Matches, with_task}
+use Rattle.flow_follows.specs.Placing.{RepresentsActor}
 
 -- Where the code has an actor stand is where its frame does: at the same block of the same class.
-pub record Standing (s : Stand) (i : ℕ) (f : Frame) : Type 0 where
+pub record PointMatches (s : ControlPoint) (i : ℕ) (f : Frame) : Type 0 where
   pub actor : s.actor ≡ actor_id i
   pub slots : s.class.now.slots ≡ length f.code.slots
   pub place : s.place ≡ f.block
 
 -- And there it is at the wait of a group, which ends the block, and whose branches have the same numbers.
-pub record AtWait (s : Stand) (f : Frame) (group : ℕ) : Type 0 where
+pub record AtWait (s : ControlPoint) (f : Frame) (group : ℕ) : Type 0 where
   pub last : s.block.now.last ≡ last.Choose group
   pub fetched : fetch f.code f.block f.instr ≡ Last (ChooseLast group)
   pub end : length s.block.now.body.items ≡ f.instr
@@ -65,37 +65,37 @@ module _ (r : RawTree) (ls : List Line) (m : Process) (p : Proc Frame) (i : ℕ)
   -- its operands leave all cells and are dropped
   abbrev pub ActorWithdrawn : Type 0
   ActorWithdrawn =
-      (x : Scan) → Stood r ls x m p i e f → MayGo i e p.core
-      → Stood r ls x (on_heap (withdrawn i) m) (on_core (left_wait i e) p) i (running e) f
+      (x : Scan) → RepresentsActor r ls x m p i e f → MayGo i e p.core
+      → RepresentsActor r ls x (on_heap (withdrawn i) m) (on_core (left_wait i e) p) i (running e) f
 
   -- its frame is told where it stands
   abbrev pub FrameTold : Type 0
   FrameTold =
-      (x : Scan) → Stood r ls x m p i e f → e.operands ≡ [] → e.suspended ≡ false
-      → Stood r ls x (on_heap (gone i f.block f.instr) m) p i e f
+      (x : Scan) → RepresentsActor r ls x m p i e f → e.operands ≡ [] → e.suspended ≡ false
+      → RepresentsActor r ls x (on_heap (gone i f.block f.instr) m) p i e f
 
   -- it leaves its wait for a task: its operands are dropped, then its locals, and then the task comes
   abbrev pub LeftFor : Type 0
   LeftFor =
-      (x : Scan) (s : Stand) (t : stack.Task) (u : Task) → Stood r ls (with_task u x) m p i e f → Standing s i f
+      (x : Scan) (s : ControlPoint) (t : stack.Task) (u : Task) → RepresentsActor r ls (with_task u x) m p i e f → PointMatches s i f
       → length s.block.now.body.items ≡ f.instr → SameTask p t u → MayGo i e p.core → NoKeep i (u ∷ [])
-      → Stood r ls x (on_heap (left_for s t) m)
+      → RepresentsActor r ls x (on_heap (left_for s t) m)
       (proc (leave_for i e (lose f).0 u p.core) (put p.actors i (lose f).1)) i (running e) (lose f).1
 
   -- A branch takes what its cell gives, where a turn is left, and the actor leaves its wait, with the line. Its entry among
   -- these need not say yet what its operands are.
   abbrev pub BranchFollows : Type 0
   BranchFollows =
-      (x : Scan) (s : Stand) (group b k : ℕ) (c : Cell) (n : Process) (es : Numbered Entry) → Stood r ls x m p i e f
-      → put es i (running e) ≡ put p.core.entries i (running e) → m.asked ≡ None → Standing s i f → AtWait s f group
+      (x : Scan) (s : ControlPoint) (group b k : ℕ) (c : Cell) (n : Process) (es : Numbered Entry) → RepresentsActor r ls x m p i e f
+      → put es i (running e) ≡ put p.core.entries i (running e) → m.asked ≡ None → PointMatches s i f → AtWait s f group
       → e.spot.group ≡ group → MayGo i e p.core → Takeable p k c
       → TakesBranch s b (record { 0 = k }) m n
-      → Follows r ls x n (proc (take_branch i b k e (lose f).0 (Some c) (record p.core { entries = es })) (put p.actors i (lose f).1))
+      → Matches r ls x n (proc (take_branch i b k e (lose f).0 (Some c) (record p.core { entries = es })) (put p.actors i (lose f).1))
 
 module _ (r : RawTree) (ls : List Line) (x : Scan) (m : Process) (p : Proc Frame) where
   -- what a branch takes comes to hand
   abbrev pub ContentTaken : Type 0
   ContentTaken =
-      (k : ℕ) (o : Outcome) (c : Cell) (n : Process) → Shown r ls x m p → Takeable p k c → Takes k o m n
+      (k : ℕ) (o : Outcome) (c : Cell) (n : Process) → ProcessRepresents r ls x m p → Takeable p k c → Takes k o m n
       → (taken c ≡ Some (outcome_of o))
-      × Shown r ls (with_refs (outcome_refs o) x) n (on_core (put_cell k (after_taking c)) p)
+      × ProcessRepresents r ls (with_refs (outcome_refs o) x) n (on_core (put_cell k (after_taking c)) p)

@@ -12,7 +12,7 @@ use Rattle.flow_cancel.specs.declared.task.Task.TheVariants as task
 use Rattle.flow_cancel.specs.Heap.{actor_id, cell_id}
 use Rattle.flow_meaning.specs.Cells.{FutureSide, side_of, Waiter, Cell, waiters}
 use Rattle.flow_meaning.specs.Process.{Entry, Proc}
-use Rattle.flow_meaning.specs.Occ.{Scan, one}
+use Rattle.flow_meaning.specs.References.{Scan, one}
 use Rattle.flow_meaning.specs.Dropping.{drop, fire}
 use Rattle.flow_meaning.specs.Step.{handle, scanned, on_core}
 use Rattle.flow_meaning.specs.Class.{classes}
@@ -20,14 +20,14 @@ use Rattle.flow_meaning.specs.Frame.{Frame, lose}
 use Rattle.flow_picture.specs.Counted.{nothing_in_hand}
 use Rattle.flow_picture.specs.Rested.{Sorted}
 use Rattle.flow_picture.specs.Holds.{There}
-use Rattle.flow_steps.specs.declared.frames.Stand.{Stand}
+use Rattle.flow_steps.specs.declared.frames.ControlPoint.{ControlPoint}
 use Rattle.flow_steps.specs.declared.process.Process.{Process}
 use Rattle.flow_steps.specs.Doing.{doing, telling}
-use Rattle.flow_steps.specs.Standing.{StandsNow}
+use Rattle.flow_steps.specs.Points.{IsAtPoint}
 use Rattle.flow_steps.specs.Tasks.{drops_one, Fires}
-use Rattle.flow_follows.specs.Shown.{Shown, Follows, Sound}
+use Rattle.flow_follows.specs.Matching.{ProcessRepresents, Matches, Sound}
 use Rattle.flow_follows.specs.Placing.{Acts}
-use Rattle.flow_follows.specs.Taking.{Standing, AtWait, MayGo, Takeable}
+use Rattle.flow_follows.specs.Taking.{PointMatches, AtWait, MayGo, Takeable}
 
 -- a suspended actor that waits at a cell: it stands at its wait, and its locals are empty
 pub record Suspended (code : Code) (r : RawTree) (m : Process) (p : Proc Frame) (w : Waiter) : Type 0 where
@@ -38,8 +38,8 @@ pub record Suspended (code : Code) (r : RawTree) (m : Process) (p : Proc Frame) 
   pub emptied : lose frame ≡ ([], frame)
   pub go : MayGo w.actor entry p.core
   pub group : ℕ
-  pub stands : (s : Stand) → StandsNow code.classes.items (actor_id w.actor) m s
-      → Standing s w.actor frame × AtWait s frame group
+  pub stands : (s : ControlPoint) → IsAtPoint code.classes.items (actor_id w.actor) m s
+      → PointMatches s w.actor frame × AtWait s frame group
 
 -- A cell that fires: what a branch takes from it is there, and its oldest waiter is suspended.
 pub record MayFire (code : Code) (r : RawTree) (m : Process) (p : Proc Frame) (k : ℕ) : Type 0 where
@@ -51,19 +51,19 @@ module _ (r : RawTree) (ls : List Line) (m : Process) (p : Proc Frame) where
   -- a reference in hand is dropped, where a turn is left
   abbrev pub DropDone : Type 0
   DropDone =
-      (kd : Kind) (k : ℕ) → Shown r ls (λ s j. one s j (side_of kd) k) m p → m.asked ≡ None → Sound p → Sorted m.heap
+      (kd : Kind) (k : ℕ) → ProcessRepresents r ls (λ s j. one s j (side_of kd) k) m p → m.asked ≡ None → Sound p → Sorted m.heap
       → There p (kd, k)
-      → Follows r ls nothing_in_hand (drops_one kd (cell_id k) m) (on_core (drop (scanned (classes r) p) kd k) p)
+      → Matches r ls nothing_in_hand (drops_one kd (cell_id k) m) (on_core (drop (scanned (classes r) p) kd k) p)
 
   -- a handler begins, with the line
   abbrev pub CatchDone : Type 0
   CatchDone =
-      (x : Scan) (i : ActorId) (e : ErrorCode) → Shown r ls x m p → m.asked ≡ None
-      → Shown r ls x (telling (line.Catch i e) (doing (task.Run i) m)) (on_core (handle i.0 e.0) p)
+      (x : Scan) (i : ActorId) (e : ErrorCode) → ProcessRepresents r ls x m p → m.asked ≡ None
+      → ProcessRepresents r ls x (telling (line.Catch i e) (doing (task.Run i) m)) (on_core (handle i.0 e.0) p)
 
   -- the oldest waiter of a cell takes its branch, and the fire goes on after it; or the fire, which is in hand, ends
   abbrev pub FireDone : Type 0
   FireDone =
-      (code : Code) (k : ℕ) (n : Process) → Shown r ls (λ s j. one s j FutureSide k) m p → m.asked ≡ None → Sound p
+      (code : Code) (k : ℕ) (n : Process) → ProcessRepresents r ls (λ s j. one s j FutureSide k) m p → m.asked ≡ None → Sound p
       → Sorted m.heap → MayFire code r m p k → Fires code (cell_id k) m n
-      → Follows r ls nothing_in_hand n (on_core (fire (scanned (classes r) p) k) p)
+      → Matches r ls nothing_in_hand n (on_core (fire (scanned (classes r) p) k) p)

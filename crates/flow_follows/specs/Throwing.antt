@@ -13,17 +13,17 @@ use Rattle.flow_code.specs.declared.program.Code.{Code}
 use Rattle.flow_trace.specs.declared.line.Line.{Line}
 use Rattle.flow_meaning.specs.Cells.{Side}
 use Rattle.flow_meaning.specs.Process.{Entry, Proc}
-use Rattle.flow_meaning.specs.Occ.{Scan}
+use Rattle.flow_meaning.specs.References.{Scan}
 use Rattle.flow_meaning.specs.Step.{throw_with}
 use Rattle.flow_meaning.specs.Frame.{Frame, read, emptied, raise}
 use Rattle.flow_picture.specs.Holding.{held}
-use Rattle.flow_steps.specs.declared.frames.Stand.{Stand}
+use Rattle.flow_steps.specs.declared.frames.ControlPoint.{ControlPoint}
 use Rattle.flow_steps.specs.declared.process.Process.{Process}
-use Rattle.flow_steps.specs.Standing.{StandsNow}
+use Rattle.flow_steps.specs.Points.{IsAtPoint}
 use Rattle.flow_steps.specs.Tasks.{Raised}
-use Rattle.flow_follows.specs.Shown.{Shown}
-use Rattle.flow_follows.specs.Placing.{Stood, HasLocals}
-use Rattle.flow_follows.specs.Taking.{Standing, MayGo}
+use Rattle.flow_follows.specs.Matching.{ProcessRepresents}
+use Rattle.flow_follows.specs.Placing.{RepresentsActor, HasLocals}
+use Rattle.flow_follows.specs.Taking.{PointMatches, MayGo}
 
 -- the catch part of a block and the one that it is coded from, whose locals stand behind so many slots
 abbrev pub SameCatcher : (slots : ℕ) → Option Catcher → Option CatcherTree → Type 0
@@ -42,13 +42,13 @@ pub record CatcherFits (f : Frame) (t : CatcherTree) : Type 0 where
 -- An actor that may be thrown an error: its block's catch part is coded, and fits.
 pub record MayThrow (code : Code) (m : Process) (p : Proc Frame) (i : ActorId) (e : Entry) (f : Frame) : Type 0 where
   pub go : MayGo i.0 e p.core
-  pub stands : (s : Stand) → StandsNow code.classes.items i m s
-      → Standing s i.0 f × SameCatcher (length f.code.slots) s.block.now.catcher (catcher_at f.code f.block)
+  pub stands : (s : ControlPoint) → IsAtPoint code.classes.items i m s
+      → PointMatches s i.0 f × SameCatcher (length f.code.slots) s.block.now.catcher (catcher_at f.code f.block)
   pub fits : (t : CatcherTree) → catcher_at f.code f.block ≡ Some t → CatcherFits f t
 
 -- The line; then its operands are dropped, and the values that leave its variables; then the handler begins, or it ends.
 abbrev pub ThrowDone : RawTree → List Line → Process → Proc Frame → Type 0
 ThrowDone r ls m p =
     (x : Scan) (code : Code) (i : ActorId) (err : ErrorCode) (e : Entry) (f : Frame) (n : Process)
-    → Stood r ls x m p i.0 e f → m.asked ≡ None → MayThrow code m p i e f → Raised code i err m n
-    → Shown r ls x n (throw_with i.0 err.0 (raise err.0 f) p).0
+    → RepresentsActor r ls x m p i.0 e f → m.asked ≡ None → MayThrow code m p i e f → Raised code i err m n
+    → ProcessRepresents r ls x n (throw_with i.0 err.0 (raise err.0 f) p).0

@@ -7,19 +7,19 @@ use Rattle.flow_trace.specs.declared.line.Line.{Line}
 use Rattle.flow_numbered.specs.Numbered.{Numbered, thing, put}
 use Rattle.flow_meaning.specs.Cells.{Ref, Cell, taken}
 use Rattle.flow_meaning.specs.Process.{Entry, Proc}
-use Rattle.flow_meaning.specs.Occ.{Scan, refs_in, value_in}
+use Rattle.flow_meaning.specs.References.{Scan, refs_in, value_in}
 use Rattle.flow_meaning.specs.React.{wait}
 use Rattle.flow_meaning.specs.Step.{proc}
 use Rattle.flow_meaning.specs.Frame.{Frame, lose}
-use Rattle.flow_picture.specs.Shows.{wait_spot}
+use Rattle.flow_picture.specs.Representing.{wait_spot}
 use Rattle.flow_picture.specs.Leaving.{wait_kind}
 use Rattle.flow_picture.specs.Holds.{AllThere}
-use Rattle.flow_steps.specs.declared.frames.Stand.{Stand}
+use Rattle.flow_steps.specs.declared.frames.ControlPoint.{ControlPoint}
 use Rattle.flow_steps.specs.declared.process.Process.{Process}
 use Rattle.flow_steps.specs.Waiting.{Waits}
-use Rattle.flow_follows.specs.Shown.{Follows}
-use Rattle.flow_follows.specs.Placing.{Stood}
-use Rattle.flow_follows.specs.Taking.{Standing, AtWait, MayGo}
+use Rattle.flow_follows.specs.Matching.{Matches}
+use Rattle.flow_follows.specs.Placing.{RepresentsActor}
+use Rattle.flow_follows.specs.Taking.{PointMatches, AtWait, MayGo}
 
 -- each operand is of the kind by which one waits at its cell, which is there
 abbrev pub Waitable : Numbered Cell → List Ref → Type 0
@@ -27,8 +27,8 @@ Waitable cs [] = Unit {0}
 Waitable cs (q ∷ qs) = ((c : Cell) × (thing cs q.1 ≡ Some c) × (q.0 ≡ wait_kind (Some c))) × Waitable cs qs
 
 -- An actor that runs, stands at a wait and has kept its operands, of which there are some.
-pub record MayAwait (s : Stand) (p : Proc Frame) (i group : ℕ) (e : Entry) (f : Frame) : Type 0 where
-  pub standing : Standing s i f
+pub record MayAwait (s : ControlPoint) (p : Proc Frame) (i group : ℕ) (e : Entry) (f : Frame) : Type 0 where
+  pub standing : PointMatches s i f
   pub wait : AtWait s f (suc group)
   pub go : MayGo i e p.core
   pub awake : e.suspended ≡ false
@@ -43,6 +43,6 @@ pub record MayAwait (s : Stand) (p : Proc Frame) (i group : ℕ) (e : Entry) (f 
 -- dropped; where a stream refuses, that is thrown.
 abbrev pub WaitDone : RawTree → List Line → Process → Proc Frame → Type 0
 WaitDone r ls m p =
-    (x : Scan) (s : Stand) (i group : ℕ) (e : Entry) (f : Frame) (n : Process) → Stood r ls x m p i e f
+    (x : Scan) (s : ControlPoint) (i group : ℕ) (e : Entry) (f : Frame) (n : Process) → RepresentsActor r ls x m p i e f
     → m.asked ≡ None → MayAwait s p i group e f → Waits s (suc group) m n
-    → Follows r ls x n (proc (wait i (wait_spot f) (thing p.core.entries i) (lose f).0 p.core) (put p.actors i (record (lose f).1 { state = suc group })))
+    → Matches r ls x n (proc (wait i (wait_spot f) (thing p.core.entries i) (lose f).0 p.core) (put p.actors i (record (lose f).1 { state = suc group })))

@@ -8,16 +8,16 @@ ghost use Rattle.flow_meaning.specs.Frame.{Frame};
 ghost use Rattle.flow_steps.specs.declared.process.Process.{Process};
 ghost use Rattle.flow_follows.specs.Waiting.{WaitDone};
 ghost use Rattle.flow_follows.specs.Placing.{ForActors};
-ghost use Rattle.flow_follows.specs.Keeping as law;
+ghost use Rattle.flow_follows.specs.Operands as law;
 
 /// An operand in hand is kept in memory as the definitions keep it: a marked actor leaves its wait and is thrown that it was
 /// cancelled, an operand that is ready is taken, and otherwise the actor goes on.
-pub fn operands_follow()
+pub fn operands_refine()
     ensures { ForActors law.OperandFollows }
 {}
 
 /// An actor that has kept all its operands takes the first that is ready; otherwise it waits for all of them, with the line, and
 /// its locals are dropped; where a stream refuses it, that is thrown.
-pub fn suspensions_follow()
+pub fn suspensions_refine()
     ensures { (r : RawTree) (ls : List Line) (m : Process) (p : Proc Frame) → WaitDone r ls m p }
 {}

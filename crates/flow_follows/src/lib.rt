@@ -3,7 +3,7 @@
 //! bodies: each contract is a law.
 #![tactic(auto)]
 
-pub mod bringing;
+pub mod delivering;
 pub mod going;
 pub mod keeping;
 pub mod placing;

@@ -11,7 +11,7 @@ ghost use Rattle.flow_follows.specs.Throwing.{ThrowDone};
 ghost use Rattle.flow_follows.specs.Stepped.{TopFollows, TaskFollows};
 
 /// A reference is dropped in memory, a handler begins, a cell fires and an error is thrown as the definitions have it.
-pub fn tasks_follow()
+pub fn simple_tasks_refine()
     ensures drop { (r : RawTree) (ls : List Line) (m : Process) (p : Proc Frame)
         → law.DropDone r ls m p }
     ensures catch { (r : RawTree) (ls : List Line) (m : Process) (p : Proc Frame)
@@ -24,7 +24,7 @@ pub fn tasks_follow()
 
 /// The newest task is taken off in memory as in the process; and a drop, a fire, the begin of a handler, a thrown error and the
 /// end of an actor, done in memory, are each a step of the class machine.
-pub fn steps_follow()
+pub fn task_steps_refine()
     ensures top { (r : RawTree) (ls : List Line) (m : Process) (p : Proc Frame)
         → TopFollows r ls m p }
     ensures task { (r : RawTree) (ls : List Line) (m : Process) (p : Proc Frame)

@@ -6,13 +6,13 @@ ghost use Rattle.flow_trace.specs.declared.line.Line.{Line};
 ghost use Rattle.flow_meaning.specs.Process.{Proc};
 ghost use Rattle.flow_meaning.specs.Frame.{Frame};
 ghost use Rattle.flow_steps.specs.declared.process.Process.{Process};
-ghost use Rattle.flow_follows.specs.Shown.{Always};
+ghost use Rattle.flow_follows.specs.Matching.{Always};
 ghost use Rattle.flow_follows.specs.Working as law;
 
 /// Where a process in memory shows one of the definitions, it does so after each thing that both do to their own state: a turn
 /// is taken, a task comes on top, references count or are dropped, a cell gets content or is broken, the result of an effect is
 /// given, an actor leaves its wait or is cancelled, a reference is lost.
-pub fn work_follows()
+pub fn state_changes_refine()
     ensures turn { Always law.TurnTaken }
     ensures task { Always law.TaskDone }
     ensures held { Always law.RefHeld }

@@ -14,10 +14,10 @@ use Rattle.flow_cancel.specs.Heap.{HeapTree, holds_nothing}
 use Rattle.flow_cancel.proofs.Puts.{found_put}
 use Rattle.flow_meaning.specs.Frame.{Frame, over}
 use Rattle.flow_meaning.specs.Process.{Entry}
-use Rattle.flow_picture.specs.Shows.{FrameShows, stands, ended, held_from, wait_spot}
-use Rattle.flow_steps.specs.Standing.{reframed, place_put}
-use Rattle.flow_steps.specs.Straying.{PlaceMissing, SomePlaceMissing}
-use Rattle.flow_steps.specs.AmissTasks.{NoPlaceFor, no_frame_left, no_variable, no_error_place}
+use Rattle.flow_picture.specs.Representing.{FrameRepresents, stands, ended, held_from, wait_spot}
+use Rattle.flow_steps.specs.Points.{reframed, place_put}
+use Rattle.flow_steps.specs.Stuck.{PlaceMissing, SomePlaceMissing}
+use Rattle.flow_steps.specs.StuckTasks.{NoPlaceFor, no_frame_left, no_variable, no_error_place}
 use Rattle.flow_found.specs.Found.{AllBelow, ErrorBelow, ForgetFound, HandlerFound, BringFound}
 use Rattle.flow_found.proofs.References.{some_none, none_missing}
 use Rattle.flow_found.proofs.Losing.{may_fill}
@@ -30,7 +30,7 @@ nothing_mapped (x ∷ xs) e = absurd (cc (e))
 holds_none : (m : FrameTree Value) → all_empty m.places ≡ true → m.callbacks ≡ [] → holds_nothing (Some m) ≡ true
 holds_none m e f = rw (e, f) refl
 
-over_holds : (r : RawTree) (m : FrameTree Value) (e : Entry) (f : Frame) → FrameShows r m e f → f ≡ over → e.operands ≡ [] → holds_nothing (Some m) ≡ true
+over_holds : (r : RawTree) (m : FrameTree Value) (e : Entry) (f : Frame) → FrameRepresents r m e f → f ≡ over → e.operands ≡ [] → holds_nothing (Some m) ≡ true
 over_holds r m e f (stands s) is none =
     holds_none m (nothing_mapped m.places (s.places ∙ rw is refl)) (s.callbacks ∙ ap (held_from (wait_spot f).first) none)
 over_holds r m e f (ended x) is none = holds_none m x.places x.callbacks

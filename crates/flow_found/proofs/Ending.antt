@@ -15,8 +15,8 @@ use Rattle.flow_cancel.specs.Heap.{HeapTree}
 use Rattle.flow_cancel.specs.Dropping.{Lost, cell_less, drop_cell, may_drop_cell}
 use Rattle.flow_cancel.proofs.Puts.{found_put}
 use Rattle.flow_picture.proofs.Losing.{counts_are}
-use Rattle.flow_steps.specs.Straying.{MayNotSet, LosesAmiss, may_not, breaks, cancels}
-use Rattle.flow_steps.specs.AmissTasks.{NoPromise, ResultAmiss}
+use Rattle.flow_steps.specs.Stuck.{MayNotSet, LosesStuck, may_not, breaks, cancels}
+use Rattle.flow_steps.specs.StuckTasks.{NoPromise, ResultStuck}
 use Rattle.flow_found.specs.Found.{EndFound}
 
 -- an unset result with one promise
@@ -31,18 +31,18 @@ abbrev broken : Dropped → Bool
 broken memory.Broken = true
 broken _ = false
 
-set_found : (k f : ℕ) (ws : List Waiter) (h : HeapTree) → stored.thing h.cells.things k ≡ Some (result f ws) → ResultAmiss k h → ⊥
+set_found : (k f : ℕ) (ws : List Waiter) (h : HeapTree) → stored.thing h.cells.things k ≡ Some (result f ws) → ResultStuck k h → ⊥
 set_found k f ws h at (inl m) = let none = subst NoPromise at m in cc (none)
 set_found k f ws h at (inr m) = false≢true (subst MayNotSet at m)
 
 -- where no future refers to it, it goes
-gone : (k : ℕ) (ws : List Waiter) (h : HeapTree) → stored.thing h.cells.things k ≡ Some (result 0 ws) → slice_get ws 0 ≡ None → LosesAmiss kind.Promise k h → ⊥
+gone : (k : ℕ) (ws : List Waiter) (h : HeapTree) → stored.thing h.cells.things k ≡ Some (result 0 ws) → slice_get ws 0 ≡ None → LosesStuck kind.Promise k h → ⊥
 gone k ws h at alone (may_not e) = let x : is_none (slice_get ws 0) ≡ false = sym (ap (may_drop_cell Promise) at) ∙ e in false≢true (sym x ∙ ap is_none alone)
 gone k ws h at alone (breaks g e m) = false≢true (sym (ap (λ (l : Lost). freed l.1) (sym (ap (drop_cell Promise k h) at) ∙ e)))
 gone k ws h at alone (cancels g a e m) = false≢true (sym (ap (λ (l : Lost). freed l.1) (sym (ap (drop_cell Promise k h) at) ∙ e)))
 
 -- where one does, it is broken
-heard : (k f : ℕ) (ws : List Waiter) (h : HeapTree) → stored.thing h.cells.things k ≡ Some (result (suc f) ws) → LosesAmiss kind.Promise k h → ⊥
+heard : (k f : ℕ) (ws : List Waiter) (h : HeapTree) → stored.thing h.cells.things k ≡ Some (result (suc f) ws) → LosesStuck kind.Promise k h → ⊥
 heard k f ws h at (may_not e) = false≢true (sym (sym (ap (may_drop_cell Promise) at) ∙ e))
 heard k f ws h at (breaks g e m) =
     let same = ap (λ (l : Lost). l.0) (sym (ap (drop_cell Promise k h) at) ∙ e) in
@@ -58,7 +58,7 @@ end_found k h m at unset one alone is = by m.references.futures refl is
         at
         ∙ ap Some (ap (λ c. record m { content = c }) unset ∙ ap (λ (z : Counts). record m { content = None; references = z }) (counts_are m.references 1 f one e))
 
-    by : (f : ℕ) → m.references.futures ≡ f → ResultAmiss k.0 h ⊎ LosesAmiss kind.Promise k.0 h → ⊥
+    by : (f : ℕ) → m.references.futures ≡ f → ResultStuck k.0 h ⊎ LosesStuck kind.Promise k.0 h → ⊥
     by f e (inl x) = set_found k.0 f m.waiters h (same f e) x
     by zero e (inr x) = gone k.0 m.waiters h (same 0 e) (alone e) x
     by (suc f) e (inr x) = heard k.0 f m.waiters h (same (suc f) e) x

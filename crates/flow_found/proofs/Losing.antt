@@ -16,7 +16,7 @@ use Rattle.flow_numbered.specs.Numbered as stored
 use Rattle.flow_class.specs.Classes.{RawTree}
 use Rattle.flow_cancel.specs.declared.task.Dropped.TheVariants as memory
 use Rattle.flow_cancel.specs.Heap.{HeapTree}
-use Rattle.flow_meaning.specs.Asks.{Spot}
+use Rattle.flow_meaning.specs.Requests.{Spot}
 use Rattle.flow_numbered.specs.Numbered.{thing}
 use Rattle.flow_meaning.specs.Cells.{Side, PromiseSide, FutureSide, side_of, Cell, Single, Stream, is_some, is_complete}
 use Rattle.flow_meaning.specs.Dropping.{Loss, Kept, Freed, Broken, Orphan, Unheard, loss, promises_gone, futures_gone, port_of}
@@ -24,10 +24,10 @@ use Rattle.flow_meaning.specs.Frame.{Frame}
 use Rattle.flow_meaning.specs.Process.{Entry, Proc}
 use Rattle.flow_meaning.specs.Work.{owner}
 use Rattle.flow_picture.specs.Counted.{references}
-use Rattle.flow_picture.specs.Losing.{RightCell, Follows}
-use Rattle.flow_picture.specs.Shows.{Shows, CellShows, ActorShows, nobody, somebody, spot_of_actor}
+use Rattle.flow_picture.specs.Losing.{RightCell, LossMatches}
+use Rattle.flow_picture.specs.Representing.{Represents, CellRepresents, ActorRepresents, nobody, somebody, spot_of_actor}
 use Rattle.flow_picture.proofs.Loss.{may_drop_it, loss_follows}
-use Rattle.flow_steps.specs.Straying.{MayNotSet, MayNotSend, MayNotFill, CancelsAmiss, may_not, breaks, cancels}
+use Rattle.flow_steps.specs.Stuck.{MayNotSet, MayNotSend, MayNotFill, CancelsStuck, may_not, breaks, cancels}
 use Rattle.flow_found.specs.Found.{LossFound}
 use Rattle.flow_found.proofs.References.{some_none}
 
@@ -40,7 +40,7 @@ end_unset : {A : Type 0} (f : A → ℕ) (o : Option A) → is_some (option_map 
 end_unset f None e m = false≢true m
 end_unset f (Some x) e m = false≢true (sym e)
 
-may_set : (spots : ℕ → Spot) (o : Option (CellTree Outcome)) (u : Option (StreamTree Value)) (c : Cell) → CellShows spots o u (Some c) → RightCell kind.Promise c
+may_set : (spots : ℕ → Spot) (o : Option (CellTree Outcome)) (u : Option (StreamTree Value)) (c : Cell) → CellRepresents spots o u (Some c) → RightCell kind.Promise c
     → is_complete c ≡ false → MayNotSet o → ⊥
 may_set spots (Some m) None (Single v ws) s right e n = content_unset m.content (ap is_some (sym s.0) ∙ e) n
 may_set spots None None (Single v ws) s right e n = s
@@ -48,7 +48,7 @@ may_set spots None (Some u) (Single v ws) s right e n = s
 may_set spots (Some m) (Some u) (Single v ws) s right e n = s
 may_set spots o u (Stream q d w) s right e n = right
 
-may_send : (spots : ℕ → Spot) (o : Option (CellTree Outcome)) (u : Option (StreamTree Value)) (c : Cell) → CellShows spots o u (Some c) → RightCell kind.PromiseStream c
+may_send : (spots : ℕ → Spot) (o : Option (CellTree Outcome)) (u : Option (StreamTree Value)) (c : Cell) → CellRepresents spots o u (Some c) → RightCell kind.PromiseStream c
     → is_complete c ≡ false → MayNotSend u → ⊥
 may_send spots None (Some u) (Stream q d w) s right e n = end_unset _ u.end (ap is_some (sym s.1) ∙ e) n
 may_send spots None None (Stream q d w) s right e n = s
@@ -64,12 +64,12 @@ stream_of : (c : Cell) → RightCell kind.FutureStream c → RightCell kind.Prom
 stream_of (Stream q d w) right = tt
 stream_of (Single v ws) right = right
 
-pub may_fill : (r : RawTree) (h : HeapTree) (p : Proc Frame) (kd : Kind) (k : ℕ) (c : Cell) → Shows r h p → thing p.core.cells k ≡ Some c → RightCell kd c
+pub may_fill : (r : RawTree) (h : HeapTree) (p : Proc Frame) (kd : Kind) (k : ℕ) (c : Cell) → Represents r h p → thing p.core.cells k ≡ Some c → RightCell kd c
     → is_complete c ≡ false → MayNotFill kd k h → ⊥
 may_fill r h p kd k c shows at right e n = by kd right n
   where
-    cell : CellShows (spot_of_actor p.actors) (stored.thing h.cells.things k) (stored.thing h.streams.things k) (Some c)
-    cell = subst (CellShows (spot_of_actor p.actors) (stored.thing h.cells.things k) (stored.thing h.streams.things k)) at (shows.cells k)
+    cell : CellRepresents (spot_of_actor p.actors) (stored.thing h.cells.things k) (stored.thing h.streams.things k) (Some c)
+    cell = subst (CellRepresents (spot_of_actor p.actors) (stored.thing h.cells.things k) (stored.thing h.streams.things k)) at (shows.cells k)
 
     by : (kd : Kind) → RightCell kd c → MayNotFill kd k h → ⊥
     by kind.Promise right n = may_set (spot_of_actor p.actors) (stored.thing h.cells.things k) (stored.thing h.streams.things k) c cell right e n
@@ -102,10 +102,10 @@ broken_open FutureSide zero (suc f) c o q e = absurd (false≢true (ap is_broken
 broken_open FutureSide (suc p) (suc f) c o q e = absurd (false≢true (ap is_broken e))
 
 -- an unfinished actor that is shown is there in memory, with its frame
-pub may_cancel : (r : RawTree) (h : HeapTree) (p : Proc Frame) (i : ℕ) (e : Entry) → Shows r h p → thing p.core.entries i ≡ Some e → CancelsAmiss i h → ⊥
+pub may_cancel : (r : RawTree) (h : HeapTree) (p : Proc Frame) (i : ℕ) (e : Entry) → Represents r h p → thing p.core.entries i ≡ Some e → CancelsStuck i h → ⊥
 may_cancel r h p i e shows at m = by (shows.actors i) m
   where
-    by : ActorShows r (stored.thing h.actors.things i) (stored.thing h.frames.things i) (thing p.core.entries i) (thing p.actors i) → CancelsAmiss i h → ⊥
+    by : ActorRepresents r (stored.thing h.actors.things i) (stored.thing h.frames.things i) (thing p.core.entries i) (thing p.actors i) → CancelsStuck i h → ⊥
     by (nobody n f none a) m = some_none (sym at ∙ none)
     by (somebody x) (inl none) = some_none (sym x.noted ∙ none)
     by (somebody x) (inr none) = some_none (sym x.framed ∙ none)
@@ -114,10 +114,10 @@ pub loss_found : LossFound
 loss_found r h p kd k c l (may_not e) = false≢true (sym e ∙ may_drop_it r h p kd k c l)
 loss_found r h p kd k c l (breaks g e m) =
     broken (loss (side_of kd) (references PromiseSide k p) (references FutureSide k p) c (owner k p.core.entries) (port_of k p.core.ports)) refl
-    (subst (λ x. Follows r p k x (loss (side_of kd) (references PromiseSide k p) (references FutureSide k p) c (owner k p.core.entries) (port_of k p.core.ports))) e (loss_follows r h p kd k c l))
+    (subst (λ x. LossMatches r p k x (loss (side_of kd) (references PromiseSide k p) (references FutureSide k p) c (owner k p.core.entries) (port_of k p.core.ports))) e (loss_follows r h p kd k c l))
   where
     broken : (x : Loss) → loss (side_of kd) (references PromiseSide k p) (references FutureSide k p) c (owner k p.core.entries) (port_of k p.core.ports) ≡ x
-        → Follows r p k (g, memory.Broken) x → ⊥
+        → LossMatches r p k (g, memory.Broken) x → ⊥
     broken Broken is same =
         may_fill r g p kd k c same.0 l.cell l.right
         (broken_open (side_of kd) (references PromiseSide k p) (references FutureSide k p) c (owner k p.core.entries) (port_of k p.core.ports) is) m
@@ -127,10 +127,10 @@ loss_found r h p kd k c l (breaks g e m) =
     broken (Unheard q) is f = f
 loss_found r h p kd k c l (cancels g a e m) =
     orphan (loss (side_of kd) (references PromiseSide k p) (references FutureSide k p) c (owner k p.core.entries) (port_of k p.core.ports))
-    (subst (λ x. Follows r p k x (loss (side_of kd) (references PromiseSide k p) (references FutureSide k p) c (owner k p.core.entries) (port_of k p.core.ports))) e (loss_follows r h p kd k c l))
+    (subst (λ x. LossMatches r p k x (loss (side_of kd) (references PromiseSide k p) (references FutureSide k p) c (owner k p.core.entries) (port_of k p.core.ports))) e (loss_follows r h p kd k c l))
   where
-    orphan : (x : Loss) → Follows r p k (g, memory.Cancel a) x → ⊥
-    orphan (Orphan i x) f = may_cancel r g p i x f.2.0 f.1 (subst (λ (b : ActorId). CancelsAmiss b.0 g) f.0 m)
+    orphan : (x : Loss) → LossMatches r p k (g, memory.Cancel a) x → ⊥
+    orphan (Orphan i x) f = may_cancel r g p i x f.2.0 f.1 (subst (λ (b : ActorId). CancelsStuck b.0 g) f.0 m)
     orphan Kept f = f
     orphan Freed f = f
     orphan Broken f = f

@@ -11,17 +11,17 @@ use Rattle.flow_stream.specs.Streams.{StreamTree}
 use Rattle.flow_numbered.specs.Numbered as stored
 use Rattle.flow_class.specs.Classes.{RawTree}
 use Rattle.flow_cancel.specs.Heap.{HeapTree}
-use Rattle.flow_meaning.specs.Asks.{Spot}
+use Rattle.flow_meaning.specs.Requests.{Spot}
 use Rattle.flow_meaning.specs.Cells.{Ref, Cell, Single, Stream}
 use Rattle.flow_meaning.specs.Frame.{Frame}
 use Rattle.flow_meaning.specs.Process.{Proc}
-use Rattle.flow_picture.specs.Shows.{Shows, CellShows, spot_of_actor}
+use Rattle.flow_picture.specs.Representing.{Represents, CellRepresents, spot_of_actor}
 use Rattle.flow_picture.specs.Losing.{RightCell}
 use Rattle.flow_picture.specs.Holds.{There, hold, with_refs}
 use Rattle.flow_picture.proofs.Holds.{held_holds}
-use Rattle.flow_steps.specs.Straying.{Missing}
+use Rattle.flow_steps.specs.Stuck.{Missing}
 use Rattle.flow_frame.specs.declared.held.Held.{Held}
-use Rattle.flow_steps.specs.AmissWaits.{NoCell}
+use Rattle.flow_steps.specs.StuckWaits.{NoCell}
 use Rattle.flow_found.specs.Found.{NoneMissing, CellsFound}
 
 pub some_none : {A : Type 0} {x : A} → Some x ≡ None → ⊥
@@ -29,7 +29,7 @@ some_none h = cc
 
 -- where a cell of a kind is shown, it is there
 shown_there : (kd : Kind) (spots : ℕ → Spot) (h : HeapTree) (k : ℕ) (o : Option (CellTree Outcome)) (u : Option (StreamTree Value)) (c : Cell) → stored.thing h.cells.things k ≡ o
-    → stored.thing h.streams.things k ≡ u → CellShows spots o u (Some c) → RightCell kd c → Missing kd k h → ⊥
+    → stored.thing h.streams.things k ≡ u → CellRepresents spots o u (Some c) → RightCell kd c → Missing kd k h → ⊥
 shown_there kind.Promise spots h k (Some m) u c a b s right missing = some_none (sym a ∙ missing)
 shown_there kind.Future spots h k (Some m) u c a b s right missing = some_none (sym a ∙ missing)
 shown_there kind.PromiseStream spots h k o (Some m) c a b s right missing = some_none (sym b ∙ missing)
@@ -47,10 +47,10 @@ shown_there kind.FutureStream spots h k (Some m) None (Stream q e w) a b s right
 shown_there kind.PromiseStream spots h k (Some m) None (Single v ws) a b s right missing = right
 shown_there kind.FutureStream spots h k (Some m) None (Single v ws) a b s right missing = right
 
-pub not_missing : (r : RawTree) (h : HeapTree) (p : Proc Frame) (q : Ref) → Shows r h p → There p q → Missing q.0 q.1 h → ⊥
+pub not_missing : (r : RawTree) (h : HeapTree) (p : Proc Frame) (q : Ref) → Represents r h p → There p q → Missing q.0 q.1 h → ⊥
 not_missing r h p q s t m =
     shown_there q.0 (spot_of_actor p.actors) h q.1 (stored.thing h.cells.things q.1) (stored.thing h.streams.things q.1) t.cell refl refl
-    (subst (λ o. CellShows (spot_of_actor p.actors) (stored.thing h.cells.things q.1) (stored.thing h.streams.things q.1) o) t.at (s.cells q.1)) t.right m
+    (subst (λ o. CellRepresents (spot_of_actor p.actors) (stored.thing h.cells.things q.1) (stored.thing h.streams.things q.1) o) t.at (s.cells q.1)) t.right m
 
 pub none_missing : NoneMissing
 none_missing r x h p [] hs t m = m

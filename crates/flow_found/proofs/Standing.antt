@@ -17,13 +17,13 @@ use Rattle.flow_frame.specs.Frames.{FrameTree, standing_of}
 use Rattle.flow_cancel.specs.Heap.{HeapTree}
 use Rattle.flow_meaning.specs.Process.{Entry, Proc}
 use Rattle.flow_meaning.specs.Frame.{Frame}
-use Rattle.flow_picture.specs.Shows.{Position, here, at_wait, spot_by, wait_spot}
-use Rattle.flow_steps.specs.Standing.{block_in}
-use Rattle.flow_steps.specs.Straying.{Nowhere, no_class, no_wait, no_block, BlockMissing, no_frame, frame}
+use Rattle.flow_picture.specs.Representing.{Position, here, at_wait, spot_by, wait_spot}
+use Rattle.flow_steps.specs.Points.{block_in}
+use Rattle.flow_steps.specs.Stuck.{Nowhere, no_class, no_wait, no_block, BlockMissing, no_frame, frame}
 use Rattle.flow_follows.specs.Placing.{Acts}
 use Rattle.flow_follows.specs.Coded.{CodedBy, AtHome}
 use Rattle.flow_follows.proofs.Stands.{get_mapped, both_mapped, at_end, group_coded}
-use Rattle.flow_found.specs.Found.{StandsSomewhere, StandFound}
+use Rattle.flow_found.specs.Found.{HasPoint, StandFound}
 
 -- the wait at which a frame stands
 waits_at : (c : ClassTree) (x : Fetched) (g : ℕ) → (spot_by c x).group ≡ suc g → x ≡ Last (ChooseLast (suc g))
@@ -44,7 +44,7 @@ coded_there k first (h ∷ hs) [] n b cs a d e = cc (d)
 coded_there k first (h ∷ hs) (g ∷ gs) zero b cs a d e = cc (e)
 coded_there k first (h ∷ hs) (g ∷ gs) (suc n) b cs a d e = coded_there k (first + length g) hs gs n b cs a d e
 
-module _ (r : RawTree) (classes : List Class) (h : HeapTree) (p : Proc Frame) (i : ℕ) (e : Entry) (f : Frame) (c : CodedBy r classes) (home : AtHome f.code) (a : Acts r h p i e f) (stands : StandsSomewhere f) where
+module _ (r : RawTree) (classes : List Class) (h : HeapTree) (p : Proc Frame) (i : ℕ) (e : Entry) (f : Frame) (c : CodedBy r classes) (home : AtHome f.code) (a : Acts r h p i e f) (stands : HasPoint f) where
   abbrev code : Coding
   code = coding c.names c.class (length f.code.slots)
 

@@ -15,21 +15,21 @@ use Rattle.flow_cell.specs.Cells.{CellTree}
 use Rattle.flow_stream.specs.Streams.{StreamTree, ready, head}
 use Rattle.flow_stream.specs.declared.head.Head.TheVariants.{Nothing}
 use Rattle.flow_cancel.specs.Heap.{HeapTree}
-use Rattle.flow_meaning.specs.Asks.{Spot}
+use Rattle.flow_meaning.specs.Requests.{Spot}
 use Rattle.flow_meaning.specs.Cells.{Cell, Single, Stream, taken}
-use Rattle.flow_meaning.specs.Occ.{Scan}
+use Rattle.flow_meaning.specs.References.{Scan}
 use Rattle.flow_meaning.specs.Process.{Proc}
 use Rattle.flow_meaning.specs.Frame.{Frame}
 use Rattle.flow_picture.specs.Holds.{Holds}
-use Rattle.flow_picture.specs.Shows.{CellShows, spot_of_actor}
+use Rattle.flow_picture.specs.Representing.{CellRepresents, spot_of_actor}
 use Rattle.flow_steps.specs.Seen.{content_of, content_in}
 use Rattle.flow_steps.specs.Holding.{outcome_refs}
 use Rattle.flow_steps.specs.Waiting.{ready_in, ready_at}
-use Rattle.flow_steps.specs.Straying.{SomeMissing}
+use Rattle.flow_steps.specs.Stuck.{SomeMissing}
 use Rattle.flow_follows.specs.Taking.{Takeable}
 use Rattle.flow_found.specs.Found.{TakenFound}
 use Rattle.flow_found.proofs.References.{none_missing}
-use Rattle.flow_steps.specs.AmissWaits.{NoCopy, NothingIn, NothingTaken}
+use Rattle.flow_steps.specs.StuckWaits.{NoCopy, NothingIn, NothingTaken}
 
 no_head : (q : List Value) (e : Option ErrorCode) → ready q e ≡ true → head q e ≡ Nothing → ⊥
 no_head [] None is h = false≢true is
@@ -55,7 +55,7 @@ taken_there r in_hand h p k holds there is nothing =
     ready_taken k h (λ o e m. none_missing r in_hand h p (outcome_refs o) holds (there o e) m) is nothing
 
 -- what a single result in memory holds is what a branch takes from it
-content_is : (spots : ℕ → Spot) (a : Option (CellTree Outcome)) (b : Option (StreamTree Value)) (c : Cell) (o : OutcomeTree) → CellShows spots a b (Some c)
+content_is : (spots : ℕ → Spot) (a : Option (CellTree Outcome)) (b : Option (StreamTree Value)) (c : Cell) (o : OutcomeTree) → CellRepresents spots a b (Some c)
     → content_of a ≡ Some o → taken c ≡ Some o
 content_is spots None b c o s e = absurd (cc (e))
 content_is spots (Some m) None (Single x ws) o s e = s.0 ∙ e
@@ -72,4 +72,4 @@ taken_by r in_hand h p k c holds t is nothing = taken_there r in_hand h p k hold
     seen : (o : OutcomeTree) → content_in h.cells k ≡ Some o → taken c ≡ Some o
     seen o e =
         content_is spots (thing h.cells.things k) (thing h.streams.things k) c o
-        (subst (CellShows spots (thing h.cells.things k) (thing h.streams.things k)) t.at (holds.shows.cells k)) e
+        (subst (CellRepresents spots (thing h.cells.things k) (thing h.streams.things k)) t.at (holds.shows.cells k)) e

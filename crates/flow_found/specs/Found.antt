@@ -18,18 +18,18 @@ use Rattle.flow_cancel.specs.Heap.{HeapTree}
 use Rattle.flow_meaning.specs.Cells.{Ref, Cell, is_complete}
 use Rattle.flow_numbered.specs.Numbered.{thing}
 use Rattle.flow_meaning.specs.Frame.{Frame, over}
-use Rattle.flow_meaning.specs.Occ.{Scan}
+use Rattle.flow_meaning.specs.References.{Scan}
 use Rattle.flow_meaning.specs.Process.{Entry, Proc}
 use Rattle.flow_picture.specs.Holds.{Holds, AllThere}
 use Rattle.flow_picture.specs.Losing.{RightCell, Losing}
 use Rattle.flow_picture.specs.Acting.{At}
 use Rattle.flow_steps.specs.Holding.{outcome_refs}
-use Rattle.flow_steps.specs.Straying.{SomeMissing, StandsNowhere, LosesAmiss}
-use Rattle.flow_steps.specs.AmissTasks.{HandlesAmiss, EndsAmiss, ForgetsAmiss, BringAmiss}
+use Rattle.flow_steps.specs.Stuck.{SomeMissing, HasNoPoint, LosesStuck}
+use Rattle.flow_steps.specs.StuckTasks.{HandlesStuck, EndsStuck, ForgetsStuck, BringStuck}
 use Rattle.flow_value.specs.View.{outcome_of}
 use Rattle.flow_steps.specs.Seen.{content_in}
 use Rattle.flow_steps.specs.Waiting.{ready_at}
-use Rattle.flow_steps.specs.AmissWaits.{NothingTaken, SomeNoCell}
+use Rattle.flow_steps.specs.StuckWaits.{NothingTaken, SomeNoCell}
 use Rattle.flow_follows.specs.Coded.{CodedBy, AtHome}
 use Rattle.flow_follows.specs.Placing.{Acts}
 
@@ -40,7 +40,7 @@ NoneMissing =
     → SomeMissing qs h → ⊥
 
 -- a frame stands at an instruction, and if that is a wait, its class has the group
-pub record StandsSomewhere (f : Frame) : Type 0 where
+pub record HasPoint (f : Frame) : Type 0 where
   pub there : fetch f.code f.block f.instr ≡ Nothing → ⊥
   pub group : (g : ℕ) → fetch f.code f.block f.instr ≡ Last (ChooseLast g)
       → (cs : List CallbackTree) × (group_at f.code.groups g ≡ Some cs)
@@ -49,24 +49,24 @@ pub record StandsSomewhere (f : Frame) : Type 0 where
 abbrev pub StandFound : Type 0
 StandFound =
     (r : RawTree) (classes : List Class) (h : HeapTree) (p : Proc Frame) (i : ℕ) (e : Entry) (f : Frame) → CodedBy r classes
-    → AtHome f.code → Acts r h p i e f → StandsSomewhere f → StandsNowhere classes i h → ⊥
+    → AtHome f.code → Acts r h p i e f → HasPoint f → HasNoPoint classes i h → ⊥
 
 -- and what the loss of a reference leads to can be done
 abbrev pub LossFound : Type 0
-LossFound = (r : RawTree) (h : HeapTree) (p : Proc Frame) (kd : Kind) (k : ℕ) (c : Cell) → Losing r h p kd k c → LosesAmiss kd k h → ⊥
+LossFound = (r : RawTree) (h : HeapTree) (p : Proc Frame) (kd : Kind) (k : ℕ) (c : Cell) → Losing r h p kd k c → LosesStuck kd k h → ⊥
 
 -- an actor that is over, without operands, may be forgotten
 abbrev pub ForgetFound : Type 0
 ForgetFound =
     (r : RawTree) (h : HeapTree) (p : Proc Frame) (i : ℕ) (a : At r h p i) → a.frame ≡ over → a.entry.operands ≡ []
-    → ForgetsAmiss i h → ⊥
+    → ForgetsStuck i h → ⊥
 
 -- The outcome of an actor goes to its result, where that is unset, the actor's promise is the one that counts, and nobody waits
 -- at it where no future refers to it.
 abbrev pub EndFound : Type 0
 EndFound =
     (k : CellId) (h : HeapTree) (m : CellTree Outcome) → stored.thing h.cells.things k.0 ≡ Some m → m.content ≡ None
-    → m.references.promises ≡ 1 → (m.references.futures ≡ 0 → slice_get m.waiters 0 ≡ None) → EndsAmiss (Some k) h → ⊥
+    → m.references.promises ≡ 1 → (m.references.futures ≡ 0 → slice_get m.waiters 0 ≡ None) → EndsStuck (Some k) h → ⊥
 
 -- an error finds its handler's places, where the frame has as many
 abbrev pub AllBelow : ℕ → List ℕ → Type 0
@@ -80,14 +80,14 @@ ErrorBelow l (Some n) = n < l
 abbrev pub HandlerFound : Type 0
 HandlerFound =
     (i : ℕ) (c : Catcher) (h : HeapTree) (m : FrameTree Value) → stored.thing h.frames.things i ≡ Some m
-    → AllBelow (length m.places) c.drops.items → ErrorBelow (length m.places) c.error → HandlesAmiss i c h → ⊥
+    → AllBelow (length m.places) c.drops.items → ErrorBelow (length m.places) c.error → HandlesStuck i c h → ⊥
 
 -- content that the world brings comes into a cell of its kind to which more can be sent, where its references are there
 abbrev pub BringFound : Type 0
 BringFound =
     (r : RawTree) (in_hand : Scan) (h : HeapTree) (p : Proc Frame) (kd : Kind) (k : ℕ) (c : Cell) (o : Outcome)
     → Holds r in_hand h p → AllThere p (outcome_refs o) → thing p.core.cells k ≡ Some c → RightCell kd c
-    → is_complete c ≡ false → BringAmiss kd k o h → ⊥
+    → is_complete c ≡ false → BringStuck kd k o h → ⊥
 
 -- where a cell is ready, and what it holds leads to cells there, a branch takes something from it
 abbrev pub TakenFound : Type 0

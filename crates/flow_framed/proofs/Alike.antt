@@ -9,7 +9,7 @@ use Rattle.flow_trace.specs.declared.line.Line.TheVariants as line
 use Rattle.flow_worldfile.specs.Worlds as file
 use Rattle.flow_tree.specs.Decls.{ProgramTree}
 use Rattle.flow_class.specs.Classes.{RawTree}
-use Rattle.flow_meaning.specs.Asks.{Spot}
+use Rattle.flow_meaning.specs.Requests.{Spot}
 use Rattle.flow_meaning.specs.Burst.{Live, Burst}
 use Rattle.flow_meaning.specs.Class.{classes}
 use Rattle.flow_meaning.specs.Law.{Simulates}
@@ -20,14 +20,14 @@ use Rattle.flow_meaning.specs.Process.{Entry, Core, Engine}
 use Rattle.flow_meaning.specs.RunLaw.{SamePlace, SamePlaces, SameWorld, SameStates}
 use Rattle.flow_meaning.specs.Runs.{Runs, IsRun, before, after, lines_of}
 use Rattle.flow_meaning.specs.Runs as run
-use Rattle.flow_meaning.specs.Sights.{WaitAlike}
+use Rattle.flow_meaning.specs.Observations.{WaitAlike}
 use Rattle.flow_meaning.specs.Source.{source, names_of}
 use Rattle.flow_meaning.specs.Views.{spot_at, branches_from, actor_spot, frame_spot}
 use Rattle.flow_meaning.specs.World.{Place, World, Begun, next_of, begun_by, ending, at_start}
 use Rattle.flow_meaning.proofs.LiftRuns.{runs_follow, runs_return, traces_follow, traces_return}
 use Rattle.flow_meaning.proofs.Once.{run_once}
 use Rattle.flow_meaning.proofs.Sights.{IsGiven, given_first, given_later, spots_same}
-use Rattle.flow_carried.specs.Standing.{Stands}
+use Rattle.flow_carried.specs.Matching.{ActorMatches}
 use Rattle.flow_carried.specs.Carried.{AreCarried}
 use Rattle.flow_carried.proofs.Follows.{carried, waits_alike}
 use Rattle.flow_framed.specs.Framed.{branch_line, actor_lines, process_lines, places_lines, seen_if, Shows, ends, spent, event, IsShown, SourceShown, ClassShown}
@@ -190,7 +190,7 @@ module _ {A B : Type 0} (e : Engine A) (d : Engine B) (R : Phase → A → B →
 -- Programs and their classes.
 module _ (p : ProgramTree) (r : RawTree) (h : AreCarried p r) where
   pub shown_of_text : (f : Bool) (w : file.World) (lines : List Line) → SourceShown f p w lines → ClassShown f r w lines
-  shown_of_text = shown_follow (source p) (classes r) (Stands (names_of p)) (carried p r h) actor_spot frame_spot (waits_alike p r h)
+  shown_of_text = shown_follow (source p) (classes r) (ActorMatches (names_of p)) (carried p r h) actor_spot frame_spot (waits_alike p r h)
 
   pub shown_of_classes : (f : Bool) (w : file.World) (lines : List Line) → ClassShown f r w lines → SourceShown f p w lines
-  shown_of_classes = shown_return (source p) (classes r) (Stands (names_of p)) (carried p r h) actor_spot frame_spot (waits_alike p r h)
+  shown_of_classes = shown_return (source p) (classes r) (ActorMatches (names_of p)) (carried p r h) actor_spot frame_spot (waits_alike p r h)

@@ -16,7 +16,7 @@ use Rattle.flow_tree.specs.Body.{End, IfElseStmt, ReturnStmt, ThrowStmt, TryStmt
 use Rattle.flow_tree.specs.Decls.{ActorDecl, ProgramTree}
 use Rattle.flow_class.specs.declared.class.Slotted.TheVariants.{Local}
 use Rattle.flow_class.specs.Classes.{RawTree, EffectInstr, ActInstr, DropInstr, GotoLast, TestLast, ChooseLast, ReturnLast, ThrowLast}
-use Rattle.flow_meaning.specs.Asks.{Spot}
+use Rattle.flow_meaning.specs.Requests.{Spot}
 use Rattle.flow_meaning.specs.Process.{Engine}
 use Rattle.flow_meaning.specs.Source.{source}
 use Rattle.flow_meaning.specs.Class.{classes}

@@ -3,7 +3,7 @@ use Rattle.std.proofs.Common.{◌≡◌, Bool, false, List, [], ◌∷◌, ◌++
 use Rattle.flow_trace.specs.declared.line.Line.{Line}
 use Rattle.flow_trace.specs.declared.line.Line.TheVariants as line
 use Rattle.flow_worldfile.specs.Worlds as file
-use Rattle.flow_meaning.specs.Asks.{Spot}
+use Rattle.flow_meaning.specs.Requests.{Spot}
 use Rattle.flow_meaning.specs.Process.{Engine}
 use Rattle.flow_meaning.specs.World.{World, at_start}
 use Rattle.flow_meaning.specs.Runs.{Runs, IsRun, after, lines_of}

@@ -13,17 +13,17 @@ use Rattle.flow_steps.specs.declared.process.Next.{Next}
 use Rattle.flow_steps.specs.declared.process.Next.TheVariants as next
 use Rattle.flow_steps.specs.declared.process.Process.{Process}
 use Rattle.flow_steps.specs.Tasks.{Tasks, all_spent, no_task, task_asks, task_done}
-use Rattle.flow_steps.specs.Sights.{program_time}
+use Rattle.flow_steps.specs.Evaluating.{program_time}
 use Rattle.flow_machine.specs.declared.host.Burst.{Burst}
 use Rattle.flow_machine.specs.declared.host.Burst.TheVariants as burst
 use Rattle.flow_machine.specs.Bursts.{Bursts, rests, runs_out, asks}
-use Rattle.flow_follows.specs.Shown.{told, AreSpent}
+use Rattle.flow_follows.specs.Matching.{told, AreSpent}
 use Rattle.flow_kept.specs.Allowed.{BetweenTasks}
-use Rattle.flow_bursts.specs.Bursting.{Follows, no_line}
+use Rattle.flow_bursts.specs.Bursting.{SimulatesBurst, no_line}
 use Rattle.flow_bursts.proofs.Reached.{stopped_rests}
 use Rattle.flow_boundaries.proofs.Bringing.{burst_begins}
 use Rattle.flow_goes.proofs.Goes.{program_follows}
-use Rattle.flow_goes.specs.Brought as law
+use Rattle.flow_goes.specs.Delivering as law
 
 both_ways : {b : Bool} → b ≡ true → b ≡ false → ⊥
 both_ways e f = cc
@@ -41,7 +41,7 @@ and_nothing (l ∷ ls) = ap (λ k. l ∷ k) (and_nothing ls)
 
 module _ {A W : Type 0} (serves : Host W) (shows : A → Numbered ℕ → W → Type 0) (wrote : A → List Line → A → Type 0) (code : Code) (processes : ℕ) (r : RawTree) where
   -- nothing is left to do in either
-  nothing_more : (m : Process) (a : A) (p : Proc Frame) (w : W) → AreSpent [] m p → m.asked ≡ None → Follows serves shows wrote code processes r [] a p w burst.Spent m a
+  nothing_more : (m : Process) (a : A) (p : Proc Frame) (w : W) → AreSpent [] m p → m.asked ≡ None → SimulatesBurst serves shows wrote code processes r [] a p w burst.Spent m a
   nothing_more m a p w are none = record {
     after = p;
     out = w;
@@ -51,17 +51,17 @@ module _ {A W : Type 0} (serves : Host W) (shows : A → Numbered ℕ → W → 
     ends = (are.spent, are.halted, are.lines ∙ ap (λ z. [] ++ told z) none);
   }
 
-  spent_follows : (m n : Process) (a b : A) (p : Proc Frame) (w : W) (e : Burst) → AreSpent [] m p → m.asked ≡ None → Bursts serves shows wrote code processes m a e n b → Follows serves shows wrote code processes r [] a p w e n b
+  spent_follows : (m n : Process) (a b : A) (p : Proc Frame) (w : W) (e : Burst) → AreSpent [] m p → m.asked ≡ None → Bursts serves shows wrote code processes m a e n b → SimulatesBurst serves shows wrote code processes r [] a p w e n b
   spent_follows m n a b p w _ are none (rests _ _ _ tasks) = let x = (spent_tasks code m n next.Rested are.spent tasks).0 in absurd cc
   spent_follows m n a b p w _ are none (runs_out _ _ _ tasks) =
       let x = (spent_tasks code m n next.Spent are.spent tasks).1 in
-      subst (λ (k : Process). Follows serves shows wrote code processes r [] a p w burst.Spent k a) (sym x) (nothing_more m a p w are none)
+      subst (λ (k : Process). SimulatesBurst serves shows wrote code processes r [] a p w burst.Spent k a) (sym x) (nothing_more m a p w are none)
   spent_follows m n a b p w e are none (asks _ k j _ _ d _ _ tasks served more) = let x = (spent_tasks code m k next.Asks are.spent tasks).0 in absurd cc
 
   pub event_follows : law.EventFollows serves shows wrote code processes r
   event_follows program steady now m n a b p w e is kept world clock time among bursts = by_begin (burst_begins r now m p is kept)
     where
-      by_begin : BetweenTasks r [] m p ⊎ AreSpent [] m p → Follows serves shows wrote code processes r [] a p w e n b
+      by_begin : BetweenTasks r [] m p ⊎ AreSpent [] m p → SimulatesBurst serves shows wrote code processes r [] a p w e n b
       by_begin (inl between) =
           program_follows serves shows wrote code processes r program steady [] m n a b p w e
           (record { between = between; asked = is.asked; world = world; time = is.time ∙ time; clock = subst (λ t. program_time t ≡ pos t) (sym is.time) clock; among = among; poised = is.poised }) bursts

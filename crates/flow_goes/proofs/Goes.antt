@@ -14,8 +14,8 @@ use Rattle.flow_cancel.specs.declared.task.Task.TheVariants as task
 use Rattle.flow_cancel.specs.Heap.{HeapTree, actor_id, has_number}
 use Rattle.flow_numbered.specs.Numbered.{Numbered, thing}
 use Rattle.flow_meaning.specs.Cells.{Ref}
-use Rattle.flow_meaning.specs.Asks as asking
-use Rattle.flow_meaning.specs.Asks.{Spot, Supply}
+use Rattle.flow_meaning.specs.Requests as asking
+use Rattle.flow_meaning.specs.Requests.{Spot, Supply}
 use Rattle.flow_meaning.specs.Process.{Task, Halt, Run, Give, Throw, Catch, Store, Keep, Close, Fire, Drop, Entry, Proc}
 use Rattle.flow_meaning.specs.Dropping.{port_of}
 use Rattle.flow_meaning.specs.Orderly.{UnlessStopped, tasks_of}
@@ -27,26 +27,26 @@ use Rattle.flow_meaning.specs.Frame.{Frame, over}
 use Rattle.flow_meaning.proofs.Shifts.{run_of, keep_of, same_of}
 use Rattle.flow_picture.specs.Counted.{nothing_in_hand}
 use Rattle.flow_picture.specs.Rested.{Sorted}
-use Rattle.flow_picture.specs.Shows.{spot_of_actor}
+use Rattle.flow_picture.specs.Representing.{spot_of_actor}
 use Rattle.flow_unstuck.specs.Ending.{Reaches, here, onward}
 use Rattle.flow_unstuck.specs.Places.{HoldsTypes}
 use Rattle.flow_unstuck.specs.Fitting.{typed_by, DoingFits, PostureFits}
 use Rattle.flow_unstuck.proofs.StepFits.{actor_here}
 use Rattle.flow_steps.specs.declared.call.Call.{Call}
-use Rattle.flow_steps.specs.declared.frames.Stand.{Stand}
+use Rattle.flow_steps.specs.declared.frames.ControlPoint.{ControlPoint}
 use Rattle.flow_steps.specs.declared.next.Pace.{Pace}
 use Rattle.flow_steps.specs.declared.next.Pace.TheVariants.{On, Off}
 use Rattle.flow_steps.specs.declared.process.Process.{Process}
 use Rattle.flow_steps.specs.Holding.{on_heap}
-use Rattle.flow_steps.specs.Sights.{program_time}
+use Rattle.flow_steps.specs.Evaluating.{program_time}
 use Rattle.flow_steps.specs.Tasks.{TopTaken, IsDone, bound}
-use Rattle.flow_follows.specs.Shown.{Sound, Follows, shows, ends}
+use Rattle.flow_follows.specs.Matching.{Sound, Matches, shows, ends}
 use Rattle.flow_follows.specs.Placing.{Acts}
 use Rattle.flow_follows.specs.Coded.{CodedBy}
 use Rattle.flow_follows.specs.Stepped.{OnlyTells, TopOff}
 use Rattle.flow_follows.proofs.Doing.{top_follows}
 use Rattle.flow_awake.specs.Awake.{HasCallback}
-use Rattle.flow_kept.specs.Kept.{Kept}
+use Rattle.flow_kept.specs.Invariant.{ProcessInvariant}
 use Rattle.flow_kept.specs.Staying.{ports_after, Stays}
 use Rattle.flow_kept.specs.Allowed.{BetweenTasks}
 use Rattle.flow_kept.proofs.Keeping.{step_keeps}
@@ -54,9 +54,9 @@ use Rattle.flow_kept.proofs.Off.{sound_off, unfinished}
 use Rattle.flow_kept.proofs.Acting.{acts_at, standing_there}
 use Rattle.flow_kept.proofs.Quiet.{Calm, Quiet, After, after_then, quiet_still, quiet_then, on_heap_quiet, left_over, keeps_after, step_after}
 use Rattle.flow_kept.proofs.Stays.{task_stays, bound_stays, popped_quiet}
-use Rattle.flow_bursts.specs.Bursting.{ports_left, Abroad, TaskGoes, by_itself, by_the_world}
+use Rattle.flow_bursts.specs.Bursting.{ports_left, RepresentsInWorld, TaskGoes, by_itself, by_the_world}
 use Rattle.flow_bursts.proofs.Rows.{burst_follows}
-use Rattle.flow_executes.specs.Going.{Silent, no_more, then_on, MayStep, moves, chooses, Leads, stays_there, goes_on, Began, by_value, by_operand}
+use Rattle.flow_executes.specs.Continuing.{Silent, no_more, then_on, MayStep, moves, chooses, Leads, stays_there, goes_on, Began, by_value, by_operand}
 use Rattle.flow_executes.specs.Running.{Allows, AsksAtLast, RanOff}
 use Rattle.flow_executes.specs.Tasking as executes
 use Rattle.flow_executes.specs.Tasking.{is_step, goes_further, runs}
@@ -65,7 +65,7 @@ use Rattle.flow_executes.proofs.Quiet.{step_quiet}
 use Rattle.flow_executes.proofs.Choices.{with_last}
 use Rattle.flow_poised.proofs.Next.{at_next_step, at_kept_operand}
 use Rattle.flow_poised.proofs.Branches.{branched}
-use Rattle.flow_poised.specs.Poised.{Branched}
+use Rattle.flow_poised.specs.StaleWaits.{Branched}
 use Rattle.flow_effects.specs.Asking as effects
 use Rattle.flow_effects.specs.Asking.{AsksAs, Answered, draws, delays, listens, disks, sends}
 use Rattle.flow_asked.proofs.Answers.{ask_follows}
@@ -128,11 +128,11 @@ after_asked (On t) m n none a = inl (a.asked ∙ none)
 after_asked Off m n none a = inr refl
 
 -- an actor that takes a step is there
-entered_by : (r : RawTree) (ls : List Line) (x : _) (s : Stand) (m : Process) (p : Proc Frame) (i : ℕ) (e : Entry) (f : Frame) → MayStep r ls x s m p i e f → thing p.core.entries i ≡ Some e
+entered_by : (r : RawTree) (ls : List Line) (x : _) (s : ControlPoint) (m : Process) (p : Proc Frame) (i : ℕ) (e : Entry) (f : Frame) → MayStep r ls x s m p i e f → thing p.core.entries i ≡ Some e
 entered_by r ls x s m p i e f (moves st state) = st.stood.acts.entered
 entered_by r ls x s m p i e f (chooses at) = at.stood.acts.entered
 
-acting_by : (r : RawTree) (ls : List Line) (x : _) (s : Stand) (m : Process) (p : Proc Frame) (i : ℕ) (e : Entry) (f : Frame) → MayStep r ls x s m p i e f → thing p.actors i ≡ Some f
+acting_by : (r : RawTree) (ls : List Line) (x : _) (s : ControlPoint) (m : Process) (p : Proc Frame) (i : ℕ) (e : Entry) (f : Frame) → MayStep r ls x s m p i e f → thing p.actors i ≡ Some f
 acting_by r ls x s m p i e f (moves st state) = st.acting
 acting_by r ls x s m p i e f (chooses at) = at.stood.acts.acting
 
@@ -142,11 +142,11 @@ unstopped r w p None x h e = refl
 unstopped r w p (Some k) x h e = absurd (let a : None ≡ Some x = sym (ap (λ o. step_if (classes r) w o p) h) ∙ e in cc (a))
 
 module _ (r : RawTree) (code : Code) (program : IsProgram r code) where
-  kept_on : (w : Supply) (p q : Proc Frame) → Kept r p → step (classes r) w p ≡ Some (silent q) → q.core.halted ≡ None → Kept r q
+  kept_on : (w : Supply) (p q : Proc Frame) → ProcessInvariant r p → step (classes r) w p ≡ Some (silent q) → q.core.halted ≡ None → ProcessInvariant r q
   kept_on w p q k e goes =
-      subst (λ x. UnlessStopped x (Kept r q)) goes (step_keeps r w p (silent q) program.whole.valid k (unstopped r w p p.core.halted (silent q) refl e) e)
+      subst (λ x. UnlessStopped x (ProcessInvariant r q)) goes (step_keeps r w p (silent q) program.whole.valid k (unstopped r w p p.core.halted (silent q) refl e) e)
 
-  few_of : (p : Proc Frame) (i : ℕ) (e : Entry) (f : Frame) → Kept r p → thing p.core.entries i ≡ Some e → thing p.actors i ≡ Some f → length f.code.slots + length f.mem.locals ≤ 2 ^ 32
+  few_of : (p : Proc Frame) (i : ℕ) (e : Entry) (f : Frame) → ProcessInvariant r p → thing p.core.entries i ≡ Some e → thing p.actors i ≡ Some f → length f.code.slots + length f.mem.locals ≤ 2 ^ 32
   few_of p i e f k at acting =
       let u = unfinished r p k i e at in
       let same : u.frame ≡ f = same_of (sym u.acting ∙ acting) in
@@ -176,10 +176,10 @@ module _ (r : RawTree) (code : Code) (program : IsProgram r code) where
       by_posture true c g is h = few_held c g is h.0 h.1.holds
       by_posture false c g is h = by_doing c g (tasks_of i p.core.tasks) is h
 
-  pub running : (p : Proc Frame) (i : ℕ) (e : Entry) (f : Frame) → Kept r (on_core (pushed (Run i)) p) → thing p.core.entries i ≡ Some e → thing p.actors i ≡ Some f → Running r p i e f
+  pub running : (p : Proc Frame) (i : ℕ) (e : Entry) (f : Frame) → ProcessInvariant r (on_core (pushed (Run i)) p) → thing p.core.entries i ≡ Some e → thing p.actors i ≡ Some f → Running r p i e f
   running p i e f k at acting = record { whole = program.whole; kept = k; entered = at; acting = acting }
 
-  pub allows : (w : Supply) → Allows r w (Kept r)
+  pub allows : (w : Supply) → Allows r w (ProcessInvariant r)
   allows w = record {
     kept = kept_on w;
     next = λ p i e f k at acting. step_allowed r w p i e f (running p i e f k at acting);
@@ -191,7 +191,7 @@ module _ (r : RawTree) (code : Code) (program : IsProgram r code) where
     state_is h q i e f a zero_state g at = let same : a.memory ≡ g = same_of (sym a.framed ∙ at) in subst (λ (z : FrameTree Value). z.state ≡ 0) same zero_state
 
     -- an actor that is to take its next step, or to keep an operand, is in no state of a wait
-    pub no_wait : Rattle.flow_poised.specs.Poised.Poised m.heap → (t : stack.Task) (start : Process) → TopTaken t m start → InNoWait m.heap t
+    pub no_wait : Rattle.flow_poised.specs.StaleWaits.NoStaleWaits m.heap → (t : stack.Task) (start : Process) → TopTaken t m start → InNoWait m.heap t
     no_wait poised t start taken = by_task t (top_follows r ls m p t start now.shown taken)
       where
         by_task : (t : stack.Task) → TopOff r ls t start p → InNoWait m.heap t
@@ -222,14 +222,14 @@ module _ (r : RawTree) (code : Code) (program : IsProgram r code) where
     silent_reaches w p q (no_more _) = here
     silent_reaches w p q (then_on _ b _ one rest) = onward (live b w) (ap (advanced serves w) one) (silent_reaches w b q rest)
 
-    module _ (ls : List Line) (m start n : Process) (a : A) (p : Proc Frame) (w : W) (t : stack.Task) (now : Abroad serves shown_by wrote code processes r ls m a p w) (taken : TopTaken t m start) (done : IsDone code t start n) where
+    module _ (ls : List Line) (m start n : Process) (a : A) (p : Proc Frame) (w : W) (t : stack.Task) (now : RepresentsInWorld serves shown_by wrote code processes r ls m a p w) (taken : TopTaken t m start) (done : IsDone code t start n) where
       stays : Stays m n
       stays = task_stays code t m start n now.asked taken done
 
       abbrev Goes : Type 0
       Goes = TaskGoes serves shown_by wrote code processes r ls n a p w
 
-      ports : (q : Proc Frame) → Follows r ls nothing_in_hand n q → OnlyTells n.asked → Silent r (serves.supply w) p q → n.spent ≡ false → q.core.ports ≡ ports_left n.asked p.core.ports
+      ports : (q : Proc Frame) → Matches r ls nothing_in_hand n q → OnlyTells n.asked → Silent r (serves.supply w) p q → n.spent ≡ false → q.core.ports ≡ ports_left n.asked p.core.ports
       ports q (shows s) told row unspent =
           ports_remain r (serves.supply w) m.heap n.heap p q n.asked now.between.shown.holds.shows s.holds.shows now.between.kept.tied.numbers now.between.sorted.ports row told stays.ports
       ports q (ends s) told row unspent = absurd (both_ways s.spent unspent)
@@ -240,10 +240,10 @@ module _ (r : RawTree) (code : Code) (program : IsProgram r code) where
       clock : program_time m.time ≡ pos (serves.supply w).now
       clock = now.clock ∙ ap pos now.time
 
-      ran_off : RanOff r ls nothing_in_hand (serves.supply w) (Kept r) code p n → Goes
+      ran_off : RanOff r ls nothing_in_hand (serves.supply w) (ProcessInvariant r) code p n → Goes
       ran_off x = by_itself x.after (silent_reaches w p x.after x.steps) x.follows x.told (ports x.after x.follows x.told x.steps)
 
-      asks_last : (i : ℕ) (from : Process) → Sorted from.heap → AsksAtLast r ls nothing_in_hand (serves.supply w) (Kept r) code program.coded i p from n → Goes
+      asks_last : (i : ℕ) (from : Process) → Sorted from.heap → AsksAtLast r ls nothing_in_hand (serves.supply w) (ProcessInvariant r) code program.coded i p from n → Goes
       asks_last i from sorted x =
           by_answer
           (ask_follows r ls x.memory x.process i x.entry x.frame nothing_in_hand x.stand (serves.supply w) code Off n x.may x.standing (record { sound = sound; sorted = at_ask; asked = x.none }) x.time
@@ -291,18 +291,18 @@ module _ (r : RawTree) (code : Code) (program : IsProgram r code) where
           let after = began_after start g.pace g.between none g.began in
           let calm = after_calm g.pace start g.between after in
           by_end i g.between (calm_sorted start g.between calm (calm_sorted m start off.calm now.between.sorted))
-          (further_follows r ls nothing_in_hand (serves.supply w) (Kept r) code i class p start n program.coded (allows (serves.supply w)) now.between.kept g (after_asked g.pace start g.between none after)
+          (further_follows r ls nothing_in_hand (serves.supply w) (ProcessInvariant r) code i class p start n program.coded (allows (serves.supply w)) now.between.kept g (after_asked g.pace start g.between none after)
           (ap program_time (calm.time ∙ off.calm.time) ∙ clock))
         where
-          by_end : (i : ℕ) (from : Process) → Sorted from.heap → RanOff r ls nothing_in_hand (serves.supply w) (Kept r) code p n ⊎ AsksAtLast r ls nothing_in_hand (serves.supply w) (Kept r) code program.coded i p from n → Goes
+          by_end : (i : ℕ) (from : Process) → Sorted from.heap → RanOff r ls nothing_in_hand (serves.supply w) (ProcessInvariant r) code p n ⊎ AsksAtLast r ls nothing_in_hand (serves.supply w) (ProcessInvariant r) code program.coded i p from n → Goes
           by_end i from sorted (inl x) = ran_off x
           by_end i from sorted (inr x) = asks_last i from sorted x
       by_goes (runs i q e f is begins) =
-          by_end (subst (λ z. RanOff r ls nothing_in_hand (serves.supply w) (Kept r) code z n ⊎ AsksAtLast r ls nothing_in_hand (serves.supply w) (Kept r) code program.coded i z start n) (sym is)
-          (runs_follow r ls nothing_in_hand (serves.supply w) (Kept r) code start q i e f begins.stand n program.coded (allows (serves.supply w)) (subst (Kept r) is now.between.kept) begins.may begins.stands (off.asked ∙ now.asked)
+          by_end (subst (λ z. RanOff r ls nothing_in_hand (serves.supply w) (ProcessInvariant r) code z n ⊎ AsksAtLast r ls nothing_in_hand (serves.supply w) (ProcessInvariant r) code program.coded i z start n) (sym is)
+          (runs_follow r ls nothing_in_hand (serves.supply w) (ProcessInvariant r) code start q i e f begins.stand n program.coded (allows (serves.supply w)) (subst (ProcessInvariant r) is now.between.kept) begins.may begins.stands (off.asked ∙ now.asked)
           (ap program_time off.calm.time ∙ clock) begins.runs))
         where
-          by_end : RanOff r ls nothing_in_hand (serves.supply w) (Kept r) code p n ⊎ AsksAtLast r ls nothing_in_hand (serves.supply w) (Kept r) code program.coded i p start n → Goes
+          by_end : RanOff r ls nothing_in_hand (serves.supply w) (ProcessInvariant r) code p n ⊎ AsksAtLast r ls nothing_in_hand (serves.supply w) (ProcessInvariant r) code program.coded i p start n → Goes
           by_end (inl x) = ran_off x
           by_end (inr x) = asks_last i start (calm_sorted m start off.calm now.between.sorted) x
 

@@ -11,7 +11,7 @@ use Rattle.flow_steps.specs.declared.process.Process.{Process}
 use Rattle.flow_machine.specs.declared.host.Burst.{Burst}
 use Rattle.flow_machine.specs.Bursts.{Bursts}
 use Rattle.flow_allowed.specs.Tasking.{IsProgram}
-use Rattle.flow_bursts.specs.Bursting.{Steadfast, Abroad, TasksGo, Follows}
+use Rattle.flow_bursts.specs.Bursting.{HostKeepsTime, RepresentsInWorld, TasksGo, SimulatesBurst}
 
 module _ {A W : Type 0} (serves : Host W) (shows : A → Numbered ℕ → W → Type 0) (wrote : A → List Line → A → Type 0) (code : Code) (processes : ℕ) (r : RawTree) where
   -- each task is a row of steps
@@ -21,6 +21,6 @@ module _ {A W : Type 0} (serves : Host W) (shows : A → Numbered ℕ → W → 
   -- so a burst is one
   abbrev pub ProgramFollows : Type 0
   ProgramFollows =
-      IsProgram r code → Steadfast serves → (ls : List Line) (m n : Process) (a b : A) (p : Proc Frame) (w : W) (e : Burst)
-      → Abroad serves shows wrote code processes r ls m a p w → Bursts serves shows wrote code processes m a e n b
-      → Follows serves shows wrote code processes r ls a p w e n b
+      IsProgram r code → HostKeepsTime serves → (ls : List Line) (m n : Process) (a b : A) (p : Proc Frame) (w : W) (e : Burst)
+      → RepresentsInWorld serves shows wrote code processes r ls m a p w → Bursts serves shows wrote code processes m a e n b
+      → SimulatesBurst serves shows wrote code processes r ls a p w e n b

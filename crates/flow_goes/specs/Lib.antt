@@ -1,2 +1,2 @@
-pub mod Brought
+pub mod Delivering
 pub mod Goes

@@ -2,5 +2,5 @@
 //! The definitions stand in `specs/`; the functions of this crate have empty bodies: each contract is a law.
 #![tactic(auto)]
 
-pub mod brought;
+pub mod delivered;
 pub mod going;

@@ -15,35 +15,35 @@ use Rattle.flow_meaning.specs.Outside.{Outside, host}
 use Rattle.flow_meaning.specs.Process as process
 use Rattle.flow_meaning.specs.Runs.{before, after, lines_of}
 use Rattle.flow_meaning.specs.World.{Place, World, Begun, ready, booted}
-use Rattle.flow_picture.specs.Shows.{cell_number}
-use Rattle.flow_steps.specs.Sights.{program_time}
+use Rattle.flow_picture.specs.Representing.{cell_number}
+use Rattle.flow_steps.specs.Evaluating.{program_time}
 use Rattle.flow_machine.specs.declared.host.Burst as burst_end
 use Rattle.flow_machine.specs.declared.host.Burst.TheVariants.{Rested, Spent}
 use Rattle.flow_machine.specs.declared.machine.Machine.{Machine}
-use Rattle.flow_world.specs.declared.deed.Deed.{Deed}
-use Rattle.flow_world.specs.declared.deed.Deed.TheVariants.{Boots}
+use Rattle.flow_world.specs.declared.action.EventAction.{EventAction}
+use Rattle.flow_world.specs.declared.action.EventAction.TheVariants.{Boots}
 use Rattle.flow_world.specs.declared.place.Place as memory
 use Rattle.flow_world.specs.Around.{Puts, no_line}
 use Rattle.flow_world.specs.Changes.{Surroundings}
-use Rattle.flow_world.specs.Deeds.{holds_already}
+use Rattle.flow_world.specs.Actions.{holds_already}
 use Rattle.flow_world.specs.Ending.{Seen}
 use Rattle.flow_world.specs.Happening.{Acts, ActsAt, Runs, RunsUnless, ends, with_place, with_outside}
-use Rattle.flow_world.specs.Shows.{OutsideShows}
+use Rattle.flow_world.specs.Representing.{OutsideRepresents}
 use Rattle.flow_world.proofs.Putting.{puts_more}
-use Rattle.flow_events.specs.Showing.{PlaceShows, PlacesShow, ScriptShows, WorldShows}
+use Rattle.flow_events.specs.Showing.{PlaceRepresents, PlacesRepresent, ScriptRepresents, WorldRepresents}
 use Rattle.flow_allowed.specs.Tasking.{IsProgram}
-use Rattle.flow_kept.specs.Kept.{Kept}
-use Rattle.flow_deeds.specs.Deeds.{DeedFollows, MayBeDone, Done, EndsAs, done_in}
-use Rattle.flow_deeds.specs.Settling.{Settled, StaysSettled}
+use Rattle.flow_kept.specs.Invariant.{ProcessInvariant}
+use Rattle.flow_deeds.specs.Actions.{ActionRefines, MayBeDone, Done, EndsAs, done_in}
+use Rattle.flow_deeds.specs.Quiescence.{Quiescent, StaysQuiescent}
 use Rattle.flow_happens.proofs.Placing.{place_of, set_same, place_at, place_put}
 
 module _ (r : RawTree) where
   -- An event has begun, and its process has done nothing yet: what is in memory and the world of the definitions outside of
   -- their processes, which are those of before.
   pub record Going (m : World Frame) (u : Seen) (o : Outside) : Type 0 where
-    pub places : PlacesShow (Settled r) m.out.file.processes 0 u.places m.places
-    pub outside : OutsideShows u.outside o
-    pub script : ScriptShows u.script o.script
+    pub places : PlacesRepresent (Quiescent r) m.out.file.processes 0 u.places m.places
+    pub outside : OutsideRepresents u.outside o
+    pub script : ScriptRepresents u.script o.script
     pub ran : u.ran ≡ o.ran
     pub bound : u.bound ≡ m.out.file.events
     pub turns : u.turns ≡ m.out.file.turns
@@ -51,7 +51,7 @@ module _ (r : RawTree) where
 
   -- how it ends
   abbrev pub AfterAs : burst_end.Burst → World Frame → Begun Frame → Seen → Live Outside Frame → Type 0
-  AfterAs Rested m g v l = (l.proc.core.halted ≡ None) × WorldShows (Settled r) v (after m g l)
+  AfterAs Rested m g v l = (l.proc.core.halted ≡ None) × WorldRepresents (Quiescent r) v (after m g l)
   AfterAs Spent m g v l = l.proc.core.halted ≡ Some process.Spent
 
   -- the process of the event does all that follows, with the lines of the event
@@ -64,31 +64,31 @@ module _ (r : RawTree) where
 
   -- the process in memory at a number
   pub shown_at : (m : World Frame) (u : Seen) (o : Outside) (p : ProcId) (at : memory.Place) → Going m u o → slice_get u.places p.0 ≡ Some at
-      → PlaceShows (Settled r) o.file.processes p.0 at (place_of m.places p.0)
+      → PlaceRepresents (Quiescent r) o.file.processes p.0 at (place_of m.places p.0)
   shown_at m u o p at s there =
       let here : 0 + p.0 ≡ p.0 = omega arith in
-      subst (λ f. PlaceShows (Settled r) f.processes p.0 at (place_of m.places p.0)) (sym s.file)
-      (subst (λ j. PlaceShows (Settled r) m.out.file.processes j at (place_of m.places p.0)) here
-      (place_at (Settled r) m.out.file.processes 0 p.0 u.places m.places at s.places there))
+      subst (λ f. PlaceRepresents (Quiescent r) f.processes p.0 at (place_of m.places p.0)) (sym s.file)
+      (subst (λ j. PlaceRepresents (Quiescent r) m.out.file.processes j at (place_of m.places p.0)) here
+      (place_at (Quiescent r) m.out.file.processes 0 p.0 u.places m.places at s.places there))
 
   -- another process at the number, and what else there is
   pub shown_after :
       (m : World Frame) (u : Seen) (o : Outside) (p : ProcId) (place : memory.Place) (outside : Surroundings) (x : Place Frame) (l : Outside) → Going m u o
-      → PlaceShows (Settled r) o.file.processes p.0 place x → OutsideShows outside l → l.file ≡ o.file → l.ran ≡ o.ran → l.script ≡ o.script → l.active ≡ p.0
-      → WorldShows (Settled r) (record (with_outside outside (with_place p place u)) { ended = false }) (record { places = slice_set m.places l.active x; out = l })
+      → PlaceRepresents (Quiescent r) o.file.processes p.0 place x → OutsideRepresents outside l → l.file ≡ o.file → l.ran ≡ o.ran → l.script ≡ o.script → l.active ≡ p.0
+      → WorldRepresents (Quiescent r) (record (with_outside outside (with_place p place u)) { ended = false }) (record { places = slice_set m.places l.active x; out = l })
   shown_after m u o p place outside x l s h out file ran script active =
       let whole : l.file ≡ m.out.file = file ∙ s.file in
       let here : p.0 ≡ 0 + p.0 = omega arith in
-      let own : PlaceShows (Settled r) m.out.file.processes (0 + p.0) place x =
-      subst (λ j. PlaceShows (Settled r) m.out.file.processes j place x) here (subst (λ f. PlaceShows (Settled r) f.processes p.0 place x) s.file h)
+      let own : PlaceRepresents (Quiescent r) m.out.file.processes (0 + p.0) place x =
+      subst (λ j. PlaceRepresents (Quiescent r) m.out.file.processes j place x) here (subst (λ f. PlaceRepresents (Quiescent r) f.processes p.0 place x) s.file h)
       in
       record {
         places =
-            subst (λ f. PlacesShow (Settled r) f.processes 0 (slice_set u.places p.0 place) (slice_set m.places l.active x)) (sym whole)
-            (subst (λ j. PlacesShow (Settled r) m.out.file.processes 0 (slice_set u.places p.0 place) (slice_set m.places j x)) (sym active)
-            (place_put (Settled r) m.out.file.processes 0 p.0 u.places m.places place x s.places own));
+            subst (λ f. PlacesRepresent (Quiescent r) f.processes 0 (slice_set u.places p.0 place) (slice_set m.places l.active x)) (sym whole)
+            (subst (λ j. PlacesRepresent (Quiescent r) m.out.file.processes 0 (slice_set u.places p.0 place) (slice_set m.places j x)) (sym active)
+            (place_put (Quiescent r) m.out.file.processes 0 p.0 u.places m.places place x s.places own));
         outside = out;
-        script = subst (ScriptShows u.script) (sym script) s.script;
+        script = subst (ScriptRepresents u.script) (sym script) s.script;
         ran = s.ran ∙ sym ran;
         bound = s.bound ∙ ap (λ f. f.events) (sym whole);
         turns = s.turns ∙ ap (λ f. f.turns) (sym whole);
@@ -98,7 +98,7 @@ module _ (r : RawTree) where
   module _ {A : Type 0} (puts : A → Line → Result (Unit {0}) OutFault → A → Type 0) where
     -- an event that does nothing to its process
     pub idles :
-        (m : World Frame) (u : Seen) (o : Outside) (p : ProcId) (at : memory.Place) (head : List Line) (c a : A) → StaysSettled r → Going m u o → p.0 ≡ o.active
+        (m : World Frame) (u : Seen) (o : Outside) (p : ProcId) (at : memory.Place) (head : List Line) (c a : A) → StaysQuiescent r → Going m u o → p.0 ≡ o.active
         → slice_get u.places p.0 ≡ Some at → Puts puts c head a
         → Follows puts m (record { head = head; place = ready m p.0; out = o }) c Rested (record u { ended = false }) a
     idles m u o p at head c a still s active there put =
@@ -111,25 +111,25 @@ module _ (r : RawTree) where
           lines = puts_more puts c a a head [] put no_line;
           ends = (
             refl,
-            subst (λ ats. WorldShows (Settled r) (record u { places = ats; ended = false }) (record { places = slice_set m.places o.active (ready m p.0); out = o })) (set_same u.places p.0 at there)
+            subst (λ ats. WorldRepresents (Quiescent r) (record u { places = ats; ended = false }) (record { places = slice_set m.places o.active (ready m p.0); out = o })) (set_same u.places p.0 at there)
                 (shown_after m u o p at u.outside (ready m p.0) o s (record { up = h.up; me = h.me; processes_are = h.processes_are; rests = q.1; ports = h.ports }) s.outside refl refl refl (sym active)),
           );
         }
 
     module _
-        (m : World Frame) (u : Seen) (o : Outside) (p : ProcId) (head : List Line) (c : A) (program : IsProgram r u.code) (deed : DeedFollows puts r u.code) (s : Going m u o) (active : p.0 ≡ o.active)
-        (clock : program_time u.outside.time ≡ pos u.outside.time) (held : Kept r (ready m p.0).proc) where
+        (m : World Frame) (u : Seen) (o : Outside) (p : ProcId) (head : List Line) (c : A) (program : IsProgram r u.code) (deed : ActionRefines puts r u.code) (s : Going m u o) (active : p.0 ≡ o.active)
+        (clock : program_time u.outside.time ≡ pos u.outside.time) (held : ProcessInvariant r (ready m p.0).proc) where
       abbrev turns : ℕ
       turns = m.out.file.turns
 
       abbrev was : Place Frame
       was = place_of m.places p.0
 
-      abbrev done : Deed → Begun Frame
+      abbrev done : EventAction → Begun Frame
       done d = record { head = head; place = done_in r turns p.0 d was; out = o }
 
       -- it does something
-      pub acts : (d : Deed) (a b : A) (e : burst_end.Burst) (v : Seen) → Puts puts c head a → MayBeDone d was.proc → UnlessStopped (done d).place.proc.core.halted (Kept r (done d).place.proc)
+      pub acts : (d : EventAction) (a b : A) (e : burst_end.Burst) (v : Seen) → Puts puts c head a → MayBeDone d was.proc → UnlessStopped (done d).place.proc.core.halted (ProcessInvariant r (done d).place.proc)
           → ActsAt puts p d u a e v b → Follows puts m (done d) c e (ends e v) b
       acts d a b e v put may kept t =
           let x : Done r turns p d was o puts a e t.acted.place t.acted.outside b =
@@ -149,19 +149,19 @@ module _ (r : RawTree) where
               → EndsAs r turns p d was o e place outside l → AfterAs e m (done d) (ends e v) l
           by_end Rested l place outside v file ran script me left f = (
             f.0,
-            subst (λ z. WorldShows (Settled r) (record z { ended = false }) (after m (done d) l)) (sym left)
+            subst (λ z. WorldRepresents (Quiescent r) (record z { ended = false }) (after m (done d) l)) (sym left)
                 (shown_after m u o p place outside (record { up = (done d).place.up; proc = l.proc }) l.out s f.1 f.2 file ran script me),
           )
           by_end Spent l place outside v file ran script me left f = f
 
       -- so it does, where it doesn't boot
-      pub runs : (d : Deed) (a b : A) (e : burst_end.Burst) (v : Seen) → ((k : Machine) → holds_already d k ≡ false) → Puts puts c head a → MayBeDone d was.proc
-          → UnlessStopped (done d).place.proc.core.halted (Kept r (done d).place.proc) → Runs puts p d u a e v b → Follows puts m (done d) c e (ends e v) b
+      pub runs : (d : EventAction) (a b : A) (e : burst_end.Burst) (v : Seen) → ((k : Machine) → holds_already d k ≡ false) → Puts puts c head a → MayBeDone d was.proc
+          → UnlessStopped (done d).place.proc.core.halted (ProcessInvariant r (done d).place.proc) → Runs puts p d u a e v b → Follows puts m (done d) c e (ends e v) b
       runs d a b e v never put may kept t =
           acts d a b e v put may kept (subst (λ h. RunsUnless puts h p d u a e v b) (t.known.held_is ∙ never t.known.at.machine) t.runs)
 
       -- a boot does nothing where the process holds its `main`
-      pub boots : (a b : A) (e : burst_end.Burst) (v : Seen) → StaysSettled r → Puts puts c head a → UnlessStopped (done Boots).place.proc.core.halted (Kept r (done Boots).place.proc)
+      pub boots : (a b : A) (e : burst_end.Burst) (v : Seen) → StaysQuiescent r → Puts puts c head a → UnlessStopped (done Boots).place.proc.core.halted (ProcessInvariant r (done Boots).place.proc)
           → Runs puts p Boots u a e v b → Follows puts m (done Boots) c e (ends e v) b
       boots a b e v still put kept t = by_main t.known.at.machine.process.heap.main refl
         where

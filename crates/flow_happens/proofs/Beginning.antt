@@ -10,14 +10,14 @@ use Rattle.flow_world.specs.Changes.{with_events}
 use Rattle.flow_world.specs.Ending.{Seen}
 use Rattle.flow_world.specs.Happening.{begins, with_outside}
 use Rattle.flow_world.specs.Laws.{first_left, event_taken}
-use Rattle.flow_world.specs.Shows.{OutsideShows}
+use Rattle.flow_world.specs.Representing.{OutsideRepresents}
 use Rattle.flow_world.proofs.Events.{event_is_taken, on_time}
-use Rattle.flow_events.specs.Showing.{WorldShows}
+use Rattle.flow_events.specs.Showing.{WorldRepresents}
 use Rattle.flow_events.specs.Coming.{LineNext, EventNext}
-use Rattle.flow_deeds.specs.Settling.{Settled}
+use Rattle.flow_deeds.specs.Quiescence.{Quiescent}
 use Rattle.flow_happens.proofs.Acting.{Going}
 
-module _ (r : RawTree) (w : Seen) (m : World Frame) (s : WorldShows (Settled r) w m) where
+module _ (r : RawTree) (w : Seen) (m : World Frame) (s : WorldRepresents (Quiescent r) w m) where
   one_more : w.ran + 1 ≡ suc m.out.ran
   one_more = omega (arith, s.ran)
 
@@ -45,7 +45,7 @@ module _ (r : RawTree) (w : Seen) (m : World Frame) (s : WorldShows (Settled r) 
     file = refl;
   }
     where
-      taken : OutsideShows (with_events n.rest w.outside) (with_left m.out left)
+      taken : OutsideRepresents (with_events n.rest w.outside) (with_left m.out left)
       taken =
-          subst (λ es. OutsideShows (with_events (first_left es) w.outside) (with_left m.out left)) n.are
-          (subst (λ es. OutsideShows (event_taken w.outside) (with_left m.out (first_left es))) pending (event_is_taken w.outside m.out s.outside))
+          subst (λ es. OutsideRepresents (with_events (first_left es) w.outside) (with_left m.out left)) n.are
+          (subst (λ es. OutsideRepresents (event_taken w.outside) (with_left m.out (first_left es))) pending (event_is_taken w.outside m.out s.outside))

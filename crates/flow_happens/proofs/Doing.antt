@@ -29,7 +29,7 @@ use Rattle.flow_meaning.specs.Class.{classes}
 use Rattle.flow_meaning.specs.Deliver.{deliver, arrive}
 use Rattle.flow_meaning.specs.Frame.{Frame}
 use Rattle.flow_numbered.specs.Numbered.{thing}
-use Rattle.flow_meaning.specs.Occ.{refs_in, value_in}
+use Rattle.flow_meaning.specs.References.{refs_in, value_in}
 use Rattle.flow_meaning.specs.Orderly.{UnlessStopped}
 use Rattle.flow_meaning.specs.Outside.{Outside, process_id}
 use Rattle.flow_meaning.specs.World.{Place, World, Begun, ready, booted, alone, with_core, with_disk, disk_of, disk_line, disk_outcome, packet, listener}
@@ -40,13 +40,13 @@ use Rattle.flow_machine.specs.declared.host.Burst as burst_end
 use Rattle.flow_picture.specs.Holds.{There, AllThere}
 use Rattle.flow_picture.specs.Rested.{has}
 use Rattle.flow_steps.specs.Holding.{outcome_refs}
-use Rattle.flow_steps.specs.Sights.{program_time}
-use Rattle.flow_world.specs.declared.deed.Deed.TheVariants.{Boots, Stops, Delivers, Brings}
-use Rattle.flow_world.specs.Brought.{answer_line}
+use Rattle.flow_steps.specs.Evaluating.{program_time}
+use Rattle.flow_world.specs.declared.action.EventAction.TheVariants.{Boots, Stops, Delivers, Brings}
+use Rattle.flow_world.specs.Answers.{answer_line}
 use Rattle.flow_world.specs.Changes.{Surroundings}
 use Rattle.flow_world.specs.Ending.{Seen}
-use Rattle.flow_world.specs.Happening.{Runs, Told, Taken, Arrived, Answered, HeardIn, HeardIfUp, ends, with_outside, arrived}
-use Rattle.flow_world.specs.Shows.{OutsideShows, letter_at, coming}
+use Rattle.flow_world.specs.Happening.{Runs, PutsThen, Taken, Arrived, Answered, HeardIn, HeardIfUp, ends, with_outside, arrived}
+use Rattle.flow_world.specs.Representing.{OutsideRepresents, letter_at, coming}
 use Rattle.flow_world.proofs.Coming.{events_kept}
 use Rattle.flow_world.proofs.Events.{disk_served}
 use Rattle.flow_world.proofs.Letters.{letter_left}
@@ -54,9 +54,9 @@ use Rattle.flow_world.proofs.Putting.{puts_one}
 use Rattle.flow_world.specs.Around.{Puts, more_lines}
 use Rattle.flow_allowed.specs.Tasking.{IsProgram}
 use Rattle.flow_follows.specs.Working.{Sendable}
-use Rattle.flow_kept.specs.Kept.{Kept}
-use Rattle.flow_deeds.specs.Deeds.{DeedFollows}
-use Rattle.flow_deeds.specs.Settling.{StaysSettled}
+use Rattle.flow_kept.specs.Invariant.{ProcessInvariant}
+use Rattle.flow_deeds.specs.Actions.{ActionRefines}
+use Rattle.flow_deeds.specs.Quiescence.{StaysQuiescent}
 use Rattle.flow_happens.proofs.Placing.{place_of, Found}
 use Rattle.flow_happens.proofs.Acting.{Going, Follows, shown_at, idles, runs, boots}
 
@@ -91,8 +91,8 @@ pub void_seen : value_of Void ≡ VoidValue
 void_seen = ap value_of (sym rolls-Void) ∙ fold-roll-Value ValueTree value_step layer.Void
 
 -- the packet of a number, that no pending event brings, is taken off
-pub letter_taken : (m : Surroundings) (o : Outside) (n : ℕ) → coming n m.timers.pending ≡ 0 → OutsideShows m o
-    → OutsideShows (record m { net = record m.net { on_way = remove_entry (is_at (nat_cmp n)) m.net.on_way } }) o
+pub letter_taken : (m : Surroundings) (o : Outside) (n : ℕ) → coming n m.timers.pending ≡ 0 → OutsideRepresents m o
+    → OutsideRepresents (record m { net = record m.net { on_way = remove_entry (is_at (nat_cmp n)) m.net.on_way } }) o
 letter_taken m o n none s = record {
   seed = s.seed;
   words = s.words;
@@ -117,17 +117,17 @@ letter_taken m o n none s = record {
 module _ (r : RawTree) {A : Type 0} (puts : A → Line → Result (Unit {0}) OutFault → A → Type 0) where
   -- what a begun event keeps, unless it is spent
   abbrev pub GoesOn : Begun Frame → Type 0
-  GoesOn g = UnlessStopped g.place.proc.core.halted (Kept r g.place.proc)
+  GoesOn g = UnlessStopped g.place.proc.core.halted (ProcessInvariant r g.place.proc)
 
   -- an event begun in memory and by the definitions, at a time that programs can tell
   pub record Begins (m : World Frame) (u : Seen) (o : Outside) (p : ProcId) : Type 0 where
     pub program : IsProgram r u.code
-    pub deed : DeedFollows puts r u.code
-    pub still : StaysSettled r
+    pub deed : ActionRefines puts r u.code
+    pub still : StaysQuiescent r
     pub going : Going r m u o
     pub active : p.0 ≡ o.active
     pub clock : program_time u.outside.time ≡ pos u.outside.time
-    pub held : Kept r (ready m p.0).proc
+    pub held : ProcessInvariant r (ready m p.0).proc
 
   module _ (m : World Frame) (u : Seen) (o : Outside) (p : ProcId) (g : Begins m u o p) (a b : A) (e : burst_end.Burst) (v : Seen) where
     -- the line of it
@@ -135,13 +135,13 @@ module _ (r : RawTree) {A : Type 0} (puts : A → Line → Result (Unit {0}) Out
     line_put l c told = puts_one puts a c (l o.ran o.time) (subst (λ x. puts a x (Ok tt) c) (ap₂ l g.going.ran g.going.outside.time) told)
 
     pub boot_follows : (let x : Begun Frame = alone (line.Boot o.ran o.time (process_id p.0)) (booted (classes r) p.0 (ready m p.0) (ready m p.0).proc.core.main) o in
-        GoesOn x → Told puts (line.Boot u.ran u.outside.time p) (λ c. Runs puts p Boots u c e v b) a → Follows r puts m x a e (ends e v) b)
+        GoesOn x → PutsThen puts (line.Boot u.ran u.outside.time p) (λ c. Runs puts p Boots u c e v b) a → Follows r puts m x a e (ends e v) b)
     boot_follows kept t =
         boots r puts m u o p (line.Boot o.ran o.time p ∷ []) a g.program g.deed g.going g.active g.clock g.held t.between b e v g.still
         (line_put (λ n i. line.Boot n i p) t.between t.told) kept t.rest
 
     pub stop_follows : (let x : Begun Frame = alone (line.Stop o.ran o.time (process_id p.0)) (with_core (ready m p.0) brings.stop) o in
-        GoesOn x → Told puts (line.Stop u.ran u.outside.time p) (λ c. Runs puts p Stops u c e v b) a → Follows r puts m x a e (ends e v) b)
+        GoesOn x → PutsThen puts (line.Stop u.ran u.outside.time p) (λ c. Runs puts p Stops u c e v b) a → Follows r puts m x a e (ends e v) b)
     stop_follows kept t =
         runs r puts m u o p (line.Stop o.ran o.time p ∷ []) a g.program g.deed g.going g.active g.clock g.held Stops t.between b e v (λ k. refl)
         (line_put (λ n i. line.Stop n i p) t.between t.told) tt kept t.rest
@@ -149,7 +149,7 @@ module _ (r : RawTree) {A : Type 0} (puts : A → Line → Result (Unit {0}) Out
     -- a timer answers
     pub timer_follows : (k : CellId) → has k.0 (place_of m.places p.0).proc.core.requests ≡ true → Sendable (place_of m.places p.0).proc kind.Promise k.0
         → (let x : Begun Frame = alone (line.Timer o.ran o.time (process_id p.0) (record { 0 = k.0 })) (with_core (ready m p.0) (deliver k.0 (GoodOutcome VoidValue))) o in
-        GoesOn x → Told puts (line.Timer u.ran u.outside.time p k) (λ c. Runs puts p (Delivers k (outcome.Value Void)) u c e v b) a → Follows r puts m x a e (ends e v) b)
+        GoesOn x → PutsThen puts (line.Timer u.ran u.outside.time p k) (λ c. Runs puts p (Delivers k (outcome.Value Void)) u c e v b) a → Follows r puts m x a e (ends e v) b)
     timer_follows k requested can kept t =
         subst (λ (z : ValueTree). GoesOn (of_value z) → Follows r puts m (of_value z) a e (ends e v) b) void_seen
         (λ kept. runs r puts m u o p (line.Timer o.ran o.time p k ∷ []) a g.program g.deed g.going g.active g.clock g.held (Delivers k (outcome.Value Void)) t.between b e v (λ k. refl)
@@ -160,7 +160,7 @@ module _ (r : RawTree) {A : Type 0} (puts : A → Line → Result (Unit {0}) Out
         of_value z = alone (line.Timer o.ran o.time p k) (with_core (ready m p.0) (deliver k.0 (GoodOutcome z))) o
 
   -- what a disk of a process serves shows
-  pub serves : (m : World Frame) (u : Seen) (o : Outside) (p : ProcId) (g : Begins m u o p) (n : Surroundings) (d : Disk) → n.time ≡ u.outside.time → OutsideShows n (with_disk o p.0 d)
+  pub serves : (m : World Frame) (u : Seen) (o : Outside) (p : ProcId) (g : Begins m u o p) (n : Surroundings) (d : Disk) → n.time ≡ u.outside.time → OutsideRepresents n (with_disk o p.0 d)
       → Begins m (with_outside n u) (with_disk o o.active d) p
   serves m u o p g n d same shown =
       let s = g.going in
@@ -168,7 +168,7 @@ module _ (r : RawTree) {A : Type 0} (puts : A → Line → Result (Unit {0}) Out
         program = g.program;
         deed = g.deed;
         still = g.still;
-        going = record { places = s.places; outside = subst (λ j. OutsideShows n (with_disk o j d)) g.active shown; script = s.script; ran = s.ran; bound = s.bound; turns = s.turns; file = s.file };
+        going = record { places = s.places; outside = subst (λ j. OutsideRepresents n (with_disk o j d)) g.active shown; script = s.script; ran = s.ran; bound = s.bound; turns = s.turns; file = s.file };
         active = g.active;
         clock = subst (λ t. program_time t ≡ pos t) (sym same) g.clock;
         held = g.held;
@@ -190,7 +190,7 @@ module _ (r : RawTree) {A : Type 0} (puts : A → Line → Result (Unit {0}) Out
         gives : Disk × DiskReply
         gives = served (call_of asked) (disk_of o p.0).fails (disk_of o p.0).files
 
-        shown : (t.reply ≡ gives.1) × OutsideShows t.served (with_disk o p.0 gives.0)
+        shown : (t.reply ≡ gives.1) × OutsideRepresents t.served (with_disk o p.0 gives.0)
         shown = disk_served u.outside o p (call_of asked) t.served t.reply g.going.outside t.serves
 
         replied : t.reply ≡ gives.1
@@ -233,7 +233,7 @@ module _ (r : RawTree) {A : Type 0} (puts : A → Line → Result (Unit {0}) Out
         by_up false q h = ap (option_map (λ k. k.0)) h ∙ ap (λ t. if t then thing (place_of m.places p.0).proc.core.ports port else None) (sym q ∙ up_is)
 
     -- a packet comes: to a stream that is heard, or it is discarded
-    module _ (n : ℕ) (l : Letter) (shown : OutsideShows (arrived n u).outside o) where
+    module _ (n : ℕ) (l : Letter) (shown : OutsideRepresents (arrived n u).outside o) where
       abbrev went : Seen
       went = arrived n u
 
@@ -283,7 +283,7 @@ module _ (r : RawTree) {A : Type 0} (puts : A → Line → Result (Unit {0}) Out
         same : t.letter ≡ l
         same = some (sym t.on_way ∙ there)
 
-        shown : OutsideShows (arrived n u).outside o
+        shown : OutsideRepresents (arrived n u).outside o
         shown = letter_taken u.outside o n none g.going.outside
 
         hears : option_map (λ k. k.0) t.heard ≡ listener (ready m p.0) l.port

@@ -23,25 +23,25 @@ use Rattle.flow_picture.specs.Holds.{There}
 use Rattle.flow_unstuck.specs.Fitting.{CellAt}
 use Rattle.flow_machine.specs.Requests.{call_of}
 use Rattle.flow_machine.specs.declared.host.Burst as burst_end
-use Rattle.flow_steps.specs.Sights.{program_time}
+use Rattle.flow_steps.specs.Evaluating.{program_time}
 use Rattle.flow_world.specs.declared.outside.What.{What}
 use Rattle.flow_world.specs.declared.outside.What.TheVariants as what
 use Rattle.flow_world.specs.Changes.{with_events}
 use Rattle.flow_world.specs.Ending.{Seen}
 use Rattle.flow_world.specs.Happening.{Happens, Happened, begins, ends, with_outside}
-use Rattle.flow_world.specs.Shows.{WhatShows, ArrivalShows, letter_at, coming, brings}
+use Rattle.flow_world.specs.Representing.{PendingRepresents, ArrivalRepresents, letter_at, coming, brings}
 use Rattle.flow_world.proofs.Letters.{same_number}
-use Rattle.flow_events.specs.Showing.{WorldShows}
+use Rattle.flow_events.specs.Showing.{WorldRepresents}
 use Rattle.flow_events.specs.Coming.{EventNext}
 use Rattle.flow_runs.proofs.Dues.{own_sets}
 use Rattle.flow_runs.specs.Among.{EventNames}
 use Rattle.std.specs.List.{AllByRecursion}
 use Rattle.flow_boundaries.proofs.Keeping.{ready_kept, answer_due}
 use Rattle.flow_allowed.specs.Tasking.{IsProgram}
-use Rattle.flow_kept.specs.Kept.{Kept}
-use Rattle.flow_deeds.specs.Deeds.{DeedFollows}
-use Rattle.flow_deeds.specs.Settling.{Settled, StaysSettled}
-use Rattle.flow_lasting.specs.Lasting.{Lasting}
+use Rattle.flow_kept.specs.Invariant.{ProcessInvariant}
+use Rattle.flow_deeds.specs.Actions.{ActionRefines}
+use Rattle.flow_deeds.specs.Quiescence.{Quiescent, StaysQuiescent}
+use Rattle.flow_lasting.specs.Invariant.{WorldInvariant}
 use Rattle.flow_lasting.proofs.Mid.{next_early}
 use Rattle.flow_happens.proofs.Placing.{place_of, place_found}
 use Rattle.flow_happens.proofs.Acting.{Going, Follows}
@@ -57,7 +57,7 @@ no_single : (u : TypeTree) → packets ≡ FutureType u → ⊥
 no_single u e = cc
 
 -- the stream of a port is there
-pub heard_there : (r : RawTree) (p : Proc Frame) (port k : ℕ) → Kept r p → thing p.core.ports port ≡ Some k → There p (kind.PromiseStream, k)
+pub heard_there : (r : RawTree) (p : Proc Frame) (port k : ℕ) → ProcessInvariant r p → thing p.core.ports port ≡ Some k → There p (kind.PromiseStream, k)
 heard_there r p port k h heard = by_cell (thing p.core.cells k) refl (subst (λ t. CellAt r h.types t (thing p.core.cells k)) (h.fits.ports port k heard) (h.fits.cells k))
   where
     by_cell : (o : Option Cell) → thing p.core.cells k ≡ o → CellAt r h.types (Some packets) o → There p (kind.PromiseStream, k)
@@ -72,8 +72,8 @@ none_other n p e es is once =
 
 module _ (r : RawTree) {A : Type 0} (puts : A → Line → Result (Unit {0}) OutFault → A → Type 0) where
   module _
-      (w v : Seen) (m : World Frame) (a b : A) (e : burst_end.Burst) (program : IsProgram r w.code) (s : WorldShows (Settled r) w m) (lasting : Lasting r m) (h : Happens puts w a e v b)
-      (deed : DeedFollows puts r w.code) (still : StaysSettled r) (loss : LossFollows r puts) where
+      (w v : Seen) (m : World Frame) (a b : A) (e : burst_end.Burst) (program : IsProgram r w.code) (s : WorldRepresents (Quiescent r) w m) (lasting : WorldInvariant r m) (h : Happens puts w a e v b)
+      (deed : ActionRefines puts r w.code) (still : StaysQuiescent r) (loss : LossFollows r puts) where
     -- the pending event that comes, and what it begins in memory
     record Coming (u : Seen) (left : List (Pending meaning.What)) (x : Pending meaning.What) : Type 0 where
       code : u.code ≡ w.code
@@ -102,7 +102,7 @@ module _ (r : RawTree) {A : Type 0} (puts : A → Line → Result (Unit {0}) Out
         begins_well : (p : ProcId) → p.0 ≡ process_in z → Begins r puts m u (counted t (process_in z) (with_left m.out left)) p
         begins_well p same = record {
           program = subst (IsProgram r) (sym c.code) program;
-          deed = subst (DeedFollows puts r) (sym c.code) deed;
+          deed = subst (ActionRefines puts r) (sym c.code) deed;
           still = still;
           going = c.going;
           active = same;
@@ -136,7 +136,7 @@ module _ (r : RawTree) {A : Type 0} (puts : A → Line → Result (Unit {0}) Out
       by_packet p n l there none c d =
           let z = meaning.Arrives n l.from.0 p.0 l.port l.text in
           let g = begins_well z c p refl in
-          let found = place_found (Settled r) m.out.file.processes 0 p.0 u.places m.places c.going.places (subst (λ k. p.0 < k) (sym lasting.keeps.fits.count) (within z c)) in
+          let found = place_found (Quiescent r) m.out.file.processes 0 p.0 u.places m.places c.going.places (subst (λ k. p.0 < k) (sym lasting.keeps.fits.count) (within z c)) in
           ended z c (packet_follows r puts m u (counted t p.0 (with_left m.out left)) p g a b e h.left n l there none found (λ k q. still_there k (heard_there r (ready m p.0).proc l.port k g.held q)) (kept z c) d)
         where
           still_there : (k : ℕ) → There (ready m p.0).proc (kind.PromiseStream, k) → There (place_of m.places p.0).proc (kind.PromiseStream, k)
@@ -150,7 +150,7 @@ module _ (r : RawTree) {A : Type 0} (puts : A → Line → Result (Unit {0}) Out
         u : Seen
         u = with_outside (with_events n.rest (begins h.time w).outside) (begins h.time w)
 
-        early : x.time ≤ Rattle.flow_lasting.specs.Lasting.latest m.out.ran
+        early : x.time ≤ Rattle.flow_lasting.specs.Invariant.latest m.out.ran
         early = ((next_early m.out lasting.times).event x left comes).0
 
         same_time : x.time ≡ h.time
@@ -169,13 +169,13 @@ module _ (r : RawTree) {A : Type 0} (puts : A → Line → Result (Unit {0}) Out
         coming_as z q = subst (λ y. Coming u left (timed x.time x.number y)) q coming_now
 
         by_letter : (p : ProcId) (k : ℕ) (o : Option Letter) → letter_at w.outside.net.on_way k ≡ o → n.first.what ≡ what.Arrives p k → Happened puts (what.Arrives p k) u a e h.left b
-            → ArrivalShows p.0 k o x.what → Event r puts e m a v b
+            → ArrivalRepresents p.0 k o x.what → Event r puts e m a v b
         by_letter p k None q is d shown = elim shown [ ]
         by_letter p k (Some l) q is d shown =
             let once = subst (λ es. coming k es ≤ 1) n.are (s.outside.packets k).0 in
             by_packet u left x.time x.number p k l q (none_other k p n.first n.rest is once) (coming_as _ shown.1) d
 
-        by_what : (y : What) → n.first.what ≡ y → Happened puts y u a e h.left b → WhatShows w.outside.net.on_way y x.what → Event r puts e m a v b
+        by_what : (y : What) → n.first.what ≡ y → Happened puts y u a e h.left b → PendingRepresents w.outside.net.on_way y x.what → Event r puts e m a v b
         by_what (what.Boots p) is d shown = by_boot u left x.time x.number p (coming_as _ shown) d
         by_what (what.Rings p k) is d shown = by_timer u left x.time x.number p k (coming_as _ shown) d
         by_what (what.Answers p k asked) is d shown = by_answer u left x.time x.number p k asked (coming_as _ shown) d

@@ -11,23 +11,23 @@ use Rattle.flow_machine.specs.declared.host.Burst as burst_end
 use Rattle.flow_machine.specs.declared.host.Burst.TheVariants.{Rested, Spent}
 use Rattle.flow_world.specs.Ending.{Seen, next}
 use Rattle.flow_world.specs.Happening.{Happens, Comes, LineComes, EventComes, begins}
-use Rattle.flow_events.specs.Showing.{WorldShows}
-use Rattle.flow_events.specs.Coming.{NextShows}
+use Rattle.flow_events.specs.Showing.{WorldRepresents}
+use Rattle.flow_events.specs.Coming.{NextMatches}
 use Rattle.flow_events.proofs.Next.{same_next}
 use Rattle.flow_allowed.specs.Tasking.{IsProgram}
-use Rattle.flow_deeds.specs.Deeds.{DeedFollows}
-use Rattle.flow_deeds.specs.Settling.{Settled, StaysSettled}
-use Rattle.flow_lasting.specs.Lasting.{Lasting}
+use Rattle.flow_deeds.specs.Actions.{ActionRefines}
+use Rattle.flow_deeds.specs.Quiescence.{Quiescent, StaysQuiescent}
+use Rattle.flow_lasting.specs.Invariant.{WorldInvariant}
 use Rattle.flow_happens.specs.Happens as law
 use Rattle.flow_happens.proofs.Lines.{Event, LossFollows, line_event}
 use Rattle.flow_happens.proofs.Events.{pending_event}
 
-module _ (r : RawTree) {A : Type 0} (puts : A → Line → Result (Unit {0}) OutFault → A → Type 0) (deeds : (code : Code) → DeedFollows puts r code) (still : StaysSettled r) (loss : LossFollows r puts) where
-  any_event : (w v : Seen) (m : World Frame) (a b : A) (e : burst_end.Burst) → IsProgram r w.code → WorldShows (Settled r) w m → Lasting r m → Happens puts w a e v b → Event r puts e m a v b
+module _ (r : RawTree) {A : Type 0} (puts : A → Line → Result (Unit {0}) OutFault → A → Type 0) (deeds : (code : Code) → ActionRefines puts r code) (still : StaysQuiescent r) (loss : LossFollows r puts) where
+  any_event : (w v : Seen) (m : World Frame) (a b : A) (e : burst_end.Burst) → IsProgram r w.code → WorldRepresents (Quiescent r) w m → WorldInvariant r m → Happens puts w a e v b → Event r puts e m a v b
   any_event w v m a b e program s lasting h =
-      by_next h.scripted (next_of m.out) refl (subst (λ n. NextShows w n (next_of m.out) m.out) h.comes (same_next (Settled r) w m s)) h.comes h.does
+      by_next h.scripted (next_of m.out) refl (subst (λ n. NextMatches w n (next_of m.out) m.out) h.comes (same_next (Quiescent r) w m s)) h.comes h.does
     where
-      by_next : (scripted : Bool) (x : Next) → next_of m.out ≡ x → NextShows w (Some (h.time, scripted)) x m.out → next w ≡ Some (h.time, scripted) → Comes puts scripted (begins h.time w) a e h.left b
+      by_next : (scripted : Bool) (x : Next) → next_of m.out ≡ x → NextMatches w (Some (h.time, scripted)) x m.out → next w ≡ Some (h.time, scripted) → Comes puts scripted (begins h.time w) a e h.left b
           → Event r puts e m a v b
       by_next true Nothing q n next_is d = elim n [ ]
       by_next false Nothing q n next_is d = elim n [ ]

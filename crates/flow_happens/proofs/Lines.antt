@@ -18,10 +18,10 @@ use Rattle.flow_meaning.specs.Outside.{Outside, process_id}
 use Rattle.flow_meaning.specs.World.{World, Begun, Script, next_of, begun_by, ordered, ready, counted, process_of, killed}
 use Rattle.flow_machine.specs.declared.host.Burst as burst_end
 use Rattle.flow_machine.specs.declared.host.Burst.TheVariants.{Rested, Spent}
-use Rattle.flow_steps.specs.Sights.{program_time}
+use Rattle.flow_steps.specs.Evaluating.{program_time}
 use Rattle.flow_world.specs.Ending.{Seen, next}
 use Rattle.flow_world.specs.Happening.{Happens, Ordered, Killed, begins, ends}
-use Rattle.flow_events.specs.Showing.{WorldShows}
+use Rattle.flow_events.specs.Showing.{WorldRepresents}
 use Rattle.flow_events.specs.Coming.{LineNext}
 use Rattle.flow_traced.specs.Traced.{EventShown, SpentShown}
 use Rattle.flow_traced.specs.Quiet.{StaysQuiet}
@@ -29,9 +29,9 @@ use Rattle.flow_traced.proofs.Quietly.{cut_follows, heal_follows, failure_follow
 use Rattle.flow_runs.proofs.Worlds.{next_in, order_process}
 use Rattle.flow_boundaries.proofs.Keeping.{ready_kept, begun_kept}
 use Rattle.flow_allowed.specs.Tasking.{IsProgram}
-use Rattle.flow_deeds.specs.Deeds.{DeedFollows}
-use Rattle.flow_deeds.specs.Settling.{Settled, StaysSettled}
-use Rattle.flow_lasting.specs.Lasting.{Lasting}
+use Rattle.flow_deeds.specs.Actions.{ActionRefines}
+use Rattle.flow_deeds.specs.Quiescence.{Quiescent, StaysQuiescent}
+use Rattle.flow_lasting.specs.Invariant.{WorldInvariant}
 use Rattle.flow_lasting.proofs.Mid.{next_early, clock_tells}
 use Rattle.flow_happens.proofs.Acting.{Going, Follows}
 use Rattle.flow_happens.proofs.Beginning.{line_begins}
@@ -40,8 +40,8 @@ use Rattle.flow_happens.proofs.Doing.{GoesOn, Begins, boot_follows, stop_follows
 module _ (r : RawTree) {A : Type 0} (puts : A → Line → Result (Unit {0}) OutFault → A → Type 0) where
   -- the next event of the definitions, as it ends
   abbrev pub Event : burst_end.Burst → World Frame → A → Seen → A → Type 0
-  Event Rested m a v b = EventShown (Settled r) (Lasting r) (IsProgram r) puts r m a v b
-  Event Spent m a v b = SpentShown (Settled r) (Lasting r) (IsProgram r) puts r m a b
+  Event Rested m a v b = EventShown (Quiescent r) (WorldInvariant r) (IsProgram r) puts r m a v b
+  Event Spent m a v b = SpentShown (Quiescent r) (WorldInvariant r) (IsProgram r) puts r m a b
 
   pub event_is : (m : World Frame) (g : Begun Frame) (a b : A) (e : burst_end.Burst) (v : Seen) → begun_by (classes r) m (next_of m.out) ≡ Some g → Follows r puts m g a e v b → Event e m a v b
   event_is m g a b Rested v begins f =
@@ -54,14 +54,14 @@ module _ (r : RawTree) {A : Type 0} (puts : A → Line → Result (Unit {0}) Out
       (m : World Frame) (u v : Seen) (o : Outside) (p : ProcId) (a b : A) (e : burst_end.Burst) → Going r m u o → p.0 ≡ o.active → Killed puts p u a e v b
       → Follows r puts m (killed (line.Kill o.ran o.time (process_id p.0) ∷ []) p.0 (ready m p.0) o) a e (ends e v) b
 
-  pub quiet_stays : StaysSettled r → StaysQuiet (Settled r) (Lasting r) (IsProgram r) r
+  pub quiet_stays : StaysQuiescent r → StaysQuiet (Quiescent r) (WorldInvariant r) (IsProgram r) r
   quiet_stays still = λ turns p x out h. still turns p x out h
 
   module _
-      (w v : Seen) (m : World Frame) (a b : A) (e : burst_end.Burst) (program : IsProgram r w.code) (s : WorldShows (Settled r) w m) (lasting : Lasting r m) (h : Happens puts w a e v b)
-      (deed : DeedFollows puts r w.code) (still : StaysSettled r) (loss : LossFollows) where
+      (w v : Seen) (m : World Frame) (a b : A) (e : burst_end.Burst) (program : IsProgram r w.code) (s : WorldRepresents (Quiescent r) w m) (lasting : WorldInvariant r m) (h : Happens puts w a e v b)
+      (deed : ActionRefines puts r w.code) (still : StaysQuiescent r) (loss : LossFollows) where
     -- fewer events ran than may, and programs can tell the time
-    pub tells : (t : ℕ) → t ≤ Rattle.flow_lasting.specs.Lasting.latest m.out.ran → program_time t ≡ pos t
+    pub tells : (t : ℕ) → t ≤ Rattle.flow_lasting.specs.Invariant.latest m.out.ran → program_time t ≡ pos t
     tells t early =
         let within : m.out.ran < m.out.file.events = omega (arith, h.bound, s.ran, s.bound) in
         let many = lasting.times.file.events in clock_tells t m.out.ran early (omega (arith, within, many))
@@ -90,7 +90,7 @@ module _ (r : RawTree) {A : Type 0} (puts : A → Line → Result (Unit {0}) Out
           begun : (p : ProcId) → p.0 ≡ process_of (order_of x) → Begins r puts m u out p
           begun p same = record {
             program = subst (IsProgram r) (sym code) program;
-            deed = subst (DeedFollows puts r) (sym code) deed;
+            deed = subst (ActionRefines puts r) (sym code) deed;
             still = still;
             going = going;
             active = same;
@@ -124,11 +124,11 @@ module _ (r : RawTree) {A : Type 0} (puts : A → Line → Result (Unit {0}) Out
               f (act.Stop p) own q d named k g = k (stop_follows r puts m u out p (begun p (ap (λ z. process_of (order_of z)) (sym q))) a b e h.left g d)
               f (act.Kill p) own q d named k g = k (loss m u h.left out p a b e going (ap (λ z. process_of (order_of z)) (sym q)) d)
               f (act.Cut p j) own q d named k g =
-                  rested d.1 (cut_follows (Settled r) (Lasting r) (IsProgram r) r puts w v m a b h.time l ls p j (quiet_stays still) s few (within p.0 named.0) named.0 named.1 next_is are own)
+                  rested d.1 (cut_follows (Quiescent r) (WorldInvariant r) (IsProgram r) r puts w v m a b h.time l ls p j (quiet_stays still) s few (within p.0 named.0) named.0 named.1 next_is are own)
               f (act.Heal p j) own q d named k g =
-                  rested d.1 (heal_follows (Settled r) (Lasting r) (IsProgram r) r puts w v m a b h.time l ls p j (quiet_stays still) s few (within p.0 named.0) named.0 named.1 next_is are own)
+                  rested d.1 (heal_follows (Quiescent r) (WorldInvariant r) (IsProgram r) r puts w v m a b h.time l ls p j (quiet_stays still) s few (within p.0 named.0) named.0 named.1 next_is are own)
               f (act.DiskFail p i) own q d named k g =
-                  rested d.1 (failure_follows (Settled r) (Lasting r) (IsProgram r) r puts w v m a b h.time l ls p i (quiet_stays still) s (within p.0 named) next_is are own)
+                  rested d.1 (failure_follows (Quiescent r) (WorldInvariant r) (IsProgram r) r puts w v m a b h.time l ls p i (quiet_stays still) s (within p.0 named) next_is are own)
 
     -- the line that comes
     pub line_event : (t : ℕ) (k : Order) (left : List (ℕ × Order)) (n : LineNext h.time w.script t k left) → next_of m.out ≡ Script t k left → next w ≡ Some (h.time, true)

@@ -12,8 +12,8 @@ use Rattle.flow_meaning.specs.World.{Begun, killed, ready}
 use Rattle.flow_world.specs.Around.{Puts, no_line, more_lines}
 use Rattle.flow_world.specs.Happening.{ends}
 use Rattle.flow_world.proofs.Putting.{puts_more}
-use Rattle.flow_events.specs.Showing.{WorldShows}
-use Rattle.flow_deeds.specs.Settling.{Settled}
+use Rattle.flow_events.specs.Showing.{WorldRepresents}
+use Rattle.flow_deeds.specs.Quiescence.{Quiescent}
 use Rattle.flow_deeds.specs.Vanishing.{PowerGone}
 use Rattle.flow_deeds.specs.Vanishing as deeds
 use Rattle.flow_happens.proofs.Placing.{place_of}
@@ -27,7 +27,7 @@ lost_follows r {A} puts law m u v o p a b e s active t = subst (λ z. Follows r 
   lines = puts_more puts a b b begun.head [] (subst (λ ls. Puts puts a ls b) (sym gone.lines) (more_lines told t.kept)) no_line;
   ends = (
     refl,
-    subst (λ z. WorldShows (Settled r) (record z { ended = false }) (record { places = slice_set m.places begun.out.active begun.place; out = begun.out })) (sym t.vanishes.left)
+    subst (λ z. WorldRepresents (Quiescent r) (record z { ended = false }) (record { places = slice_set m.places begun.out.active begun.place; out = begun.out })) (sym t.vanishes.left)
         (shown_after r m u o p t.vanishes.gone t.left begun.place begun.out s gone.shows gone.outside gone.stays.file gone.stays.ran gone.stays.script (gone.stays.active ∙ sym active)),
   );
 })

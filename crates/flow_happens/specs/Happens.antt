@@ -4,14 +4,14 @@ use Rattle.flow_base.specs.declared.fault.OutFault.{OutFault}
 use Rattle.flow_trace.specs.declared.line.Line.{Line}
 use Rattle.flow_class.specs.Classes.{RawTree}
 use Rattle.flow_allowed.specs.Tasking.{IsProgram}
-use Rattle.flow_lasting.specs.Lasting.{Lasting}
-use Rattle.flow_deeds.specs.Settling.{Settled}
+use Rattle.flow_lasting.specs.Invariant.{WorldInvariant}
+use Rattle.flow_deeds.specs.Quiescence.{Quiescent}
 use Rattle.flow_traced.specs.Traced.{EventsFollow, SpentFollows}
 
 module _ {A : Type 0} (puts : A → Line → Result (Unit {0}) OutFault → A → Type 0) (r : RawTree) where
   -- one that runs, and one that is spent
   abbrev pub Happening : Type 0
-  Happening = EventsFollow (Settled r) (Lasting r) (IsProgram r) puts r
+  Happening = EventsFollow (Quiescent r) (WorldInvariant r) (IsProgram r) puts r
 
   abbrev pub SpentHappening : Type 0
-  SpentHappening = SpentFollows (Settled r) (Lasting r) (IsProgram r) puts r
+  SpentHappening = SpentFollows (Quiescent r) (WorldInvariant r) (IsProgram r) puts r

@@ -13,7 +13,7 @@ use Rattle.flow_cell.specs.declared.counts.Side.TheVariants.{Promise}
 use Rattle.flow_cancel.specs.Heap.{HeapTree, no_heap, skipped_actors}
 use Rattle.flow_heapstate.specs.State.{Parts, CellPart, place_of, parts_kept, cell_kept, stream_kept, actor_kept}
 use Rattle.flow_heapstate.specs.Referring.{Ref, named, result_refs, stored_refs, references, same_kind, times}
-use Rattle.flow_heapstate.specs.Restoring.{with_streams, with_actors, filled, restored, held_all, RisesFrom, InOrder}
+use Rattle.flow_heapstate.specs.Restoring.{with_streams, with_actors, filled, restored, held_all, RisesFrom, StateInOrder}
 use Rattle.flow_heapstate.specs.Sound.{cell_times, stream_times, RiseTo, at_number, results, SoundActor, OwnResult, SoundHeap}
 use Rattle.flow_heapstate.specs.declared.state.CellState.{CellState}
 use Rattle.flow_heapstate.specs.declared.state.ActorState.{ActorState}
@@ -26,7 +26,7 @@ rises : {S P : Type 0} (kept : S → P) (number : P → ℕ) (low : ℕ) (ss : L
 rises kept number low [] most h = tt
 rises kept number low (s ∷ ss) most h = (h.0, rises kept number (number (kept s)) ss most h.1)
 
-pub in_order : (s : HeapState) → SoundHeap (parts_kept s) → InOrder s
+pub in_order : (s : HeapState) → SoundHeap (parts_kept s) → StateInOrder s
 in_order s h = record {
   cells = rises cell_kept (λ c. c.cell) 0 s.cells.items s.cells_made h.cells_rise;
   streams = rises stream_kept (λ c. c.cell) 0 s.streams.items s.cells_made h.streams_rise;

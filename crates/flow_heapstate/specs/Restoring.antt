@@ -159,7 +159,7 @@ RisesFrom low [] = Unit {0}
 RisesFrom low (n ∷ ns) = (low < n) × RisesFrom n ns
 
 -- a state whose parts are in the order of their numbers
-pub record InOrder (s : HeapState) : Type 0 where
+pub record StateInOrder (s : HeapState) : Type 0 where
   pub cells : RisesFrom 0 (map (λ c. c.cell.0) s.cells.items)
   pub streams : RisesFrom 0 (map (λ c. c.cell.0) s.streams.items)
   pub actors : RisesFrom 0 (map (λ a. a.actor.0) s.actors.items)

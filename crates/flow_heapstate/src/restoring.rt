@@ -8,7 +8,7 @@ ghost use Rattle.flow_cell.specs.Cells.{no_counts};
 ghost use Rattle.flow_cancel.specs.Heap.{no_heap, last_actor, may_start, with_new, side_of};
 ghost use Rattle.flow_heapstate.specs.State.{parts_kept, parts_of};
 ghost use Rattle.flow_heapstate.specs.Sound.{SoundHeap, RestsWith};
-ghost use Rattle.flow_heapstate.specs.Restoring.{Turns, waiters_more, queue_more, callbacks_more, with_content, with_end, with_wait, with_cell, with_cells, with_stream, with_streams, stood, begun, with_actor, with_actors, held_in_cells, held_in_streams, held_one, held_all, restored, RisesFrom, InOrder};
+ghost use Rattle.flow_heapstate.specs.Restoring.{Turns, waiters_more, queue_more, callbacks_more, with_content, with_end, with_wait, with_cell, with_cells, with_stream, with_streams, stood, begun, with_actor, with_actors, held_in_cells, held_in_streams, held_one, held_all, restored, RisesFrom, StateInOrder};
 
 use crate::listing::state;
 use crate::references::references;
@@ -310,7 +310,7 @@ fn hold_all(heap: &mut Heap, found: &[(Kind, CellId)]) -> Result<(), NoMemory>
 // A heap in which nothing has happened gets what a state tells whose parts are in the order of their numbers, and each
 // reference in it is counted.
 fn fill(alloc: Global, heap: &mut Heap, state: HeapState) -> Result<(), NoMemory>
-    requires order { InOrder state }
+    requires order { StateInOrder state }
     requires none { heap.old ≡ no_heap }
     ensures { OnOk result (heap.new ≡ restored state) }
 {
@@ -336,7 +336,7 @@ fn fill(alloc: Global, heap: &mut Heap, state: HeapState) -> Result<(), NoMemory
 // The heap of a state whose parts are in the order of their numbers. What owns a heap has few ways out, since all of the
 // heap is dropped at each.
 fn filled(alloc: Global, state: HeapState) -> Result<Heap, NoMemory>
-    requires { InOrder state }
+    requires { StateInOrder state }
     ensures { IfOk result (λ h. h ≡ restored state) }
 {
     let mut heap = Heap::new(alloc)?;

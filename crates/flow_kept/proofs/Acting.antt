@@ -11,34 +11,34 @@ use Rattle.flow_meaning.specs.Process.{Entry, Proc}
 use Rattle.flow_meaning.specs.Frame.{Frame}
 use Rattle.flow_meaning.proofs.Shifts.{same_of}
 use Rattle.flow_meaning.proofs.InOrder.{no_thing}
-use Rattle.flow_picture.specs.Shows.{FrameShows, stands, ended, ActorShows, nobody, somebody, Shows}
+use Rattle.flow_picture.specs.Representing.{FrameRepresents, stands, ended, ActorRepresents, nobody, somebody, Represents}
 use Rattle.flow_picture.specs.Acting.{At}
 use Rattle.flow_unstuck.specs.Fitting.{CellTypes, Standing, Waiting}
 use Rattle.flow_runs.specs.Laws.{AreValid}
-use Rattle.flow_steps.specs.declared.frames.Stand.{Stand}
+use Rattle.flow_steps.specs.declared.frames.ControlPoint.{ControlPoint}
 use Rattle.flow_steps.specs.declared.process.Process.{Process}
-use Rattle.flow_steps.specs.Standing.{StandsNow}
+use Rattle.flow_steps.specs.Points.{IsAtPoint}
 use Rattle.flow_follows.specs.Placing.{Acts}
 use Rattle.flow_follows.specs.Seeing.{IsCodeOf}
-use Rattle.flow_follows.specs.Coded.{CodedBy, StandsBy}
+use Rattle.flow_follows.specs.Coded.{CodedBy, PointIsCoded}
 use Rattle.flow_follows.proofs.Stands.{stand_follows}
 use Rattle.flow_kept.proofs.Homes.{at_home}
 
 -- An actor that is unfinished in the process is so in memory.
-pub actor_at : (r : RawTree) (h : HeapTree) (p : Proc Frame) (i : ℕ) (e : Entry) → Shows r h p → thing p.core.entries i ≡ Some e → At r h p i
+pub actor_at : (r : RawTree) (h : HeapTree) (p : Proc Frame) (i : ℕ) (e : Entry) → Represents r h p → thing p.core.entries i ≡ Some e → At r h p i
 actor_at r h p i e s at = by_actor (s.actors i)
   where
-    by_actor : ActorShows r (stored.thing h.actors.things i) (stored.thing h.frames.things i) (thing p.core.entries i) (thing p.actors i) → At r h p i
+    by_actor : ActorRepresents r (stored.thing h.actors.things i) (stored.thing h.frames.things i) (thing p.core.entries i) (thing p.actors i) → At r h p i
     by_actor (nobody a b c d) = absurd (no_thing (sym c ∙ at))
     by_actor (somebody x) = x
 
 -- one that stands at an instruction acts there
-pub acts_at : (r : RawTree) (h : HeapTree) (p : Proc Frame) (i : ℕ) (e : Entry) (f : Frame) → Shows r h p → thing p.core.entries i ≡ Some e → thing p.actors i ≡ Some f
+pub acts_at : (r : RawTree) (h : HeapTree) (p : Proc Frame) (i : ℕ) (e : Entry) (f : Frame) → Represents r h p → thing p.core.entries i ≡ Some e → thing p.actors i ≡ Some f
     → (fetch f.code f.block f.instr ≡ Nothing → ⊥) → Acts r h p i e f
 acts_at r h p i e f s at acting there =
     let x = actor_at r h p i e s at in by_frame x (same_of (sym x.entered ∙ at)) (same_of (sym x.acting ∙ acting)) x.same.frame
   where
-    by_frame : (x : At r h p i) → x.entry ≡ e → x.frame ≡ f → FrameShows r x.memory x.entry x.frame → Acts r h p i e f
+    by_frame : (x : At r h p i) → x.entry ≡ e → x.frame ≡ f → FrameRepresents r x.memory x.entry x.frame → Acts r h p i e f
     by_frame x same_entry same_frame (stands st) = record {
       note = x.note;
       memory = x.memory;
@@ -49,7 +49,7 @@ acts_at r h p i e f s at acting there =
       class = sym (ap (λ (y : Entry). y.class) same_entry) ∙ x.same.class;
       result = sym (ap (λ (y : Entry). y.result) same_entry) ∙ x.same.result;
       marked = sym (ap (λ (y : Entry). y.marked) same_entry) ∙ x.same.marked;
-      stands = subst (λ y. Rattle.flow_picture.specs.Shows.Stands r x.memory y f) same_entry (subst (λ y. Rattle.flow_picture.specs.Shows.Stands r x.memory x.entry y) same_frame st);
+      stands = subst (λ y. Rattle.flow_picture.specs.Representing.LiveFrameRepresents r x.memory y f) same_entry (subst (λ y. Rattle.flow_picture.specs.Representing.LiveFrameRepresents r x.memory x.entry y) same_frame st);
     }
     by_frame x same_entry same_frame (ended en) = absurd (there (ap (λ (y : Frame). fetch y.code y.block y.instr) (sym same_frame ∙ en.frame)))
 
@@ -58,7 +58,7 @@ module _ (r : RawTree) (code : Code) (valid : AreValid r) (coded : IsCodeOf r co
   by_code = record { names = coded.coded.names; class = coded.coded.class; are_coded = coded.coded.are_coded }
 
   -- where the code has an actor stand is where its frame does
-  pub stands_by : (m : Process) (p : Proc Frame) (i : ℕ) (e : Entry) (f : Frame) (s : Stand) → Acts r m.heap p i e f → StandsNow code.classes.items (actor_id i) m s → StandsBy by_code s i f
+  pub stands_by : (m : Process) (p : Proc Frame) (i : ℕ) (e : Entry) (f : Frame) (s : ControlPoint) → Acts r m.heap p i e f → IsAtPoint code.classes.items (actor_id i) m s → PointIsCoded by_code s i f
   stands_by m p i e f s acts now =
       stand_follows r code.classes.items m p i e f s by_code (at_home r valid.valid acts.memory.class f.code acts.stands.code) acts now
 

@@ -3,7 +3,7 @@ use Rattle.std.proofs.Common.{◌≡◌, [], ap, subst}
 use Rattle.std.specs.declared.option.Option.{Option}
 use Rattle.std.specs.declared.option.Option.TheVariants.{None, Some}
 use Rattle.flow_class.specs.Classes.{RawTree}
-use Rattle.flow_meaning.specs.Asks.{Supply, Request}
+use Rattle.flow_meaning.specs.Requests.{Supply, Request}
 use Rattle.flow_meaning.specs.Process.{Halt, Proc}
 use Rattle.flow_meaning.specs.Orderly.{Orderly, UnlessStopped}
 use Rattle.flow_meaning.specs.Burst.{Host, live, add_lines, serve, advanced}
@@ -12,7 +12,7 @@ use Rattle.flow_meaning.specs.Class.{classes}
 use Rattle.flow_meaning.specs.Frame.{Frame}
 use Rattle.flow_meaning.proofs.InOrder.{advance_in_order}
 use Rattle.flow_meaning.proofs.Posture.{unless, unless_map}
-use Rattle.flow_picture.specs.Keeps.{Tied}
+use Rattle.flow_picture.specs.CellsTied.{CellsTied}
 use Rattle.flow_picture.specs.Lonely.{OwnedAlone}
 use Rattle.flow_picture.proofs.Lonely.{steps_lonely}
 use Rattle.flow_picture.proofs.TidySteps.{steps_tied}
@@ -24,8 +24,8 @@ use Rattle.flow_unstuck.proofs.StepsKept.{steps_keep}
 use Rattle.flow_runs.proofs.Owned.{ports_alone, results_alone}
 use Rattle.flow_owned.specs.Unset.{Unset}
 use Rattle.flow_owned.proofs.Brought.{steps_unset}
-use Rattle.flow_kept.specs.Kept as law
-use Rattle.flow_kept.specs.Kept.{Kept}
+use Rattle.flow_kept.specs.Invariant as law
+use Rattle.flow_kept.specs.Invariant.{ProcessInvariant}
 
 -- a step as one in a world that stays as it is
 abbrev still : Supply → Host (Unit {0})
@@ -40,8 +40,8 @@ step_in_order r s p q o e =
     by_ask (Some x) h = unless_map q.0.core.halted (λ (o : Orderly (add_lines [] q.0.core)). record { actors = o.actors; paired = o.paired; waiting = o.waiting; numbered = o.numbered }) h
 
 module _ (r : RawTree) where
-  assembled : (p : Proc Frame) (before : _) (ask : Option Request) (h : Option Halt) → UnlessStopped h (Orderly p.core) → UnlessStopped h (Tied p.core) → UnlessStopped h (OwnedAlone p) → UnlessStopped h (Unset p.core)
-      → FineAsking r before ask h p.core p.actors → UnlessStopped h (Kept r p)
+  assembled : (p : Proc Frame) (before : _) (ask : Option Request) (h : Option Halt) → UnlessStopped h (Orderly p.core) → UnlessStopped h (CellsTied p.core) → UnlessStopped h (OwnedAlone p) → UnlessStopped h (Unset p.core)
+      → FineAsking r before ask h p.core p.actors → UnlessStopped h (ProcessInvariant r p)
   assembled p before ask None o t a u f = record { orderly = o; tied = t; alone = a; unset = u; types = f.0; fits = f.1 }
   assembled p before ask (Some h) o t a u f = tt
 

@@ -23,7 +23,7 @@ use Rattle.flow_cancel.specs.Heap.{actor_id}
 use Rattle.flow_numbered.specs.Numbered.{thing}
 use Rattle.flow_meaning.specs.Cells.{Side, PromiseSide, FutureSide, Waiter, Cell, waiters}
 use Rattle.flow_meaning.specs.Process.{Task, Throw, Close, Fire, Entry, Proc}
-use Rattle.flow_meaning.specs.Occ.{count, refs_in, value_in}
+use Rattle.flow_meaning.specs.References.{count, refs_in, value_in}
 use Rattle.flow_meaning.specs.Orderly.{is_suspended, AllWait, tasks_of}
 use Rattle.flow_meaning.specs.Step.{popped}
 use Rattle.flow_meaning.specs.Variables.{flat, filled}
@@ -32,7 +32,7 @@ use Rattle.flow_meaning.proofs.Shifts.{throw_of, close_of, cell_waits}
 use Rattle.flow_meaning.proofs.TaskShifts.{popped_at}
 use Rattle.flow_picture.specs.References.{frame_holds}
 use Rattle.flow_picture.specs.Holding.{held}
-use Rattle.flow_picture.specs.Shows.{Shows}
+use Rattle.flow_picture.specs.Representing.{Represents}
 use Rattle.flow_picture.proofs.Referring.{of_popped}
 use Rattle.flow_unstuck.specs.Places.{class_vars, HoldsTypes}
 use Rattle.flow_unstuck.specs.Rules.{KeepsRules, ClassRules}
@@ -53,7 +53,7 @@ use Rattle.flow_follows.specs.Seeing.{IsCodeOf}
 use Rattle.flow_follows.specs.Closing.{MayClose}
 use Rattle.flow_follows.specs.Tasking.{Suspended, MayFire}
 use Rattle.flow_follows.specs.Throwing.{CatcherFits, MayThrow}
-use Rattle.flow_kept.specs.Kept.{Kept}
+use Rattle.flow_kept.specs.Invariant.{ProcessInvariant}
 use Rattle.flow_kept.proofs.Homes.{catcher_there}
 use Rattle.flow_kept.proofs.Theres.{content_there}
 use Rattle.flow_kept.proofs.Off.{no_tasks_keep, tasks_rest, unfinished, idle, tied_off, alone_off, free_off, go_off}
@@ -126,7 +126,7 @@ both_parts p [] ys h = (refl, h)
 both_parts p (x ∷ xs) ys h =
     let a = both_parts p xs ys (second_true (p x) (list_all p (xs ++ ys)) h) in (ap (λ b. b && list_all p xs) (first_true (p x) (list_all p (xs ++ ys)) h) ∙ a.0, a.1)
 
-module _ (r : RawTree) (code : Code) (valid : AreValid r) (coded : IsCodeOf r code) (p : Proc Frame) (k : Kept r p) (u : Task) (below : List Task) (top : p.core.tasks ≡ u ∷ below) where
+module _ (r : RawTree) (code : Code) (valid : AreValid r) (coded : IsCodeOf r code) (p : Proc Frame) (k : ProcessInvariant r p) (u : Task) (below : List Task) (top : p.core.tasks ≡ u ∷ below) where
   abbrev q : Proc Frame
   q = popped below p
 
@@ -134,7 +134,7 @@ module _ (r : RawTree) (code : Code) (valid : AreValid r) (coded : IsCodeOf r co
   rules = class_rules r valid.valid valid.written (functions_kept r valid.valid valid.functions)
 
   -- whoever waits at a cell is suspended
-  waiter_suspended : (start : Process) → Shows r start.heap q → (j : ℕ) (cell : Cell) (w : Waiter) (ws : List Waiter) → thing p.core.cells j ≡ Some cell → waiters cell ≡ w ∷ ws → Suspended code r start q w
+  waiter_suspended : (start : Process) → Represents r start.heap q → (j : ℕ) (cell : Cell) (w : Waiter) (ws : List Waiter) → thing p.core.cells j ≡ Some cell → waiters cell ≡ w ∷ ws → Suspended code r start q w
   waiter_suspended start s j cell w ws at is =
       let all : AllWait p.core.entries (w ∷ ws) = subst (AllWait p.core.entries) is (cell_waits p.core.entries p.core.cells j cell k.orderly.waiting at) in
       let en = suspended_entry (thing p.core.entries w.actor) all.0 in
@@ -153,7 +153,7 @@ module _ (r : RawTree) (code : Code) (valid : AreValid r) (coded : IsCodeOf r co
         stands = λ st now. let b = stands_by r code valid coded start q w.actor en.0 x.frame st acts now in (b.standing, b.waits waits.group waits.there);
       }
 
-  pub may_fire : (start : Process) (j : ℕ) → Shows r start.heap q → u ≡ Fire j → MayFire code r start q j
+  pub may_fire : (start : Process) (j : ℕ) → Represents r start.heap q → u ≡ Fire j → MayFire code r start q j
   may_fire start j s is =
       let fit : TasksFit r k.types (Fire j ∷ below) = subst (λ t. TasksFit r k.types (t ∷ below)) is (subst (TasksFit r k.types) top k.fits.work) in
       let c = cell_there r k.types j fit.0.0 (thing p.core.cells j) fit.0.1 (k.fits.cells j) in
@@ -175,7 +175,7 @@ module _ (r : RawTree) (code : Code) (valid : AreValid r) (coded : IsCodeOf r co
             (one.0, error_holds r.records (typed_by k.types) (read (emptied t.drops f.mem) (Local n)) (λ v z. (emptied_holds r.records (typed_by k.types) f.code t.drops f.mem holds).types (Local n) ErrorType v ((keeps.catchers f.block t e).1 n q) z));
       }
 
-  pub may_throw : (start : Process) (i err : ℕ) → Shows r start.heap q → u ≡ Throw i err → (e : Entry) × ((f : Frame) × (Acts r start.heap q i e f × MayThrow code start q (actor_id i) e f))
+  pub may_throw : (start : Process) (i err : ℕ) → Represents r start.heap q → u ≡ Throw i err → (e : Entry) × ((f : Frame) × (Acts r start.heap q i e f × MayThrow code start q (actor_id i) e f))
   may_throw start i err s is =
       let t = top ∙ ap (λ t. t ∷ below) is in
       let a = actor_here r k.types i (Throw i err) below p.core p.actors k.orderly t (throw_of i err) k.fits in
@@ -203,7 +203,7 @@ module _ (r : RawTree) (code : Code) (valid : AreValid r) (coded : IsCodeOf r co
   over_empty : (f : Frame) → f ≡ over → (s : Side) (j : ℕ) → frame_holds s j f ≡ 0
   over_empty f e s j = ap (frame_holds s j) e
 
-  pub may_close : (start : Process) (i : ℕ) (o : Outcome) → Shows r start.heap q → u ≡ Close i (outcome_of o) → MayClose r start.heap q i o
+  pub may_close : (start : Process) (i : ℕ) (o : Outcome) → Represents r start.heap q → u ≡ Close i (outcome_of o) → MayClose r start.heap q i o
   may_close start i o s is =
       let v = outcome_of o in
       let t = top ∙ ap (λ t. t ∷ below) is in

@@ -8,7 +8,7 @@ use Rattle.flow_class.specs.Classes.{ClassTree, RawTree}
 use Rattle.flow_numbered.specs.Numbered.{Numbered, thing}
 use Rattle.flow_meaning.specs.Cells.{Ref, PromiseSide, Cell, Single, Stream}
 use Rattle.flow_meaning.specs.Process.{Task, Run, Give, Throw, Catch, Store, Keep, Close, Fire, Drop, Entry, Core, Proc}
-use Rattle.flow_meaning.specs.Occ.{one, count_maybe, in_requests}
+use Rattle.flow_meaning.specs.References.{one, count_maybe, in_requests}
 use Rattle.flow_meaning.specs.Dropping.{port_of}
 use Rattle.flow_meaning.specs.Orderly.{is_of, tasks_of, is_suspended, Stands}
 use Rattle.flow_meaning.specs.Step.{popped}
@@ -20,7 +20,7 @@ use Rattle.flow_picture.specs.Counted.{branches_of, waiters_at, waiting_by, wait
 use Rattle.flow_picture.specs.Rested.{has, IsStream, Owned}
 use Rattle.flow_picture.specs.Naming.{TasksNamed}
 use Rattle.flow_picture.specs.Alone.{spares, Alone, results_at, owners_of}
-use Rattle.flow_picture.specs.Keeps.{Tied}
+use Rattle.flow_picture.specs.CellsTied.{CellsTied}
 use Rattle.flow_picture.specs.Lonely.{OwnedAlone}
 use Rattle.flow_picture.specs.Acting.{NoKeep, Free}
 use Rattle.flow_picture.specs.Leaving.{RightKinds}
@@ -31,9 +31,9 @@ use Rattle.flow_unstuck.specs.Fitting.{CellTypes, CellFits, DoingFits, PostureFi
 use Rattle.flow_unstuck.proofs.CellStates.{cell_there}
 use Rattle.flow_runs.proofs.Owned.{ports_alone, results_alone}
 use Rattle.flow_owned.specs.Unset.{awaited}
-use Rattle.flow_follows.specs.Shown.{Sound}
+use Rattle.flow_follows.specs.Matching.{Sound}
 use Rattle.flow_follows.specs.Taking.{MayGo}
-use Rattle.flow_kept.specs.Kept.{Kept}
+use Rattle.flow_kept.specs.Invariant.{ProcessInvariant}
 use Rattle.flow_kept.proofs.Theres.{operands_right}
 
 -- the results of actors and open requests count
@@ -107,7 +107,7 @@ pub record Unfinished (r : RawTree) (types : CellTypes) (i : ℕ) (e : Entry) (c
   pub acting : thing xs i ≡ Some frame
   pub fits : ActorFits r types e frame (tasks_of i c.tasks)
 
-module _ (r : RawTree) (p : Proc Frame) (k : Kept r p) where
+module _ (r : RawTree) (p : Proc Frame) (k : ProcessInvariant r p) where
   pub unfinished : (i : ℕ) (e : Entry) → thing p.core.entries i ≡ Some e → Unfinished r k.types i e p.core p.actors
   unfinished i e at = by_frame (thing p.actors i) refl (subst (λ x. ActorAt r k.types x (thing p.actors i) (tasks_of i p.core.tasks)) at (k.fits.actors i))
     where
@@ -148,7 +148,7 @@ module _ (r : RawTree) (p : Proc Frame) (k : Kept r p) where
     abbrev q : Proc Frame
     q = popped below p
 
-    pub tied_off : Tied q.core
+    pub tied_off : CellsTied q.core
     tied_off =
         let t = k.tied in
         record { agree = t.agree; numbers = record { ports = t.numbers.ports; cells = t.numbers.cells; requests = t.numbers.requests }; once = t.once }

@@ -39,13 +39,13 @@ use Rattle.flow_cancel.specs.Heap.{HeapTree, pushed}
 use Rattle.flow_cancel.specs.Dropping.{refs_in, dropping}
 use Rattle.flow_cell.specs.declared.waiter.Waiter.{Waiter}
 use Rattle.flow_cancel.specs.Leaving.{waiter_of, withdrawn}
-use Rattle.flow_meaning.specs.Asks as asks
+use Rattle.flow_meaning.specs.Requests as asks
 use Rattle.flow_picture.specs.Changes.{stream_put}
 use Rattle.flow_picture.specs.Holds.{hold, hold_all, filled_in, given}
 use Rattle.flow_steps.specs.declared.call.Call.{Call}
 use Rattle.flow_steps.specs.declared.call.Call.TheVariants as call
 use Rattle.flow_steps.specs.declared.call.Goal.{Goal}
-use Rattle.flow_steps.specs.declared.frames.Stand.{Stand}
+use Rattle.flow_steps.specs.declared.frames.ControlPoint.{ControlPoint}
 use Rattle.flow_steps.specs.declared.next.Pace.{Pace}
 use Rattle.flow_steps.specs.declared.next.Pace.TheVariants.{On, Off}
 use Rattle.flow_steps.specs.declared.process.Process.{Process}
@@ -53,10 +53,10 @@ use Rattle.flow_steps.specs.Doing.{turned, doing, asking, telling, stopped}
 use Rattle.flow_steps.specs.Holding.{on_heap, with_heap, Gives, cancelled_if, outcome_refs, value_refs}
 use Rattle.flow_base.specs.ErrorNumbers.{already_set}
 use Rattle.flow_cancel.specs.declared.task.Task.TheVariants as task
-use Rattle.flow_steps.specs.Bringing.{made, complete_at, sent_into, sending}
-use Rattle.flow_steps.specs.Standing.{next_stand, noted, place_put, places_emptied, lost_from}
-use Rattle.flow_steps.specs.Waiting.{operand_kept, Registered, stream_awaited, awaited, register, register_all, registered_then, left_for, Takes, copied, popped, TakesBranch, no_turn, takes_branch, Keeps, kept_marked, kept_unready, kept_ready, Waits, waits_ready, waits_refused, waits_suspended}
-use Rattle.flow_steps.specs.Sights.{with_left, Evaluates, gives, throws, runs_out}
+use Rattle.flow_steps.specs.Delivering.{made, complete_at, sent_into, sending}
+use Rattle.flow_steps.specs.Points.{next_stand, noted, place_put, places_emptied, lost_from}
+use Rattle.flow_steps.specs.Waiting.{operand_kept, Registered, stream_awaited, awaited, register, register_all, registered_then, left_for, Takes, copied, popped, TakesBranch, no_turn, takes_branch, KeepsOperand, kept_marked, kept_unready, kept_ready, Waits, waits_ready, waits_refused, waits_suspended}
+use Rattle.flow_steps.specs.Evaluating.{with_left, Evaluates, gives, throws, runs_out}
 use Rattle.flow_steps.specs.Acting.{Values, args_of, enrolled, with_args, EffectAsked, ActorCalled, not_called, actor_starts, EffectMade, EffectDone, PredefinedCalled, IsMessage, MethodCalled}
 use Rattle.flow_steps.specs.Stepping.{OnAfter, IsSet, made_in_place, IsNew, IsAct, IsMethod, MethodStep, Does, GoesOnAt, Passes, no_pass, pass_begins, IsTest, ReferenceKept, OperandStep, Chooses, asks_operand, all_kept, ended, IsReturn, ErrorThrown, Ends, StepsOn, by_instruction, by_last, Runs, runs_on, runs_off, GoesOn}
 use Rattle.flow_kept.specs.Staying.{ports_after, Stays}
@@ -122,14 +122,14 @@ turned_quiet m = by_turn (nat_lt 0 m.left)
 pub doing_quiet : (t : Task) (m : Process) → Quiet m (doing t m)
 doing_quiet t m = record { calm = record { time = refl; heap = push_stays t m.heap }; asked = refl }
 
-pub noted_quiet : (s : Stand) (m : Process) → Quiet m (noted s m)
+pub noted_quiet : (s : ControlPoint) (m : Process) → Quiet m (noted s m)
 noted_quiet s m = record { calm = record { time = refl; heap = noting_stays s.noted s.actor.0 s.place s.instruction m.heap }; asked = refl }
 
 left_quiet : (n : ℕ) (m : Process) → Quiet m (with_left n m)
 left_quiet n m = record { calm = record { time = refl; heap = still m.heap }; asked = refl }
 
 -- a task comes where the frame is told
-noted_doing : (s : Stand) (t : Task) (m : Process) → Quiet m (doing t (noted s m))
+noted_doing : (s : ControlPoint) (t : Task) (m : Process) → Quiet m (doing t (noted s m))
 noted_doing s t m = quiet_then m (noted s m) (doing t (noted s m)) (noted_quiet s m) (doing_quiet t (noted s m))
 
 -- after a step
@@ -144,18 +144,18 @@ after_then Off m k n a b = then_speaks m k n a.calm b
 off_is : (pace : Pace) (m n : Process) → pace ≡ Off → Speaks m n → After pace m n
 off_is pace m n e s = subst (λ x. After x m n) (sym e) s
 
-on_is : (pace : Pace) (t : Stand) (m n : Process) → pace ≡ On t → Quiet m n → After pace m n
+on_is : (pace : Pace) (t : ControlPoint) (m n : Process) → pace ≡ On t → Quiet m n → After pace m n
 on_is pace t m n e s = subst (λ x. After x m n) (sym e) s
 
 -- values are left over
-pub left_over : (s : Stand) (vs : List Value) (m n : Process) (pace : Pace) → m.asked ≡ None → OnAfter s vs m pace n → After pace m n
+pub left_over : (s : ControlPoint) (vs : List Value) (m n : Process) (pace : Pace) → m.asked ≡ None → OnAfter s vs m pace n → After pace m n
 left_over s [] m n pace none h = on_is pace s m n h.0 (quiet_is m n m h.1 (quiet_still m))
 left_over s (v ∷ vs) m n pace none h =
     let k = doing _ (noted s m) in
     off_is pace m n h.0 (quiet_speaks m n none (quiet_is m n (on_heap (dropping (v ∷ vs)) k) h.1 (quiet_then m k (on_heap (dropping (v ∷ vs)) k) (noted_doing s _ m) (on_heap_quiet (dropping (v ∷ vs)) k (other_tasks k.heap _)))))
 
 -- evaluation
-pub evaluates : {A B : Type 0} (s : Stand) (seen : B → A) (comes_to : Res A) (m n : Process) (goes : B → Process → Pace → Process → Type 0) (pace : Pace) → m.asked ≡ None
+pub evaluates : {A B : Type 0} (s : ControlPoint) (seen : B → A) (comes_to : Res A) (m n : Process) (goes : B → Process → Pace → Process → Type 0) (pace : Pace) → m.asked ≡ None
     → ((v : B) (k n : Process) (pace : Pace) → k.asked ≡ None → goes v k pace n → After pace k n) → Evaluates s seen comes_to m goes pace n → After pace m n
 evaluates s seen comes_to m n goes pace none further (gives b left _ _ done h) =
     after_then pace m (with_left left m) n (left_quiet left m) (further b (with_left left m) n pace none h)
@@ -206,7 +206,7 @@ effect_made : (code : Code) (i : ActorId) (g : Goal) (e : Effect) (args : Values
 effect_made code i g (effect.World called) args m n none h = effect_asked i g _ m n none h
 effect_made code i g (effect.Actor class) args m n none h = actor_called code i g class args.items m n none h
 
-effect_done : (code : Code) (s : Stand) (g : Goal) (e : Effect) (args : Values) (m n : Process) (pace : Pace) → m.asked ≡ None → EffectDone code s g e args m pace n → After pace m n
+effect_done : (code : Code) (s : ControlPoint) (g : Goal) (e : Effect) (args : Values) (m n : Process) (pace : Pace) → m.asked ≡ None → EffectDone code s g e args m pace n → After pace m n
 effect_done code s g e args m n pace none h =
     off_is pace m n h.0 (then_speaks m (noted s m) n (noted_quiet s m).calm (effect_made code s.actor g e args (noted s m) n none h.1))
 
@@ -251,37 +251,37 @@ method_called i called kind.PromiseStream k arg m n none h = quiet_speaks m n no
 method_called i called kind.Future k arg m n none h = speaks_is m n _ h.1 (then_speaks m (doing _ m) _ (doing_quiet _ m).calm (owner_speaks _ (doing _ m) none))
 method_called i called kind.FutureStream k arg m n none h = absurd h
 
-method_is : (code : Code) (s : Stand) (aim : Aim) (called : Method) (sent : Option Value) (m n : Process) (pace : Pace) → m.asked ≡ None → IsMethod code s aim called sent m pace n → After pace m n
+method_is : (code : Code) (s : ControlPoint) (aim : Aim) (called : Method) (sent : Option Value) (m n : Process) (pace : Pace) → m.asked ≡ None → IsMethod code s aim called sent m pace n → After pace m n
 method_is code s aim called sent m n pace none h =
     off_is pace m n h.off (then_speaks m (noted (next_stand s) m) n (noted_quiet (next_stand s) m).calm (method_called s.actor called h.kind h.cell sent (noted (next_stand s) m) n none h.calls))
 
-method_step : (code : Code) (s : Stand) (aim : Aim) (called : Method) (es : List Resolved) (m n : Process) (pace : Pace) → m.asked ≡ None → MethodStep code s aim called es m pace n → After pace m n
+method_step : (code : Code) (s : ControlPoint) (aim : Aim) (called : Method) (es : List Resolved) (m n : Process) (pace : Pace) → m.asked ≡ None → MethodStep code s aim called es m pace n → After pace m n
 method_step code s aim called [] m n pace none h = method_is code s aim called None m n pace none h
 method_step code s aim called (e ∷ []) m n pace none h =
     evaluates s value_of _ m n _ pace none (λ v k n pace none h. method_is code s aim called (Some v) k n pace none h) h
 method_step code s aim called (e ∷ f ∷ es) m n pace none h = absurd h
 
-act_is : (code : Code) (s : Stand) (a : Act) (args : Values) (m n : Process) (pace : Pace) → m.asked ≡ None → IsAct code s a args m pace n → After pace m n
+act_is : (code : Code) (s : ControlPoint) (a : Act) (args : Values) (m n : Process) (pace : Pace) → m.asked ≡ None → IsAct code s a args m pace n → After pace m n
 act_is code s (act.World called) args m n pace none h =
     off_is pace m n h.0 (then_speaks m (noted (next_stand s) m) n (noted_quiet (next_stand s) m).calm (predefined_called s.actor called args (noted (next_stand s) m) n h.1))
 act_is code s (act.Function f) args m n pace none h =
     evaluates s value_of _ m n _ pace none (λ v k n pace none h. on_is pace _ k n h.0 (quiet_is k n k h.1 (quiet_still k))) h
 
-set_is : (code : Code) (s : Stand) (aim : Aim) (v : Value) (m n : Process) (pace : Pace) → m.asked ≡ None → IsSet code s aim v m pace n → After pace m n
+set_is : (code : Code) (s : ControlPoint) (aim : Aim) (v : Value) (m n : Process) (pace : Pace) → m.asked ≡ None → IsSet code s aim v m pace n → After pace m n
 set_is code s aim v m n pace none h =
     let a = on_heap (hold_all (value_refs v)) m in
     let put = quiet_is a h.between _ h.assigns.put (on_heap_quiet (place_put s.actor.0 aim.place h.assigns.root) a (frame_stays _ s.actor.0 a.heap)) in
     let both = quiet_then m a h.between (on_heap_quiet (hold_all (value_refs v)) m (hold_all_stays (value_refs v) m.heap)) put in
     after_then pace m h.between n both (left_over _ _ h.between n pace (both.asked ∙ none) h.after)
 
-new_is : (s : Stand) (place : ℕ) (kd : Kind) (m n : Process) (pace : Pace) → m.asked ≡ None → IsNew s place kd m pace n → After pace m n
+new_is : (s : ControlPoint) (place : ℕ) (kd : Kind) (m n : Process) (pace : Pace) → m.asked ≡ None → IsNew s place kd m pace n → After pace m n
 new_is s place kd m n pace none h =
     let f = made_in_place s.actor.0 place kd h.cell in
     let one = made kd m.heap in
     let two = hold kd h.cell.0 one in
     after_then pace m (on_heap f m) n (on_heap_quiet f m (and_then m.heap one (f m.heap) (made_stays kd m.heap) (and_then one two (f m.heap) (hold_stays kd h.cell.0 one) (frame_stays _ s.actor.0 two)))) (left_over _ _ (on_heap f m) n pace none h.after)
 
-does : (code : Code) (s : Stand) (x : Instruction) (m n : Process) (pace : Pace) → m.asked ≡ None → Does code s x m pace n → After pace m n
+does : (code : Code) (s : ControlPoint) (x : Instruction) (m n : Process) (pace : Pace) → m.asked ≡ None → Does code s x m pace n → After pace m n
 does code s (instruction.Set aim e) m n pace none h = evaluates s value_of _ m n _ pace none (λ v k n pace none h. set_is code s aim v k n pace none h) h
 does code s (instruction.Effect aim e args) m n pace none h = evaluates s args_of _ m n _ pace none (λ v k n pace none h. effect_done code s _ e v k n pace none h) h
 does code s (instruction.New place kd) m n pace none h = new_is s place kd m n pace none h
@@ -293,16 +293,16 @@ does code s (instruction.Drop places) m n pace none h =
 does code s instruction.Invalid m n pace none h = absurd h
 
 -- the ends of blocks
-goes_at : (s : Stand) (b : ℕ) (m n : Process) (pace : Pace) → GoesOnAt s b m pace n → After pace m n
+goes_at : (s : ControlPoint) (b : ℕ) (m n : Process) (pace : Pace) → GoesOnAt s b m pace n → After pace m n
 goes_at s b m n pace h = on_is pace h.0 m n h.2 (quiet_is m n m h.3 (quiet_still m))
 
-passes : (s : Stand) (b : ℕ) (m n : Process) (pace : Pace) → m.asked ≡ None → Passes s b m pace n → After pace m n
+passes : (s : ControlPoint) (b : ℕ) (m n : Process) (pace : Pace) → m.asked ≡ None → Passes s b m pace n → After pace m n
 passes s b m n pace none (no_pass t _ to left e) =
     let a = turned m in quiet_speaks m n none (quiet_is m n (noted t a) e (quiet_then m a (noted t a) (turned_quiet m) (noted_quiet t a)))
 passes s b m n pace none (pass_begins t _ to left e) = quiet_is m n (turned m) e (turned_quiet m)
 
 -- waits
-pub left_for_stays : (s : Stand) (t : Task) (h : HeapTree) → HeapStays h (left_for s t h)
+pub left_for_stays : (s : ControlPoint) (t : Task) (h : HeapTree) → HeapStays h (left_for s t h)
 left_for_stays s t h =
     let one = pushed t h in
     let two = lost_from s.actor.0 s.class.now.slots one in
@@ -314,7 +314,7 @@ takes_quiet : (k : ℕ) (o : Outcome) (m n : Process) → Takes k o m n → Quie
 takes_quiet k o m n (copied at e) = quiet_is m n _ e (on_heap_quiet (hold_all (outcome_refs o)) m (hold_all_stays (outcome_refs o) m.heap))
 takes_quiet k o m n (popped s none at head e) = quiet_is m n _ e (on_heap_quiet (stream_put k _) m (stream_put_stays k _ m.heap))
 
-pub branch_speaks : (s : Stand) (b : ℕ) (k : CellId) (m n : Process) → m.asked ≡ None → TakesBranch s b k m n → Speaks m n
+pub branch_speaks : (s : ControlPoint) (b : ℕ) (k : CellId) (m n : Process) → m.asked ≡ None → TakesBranch s b k m n → Speaks m n
 branch_speaks s b k m n none (no_turn t e) = quiet_speaks m n none (quiet_is m n (turned m) e (turned_quiet m))
 branch_speaks s b k m n none (takes_branch t h) =
     let a = turned m in
@@ -322,7 +322,7 @@ branch_speaks s b k m n none (takes_branch t h) =
     let left = quiet_then m h.between (on_heap (left_for s h.task) h.between) taken (on_heap_quiet (left_for s h.task) h.between (left_for_stays s h.task h.between.heap)) in
     speaks_is m n _ h.leaves (tells m (on_heap (left_for s h.task) h.between) _ left.calm)
 
-pub keeps_after : (s : Stand) (x : Held) (m n : Process) (pace : Pace) → m.asked ≡ None → Keeps s x m pace n → After pace m n
+pub keeps_after : (s : ControlPoint) (x : Held) (m n : Process) (pace : Pace) → m.asked ≡ None → KeepsOperand s x m pace n → After pace m n
 keeps_after s x m n pace none (kept_marked _ marked e) =
     let k = on_heap (operand_kept s.actor.0 x) m in
     quiet_speaks m n none (quiet_is m n _ e (quiet_then m k _ (on_heap_quiet (operand_kept s.actor.0 x) m (frame_stays _ s.actor.0 m.heap)) (on_heap_quiet (left_for s _) k (left_for_stays s _ k.heap))))
@@ -351,7 +351,7 @@ register_all_stays i (x ∷ xs) h = by_first (register i x h) (register_stays i 
     by_first (true, g) a rest = and_then h g (register_all i xs g).1 a (rest g)
     by_first (false, g) a rest = a
 
-pub waits_speak : (s : Stand) (group : ℕ) (m n : Process) → m.asked ≡ None → Waits s group m n → Speaks m n
+pub waits_speak : (s : ControlPoint) (group : ℕ) (m n : Process) → m.asked ≡ None → Waits s group m n → Speaks m n
 waits_speak s group m n none (waits_ready x b first of h) = branch_speaks s b x.cell m n none h
 waits_speak s group m n none (waits_refused h first all e) =
     let k = with_heap h m in
@@ -362,7 +362,7 @@ waits_speak s group m n none (waits_suspended h first all e) =
     let two = lost_from s.actor.0 s.class.now.slots h in
     speaks_is m n _ e (record { calm = record { time = refl; heap = and_then m.heap h _ a (and_then h two _ (lost_from_stays s.actor.0 s.class.now.slots h) (frame_stays _ s.actor.0 two)) }; says = λ ps. refl })
 
-reference_kept : (s : Stand) (n : ℕ) (v : ValueTree) (m k : Process) (pace : Pace) → m.asked ≡ None → ReferenceKept s n v m pace k → After pace m k
+reference_kept : (s : ControlPoint) (n : ℕ) (v : ValueTree) (m k : Process) (pace : Pace) → m.asked ≡ None → ReferenceKept s n v m pace k → After pace m k
 reference_kept s n (RefValue kd c) m k pace none h =
     let a = on_heap (hold kd c) m in after_then pace m a k (on_heap_quiet (hold kd c) m (hold_stays kd c m.heap)) (keeps_after s _ a k pace none h)
 reference_kept s n (IntValue i) m k pace none h = absurd h
@@ -372,16 +372,16 @@ reference_kept s n VoidValue m k pace none h = absurd h
 reference_kept s n (ErrorValue e) m k pace none h = absurd h
 reference_kept s n (RecordValue r vs) m k pace none h = absurd h
 
-operand_step : (code : Code) (s : Stand) (c : ℕ) (o : Operand) (m n : Process) (pace : Pace) → m.asked ≡ None → OperandStep code s c o m pace n → After pace m n
+operand_step : (code : Code) (s : ControlPoint) (c : ℕ) (o : Operand) (m n : Process) (pace : Pace) → m.asked ≡ None → OperandStep code s c o m pace n → After pace m n
 operand_step code s c (operand.Value e) m n pace none h =
     evaluates s value_of _ m n _ pace none (λ v k n pace none h. reference_kept s c (value_of v) k n pace none h) h
 operand_step code s c (operand.Effect e args) m n pace none h = evaluates s args_of _ m n _ pace none (λ v k n pace none h. effect_done code s _ e v k n pace none h) h
 
-chooses : (code : Code) (s : Stand) (number : ℕ) (g : Group) (m n : Process) (pace : Pace) → m.asked ≡ None → Chooses code s number g m pace n → After pace m n
+chooses : (code : Code) (s : ControlPoint) (number : ℕ) (g : Group) (m n : Process) (pace : Pace) → m.asked ≡ None → Chooses code s number g m pace n → After pace m n
 chooses code s number g m n pace none (asks_operand b at h) = operand_step code s _ b.operand m n pace none h
 chooses code s number g m n pace none (all_kept at off h) = off_is pace m n off (waits_speak s number m n none h)
 
-thrown_is : (s : Stand) (v : ValueTree) (m n : Process) (pace : Pace) → m.asked ≡ None → ErrorThrown s v m pace n → After pace m n
+thrown_is : (s : ControlPoint) (v : ValueTree) (m n : Process) (pace : Pace) → m.asked ≡ None → ErrorThrown s v m pace n → After pace m n
 thrown_is s (ErrorValue e) m n pace none h = off_is pace m n h.0 (quiet_speaks m n none (quiet_is m n _ h.1 (noted_doing s _ m)))
 thrown_is s (IntValue i) m n pace none h = absurd h
 thrown_is s (BoolValue b) m n pace none h = absurd h
@@ -390,7 +390,7 @@ thrown_is s VoidValue m n pace none h = absurd h
 thrown_is s (RefValue kd c) m n pace none h = absurd h
 thrown_is s (RecordValue r vs) m n pace none h = absurd h
 
-return_is : (s : Stand) (v : Value) (m n : Process) (pace : Pace) → m.asked ≡ None → IsReturn s v m pace n → After pace m n
+return_is : (s : ControlPoint) (v : Value) (m n : Process) (pace : Pace) → m.asked ≡ None → IsReturn s v m pace n → After pace m n
 return_is s v m n pace none h =
     let a = on_heap (hold_all (value_refs v)) m in
     let b = noted s a in
@@ -401,11 +401,11 @@ return_is s v m n pace none h =
     (quiet_then m a _ (on_heap_quiet (hold_all (value_refs v)) m (hold_all_stays (value_refs v) m.heap))
     (quiet_then a b _ (noted_quiet s a) (on_heap_quiet (ended s h.task) b (and_then b.heap one _ (push_stays h.task b.heap) (lost_from_stays s.actor.0 0 one)))))))
 
-test_is : (s : Stand) (one other : ℕ) (b : Bool) (m n : Process) (pace : Pace) → IsTest s one other b m pace n → After pace m n
+test_is : (s : ControlPoint) (one other : ℕ) (b : Bool) (m n : Process) (pace : Pace) → IsTest s one other b m pace n → After pace m n
 test_is s one other true m n pace h = goes_at s one m n pace h
 test_is s one other false m n pace h = goes_at s other m n pace h
 
-ends : (code : Code) (s : Stand) (x : Last) (m n : Process) (pace : Pace) → m.asked ≡ None → Ends code s x m pace n → After pace m n
+ends : (code : Code) (s : ControlPoint) (x : Last) (m n : Process) (pace : Pace) → m.asked ≡ None → Ends code s x m pace n → After pace m n
 ends code s (last.Goto b) m n pace none h = goes_at s b m n pace h
 ends code s (last.Pass b) m n pace none h = passes s b m n pace none h
 ends code s (last.Test e one other) m n pace none h = evaluates s _ _ m n _ pace none (λ v k n pace none h. test_is s one other v k n pace h) h
@@ -414,12 +414,12 @@ ends code s (last.Choose g) m n pace none h =
 ends code s (last.Return e) m n pace none h = evaluates s value_of _ m n _ pace none (λ v k n pace none h. return_is s v k n pace none h) h
 ends code s (last.Throw e) m n pace none h = evaluates s value_of _ m n _ pace none (λ v k n pace none h. thrown_is s (value_of v) k n pace none h) h
 
-pub step_after : (code : Code) (s : Stand) (m n : Process) (pace : Pace) → m.asked ≡ None → StepsOn code s m pace n → After pace m n
+pub step_after : (code : Code) (s : ControlPoint) (m n : Process) (pace : Pace) → m.asked ≡ None → StepsOn code s m pace n → After pace m n
 step_after code s m n pace none (by_instruction x at h) = does code s x m n pace none h
 step_after code s m n pace none (by_last end h) = ends code s s.block.now.last m n pace none h
 
 -- a row of steps
-pub runs_speak : (code : Code) (s : Stand) (m n : Process) → m.asked ≡ None → Runs code s m n → Speaks m n
+pub runs_speak : (code : Code) (s : ControlPoint) (m n : Process) → m.asked ≡ None → Runs code s m n → Speaks m n
 runs_speak code s m n none (runs_on _ t _ between _ one more) =
     let a = step_after code s m between (On t) none one in then_speaks m between n a.calm (runs_speak code t between n (a.asked ∙ none) more)
 runs_speak code s m n none (runs_off _ _ _ one) = step_after code s m n Off none one

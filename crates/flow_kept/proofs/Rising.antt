@@ -24,9 +24,9 @@ use Rattle.flow_meaning.specs.Cells.{Ref}
 use Rattle.flow_picture.specs.Changes.{cell_put, stream_put}
 use Rattle.flow_picture.specs.Acting.{frame_put}
 use Rattle.flow_picture.specs.Holds.{held_cell, held_stream, hold, hold_all, set_cell, send_stream, filled_in}
-use Rattle.flow_steps.specs.Bringing.{made, promise_ended, without_promise}
-use Rattle.flow_steps.specs.Standing.{reframed, with_frame, places_emptied, place_put, place_lost, places_lost, losing_from, lost_from, noting}
-use Rattle.flow_steps.specs.Bringing.{gone_to}
+use Rattle.flow_steps.specs.Delivering.{made, promise_ended, without_promise}
+use Rattle.flow_steps.specs.Points.{reframed, with_frame, places_emptied, place_put, place_lost, places_lost, losing_from, lost_from, noting}
+use Rattle.flow_steps.specs.Delivering.{gone_to}
 use Rattle.flow_kept.specs.Staying.{StoresRise}
 
 -- stores

@@ -33,8 +33,8 @@ use Rattle.flow_picture.specs.Holds.{filled_in}
 use Rattle.flow_steps.specs.declared.process.Process.{Process}
 use Rattle.flow_steps.specs.Doing.{turned, doing, telling}
 use Rattle.flow_steps.specs.Holding.{on_heap, with_heap, broken, filled_broken, lost_by, lost, refs_dropped, outcome_refs, futures_of}
-use Rattle.flow_steps.specs.Bringing.{without_promise, result_set, ended_in, ended_with, closing, closed}
-use Rattle.flow_steps.specs.Standing.{values, next_stand, place_put, places_emptied, lost_from}
+use Rattle.flow_steps.specs.Delivering.{without_promise, result_set, ended_in, ended_with, closing, closed}
+use Rattle.flow_steps.specs.Points.{values, next_stand, place_put, places_emptied, lost_from}
 use Rattle.flow_steps.specs.Tasks.{bound, Given, TopTaken, with_error, dropped_places, caught, failed, Raises, FiresAt, IsDone}
 use Rattle.flow_kept.specs.Staying as law
 use Rattle.flow_kept.specs.Staying.{Stays}
@@ -148,7 +148,7 @@ closed_speaks i o r m none = then_speaks m a (closing i o r a) (on_heap_quiet (f
     a : Process
     a = on_heap (finished i.0) m
 
-    by_turn : (b : Bool) → Speaks a (if b then telling (Rattle.flow_steps.specs.Bringing.end_line i o) (ended_with r o (turned a)) else turned a)
+    by_turn : (b : Bool) → Speaks a (if b then telling (Rattle.flow_steps.specs.Delivering.end_line i o) (ended_with r o (turned a)) else turned a)
     by_turn true = tells a (ended_with r o (turned a)) _ (calm_then a (turned a) _ (turned_quiet a).calm (ended_calm r o (turned a) ((turned_quiet a).asked ∙ none)))
     by_turn false = quiet_speaks a (turned a) none (turned_quiet a)
 

@@ -12,10 +12,10 @@ use Rattle.flow_picture.specs.Rested.{Sorted}
 use Rattle.flow_unstuck.specs.Fitting.{TasksFit}
 use Rattle.flow_steps.specs.declared.process.Process.{Process}
 use Rattle.flow_steps.specs.Tasks.{TopTaken}
-use Rattle.flow_follows.specs.Stepped.{TopOff, MayDo, Doable}
+use Rattle.flow_follows.specs.Stepped.{TopOff, MayDo, IsEnabled}
 use Rattle.flow_follows.proofs.Doing.{top_follows, task_follows}
 use Rattle.flow_kept.specs.Allowed as law
-use Rattle.flow_kept.specs.Allowed.{IsPlain, IsRun, BetweenTasks}
+use Rattle.flow_kept.specs.Allowed.{IsPlain, IsValidCode, BetweenTasks}
 use Rattle.flow_kept.proofs.Theres.{ref_there}
 use Rattle.flow_kept.proofs.Off.{sound_off}
 use Rattle.flow_kept.proofs.MayDo.{may_fire, may_throw, may_close}
@@ -23,7 +23,7 @@ use Rattle.flow_kept.proofs.MayDo.{may_fire, may_throw, may_close}
 rest_of : {t u : Task} {ts us : List Task} → t ∷ ts ≡ u ∷ us → ts ≡ us
 rest_of h = cc
 
-module _ (r : RawTree) (code : Code) (run : IsRun r code) (ls : List Line) (m : Process) (p : Proc Frame) (now : BetweenTasks r ls m p) where
+module _ (r : RawTree) (code : Code) (run : IsValidCode r code) (ls : List Line) (m : Process) (p : Proc Frame) (now : BetweenTasks r ls m p) where
   still_sorted : (t : stack.Task) (start : Process) → TopTaken t m start → Sorted start.heap
   still_sorted t start taken =
       let s = now.sorted in
@@ -42,13 +42,13 @@ module _ (r : RawTree) (code : Code) (run : IsRun r code) (ls : List Line) (m : 
   may_do (task.Store i v) start o plain = absurd plain
   may_do (task.Keep i b k) start o plain = absurd plain
 
-  doable : (t : stack.Task) (start : Process) (o : TopOff r ls t start p) → TopTaken t m start → IsPlain t → Doable code r start (popped o.below p) t
+  doable : (t : stack.Task) (start : Process) (o : TopOff r ls t start p) → TopTaken t m start → IsPlain t → IsEnabled code r start (popped o.below p) t
   doable t start o taken plain = record { sound = sound_off r p now.kept o.top o.below o.tasks; sorted = still_sorted t start taken; may = may_do t start o plain }
 
   pub task_allowed : law.TaskAllowed r code run ls m p now
   task_allowed t start u below taken top plain =
       let o = top_follows r ls m p t start now.shown taken in
-      subst (λ us. Doable code r start (popped us p) t) (rest_of (sym o.tasks ∙ top)) (doable t start o taken plain)
+      subst (λ us. IsEnabled code r start (popped us p) t) (rest_of (sym o.tasks ∙ top)) (doable t start o taken plain)
 
   pub plain_steps : law.PlainSteps r code run ls m p now
   plain_steps s t start n none taken plain done =

@@ -11,7 +11,7 @@ use Rattle.flow_valid.specs.Validity.{operand_type}
 use Rattle.flow_numbered.specs.Numbered.{thing}
 use Rattle.flow_meaning.specs.Cells.{Ref, Cell, Single, Stream, taken}
 use Rattle.flow_meaning.specs.Process.{Proc}
-use Rattle.flow_meaning.specs.Occ.{refs_in, value_in}
+use Rattle.flow_meaning.specs.References.{refs_in, value_in}
 use Rattle.flow_meaning.specs.Frame.{Frame}
 use Rattle.flow_picture.specs.Losing.{RightCell}
 use Rattle.flow_picture.specs.Leaving.{wait_kind, RightKinds}

@@ -6,7 +6,7 @@ use Rattle.flow_code.specs.declared.program.Code.{Code}
 use Rattle.flow_trace.specs.declared.line.Line.{Line}
 use Rattle.flow_cancel.specs.declared.task.Task as stack
 use Rattle.flow_cancel.specs.declared.task.Task.TheVariants as task
-use Rattle.flow_meaning.specs.Asks.{Supply}
+use Rattle.flow_meaning.specs.Requests.{Supply}
 use Rattle.flow_meaning.specs.Process.{Task, Proc}
 use Rattle.flow_meaning.specs.Step.{popped}
 use Rattle.flow_meaning.specs.Frame.{Frame}
@@ -15,10 +15,10 @@ use Rattle.flow_picture.specs.Rested.{Sorted}
 use Rattle.flow_runs.specs.Laws.{AreValid}
 use Rattle.flow_steps.specs.declared.process.Process.{Process}
 use Rattle.flow_steps.specs.Tasks.{TopTaken, IsDone}
-use Rattle.flow_follows.specs.Shown.{Shown}
+use Rattle.flow_follows.specs.Matching.{ProcessRepresents}
 use Rattle.flow_follows.specs.Seeing.{IsCodeOf}
-use Rattle.flow_follows.specs.Stepped.{Doable, Steps}
-use Rattle.flow_kept.specs.Kept.{Kept}
+use Rattle.flow_follows.specs.Stepped.{IsEnabled, Steps}
+use Rattle.flow_kept.specs.Invariant.{ProcessInvariant}
 
 -- a task that is done without a step of an actor
 abbrev pub IsPlain : stack.Task → Type 0
@@ -30,22 +30,22 @@ IsPlain (task.Close i o) = Unit {0}
 IsPlain t = ⊥
 
 -- valid classes, and the code of them
-pub record IsRun (r : RawTree) (code : Code) : Type 0 where
+pub record IsValidCode (r : RawTree) (code : Code) : Type 0 where
   pub valid : AreValid r
   pub coded : IsCodeOf r code
 
 -- A process in memory between two tasks, and the one that it shows, which keeps what it has to.
 pub record BetweenTasks (r : RawTree) (ls : List Line) (m : Process) (p : Proc Frame) : Type 0 where
-  pub shown : Shown r ls nothing_in_hand m p
+  pub shown : ProcessRepresents r ls nothing_in_hand m p
   pub sorted : Sorted m.heap
-  pub kept : Kept r p
+  pub kept : ProcessInvariant r p
 
-module _ (r : RawTree) (code : Code) (run : IsRun r code) (ls : List Line) (m : Process) (p : Proc Frame) (now : BetweenTasks r ls m p) where
+module _ (r : RawTree) (code : Code) (run : IsValidCode r code) (ls : List Line) (m : Process) (p : Proc Frame) (now : BetweenTasks r ls m p) where
   -- the newest task may be done, once it is off
   abbrev pub TaskAllowed : Type 0
   TaskAllowed =
       (t : stack.Task) (start : Process) (u : Task) (below : List Task) → TopTaken t m start → p.core.tasks ≡ u ∷ below → IsPlain t
-      → Doable code r start (popped below p) t
+      → IsEnabled code r start (popped below p) t
 
   -- so what memory does for it is a step of the class machine
   abbrev pub PlainSteps : Type 0

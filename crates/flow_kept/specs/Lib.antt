@@ -1,3 +1,3 @@
-pub mod Kept
+pub mod Invariant
 pub mod Allowed
 pub mod Staying

@@ -10,7 +10,7 @@ use Rattle.flow_cancel.specs.Heap.{HeapTree, without_number}
 use Rattle.flow_picture.specs.Rested.{Sorted}
 use Rattle.flow_steps.specs.declared.call.Call.{Call}
 use Rattle.flow_steps.specs.declared.call.Call.TheVariants as call
-use Rattle.flow_steps.specs.declared.frames.Stand.{Stand}
+use Rattle.flow_steps.specs.declared.frames.ControlPoint.{ControlPoint}
 use Rattle.flow_steps.specs.declared.next.Pace.{Pace}
 use Rattle.flow_steps.specs.declared.process.Process.{Process}
 use Rattle.flow_steps.specs.Stepping.{StepsOn, Runs}
@@ -36,10 +36,10 @@ pub record Stays (m n : Process) : Type 0 where
 -- A step of an actor keeps it, and so do a row of them and each task that is done. A step after which the actor goes on at once
 -- asks for nothing.
 abbrev pub StepStays : Type 0
-StepStays = (code : Code) (s : Stand) (m n : Process) (pace : Pace) → m.asked ≡ None → StepsOn code s m pace n → Stays m n
+StepStays = (code : Code) (s : ControlPoint) (m n : Process) (pace : Pace) → m.asked ≡ None → StepsOn code s m pace n → Stays m n
 
 abbrev pub RunsStay : Type 0
-RunsStay = (code : Code) (s : Stand) (m n : Process) → m.asked ≡ None → Runs code s m n → Stays m n
+RunsStay = (code : Code) (s : ControlPoint) (m n : Process) → m.asked ≡ None → Runs code s m n → Stays m n
 
 abbrev pub TaskStays : Type 0
 TaskStays =

@@ -4,7 +4,7 @@ ghost use Rattle.flow_kept.specs.Staying.{StepStays, RunsStay, TaskStays, Sorted
 
 /// The time of a process in memory stays in each step of an event, numbers rise in its stores, and the streams of its ports are
 /// the same but for one that the step tells to be heard no more.
-pub fn memory_stays()
+pub fn steps_keep_time_and_order()
     ensures step { StepStays }
     ensures runs { RunsStay }
     ensures task { TaskStays }

@@ -11,8 +11,8 @@ use Rattle.flow_meaning.specs.Outside.{Boots}
 use Rattle.flow_meaning.specs.Runs.{before}
 use Rattle.flow_runs.specs.Laws.{AreValid}
 use Rattle.flow_boundaries.proofs.Keeping.{start_keeps, event_keeps}
-use Rattle.flow_lasting.specs.Lasting as law
-use Rattle.flow_lasting.specs.Lasting.{IsEarly, LineIsEarly}
+use Rattle.flow_lasting.specs.Invariant as law
+use Rattle.flow_lasting.specs.Invariant.{IsEarly, LineIsEarly}
 use Rattle.flow_lasting.proofs.Mid.{begun_mid, burst_mid}
 
 boots_early : (from count : ℕ) → AllByRecursion (IsEarly 0) (map (λ p. record { time = 0; number = suc p; what = Boots p }) (range_with_len from count))
@@ -23,13 +23,13 @@ lines_early : (count : ℕ) (xs : List (ℕ × Order)) → AllByRecursion (λ (x
 lines_early count [] h = tt
 lines_early count (x ∷ xs) h = (h.0.0.0, lines_early count xs h.1)
 
-pub lasting_starts : (r : RawTree) → law.LastingStarts r
+pub lasting_starts : (r : RawTree) → law.WorldInvariantStarts r
 lasting_starts r w range = record {
   keeps = start_keeps r w range;
   times = record { file = range; script = lines_early w.processes w.script range.script; events = boots_early 0 w.processes };
 }
 
-pub lasting_stays : (r : RawTree) → AreValid r → law.LastingStays r
+pub lasting_stays : (r : RawTree) → AreValid r → law.WorldInvariantStays r
 lasting_stays r valid w b l h g q go =
     let m = burst_mid (classes r) w.out.ran (before b) l q (begun_mid (classes r) w.out.ran w b refl h.times g) in record {
       keeps = event_keeps r valid w b l h.keeps g q go;

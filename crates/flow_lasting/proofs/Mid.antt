@@ -12,15 +12,15 @@ use Rattle.flow_worldfile.specs.Directives.{IsSpan}
 use Rattle.flow_worldfile.specs.Worlds as file
 use Rattle.flow_worldfile.specs.declared.directive.Order.{Order}
 use Rattle.flow_worldfile.specs.declared.directive.Order.TheVariants as order
-use Rattle.flow_meaning.specs.Asks.{Request, Drew, Timer, Packet, Disks}
+use Rattle.flow_meaning.specs.Requests.{Request, Drew, Timer, Packet, Disks}
 use Rattle.flow_meaning.specs.Burst.{Live, Burst, rests, steps, advance, advanced}
 use Rattle.flow_meaning.specs.Outside.{What, Boots, Rings, Arrives, Answers, Outside, host, serve, sent_by, fate_in, is_cut, word_in, with_pending}
 use Rattle.flow_meaning.specs.Process.{Proc, Engine}
 use Rattle.flow_meaning.specs.Step.{Stepped, step}
 use Rattle.flow_meaning.specs.World.{Place, World, Begun, Next, Nothing, Script, Event, sooner, soonest, first_of, next_of, begun_by, ordered, happened, arrived, listener, ready, counted, with_left, process_of, process_in, is_of}
 use Rattle.flow_runs.proofs.Dues.{all_placed, all_filtered}
-use Rattle.flow_steps.specs.Sights.{program_time, last_time}
-use Rattle.flow_lasting.specs.Lasting.{latest, IsEarly, LineIsEarly, InTime}
+use Rattle.flow_steps.specs.Evaluating.{program_time, last_time}
+use Rattle.flow_lasting.specs.Invariant.{latest, IsEarly, LineIsEarly, InTime}
 use Rattle.flow_lasting.proofs.Timely.{IsTimely, step_timely}
 
 -- numbers

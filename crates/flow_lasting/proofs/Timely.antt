@@ -5,7 +5,7 @@ use Rattle.std.proofs.lemmas.Bool.Decides.{nat_tests}
 use Rattle.flow_eval.specs.Predefined.{natural}
 use Rattle.flow_value.specs.Values.{OutcomeTree, GoodOutcome, BadOutcome}
 use Rattle.flow_numbered.specs.Numbered.{thing}
-use Rattle.flow_meaning.specs.Asks.{DiskCall, Act, Goes, Pass, Drops, Effects, Operand, Waits, Sends, Cancels, Prints, SendsTo, Returns, Throws, RunsOut, Stuck, Ask, Effect, Make, Start, Draw, Delay, Never, Listen, Disk, Goal, Request, Timer, Supply}
+use Rattle.flow_meaning.specs.Requests.{DiskCall, Act, Goes, Pass, Drops, Effects, Operand, Waits, Sends, Cancels, Prints, SendsTo, Returns, Throws, RunsOut, Stuck, Ask, Effect, Make, Start, Draw, Delay, Never, Listen, Disk, Goal, Request, Timer, Supply}
 use Rattle.flow_meaning.specs.Process.{Task, Run, Give, Throw, Catch, Store, Keep, Close, Fire, Drop, Entry, Halt, Core, Proc, Engine}
 use Rattle.flow_meaning.specs.Effects.{draw, delay, open_port, listen, judged, ask_disk, effect, send_to, between, is_port}
 use Rattle.flow_meaning.specs.React.{react}

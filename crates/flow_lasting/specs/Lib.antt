@@ -1,1 +1,1 @@
-pub mod Lasting
+pub mod Invariant

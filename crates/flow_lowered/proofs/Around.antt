@@ -7,12 +7,12 @@ use Rattle.flow_class.specs.Classes.{DropInstr, LastTree, GotoLast, PassLast, Cl
 use Rattle.flow_class.specs.Code.{Last}
 use Rattle.flow_class.specs.Scopes.{Scope, Mark, Var, scope, outside, Above}
 use Rattle.flow_catch.specs.Inner.{listed, left_lists}
-use Rattle.flow_meaning.specs.Asks.{Spot}
+use Rattle.flow_meaning.specs.Requests.{Spot}
 use Rattle.flow_meaning.specs.Evaluating.{Names}
 use Rattle.flow_meaning.specs.Items.{Site, Loop, Item, Do, Leave, Round, Check, Made, Handler, Over, site_at}
 use Rattle.flow_meaning.specs.SourceStep.{Breaks, Continues}
 use Rattle.flow_meaning.specs.SourceStep as source
-use Rattle.flow_meaning.specs.Carry.{Pos, entry, after, Target, At, Again, EndsScope, at, Goes, here, jump, SimpleAt, PassAt, DropThen, GoesOn}
+use Rattle.flow_meaning.specs.Carry.{Pos, entry, after, Target, At, Again, EndsScope, at, JumpsTo, here, jump, SimpleAt, PassAt, DropThen, GoesOn}
 use Rattle.flow_meaning.specs.Carry as carry
 use Rattle.flow_meaning.specs.Carries.{ExitAt}
 use Rattle.flow_split.specs.Around.{Exit, Text, Scoped, Part, Hand, Around, inner, pass, guarded, handling}
@@ -23,15 +23,15 @@ use Rattle.flow_lowered.proofs.Held.{HandIn, HandlerIn, uncaught}
 
 module _ (ns : Names) (c : ClassTree) where
   -- jumps in front
-  pub goes_on : {p q r : Pos} → Goes ns c p q → Goes ns c q r → Goes ns c p r
+  pub goes_on : {p q r : Pos} → JumpsTo ns c p q → JumpsTo ns c q r → JumpsTo ns c p r
   goes_on here g = g
   goes_on (jump b e f) g = jump b e (goes_on f g)
 
-  drop_before : (ds : List ℕ) (p q : Pos) (follows : Pos → Type 0) → Goes ns c p q → (follows q → follows p) → DropThen ns c ds q follows → DropThen ns c ds p follows
+  drop_before : (ds : List ℕ) (p q : Pos) (follows : Pos → Type 0) → JumpsTo ns c p q → (follows q → follows p) → DropThen ns c ds q follows → DropThen ns c ds p follows
   drop_before [] p q follows g f h = f h
   drop_before (d ∷ ds) p q follows g f h = (h.0, goes_on g h.1, h.2, h.3)
 
-  pub goes_before : (s : Scope) (r : List Item) (ts : List Target) (p q : Pos) → Goes ns c p q → GoesOn ns c s r ts q → GoesOn ns c s r ts p
+  pub goes_before : (s : Scope) (r : List Item) (ts : List Target) (p q : Pos) → JumpsTo ns c p q → GoesOn ns c s r ts q → GoesOn ns c s r ts p
   goes_before s [] ts p q g h = (h.0, h.1, goes_on g h.2, h.3, h.4, h.5)
   goes_before s (Leave ∷ r) ts p q g h = drop_before (scope s) p q (GoesOn ns c (outside s) r ts) g (goes_before (outside s) r ts p q g) h
   goes_before s (Do x k ∷ r) (At t ∷ ts) p q g h = goes_on g h
@@ -39,7 +39,7 @@ module _ (ns : Names) (c : ClassTree) where
   goes_before s (Handler y x k ∷ r) (carry.Hand b n ∷ ts) p q g h = goes_before s r ts p q g h
   goes_before s _ ts p q g h = absurd h
 
-  pub exits_before : (how : source.Exit) (s : Scope) (r : List Item) (ts : List Target) (p q : Pos) → Goes ns c p q → ExitAt ns c how s r ts q → ExitAt ns c how s r ts p
+  pub exits_before : (how : source.Exit) (s : Scope) (r : List Item) (ts : List Target) (p q : Pos) → JumpsTo ns c p q → ExitAt ns c how s r ts q → ExitAt ns c how s r ts p
   exits_before how s (Leave ∷ r) ts p q g h = drop_before (scope s) p q (ExitAt ns c how (outside s) r ts) g (exits_before how (outside s) r ts p q g) h
   exits_before how s (Do x k ∷ r) (t ∷ ts) p q g h = exits_before how s r ts p q g h
   exits_before how s (Handler y x k ∷ r) (t ∷ ts) p q g h = exits_before how s r ts p q g h
@@ -163,7 +163,7 @@ module _ (ns : Names) (c : ClassTree) where
   hand_inner None d x k q r ts i = i
   hand_inner (Some h) d x k q r ts i = i
 
-  goto_on : (q : ℕ) (p : Pos) → at ns c p ≡ Last (GotoLast q) → Goes ns c p (entry q)
+  goto_on : (q : ℕ) (p : Pos) → at ns c p ≡ Last (GotoLast q) → JumpsTo ns c p (entry q)
   goto_on q p e = jump q e here
 
   pub here_inner : (l : Bool) (w : Around) (s : Scope) (n m : Next) (x z : Site) (y : Spot) (k : Body) (q : ℕ) (r : List Item) (ts : List Target) → n.local ≤ m.local → m.group ≡ y.group → Here l w s n x r ts

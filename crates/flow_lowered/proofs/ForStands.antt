@@ -9,7 +9,7 @@ use Rattle.flow_class.specs.Classes.{GotoLast, PassLast, ClassTree}
 use Rattle.flow_class.specs.Code.{Last}
 use Rattle.flow_class.specs.Scopes.{Scope, Mark, scope, Above}
 use Rattle.flow_layout.specs.Locals.{body_locals}
-use Rattle.flow_meaning.specs.Asks.{Spot}
+use Rattle.flow_meaning.specs.Requests.{Spot}
 use Rattle.flow_meaning.specs.Evaluating.{Names}
 use Rattle.flow_meaning.specs.Items.{Site, Loop, Item, Do, Leave, Round, Made, site_at}
 use Rattle.flow_meaning.specs.Text as text

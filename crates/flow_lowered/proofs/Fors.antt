@@ -8,10 +8,10 @@ use Rattle.flow_tree.specs.Body.{Body, End, DeclareStmt, AssignStmt, ModifyStmt}
 use Rattle.flow_class.specs.Classes.{TestLast, ClassTree}
 use Rattle.flow_class.specs.Scopes.{Scope, Above, over}
 use Rattle.flow_layout.specs.Locals.{body_locals, declared_locals}
-use Rattle.flow_meaning.specs.Asks.{Spot}
+use Rattle.flow_meaning.specs.Requests.{Spot}
 use Rattle.flow_meaning.specs.Evaluating.{Names}
 use Rattle.flow_meaning.specs.Items.{Site, Loop, Item, Do, Leave, Round, Made}
-use Rattle.flow_meaning.specs.Carry.{Pos, entry, after, Target, At, Again, at, Goes, here, DropThen, GoesOn}
+use Rattle.flow_meaning.specs.Carry.{Pos, entry, after, Target, At, Again, at, JumpsTo, here, DropThen, GoesOn}
 use Rattle.flow_meaning.specs.Carries.{LoopAt}
 use Rattle.flow_split.specs.Around.{Hand, Around}
 use Rattle.flow_split.specs.Counts.{test_blocks, locals_in, Next}
@@ -85,7 +85,7 @@ module _ (ns : Names) (c : ClassTree) (few_slots : length c.slots < 2 ^ 64) (few
   -- drops before a chunk
   pub record Dropped (ds : List ℕ) (p : Pos) (n : ℕ) (x : Spot) (h : Option Hand) (ch : Chunk) : Type 0 where
     pub to : Pos
-    pub drops : DropThen ns c ds p (λ q. Goes ns c q to)
+    pub drops : DropThen ns c ds p (λ q. JumpsTo ns c q to)
     pub stands : Stands ns c to n x h ch
 
   pub dropped : (ds : List ℕ) (p : Pos) (n : ℕ) (x : Spot) (h : Option Hand) (ch : Chunk) → Stands ns c p n x h (dropping ds ch) → Dropped ds p n x h ch

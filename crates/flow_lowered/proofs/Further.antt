@@ -10,7 +10,7 @@ use Rattle.flow_ast.specs.Typing.{is_there}
 use Rattle.flow_class.specs.Classes.{LastTree, ClassTree}
 use Rattle.flow_class.specs.Scopes.{Scope}
 use Rattle.flow_layout.specs.Locals.{body_locals, branch_locals, declared_locals, into_locals}
-use Rattle.flow_meaning.specs.Asks.{Spot}
+use Rattle.flow_meaning.specs.Requests.{Spot}
 use Rattle.flow_meaning.specs.Evaluating.{Names}
 use Rattle.flow_meaning.specs.Items.{Site, Item, site_at}
 use Rattle.flow_meaning.specs.Text as text

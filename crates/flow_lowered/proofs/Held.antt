@@ -9,7 +9,7 @@ use Rattle.flow_class.specs.Classes.{LastTree, GotoLast, PassLast, ChooseLast, R
 use Rattle.flow_class.specs.Code.{catcher_at}
 use Rattle.flow_class.specs.Scopes.{Scope, Mark, Var, scope, outside, over, Above, Apart, Covers, none, this, extra}
 use Rattle.flow_catch.specs.Inner.{inner_locals}
-use Rattle.flow_meaning.specs.Asks.{Spot}
+use Rattle.flow_meaning.specs.Requests.{Spot}
 use Rattle.flow_meaning.specs.Evaluating.{Names}
 use Rattle.flow_meaning.specs.Items.{Item, Do, Leave, Round, Check, Made, Handler, Over, Unwound, unwind}
 use Rattle.flow_meaning.specs.Carry.{Pos, Target, At, Again, hand_of, CaughtBy, CaughtAt}

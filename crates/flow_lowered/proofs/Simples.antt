@@ -19,7 +19,7 @@ use Rattle.flow_class.specs.Scopes as scopes
 use Rattle.flow_choose.specs.Places.{ident_at}
 use Rattle.flow_tree.specs.Decls.{SlotTree}
 use Rattle.flow_layout.specs.Locals.{body_locals, declared_locals, into_locals}
-use Rattle.flow_meaning.specs.Asks.{Spot}
+use Rattle.flow_meaning.specs.Requests.{Spot}
 use Rattle.flow_meaning.specs.Evaluating.{Names, Effectful, effect_in}
 use Rattle.flow_meaning.specs.Items.{Item, change, modified, path_from}
 use Rattle.flow_meaning.specs.Carry.{Pos, after, Target, at, AssignBy, AssignAt, ChangeAt, default_expr, FirstAt, DeclareAt, DeclaredAs, SimpleAt}

@@ -6,7 +6,7 @@ use Rattle.flow_tree.specs.Decls.{SlotTree}
 use Rattle.flow_ast.specs.Slots.{body_groups, branch_groups, branch_waits}
 use Rattle.flow_class.specs.Classes.{CallbackTree}
 use Rattle.flow_class.specs.Scopes.{Scope}
-use Rattle.flow_meaning.specs.Asks.{Spot}
+use Rattle.flow_meaning.specs.Requests.{Spot}
 use Rattle.flow_meaning.specs.Evaluating.{Names}
 use Rattle.flow_meaning.specs.Shape.{waits_kinds, callback_kinds}
 use Rattle.flow_meaning.specs.Text.{next_spot, branch_count}

@@ -6,7 +6,7 @@ use Rattle.flow_tree.specs.Tree.{TypeTree}
 use Rattle.flow_class.specs.Classes.{InstrTree, LastTree, BlockTree, CallbackTree, ClassTree}
 use Rattle.flow_class.specs.Code.{Last, catcher_at, group_at}
 use Rattle.flow_class.specs.Code as code
-use Rattle.flow_meaning.specs.Asks.{Spot}
+use Rattle.flow_meaning.specs.Requests.{Spot}
 use Rattle.flow_meaning.specs.Evaluating.{Names}
 use Rattle.flow_meaning.specs.Text.{next_spot}
 use Rattle.flow_meaning.specs.Frame.{spot_of}

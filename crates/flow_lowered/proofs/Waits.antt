@@ -11,7 +11,7 @@ use Rattle.flow_class.specs.Classes.{ActInstr, GotoLast, ChooseLast, CallbackTre
 use Rattle.flow_class.specs.Code.{Last}
 use Rattle.flow_class.specs.Scopes.{Scope, Mark, over_all, path_over, act_over}
 use Rattle.flow_layout.specs.Locals.{body_locals, branch_locals, declared_locals, into_locals}
-use Rattle.flow_meaning.specs.Asks.{Spot}
+use Rattle.flow_meaning.specs.Requests.{Spot}
 use Rattle.flow_meaning.specs.Evaluating.{Names}
 use Rattle.flow_meaning.specs.Items.{Site, Item, Do, Leave, site_at}
 use Rattle.flow_meaning.specs.Text.{next_spot, branch_count}

@@ -7,7 +7,7 @@ use Rattle.flow_ast.specs.Slots.{slots_of}
 use Rattle.flow_class.specs.Classes.{BlockTree, CallbackTree, ClassTree}
 use Rattle.flow_class.specs.Code.{callbacks_before}
 use Rattle.flow_layout.specs.Laying.{layout_of}
-use Rattle.flow_meaning.specs.Asks.{Spot}
+use Rattle.flow_meaning.specs.Requests.{Spot}
 use Rattle.flow_meaning.specs.Evaluating.{Names}
 use Rattle.flow_meaning.specs.Text.{first_spot, next_spot}
 use Rattle.flow_meaning.specs.Carry.{entry}

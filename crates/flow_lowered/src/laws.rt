@@ -3,17 +3,17 @@
 ghost use Rattle.flow_lowered.specs.Laws.{WithinWeight, KeepsShape, KeepsText};
 
 /// The class of an actor has no more blocks than the actor weighs.
-pub fn lowered_weight()
+pub fn lowering_stays_within_weight()
     ensures { WithinWeight }
 {}
 
 /// The class of an actor has its name, its result and its parameters; its slots are the parameters and
 /// then the state variables, and its groups are the waits, all in the order of the text.
-pub fn lowered_shape()
+pub fn lowering_keeps_shape()
     ensures { KeepsShape }
 {}
 
 /// The class of an actor carries it: at each point of the text stands what the text says.
-pub fn lowered_carries()
+pub fn lowering_carries_text()
     ensures { KeepsText }
 {}

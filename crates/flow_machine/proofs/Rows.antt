@@ -9,19 +9,19 @@ use Rattle.flow_meaning.specs.Burst.{Host}
 use Rattle.flow_steps.specs.declared.process.Next.TheVariants as next
 use Rattle.flow_steps.specs.declared.process.Process.{Process}
 use Rattle.flow_steps.specs.Doing.{unasked}
-use Rattle.flow_steps.specs.Straying.{Strays}
-use Rattle.flow_steps.specs.AmissTasks.{TasksAmiss, MainAmiss}
+use Rattle.flow_steps.specs.Stuck.{IfStuck}
+use Rattle.flow_steps.specs.StuckTasks.{TasksStuck, MainStuck}
 use Rattle.flow_steps.specs.declared.errors.Fault.{Fault}
 use Rattle.flow_steps.specs.declared.errors.Fault.TheVariants as step
 use Rattle.flow_steps.specs.Tasks.{Tasks, MainCalled}
 use Rattle.flow_machine.specs.declared.host.Burst.{Burst}
 use Rattle.flow_machine.specs.declared.host.Burst.TheVariants.{Rested, Spent}
 use Rattle.flow_machine.specs.declared.host.RunFault.{RunFault}
-use Rattle.flow_machine.specs.declared.host.RunFault.TheVariants.{OutOfMemory, Astray}
+use Rattle.flow_machine.specs.declared.host.RunFault.TheVariants.{OutOfMemory, Stuck}
 use Rattle.flow_machine.specs.Serving.{ServedIf}
-use Rattle.flow_machine.specs.Breaking.{ServingAmiss, ServingBrokeIf, BreaksOff, no_memory, strays, serving, further}
-use Rattle.flow_machine.specs.Breaking.{MainBreaksOff, uncalled, main_strays, untold, called}
-use Rattle.flow_machine.specs.Breaking.{BringingBreaksOff, unbrought, bringing_strays, is_brought}
+use Rattle.flow_machine.specs.Breaking.{ServingStuck, ServingBrokeIf, BreaksOff, no_memory, gets_stuck, serving, further}
+use Rattle.flow_machine.specs.Breaking.{MainBreaksOff, uncalled, main_stuck, untold, called}
+use Rattle.flow_machine.specs.Breaking.{BringingBreaksOff, unbrought, bringing_stuck, is_brought}
 use Rattle.flow_machine.specs.Cause.{fault_in}
 use Rattle.flow_machine.specs.Bursts.{Bursts, rests, runs_out, asks, MainBursts}
 
@@ -57,14 +57,14 @@ module _ {A W : Type 0} (serves : Host W) (shows : A → Numbered ℕ → W → 
   further_asks p q r s a b c h t v f d rest = h f d (further r q s b c d f t v rest)
 
   pub tasks_break :
-      (p r : Process) (a b : A) (e : Fault) → BeforeBreak p a r b → Strays e (TasksAmiss code r)
+      (p r : Process) (a b : A) (e : Fault) → BeforeBreak p a r b → IfStuck e (TasksStuck code r)
       → BreaksOff serves shows wrote broke code n p a (fault_in e) b
   tasks_break p r a b step.OutOfMemory h s = h OutOfMemory b (no_memory r b)
-  tasks_break p r a b step.Astray h s = h Astray b (strays r b s)
+  tasks_break p r a b step.Stuck h s = h Stuck b (gets_stuck r b s)
 
   pub asks_break :
       (p q r : Process) (a b c : A) (f : RunFault) → BeforeBreak p a r b → Tasks code r next.Asks q
-      → ServingBrokeIf serves shows wrote broke q.asked b c → (f ≡ Astray → ServingAmiss q.asked)
+      → ServingBrokeIf serves shows wrote broke q.asked b c → (f ≡ Stuck → ServingStuck q.asked)
       → BreaksOff serves shows wrote broke code n p a f c
   asks_break p q r a b c f h t v s = h f c (serving r q b c f t v s)
 
@@ -72,14 +72,14 @@ module _ {A W : Type 0} (serves : Host W) (shows : A → Numbered ℕ → W → 
   numbers_end p r a b h = h OutOfMemory b (no_memory r b)
 
   pub main_breaks :
-      (me : ProcId) (p : Process) (a : A) (e : Fault) → Strays e (MainAmiss code me p.heap)
+      (me : ProcId) (p : Process) (a : A) (e : Fault) → IfStuck e (MainStuck code me p.heap)
       → MainBreaksOff serves shows wrote broke code n me p a (fault_in e) a
   main_breaks me p a step.OutOfMemory s = uncalled
-  main_breaks me p a step.Astray s = main_strays s
+  main_breaks me p a step.Stuck s = main_stuck s
 
   pub line_breaks :
       (me : ProcId) (p q : Process) (a b : A) (f : RunFault) → MainCalled code me p q
-      → ServingBrokeIf serves shows wrote broke q.asked a b → (f ≡ Astray → ServingAmiss q.asked)
+      → ServingBrokeIf serves shows wrote broke q.asked a b → (f ≡ Stuck → ServingStuck q.asked)
       → MainBreaksOff serves shows wrote broke code n me p a f b
   line_breaks me p q a b f m v s = untold q b f m v s
 
@@ -90,13 +90,13 @@ module _ {A W : Type 0} (serves : Host W) (shows : A → Numbered ℕ → W → 
   after_main me p q r a b c (Ok e) m v h = tt
   after_main me p q r a b c (Err f) m v h = called q r b c f m v h
 
-  module _ (amiss : Type 0) (m : Process) (a : A) where
-    pub bringing_breaks : (e : Fault) → Strays e amiss → BringingBreaksOff serves shows wrote broke code n amiss m a (fault_in e) a
+  module _ (stuck : Type 0) (m : Process) (a : A) where
+    pub bringing_breaks : (e : Fault) → IfStuck e stuck → BringingBreaksOff serves shows wrote broke code n stuck m a (fault_in e) a
     bringing_breaks step.OutOfMemory s = unbrought
-    bringing_breaks step.Astray s = bringing_strays s
+    bringing_breaks step.Stuck s = bringing_stuck s
 
     pub after_bringing :
         (b : A) (end : Result Burst RunFault) → IfErr end (λ f. BreaksOff serves shows wrote broke code n m a f b)
-        → IfErr end (λ f. BringingBreaksOff serves shows wrote broke code n amiss m a f b)
+        → IfErr end (λ f. BringingBreaksOff serves shows wrote broke code n stuck m a f b)
     after_bringing b (Ok e) h = tt
     after_bringing b (Err f) h = is_brought f b h

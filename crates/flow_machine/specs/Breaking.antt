@@ -7,7 +7,7 @@ use Rattle.flow_code.specs.declared.program.Code.{Code}
 use Rattle.flow_trace.specs.declared.line.Line.{Line}
 use Rattle.flow_eval.specs.Predefined.{natural}
 use Rattle.flow_numbered.specs.Numbered.{Numbered}
-use Rattle.flow_meaning.specs.Asks.{Drew, Packet}
+use Rattle.flow_meaning.specs.Requests.{Drew, Packet}
 use Rattle.flow_meaning.specs.Burst.{Host}
 use Rattle.flow_steps.specs.declared.call.Call.{Call}
 use Rattle.flow_steps.specs.declared.call.Call.TheVariants as call
@@ -17,9 +17,9 @@ use Rattle.flow_steps.specs.declared.process.Next.TheVariants as next
 use Rattle.flow_steps.specs.declared.process.Process.{Process}
 use Rattle.flow_steps.specs.Doing.{unasked}
 use Rattle.flow_steps.specs.Tasks.{Tasks, MainCalled}
-use Rattle.flow_steps.specs.AmissTasks.{TasksAmiss, MainAmiss}
+use Rattle.flow_steps.specs.StuckTasks.{TasksStuck, MainStuck}
 use Rattle.flow_machine.specs.declared.host.RunFault.{RunFault}
-use Rattle.flow_machine.specs.declared.host.RunFault.TheVariants.{OutOfMemory, Astray}
+use Rattle.flow_machine.specs.declared.host.RunFault.TheVariants.{OutOfMemory, Stuck}
 use Rattle.flow_machine.specs.Hosting.{Serves, LinesOf}
 use Rattle.flow_machine.specs.Serving.{ServedIf}
 
@@ -29,9 +29,9 @@ IsOperand goal.Stored = ⊥
 IsOperand (goal.Kept n) = Unit {0}
 
 -- what a step asked goes astray: a drawn number, which is no reference, is to be kept as an operand
-abbrev pub ServingAmiss : Option Call → Type 0
-ServingAmiss (Some (call.Draw i g lo hi)) = IsOperand g
-ServingAmiss _ = ⊥
+abbrev pub ServingStuck : Option Call → Type 0
+ServingStuck (Some (call.Draw i g lo hi)) = IsOperand g
+ServingStuck _ = ⊥
 
 -- A stands for the host, W for what can change in the world, `serves` for what the world does for a request, `shows` for what the
 -- host shows, `wrote` for the lines that came of it since, and `broke` for lines of which at most a first part did.
@@ -65,23 +65,23 @@ module _ {A W : Type 0} (serves : Host W) (shows : A → Numbered ℕ → W → 
     -- served; or so after that.
     pub data BreaksOff : Process → A → RunFault → A → Type 0 where
       no_memory : (p : Process) (a : A) → BreaksOff p a OutOfMemory a
-      strays : (p : Process) (a : A) → TasksAmiss code p → BreaksOff p a Astray a
+      gets_stuck : (p : Process) (a : A) → TasksStuck code p → BreaksOff p a Stuck a
       serving : (p q : Process) (a b : A) (f : RunFault) → Tasks code p next.Asks q → ServingBrokeIf q.asked a b
-          → (f ≡ Astray → ServingAmiss q.asked) → BreaksOff p a f b
+          → (f ≡ Stuck → ServingStuck q.asked) → BreaksOff p a f b
       further : (p q r : Process) (a b c : A) (f : RunFault) → Tasks code p next.Asks q
           → ServedIf serves shows wrote processes q.asked (unasked q) a r b → BreaksOff r b f c → BreaksOff p a f c
 
     -- So does the call of `main`, the line of its start, or the burst that follows.
     pub data MainBreaksOff (me : ProcId) (p : Process) (a : A) : RunFault → A → Type 0 where
       uncalled : MainBreaksOff me p a OutOfMemory a
-      main_strays : MainAmiss code me p.heap → MainBreaksOff me p a Astray a
+      main_stuck : MainStuck code me p.heap → MainBreaksOff me p a Stuck a
       untold : (q : Process) (b : A) (f : RunFault) → MainCalled code me p q → ServingBrokeIf q.asked a b
-          → (f ≡ Astray → ServingAmiss q.asked) → MainBreaksOff me p a f b
+          → (f ≡ Stuck → ServingStuck q.asked) → MainBreaksOff me p a f b
       called : (q r : Process) (b c : A) (f : RunFault) → MainCalled code me p q
           → ServedIf serves shows wrote processes q.asked (unasked q) a r b → BreaksOff r b f c → MainBreaksOff me p a f c
 
     -- What is brought to a process goes astray, for which there may be no memory either; or the burst that follows breaks off.
-    pub data BringingBreaksOff (amiss : Type 0) (brought : Process) (a : A) : RunFault → A → Type 0 where
-      unbrought : BringingBreaksOff amiss brought a OutOfMemory a
-      bringing_strays : amiss → BringingBreaksOff amiss brought a Astray a
-      is_brought : (f : RunFault) (b : A) → BreaksOff brought a f b → BringingBreaksOff amiss brought a f b
+    pub data BringingBreaksOff (stuck : Type 0) (brought : Process) (a : A) : RunFault → A → Type 0 where
+      unbrought : BringingBreaksOff stuck brought a OutOfMemory a
+      bringing_stuck : stuck → BringingBreaksOff stuck brought a Stuck a
+      is_brought : (f : RunFault) (b : A) → BreaksOff brought a f b → BringingBreaksOff stuck brought a f b

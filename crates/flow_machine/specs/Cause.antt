@@ -6,7 +6,7 @@ use Rattle.flow_base.specs.declared.fault.OutFault.TheVariants as out
 use Rattle.flow_steps.specs.declared.errors.Fault.{Fault}
 use Rattle.flow_steps.specs.declared.errors.Fault.TheVariants as step
 use Rattle.flow_machine.specs.declared.host.RunFault.{RunFault}
-use Rattle.flow_machine.specs.declared.host.RunFault.TheVariants.{Failed, OutOfMemory, Astray}
+use Rattle.flow_machine.specs.declared.host.RunFault.TheVariants.{Failed, OutOfMemory, Stuck}
 
 -- the host's count of faults didn't fall, and `Failed` was answered only where it rose
 pub record RunCause {T : Type 0} (before after : ℕ) (result : Result T RunFault) : Type 0 where
@@ -21,4 +21,4 @@ fault_of out.OutOfMemory = OutOfMemory
 -- a fault in a step
 abbrev pub fault_in : Fault → RunFault
 fault_in step.OutOfMemory = OutOfMemory
-fault_in step.Astray = Astray
+fault_in step.Stuck = Stuck

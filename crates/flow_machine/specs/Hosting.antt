@@ -6,7 +6,7 @@ use Rattle.flow_trace.specs.declared.line.Line.{Line}
 use Rattle.flow_draw.specs.Words.{scaled}
 use Rattle.flow_numbered.specs.Numbered.{Numbered, thing, added, removed}
 use Rattle.flow_meaning.specs.Dropping.{port_of}
-use Rattle.flow_meaning.specs.Asks.{Request, Drew}
+use Rattle.flow_meaning.specs.Requests.{Request, Drew}
 use Rattle.flow_meaning.specs.Burst.{Host}
 
 -- the stream is no more that of a port

@@ -11,7 +11,7 @@ use Rattle.flow_trace.specs.declared.line.Line.{Line}
 use Rattle.flow_eval.specs.Predefined.{natural}
 use Rattle.flow_cancel.specs.declared.task.Task.TheVariants.{Run, Throw}
 use Rattle.flow_numbered.specs.Numbered.{Numbered, thing}
-use Rattle.flow_meaning.specs.Asks.{DiskCall, Timer, Packet, Disks}
+use Rattle.flow_meaning.specs.Requests.{DiskCall, Timer, Packet, Disks}
 use Rattle.flow_meaning.specs.Burst.{Host}
 use Rattle.flow_meaning.specs.Effects.{between, is_port, judged}
 use Rattle.flow_steps.specs.declared.call.Call.{Call}
@@ -20,7 +20,7 @@ use Rattle.flow_steps.specs.declared.call.Goal.{Goal}
 use Rattle.flow_steps.specs.declared.process.Process.{Process}
 use Rattle.flow_steps.specs.Doing.{doing}
 use Rattle.flow_steps.specs.Holding.{Gives}
-use Rattle.flow_steps.specs.Bringing.{OpenGiven, PortGiven}
+use Rattle.flow_steps.specs.Delivering.{OpenGiven, PortGiven}
 use Rattle.flow_machine.specs.Requests.{asked_of}
 use Rattle.flow_machine.specs.Hosting.{Serves, Draws, Writes, Listens, Unlistens}
 

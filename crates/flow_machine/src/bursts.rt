@@ -5,10 +5,10 @@ ghost use Rattle.flow_eval.specs.Predefined.{natural};
 ghost use Rattle.flow_meaning.specs.Effects.{between, is_port, judged};
 ghost use Rattle.flow_steps.specs.Doing.{unasked};
 ghost use Rattle.flow_machine.specs.Bursts.{Bursts};
-ghost use Rattle.flow_machine.specs.Breaking.{IsOperand, ServingAmiss, Unwritten, DrawBroke, SendBroke};
+ghost use Rattle.flow_machine.specs.Breaking.{IsOperand, ServingStuck, Unwritten, DrawBroke, SendBroke};
 ghost use Rattle.flow_machine.specs.Breaking.{ServingBroke, ServingBrokeIf, BreaksOff};
 ghost use Rattle.flow_machine.specs.Cause.{RunCause};
-ghost use Rattle.flow_machine.specs.declared.host.RunFault.TheVariants.{Astray};
+ghost use Rattle.flow_machine.specs.declared.host.RunFault.TheVariants.{Stuck};
 ghost use Rattle.flow_machine.specs.Requests.{asked_of};
 ghost use Rattle.flow_machine.specs.Serving.{DrawServed, DelayServed, ListenServed, DiskServed};
 ghost use Rattle.flow_machine.specs.Serving.{SendServed, may_send, Served, ServedIf};
@@ -38,7 +38,7 @@ fn draw<H: Host>(
     ensures kept { H.kept host.new ≡ H.kept host.old }
     ensures broke { OnErr result
         (DrawBroke H.serves H.shows H.wrote H.broke host.old host.new) }
-    ensures astray { IsErrOf result Astray → IsOperand goal }
+    ensures stuck { IsErrOf result Stuck → IsOperand goal }
 {
     match width(lo, hi) {
         Some(width) => {
@@ -64,7 +64,7 @@ fn delay<H: Host>(
     ensures kept { H.kept host.new ≡ H.kept host.old }
     ensures broke { OnErr result
         (Unwritten H.serves H.shows H.wrote H.broke host.old host.new) }
-    ensures astray { IsErrOf result Astray → ⊥ }
+    ensures stuck { IsErrOf result Stuck → ⊥ }
 {
     match time_after(process.now(), ticks) {
         Some(at) => {
@@ -90,7 +90,7 @@ fn listen<H: Host>(
     ensures kept { H.kept host.new ≡ H.kept host.old }
     ensures broke { OnErr result
         (Unwritten H.serves H.shows H.wrote H.broke host.old host.new) }
-    ensures astray { IsErrOf result Astray → ⊥ }
+    ensures stuck { IsErrOf result Stuck → ⊥ }
 {
     let Some(port) = port_of(port) else {
         process.throw(actor, BAD_ARGUMENT)?;
@@ -118,7 +118,7 @@ fn ask_disk<H: Host>(
     ensures kept { H.kept host.new ≡ H.kept host.old }
     ensures broke { OnErr result
         (Unwritten H.serves H.shows H.wrote H.broke host.old host.new) }
-    ensures astray { IsErrOf result Astray → ⊥ }
+    ensures stuck { IsErrOf result Stuck → ⊥ }
 {
     match judged(call) {
         Some(ask) => {
@@ -146,7 +146,7 @@ fn send_to<H: Host>(
     ensures broke { OnErr result
         (SendBroke H.serves H.shows H.wrote H.broke (natural to.0)
         (natural to.1) text host.old host.new) }
-    ensures astray { IsErrOf result Astray → ⊥ }
+    ensures stuck { IsErrOf result Stuck → ⊥ }
 {
     let (number, port) = to;
     let (Some(to), Some(port)) = (process(processes, number), port_of(port)) else {
@@ -172,7 +172,7 @@ fn ask_other<H: Host>(
     ensures kept { H.kept host.new ≡ H.kept host.old }
     ensures broke { OnErr result
         (ServingBroke H.serves H.shows H.wrote H.broke call host.old host.new) }
-    ensures astray { IsErrOf result Astray → ServingAmiss (Some call) }
+    ensures stuck { IsErrOf result Stuck → ServingStuck (Some call) }
 {
     match call {
         Call::Line(line) => {
@@ -206,7 +206,7 @@ pub(crate) fn ask<H: Host>(
     ensures kept { H.kept host.new ≡ H.kept host.old }
     ensures broke { OnErr result
         (ServingBrokeIf H.serves H.shows H.wrote H.broke process.old.asked host.old host.new) }
-    ensures astray { IsErrOf result Astray → ServingAmiss process.old.asked }
+    ensures stuck { IsErrOf result Stuck → ServingStuck process.old.asked }
 {
     match process.take_asked() {
         Some(call) => ask_other(process, processes, call, host),

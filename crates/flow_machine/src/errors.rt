@@ -15,7 +15,7 @@ impl fmt::Display for RunFault {
         match self {
             RunFault::Failed => write!(f, "failed"),
             RunFault::OutOfMemory => write!(f, "out of memory"),
-            RunFault::Astray => write!(f, "led astray by its classes"),
+            RunFault::Stuck => write!(f, "led stuck by its classes"),
         }
     }
 }
@@ -35,7 +35,7 @@ impl From<Fault> for RunFault {
     fn from(error: Fault) -> RunFault {
         match error {
             Fault::OutOfMemory => RunFault::OutOfMemory,
-            Fault::Astray => RunFault::Astray,
+            Fault::Stuck => RunFault::Stuck,
         }
     }
 }

@@ -4,7 +4,7 @@ ghost use Rattle.std.specs.Prelude.{◌≡◌, ℕ, ◌+◌, ◌^◌, ◌<◌, �
 ghost use Rattle.flow_base.specs.Faults.{HasCause};
 ghost use Rattle.flow_trace.specs.declared.line.Line.{Line};
 ghost use Rattle.flow_numbered.specs.Numbered.{Numbered, thing};
-ghost use Rattle.flow_meaning.specs.Asks.{Timer, Packet, Disks};
+ghost use Rattle.flow_meaning.specs.Requests.{Timer, Packet, Disks};
 ghost use Rattle.flow_meaning.specs.Burst as meaning;
 ghost use Rattle.flow_machine.specs.Requests.{IsAllowed, call_of};
 ghost use Rattle.flow_machine.specs.Hosting.{Serves, Draws, Writes, LinesOf, Listens, Unlistens};
@@ -130,5 +130,5 @@ pub enum Burst {
 pub enum RunFault {
     Failed,
     OutOfMemory,
-    Astray,
+    Stuck,
 }

@@ -5,10 +5,10 @@ ghost use Rattle.flow_value.specs.declared.value.Kind.TheVariants as kind;
 ghost use Rattle.flow_value.specs.declared.value.Outcome.TheVariants as outcome;
 ghost use Rattle.flow_steps.specs.Doing.{never_ran, begun, vanished};
 ghost use Rattle.flow_steps.specs.Holding.{on_heap};
-ghost use Rattle.flow_steps.specs.Bringing.{brought, answered, main_dropped};
+ghost use Rattle.flow_steps.specs.Delivering.{brought, answered, main_dropped};
 ghost use Rattle.flow_steps.specs.Views.{frames_in, callbacks_in};
 ghost use Rattle.flow_machine.specs.Bursts.{Bursts, MainBursts};
-ghost use Rattle.flow_steps.specs.AmissTasks.{AnswerAmiss, BringAmiss};
+ghost use Rattle.flow_steps.specs.StuckTasks.{AnswerStuck, BringStuck};
 ghost use Rattle.flow_machine.specs.Breaking.{MainBreaksOff, BringingBreaksOff};
 ghost use Rattle.flow_machine.specs.Cause.{RunCause};
 
@@ -102,7 +102,7 @@ impl Machine {
         ensures breaks { let start = begun now turns self.old.process in
             IfErr result (λ f. BringingBreaksOff H.serves H.shows H.wrote H.broke code.now
             self.old.processes
-            (AnswerAmiss cell.0 outcome start.heap)
+            (AnswerStuck cell.0 outcome start.heap)
             (brought kind.Promise cell.0 outcome (on_heap (answered cell.0) start)) host.old
             f host.new) }
         ensures processes { self.new.processes ≡ self.old.processes }
@@ -134,7 +134,7 @@ impl Machine {
         ensures breaks { let start = begun now turns self.old.process in
             IfErr result (λ f. BringingBreaksOff H.serves H.shows H.wrote H.broke code.now
             self.old.processes
-            (BringAmiss kind.PromiseStream cell.0 (outcome.Value item) start.heap)
+            (BringStuck kind.PromiseStream cell.0 (outcome.Value item) start.heap)
             (brought kind.PromiseStream cell.0 (outcome.Value item) start) host.old f host.new) }
         ensures processes { self.new.processes ≡ self.old.processes }
         ensures me { self.new.me ≡ self.old.me }

@@ -6,9 +6,9 @@ use Rattle.std.specs.declared.option.Option.TheVariants.{None, Some}
 use Rattle.flow_value.specs.Values.{ValueTree, OutcomeTree, GoodOutcome, BadOutcome}
 use Rattle.flow_numbered.specs.Numbered.{Numbered, thing, put, removed}
 use Rattle.flow_meaning.specs.Cells.{Side, Ref}
-use Rattle.flow_meaning.specs.Asks.{Spot, Act, Effects, Effect, Start, Goal, Supply}
+use Rattle.flow_meaning.specs.Requests.{Spot, Act, Effects, Effect, Start, Goal, Supply}
 use Rattle.flow_meaning.specs.Process.{Task, Run, Give, Throw, Catch, Store, Keep, Close, Fire, Drop, Entry, Core, Engine}
-use Rattle.flow_meaning.specs.Occ.{scan_of}
+use Rattle.flow_meaning.specs.References.{scan_of}
 use Rattle.flow_meaning.specs.Work.{pushed, dropping_values, is_ready_at}
 use Rattle.flow_meaning.specs.Dropping.{drop, fire, close}
 use Rattle.flow_meaning.specs.React.{react}

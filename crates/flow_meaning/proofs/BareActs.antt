@@ -6,7 +6,7 @@ use Rattle.std.specs.declared.option.Option.TheVariants.{None, Some}
 use Rattle.flow_tree.specs.declared.ty.Ident.{Ident}
 use Rattle.flow_tree.specs.Tree.{ExprTree, ExprTrees, CallExpr}
 use Rattle.flow_tree.specs.Decls.{RoutineTree}
-use Rattle.flow_tree.specs.Canon.{bare_ident, bare_expr, bare_exprs, bare_record, bare_routine}
+use Rattle.flow_tree.specs.Canon.{placeless_ident, placeless_expr, placeless_exprs, placeless_record, placeless_routine}
 use Rattle.flow_ast.specs.declared.predefined.Predefined.{Predefined}
 use Rattle.flow_ast.specs.declared.predefined.Predefined.TheVariants as code
 use Rattle.flow_ast.specs.declared.predefined.Method.{Method}
@@ -15,22 +15,22 @@ use Rattle.flow_ast.specs.Typing.{routine_named}
 use Rattle.flow_value.specs.Values.{ValueTree}
 use Rattle.flow_eval.specs.Eval.{Res, then, Done}
 use Rattle.flow_eval.specs.Functions.{read_in}
-use Rattle.flow_meaning.specs.Asks.{Goes}
+use Rattle.flow_meaning.specs.Requests.{Goes}
 use Rattle.flow_meaning.specs.Process.{View}
 use Rattle.flow_meaning.specs.Evaluating.{Names, Look, setting, StepOf, given, evaluated, Effectful, effectful, effect_in, value, values, call_act, function_act, plain_act, based_act, before_last, last_of}
 use Rattle.flow_meaning.proofs.BareParts.{routine_bare, read_in_bare}
 use Rattle.flow_meaning.proofs.BareEval.{then_same, whole_bare, whole_all_bare, call_bare}
 
 -- what a program names, with every place the first one
-abbrev pub bare_names : Names → Names
-bare_names ns = record { records = map bare_record ns.records; functions = map bare_routine ns.functions; actors = ns.actors }
+abbrev pub placeless_names : Names → Names
+placeless_names ns = record { records = map placeless_record ns.records; functions = map placeless_routine ns.functions; actors = ns.actors }
 
 -- a step, and what is left of it when the actor afterwards is looked at in another way
 abbrev pub through : {X A B : Type 0} → (A → B) → X × A → X × B
 through f p = (p.0, f p.1)
 
-abbrev pub bare_effect : Effectful × ExprTrees → Effectful × ExprTrees
-bare_effect g = (g.0, bare_exprs g.1)
+abbrev pub placeless_effect : Effectful × ExprTrees → Effectful × ExprTrees
+placeless_effect g = (g.0, placeless_exprs g.1)
 
 -- steps that go on from equal things
 pub evaluated_through : {A B C : Type 0} (f : A → B) (a : A) (go : C → ℕ → StepOf A) (next : C → ℕ → StepOf B) (r q : Res C) → q ≡ r → ((x : C) (left : ℕ) → next x left ≡ through f (go x left))
@@ -53,61 +53,61 @@ given_through {A = A} {B = B} {C = C} {D = D} f a go next g o u e h = ap (λ z. 
     by_thing None = refl
     by_thing (Some x) = h x
 
-pub before_last_bare : (x : Ident) (xs : List Ident) → before_last (bare_ident x) (map bare_ident xs) ≡ map bare_ident (before_last x xs)
+pub before_last_bare : (x : Ident) (xs : List Ident) → before_last (placeless_ident x) (map placeless_ident xs) ≡ map placeless_ident (before_last x xs)
 before_last_bare x [] = refl
-before_last_bare x (y ∷ ys) = ap (λ zs. bare_ident x ∷ zs) (before_last_bare y ys)
+before_last_bare x (y ∷ ys) = ap (λ zs. placeless_ident x ∷ zs) (before_last_bare y ys)
 
-last_of_bare : (x : Ident) (xs : List Ident) → (last_of (bare_ident x) (map bare_ident xs)).name ≡ (last_of x xs).name
+last_of_bare : (x : Ident) (xs : List Ident) → (last_of (placeless_ident x) (map placeless_ident xs)).name ≡ (last_of x xs).name
 last_of_bare x [] = refl
 last_of_bare x (y ∷ ys) = last_of_bare y ys
 
 module _ (ns : Names) where
-  pub effect_in_bare : (e : ExprTree) → effect_in (bare_names ns) (bare_expr e) ≡ option_map bare_effect (effect_in ns e)
+  pub effect_in_bare : (e : ExprTree) → effect_in (placeless_names ns) (placeless_expr e) ≡ option_map placeless_effect (effect_in ns e)
   effect_in_bare (CallExpr f es) = by_name (effectful ns f.name)
     where
-      by_name : (o : Option Effectful) → option_map (λ g. (g, bare_exprs es)) o ≡ option_map bare_effect (option_map (λ g. (g, es)) o)
+      by_name : (o : Option Effectful) → option_map (λ g. (g, placeless_exprs es)) o ≡ option_map placeless_effect (option_map (λ g. (g, es)) o)
       by_name None = refl
       by_name (Some g) = refl
   effect_in_bare e = refl
 
   module _ (v : View) (look : Look) where
-    pub value_bare : (e : ExprTree) → value (bare_names ns) v look (bare_expr e) ≡ value ns v look e
+    pub value_bare : (e : ExprTree) → value (placeless_names ns) v look (placeless_expr e) ≡ value ns v look e
     value_bare e = whole_bare (setting ns v) look e v.left
 
-    pub values_bare : (es : ExprTrees) → values (bare_names ns) v look (bare_exprs es) ≡ values ns v look es
+    pub values_bare : (es : ExprTrees) → values (placeless_names ns) v look (placeless_exprs es) ≡ values ns v look es
     values_bare es = whole_all_bare (setting ns v) look es v.left
 
-    function_act_bare : (o : Option RoutineTree) (vs : List ValueTree) (left : ℕ) → function_act (bare_names ns) v look (option_map bare_routine o) vs left ≡ function_act ns v look o vs left
+    function_act_bare : (o : Option RoutineTree) (vs : List ValueTree) (left : ℕ) → function_act (placeless_names ns) v look (option_map placeless_routine o) vs left ≡ function_act ns v look o vs left
     function_act_bare None vs left = refl
     function_act_bare (Some f) vs left = ap (λ r. then r (λ u left. Done Goes left)) (call_bare (setting ns v) f vs left)
 
-    plain_act_bare : (p : Option Predefined) (f : List ℕ) (vs : List ValueTree) (left : ℕ) → plain_act (bare_names ns) v look p f vs left ≡ plain_act ns v look p f vs left
+    plain_act_bare : (p : Option Predefined) (f : List ℕ) (vs : List ValueTree) (left : ℕ) → plain_act (placeless_names ns) v look p f vs left ≡ plain_act ns v look p f vs left
     plain_act_bare None f vs left =
-        ap (λ o. function_act (bare_names ns) v look o vs left) (routine_bare ns.functions f) ∙ function_act_bare (routine_named ns.functions f) vs left
+        ap (λ o. function_act (placeless_names ns) v look o vs left) (routine_bare ns.functions f) ∙ function_act_bare (routine_named ns.functions f) vs left
     plain_act_bare (Some code.Trace) f vs left = refl
     plain_act_bare (Some p) f vs left = refl
 
-    based_act_bare : (o : Option ValueTree) (m : Option Method) (vs : List ValueTree) (left : ℕ) → based_act (bare_names ns) v look o m vs left ≡ based_act ns v look o m vs left
+    based_act_bare : (o : Option ValueTree) (m : Option Method) (vs : List ValueTree) (left : ℕ) → based_act (placeless_names ns) v look o m vs left ≡ based_act ns v look o m vs left
     based_act_bare None None vs left = refl
     based_act_bare None (Some m) vs left = refl
     based_act_bare (Some u) None vs left = refl
     based_act_bare (Some u) (Some m) vs left = refl
 
     path_act_bare : (x y : Ident) (ys : List Ident) (vs : List ValueTree) (left : ℕ)
-        → based_act (bare_names ns) v look (read_in (map bare_record ns.records) (look x.name) (before_last (bare_ident y) (map bare_ident ys))) (named method_names (last_of (bare_ident y) (map bare_ident ys)).name) vs left
+        → based_act (placeless_names ns) v look (read_in (map placeless_record ns.records) (look x.name) (before_last (placeless_ident y) (map placeless_ident ys))) (named method_names (last_of (placeless_ident y) (map placeless_ident ys)).name) vs left
         ≡ based_act ns v look (read_in ns.records (look x.name) (before_last y ys)) (named method_names (last_of y ys).name) vs left
     path_act_bare x y ys vs left =
-        ap₂ (λ zs z. based_act (bare_names ns) v look (read_in (map bare_record ns.records) (look x.name) zs) (named method_names z) vs left) (before_last_bare y ys) (last_of_bare y ys)
-        ∙ ap (λ o. based_act (bare_names ns) v look o (named method_names (last_of y ys).name) vs left) (read_in_bare ns.records (look x.name) (before_last y ys))
+        ap₂ (λ zs z. based_act (placeless_names ns) v look (read_in (map placeless_record ns.records) (look x.name) zs) (named method_names z) vs left) (before_last_bare y ys) (last_of_bare y ys)
+        ∙ ap (λ o. based_act (placeless_names ns) v look o (named method_names (last_of y ys).name) vs left) (read_in_bare ns.records (look x.name) (before_last y ys))
         ∙ based_act_bare (read_in ns.records (look x.name) (before_last y ys)) (named method_names (last_of y ys).name) vs left
 
-    pub call_act_bare : (xs : List Ident) (es : ExprTrees) → call_act (bare_names ns) v look (map bare_ident xs) (bare_exprs es) ≡ call_act ns v look xs es
+    pub call_act_bare : (xs : List Ident) (es : ExprTrees) → call_act (placeless_names ns) v look (map placeless_ident xs) (placeless_exprs es) ≡ call_act ns v look xs es
     call_act_bare [] es = refl
     call_act_bare (f ∷ []) es =
-        then_same (λ vs left. plain_act (bare_names ns) v look (named call_names f.name) f.name vs left) (λ vs left. plain_act ns v look (named call_names f.name) f.name vs left)
-        (values (bare_names ns) v look (bare_exprs es)) (values ns v look es) (values_bare es) (plain_act_bare (named call_names f.name) f.name)
+        then_same (λ vs left. plain_act (placeless_names ns) v look (named call_names f.name) f.name vs left) (λ vs left. plain_act ns v look (named call_names f.name) f.name vs left)
+        (values (placeless_names ns) v look (placeless_exprs es)) (values ns v look es) (values_bare es) (plain_act_bare (named call_names f.name) f.name)
     call_act_bare (x ∷ y ∷ ys) es =
         then_same
-        (λ vs left. based_act (bare_names ns) v look (read_in (map bare_record ns.records) (look x.name) (before_last (bare_ident y) (map bare_ident ys))) (named method_names (last_of (bare_ident y) (map bare_ident ys)).name) vs left)
+        (λ vs left. based_act (placeless_names ns) v look (read_in (map placeless_record ns.records) (look x.name) (before_last (placeless_ident y) (map placeless_ident ys))) (named method_names (last_of (placeless_ident y) (map placeless_ident ys)).name) vs left)
         (λ vs left. based_act ns v look (read_in ns.records (look x.name) (before_last y ys)) (named method_names (last_of y ys).name) vs left)
-        (values (bare_names ns) v look (bare_exprs es)) (values ns v look es) (values_bare es) (path_act_bare x y ys)
+        (values (placeless_names ns) v look (placeless_exprs es)) (values ns v look es) (values_bare es) (path_act_bare x y ys)

@@ -9,7 +9,7 @@ use Rattle.flow_tree.specs.declared.ty.Ident.{Ident}
 use Rattle.flow_tree.specs.Tree.{ExprTree, ExprTrees, IntExpr, TextExpr, BoolExpr, VoidExpr, VarExpr, CallExpr, FieldExpr, MethodExpr, NotExpr, NegExpr, BinaryExpr, ParenExpr, NoExprs, MoreExprs}
 use Rattle.flow_tree.specs.Body.{IntoTree, ChangeTree, PlusChange, MinusChange, UpChange, DownChange, Body, End, BlockStmt, IfStmt, IfElseStmt, WhileStmt, ForStmt, LoopStmt, BreakStmt, ContinueStmt, ReturnStmt, ThrowStmt, TryStmt, ChooseStmt, DeclareStmt, AssignStmt, ModifyStmt, CallStmt, WaitStmt}
 use Rattle.flow_tree.specs.Decls.{ParamTree, RoutineTree}
-use Rattle.flow_tree.specs.Canon.{bare_ident, bare_expr, bare_exprs, bare_into, bare_change, bare_body, bare_param, bare_routine}
+use Rattle.flow_tree.specs.Canon.{placeless_ident, placeless_expr, placeless_exprs, placeless_into, placeless_change, placeless_body, placeless_param, placeless_routine}
 use Rattle.flow_ast.specs.declared.predefined.Predefined.{Predefined}
 use Rattle.flow_ast.specs.TypingNames.{named, call_names, method_names}
 use Rattle.flow_ast.specs.Typing.{routine_named}
@@ -20,7 +20,7 @@ use Rattle.flow_eval.specs.Operators.{operated, negated, inverted}
 use Rattle.flow_eval.specs.Records.{record_id, field, field_answer}
 use Rattle.flow_eval.specs.Eval.{Res, Done, Fails, Spent, Meaningless, Setting, Runner, then, at_once, second, method_called, function_called, declared_called, called, eval, eval_all}
 use Rattle.flow_eval.specs.Functions.{Locals, Run, Goes, Returns, after, valued, chosen, looped, stepped, thrown, declared, put_at_var, put_place, put_path, read_path, assigned, with_first, entered, finished, scope, skip, leave_loop, change_sign, try_run, if_run, turn_run, loop_run, for_run, throw_run, declare_run, assign_run, change_operand, changed, modify_run, call_by, call_run, return_run, exec, body_run, run_function, deepest, Eval, Call}
-use Rattle.flow_meaning.specs.Bare.{bare_setting}
+use Rattle.flow_meaning.specs.Placeless.{placeless_setting}
 use Rattle.flow_meaning.proofs.BareParts.{routine_bare, record_bare, field_bare, put_in_bare, read_in_bare}
 
 pub then_same : {A B : Type 0} (go next : A → ℕ → Res B) (r q : Res A) → r ≡ q → ((x : A) (left : ℕ) → go x left ≡ next x left) → then r go ≡ then q next
@@ -39,24 +39,24 @@ valued_same go next vars Meaningless q h f = ap (λ y. valued y vars next) h
 abbrev Go : Type 0
 Go = Locals → ℕ → Run
 
-pub entered_bare : (ps : List ParamTree) (vs : List ValueTree) → entered (map bare_param ps) vs ≡ entered ps vs
+pub entered_bare : (ps : List ParamTree) (vs : List ValueTree) → entered (map placeless_param ps) vs ≡ entered ps vs
 entered_bare [] [] = refl
 entered_bare [] (v ∷ vs) = refl
 entered_bare (p ∷ ps) [] = refl
 entered_bare (p ∷ ps) (v ∷ vs) = ap (with_first (p.name.name, v)) (entered_bare ps vs)
 
-sign_bare : (c : ChangeTree) → change_sign (bare_change c) ≡ change_sign c
+sign_bare : (c : ChangeTree) → change_sign (placeless_change c) ≡ change_sign c
 sign_bare (PlusChange e) = refl
 sign_bare (MinusChange e) = refl
 sign_bare UpChange = refl
 sign_bare DownChange = refl
 
 -- s is the setting, and both runs do the same with a function
-module _ (s : Setting) (run other : Runner) (runs : (f : RoutineTree) (vs : List ValueTree) (left : ℕ) → other (bare_routine f) vs left ≡ run f vs left) where
+module _ (s : Setting) (run other : Runner) (runs : (f : RoutineTree) (vs : List ValueTree) (left : ℕ) → other (placeless_routine f) vs left ≡ run f vs left) where
   abbrev b : Setting
-  b = bare_setting s
+  b = placeless_setting s
 
-  function_bare : (o : Option RoutineTree) (vs : List ValueTree) (left : ℕ) → function_called b other (option_map bare_routine o) vs left ≡ function_called s run o vs left
+  function_bare : (o : Option RoutineTree) (vs : List ValueTree) (left : ℕ) → function_called b other (option_map placeless_routine o) vs left ≡ function_called s run o vs left
   function_bare None vs left = refl
   function_bare (Some f) vs left = runs f vs left
 
@@ -73,7 +73,7 @@ module _ (s : Setting) (run other : Runner) (runs : (f : RoutineTree) (vs : List
   called_bare (Some p) f vs left = refl
 
   mutual
-    pub eval_bare : (look : List ℕ → Option ValueTree) (e : ExprTree) (left : ℕ) → eval b other look (bare_expr e) left ≡ eval s run look e left
+    pub eval_bare : (look : List ℕ → Option ValueTree) (e : ExprTree) (left : ℕ) → eval b other look (placeless_expr e) left ≡ eval s run look e left
     eval_bare look (IntExpr n) left = refl
     eval_bare look (TextExpr t) left = refl
     eval_bare look (BoolExpr x) left = refl
@@ -81,133 +81,133 @@ module _ (s : Setting) (run other : Runner) (runs : (f : RoutineTree) (vs : List
     eval_bare look (VarExpr x) left = refl
     eval_bare look (CallExpr f xs) left =
         then_same (λ vs left. called b other (named call_names f.name) f.name vs left) (λ vs left. called s run (named call_names f.name) f.name vs left)
-        (eval_all b other look (bare_exprs xs) left) (eval_all s run look xs left) (all_bare look xs left)
+        (eval_all b other look (placeless_exprs xs) left) (eval_all s run look xs left) (all_bare look xs left)
         (called_bare (named call_names f.name) f.name)
     eval_bare look (FieldExpr e x) left =
         then_same (λ v left. at_once (field_answer (field b.records v x.name)) left) (λ v left. at_once (field_answer (field s.records v x.name)) left)
-        (eval b other look (bare_expr e) left) (eval s run look e left) (eval_bare look e left)
+        (eval b other look (placeless_expr e) left) (eval s run look e left) (eval_bare look e left)
         (λ v l. ap (λ o. at_once (field_answer o) l) (field_bare s.records v x.name))
     eval_bare look (MethodExpr e m xs) left =
-        then_same (λ v left. then (eval_all b other look (bare_exprs xs) left) (λ vs left. at_once (method_called s.cells (named method_names m.name) v vs) left))
+        then_same (λ v left. then (eval_all b other look (placeless_exprs xs) left) (λ vs left. at_once (method_called s.cells (named method_names m.name) v vs) left))
         (λ v left. then (eval_all s run look xs left) (λ vs left. at_once (method_called s.cells (named method_names m.name) v vs) left))
-        (eval b other look (bare_expr e) left) (eval s run look e left) (eval_bare look e left)
+        (eval b other look (placeless_expr e) left) (eval s run look e left) (eval_bare look e left)
         (λ v l. ap (λ r. then r (λ vs left. at_once (method_called s.cells (named method_names m.name) v vs) left)) (all_bare look xs l))
     eval_bare look (NotExpr e) left = ap (λ r. then r (λ v left. at_once (inverted v) left)) (eval_bare look e left)
     eval_bare look (NegExpr e) left = ap (λ r. then r (λ v left. at_once (negated v) left)) (eval_bare look e left)
     eval_bare look (BinaryExpr op x y) left =
-        then_same (λ v left. second op v (eval b other look (bare_expr y)) left) (λ v left. second op v (eval s run look y) left)
-        (eval b other look (bare_expr x) left) (eval s run look x left) (eval_bare look x left)
+        then_same (λ v left. second op v (eval b other look (placeless_expr y)) left) (λ v left. second op v (eval s run look y) left)
+        (eval b other look (placeless_expr x) left) (eval s run look x left) (eval_bare look x left)
         (λ v l. ap (λ g. second op v g l) (fun_ext (eval_bare look y)))
     eval_bare look (ParenExpr e) left = eval_bare look e left
 
-    pub all_bare : (look : List ℕ → Option ValueTree) (es : ExprTrees) (left : ℕ) → eval_all b other look (bare_exprs es) left ≡ eval_all s run look es left
+    pub all_bare : (look : List ℕ → Option ValueTree) (es : ExprTrees) (left : ℕ) → eval_all b other look (placeless_exprs es) left ≡ eval_all s run look es left
     all_bare look NoExprs left = refl
     all_bare look (MoreExprs e es) left =
-        then_same (λ v left. then (eval_all b other look (bare_exprs es) left) (λ vs left. Done (v ∷ vs) left))
+        then_same (λ v left. then (eval_all b other look (placeless_exprs es) left) (λ vs left. Done (v ∷ vs) left))
         (λ v left. then (eval_all s run look es left) (λ vs left. Done (v ∷ vs) left))
-        (eval b other look (bare_expr e) left) (eval s run look e left) (eval_bare look e left)
+        (eval b other look (placeless_expr e) left) (eval s run look e left) (eval_bare look e left)
         (λ v l. ap (λ r. then r (λ vs left. Done (v ∷ vs) left)) (all_bare look es l))
 
-  if_bare : (e : ExprTree) (main otherwise : Go) (vars : Locals) (left : ℕ) → if_run b other (bare_expr e) main otherwise vars left ≡ if_run s run e main otherwise vars left
+  if_bare : (e : ExprTree) (main otherwise : Go) (vars : Locals) (left : ℕ) → if_run b other (placeless_expr e) main otherwise vars left ≡ if_run s run e main otherwise vars left
   if_bare e main otherwise vars left = ap (λ r. valued r vars (λ v left. chosen (bool_of v) main otherwise vars left)) (eval_bare (named vars) e left)
 
-  turn_bare : (e : ExprTree) (step body : Go) → turn_run b other (Some (bare_expr e)) step body ≡ turn_run s run (Some e) step body
+  turn_bare : (e : ExprTree) (step body : Go) → turn_run b other (Some (placeless_expr e)) step body ≡ turn_run s run (Some e) step body
   turn_bare e step body = fun_ext (λ vars. fun_ext (λ left. ap (λ r. stepped r step) (if_bare e (scope body) leave_loop vars left)))
 
-  loop_bare : (e : Option ExprTree) (step body : Go) → loop_run b other (option_map bare_expr e) step body ≡ loop_run s run e step body
+  loop_bare : (e : Option ExprTree) (step body : Go) → loop_run b other (option_map placeless_expr e) step body ≡ loop_run s run e step body
   loop_bare None step body = refl
   loop_bare (Some e) step body = ap looped (turn_bare e step body)
 
-  for_bare : (init : Go) (e : Option ExprTree) (step body : Go) → for_run b other init (option_map bare_expr e) step body ≡ for_run s run init e step body
+  for_bare : (init : Go) (e : Option ExprTree) (step body : Go) → for_run b other init (option_map placeless_expr e) step body ≡ for_run s run init e step body
   for_bare init e step body = fun_ext (λ vars. fun_ext (λ left. ap (after (init vars left)) (loop_bare e step body)))
 
-  throw_bare : (e : Option ExprTree) (caught : Option (List ℕ)) (vars : Locals) (left : ℕ) → throw_run b other (option_map bare_expr e) caught vars left ≡ throw_run s run e caught vars left
+  throw_bare : (e : Option ExprTree) (caught : Option (List ℕ)) (vars : Locals) (left : ℕ) → throw_run b other (option_map placeless_expr e) caught vars left ≡ throw_run s run e caught vars left
   throw_bare None caught vars left = refl
   throw_bare (Some e) caught vars left = ap (λ r. valued r vars (λ v left. thrown (error_of v) vars left)) (eval_bare (named vars) e left)
 
-  declare_bare : (i : IntoTree) (e : Option ExprTree) (vars : Locals) (left : ℕ) → declare_run b other (bare_into i) (option_map bare_expr e) vars left ≡ declare_run s run i e vars left
+  declare_bare : (i : IntoTree) (e : Option ExprTree) (vars : Locals) (left : ℕ) → declare_run b other (placeless_into i) (option_map placeless_expr e) vars left ≡ declare_run s run i e vars left
   declare_bare i None vars left = refl
   declare_bare i (Some e) vars left = ap (λ r. valued r vars (λ v left. declared (Some v) i.name.name vars left)) (eval_bare (named vars) e left)
 
-  at_var_bare : (vars : Locals) (k : ℕ) (o : Option (List ℕ × ValueTree)) (xs : List Ident) (w : ValueTree) → put_at_var b.records vars k o (map bare_ident xs) w ≡ put_at_var s.records vars k o xs w
+  at_var_bare : (vars : Locals) (k : ℕ) (o : Option (List ℕ × ValueTree)) (xs : List Ident) (w : ValueTree) → put_at_var b.records vars k o (map placeless_ident xs) w ≡ put_at_var s.records vars k o xs w
   at_var_bare vars k None xs w = refl
   at_var_bare vars k (Some v) xs w = ap (option_map (λ u. slice_set vars k (v.0, u))) (put_in_bare s.records (Some v.1) xs w)
 
-  put_place_bare : (vars : Locals) (k : Option ℕ) (xs : List Ident) (w : ValueTree) → put_place b.records vars k (map bare_ident xs) w ≡ put_place s.records vars k xs w
+  put_place_bare : (vars : Locals) (k : Option ℕ) (xs : List Ident) (w : ValueTree) → put_place b.records vars k (map placeless_ident xs) w ≡ put_place s.records vars k xs w
   put_place_bare vars None xs w = refl
   put_place_bare vars (Some k) xs w = at_var_bare vars k (slice_get vars k) xs w
 
-  put_path_bare : (vars : Locals) (xs : List Ident) (w : ValueTree) → put_path b.records vars (map bare_ident xs) w ≡ put_path s.records vars xs w
+  put_path_bare : (vars : Locals) (xs : List Ident) (w : ValueTree) → put_path b.records vars (map placeless_ident xs) w ≡ put_path s.records vars xs w
   put_path_bare vars [] w = refl
   put_path_bare vars (x ∷ xs) w = put_place_bare vars (position (λ v. bytes_eq x.name v.0) vars) xs w
 
-  read_path_bare : (vars : Locals) (xs : List Ident) → read_path b.records vars (map bare_ident xs) ≡ read_path s.records vars xs
+  read_path_bare : (vars : Locals) (xs : List Ident) → read_path b.records vars (map placeless_ident xs) ≡ read_path s.records vars xs
   read_path_bare vars [] = refl
   read_path_bare vars (x ∷ xs) = read_in_bare s.records (named vars x.name) xs
 
-  assign_bare : (xs : List Ident) (e : ExprTree) (vars : Locals) (left : ℕ) → assign_run b other (map bare_ident xs) (bare_expr e) vars left ≡ assign_run s run xs e vars left
+  assign_bare : (xs : List Ident) (e : ExprTree) (vars : Locals) (left : ℕ) → assign_run b other (map placeless_ident xs) (placeless_expr e) vars left ≡ assign_run s run xs e vars left
   assign_bare xs e vars left =
-      valued_same (λ v left. assigned (put_path b.records vars (map bare_ident xs) v) left) (λ v left. assigned (put_path s.records vars xs v) left)
-      vars (eval b other (named vars) (bare_expr e) left) (eval s run (named vars) e left) (eval_bare (named vars) e left)
+      valued_same (λ v left. assigned (put_path b.records vars (map placeless_ident xs) v) left) (λ v left. assigned (put_path s.records vars xs v) left)
+      vars (eval b other (named vars) (placeless_expr e) left) (eval s run (named vars) e left) (eval_bare (named vars) e left)
       (λ v l. ap (λ o. assigned o l) (put_path_bare vars xs v))
 
-  operand_bare : (c : ChangeTree) (vars : Locals) (left : ℕ) → change_operand b other (bare_change c) vars left ≡ change_operand s run c vars left
+  operand_bare : (c : ChangeTree) (vars : Locals) (left : ℕ) → change_operand b other (placeless_change c) vars left ≡ change_operand s run c vars left
   operand_bare (PlusChange e) vars left = eval_bare (named vars) e left
   operand_bare (MinusChange e) vars left = eval_bare (named vars) e left
   operand_bare UpChange vars left = refl
   operand_bare DownChange vars left = refl
 
-  changed_bare : (o : Option ValueTree) (c : ChangeTree) (xs : List Ident) (vars : Locals) (left : ℕ) → changed b other o (bare_change c) (map bare_ident xs) vars left ≡ changed s run o c xs vars left
+  changed_bare : (o : Option ValueTree) (c : ChangeTree) (xs : List Ident) (vars : Locals) (left : ℕ) → changed b other o (placeless_change c) (map placeless_ident xs) vars left ≡ changed s run o c xs vars left
   changed_bare None c xs vars left = refl
   changed_bare (Some v) c xs vars left =
       valued_same
-      (λ w left. valued (at_once (operated (change_sign (bare_change c)) v w) left) vars (λ u left. assigned (put_path b.records vars (map bare_ident xs) u) left))
+      (λ w left. valued (at_once (operated (change_sign (placeless_change c)) v w) left) vars (λ u left. assigned (put_path b.records vars (map placeless_ident xs) u) left))
       (λ w left. valued (at_once (operated (change_sign c) v w) left) vars (λ u left. assigned (put_path s.records vars xs u) left))
-      vars (change_operand b other (bare_change c) vars left) (change_operand s run c vars left) (operand_bare c vars left)
+      vars (change_operand b other (placeless_change c) vars left) (change_operand s run c vars left) (operand_bare c vars left)
       (λ w l.
-      valued_same (λ u left. assigned (put_path b.records vars (map bare_ident xs) u) left) (λ u left. assigned (put_path s.records vars xs u) left)
-      vars (at_once (operated (change_sign (bare_change c)) v w) l) (at_once (operated (change_sign c) v w) l)
+      valued_same (λ u left. assigned (put_path b.records vars (map placeless_ident xs) u) left) (λ u left. assigned (put_path s.records vars xs u) left)
+      vars (at_once (operated (change_sign (placeless_change c)) v w) l) (at_once (operated (change_sign c) v w) l)
       (ap (λ g. at_once (operated g v w) l) (sign_bare c))
       (λ u k. ap (λ o. assigned o k) (put_path_bare vars xs u)))
 
-  modify_bare : (xs : List Ident) (c : ChangeTree) (vars : Locals) (left : ℕ) → modify_run b other (map bare_ident xs) (bare_change c) vars left ≡ modify_run s run xs c vars left
+  modify_bare : (xs : List Ident) (c : ChangeTree) (vars : Locals) (left : ℕ) → modify_run b other (map placeless_ident xs) (placeless_change c) vars left ≡ modify_run s run xs c vars left
   modify_bare xs c vars left =
-      ap (λ o. changed b other o (bare_change c) (map bare_ident xs) vars left) (read_path_bare vars xs) ∙ changed_bare (read_path s.records vars xs) c xs vars left
+      ap (λ o. changed b other o (placeless_change c) (map placeless_ident xs) vars left) (read_path_bare vars xs) ∙ changed_bare (read_path s.records vars xs) c xs vars left
 
-  call_by_bare : (xs : List Ident) (vs : List ValueTree) (left : ℕ) → call_by b other (map bare_ident xs) vs left ≡ call_by s run xs vs left
+  call_by_bare : (xs : List Ident) (vs : List ValueTree) (left : ℕ) → call_by b other (map placeless_ident xs) vs left ≡ call_by s run xs vs left
   call_by_bare [] vs left = refl
   call_by_bare (x ∷ []) vs left = named_bare x.name vs left
   call_by_bare (x ∷ y ∷ ys) vs left = refl
 
-  call_run_bare : (xs : List Ident) (es : ExprTrees) (vars : Locals) (left : ℕ) → call_run b other (map bare_ident xs) (bare_exprs es) vars left ≡ call_run s run xs es vars left
+  call_run_bare : (xs : List Ident) (es : ExprTrees) (vars : Locals) (left : ℕ) → call_run b other (map placeless_ident xs) (placeless_exprs es) vars left ≡ call_run s run xs es vars left
   call_run_bare xs es vars left =
-      valued_same (λ vs left. valued (call_by b other (map bare_ident xs) vs left) vars (λ v left. Goes vars left)) (λ vs left. valued (call_by s run xs vs left) vars (λ v left. Goes vars left))
-      vars (eval_all b other (named vars) (bare_exprs es) left) (eval_all s run (named vars) es left) (all_bare (named vars) es left)
+      valued_same (λ vs left. valued (call_by b other (map placeless_ident xs) vs left) vars (λ v left. Goes vars left)) (λ vs left. valued (call_by s run xs vs left) vars (λ v left. Goes vars left))
+      vars (eval_all b other (named vars) (placeless_exprs es) left) (eval_all s run (named vars) es left) (all_bare (named vars) es left)
       (λ vs l. ap (λ r. valued r vars (λ v left. Goes vars left)) (call_by_bare xs vs l))
 
-  return_bare : (e : ExprTree) (vars : Locals) (left : ℕ) → return_run b other (bare_expr e) vars left ≡ return_run s run e vars left
+  return_bare : (e : ExprTree) (vars : Locals) (left : ℕ) → return_run b other (placeless_expr e) vars left ≡ return_run s run e vars left
   return_bare e vars left = ap (λ r. valued r vars (λ v left. Returns v left)) (eval_bare (named vars) e left)
 
   -- statements as a whole
-  exec_same : (x : Body) (c : Option (List ℕ)) → ((vars : Locals) (left : ℕ) → exec b other (bare_body x) c vars left ≡ exec s run x c vars left) → exec b other (bare_body x) c ≡ exec s run x c
+  exec_same : (x : Body) (c : Option (List ℕ)) → ((vars : Locals) (left : ℕ) → exec b other (placeless_body x) c vars left ≡ exec s run x c vars left) → exec b other (placeless_body x) c ≡ exec s run x c
   exec_same x c f = fun_ext (λ vars. fun_ext (λ left. f vars left))
 
-  pub exec_bare : (x : Body) (c : Option (List ℕ)) (vars : Locals) (left : ℕ) → exec b other (bare_body x) c vars left ≡ exec s run x c vars left
+  pub exec_bare : (x : Body) (c : Option (List ℕ)) (vars : Locals) (left : ℕ) → exec b other (placeless_body x) c vars left ≡ exec s run x c vars left
   exec_bare End c vars left = refl
   exec_bare (BlockStmt at x k) c vars left = ap₂ (λ (g h : Go). after (scope g vars left) h) (exec_same x c (exec_bare x c)) (exec_same k c (exec_bare k c))
   exec_bare (IfStmt at e x k) c vars left =
-      ap₂ (λ (g h : Go). after (if_run b other (bare_expr e) (scope g) skip vars left) h) (exec_same x c (exec_bare x c)) (exec_same k c (exec_bare k c))
+      ap₂ (λ (g h : Go). after (if_run b other (placeless_expr e) (scope g) skip vars left) h) (exec_same x c (exec_bare x c)) (exec_same k c (exec_bare k c))
       ∙ ap (λ r. after r (exec s run k c)) (if_bare e (scope (exec s run x c)) skip vars left)
   exec_bare (IfElseStmt at e x y k) c vars left =
-      ap₂ (λ (g h : Go). after (if_run b other (bare_expr e) (scope g) (scope (exec b other (bare_body y) c)) vars left) h) (exec_same x c (exec_bare x c)) (exec_same k c (exec_bare k c))
-      ∙ ap (λ (g : Go). after (if_run b other (bare_expr e) (scope (exec s run x c)) (scope g) vars left) (exec s run k c)) (exec_same y c (exec_bare y c))
+      ap₂ (λ (g h : Go). after (if_run b other (placeless_expr e) (scope g) (scope (exec b other (placeless_body y) c)) vars left) h) (exec_same x c (exec_bare x c)) (exec_same k c (exec_bare k c))
+      ∙ ap (λ (g : Go). after (if_run b other (placeless_expr e) (scope (exec s run x c)) (scope g) vars left) (exec s run k c)) (exec_same y c (exec_bare y c))
       ∙ ap (λ r. after r (exec s run k c)) (if_bare e (scope (exec s run x c)) (scope (exec s run y c)) vars left)
   exec_bare (WhileStmt at e x k) c vars left =
-      ap₂ (λ (g h : Go). after (loop_run b other (Some (bare_expr e)) skip g vars left) h) (exec_same x c (exec_bare x c)) (exec_same k c (exec_bare k c))
+      ap₂ (λ (g h : Go). after (loop_run b other (Some (placeless_expr e)) skip g vars left) h) (exec_same x c (exec_bare x c)) (exec_same k c (exec_bare k c))
       ∙ ap (λ (l : Go). after (l vars left) (exec s run k c)) (loop_bare (Some e) skip (exec s run x c))
   exec_bare (ForStmt at i e t x k) c vars left =
-      ap₂ (λ (g h : Go). after (scope (for_run b other g (option_map bare_expr e) (exec b other (bare_body t) c) h) vars left) (exec b other (bare_body k) c)) (exec_same i c (exec_bare i c)) (exec_same x c (exec_bare x c))
-      ∙ ap₂ (λ (g h : Go). after (scope (for_run b other (exec s run i c) (option_map bare_expr e) g (exec s run x c)) vars left) h) (exec_same t c (exec_bare t c)) (exec_same k c (exec_bare k c))
+      ap₂ (λ (g h : Go). after (scope (for_run b other g (option_map placeless_expr e) (exec b other (placeless_body t) c) h) vars left) (exec b other (placeless_body k) c)) (exec_same i c (exec_bare i c)) (exec_same x c (exec_bare x c))
+      ∙ ap₂ (λ (g h : Go). after (scope (for_run b other (exec s run i c) (option_map placeless_expr e) g (exec s run x c)) vars left) h) (exec_same t c (exec_bare t c)) (exec_same k c (exec_bare k c))
       ∙ ap (λ (l : Go). after (scope l vars left) (exec s run k c)) (for_bare (exec s run i c) e (exec s run t c) (exec s run x c))
   exec_bare (LoopStmt at x k) c vars left =
       ap₂ (λ (g h : Go). after (loop_run b other None skip g vars left) h) (exec_same x c (exec_bare x c)) (exec_same k c (exec_bare k c))
@@ -217,7 +217,7 @@ module _ (s : Setting) (run other : Runner) (runs : (f : RoutineTree) (vs : List
   exec_bare (ReturnStmt at e k) c vars left = ap₂ after (return_bare e vars left) (exec_same k c (exec_bare k c))
   exec_bare (ThrowStmt at e k) c vars left = ap₂ after (throw_bare e c vars left) (exec_same k c (exec_bare k c))
   exec_bare (TryStmt at x q n y k) c vars left =
-      ap₂ (λ (g h : Go). after (try_run g n.name h vars left) (exec b other (bare_body k) c)) (exec_same x c (exec_bare x c)) (exec_same y (Some n.name) (exec_bare y (Some n.name)))
+      ap₂ (λ (g h : Go). after (try_run g n.name h vars left) (exec b other (placeless_body k) c)) (exec_same x c (exec_bare x c)) (exec_same y (Some n.name) (exec_bare y (Some n.name)))
       ∙ ap (λ (h : Go). after (try_run (exec s run x c) n.name (exec s run y (Some n.name)) vars left) h) (exec_same k c (exec_bare k c))
   exec_bare (ChooseStmt at bs k) c vars left = refl
   exec_bare (DeclareStmt at i e k) c vars left = ap₂ after (declare_bare i e vars left) (exec_same k c (exec_bare k c))
@@ -226,24 +226,24 @@ module _ (s : Setting) (run other : Runner) (runs : (f : RoutineTree) (vs : List
   exec_bare (CallStmt at xs es k) c vars left = ap₂ after (call_run_bare xs es vars left) (exec_same k c (exec_bare k c))
   exec_bare (WaitStmt at w k) c vars left = refl
 
-  body_bare : (f : RoutineTree) (o : Option Locals) (left : ℕ) → body_run b other (bare_routine f) o left ≡ body_run s run f o left
+  body_bare : (f : RoutineTree) (o : Option Locals) (left : ℕ) → body_run b other (placeless_routine f) o left ≡ body_run s run f o left
   body_bare f None left = refl
   body_bare f (Some vars) left = ap finished (exec_bare f.body None vars left)
 
-pub run_bare : (s : Setting) (n : ℕ) (f : RoutineTree) (vs : List ValueTree) (left : ℕ) → run_function (bare_setting s) n (bare_routine f) vs left ≡ run_function s n f vs left
+pub run_bare : (s : Setting) (n : ℕ) (f : RoutineTree) (vs : List ValueTree) (left : ℕ) → run_function (placeless_setting s) n (placeless_routine f) vs left ≡ run_function s n f vs left
 run_bare s zero f vs zero = refl
 run_bare s zero f vs (suc left) = refl
 run_bare s (suc n) f vs zero = refl
 run_bare s (suc n) f vs (suc left) =
-    ap (λ o. body_run (bare_setting s) (run_function (bare_setting s) n) (bare_routine f) o left) (entered_bare f.params vs)
-    ∙ body_bare s (run_function s n) (run_function (bare_setting s) n) (run_bare s n) f (entered f.params vs) left
+    ap (λ o. body_run (placeless_setting s) (run_function (placeless_setting s) n) (placeless_routine f) o left) (entered_bare f.params vs)
+    ∙ body_bare s (run_function s n) (run_function (placeless_setting s) n) (run_bare s n) f (entered f.params vs) left
 
-pub whole_bare : (s : Setting) (look : List ℕ → Option ValueTree) (e : ExprTree) (left : ℕ) → Eval (bare_setting s) look (bare_expr e) left ≡ Eval s look e left
-whole_bare s look e left = eval_bare s (run_function s deepest) (run_function (bare_setting s) deepest) (run_bare s deepest) look e left
+pub whole_bare : (s : Setting) (look : List ℕ → Option ValueTree) (e : ExprTree) (left : ℕ) → Eval (placeless_setting s) look (placeless_expr e) left ≡ Eval s look e left
+whole_bare s look e left = eval_bare s (run_function s deepest) (run_function (placeless_setting s) deepest) (run_bare s deepest) look e left
 
 pub whole_all_bare : (s : Setting) (look : List ℕ → Option ValueTree) (es : ExprTrees) (left : ℕ)
-    → eval_all (bare_setting s) (run_function (bare_setting s) deepest) look (bare_exprs es) left ≡ eval_all s (run_function s deepest) look es left
-whole_all_bare s look es left = all_bare s (run_function s deepest) (run_function (bare_setting s) deepest) (run_bare s deepest) look es left
+    → eval_all (placeless_setting s) (run_function (placeless_setting s) deepest) look (placeless_exprs es) left ≡ eval_all s (run_function s deepest) look es left
+whole_all_bare s look es left = all_bare s (run_function s deepest) (run_function (placeless_setting s) deepest) (run_bare s deepest) look es left
 
-pub call_bare : (s : Setting) (f : RoutineTree) (vs : List ValueTree) (left : ℕ) → Call (bare_setting s) (bare_routine f) vs left ≡ Call s f vs left
+pub call_bare : (s : Setting) (f : RoutineTree) (vs : List ValueTree) (left : ℕ) → Call (placeless_setting s) (placeless_routine f) vs left ≡ Call s f vs left
 call_bare s f vs left = run_bare s deepest f vs left

@@ -8,7 +8,7 @@ use Rattle.std.specs.declared.option.Option.TheVariants.{None, Some}
 use Rattle.std.proofs.lemmas.List.{length-map}
 use Rattle.flow_tree.specs.declared.ty.Ident.{Ident}
 use Rattle.flow_tree.specs.Decls.{ParamTree, RecordTree, RoutineTree}
-use Rattle.flow_tree.specs.Canon.{bare_ident, bare_param, bare_record, bare_routine}
+use Rattle.flow_tree.specs.Canon.{placeless_ident, placeless_param, placeless_record, placeless_routine}
 use Rattle.flow_ast.specs.Typing.{routine_named, is_packet}
 use Rattle.flow_value.specs.declared.value.RecordId.{RecordId}
 use Rattle.flow_value.specs.declared.value.RecordId.TheVariants.{Packet, Declared}
@@ -28,43 +28,43 @@ get-map f [] k = refl
 get-map f (x ∷ xs) zero = refl
 get-map f (x ∷ xs) (suc k) = get-map f xs k
 
-pub routine_bare : (fs : List RoutineTree) (x : List ℕ) → routine_named (map bare_routine fs) x ≡ option_map bare_routine (routine_named fs x)
+pub routine_bare : (fs : List RoutineTree) (x : List ℕ) → routine_named (map placeless_routine fs) x ≡ option_map placeless_routine (routine_named fs x)
 routine_bare [] x = refl
-routine_bare (f ∷ fs) x = by_test (bytes_eq f.name.name x) (routine_named fs x) (routine_named (map bare_routine fs) x) (routine_bare fs x)
+routine_bare (f ∷ fs) x = by_test (bytes_eq f.name.name x) (routine_named fs x) (routine_named (map placeless_routine fs) x) (routine_bare fs x)
   where
-    by_test : (b : Bool) (r q : Option RoutineTree) → q ≡ option_map bare_routine r → cond b (Some (bare_routine f)) q ≡ option_map bare_routine (cond b (Some f) r)
+    by_test : (b : Bool) (r q : Option RoutineTree) → q ≡ option_map placeless_routine r → cond b (Some (placeless_routine f)) q ≡ option_map placeless_routine (cond b (Some f) r)
     by_test true r q h = refl
     by_test false r q h = h
 
-pub record_bare : (rs : List RecordTree) (x : List ℕ) → record_id (map bare_record rs) x ≡ record_id rs x
-record_bare rs x = ap (λ o. if is_packet x then Some Packet else option_map Declared o) (position-map bare_record (λ (r : RecordTree). bytes_eq r.name.name x) rs)
+pub record_bare : (rs : List RecordTree) (x : List ℕ) → record_id (map placeless_record rs) x ≡ record_id rs x
+record_bare rs x = ap (λ o. if is_packet x then Some Packet else option_map Declared o) (position-map placeless_record (λ (r : RecordTree). bytes_eq r.name.name x) rs)
 
-place_in_bare : (rs : List RecordTree) (k : ℕ) (x : List ℕ) → place_in (map bare_record rs) k x ≡ place_in rs k x
+place_in_bare : (rs : List RecordTree) (k : ℕ) (x : List ℕ) → place_in (map placeless_record rs) k x ≡ place_in rs k x
 place_in_bare [] k x = refl
-place_in_bare (r ∷ rs) zero x = position-map bare_param (λ (p : ParamTree). bytes_eq p.name.name x) r.fields
+place_in_bare (r ∷ rs) zero x = position-map placeless_param (λ (p : ParamTree). bytes_eq p.name.name x) r.fields
 place_in_bare (r ∷ rs) (suc k) x = place_in_bare rs k x
 
-field_place_bare : (rs : List RecordTree) (r : RecordId) (x : List ℕ) → field_place (map bare_record rs) r x ≡ field_place rs r x
+field_place_bare : (rs : List RecordTree) (r : RecordId) (x : List ℕ) → field_place (map placeless_record rs) r x ≡ field_place rs r x
 field_place_bare rs Packet x = refl
 field_place_bare rs (Declared k) x = place_in_bare rs k x
 
 module _ (rs : List RecordTree) where
-  pub field_bare : (v : ValueTree) (x : List ℕ) → field (map bare_record rs) v x ≡ field rs v x
+  pub field_bare : (v : ValueTree) (x : List ℕ) → field (map placeless_record rs) v x ≡ field rs v x
   field_bare (RecordValue r vs) x = ap (at_place vs) (field_place_bare rs r x)
   field_bare v x = refl
 
-  place_bare : (v : ValueTree) (x : List ℕ) → place_of (map bare_record rs) v x ≡ place_of rs v x
+  place_bare : (v : ValueTree) (x : List ℕ) → place_of (map placeless_record rs) v x ≡ place_of rs v x
   place_bare (RecordValue r vs) x = field_place_bare rs r x
   place_bare v x = refl
 
-  pub put_in_bare : (o : Option ValueTree) (xs : List Ident) (w : ValueTree) → put_in (map bare_record rs) o (map bare_ident xs) w ≡ put_in rs o xs w
+  pub put_in_bare : (o : Option ValueTree) (xs : List Ident) (w : ValueTree) → put_in (map placeless_record rs) o (map placeless_ident xs) w ≡ put_in rs o xs w
   put_in_bare None xs w = refl
   put_in_bare (Some v) [] w = refl
   put_in_bare (Some v) (x ∷ xs) w =
       ap₂ (put_at v) (place_bare v x.name)
-      (ap (λ o. put_in (map bare_record rs) o (map bare_ident xs) w) (field_bare v x.name) ∙ put_in_bare (field rs v x.name) xs w)
+      (ap (λ o. put_in (map placeless_record rs) o (map placeless_ident xs) w) (field_bare v x.name) ∙ put_in_bare (field rs v x.name) xs w)
 
-  pub read_in_bare : (o : Option ValueTree) (xs : List Ident) → read_in (map bare_record rs) o (map bare_ident xs) ≡ read_in rs o xs
+  pub read_in_bare : (o : Option ValueTree) (xs : List Ident) → read_in (map placeless_record rs) o (map placeless_ident xs) ≡ read_in rs o xs
   read_in_bare None xs = refl
   read_in_bare (Some v) [] = refl
-  read_in_bare (Some v) (x ∷ xs) = ap (λ o. read_in (map bare_record rs) o (map bare_ident xs)) (field_bare v x.name) ∙ read_in_bare (field rs v x.name) xs
+  read_in_bare (Some v) (x ∷ xs) = ap (λ o. read_in (map placeless_record rs) o (map placeless_ident xs)) (field_bare v x.name) ∙ read_in_bare (field rs v x.name) xs

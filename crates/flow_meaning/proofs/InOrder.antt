@@ -5,15 +5,15 @@ use Rattle.std.specs.declared.option.Option.TheVariants.{None, Some}
 use Rattle.flow_value.specs.Values.{ValueTree, OutcomeTree, GoodOutcome, BadOutcome}
 use Rattle.flow_numbered.specs.Numbered.{Numbered, thing, put, removed}
 use Rattle.flow_meaning.specs.Cells.{Ref}
-use Rattle.flow_meaning.specs.Asks.{Spot, Act, Effects, Effect, Start, Goal, Ask, Request, Supply}
+use Rattle.flow_meaning.specs.Requests.{Spot, Act, Effects, Effect, Start, Goal, Ask, Request, Supply}
 use Rattle.flow_meaning.specs.Process.{Task, Run, Give, Throw, Catch, Store, Keep, Close, Fire, Drop, Entry, Halt, Core, Proc, Engine}
-use Rattle.flow_meaning.specs.Occ.{scan_of}
+use Rattle.flow_meaning.specs.References.{scan_of}
 use Rattle.flow_meaning.specs.Work.{pushed, is_ready_at}
 use Rattle.flow_meaning.specs.Step.{Stepped, proc, view, start, answer_effect, answer, run_next, run, give, store, throw, OperandFate, GoesOn, Cancelled, Ready, verdict, with_operand, below, keep_by, keep, close_actor, step_tasks, step_if, step}
 use Rattle.flow_meaning.specs.Deliver.{begin, boot_core, stop, deliver, arrive}
 use Rattle.flow_meaning.specs.Burst.{Host, Live, add_lines, serve, advanced, advance, Burst, rests}
 use Rattle.flow_meaning.specs.Burst as burst
-use Rattle.flow_meaning.specs.Orderly.{tasks_of, Proceeds, steps, stores, keeps, takes, throws, catches, ends, is_suspended, Stands, NextStep, Orderly, InOrder, UnlessStopped, Waiting, phase_of}
+use Rattle.flow_meaning.specs.Orderly.{tasks_of, Proceeds, steps, stores, keeps, takes, throws, catches, ends, is_suspended, Stands, NextStep, Orderly, OrderlyUnlessStopped, UnlessStopped, Waiting, phase_of}
 use Rattle.flow_meaning.specs.Law.{AtRest, KeepsOrder}
 use Rattle.flow_meaning.proofs.Posture.{Unless, unless, unless_map, Awake, phase_waits}
 use Rattle.flow_meaning.proofs.Shifts.{run_of, give_of, throw_of, catch_of, store_of, keep_of, close_of}
@@ -133,19 +133,19 @@ module _ {W A : Type 0} (e : Engine A) (h : Host W) where
   advanced_keeps w None k = tt
   advanced_keeps w (Some r) k = serve_keeps r.1 r.0 w k
 
-  pub advance_in_order : (s l : Live W A) → InOrder s.proc.core → advance e h s ≡ Some l → InOrder l.proc.core
+  pub advance_in_order : (s l : Live W A) → OrderlyUnlessStopped s.proc.core → advance e h s ≡ Some l → OrderlyUnlessStopped l.proc.core
   advance_in_order s l o a =
       let k = advanced_keeps s.out (step e (h.supply s.out) s.proc) (if_keeps e (h.supply s.out) s.proc.core.halted s.proc.core s.proc.actors (unless_map s.proc.core.halted (ordered s.proc.core) o)) in
       unless_map l.proc.core.halted (orderly l.proc.core) (subst KeepsLive a k)
 
 -- what is delivered at the begin of an event
-pub boot_in_order : (class : ℕ) (name : List ℕ) (c : Core) → Orderly c → InOrder (boot_core class name c)
+pub boot_in_order : (class : ℕ) (name : List ℕ) (c : Core) → Orderly c → OrderlyUnlessStopped (boot_core class name c)
 boot_in_order class name c o = let d = boot_core class name c in unless_map d.halted (orderly d) (boot_ordered class name c (ordered c o))
 
-pub deliver_in_order : (k : ℕ) (v : OutcomeTree) (c : Core) → Orderly c → InOrder (deliver k v c)
+pub deliver_in_order : (k : ℕ) (v : OutcomeTree) (c : Core) → Orderly c → OrderlyUnlessStopped (deliver k v c)
 deliver_in_order k v c o = let d = deliver k v c in unless_map d.halted (orderly d) (deliver_ordered k v c (ordered c o))
 
-pub arrive_in_order : (k : ℕ) (v : ValueTree) (c : Core) → Orderly c → InOrder (arrive k v c)
+pub arrive_in_order : (k : ℕ) (v : ValueTree) (c : Core) → Orderly c → OrderlyUnlessStopped (arrive k v c)
 arrive_in_order k v c o = let d = arrive k v c in unless_map d.halted (orderly d) (arrive_ordered k v c (ordered c o))
 
 pub begin_in_order : (turns : ℕ) (c : Core) → Orderly c → Orderly (begin turns c)
@@ -189,7 +189,7 @@ no_advance : {W A : Type 0} (h : Host W) (w : W) (o : Option (Stepped A)) → ad
 no_advance h w None k = refl
 no_advance h w (Some r) k = absurd (no_thing (sym k))
 
-pub burst_at_rest : {W A : Type 0} (e : Engine A) (h : Host W) (s t : Live W A) → InOrder s.proc.core → Burst e h s t → UnlessStopped t.proc.core.halted (AtRest t.proc.core)
+pub burst_at_rest : {W A : Type 0} (e : Engine A) (h : Host W) (s t : Live W A) → OrderlyUnlessStopped s.proc.core → Burst e h s t → UnlessStopped t.proc.core.halted (AtRest t.proc.core)
 burst_at_rest e h s t o (rests a) = rests_unless e (h.supply s.out) s.proc s.proc.core.halted o (no_advance h s.out (step e (h.supply s.out) s.proc) a)
 burst_at_rest e h s t o (burst.steps r a b) = burst_at_rest e h r t (advance_in_order e h s r o a) b
 

@@ -5,11 +5,11 @@ use Rattle.std.specs.declared.option.Option.{Option}
 use Rattle.std.specs.declared.option.Option.TheVariants.{None, Some}
 use Rattle.flow_trace.specs.declared.line.Line.{Line}
 use Rattle.flow_numbered.specs.Numbered.{Numbered, thing, put}
-use Rattle.flow_meaning.specs.Asks.{Ask, Request, Supply}
+use Rattle.flow_meaning.specs.Requests.{Ask, Request, Supply}
 use Rattle.flow_meaning.specs.Process.{Task, Run, Halt, Core, Engine}
 use Rattle.flow_meaning.specs.Step.{Stepped, proc, view, answer, run_next, run, popped, do_task, step_tasks, step_if, step}
 use Rattle.flow_meaning.specs.Burst.{Host, Live, live, add_lines, serve, advanced, advance, Burst, rests, steps}
-use Rattle.flow_meaning.specs.Orderly.{Orderly, InOrder, UnlessStopped, Phase, Free}
+use Rattle.flow_meaning.specs.Orderly.{Orderly, OrderlyUnlessStopped, UnlessStopped, Phase, Free}
 use Rattle.flow_meaning.specs.Law.{Quietly, still, quiet, Moves, MatchesAsk, BothOrNone, Simulates, Related, Same, BurstsFollow, BurstsReturn}
 use Rattle.flow_meaning.proofs.Posture.{thing_put, same_rank, Unless, unless, unless_map, unless_both}
 use Rattle.flow_meaning.proofs.Shifts.{run_of}
@@ -214,7 +214,7 @@ module _ {W A B : Type 0} (e : Engine A) (d : Engine B) (h : Host W) (R : Phase 
   Steps xs u None = advance d h u ≡ None
   Steps xs u (Some l) = (m : Live W B) × Advances xs u l m × Same R l m
 
-  ordered : (xs : Numbered A) (u : Live W B) (o : Option (Live W A)) → ((l : Live W A) → o ≡ Some l → InOrder l.proc.core) → Does xs u o → Steps xs u o
+  ordered : (xs : Numbered A) (u : Live W B) (o : Option (Live W A)) → ((l : Live W A) → o ≡ Some l → OrderlyUnlessStopped l.proc.core) → Does xs u o → Steps xs u o
   ordered xs u None f k = k
   ordered xs u (Some l) f k = (k.0, k.1, ((k.2.0, unless_both _ _ l.proc.core.halted (f l refl) k.2.2), k.2.1))
 

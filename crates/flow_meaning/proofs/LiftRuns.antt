@@ -14,7 +14,7 @@ use Rattle.flow_meaning.specs.Process.{Core, Engine}
 use Rattle.flow_meaning.specs.Step.{proc}
 use Rattle.flow_meaning.specs.Deliver.{idle_core, idle, begin, boot_core, boot_with, boot, stop, deliver, arrive}
 use Rattle.flow_meaning.specs.Burst.{Live, Burst}
-use Rattle.flow_meaning.specs.Orderly.{Orderly, InOrder, UnlessStopped, Phase, Free}
+use Rattle.flow_meaning.specs.Orderly.{Orderly, OrderlyUnlessStopped, UnlessStopped, Phase, Free}
 use Rattle.flow_meaning.specs.Law.{BothOrNone, Simulates, Related, SameProc, Same, AtRest}
 use Rattle.flow_meaning.specs.Outside.{What, Boots, Rings, Arrives, Answers, Outside, host}
 use Rattle.flow_meaning.specs.World.{Place, World, Begun, Next, Nothing, Script, Event, next_of, with_core, booted, ordered, packet, arrived, listener, happened, process_of, process_in, ready, counted, with_left, begun_by, ending, at_start}
@@ -80,7 +80,7 @@ module _ {A B : Type 0} (e : Engine A) (d : Engine B) (R : Phase → A → B →
       (begun_place w.out.file.turns (slice_index_or w.places k a) p (place_at w.places v.places k a b h.1 idle_place))
 
   -- what is delivered to a process in order, whose actors are as they were
-  delivered : (c k : Core) (xs : Numbered A) (ys : Numbered B) → InOrder k → Unless (Eases c) k → Related R c xs ys → SameProc R (proc k xs) (proc k ys)
+  delivered : (c k : Core) (xs : Numbered A) (ys : Numbered B) → OrderlyUnlessStopped k → Unless (Eases c) k → Related R c xs ys → SameProc R (proc k xs) (proc k ys)
   delivered c k xs ys o h rs = (refl, unless_both _ _ k.halted o (unless_map k.halted (related_eased e d R sim c k xs ys rs) h))
 
   boot_with_same : (x : Option A) (y : Option B) (c : Core) (xs : Numbered A) (ys : Numbered B) → Orderly c → Related R c xs ys → BothOrNone (R Free) x y → SameProc R (boot_with e x (proc c xs)) (boot_with d y (proc c ys))

@@ -5,7 +5,7 @@ use Rattle.std.specs.declared.option.Option.{Option}
 use Rattle.std.specs.declared.option.Option.TheVariants.{None, Some}
 use Rattle.flow_value.specs.Values.{ValueTree}
 use Rattle.flow_meaning.specs.Cells.{Side}
-use Rattle.flow_meaning.specs.Asks.{Ask}
+use Rattle.flow_meaning.specs.Requests.{Ask}
 use Rattle.flow_meaning.specs.Process.{View, Engine}
 use Rattle.flow_meaning.specs.Orderly.{Phase}
 use Rattle.flow_meaning.specs.Law.{still, MatchesAsk, Alike, BothOrNone, Simulates}

@@ -12,7 +12,7 @@ use Rattle.flow_numbered.specs.Numbered.{thing, put, removed}
 use Rattle.flow_meaning.specs.Cells.{side_of, Side, PromiseSide, FutureSide, Ref, Waiter, Cell, is_ready, waiters, taken, after_taking}
 use Rattle.flow_meaning.specs.Process.{Task, Give, Throw, Fire, Entry, Halt, Spent, NoMeaning, Core}
 use Rattle.flow_meaning.specs.Lines.{take_line, cancel_line, broken_line, end_line}
-use Rattle.flow_meaning.specs.Occ.{refs_in, value_in, Scan, Occ}
+use Rattle.flow_meaning.specs.References.{refs_in, value_in, Scan, reference_count}
 use Rattle.flow_meaning.specs.Work.{halt, turn, turn_of, writes, pushed, dropping, fill, fill_cell, free, free_cell, leave_for, give, take_from, take_branch, cancel, cancel_by, cancel_owner, marked}
 use Rattle.flow_meaning.specs.Dropping.{Loss, Kept, Freed, Broken, Orphan, Unheard, loss, port_of, break_cell, suffer, lose_cell, lose_ref, drop, fire_to, fire_at, fire_cell, fire, set_result, give_result, close}
 use Rattle.flow_meaning.specs.Work.{owner}
@@ -161,7 +161,7 @@ suffer_fair k (Unheard port) =
 lose_cell_fair : (scan : Scan) (s : Side) (k : ℕ) (x : Option Cell) → Fair (lose_cell scan s k x)
 lose_cell_fair scan s k None = fair _ (halt_even NoMeaning)
 lose_cell_fair scan s k (Some cell) =
-    own_fair (suffer k) (λ c. loss s (Occ scan PromiseSide k c) (Occ scan FutureSide k c) cell (owner k c.entries) (port_of k c.ports)) (λ n c. refl) (suffer_fair k)
+    own_fair (suffer k) (λ c. loss s (reference_count scan PromiseSide k c) (reference_count scan FutureSide k c) cell (owner k c.entries) (port_of k c.ports)) (λ n c. refl) (suffer_fair k)
 
 lose_ref_fair : (scan : Scan) (s : Side) (k : ℕ) → Fair (lose_ref scan s k)
 lose_ref_fair scan s k = own_fair (lose_cell scan s k) (λ c. thing c.cells k) (λ n c. refl) (lose_cell_fair scan s k)
@@ -192,7 +192,7 @@ set_result_fair k o (suc f) = after_turn (fill k o) (fair _ (fill_even k o))
 
 give_result_fair : (scan : Scan) (r : Option ℕ) (o : OutcomeTree) → Fair (give_result scan r o)
 give_result_fair scan None o = fair _ (dropping_even (refs_in (value_in o)))
-give_result_fair scan (Some k) o = own_fair (set_result k o) (λ c. Occ scan FutureSide k c) (λ n c. refl) (set_result_fair k o)
+give_result_fair scan (Some k) o = own_fair (set_result k o) (λ c. reference_count scan FutureSide k c) (λ n c. refl) (set_result_fair k o)
 
 pub close_fair : (scan : Scan) (i : ℕ) (r : Option ℕ) (o : OutcomeTree) → Fair (close scan i r o)
 close_fair scan i r o =

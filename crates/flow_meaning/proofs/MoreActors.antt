@@ -19,7 +19,7 @@ use Rattle.flow_eval.specs.Eval.{Res, Done, Fails, Spent, Meaningless}
 use Rattle.flow_eval.specs.MoreTurns.{Later}
 use Rattle.flow_eval.specs.Functions.{Call, default_value, read_in}
 use Rattle.flow_class.specs.Classes.{InstrTree, SetInstr, EffectInstr, NewInstr, ActInstr, DropInstr, LastTree, GotoLast, PassLast, TestLast, ChooseLast, ReturnLast, ThrowLast, CallbackTree, RawTree}
-use Rattle.flow_meaning.specs.Asks.{Spot, Act, Goes, Make, Goal, Stored, Kept, Pass, Drops, Effects, Operand, Prints, SendsTo, Returns, Throws}
+use Rattle.flow_meaning.specs.Requests.{Spot, Act, Goes, Make, Goal, Stored, Kept, Pass, Drops, Effects, Operand, Prints, SendsTo, Returns, Throws}
 use Rattle.flow_meaning.specs.Process.{View}
 use Rattle.flow_meaning.specs.Evaluating.{Names, setting, Look, bind, StepOf, asks, quietly, stuck, given, evaluated, Effectful, effect_in, effect_of, value, values, call_act, function_act, plain_act, based_act, method_act, done, before_last, last_of}
 use Rattle.flow_class.specs.Scopes.{scope, outside}

@@ -12,10 +12,10 @@ use Rattle.flow_draw.specs.Words.{scaled}
 use Rattle.flow_eval.specs.Predefined.{natural}
 use Rattle.flow_numbered.specs.Numbered.{thing, added}
 use Rattle.flow_meaning.specs.Cells.{Cell, Single, Stream, is_complete}
-use Rattle.flow_meaning.specs.Asks.{Spot, Act, Goes, Pass, Drops, Effects, Operand, Waits, Sends, Cancels, Prints, SendsTo, Returns, Throws, RunsOut, Stuck, DiskCall, Effect, Make, Start, Draw, Delay, Never, Listen, Disk, Goal, Request, Drew, Timer, Packet, Disks, Supply}
+use Rattle.flow_meaning.specs.Requests.{Spot, Act, Goes, Pass, Drops, Effects, Operand, Waits, Sends, Cancels, Prints, SendsTo, Returns, Throws, RunsOut, Stuck, DiskCall, Effect, Make, Start, Draw, Delay, Never, Listen, Disk, Goal, Request, Drew, Timer, Packet, Disks, Supply}
 use Rattle.flow_meaning.specs.Process.{Task, Run, Throw, Keep, Close, Entry, Spent, NoMeaning, Core}
 use Rattle.flow_meaning.specs.Lines.{wait_line, print_line}
-use Rattle.flow_meaning.specs.Occ.{refs_in}
+use Rattle.flow_meaning.specs.References.{refs_in}
 use Rattle.flow_meaning.specs.Work.{halt, turn, writes, pushed, dropping, dropping_values, new_cell, fill, take_branch, first_ready, Registration, Registered, Refused, Missing, register, owner, cancel_owner}
 use Rattle.flow_meaning.specs.Effects.{Reaction, quiet, throws, result_task, push_result, gives, gives_new, gives_open, empty_cell, between, draw, delay, is_port, open_port, listen, judged, ask_disk, effect, send_to}
 use Rattle.flow_meaning.specs.React.{send_by, send_in, print, at_spot, suspend, wait_by, wait, react}

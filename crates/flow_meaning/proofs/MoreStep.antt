@@ -8,15 +8,15 @@ use Rattle.flow_value.specs.declared.value.Kind.TheVariants as kind
 use Rattle.flow_value.specs.Values.{ValueTree, RefValue, OutcomeTree, GoodOutcome, BadOutcome}
 use Rattle.flow_numbered.specs.Numbered.{Numbered, thing, added, put, removed}
 use Rattle.flow_meaning.specs.Cells.{Ref}
-use Rattle.flow_meaning.specs.Asks.{Spot, Act, Goes, Pass, Drops, Effects, Operand, Waits, Sends, Cancels, Prints, SendsTo, Returns, Throws, RunsOut, Stuck, Effect, Make, Start, Draw, Delay, Never, Listen, Disk, Goal, Ask, Request, Supply}
+use Rattle.flow_meaning.specs.Requests.{Spot, Act, Goes, Pass, Drops, Effects, Operand, Waits, Sends, Cancels, Prints, SendsTo, Returns, Throws, RunsOut, Stuck, Effect, Make, Start, Draw, Delay, Never, Listen, Disk, Goal, Ask, Request, Supply}
 use Rattle.flow_meaning.specs.Process.{Task, Run, Give, Throw, Catch, Store, Keep, Close, Fire, Drop, Entry, Halt, Spent, NoMeaning, Core, Proc, Raised, Engine}
 use Rattle.flow_meaning.specs.Lines.{start_line, throw_line, catch_line}
-use Rattle.flow_meaning.specs.Occ.{scan_of, refs_in}
+use Rattle.flow_meaning.specs.References.{scan_of, refs_in}
 use Rattle.flow_meaning.specs.Work.{halt, writes, pushed, dropping, leave_for, take_branch, is_ready_at}
 use Rattle.flow_meaning.specs.Dropping.{drop, fire, close}
 use Rattle.flow_meaning.specs.Effects.{Reaction, result_task, push_result}
 use Rattle.flow_meaning.specs.React.{react}
-use Rattle.flow_meaning.specs.Step.{proc, Stepped, silent, astray, view, enrol, start_core, start, reacted, answer_effect, answer, run_next, run, replaced, give, store, fate, throw_core, throw, OperandFate, GoesOn, Cancelled, Ready, verdict, with_operand, below, leave_kept, lost, keep_by, keep, handle, close_actor, do_task, step_tasks, step_if, step}
+use Rattle.flow_meaning.specs.Step.{proc, Stepped, silent, stuck, view, enrol, start_core, start, reacted, answer_effect, answer, run_next, run, replaced, give, store, fate, throw_core, throw, OperandFate, GoesOn, Cancelled, Ready, verdict, with_operand, below, leave_kept, lost, keep_by, keep, handle, close_actor, do_task, step_tasks, step_if, step}
 use Rattle.flow_meaning.specs.Burst.{Host, Live, serve, advanced, advance, Burst, rests, steps}
 use Rattle.flow_meaning.specs.Turns.{Starts, more, more_live, later, Asks, IsOut, Thrifty, IsHalted, WritesFirst}
 use Rattle.flow_meaning.proofs.More.{starts_same, starts_on, Ahead, Fair, Even, fair, still, after_turn, then_even, own_fair, same_even, halt_even, writes_even, pushed_even, dropping_even, leave_for_even, take_branch_fair, drop_fair, fire_fair, close_fair}
@@ -82,11 +82,11 @@ module _ {A : Type 0} where
     grows = λ c. starts_on c.lines (e.adds c) (h.grows (g c));
   }
 
-  astray_step : (xs : Numbered A) → FairStep (λ c. astray (proc c xs))
-  astray_step xs = core_step (halt NoMeaning) xs (fair _ (halt_even NoMeaning))
+  stuck_step : (xs : Numbered A) → FairStep (λ c. stuck (proc c xs))
+  stuck_step xs = core_step (halt NoMeaning) xs (fair _ (halt_even NoMeaning))
 
   start_step : (e : Engine A) (i : ℕ) (g : Goal) (class : ℕ) (o : Option A) (xs : Numbered A) → FairStep (λ c. start e i g class o (proc c xs))
-  start_step e i g class None xs = astray_step xs
+  start_step e i g class None xs = stuck_step xs
   start_step e i g class (Some a) xs =
       own_step (λ n c. silent (proc (start_core i g class (e.label class) c) (added xs (suc n) a))) (λ c. c.started) (λ k c. refl)
       (λ n. core_step (start_core i g class (e.label class)) (added xs (suc n) a) (start_fair i g class (e.label class)))
@@ -149,7 +149,7 @@ module _ {A : Type 0} where
   turned e s i ts k r q c xs (inr h) = out_ahead e s i ts k r q c xs h
 
   run_step : (e : Engine A) → Thrifty e → (s : Supply) (i : ℕ) (ts : List Task) (o : Option A) (xs : Numbered A) → FairStep (λ c. run e s i ts o (proc c xs))
-  run_step e t s i ts None xs = astray_step xs
+  run_step e t s i ts None xs = stuck_step xs
   run_step e t s i ts (Some a) xs = record {
     alike = λ k c. turned e s i ts k (e.next (view s i c) a) (e.next (view s i (more k c)) a) c xs (t.same k (c.left + k) (view s i c) a refl);
     grows = λ c. next_grows e s i ts (e.next (view s i c) a) c xs;
@@ -160,16 +160,16 @@ module _ {A : Type 0} where
   replaced_step i r xs = core_step (dropping (refs_in r.0)) (put xs i r.1) (fair _ (dropping_even (refs_in r.0)))
 
   give_step : (e : Engine A) (i b : ℕ) (o : OutcomeTree) (x : Option A) (xs : Numbered A) → FairStep (λ c. give e i b o x (proc c xs))
-  give_step e i b o None xs = astray_step xs
+  give_step e i b o None xs = stuck_step xs
   give_step e i b (BadOutcome err) (Some a) xs = core_step (pushed (Throw i err)) xs (fair _ (pushed_even (Throw i err)))
   give_step e i b (GoodOutcome v) (Some a) xs = then_step (pushed (Run i)) (λ c. replaced i (e.take b v a) (proc c xs)) (pushed_even (Run i)) (replaced_step i (e.take b v a) xs)
 
   store_step : (e : Engine A) (i : ℕ) (v : ValueTree) (x : Option A) (xs : Numbered A) → FairStep (λ c. store e i v x (proc c xs))
-  store_step e i v None xs = astray_step xs
+  store_step e i v None xs = stuck_step xs
   store_step e i v (Some a) xs = replaced_step i (e.store v a) xs
 
   throw_step : (e : Engine A) (i err : ℕ) (x : Option A) (xs : Numbered A) → FairStep (λ c. throw e i err x (proc c xs))
-  throw_step e i err None xs = astray_step xs
+  throw_step e i err None xs = stuck_step xs
   throw_step e i err (Some a) xs =
       own_step (λ y c. silent (proc (throw_core i err (e.raise err a).0 y c) (put xs i (e.raise err a).1))) (λ c. thing c.entries i) (λ k c. refl)
       (λ y. core_step (throw_core i err (e.raise err a).0 y) (put xs i (e.raise err a).1) (fair _ (throw_even i err (e.raise err a).0 y)))
@@ -185,9 +185,9 @@ module _ {A : Type 0} where
   keep_by_step e i b Ready r en a xs = lost_step i b Ready r en (e.lose a) xs
 
   kept_step : (e : Engine A) (i : ℕ) (spot : Spot) (r : Ref) (x : Option A) (y : Option Entry) (xs : Numbered A) → FairStep (λ c. keep e i spot r x y (proc c xs))
-  kept_step e i spot r None None xs = astray_step xs
-  kept_step e i spot r None (Some en) xs = astray_step xs
-  kept_step e i spot r (Some a) None xs = astray_step xs
+  kept_step e i spot r None None xs = stuck_step xs
+  kept_step e i spot r None (Some en) xs = stuck_step xs
+  kept_step e i spot r (Some a) None xs = stuck_step xs
   kept_step e i spot r (Some a) (Some en) xs =
       own_step (λ z c. keep_by e i (length en.operands) (verdict en.marked (is_ready_at z)) r (with_operand spot r en) a (proc c xs)) (λ c. thing c.cells r.1) (λ k c. refl)
       (λ z. keep_by_step e i (length en.operands) (verdict en.marked (is_ready_at z)) r (with_operand spot r en) a xs)
@@ -196,11 +196,11 @@ module _ {A : Type 0} where
   keep_step e i spot r x xs = own_step (λ y c. keep e i spot r x y (proc c xs)) (λ c. thing c.entries i) (λ k c. refl) (λ y. kept_step e i spot r x y xs)
 
   closed_step : (e : Engine A) (i : ℕ) (o : OutcomeTree) (y : Option Entry) (xs : Numbered A) → FairStep (λ c. close_actor e i o y (proc c xs))
-  closed_step e i o None xs = astray_step xs
+  closed_step e i o None xs = stuck_step xs
   closed_step e i o (Some en) xs = core_step (close (scan_of e.occ (removed xs i)) i en.result o) (removed xs i) (close_fair (scan_of e.occ (removed xs i)) i en.result o)
 
   task_step : (e : Engine A) (s : Supply) (t : Task) (xs : Numbered A) → FairStep (λ c. do_task e s t (proc c xs))
-  task_step e s (Run i) xs = astray_step xs
+  task_step e s (Run i) xs = stuck_step xs
   task_step e s (Give i b o) xs = give_step e i b o (thing xs i) xs
   task_step e s (Throw i err) xs = throw_step e i err (thing xs i) xs
   task_step e s (Catch i err) xs = core_step (handle i err) xs (fair _ (handle_even i err))

@@ -8,10 +8,10 @@ use Rattle.flow_value.specs.declared.value.Kind.TheVariants as kind
 use Rattle.flow_value.specs.Values.{ValueTree, OutcomeTree, GoodOutcome, BadOutcome}
 use Rattle.flow_numbered.specs.Numbered.{thing, put, removed}
 use Rattle.flow_meaning.specs.Cells.{Side, PromiseSide, FutureSide, side_of, Ref, Waiter, Cell, is_ready, waiters}
-use Rattle.flow_meaning.specs.Asks.{Spot}
+use Rattle.flow_meaning.specs.Requests.{Spot}
 use Rattle.flow_meaning.specs.Process.{Task, Run, Give, Throw, Catch, Store, Keep, Close, Fire, Drop, Entry, Core, Raised}
 use Rattle.flow_meaning.specs.Lines.{broken_line, throw_line, catch_line, end_line}
-use Rattle.flow_meaning.specs.Occ.{value_in, Scan, Occ}
+use Rattle.flow_meaning.specs.References.{value_in, Scan, reference_count}
 use Rattle.flow_meaning.specs.Work.{writes, pushed, fill, take_branch, owner}
 use Rattle.flow_meaning.specs.Dropping.{Loss, Kept, Freed, Broken, Orphan, Unheard, loss, port_of, suffer, lose_cell, lose_ref, drop, fire_to, fire_at, fire_cell, fire, set_result, give_result, close}
 use Rattle.flow_meaning.specs.Step.{throw_core, OperandFate, GoesOn, Cancelled, Ready, with_operand, below, leave_kept, handle, enrol}
@@ -37,8 +37,8 @@ lose_cell_ordered : (scan : Scan) (s : Side) (k : ℕ) (x : Option Cell) (c : Co
 lose_cell_ordered scan s k None c o = tt
 lose_cell_ordered scan s k (Some cell) c o =
     let x = owner k c.entries in
-    suffer_ordered k (loss s (Occ scan PromiseSide k c) (Occ scan FutureSide k c) cell x (port_of k c.ports)) c o
-    (owned_loss c s (Occ scan PromiseSide k c) (Occ scan FutureSide k c) cell x (port_of k c.ports) (owned k c x o.3 refl))
+    suffer_ordered k (loss s (reference_count scan PromiseSide k c) (reference_count scan FutureSide k c) cell x (port_of k c.ports)) c o
+    (owned_loss c s (reference_count scan PromiseSide k c) (reference_count scan FutureSide k c) cell x (port_of k c.ports) (owned k c x o.3 refl))
 
 lose_ref_ordered : (scan : Scan) (s : Side) (k : ℕ) (c : Core) → Ordered c → Unless Ordered (lose_ref scan s k c)
 lose_ref_ordered scan s k c o = lose_cell_ordered scan s k (thing c.cells k) c o
@@ -145,7 +145,7 @@ result_ordered k v (suc f) c o = after_turn Ordered (fill k v) c c.left (λ n. f
 
 given_ordered : (scan : Scan) (r : Option ℕ) (v : OutcomeTree) (c : Core) → Ordered c → Unless Ordered (give_result scan r v c)
 given_ordered scan None v c o = unless c.halted (dropping_ordered (value_in v) c o)
-given_ordered scan (Some k) v c o = result_ordered k v (Occ scan FutureSide k c) c o
+given_ordered scan (Some k) v c o = result_ordered k v (reference_count scan FutureSide k c) c o
 
 gone_ordered : (i : ℕ) (c : Core) → InHand i c → Awake i c → Ordered (record c { entries = removed c.entries i })
 gone_ordered i c h a = (

@@ -6,9 +6,9 @@ use Rattle.flow_base.specs.ErrorNumbers.{operation_cancelled, second_waiter}
 use Rattle.flow_value.specs.Values.{ValueTree, OutcomeTree}
 use Rattle.flow_numbered.specs.Numbered.{Numbered, thing, put, removed}
 use Rattle.flow_meaning.specs.Cells.{Ref, Waiter, Cell, Single, Stream, waiters, filled, after_taking, taken, with_waiter, is_busy, held}
-use Rattle.flow_meaning.specs.Asks.{Spot}
+use Rattle.flow_meaning.specs.Requests.{Spot}
 use Rattle.flow_meaning.specs.Process.{Task, Run, Give, Throw, Entry, Core}
-use Rattle.flow_meaning.specs.Occ.{refs_in}
+use Rattle.flow_meaning.specs.References.{refs_in}
 use Rattle.flow_meaning.specs.Lines.{take_line, cancel_line, wait_line}
 use Rattle.flow_meaning.specs.Work.{writes, pushed, drops, dropping_values, fill, fill_cell, free, free_cell, running, leave_for, give, take_branch, Registration, Registered, Refused, Missing, register_at, register_one, register, marked, cancel_by, cancel}
 use Rattle.flow_meaning.specs.React.{suspend}

@@ -6,7 +6,7 @@ use Rattle.flow_value.specs.Values.{ValueTree, OutcomeTree}
 use Rattle.flow_numbered.specs.Numbered.{Numbered, thing, added, put, removed}
 use Rattle.flow_meaning.specs.Cells.{Ref, Cell, held}
 use Rattle.flow_meaning.specs.Process.{Task, Entry, Halt, Core}
-use Rattle.flow_meaning.specs.Occ.{refs_in}
+use Rattle.flow_meaning.specs.References.{refs_in}
 use Rattle.flow_meaning.specs.Work.{turn_of, pushed, running, drops, dropping_values, fill_cell, free_cell, leave_for}
 use Rattle.flow_meaning.specs.Orderly.{is_of, tasks_of, is_suspended, UnlessStopped, Phase, Free, Risky, Due, Waiting, phase_first, phase_by, phase_of, Rising}
 

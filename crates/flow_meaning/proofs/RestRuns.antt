@@ -10,7 +10,7 @@ use Rattle.flow_value.specs.Values.{IntValue, VoidValue, GoodOutcome}
 use Rattle.flow_meaning.specs.Process.{Engine}
 use Rattle.flow_meaning.specs.Deliver.{idle_core, idle, boot_with, stop}
 use Rattle.flow_meaning.specs.Burst.{Live, Burst}
-use Rattle.flow_meaning.specs.Orderly.{Orderly, InOrder, UnlessStopped}
+use Rattle.flow_meaning.specs.Orderly.{Orderly, OrderlyUnlessStopped, UnlessStopped}
 use Rattle.flow_meaning.specs.Law.{AtRest}
 use Rattle.flow_meaning.specs.Outside.{What, Boots, Rings, Arrives, Answers, Outside, host}
 use Rattle.flow_meaning.specs.World.{Place, World, Begun, Next, Nothing, Script, Event, next_of, booted, ordered, packet, arrived, listener, happened, process_of, process_in, ready, counted, with_left, begun_by, at_start}
@@ -42,18 +42,18 @@ module _ {A : Type 0} (e : Engine A) where
 
   -- an event begins with its process in order
   abbrev Begins : Begun A → Type 0
-  Begins b = InOrder b.place.proc.core
+  Begins b = OrderlyUnlessStopped b.place.proc.core
 
   ready_orderly : (w : World A) (k : ℕ) → WorldAtRest w → Orderly (ready w k).proc.core
   ready_orderly w k h =
       let a : Place A = record { up = false; proc = idle } in
       begin_in_order w.out.file.turns (slice_index_or w.places k a).proc.core (rests_at w.places k a h idle_at_rest).orderly
 
-  boot_begins : (x : Option A) (a : Place A) → Orderly a.proc.core → InOrder (boot_with e x a.proc).core
+  boot_begins : (x : Option A) (a : Place A) → Orderly a.proc.core → OrderlyUnlessStopped (boot_with e x a.proc).core
   boot_begins None a o = tt
   boot_begins (Some x) a o = boot_in_order e.main (e.label e.main) a.proc.core o
 
-  booted_begins : (p : ℕ) (a : Place A) (held : Option ℕ) → Orderly a.proc.core → InOrder (booted e p a held).proc.core
+  booted_begins : (p : ℕ) (a : Place A) (held : Option ℕ) → Orderly a.proc.core → OrderlyUnlessStopped (booted e p a held).proc.core
   booted_begins p a (Some held) o = unless a.proc.core.halted o
   booted_begins p a None o = boot_begins (e.fresh e.main (IntValue (pos p) ∷ [])) a o
 

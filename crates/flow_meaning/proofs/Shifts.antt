@@ -12,10 +12,10 @@ use Rattle.flow_eval.specs.Predefined.{natural}
 use Rattle.flow_trace.specs.declared.line.Line.{Line}
 use Rattle.flow_numbered.specs.Numbered.{Numbered, thing, added, put, removed}
 use Rattle.flow_meaning.specs.Cells.{Side, FutureSide, PromiseSide, side_of, Ref, Waiter, Cell, Single, Stream, is_complete, is_ready, waiters, taken, after_taking}
-use Rattle.flow_meaning.specs.Asks.{Spot, Act, Goes, Pass, Drops, Effects, Operand, Waits, Sends, Cancels, Prints, SendsTo, Returns, Throws, RunsOut, Stuck, DiskCall, Effect, Make, Start, Draw, Delay, Never, Listen, Disk, Goal, Stored, Kept, Supply}
+use Rattle.flow_meaning.specs.Requests.{Spot, Act, Goes, Pass, Drops, Effects, Operand, Waits, Sends, Cancels, Prints, SendsTo, Returns, Throws, RunsOut, Stuck, DiskCall, Effect, Make, Start, Draw, Delay, Never, Listen, Disk, Goal, Stored, Kept, Supply}
 use Rattle.flow_meaning.specs.Process.{Task, Run, Give, Throw, Catch, Store, Keep, Close, Fire, Entry, Core}
 use Rattle.flow_meaning.specs.Lines.{take_line, cancel_line, broken_line, print_line, wait_line}
-use Rattle.flow_meaning.specs.Occ.{Scan, Occ}
+use Rattle.flow_meaning.specs.References.{Scan, reference_count}
 use Rattle.flow_meaning.specs.Work.{writes, pushed, dropping_values, new_cell, fill, free, give, take_branch, first_ready, Registration, Registered, Refused, Missing, register, owner, is_result, marked, cancel_by, cancel, cancel_owner}
 use Rattle.flow_meaning.specs.Dropping.{Loss, Freed, Broken, Orphan, Unheard, promises_gone, loss, port_of, break_cell, suffer, lose_cell, lose_ref, drop, fire_to, fire_at, fire_cell, fire, set_result, give_result, close}
 use Rattle.flow_meaning.specs.Dropping as dropping
@@ -264,8 +264,8 @@ lose_cell_eases : (scan : Scan) (s : Side) (k : ℕ) (x : Option Cell) (c : Core
 lose_cell_eases scan s k None c h = tt
 lose_cell_eases scan s k (Some cell) c h =
     let o = owner k c.entries in
-    suffer_eases k (loss s (Occ scan PromiseSide k c) (Occ scan FutureSide k c) cell o (port_of k c.ports)) c
-    (owned_loss c s (Occ scan PromiseSide k c) (Occ scan FutureSide k c) cell o (port_of k c.ports) (owned k c o h refl))
+    suffer_eases k (loss s (reference_count scan PromiseSide k c) (reference_count scan FutureSide k c) cell o (port_of k c.ports)) c
+    (owned_loss c s (reference_count scan PromiseSide k c) (reference_count scan FutureSide k c) cell o (port_of k c.ports) (owned k c o h refl))
 
 lose_ref_eases : (scan : Scan) (s : Side) (k : ℕ) (c : Core) → Rising 0 c.started c.entries → Unless (Eases c) (lose_ref scan s k c)
 lose_ref_eases scan s k c h = lose_cell_eases scan s k (thing c.cells k) c h

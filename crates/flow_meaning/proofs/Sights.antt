@@ -3,14 +3,14 @@ use Rattle.std.proofs.Common.{◌≡◌, ℕ, ◌++◌, nat_eq, Bool, true, fals
 use Rattle.std.specs.declared.option.Option.{Option}
 use Rattle.std.specs.declared.option.Option.TheVariants.{None, Some}
 use Rattle.flow_numbered.specs.Numbered.{Numbered, thing}
-use Rattle.flow_meaning.specs.Asks.{Spot}
+use Rattle.flow_meaning.specs.Requests.{Spot}
 use Rattle.flow_meaning.specs.Process.{Entry, Task, Core, Engine}
 use Rattle.flow_meaning.specs.Orderly.{Phase, Waiting, phase_by, is_suspended, tasks_of}
 use Rattle.flow_meaning.specs.Law.{BothOrNone, Simulates, Related, AtRest}
 use Rattle.flow_meaning.specs.World.{Place, World}
 use Rattle.flow_meaning.specs.RunLaw.{SamePlace, SamePlaces, SameWorld, SameStates}
 use Rattle.flow_meaning.specs.Views.{spot_at, unfinished, branches_from, waiting}
-use Rattle.flow_meaning.specs.Sights.{sight, WaitAlike, SightsFollow, SightsReturn}
+use Rattle.flow_meaning.specs.Observations.{observation, WaitAlike, ObservationsFollow, ObservationsReturn}
 use Rattle.flow_meaning.proofs.Posture.{same_number}
 use Rattle.flow_meaning.proofs.LiftRuns.{traces_follow, traces_return}
 
@@ -77,10 +77,10 @@ module _ {A B : Type 0} (R : Phase → A → B → Type 0) (p : A → Spot) (q :
   all_waiting (a ∷ rest) [] h = absurd h
   all_waiting (a ∷ rest) (b ∷ bs) h = ap₂ (λ x xs. x ∷ xs) (place_waiting a b h.0) (all_waiting rest bs h.1)
 
-  world_same : (w : World A) (v : World B) → SameWorld R w v → sight p w ≡ sight q v
+  world_same : (w : World A) (v : World B) → SameWorld R w v → observation p w ≡ observation q v
   world_same w v h = ap₂ (λ us bs. record { unfinished = us; branches = bs }) (all_unfinished w.places v.places h.1) (all_waiting w.places v.places h.1)
 
-  pub sights_same : (states : List (World A)) (others : List (World B)) → SameStates R states others → map (sight p) states ≡ map (sight q) others
+  pub sights_same : (states : List (World A)) (others : List (World B)) → SameStates R states others → map (observation p) states ≡ map (observation q) others
   sights_same [] [] h = refl
   sights_same [] (v ∷ vs) h = absurd h
   sights_same (w ∷ ws) [] h = absurd h
@@ -88,12 +88,12 @@ module _ {A B : Type 0} (R : Phase → A → B → Type 0) (p : A → Spot) (q :
 
 -- so the same is seen of runs of both kinds
 module _ {A B : Type 0} (e : Engine A) (d : Engine B) (R : Phase → A → B → Type 0) (sim : Simulates e d R) where
-  pub sights_follow : SightsFollow e d R
+  pub sights_follow : ObservationsFollow e d R
   sights_follow p q same w lines sights s =
       let other = traces_follow e d R sim w s.states lines s.run in
       record { states = other.0; run = other.1; boundaries = s.boundaries ∙ sights_same R p q same s.states other.0 other.2 }
 
-  pub sights_return : SightsReturn e d R
+  pub sights_return : ObservationsReturn e d R
   sights_return p q same w lines sights s =
       let other = traces_return e d R sim w s.states lines s.run in
       record { states = other.0; run = other.1; boundaries = s.boundaries ∙ sym (sights_same R p q same other.0 s.states other.2) }

@@ -7,10 +7,10 @@ use Rattle.flow_value.specs.declared.value.Kind.TheVariants as kind
 use Rattle.flow_value.specs.Values.{ValueTree, RefValue, OutcomeTree, GoodOutcome, BadOutcome}
 use Rattle.flow_numbered.specs.Numbered.{Numbered, thing, added, put, removed}
 use Rattle.flow_meaning.specs.Cells.{Ref, FutureSide}
-use Rattle.flow_meaning.specs.Asks.{Spot, Goal, Stored, Kept}
+use Rattle.flow_meaning.specs.Requests.{Spot, Goal, Stored, Kept}
 use Rattle.flow_meaning.specs.Process.{Task, Run, Throw, Catch, Store, Keep, Close, Drop, Entry, Core, Raised}
 use Rattle.flow_meaning.specs.Lines.{throw_line, catch_line, end_line}
-use Rattle.flow_meaning.specs.Occ.{Scan, Occ, value_in}
+use Rattle.flow_meaning.specs.References.{Scan, reference_count, value_in}
 use Rattle.flow_meaning.specs.Work.{writes, pushed, dropping_values, fill}
 use Rattle.flow_meaning.specs.Dropping.{set_result, give_result, close}
 use Rattle.flow_meaning.specs.Effects.{result_task, push_result}
@@ -123,7 +123,7 @@ result_unmoved k o (suc f) c = after_turn (AllUnmoved c) (fill k o) c c.left (λ
 
 given_unmoved : (scan : Scan) (r : Option ℕ) (o : OutcomeTree) (c : Core) → Unless (AllUnmoved c) (give_result scan r o c)
 given_unmoved scan None o c = unless c.halted (dropping_unmoved (value_in o) c)
-given_unmoved scan (Some k) o c = result_unmoved k o (Occ scan FutureSide k c) c
+given_unmoved scan (Some k) o c = result_unmoved k o (reference_count scan FutureSide k c) c
 
 pub close_shifts : (scan : Scan) (i : ℕ) (r : Option ℕ) (o : OutcomeTree) (c : Core) → Rising 0 c.started c.entries → tasks_of i c.tasks ≡ [] → Unless (Shifts i Free c) (close scan i r o c)
 close_shifts scan i r o c h e =

@@ -9,7 +9,7 @@ use Rattle.flow_tree.specs.Decls.{RoutineTree, ProgramTree}
 use Rattle.flow_ast.specs.Leaving.{has_statement}
 use Rattle.flow_class.specs.declared.class.Slotted.{Slotted}
 use Rattle.flow_class.specs.Classes.{ActInstr, TestLast, ChooseLast, ReturnLast, ThrowLast, CallbackTree, ClassTree, RawTree}
-use Rattle.flow_meaning.specs.Asks.{Spot}
+use Rattle.flow_meaning.specs.Requests.{Spot}
 use Rattle.flow_meaning.specs.Evaluating.{Names}
 use Rattle.flow_class.specs.Scopes.{Mark, Var, scope, outside}
 use Rattle.flow_meaning.specs.Text.{first_spot, next_spot, branch_count, past_branches}
@@ -21,7 +21,7 @@ use Rattle.flow_class.specs.Code.{Last, group_at}
 use Rattle.flow_meaning.specs.Frame.{spot_of}
 use Rattle.flow_class.specs.Code as frame
 use Rattle.flow_class.specs.Scopes.{Scope, place_of, over, over_all, path_over, act_over}
-use Rattle.flow_meaning.specs.Carry.{Pos, entry, after, Target, At, Again, Hand, EndsScope, at, Goes, NewLocal, CaughtAt, AssignAt, ChangeAt, DeclareAt, DeclaredAs, SimpleAt, PassAt, DropThen, GoesOn}
+use Rattle.flow_meaning.specs.Carry.{Pos, entry, after, Target, At, Again, Hand, EndsScope, at, JumpsTo, NewLocal, CaughtAt, AssignAt, ChangeAt, DeclareAt, DeclaredAs, SimpleAt, PassAt, DropThen, GoesOn}
 
 module _ (ns : Names) (c : ClassTree) where
   -- a break or a continue: the scopes up to the loop are left, each with its drop, and then the loop
@@ -69,7 +69,7 @@ module _ (ns : Names) (c : ClassTree) where
     BodyAt s r ts x (IfStmt place e b k) p =
         CaughtAt ns c s r ts p × (y : ℕ) × (n : ℕ) × (q : Pos) × (at ns c p ≡ Last (TestLast (over c.slots s e) y n))
         × BodyAt (Mark ∷ s) (Leave ∷ Do (site_past b x) k ∷ r) (At q ∷ ts) x b (entry y)
-        × Goes ns c (entry n) q
+        × JumpsTo ns c (entry n) q
         × BodyAt s r ts (site_past b x) k q
     BodyAt s r ts x (IfElseStmt place e b d k) p =
         CaughtAt ns c s r ts p × (y : ℕ) × (n : ℕ) × (q : Pos) × (at ns c p ≡ Last (TestLast (over c.slots s e) y n))
@@ -104,7 +104,7 @@ module _ (ns : Names) (c : ClassTree) where
     BodyAt s r ts x (TryStmt place b w v d k) p =
         let y = site_past b x in
         let z : Site = record { spot = y.spot; caught = Some v.name } in
-        (m : Pos) × (h : ℕ) × (n : ℕ) × (q : Pos) × Goes ns c p m
+        (m : Pos) × (h : ℕ) × (n : ℕ) × (q : Pos) × JumpsTo ns c p m
         × BodyAt (Mark ∷ s) (Leave ∷ Handler v.name z d ∷ Do (site_past d y) k ∷ r) (Hand h n ∷ At q ∷ ts) x b m
         × NewLocal ns c n s
         × BodyAt (Var v.name n ∷ Mark ∷ s) (Leave ∷ Do (site_past d y) k ∷ r) (At q ∷ ts) z d (entry h)

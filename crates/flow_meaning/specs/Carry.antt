@@ -46,9 +46,9 @@ module _ (ns : Names) (c : ClassTree) where
   at p = fetch c p.block p.instr
 
   -- from p the class comes to q by jumps alone
-  pub data Goes : Pos → Pos → Type 0 where
-    here : {p : Pos} → Goes p p
-    jump : {p q : Pos} (b : ℕ) → at p ≡ Last (GotoLast b) → Goes (entry b) q → Goes p q
+  pub data JumpsTo : Pos → Pos → Type 0 where
+    here : {p : Pos} → JumpsTo p p
+    jump : {p q : Pos} (b : ℕ) → at p ≡ Last (GotoLast b) → JumpsTo (entry b) q → JumpsTo p q
 
   -- a local that there is, with a number above those of all locals in force
   abbrev pub NewLocal : ℕ → Scope → Type 0
@@ -115,19 +115,19 @@ module _ (ns : Names) (c : ClassTree) where
 
   -- a pass into that block stands at p
   abbrev pub PassAt : Pos → ℕ → Type 0
-  PassAt p b = (h : Pos) × Goes p h × (at h ≡ Last (PassLast b))
+  PassAt p b = (h : Pos) × JumpsTo p h × (at h ≡ Last (PassLast b))
 
   -- the scope's locals are dropped, where it has any, and then comes what follows
   abbrev pub DropThen : List ℕ → Pos → (Pos → Type 0) → Type 0
   DropThen [] p follows = follows p
-  DropThen (n ∷ ns) p follows = (h : Pos) × Goes p h × (at h ≡ frame.Body (DropInstr (n ∷ ns))) × follows (after h)
+  DropThen (n ∷ ns) p follows = (h : Pos) × JumpsTo p h × (at h ≡ frame.Body (DropInstr (n ∷ ns))) × follows (after h)
 
   -- from p the class goes on with the items; the end of a text, which nothing reaches, throws, and nothing catches that
   abbrev pub GoesOn : Scope → List Item → List Target → Pos → Type 0
-  GoesOn s [] ts p = (h : Pos) × (f : Ident) × Goes p h × (at h ≡ Last (ThrowLast (CallExpr f NoExprs))) × (f.name ≡ codes "operation_cancelled")
+  GoesOn s [] ts p = (h : Pos) × (f : Ident) × JumpsTo p h × (at h ≡ Last (ThrowLast (CallExpr f NoExprs))) × (f.name ≡ codes "operation_cancelled")
       × (catcher_at c h.block ≡ None)
   GoesOn s (Leave ∷ r) ts p = DropThen (scope s) p (GoesOn (outside s) r ts)
-  GoesOn s (Do site k ∷ r) (At q ∷ ts) p = Goes p q
-  GoesOn s (Made l ∷ r) (Again b ∷ ts) p = (h : Pos) × (q : Pos) × Goes p h × SimpleAt s (Round l ∷ r) (Again b ∷ ts) l.step h q s × PassAt q b
+  GoesOn s (Do site k ∷ r) (At q ∷ ts) p = JumpsTo p q
+  GoesOn s (Made l ∷ r) (Again b ∷ ts) p = (h : Pos) × (q : Pos) × JumpsTo p h × SimpleAt s (Round l ∷ r) (Again b ∷ ts) l.step h q s × PassAt q b
   GoesOn s (Handler x site k ∷ r) (Hand b n ∷ ts) p = GoesOn s r ts p
   GoesOn s _ ts p = ⊥

@@ -7,7 +7,7 @@ use Rattle.flow_value.specs.Values.{ValueTree, IntValue, OutcomeTree, GoodOutcom
 use Rattle.flow_numbered.specs.Numbered.{added}
 use Rattle.flow_meaning.specs.Process.{Drop, Core, Proc, Engine}
 use Rattle.flow_meaning.specs.Work.{turn, pushed, fill}
-use Rattle.flow_meaning.specs.Step.{proc, enrol, astray}
+use Rattle.flow_meaning.specs.Step.{proc, enrol, stuck}
 
 -- a process that never ran
 abbrev pub idle_core : Core
@@ -41,7 +41,7 @@ abbrev pub boot_core : (class : ℕ) → List ℕ → Core → Core
 boot_core class name c = turn c (λ d. record (enrol class name d) { main = Some (suc d.made) })
 
 abbrev pub boot_with : {A : Type 0} → Engine A → Option A → Proc A → Proc A
-boot_with e None p = (astray p).0
+boot_with e None p = (stuck p).0
 boot_with e (Some a) p = proc (boot_core e.main (e.label e.main) p.core) (added p.actors (suc p.core.started) a)
 
 abbrev pub boot : {A : Type 0} → Engine A → (process : ℕ) → Proc A → Proc A

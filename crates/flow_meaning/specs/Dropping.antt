@@ -9,7 +9,7 @@ use Rattle.flow_numbered.specs.Numbered.{Numbered, thing, removed}
 use Rattle.flow_meaning.specs.Cells.{Side, PromiseSide, FutureSide, side_of, Cell, is_complete, is_ready, waiters, Waiter}
 use Rattle.flow_meaning.specs.Process.{Fire, Entry, NoMeaning, Core}
 use Rattle.flow_meaning.specs.Lines.{broken_line, end_line}
-use Rattle.flow_meaning.specs.Occ.{value_in, Scan, Occ}
+use Rattle.flow_meaning.specs.References.{value_in, Scan, reference_count}
 use Rattle.flow_meaning.specs.Work.{halt, turn, writes, pushed, dropping_values, fill, free, take_branch, owner, cancel}
 
 -- What a lost reference leads to: nothing more; the cell is freed; the cell is broken; the actor of its result is
@@ -60,7 +60,7 @@ suffer k (Unheard port) c = free k (record c { ports = removed c.ports port })
 abbrev pub lose_cell : Scan → Side → ℕ → Option Cell → Core → Core
 lose_cell scan s k None c = halt NoMeaning c
 lose_cell scan s k (Some cell) c =
-    suffer k (loss s (Occ scan PromiseSide k c) (Occ scan FutureSide k c) cell (owner k c.entries) (port_of k c.ports)) c
+    suffer k (loss s (reference_count scan PromiseSide k c) (reference_count scan FutureSide k c) cell (owner k c.entries) (port_of k c.ports)) c
 
 abbrev pub lose_ref : Scan → Side → ℕ → Core → Core
 lose_ref scan s k c = lose_cell scan s k (thing c.cells k) c
@@ -95,7 +95,7 @@ set_result k o (suc f) c = turn c (λ d. fill k o d)
 
 abbrev pub give_result : Scan → Option ℕ → OutcomeTree → Core → Core
 give_result scan None o c = dropping_values (value_in o) c
-give_result scan (Some k) o c = set_result k o (Occ scan FutureSide k c) c
+give_result scan (Some k) o c = set_result k o (reference_count scan FutureSide k c) c
 
 abbrev pub close : Scan → (actor : ℕ) → Option ℕ → OutcomeTree → Core → Core
 close scan i result o c = turn (record c { entries = removed c.entries i }) (λ d. give_result scan result o (writes (end_line i o) d))

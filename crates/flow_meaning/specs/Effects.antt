@@ -12,7 +12,7 @@ use Rattle.flow_simdisk.specs.declared.TheConstants.{FILE_BYTES}
 use Rattle.flow_eval.specs.Predefined.{natural}
 use Rattle.flow_numbered.specs.Numbered.{added, thing}
 use Rattle.flow_meaning.specs.Cells.{Cell, Single, Stream}
-use Rattle.flow_meaning.specs.Asks.{DiskCall, ReadCall, WriteCall, SyncCall, SizeCall, Effect, Make, Start, Draw, Delay, Never, Listen, Disk, Goal, Stored, Kept, Request, Drew, Timer, Packet, Disks, Supply}
+use Rattle.flow_meaning.specs.Requests.{DiskCall, ReadCall, WriteCall, SyncCall, SizeCall, Effect, Make, Start, Draw, Delay, Never, Listen, Disk, Goal, Stored, Kept, Request, Drew, Timer, Packet, Disks, Supply}
 use Rattle.flow_meaning.specs.Process.{Task, Run, Throw, Store, Keep, NoMeaning, Core}
 use Rattle.flow_meaning.specs.Work.{halt, pushed, new_cell}
 

@@ -19,7 +19,7 @@ use Rattle.flow_eval.specs.Answers.{int_of, text_of, error_of, arg}
 use Rattle.flow_eval.specs.Eval.{Res, Done, Fails, Spent, Meaningless, Setting, then, eval_all}
 pub use Rattle.flow_eval.specs.Functions.{Eval, Call}
 use Rattle.flow_eval.specs.Functions.{run_function, deepest, read_in}
-use Rattle.flow_meaning.specs.Asks.{ReadCall, WriteCall, SyncCall, SizeCall, Effect, Start, Draw, Delay, Never, Listen, Disk, Act, Goes, Sends, Cancels, Prints, SendsTo, Throws, RunsOut, Stuck, Ask}
+use Rattle.flow_meaning.specs.Requests.{ReadCall, WriteCall, SyncCall, SizeCall, Effect, Start, Draw, Delay, Never, Listen, Disk, Act, Goes, Sends, Cancels, Prints, SendsTo, Throws, RunsOut, Stuck, Ask}
 use Rattle.flow_meaning.specs.Process.{View}
 
 -- what a program names: its records and functions, and the names of its actors in the order of the text

@@ -13,8 +13,8 @@ use Rattle.flow_class.specs.Classes.{CatcherTree, ClassTree}
 use Rattle.flow_class.specs.Places.{place_named}
 use Rattle.flow_class.specs.Code.{catcher_at, callbacks_before}
 use Rattle.flow_meaning.specs.Cells.{Side}
-use Rattle.flow_meaning.specs.Asks.{Spot}
-use Rattle.flow_meaning.specs.Occ.{count, refs_in}
+use Rattle.flow_meaning.specs.Requests.{Spot}
+use Rattle.flow_meaning.specs.References.{count, refs_in}
 use Rattle.flow_meaning.specs.Process.{Raised}
 use Rattle.flow_meaning.specs.Evaluating.{bind}
 use Rattle.flow_meaning.specs.Variables.{flat, filled}

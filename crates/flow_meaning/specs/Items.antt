@@ -10,7 +10,7 @@ use Rattle.flow_tree.specs.Body.{IntoTree, WaitTree, ChangeTree, PlusChange, Min
 use Rattle.flow_tree.specs.Decls.{RecordTree}
 use Rattle.flow_value.specs.Values.{ValueTree, ErrorValue}
 use Rattle.flow_eval.specs.Functions.{put_in, read_in}
-use Rattle.flow_meaning.specs.Asks.{Spot, Drops}
+use Rattle.flow_meaning.specs.Requests.{Spot, Drops}
 use Rattle.flow_meaning.specs.Process.{Raised}
 use Rattle.flow_meaning.specs.Evaluating.{StepOf, asks, quietly}
 use Rattle.flow_class.specs.Scopes.{Local, Mark, Var, scope, all_locals, outside}

@@ -5,7 +5,7 @@ use Rattle.std.specs.declared.option.Option.TheVariants.{None, Some}
 use Rattle.flow_value.specs.Values.{ValueTree}
 use Rattle.flow_numbered.specs.Numbered.{Numbered, thing}
 use Rattle.flow_meaning.specs.Cells.{Side}
-use Rattle.flow_meaning.specs.Asks.{Act, Effects, Operand, Waits, Sends, SendsTo, Throws, Ask}
+use Rattle.flow_meaning.specs.Requests.{Act, Effects, Operand, Waits, Sends, SendsTo, Throws, Ask}
 use Rattle.flow_meaning.specs.Process.{Entry, Core, Proc, View, Engine}
 use Rattle.flow_meaning.specs.Orderly.{Orderly, UnlessStopped, Phase, Free, Risky, Due, Waiting, phase_of}
 use Rattle.flow_meaning.specs.Burst.{Host, Live, Burst}

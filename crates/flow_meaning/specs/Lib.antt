@@ -1,8 +1,8 @@
 pub mod Cells
-pub mod Asks
+pub mod Requests
 pub mod Process
 pub mod Lines
-pub mod Occ
+pub mod References
 pub mod Work
 pub mod Dropping
 pub mod Effects
@@ -30,5 +30,5 @@ pub mod Shape
 pub mod Carry
 pub mod Carries
 pub mod RunLaw
-pub mod Sights
-pub mod Bare
+pub mod Observations
+pub mod Placeless

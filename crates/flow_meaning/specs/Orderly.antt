@@ -6,7 +6,7 @@ use Rattle.std.specs.declared.option.Option.TheVariants.{None, Some}
 use Rattle.flow_value.specs.Values.{ValueTree, OutcomeTree}
 use Rattle.flow_numbered.specs.Numbered.{Numbered, thing}
 use Rattle.flow_meaning.specs.Cells.{Ref, Waiter, Cell, waiters}
-use Rattle.flow_meaning.specs.Asks.{Spot}
+use Rattle.flow_meaning.specs.Requests.{Spot}
 use Rattle.flow_meaning.specs.Process.{Task, Run, Give, Throw, Catch, Store, Keep, Close, Fire, Drop, Entry, Halt, Core}
 
 -- the tasks of an actor
@@ -80,8 +80,8 @@ abbrev pub UnlessStopped : Option Halt → Type 0 → Type 0
 UnlessStopped None holds = holds
 UnlessStopped (Some h) holds = Unit {0}
 
-abbrev pub InOrder : Core → Type 0
-InOrder c = UnlessStopped c.halted (Orderly c)
+abbrev pub OrderlyUnlessStopped : Core → Type 0
+OrderlyUnlessStopped c = UnlessStopped c.halted (Orderly c)
 
 -- What may be handed to an actor depends on what it asked for last: it may go on, or fail; it is owed the result of an
 -- effect, an operand or a branch; it waits. Each says more than those before.

@@ -11,7 +11,7 @@ use Rattle.flow_timers.specs.Pending.{Queue, with_event}
 use Rattle.flow_simnet.specs.declared.packet.Fate.{Fate}
 use Rattle.flow_simnet.specs.declared.packet.Fate.TheVariants.{Cut, Drawn as LostDraw, At}
 use Rattle.flow_simnet.specs.Links.{draw_in, fate_by}
-use Rattle.flow_meaning.specs.Asks.{DiskCall, Request, Drew, Timer, Packet, Disks, Supply}
+use Rattle.flow_meaning.specs.Requests.{DiskCall, Request, Drew, Timer, Packet, Disks, Supply}
 use Rattle.flow_meaning.specs.Burst.{Host}
 use Rattle.flow_simdisk.specs.Disk.{Disk}
 

@@ -6,7 +6,7 @@ use Rattle.flow_value.specs.Values.{ValueTree, OutcomeTree}
 use Rattle.flow_trace.specs.declared.line.Line.{Line}
 use Rattle.flow_numbered.specs.Numbered.{Numbered}
 use Rattle.flow_meaning.specs.Cells.{Side, Ref, Cell}
-use Rattle.flow_meaning.specs.Asks.{Spot, Ask}
+use Rattle.flow_meaning.specs.Requests.{Spot, Ask}
 
 -- Work that a process still has to do. The values and references in it count as stored.
 pub data Task : Type 0 where

@@ -8,7 +8,7 @@ use Rattle.flow_trace.specs.declared.line.Line.{Line}
 use Rattle.flow_base.specs.ErrorNumbers.{second_waiter, already_set}
 use Rattle.flow_numbered.specs.Numbered.{thing, put}
 use Rattle.flow_meaning.specs.Cells.{Cell, is_complete}
-use Rattle.flow_meaning.specs.Asks.{Spot, Act, Goes, Pass, Drops, Effects, Operand, Waits, Sends, Cancels, Prints, SendsTo, Returns, Throws, RunsOut, Stuck, Supply}
+use Rattle.flow_meaning.specs.Requests.{Spot, Act, Goes, Pass, Drops, Effects, Operand, Waits, Sends, Cancels, Prints, SendsTo, Returns, Throws, RunsOut, Stuck, Supply}
 use Rattle.flow_meaning.specs.Process.{Run, Throw, Keep, Close, Entry, Spent, NoMeaning, Core}
 use Rattle.flow_meaning.specs.Lines.{wait_line, print_line}
 use Rattle.flow_meaning.specs.Work.{halt, turn, writes, pushed, dropping_values, fill, leave_for, take_branch, first_ready, Registration, Registered, Refused, Missing, register, owner, cancel_owner}

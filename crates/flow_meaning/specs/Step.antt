@@ -7,10 +7,10 @@ use Rattle.flow_value.specs.declared.value.Kind.TheVariants as kind
 use Rattle.flow_value.specs.Values.{ValueTree, RefValue, OutcomeTree, GoodOutcome, BadOutcome}
 use Rattle.flow_numbered.specs.Numbered.{Numbered, thing, added, put, removed}
 use Rattle.flow_meaning.specs.Cells.{Ref, Single, outcome}
-use Rattle.flow_meaning.specs.Asks.{Spot, Act, Effects, Effect, Start, Goal, Ask, Request, Supply}
+use Rattle.flow_meaning.specs.Requests.{Spot, Act, Effects, Effect, Start, Goal, Ask, Request, Supply}
 use Rattle.flow_meaning.specs.Process.{Task, Run, Give, Throw, Catch, Store, Keep, Close, Fire, Drop, Entry, Halt, NoMeaning, Core, Proc, View, Raised, Engine}
 use Rattle.flow_meaning.specs.Lines.{start_line, throw_line, catch_line}
-use Rattle.flow_meaning.specs.Occ.{Scan, scan_of}
+use Rattle.flow_meaning.specs.References.{Scan, scan_of}
 use Rattle.flow_meaning.specs.Work.{halt, turn, writes, pushed, dropping_values, new_cell, leave_for, take_branch, is_ready_at}
 use Rattle.flow_meaning.specs.Dropping.{drop, fire, close}
 use Rattle.flow_meaning.specs.Effects.{Reaction, result_task, push_result}
@@ -26,8 +26,8 @@ Stepped A = Proc A × Option Request
 abbrev pub silent : {A : Type 0} → Proc A → Stepped A
 silent p = (p, None)
 
-abbrev pub astray : {A : Type 0} → Proc A → Stepped A
-astray p = silent (proc (halt NoMeaning p.core) p.actors)
+abbrev pub stuck : {A : Type 0} → Proc A → Stepped A
+stuck p = silent (proc (halt NoMeaning p.core) p.actors)
 
 -- what an actor sees
 abbrev pub kept_by : Option Entry → ℕ
@@ -54,7 +54,7 @@ abbrev pub start_core : (actor : ℕ) → Goal → (class : ℕ) → List ℕ �
 start_core i goal class name c = turn c (λ d. enrol class name (push_result i (result_task i goal (RefValue kind.Future (suc d.made))) d))
 
 abbrev pub start : {A : Type 0} → Engine A → (actor : ℕ) → Goal → (class : ℕ) → Option A → Proc A → Stepped A
-start e i goal class None p = astray p
+start e i goal class None p = stuck p
 start e i goal class (Some a) p = silent (proc (start_core i goal class (e.label class) p.core) (added p.actors (suc p.core.started) a))
 
 -- the process answers an ask
@@ -75,7 +75,7 @@ run_next e s i ts (None, a) p = silent (proc p.core (put p.actors i a))
 run_next e s i ts (Some ask, a) p = answer e s i ask.act (proc (record p.core { tasks = ts; left = ask.left }) (put p.actors i a))
 
 abbrev pub run : {A : Type 0} → Engine A → Supply → (actor : ℕ) → List Task → Option A → Proc A → Stepped A
-run e s i ts None p = astray p
+run e s i ts None p = stuck p
 run e s i ts (Some a) p = run_next e s i ts (e.next (view s i p.core) a) p
 
 -- The actor hands out values, which are dropped in order, and goes on.
@@ -84,13 +84,13 @@ replaced i r p = silent (proc (dropping_values r.0 p.core) (put p.actors i r.1))
 
 -- The task Give: a value goes to the branch that was taken, and an error is thrown.
 abbrev pub give : {A : Type 0} → Engine A → (actor branch : ℕ) → OutcomeTree → Option A → Proc A → Stepped A
-give e i b o None p = astray p
+give e i b o None p = stuck p
 give e i b (BadOutcome err) (Some a) p = silent (proc (pushed (Throw i err) p.core) p.actors)
 give e i b (GoodOutcome v) (Some a) p = replaced i (e.take b v a) (proc (pushed (Run i) p.core) p.actors)
 
 -- The task Store.
 abbrev pub store : {A : Type 0} → Engine A → (actor : ℕ) → ValueTree → Option A → Proc A → Stepped A
-store e i v None p = astray p
+store e i v None p = stuck p
 store e i v (Some a) p = replaced i (e.store v a) p
 
 -- The task Throw: the line; then the operands that are kept are dropped in order, and the values that left the
@@ -107,7 +107,7 @@ abbrev pub throw_with : {A : Type 0} → (actor error : ℕ) → Raised × A →
 throw_with i err r p = silent (proc (throw_core i err r.0 (thing p.core.entries i) p.core) (put p.actors i r.1))
 
 abbrev pub throw : {A : Type 0} → Engine A → (actor error : ℕ) → Option A → Proc A → Stepped A
-throw e i err None p = astray p
+throw e i err None p = stuck p
 throw e i err (Some a) p = throw_with i err (e.raise err a) p
 
 -- The task Keep, with the actor's task under it: the operand is kept. A marked actor then leaves its wait and throws
@@ -145,7 +145,7 @@ keep_by e i b v r en a p = lost i b v r en (e.lose a) p
 abbrev pub keep : {A : Type 0} → Engine A → (actor : ℕ) → Spot → Ref → Option A → Option Entry → Proc A → Stepped A
 keep e i spot r (Some a) (Some en) p =
     keep_by e i (length en.operands) (verdict en.marked (is_ready_at (thing p.core.cells r.1))) r (with_operand spot r en) a p
-keep e i spot r _ _ p = astray p
+keep e i spot r _ _ p = stuck p
 
 -- The task Catch: the line, and the handler runs.
 abbrev pub handle : (actor error : ℕ) → Core → Core
@@ -153,7 +153,7 @@ handle i err c = pushed (Run i) (writes (catch_line i err) c)
 
 -- The task Close: the actor is gone from the process.
 abbrev pub close_actor : {A : Type 0} → Engine A → (actor : ℕ) → OutcomeTree → Option Entry → Proc A → Stepped A
-close_actor e i o None p = astray p
+close_actor e i o None p = stuck p
 close_actor e i o (Some en) p = silent (proc (close (scan_of e.occ (removed p.actors i)) i en.result o p.core) (removed p.actors i))
 
 -- what the variables of all actors of a process hold
@@ -168,7 +168,7 @@ popped ts p = proc (record p.core { tasks = ts }) p.actors
 
 -- the newest task is done
 abbrev pub do_task : {A : Type 0} → Engine A → Supply → Task → Proc A → Stepped A
-do_task e s (Run i) p = astray p
+do_task e s (Run i) p = stuck p
 do_task e s (Give i b o) p = give e i b o (thing p.actors i) p
 do_task e s (Throw i err) p = throw e i err (thing p.actors i) p
 do_task e s (Catch i err) p = silent (on_core (handle i err) p)

@@ -1,7 +1,7 @@
 -- The numbers of waits and branches, given in the order of the text.
 use Rattle.std.specs.Prelude.{ℕ, suc, ◌+◌}
 use Rattle.flow_tree.specs.Body.{Body, End, BlockStmt, IfStmt, IfElseStmt, WhileStmt, ForStmt, LoopStmt, BreakStmt, ContinueStmt, ReturnStmt, ThrowStmt, TryStmt, ChooseStmt, DeclareStmt, AssignStmt, ModifyStmt, CallStmt, WaitStmt, Branches, NoBranches, MoreBranches}
-use Rattle.flow_meaning.specs.Asks.{Spot}
+use Rattle.flow_meaning.specs.Requests.{Spot}
 
 -- how many branches a choose has
 abbrev pub branch_count : Branches → ℕ

@@ -3,7 +3,7 @@ use Rattle.std.specs.Prelude.{◌≡◌, ℕ, ◌+◌, ◌⊎◌, List, ◌++◌
 use Rattle.std.specs.declared.option.Option.{Option}
 use Rattle.std.specs.declared.option.Option.TheVariants.{None, Some}
 use Rattle.flow_trace.specs.declared.line.Line.{Line}
-use Rattle.flow_meaning.specs.Asks.{Act, RunsOut, Stuck, Ask}
+use Rattle.flow_meaning.specs.Requests.{Act, RunsOut, Stuck, Ask}
 use Rattle.flow_meaning.specs.Process.{Halt, Core, View, Engine}
 use Rattle.flow_meaning.specs.Step.{proc}
 use Rattle.flow_meaning.specs.Burst.{Host, Live, live, Burst}

@@ -7,7 +7,7 @@ use Rattle.flow_ast.specs.TypingNames.{named}
 use Rattle.flow_class.specs.Scopes.{Local, Mark, Var, find, all_locals}
 use Rattle.flow_value.specs.Values.{ValueTree}
 use Rattle.flow_meaning.specs.Cells.{Side}
-use Rattle.flow_meaning.specs.Occ.{count, refs_in}
+use Rattle.flow_meaning.specs.References.{count, refs_in}
 
 -- Parameters and state variables in the order of the text, all of them from the start, and the locals. A state variable
 -- that was not declared yet has no value, and a local loses its value at a wait and stays.

@@ -7,9 +7,9 @@ use Rattle.flow_numbered.specs.Numbered.{Numbered, thing}
 use Rattle.flow_class.specs.Classes.{CallbackTree, RawTree}
 use Rattle.flow_class.specs.Code.{group_at}
 use Rattle.flow_meaning.specs.Cells.{Ref, FutureSide}
-use Rattle.flow_meaning.specs.Occ.{Occ}
+use Rattle.flow_meaning.specs.References.{reference_count}
 use Rattle.flow_meaning.specs.Step.{scanned}
-use Rattle.flow_meaning.specs.Asks.{Spot}
+use Rattle.flow_meaning.specs.Requests.{Spot}
 use Rattle.flow_meaning.specs.Process.{Entry, Proc, Engine}
 use Rattle.flow_tree.specs.Body.{ChooseStmt, WaitStmt}
 use Rattle.flow_meaning.specs.Items.{Item, Do, Actor}
@@ -99,4 +99,4 @@ AllReferred futures [] = Unit {0}
 AllReferred futures (x ∷ xs) = (x.1.marked ≡ false) × IsReferred x.1.result futures × AllReferred futures xs
 
 abbrev pub Referred : {A : Type 0} → Engine A → Proc A → Type 0
-Referred e p = AllReferred (λ k. Occ (scanned e p) FutureSide k p.core) p.core.entries
+Referred e p = AllReferred (λ k. reference_count (scanned e p) FutureSide k p.core) p.core.entries

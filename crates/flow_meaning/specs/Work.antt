@@ -10,7 +10,7 @@ use Rattle.flow_numbered.specs.Numbered.{Numbered, thing, added, put, removed}
 use Rattle.flow_meaning.specs.Cells.{Ref, Waiter, Cell, is_ready, held, filled, taken, after_taking, with_waiter, is_busy, left_by}
 use Rattle.flow_meaning.specs.Process.{Task, Give, Throw, Fire, Drop, Entry, Halt, Spent, NoMeaning, Core}
 use Rattle.flow_meaning.specs.Lines.{take_line, cancel_line}
-use Rattle.flow_meaning.specs.Occ.{refs_in}
+use Rattle.flow_meaning.specs.References.{refs_in}
 
 -- the event is stopped
 abbrev pub halt : Halt → Core → Core

@@ -14,7 +14,7 @@ use Rattle.flow_value.specs.declared.value.RecordId.TheVariants as record_id
 use Rattle.flow_value.specs.Values.{ValueTree, IntValue, TextValue, VoidValue, RecordValue, OutcomeTree, GoodOutcome, BadOutcome, values_of_list}
 use Rattle.flow_draw.specs.Words.{word_at}
 use Rattle.flow_numbered.specs.Numbered.{thing}
-use Rattle.flow_meaning.specs.Asks.{DiskCall, ReadCall, WriteCall, SyncCall, SizeCall}
+use Rattle.flow_meaning.specs.Requests.{DiskCall, ReadCall, WriteCall, SyncCall, SizeCall}
 use Rattle.flow_meaning.specs.Process.{Core, Proc, Engine}
 use Rattle.flow_meaning.specs.Deliver.{begin, boot, stop, deliver, arrive, vanish, idle}
 use Rattle.flow_timers.specs.Pending.{Pending}

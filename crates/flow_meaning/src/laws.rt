@@ -8,8 +8,8 @@ ghost use Rattle.flow_meaning.specs.Turns.{Thrifty, WritesFirst};
 ghost use Rattle.flow_meaning.specs.Runs.{RunsOnce};
 ghost use Rattle.flow_meaning.specs.Source.{source};
 ghost use Rattle.flow_meaning.specs.Class.{classes};
-ghost use Rattle.flow_meaning.specs.Sights.{SightsFollow, SightsReturn};
-ghost use Rattle.flow_meaning.specs.Bare.{EvaluatesAlike, ProgramsAlike, ClassesAlike};
+ghost use Rattle.flow_meaning.specs.Observations.{ObservationsFollow, ObservationsReturn};
+ghost use Rattle.flow_meaning.specs.Placeless.{EvaluatesAlike, ProgramsAlike, ClassesAlike};
 
 /// Two kinds of actors, the world around a process of either, and a relation between actors of the two.
 pub trait TwoKinds {
@@ -66,8 +66,8 @@ pub fn runs_alike<K: TwoKinds>()
 /// actors and the branches at which they wait.
 pub fn sights_alike<K: TwoKinds>()
     ensures follow { Simulates K.first K.second K.related
-        → SightsFollow K.first K.second K.related }
-    ensures back { Simulates K.first K.second K.related → SightsReturn K.first K.second K.related }
+        → ObservationsFollow K.first K.second K.related }
+    ensures back { Simulates K.first K.second K.related → ObservationsReturn K.first K.second K.related }
 {}
 
 /// From a process in order, in which each unfinished actor is suspended or has exactly one thing to do, a

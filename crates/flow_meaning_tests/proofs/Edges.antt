@@ -12,7 +12,7 @@ use Rattle.flow_value.specs.Values.{ValueTree, IntValue, RefValue}
 use Rattle.flow_class.specs.Classes.{InstrTree, SetInstr, DropInstr, ChooseLast, ReturnLast, ClassTree}
 use Rattle.flow_class.specs.Code.{Last}
 use Rattle.flow_class.specs.Scopes.{path_over}
-use Rattle.flow_meaning.specs.Asks.{Drops}
+use Rattle.flow_meaning.specs.Requests.{Drops}
 use Rattle.flow_meaning.specs.Process.{View}
 use Rattle.flow_meaning.specs.Evaluating.{Names, asks, stuck}
 use Rattle.flow_meaning.specs.Items.{Do, Actor, actor}
@@ -23,7 +23,7 @@ use Rattle.flow_meaning.specs.Class as class
 use Rattle.flow_meaning.specs.World.{World}
 use Rattle.flow_meaning.specs.Views.{actor_spot, frame_spot}
 use Rattle.flow_meaning.specs.Boundaries.{LiveIn, PendingIn, FramesIn, CallbacksIn}
-use Rattle.flow_meaning.specs.Sights.{sight}
+use Rattle.flow_meaning.specs.Observations.{observation}
 use Rattle.flow_meaning_tests.proofs.RowTerms.{nowhere, id}
 
 abbrev no_names : Names
@@ -84,8 +84,8 @@ unfolding digits
 no_place v m = refl
 
 -- what is seen at a boundary is what the views say, by texts and by frames
-seen_by_texts : (w : World Actor) → sight actor_spot w ≡ record { unfinished = LiveIn w; branches = PendingIn w }
+seen_by_texts : (w : World Actor) → observation actor_spot w ≡ record { unfinished = LiveIn w; branches = PendingIn w }
 seen_by_texts w = refl
 
-seen_by_frames : (w : World Frame) → sight frame_spot w ≡ record { unfinished = FramesIn w; branches = CallbacksIn w }
+seen_by_frames : (w : World Frame) → observation frame_spot w ≡ record { unfinished = FramesIn w; branches = CallbacksIn w }
 seen_by_frames w = refl

@@ -12,7 +12,7 @@ use Rattle.flow_value.specs.Values.{ValueTree, RefValue, ErrorValue, OutcomeTree
 use Rattle.flow_class.specs.Classes.{CallbackTree, ClassTree, RawTree, EffectInstr, DropInstr, GotoLast, ChooseLast, ReturnLast}
 use Rattle.flow_class.specs.Scopes.{Local, Mark, Var}
 use Rattle.flow_meaning.specs.Cells.{Side}
-use Rattle.flow_meaning.specs.Asks.{Ask}
+use Rattle.flow_meaning.specs.Requests.{Ask}
 use Rattle.flow_meaning.specs.Process.{View}
 use Rattle.flow_meaning.specs.Orderly.{Phase, Free, Risky, Due, Waiting}
 use Rattle.flow_meaning.specs.Law.{Quietly, still, quiet, phase_after, MatchesAsk, Alike, BothOrNone, Simulates}
@@ -21,7 +21,7 @@ use Rattle.flow_meaning.specs.Frame as frame
 use Rattle.flow_meaning.specs.Source.{source}
 use Rattle.flow_meaning.specs.Class.{begun, classes}
 use Rattle.flow_meaning.specs.Views.{actor_spot, frame_spot}
-use Rattle.flow_meaning.specs.Sights.{Sight, SourceSeen, ClassSeen, WaitAlike}
+use Rattle.flow_meaning.specs.Observations.{Observation, SourceSeen, ClassSeen, WaitAlike}
 use Rattle.flow_meaning.proofs.Sights.{sights_follow, sights_return}
 use Rattle.flow_trace.specs.declared.line.Line.{Line}
 use Rattle.flow_worldfile.specs.Worlds as file
@@ -325,8 +325,8 @@ spots_same : WaitAlike Stands actor_spot frame_spot
 spots_same a f r = everywhere Waiting (λ p q. actor_spot p ≡ frame_spot q) a f r (spots_at r.0 r.1 r.2 r.3 r.4 r.5)
 
 -- So in every world the class writes what the program writes, with the same at each boundary, and nothing else.
-small_follows : (w : file.World) (lines : List Line) (sights : List Sight) → SourceSeen small_program w lines sights → ClassSeen small_classes w lines sights
+small_follows : (w : file.World) (lines : List Line) (sights : List Observation) → SourceSeen small_program w lines sights → ClassSeen small_classes w lines sights
 small_follows = sights_follow (source small_program) (classes small_classes) Stands small_simulated actor_spot frame_spot spots_same
 
-small_returns : (w : file.World) (lines : List Line) (sights : List Sight) → ClassSeen small_classes w lines sights → SourceSeen small_program w lines sights
+small_returns : (w : file.World) (lines : List Line) (sights : List Observation) → ClassSeen small_classes w lines sights → SourceSeen small_program w lines sights
 small_returns = sights_return (source small_program) (classes small_classes) Stands small_simulated actor_spot frame_spot spots_same

@@ -16,13 +16,13 @@ use Rattle.flow_code.specs.Coding.{fields_of}
 use Rattle.flow_trace.specs.declared.line.Line.{Line}
 use Rattle.flow_meaning.specs.Evaluating.{bind}
 use Rattle.flow_meaning.specs.Process.{Entry, Proc}
-use Rattle.flow_meaning.specs.Occ.{Scan}
+use Rattle.flow_meaning.specs.References.{Scan}
 use Rattle.flow_meaning.specs.Variables.{filled}
 use Rattle.flow_meaning.specs.Frame.{Memory, Frame, read, look, put_at, put_root, assign}
 use Rattle.flow_steps.specs.declared.process.Process.{Process}
-use Rattle.flow_steps.specs.Standing.{place_held}
-use Rattle.flow_steps.specs.Straying.{NoPlace, PartMissing, AimsAmiss, no_place, no_part}
-use Rattle.flow_follows.specs.Placing.{Stood}
+use Rattle.flow_steps.specs.Points.{place_held}
+use Rattle.flow_steps.specs.Stuck.{NoPlace, PartMissing, AimsStuck, no_place, no_part}
+use Rattle.flow_follows.specs.Placing.{RepresentsActor}
 use Rattle.flow_executes.specs.Assigning.{AimsAt, CanAssign}
 use Rattle.flow_effects.proofs.Decoded.{path_seen}
 use Rattle.flow_meant.proofs.Here.{has_place}
@@ -47,7 +47,7 @@ nothing_put rs (Some v) (y ∷ ys) u e =
 not_put : (rs : List RecordTree) (m : Memory) (q : Slotted) (y : Ident) (ys : List Ident) (u : ValueTree) → read_in rs (read m q) (y ∷ ys) ≡ None → put_at rs m q (y ∷ ys) u ≡ None
 not_put rs m q y ys u e = ap (put_root m q (filled (read_in rs (read m q) (y ∷ ys) ∷ []))) (nothing_put rs (read m q) (y ∷ ys) u e)
 
-module _ (r : RawTree) (ls : List Line) (x : Scan) (m : Process) (p : Proc Frame) (i : ℕ) (e : Entry) (f : Frame) (st : Stood r ls x m p i e f) (code : Code)
+module _ (r : RawTree) (ls : List Line) (x : Scan) (m : Process) (p : Proc Frame) (i : ℕ) (e : Entry) (f : Frame) (st : RepresentsActor r ls x m p i e f) (code : Code)
     (xs : List Ident) (aim : Aim) (v : ValueTree) (to : AimsAt r.records code f xs aim) (can : CanAssign r.records f xs v) where
   part_there : (g : ℕ) (gs : List ℕ) → aim.path.items ≡ g ∷ gs → PartMissing code.fields aim.path.items (place_held i aim.place m.heap) → ⊥
   part_there g gs path none = by_fields to.fields refl to.numbers
@@ -68,6 +68,6 @@ module _ (r : RawTree) (ls : List Line) (x : Scan) (m : Process) (p : Proc Frame
           ∙ ap (λ zs. put_at r.records f.mem to.place zs v) is
           ∙ not_put r.records f.mem to.place y ys v (not_there (y ∷ ys) is))
 
-  pub aims_there : AimsAmiss code.fields i aim m.heap → ⊥
+  pub aims_there : AimsStuck code.fields i aim m.heap → ⊥
   aims_there (no_place none) = has_place r ls x m p i e f st to.place to.has (subst (λ n. NoPlace i n m.heap) to.number none)
   aims_there (no_part g gs path none) = part_there g gs path none

@@ -22,27 +22,27 @@ use Rattle.flow_code.specs.Coded.{coding}
 use Rattle.flow_code.specs.Places.{place_of}
 use Rattle.flow_trace.specs.declared.line.Line.{Line}
 use Rattle.flow_frame.specs.Frames.{FrameTree}
-use Rattle.flow_meaning.specs.Asks.{Supply}
+use Rattle.flow_meaning.specs.Requests.{Supply}
 use Rattle.flow_meaning.specs.Cells.{Ref}
 use Rattle.flow_meaning.specs.Evaluating.{given, value, values}
 use Rattle.flow_meaning.specs.Process.{Entry, Proc}
-use Rattle.flow_meaning.specs.Occ.{Scan}
+use Rattle.flow_meaning.specs.References.{Scan}
 use Rattle.flow_meaning.specs.Step.{view}
 use Rattle.flow_meaning.specs.Class.{placed, class_names}
 use Rattle.flow_meaning.specs.Frame.{Frame, look, assign}
 use Rattle.flow_picture.specs.Acting.{put_frame}
-use Rattle.flow_picture.specs.Standing.{HasPlace, number_in}
+use Rattle.flow_picture.specs.FrameChanges.{HasPlace, number_in}
 use Rattle.flow_picture.specs.Holds.{AllThere}
-use Rattle.flow_steps.specs.declared.frames.Stand.{Stand}
+use Rattle.flow_steps.specs.declared.frames.ControlPoint.{ControlPoint}
 use Rattle.flow_steps.specs.declared.process.Process.{Process}
 use Rattle.flow_steps.specs.Holding.{value_refs}
-use Rattle.flow_steps.specs.Sights.{with_left}
+use Rattle.flow_steps.specs.Evaluating.{with_left}
 use Rattle.flow_steps.specs.Stepping.{value_for, values_for}
-use Rattle.flow_steps.specs.Straying.{SomeMissing, FrameMissing, NoPlace, SomePlaceMissing, AimsAmiss}
-use Rattle.flow_steps.specs.AmissCalls.{EvaluatesAmiss}
-use Rattle.flow_steps.specs.AmissSteps.{SetAmiss, EmptiesAmiss}
+use Rattle.flow_steps.specs.Stuck.{SomeMissing, FrameMissing, NoPlace, SomePlaceMissing, AimsStuck}
+use Rattle.flow_steps.specs.StuckCalls.{EvaluatesStuck}
+use Rattle.flow_steps.specs.StuckSteps.{SetStuck, EmptiesStuck}
 use Rattle.flow_follows.specs.Placing.{HasLocals}
-use Rattle.flow_follows.specs.Going.{stale, MayBeStale}
+use Rattle.flow_follows.specs.Continuing.{stale, MayBeStale}
 use Rattle.flow_follows.specs.Coded.{CodedBy}
 use Rattle.flow_follows.proofs.Brought.{all_there_by}
 use Rattle.flow_executes.specs.Assigning.{AimsAt, CanAssign}
@@ -51,7 +51,7 @@ use Rattle.flow_executes.proofs.Decodes.{placed as place_placed, aim_there}
 use Rattle.flow_allowed.proofs.Steps.{step_allowed}
 use Rattle.flow_found.specs.Found.{AllBelow}
 use Rattle.flow_found.proofs.Closing.{places_found}
-use Rattle.flow_meant.specs.Meant.{AtStep}
+use Rattle.flow_meant.specs.NeverStuck.{AtStep}
 use Rattle.flow_meant.proofs.Aims.{aims_there}
 use Rattle.flow_meant.proofs.Here.{as_many_places, frame_of, value_seen, values_seen, has_place, refers_there, evaluation_there, fits_at, has_meaning}
 
@@ -60,7 +60,7 @@ locals_below : (f : Frame) (n : ℕ) (ns : List ℕ) → HasLocals f ns → n �
 locals_below f n [] has e = tt
 locals_below f n (k ∷ ns) has e = (let lt = has.0 in omega (arith, lt, e), locals_below f n ns has.1 e)
 
-module _ (r : RawTree) (code : Code) (w : Supply) (ls : List Line) (x : Scan) (s : Stand) (m : Process) (p : Proc Frame) (i : ℕ) (e : Entry) (f : Frame)
+module _ (r : RawTree) (code : Code) (w : Supply) (ls : List Line) (x : Scan) (s : ControlPoint) (m : Process) (p : Proc Frame) (i : ℕ) (e : Entry) (f : Frame)
     (now : AtStep r code w ls x s m p i e f) (st : MayBeStale r ls x s m p i e f) where
   abbrev pub by : CodedBy r code.classes.items
   by = coded_by now.standing.program
@@ -93,9 +93,9 @@ module _ (r : RawTree) (code : Code) (w : Supply) (ls : List Line) (x : Scan) (s
   values_are = values_seen r ls x m seen i e old st.stood code w now.standing.program now.clock now.standing.few s.actor st.standing.actor
 
   -- a value that can be put where a path leads
-  aims_meant : (xs : List Ident) (aim : Aim) (v : ValueTree) → AimsAt r.records code f xs aim → CanAssign r.records f xs v → AimsAmiss code.fields s.actor.0 aim m.heap → ⊥
-  aims_meant xs aim v to can amiss =
-      aims_there r ls x m seen i e old st.stood code xs aim v to_old can (subst (λ (a : ActorId). AimsAmiss code.fields a.0 aim m.heap) st.standing.actor amiss)
+  aims_meant : (xs : List Ident) (aim : Aim) (v : ValueTree) → AimsAt r.records code f xs aim → CanAssign r.records f xs v → AimsStuck code.fields s.actor.0 aim m.heap → ⊥
+  aims_meant xs aim v to can stuck =
+      aims_there r ls x m seen i e old st.stood code xs aim v to_old can (subst (λ (a : ActorId). AimsStuck code.fields a.0 aim m.heap) st.standing.actor stuck)
     where
       to_old : AimsAt r.records code old xs aim
       to_old = record {
@@ -113,8 +113,8 @@ module _ (r : RawTree) (code : Code) (w : Supply) (ls : List Line) (x : Scan) (s
 
   -- an assignment
   pub set_meant : (aim : Aim) (res : Resolved) (xs : List Ident) (t : ExprTree) → fetch f.code f.block f.instr ≡ Body (SetInstr xs t) → aimed coding_now xs ≡ Some (aim_of aim)
-      → node_of res ≡ resolved coding_now.names t → EvaluatesAmiss s value_of (value_for code s.actor.0 res m) m (SetAmiss code s aim) → ⊥
-  set_meant aim res xs t there aims node = evaluation_there s value_of (value_for code s.actor.0 res m) m (SetAmiss code s aim) meant framed set_there
+      → node_of res ≡ resolved coding_now.names t → EvaluatesStuck s value_of (value_for code s.actor.0 res m) m (SetStuck code s aim) → ⊥
+  set_meant aim res xs t there aims node = evaluation_there s value_of (value_for code s.actor.0 res m) m (SetStuck code s aim) meant framed set_there
     where
       comes_to : Res ValueTree
       comes_to = value (class_names r) (view w i p.core) (look f.mem) t
@@ -133,9 +133,9 @@ module _ (r : RawTree) (code : Code) (w : Supply) (ls : List Line) (x : Scan) (s
           has_meaning r w p i e f now.running comes_to (λ u left. given f (assign r.records f.mem xs u) (placed (class_names r) (view w i p.core) f left))
           (fits_at r w p i e f now.running (Body (SetInstr xs t)) there) (sym is ∙ none)
 
-      set_there : (v : Value) (left : ℕ) → value_for code s.actor.0 res m ≡ Done (value_of v) left → SetAmiss code s aim v (with_left left m) → ⊥
+      set_there : (v : Value) (left : ℕ) → value_for code s.actor.0 res m ≡ Done (value_of v) left → SetStuck code s aim v (with_left left m) → ⊥
       set_there v left done (inl missing) = refers (value_refs v) (may.there (value_of v) left (sym is ∙ done)) missing
-      set_there v left done (inr amiss) = aims_meant xs aim (value_of v) to (may.can (value_of v) left (sym is ∙ done)) amiss
+      set_there v left done (inr stuck) = aims_meant xs aim (value_of v) to (may.can (value_of v) left (sym is ∙ done)) stuck
 
   -- a new cell
   pub new_meant : (place : ℕ) (q : Slotted) → fetch f.code f.block f.instr ≡ Body (NewInstr q) → place_of (length f.code.slots) q ≡ Some place → NoPlace s.actor.0 place m.heap → ⊥
@@ -143,7 +143,7 @@ module _ (r : RawTree) (code : Code) (w : Supply) (ls : List Line) (x : Scan) (s
       let may = subst (MayDoNext r w p i e f) there (step_allowed r w p i e f now.running) in place_is q place may.0 (place_placed (length f.code.slots) q place placed) none
 
   -- a drop
-  pub drop_meant : (ps ns : List ℕ) → fetch f.code f.block f.instr ≡ Body (DropInstr ns) → ps ≡ places coding_now ns → EmptiesAmiss s ps m.heap → ⊥
+  pub drop_meant : (ps ns : List ℕ) → fetch f.code f.block f.instr ≡ Body (DropInstr ns) → ps ≡ places coding_now ns → EmptiesStuck s ps m.heap → ⊥
   drop_meant ps ns there same (inl none) = framed none
   drop_meant ps ns there same (inr missing) =
       let may = subst (MayDoNext r w p i e f) there (step_allowed r w p i e f now.running) in

@@ -25,30 +25,30 @@ use Rattle.flow_code.specs.declared.class.Act.TheVariants as act
 use Rattle.flow_code.specs.declared.program.Code.{Code}
 use Rattle.flow_code.specs.Coding.{act_named}
 use Rattle.flow_trace.specs.declared.line.Line.{Line}
-use Rattle.flow_meaning.specs.Asks as asks
-use Rattle.flow_meaning.specs.Asks.{Supply}
+use Rattle.flow_meaning.specs.Requests as asks
+use Rattle.flow_meaning.specs.Requests.{Supply}
 use Rattle.flow_meaning.specs.Evaluating.{StepOf, evaluated, bind, done, setting, values, function_act, plain_act}
 use Rattle.flow_meaning.specs.Evaluating as evaluating
 use Rattle.flow_meaning.specs.Process.{Entry, Proc, View}
-use Rattle.flow_meaning.specs.Occ.{Scan}
+use Rattle.flow_meaning.specs.References.{Scan}
 use Rattle.flow_meaning.specs.Step.{view}
 use Rattle.flow_meaning.specs.Class.{class_names}
 use Rattle.flow_meaning.specs.Frame.{Frame, look, next_instr}
-use Rattle.flow_steps.specs.declared.frames.Stand.{Stand}
+use Rattle.flow_steps.specs.declared.frames.ControlPoint.{ControlPoint}
 use Rattle.flow_steps.specs.declared.process.Process.{Process}
 use Rattle.flow_steps.specs.Acting.{Values, args_of}
-use Rattle.flow_steps.specs.Sights.{with_left, setting_in}
+use Rattle.flow_steps.specs.Evaluating.{with_left, setting_in}
 use Rattle.flow_steps.specs.Stepping.{values_for, function_result}
-use Rattle.flow_steps.specs.AmissAsks.{PredefinedAmiss}
-use Rattle.flow_steps.specs.AmissCalls.{EvaluatesAmiss}
-use Rattle.flow_steps.specs.AmissSteps.{NothingAmiss, ActAmiss}
-use Rattle.flow_follows.specs.Going.{MayBeStale}
+use Rattle.flow_steps.specs.StuckRequests.{PredefinedStuck}
+use Rattle.flow_steps.specs.StuckCalls.{EvaluatesStuck}
+use Rattle.flow_steps.specs.StuckSteps.{NothingStuck, ActStuck}
+use Rattle.flow_follows.specs.Continuing.{MayBeStale}
 use Rattle.flow_follows.proofs.Arguments.{same_setting}
 use Rattle.flow_effects.proofs.Answering.{evaluated_then}
 use Rattle.flow_allowed.specs.Allowing.{Running}
 use Rattle.flow_found.proofs.References.{some_none}
 use Rattle.flow_executes.proofs.Executes.{function_is}
-use Rattle.flow_meant.specs.Meant.{AtStep}
+use Rattle.flow_meant.specs.NeverStuck.{AtStep}
 use Rattle.flow_meant.proofs.Here.{Fit, evaluation_there, fits_at, has_meaning, fits_onward}
 use Rattle.flow_meant.proofs.Assigns.{coding_now, old, seen, framed, values_are}
 
@@ -75,7 +75,7 @@ module _ (r : RawTree) (w : Supply) (p : Proc Frame) (i : ℕ) (e : Entry) (f : 
   sends_all (Some a) (Some b) (Some c) left fit (inr (inl is)) = some_none is
   sends_all (Some a) (Some b) (Some c) left fit (inr (inr is)) = some_none is
 
-  predefined_there : (called : Predefined) (name : List ℕ) (vs : Values) (left : ℕ) (a : ActorId) → CallFits (Some called) name (args_of vs) left → PredefinedAmiss a called vs → ⊥
+  predefined_there : (called : Predefined) (name : List ℕ) (vs : Values) (left : ℕ) (a : ActorId) → CallFits (Some called) name (args_of vs) left → PredefinedStuck a called vs → ⊥
   predefined_there predefined.Trace name vs left a fit none = let prints = fit.0.1 a.0 in some_none (sym prints.1 ∙ none)
   predefined_there predefined.SendTo name vs left a fit none = sends_all (int_of (arg (args_of vs) 0)) (int_of (arg (args_of vs) 1)) (text_of (arg (args_of vs) 2)) left fit none
   predefined_there called name vs left a fit none = fit.0
@@ -98,7 +98,7 @@ module _ (r : RawTree) (w : Supply) (p : Proc Frame) (i : ℕ) (e : Entry) (f : 
       (subst (λ z. Fit r w p i e f run z) (evaluated_then f (Call now_set g us left) (λ u l. Done asks.Goes l) onward) fit)
       (sym (ap (λ o. function_called now_set (run_function now_set CALL_DEPTH) o us left) is) ∙ none)
 
-module _ (r : RawTree) (code : Code) (w : Supply) (ls : List Line) (x : Scan) (s : Stand) (m : Process) (p : Proc Frame) (i : ℕ) (e : Entry) (f : Frame)
+module _ (r : RawTree) (code : Code) (w : Supply) (ls : List Line) (x : Scan) (s : ControlPoint) (m : Process) (p : Proc Frame) (i : ℕ) (e : Entry) (f : Frame)
     (now : AtStep r code w ls x s m p i e f) (st : MayBeStale r ls x s m p i e f) where
   abbrev run : Running r p i e f
   run = now.running
@@ -127,16 +127,16 @@ module _ (r : RawTree) (code : Code) (w : Supply) (ls : List Line) (x : Scan) (s
     fit_then o name us left done =
         subst (λ z. CallFits r w p i e f run z g.name us left) name (fits_onward r w p i e f run comes_to (called g) us left fit (sym is ∙ done))
 
-    pub world_meant : (called : Predefined) → named call_names g.name ≡ Some called → EvaluatesAmiss s args_of (values_for code s.actor.0 args m) m (ActAmiss code s (act.World called)) → ⊥
-    world_meant called name = evaluation_there s args_of (values_for code s.actor.0 args m) m (ActAmiss code s (act.World called)) meant (framed r code w ls x s m p i e f now st) onward_there
+    pub world_meant : (called : Predefined) → named call_names g.name ≡ Some called → EvaluatesStuck s args_of (values_for code s.actor.0 args m) m (ActStuck code s (act.World called)) → ⊥
+    world_meant called name = evaluation_there s args_of (values_for code s.actor.0 args m) m (ActStuck code s (act.World called)) meant (framed r code w ls x s m p i e f now st) onward_there
       where
-        onward_there : (vs : Values) (left : ℕ) → values_for code s.actor.0 args m ≡ Done (args_of vs) left → ActAmiss code s (act.World called) vs (with_left left m) → ⊥
+        onward_there : (vs : Values) (left : ℕ) → values_for code s.actor.0 args m ≡ Done (args_of vs) left → ActStuck code s (act.World called) vs (with_left left m) → ⊥
         onward_there vs left done (inl none) = framed r code w ls x s m p i e f now st none
-        onward_there vs left done (inr amiss) = predefined_there r w p i e f run called g.name vs left s.actor (fit_then (Some called) name (args_of vs) left done) amiss
+        onward_there vs left done (inr stuck) = predefined_there r w p i e f run called g.name vs left s.actor (fit_then (Some called) name (args_of vs) left done) stuck
 
     pub function_meant : (k : ℕ) → act_named (named call_names g.name) ((coding_now r code w ls x s m p i e f now st).names.function g.name) ≡ Some (act.Function k)
-        → EvaluatesAmiss s args_of (values_for code s.actor.0 args m) m (ActAmiss code s (act.Function k)) → ⊥
-    function_meant k name = evaluation_there s args_of (values_for code s.actor.0 args m) m (ActAmiss code s (act.Function k)) meant (framed r code w ls x s m p i e f now st) onward_there
+        → EvaluatesStuck s args_of (values_for code s.actor.0 args m) m (ActStuck code s (act.Function k)) → ⊥
+    function_meant k name = evaluation_there s args_of (values_for code s.actor.0 args m) m (ActStuck code s (act.Function k)) meant (framed r code w ls x s m p i e f now st) onward_there
       where
         own : (named call_names g.name ≡ None) × ((coding_now r code w ls x s m p i e f now st).names.function g.name ≡ Some k)
         own = function_is (named call_names g.name) ((coding_now r code w ls x s m p i e f now st).names.function g.name) k name
@@ -153,9 +153,9 @@ module _ (r : RawTree) (code : Code) (w : Supply) (ls : List Line) (x : Scan) (s
             subst (λ o. Fit r w p i e f run (evaluated f (function_act (class_names r) (view w i p.core) (look f.mem) o us left) (onward r w p i e f run)))
             (now.standing.program.coded.are_functions g.name ∙ ap (routine_at r.functions) own.1) fit
 
-        onward_there : (vs : Values) (left : ℕ) → values_for code s.actor.0 args m ≡ Done (args_of vs) left → ActAmiss code s (act.Function k) vs (with_left left m) → ⊥
+        onward_there : (vs : Values) (left : ℕ) → values_for code s.actor.0 args m ≡ Done (args_of vs) left → ActStuck code s (act.Function k) vs (with_left left m) → ⊥
         onward_there vs left done =
-            evaluation_there s value_of (function_result code k vs (with_left left m)) (with_left left m) NothingAmiss
+            evaluation_there s value_of (function_result code k vs (with_left left m)) (with_left left m) NothingStuck
             (λ none. function_there r w p i e f run k (args_of vs) left (slice_get r.functions k) refl
             (function_fits (args_of vs) left (fit_then None own.0 (args_of vs) left done)) (sym (result_is vs left) ∙ none))
-            (framed r code w ls x s m p i e f now st) (λ v l is amiss. amiss)
+            (framed r code w ls x s m p i e f now st) (λ v l is stuck. stuck)

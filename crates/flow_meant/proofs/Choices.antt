@@ -33,33 +33,33 @@ use Rattle.flow_numbered.specs.Numbered as stored
 use Rattle.flow_cancel.specs.declared.actors.Note.{Note}
 use Rattle.flow_cancel.specs.Heap.{cell_id}
 use Rattle.flow_numbered.specs.Numbered.{thing}
-use Rattle.flow_meaning.specs.Asks.{Supply, Kept}
+use Rattle.flow_meaning.specs.Requests.{Supply, Kept}
 use Rattle.flow_meaning.specs.Evaluating as effects
 use Rattle.flow_meaning.specs.Evaluating.{StepOf, evaluated, value}
 use Rattle.flow_meaning.specs.Process.{Entry, Proc}
-use Rattle.flow_meaning.specs.Occ.{Scan}
+use Rattle.flow_meaning.specs.References.{Scan}
 use Rattle.flow_meaning.specs.Step as machine
 use Rattle.flow_meaning.specs.Step.{view}
 use Rattle.flow_meaning.specs.Class.{operand_ref, operand_by, choose, class_names}
 use Rattle.flow_meaning.specs.Frame.{Frame, look, spot_of}
-use Rattle.flow_picture.specs.Shows.{wait_spot, held_from}
+use Rattle.flow_picture.specs.Representing.{wait_spot, held_from}
 use Rattle.flow_picture.specs.Holds.{with_refs, hold}
 use Rattle.flow_picture.proofs.Holds.{held_holds}
-use Rattle.flow_steps.specs.declared.frames.Stand.{Stand}
+use Rattle.flow_steps.specs.declared.frames.ControlPoint.{ControlPoint}
 use Rattle.flow_steps.specs.declared.process.Process.{Process}
 use Rattle.flow_steps.specs.Holding.{on_heap}
-use Rattle.flow_steps.specs.Sights.{sight_in}
-use Rattle.flow_steps.specs.Standing.{noting, noted, noted_stand}
+use Rattle.flow_steps.specs.Evaluating.{sight_in}
+use Rattle.flow_steps.specs.Points.{noting, noted, noted_stand}
 use Rattle.flow_steps.specs.Stepping.{value_for, kept_by}
 use Rattle.flow_steps.specs.Waiting.{callbacks_in, callbacks_of, first_ready}
-use Rattle.flow_steps.specs.Straying.{FrameMissing}
-use Rattle.flow_steps.specs.AmissWaits.{SomeNoCell, WaitsAmiss, first_amiss, no_cell, frameless}
-use Rattle.flow_steps.specs.AmissCalls.{EvaluatesAmiss, EffectAmiss, meaningless, rest_amiss}
-use Rattle.flow_steps.specs.AmissCalls as calls
-use Rattle.flow_steps.specs.AmissSteps.{ReferenceAmiss, ValueKeptAmiss, AsksAmiss, ChoosesAmiss, no_group_of, operand_amiss, wait_amiss}
-use Rattle.flow_steps.specs.AmissSteps as steps
+use Rattle.flow_steps.specs.Stuck.{FrameMissing}
+use Rattle.flow_steps.specs.StuckWaits.{SomeNoCell, WaitsStuck, first_stuck, no_cell, frameless}
+use Rattle.flow_steps.specs.StuckCalls.{EvaluatesStuck, EffectStuck, meaningless, rest_stuck}
+use Rattle.flow_steps.specs.StuckCalls as calls
+use Rattle.flow_steps.specs.StuckSteps.{ReferenceStuck, ValueKeptStuck, AsksStuck, ChoosesStuck, no_group_of, operand_stuck, wait_stuck}
+use Rattle.flow_steps.specs.StuckSteps as steps
 use Rattle.flow_follows.proofs.Stands.{both_mapped}
-use Rattle.flow_executes.specs.Going.{AtOperands, MayStep, moves, chooses}
+use Rattle.flow_executes.specs.Continuing.{AtOperands, MayStep, moves, chooses}
 use Rattle.flow_executes.specs.Decoding.{IsGroup, effect_of_name}
 use Rattle.flow_executes.specs.Choosing.{CanWaitAt}
 use Rattle.flow_executes.specs.Executing.{AllKept, MayDoNext, MayChoose, coded_by, InProgram}
@@ -75,16 +75,16 @@ use Rattle.flow_asked.specs.Next.{MayChooseBy, MayAskNext}
 use Rattle.flow_asked.proofs.Allowed.{ask_allowed}
 use Rattle.flow_found.proofs.References.{none_missing, cells_there}
 use Rattle.flow_found.proofs.Standing.{group_found}
-use Rattle.flow_meant.specs.Meant.{AtStep}
+use Rattle.flow_meant.specs.NeverStuck.{AtStep}
 use Rattle.flow_asked.proofs.Answers.{as_many}
 use Rattle.flow_executes.proofs.Chooses.{nothing_mapped}
-use Rattle.flow_meant.specs.Meant as law
+use Rattle.flow_meant.specs.NeverStuck as law
 use Rattle.flow_meant.proofs.Here.{frame_of, value_seen, values_seen, step_framed, Fit, fits_at}
 use Rattle.flow_meant.proofs.Froms.{EndOf, end_from}
 use Rattle.flow_meant.proofs.Effects.{noting_notes, effect_made}
 use Rattle.flow_meant.proofs.Operands.{Waiting, waiting_held, ready_found, keeps_found, first_found, cells_kept, operands_there}
 
-module _ (r : RawTree) (code : Code) (w : Supply) (ls : List Line) (x : Scan) (s : Stand) (m : Process) (p : Proc Frame) (i : ℕ) (e : Entry) (f : Frame)
+module _ (r : RawTree) (code : Code) (w : Supply) (ls : List Line) (x : Scan) (s : ControlPoint) (m : Process) (p : Proc Frame) (i : ℕ) (e : Entry) (f : Frame)
     (st : AtStep r code w ls x s m p i e f) where
   abbrev inp : InProgram r code s f
   inp = st.standing
@@ -95,7 +95,7 @@ module _ (r : RawTree) (code : Code) (w : Supply) (ls : List Line) (x : Scan) (s
   abbrev told : Process
   told = noted s m
 
-  abbrev own : Stand
+  abbrev own : ControlPoint
   own = noted_stand s
 
   abbrev Fits : StepOf Frame → Type 0
@@ -180,25 +180,25 @@ module _ (r : RawTree) (code : Code) (w : Supply) (ls : List Line) (x : Scan) (s
 
       value_kept : (c : CallbackTree) → callback_at f.code number (length e.operands) ≡ Some c → effects.effect_in (class_names r) c.operand ≡ None
           → (u : ValueTree) (left : ℕ) → value (class_names r) (view w i p.core) (look f.mem) c.operand ≡ Done u left
-          → Fits (asked_of u left) → ReferenceAmiss own (group.first + kept) u told.heap → ⊥
+          → Fits (asked_of u left) → ReferenceStuck own (group.first + kept) u told.heap → ⊥
       value_kept c there pure (RefValue kd k) left done fit (inl missing) =
           let can : CanWaitAt p (kd, k) = may.operand c there pure kd k left done in
           none_missing r x told.heap p ((kd, k) ∷ []) at.stood.shown.holds (can.there, tt) (inl missing)
-      value_kept c there pure (RefValue kd k) left done fit (inr amiss) =
+      value_kept c there pure (RefValue kd k) left done fit (inr stuck) =
           let can : CanWaitAt p (kd, k) = may.operand c there pure kd k left done in
           let holds = held_holds r told.heap p x (kd, k) at.stood.shown.holds can.there in
           keeps_found r (with_refs ((kd, k) ∷ []) x) (hold kd k told.heap) p own number group holds (waiting_held kd k told.heap own number group waiting)
-          (record { callback = group.first + kept; cell = cell_id k }) can.cell (omega arith) can.takeable amiss
-      value_kept c there pure (IntValue z) left done fit amiss = fit.0
-      value_kept c there pure (BoolValue z) left done fit amiss = fit.0
-      value_kept c there pure (TextValue z) left done fit amiss = fit.0
-      value_kept c there pure VoidValue left done fit amiss = fit.0
-      value_kept c there pure (ErrorValue z) left done fit amiss = fit.0
-      value_kept c there pure (RecordValue n vs) left done fit amiss = fit.0
+          (record { callback = group.first + kept; cell = cell_id k }) can.cell (omega arith) can.takeable stuck
+      value_kept c there pure (IntValue z) left done fit stuck = fit.0
+      value_kept c there pure (BoolValue z) left done fit stuck = fit.0
+      value_kept c there pure (TextValue z) left done fit stuck = fit.0
+      value_kept c there pure VoidValue left done fit stuck = fit.0
+      value_kept c there pure (ErrorValue z) left done fit stuck = fit.0
+      value_kept c there pure (RecordValue n vs) left done fit stuck = fit.0
 
       by_value : (c : CallbackTree) (res : Resolved) → callback_at f.code number (length e.operands) ≡ Some c → effects.effect_in (class_names r) c.operand ≡ None → node_of res ≡ resolved by.names c.operand
-          → EvaluatesAmiss own value_of (value_for code s.actor.0 res told) told (ValueKeptAmiss own (group.first + kept)) → ⊥
-      by_value c res there pure same amiss = by_case amiss
+          → EvaluatesStuck own value_of (value_for code s.actor.0 res told) told (ValueKeptStuck own (group.first + kept)) → ⊥
+      by_value c res there pure same stuck = by_case stuck
         where
           is : value_for code s.actor.0 res told ≡ value (class_names r) (view w i p.core) (look f.mem) c.operand
           is = value_seen r ls x told p i e f at.stood code w inp.program st.clock inp.few s.actor at.standing.actor c.operand res same
@@ -206,16 +206,16 @@ module _ (r : RawTree) (code : Code) (w : Supply) (ls : List Line) (x : Scan) (s
           fit : Fits (evaluated f (value (class_names r) (view w i p.core) (look f.mem) c.operand) asked_of)
           fit = fits_by c there None pure
 
-          by_case : EvaluatesAmiss own value_of (value_for code s.actor.0 res told) told (ValueKeptAmiss own (group.first + kept)) → ⊥
+          by_case : EvaluatesStuck own value_of (value_for code s.actor.0 res told) told (ValueKeptStuck own (group.first + kept)) → ⊥
           by_case (meaningless none) = (subst (λ z. Fits (evaluated f z asked_of)) (sym is ∙ none) fit).0
           by_case (calls.frame_gone none) = frame_told none
-          by_case (rest_amiss u left done further) =
+          by_case (rest_stuck u left done further) =
               value_kept c there pure (value_of u) left (sym is ∙ done) (subst (λ z. Fits (evaluated f z asked_of)) (sym is ∙ done) fit) further
 
       -- and by an effect
       by_effect : (c : CallbackTree) (eff : Effect) (args : List Resolved) → callback_at f.code number (length e.operands) ≡ Some c → EffectText r by c.operand eff (nodes_of args)
-          → EffectAmiss code own eff args told → ⊥
-      by_effect c eff args there of amiss =
+          → EffectStuck code own eff args told → ⊥
+      by_effect c eff args there of stuck =
           let may : MayChooseBy r code w p i e f number = subst (MayAskNext r code w p i e f) fetched (ask_allowed r code w p i e f st.running inp.program) in
           effect_made r code w ls x own told p i e f st.running of.exprs (Kept (spot_of f.code number)) of.called eff
           (values_at (sight_in code s.actor.0 told) (nodes_of args) told.left) of.same
@@ -226,11 +226,11 @@ module _ (r : RawTree) (code : Code) (w : Supply) (ls : List Line) (x : Scan) (s
             fits = fits_by c there (Some (of.called, of.exprs)) of.is_effect;
             may = may.operand c there of.called of.exprs of.is_effect;
           })
-          (values_seen r ls x told p i e f at.stood code w inp.program st.clock inp.few s.actor at.standing.actor of.exprs args of.resolved) amiss
+          (values_seen r ls x told p i e f at.stood code w inp.program st.clock inp.few s.actor at.standing.actor of.exprs args of.resolved) stuck
 
       by_operand : (b : Branch) (o : Operand) → b.operand ≡ o → (c : CallbackTree) → callback_at f.code number (length e.operands) ≡ Some c → operand_of o ≡ coded_operand by c.operand
-          → AsksAmiss code own (group.first + kept) o told → ⊥
-      by_operand b (operand.Value res) is c there coded amiss = by_code (codes.effect_in by c.operand) refl coded
+          → AsksStuck code own (group.first + kept) o told → ⊥
+      by_operand b (operand.Value res) is c there coded stuck = by_code (codes.effect_in by c.operand) refl coded
         where
           by_code : (y : Option (Effect × Nodes)) → codes.effect_in by c.operand ≡ y → operand_of (operand.Value res) ≡ operand_code y (resolved by.names c.operand) → ⊥
           by_code (Some y) effect same = cc (same)
@@ -238,18 +238,18 @@ module _ (r : RawTree) (code : Code) (w : Supply) (ls : List Line) (x : Scan) (s
               let node : node_of res ≡ resolved by.names c.operand = cc (same) in
               let pure : effects.effect_in (class_names r) c.operand ≡ None =
               nothing_mapped (λ y. (effect_of_name y.0, _)) (effects.effect_in (class_names r) c.operand) (sym effect ∙ effect_there r code.classes.items f c.operand (coded_by inp.program) inp.program.coded.are_classes) in
-              by_value c res there pure node amiss
-      by_operand b (operand.Effect eff args) is c there coded amiss =
-          by_effect c eff args.items there (operand_coded r by c.operand eff (nodes_of args.items) inp.program.coded.are_classes coded) amiss
+              by_value c res there pure node stuck
+      by_operand b (operand.Effect eff args) is c there coded stuck =
+          by_effect c eff args.items there (operand_coded r by c.operand eff (nodes_of args.items) inp.program.coded.are_classes coded) stuck
 
-      operand_found : (b : Branch) → slice_get group.branches.items kept ≡ Some b → AsksAmiss code own (group.first + kept) b.operand told → ⊥
-      operand_found b there amiss =
+      operand_found : (b : Branch) → slice_get group.branches.items kept ≡ Some b → AsksStuck code own (group.first + kept) b.operand told → ⊥
+      operand_found b there stuck =
           let c = both_there branch_of (coded_branch by) b (slice_get is_group.callbacks kept) (sym (ap (option_map branch_of) there) ∙ branches) in
-          by_operand b b.operand refl c.0 (callback_is (Some c.0) c.1.0) (ap (λ (y : BranchCode). y.operand) c.1.1) amiss
+          by_operand b b.operand refl c.0 (callback_is (Some c.0) c.1.0) (ap (λ (y : BranchCode). y.operand) c.1.1) stuck
 
       -- all operands are kept
-      wait_found : slice_get group.branches.items kept ≡ None → WaitsAmiss own told.heap → ⊥
-      wait_found over amiss = by_case amiss
+      wait_found : slice_get group.branches.items kept ≡ None → WaitsStuck own told.heap → ⊥
+      wait_found over stuck = by_case stuck
         where
           no_callback : slice_get is_group.callbacks kept ≡ None
           no_callback = nothing_mapped (coded_branch by) (slice_get is_group.callbacks kept) (sym (ap (option_map branch_of) over) ∙ branches)
@@ -257,22 +257,22 @@ module _ (r : RawTree) (code : Code) (w : Supply) (ls : List Line) (x : Scan) (s
           all : AllKept r w p i e f
           all = may.kept (callback_is None no_callback)
 
-          by_case : WaitsAmiss own told.heap → ⊥
-          by_case (first_amiss y first amiss) =
+          by_case : WaitsStuck own told.heap → ⊥
+          by_case (first_stuck y first stuck) =
               let a = first_found p told.heap all.contents (wait_spot f).first e.operands y all.waitable (ap (first_ready told.heap) (sym callbacks_are) ∙ first) in
               let after = a.after in
               let begins = first_is in
-              ready_found r x told.heap p own number group at.stood.shown.holds waiting y a.cell (omega (arith, after, begins)) a.takes a.ready amiss
+              ready_found r x told.heap p own number group at.stood.shown.holds waiting y a.cell (omega (arith, after, begins)) a.takes a.ready stuck
           by_case (no_cell none) =
               cells_there r x told.heap p e.operands (held_from (wait_spot f).first e.operands) at.stood.shown.holds (operands_there p e.operands all.waitable)
               (cells_kept (wait_spot f).first e.operands) (subst (λ ys. SomeNoCell ys told.heap) callbacks_are none)
           by_case (frameless none) = frame_told none
 
-    chosen : ChoosesAmiss code s number m → ⊥
+    chosen : ChoosesStuck code s number m → ⊥
     chosen (no_group_of none) = has_group number fetched none
     chosen (steps.frame_gone none) = step_framed r ls x s m p i e f st.may none
-    chosen (operand_amiss group b of_number there amiss) = operand_found group of_number b there amiss
-    chosen (wait_amiss group of_number over amiss) = wait_found group of_number over amiss
+    chosen (operand_stuck group b of_number there stuck) = operand_found group of_number b there stuck
+    chosen (wait_stuck group of_number over stuck) = wait_found group of_number over stuck
 
   -- where its frame is told
   pub at_told : AtOperands r ls x s m p i e f → AtOperands r ls x own told p i e f
@@ -284,20 +284,20 @@ module _ (r : RawTree) (code : Code) (w : Supply) (ls : List Line) (x : Scan) (s
   pub may_choose : (number : ℕ) → fetch f.code f.block f.instr ≡ Last (ChooseLast number) → MayChoose r w p i e f number
   may_choose number fetched = subst (MayDoNext r w p i e f) fetched (step_allowed r w p i e f st.running)
 
-  choice_made : (number : ℕ) → s.instruction ≡ length s.block.now.body.items → s.block.now.last ≡ last.Choose number → MayStep r ls x s m p i e f → ChoosesAmiss code s number m → ⊥
-  choice_made number end ends_in (moves stale zero_state) amiss =
+  choice_made : (number : ℕ) → s.instruction ≡ length s.block.now.body.items → s.block.now.last ≡ last.Choose number → MayStep r ls x s m p i e f → ChoosesStuck code s number m → ⊥
+  choice_made number end ends_in (moves stale zero_state) stuck =
       let here = the_end r code.classes.items s i f (coded_by inp.program) inp.standing stale.standing stale.instruction end in
       let text : here.text ≡ ChooseLast number = subst (EndOf by here.text) (sym here.coded ∙ ap end_of ends_in) (end_from by here.text) in
       let fetched = here.fetched ∙ ap Last text in
       let wait = the_wait r code.classes.items s i f (coded_by inp.program) inp.standing number stale.standing fetched in
       let may = may_choose number fetched in
-      chosen number fetched ends_in (choice_begins r ls m p i e f x s number stale wait may.go zero_state) may amiss
-  choice_made number end ends_in (chooses at) amiss =
+      chosen number fetched ends_in (choice_begins r ls m p i e f x s number stale wait may.go zero_state) may stuck
+  choice_made number end ends_in (chooses at) stuck =
       let same : at.group ≡ number = let k = at.wait.last in cc (k, ends_in) in
       let fetched : fetch f.code f.block f.instr ≡ Last (ChooseLast number) = at.wait.fetched ∙ ap (λ k. Last (ChooseLast k)) same in
-      chosen number fetched ends_in (at_told at) (may_choose number fetched) amiss
+      chosen number fetched ends_in (at_told at) (may_choose number fetched) stuck
 
-pub choice_meant : (r : RawTree) (code : Code) (w : Supply) (ls : List Line) (x : Scan) (s : Stand) (m : Process) (p : Proc Frame) (i : ℕ) (e : Entry) (f : Frame)
+pub choice_meant : (r : RawTree) (code : Code) (w : Supply) (ls : List Line) (x : Scan) (s : ControlPoint) (m : Process) (p : Proc Frame) (i : ℕ) (e : Entry) (f : Frame)
     → law.ChoiceMeant r code w ls x s m p i e f
-choice_meant r code w ls x s m p i e f number at end ends_in amiss =
-    choice_made r code w ls x s m p i e f at number end ends_in at.may amiss
+choice_meant r code w ls x s m p i e f number at end ends_in stuck =
+    choice_made r code w ls x s m p i e f at number end ends_in at.may stuck

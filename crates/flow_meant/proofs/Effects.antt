@@ -23,27 +23,27 @@ use Rattle.flow_frame.specs.Frames.{FrameTree}
 use Rattle.flow_cancel.specs.declared.actors.Note.{Note}
 use Rattle.flow_cancel.specs.Heap.{HeapTree}
 use Rattle.flow_numbered.specs.Numbered.{thing}
-use Rattle.flow_meaning.specs.Asks.{Supply, Goal, Stored, Effects}
+use Rattle.flow_meaning.specs.Requests.{Supply, Goal, Stored, Effects}
 use Rattle.flow_meaning.specs.Cells.{Cell}
 use Rattle.flow_meaning.specs.Evaluating.{StepOf, Effectful, World, Actor, asks, given, evaluated, effect_of, world_effect, values}
 use Rattle.flow_meaning.specs.Process.{Run, Entry, Proc}
-use Rattle.flow_meaning.specs.Occ.{Scan}
+use Rattle.flow_meaning.specs.References.{Scan}
 use Rattle.flow_meaning.specs.Orderly.{tasks_of}
 use Rattle.flow_meaning.specs.Work.{pushed}
 use Rattle.flow_meaning.specs.Step.{view, on_core}
 use Rattle.flow_meaning.specs.Class.{effects, class_names}
 use Rattle.flow_meaning.specs.Frame.{Frame, look}
 use Rattle.flow_unstuck.specs.Fitting.{CellTypes, CellAt, ActorAt, ActorFits}
-use Rattle.flow_steps.specs.declared.frames.Stand.{Stand}
+use Rattle.flow_steps.specs.declared.frames.ControlPoint.{ControlPoint}
 use Rattle.flow_steps.specs.declared.process.Process.{Process}
-use Rattle.flow_steps.specs.Sights.{sight_in, with_left}
-use Rattle.flow_steps.specs.Standing.{reframed, noting, noted}
-use Rattle.flow_steps.specs.Bringing.{gone_to}
+use Rattle.flow_steps.specs.Evaluating.{sight_in, with_left}
+use Rattle.flow_steps.specs.Points.{reframed, noting, noted}
+use Rattle.flow_steps.specs.Delivering.{gone_to}
 use Rattle.flow_steps.specs.Acting.{Values, args_of}
-use Rattle.flow_steps.specs.Straying.{FrameMissing}
-use Rattle.flow_steps.specs.AmissCalls.{EvaluatesAmiss, meaningless, frame_gone, rest_amiss, MakesAmiss, EffectDoneAmiss}
+use Rattle.flow_steps.specs.Stuck.{FrameMissing}
+use Rattle.flow_steps.specs.StuckCalls.{EvaluatesStuck, meaningless, frame_gone, rest_stuck, MakesStuck, EffectDoneStuck}
 use Rattle.flow_follows.proofs.Carrying.{old, seen, noted_follows}
-use Rattle.flow_executes.specs.Going.{MayStep, moves, chooses}
+use Rattle.flow_executes.specs.Continuing.{MayStep, moves, chooses}
 use Rattle.flow_executes.specs.Decoding.{AtInstruction}
 use Rattle.flow_executes.specs.Executing.{coded_by}
 use Rattle.flow_executes.proofs.Decodes.{the_instruction}
@@ -56,7 +56,7 @@ use Rattle.flow_effects.proofs.Starts.{may_resumed}
 use Rattle.flow_allowed.specs.Allowing.{Running}
 use Rattle.flow_asked.specs.Next.{MayAffect, MayAskNext}
 use Rattle.flow_asked.proofs.Allowed.{ask_allowed}
-use Rattle.flow_meant.specs.Meant as law
+use Rattle.flow_meant.specs.NeverStuck as law
 use Rattle.flow_meant.proofs.Here.{values_seen, step_framed, no_instruction, Fit, fits_at}
 use Rattle.flow_meant.proofs.Enrolling.{ResultsThere, NotesRise, enrols_found}
 
@@ -94,7 +94,7 @@ module _ (r : RawTree) (p : Proc Frame) (i : ℕ) (e : Entry) (f : Frame) (run :
       by_frame None a = absurd a
       by_frame (Some g) a = of_fits g a
 
-module _ (r : RawTree) (code : Code) (w : Supply) (ls : List Line) (x : Scan) (s : Stand) (m : Process) (p : Proc Frame) (i : ℕ) (e : Entry) (f : Frame)
+module _ (r : RawTree) (code : Code) (w : Supply) (ls : List Line) (x : Scan) (s : ControlPoint) (m : Process) (p : Proc Frame) (i : ℕ) (e : Entry) (f : Frame)
     (run : Running r p i e f) where
   abbrev Fits : StepOf Frame → Type 0
   Fits z = Fit r w p i e f run z
@@ -119,30 +119,30 @@ module _ (r : RawTree) (code : Code) (w : Supply) (ls : List Line) (x : Scan) (s
         subst (λ (z : stored.Store Note). stored.IsRising 0 z.things z.greatest) (sym (noting_notes s.noted s.actor.0 s.place s.instruction m.heap)) notes
 
     makes : (called : Effectful) (eff : Effect) → SameEffect eff called → Asking called es goal → (args : Values) (left : ℕ) → come_to ≡ Done (args_of args) left
-        → MakesAmiss code eff args (noted s (with_left left m)).heap → ⊥
+        → MakesStuck code eff args (noted s (with_left left m)).heap → ⊥
     makes (World q) (effect.World c) same a args left done none =
         let one = subst (λ z. Fits (evaluated f z (onward (World q)))) done a.fits in
         let no_effect : world_effect q (args_of args) ≡ None = ap (λ z. world_effect z (args_of args)) (sym same) ∙ none in
         (subst (λ z. Fits (given f z (λ y. asks left (Effects goal y) f))) no_effect one).0
-    makes (Actor k) (effect.Actor c) same a args left done amiss =
+    makes (Actor k) (effect.Actor c) same a args left done stuck =
         let there = resumed_stood r ls m p i e f x s left a.ask in
         let started : MayStart r (resumed i f left p) code k (args_of args) = may_resumed r p code k (args_of args) i f left (a.may.starts k refl (args_of args) left done) in
         enrols_found r ls x (noted s (with_left left m)) (resumed i f left p) there.shown a.may.cells code c args.items
         (subst (λ z. MayStart r (resumed i f left p) code z (args_of args)) (sym same) started)
-        (noted_notes left a.notes) (results_there r p i e f run) amiss
-    makes (World q) (effect.Actor c) same a args left done amiss = same
-    makes (Actor k) (effect.World c) same a args left done amiss = same
+        (noted_notes left a.notes) (results_there r p i e f run) stuck
+    makes (World q) (effect.Actor c) same a args left done stuck = same
+    makes (Actor k) (effect.World c) same a args left done stuck = same
 
     pub effect_made : (called : Effectful) (eff : Effect) (comes_to : Res (List ValueTree)) → SameEffect eff called → Asking called es goal → comes_to ≡ come_to
-        → EvaluatesAmiss s args_of comes_to m (EffectDoneAmiss code s eff) → ⊥
+        → EvaluatesStuck s args_of comes_to m (EffectDoneStuck code s eff) → ⊥
     effect_made called eff comes_to same a is (meaningless none) = (subst (λ z. Fits (evaluated f z (onward called))) (sym is ∙ none) a.fits).0
     effect_made called eff comes_to same a is (frame_gone none) = a.framed none
-    effect_made called eff comes_to same a is (rest_amiss args left done (inl none)) = a.framed none
-    effect_made called eff comes_to same a is (rest_amiss args left done (inr amiss)) = makes called eff same a args left (sym is ∙ done) amiss
+    effect_made called eff comes_to same a is (rest_stuck args left done (inl none)) = a.framed none
+    effect_made called eff comes_to same a is (rest_stuck args left done (inr stuck)) = makes called eff same a args left (sym is ∙ done) stuck
 
-pub effect_meant : (r : RawTree) (code : Code) (w : Supply) (ls : List Line) (x : Scan) (s : Stand) (m : Process) (p : Proc Frame) (i : ℕ) (e : Entry) (f : Frame)
+pub effect_meant : (r : RawTree) (code : Code) (w : Supply) (ls : List Line) (x : Scan) (s : ControlPoint) (m : Process) (p : Proc Frame) (i : ℕ) (e : Entry) (f : Frame)
     → law.EffectMeant r code w ls x s m p i e f
-effect_meant r code w ls x s m p i e f aim eff args at there amiss = by_step at.may
+effect_meant r code w ls x s m p i e f aim eff args at there stuck = by_step at.may
   where
     by : Coding
     by = coding at.standing.program.coded.names at.standing.program.coded.class (length f.code.slots)
@@ -166,5 +166,5 @@ effect_meant r code w ls x s m p i e f aim eff args at there amiss = by_step at.
           may = may of.effect.called of.effect.exprs of.effect.is_effect;
         })
         (values_seen r ls x m (seen r ls m p i e f x s st) i e (old r ls m p i e f x s st) st.stood code w at.standing.program at.clock at.standing.few s.actor st.standing.actor of.effect.exprs args.items of.effect.resolved)
-        amiss
+        stuck
     by_step (chooses wait) = no_instruction r ls x s m p i e f code at.standing wait (instruction.Effect aim eff args) there

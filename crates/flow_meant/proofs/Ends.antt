@@ -23,10 +23,10 @@ use Rattle.flow_code.specs.View.{block_of, end_of}
 use Rattle.flow_code.specs.Coded.{coding}
 use Rattle.flow_code.specs.Coding.{Coding, coded_block}
 use Rattle.flow_trace.specs.declared.line.Line.{Line}
-use Rattle.flow_meaning.specs.Asks.{Returns, Supply}
+use Rattle.flow_meaning.specs.Requests.{Returns, Supply}
 use Rattle.flow_meaning.specs.Evaluating.{StepOf, asks, evaluated, value}
 use Rattle.flow_meaning.specs.Process.{Entry, Proc}
-use Rattle.flow_meaning.specs.Occ.{Scan}
+use Rattle.flow_meaning.specs.References.{Scan}
 use Rattle.flow_meaning.specs.Step.{view}
 use Rattle.flow_meaning.specs.Class.{test, throw_value, class_names}
 use Rattle.flow_meaning.specs.Class as meaning
@@ -34,24 +34,24 @@ use Rattle.flow_meaning.specs.Frame.{Frame, look, everything, over}
 use Rattle.flow_unstuck.specs.Places.{class_vars}
 use Rattle.flow_unstuck.specs.Rules.{IsBlock, LastFits}
 use Rattle.flow_unstuck.specs.Written.{heads}
-use Rattle.flow_steps.specs.declared.frames.Stand.{Stand}
+use Rattle.flow_steps.specs.declared.frames.ControlPoint.{ControlPoint}
 use Rattle.flow_steps.specs.declared.process.Process.{Process}
 use Rattle.flow_steps.specs.Holding.{value_refs}
-use Rattle.flow_steps.specs.Sights.{with_left}
+use Rattle.flow_steps.specs.Evaluating.{with_left}
 use Rattle.flow_steps.specs.Stepping.{value_for, truth_for, truth_value}
-use Rattle.flow_steps.specs.Straying.{BlockMissing}
-use Rattle.flow_steps.specs.AmissSteps.{TestAmiss, ReturnAmiss, ErrorAmiss, ThrowAmiss, LastAmiss}
-use Rattle.flow_follows.specs.Going.{MayBeStale}
-use Rattle.flow_follows.specs.Taking.{Standing}
+use Rattle.flow_steps.specs.Stuck.{BlockMissing}
+use Rattle.flow_steps.specs.StuckSteps.{TestStuck, ReturnStuck, ErrorStuck, ThrowStuck, LastStuck}
+use Rattle.flow_follows.specs.Continuing.{MayBeStale}
+use Rattle.flow_follows.specs.Taking.{PointMatches}
 use Rattle.flow_follows.specs.Coded.{CodedBy}
 use Rattle.flow_follows.proofs.Stands.{as_many, both_mapped}
 use Rattle.flow_executes.specs.Decoding.{InCode}
 use Rattle.flow_executes.specs.Executing.{coded_by}
-use Rattle.flow_executes.specs.Going.{moves, chooses, MayStep}
+use Rattle.flow_executes.specs.Continuing.{moves, chooses, MayStep}
 use Rattle.flow_executes.proofs.Decodes.{both_there, the_end}
 use Rattle.flow_allowed.specs.Allowing.{Running}
 use Rattle.flow_allowed.proofs.Steps.{gives_there}
-use Rattle.flow_meant.specs.Meant.{AtStep, EndMeant}
+use Rattle.flow_meant.specs.NeverStuck.{AtStep, EndMeant}
 use Rattle.flow_meant.proofs.Here.{Fit, own_rules, evaluation_there, fits_at, has_meaning, fits_onward}
 use Rattle.flow_meant.proofs.Froms.{EndOf, end_from}
 use Rattle.flow_meant.proofs.Choices.{choice_meant}
@@ -65,7 +65,7 @@ nothing_behind (i ∷ is) k zero lt = absurd (omega (arith, lt))
 nothing_behind (i ∷ is) k (suc n) lt = nothing_behind is k n (omega (arith, lt))
 
 -- the block in which an actor stands, and any other, is one of its frame's class
-module _ (r : RawTree) (code : Code) (s : Stand) (i : ℕ) (f : Frame) (c : CodedBy r code.classes.items) (at : InCode c s f) where
+module _ (r : RawTree) (code : Code) (s : ControlPoint) (i : ℕ) (f : Frame) (c : CodedBy r code.classes.items) (at : InCode c s f) where
   abbrev now_coding : Coding
   now_coding = coding c.names c.class (length f.code.slots)
 
@@ -80,7 +80,7 @@ module _ (r : RawTree) (code : Code) (s : Stand) (i : ℕ) (f : Frame) (c : Code
       by_block (Some d) some =
           let both = sym (ap (option_map block_of) none) ∙ same_blocks b ∙ ap (option_map (coded_block now_coding f.code)) some in cc (both)
 
-  pub not_behind : Standing s i f → s.instruction ≡ f.instr → (fetch f.code f.block f.instr ≡ Nothing → ⊥) → length s.block.now.body.items < s.instruction → ⊥
+  pub not_behind : PointMatches s i f → s.instruction ≡ f.instr → (fetch f.code f.block f.instr ≡ Nothing → ⊥) → length s.block.now.body.items < s.instruction → ⊥
   not_behind standing number there behind =
       let here : Some (block_of s.block.now) ≡ option_map (coded_block now_coding f.code) (slice_get f.code.blocks f.block) =
       ap (option_map block_of) (sym at.block) ∙ same_blocks s.place ∙ ap (λ b. option_map (coded_block now_coding f.code) (slice_get f.code.blocks b)) standing.place in
@@ -109,7 +109,7 @@ module _ (r : RawTree) (w : Supply) (p : Proc Frame) (i : ℕ) (e : Entry) (f : 
   abbrev throws : ValueTree → ℕ → StepOf Frame
   throws u left = throw_value (class_names r) (view w i p.core) f left (error_of u)
 
-module _ (r : RawTree) (code : Code) (w : Supply) (ls : List Line) (x : Scan) (s : Stand) (m : Process) (p : Proc Frame) (i : ℕ) (e : Entry) (f : Frame)
+module _ (r : RawTree) (code : Code) (w : Supply) (ls : List Line) (x : Scan) (s : ControlPoint) (m : Process) (p : Proc Frame) (i : ℕ) (e : Entry) (f : Frame)
     (now : AtStep r code w ls x s m p i e f) (st : MayBeStale r ls x s m p i e f) where
   abbrev run : Running r p i e f
   run = now.running
@@ -130,62 +130,62 @@ module _ (r : RawTree) (code : Code) (w : Supply) (ls : List Line) (x : Scan) (s
     is : value_for code s.actor.0 res m ≡ comes_to
     is = value_is_that r code w ls x s m p i e f now st t res node
 
-    pub test_meant : (one other : ℕ) → fetch f.code f.block f.instr ≡ Last (TestLast t one other) → LastAmiss code s (last.Test res one other) m → ⊥
+    pub test_meant : (one other : ℕ) → fetch f.code f.block f.instr ≡ Last (TestLast t one other) → LastStuck code s (last.Test res one other) m → ⊥
     test_meant one other there =
-        evaluation_there s truth_value (truth_for code s.actor.0 res m) m (TestAmiss s one other)
+        evaluation_there s truth_value (truth_for code s.actor.0 res m) m (TestStuck s one other)
         (λ none. has_truth r w p i e f run one other comes_to (asked (TestLast t one other) there) (ap truth_of (sym is) ∙ none))
         (framed r code w ls x s m p i e f now st) chosen
       where
-        chosen : (b : Bool) (left : ℕ) → truth_for code s.actor.0 res m ≡ Done (truth_value b) left → TestAmiss s one other b (with_left left m) → ⊥
+        chosen : (b : Bool) (left : ℕ) → truth_for code s.actor.0 res m ≡ Done (truth_value b) left → TestStuck s one other b (with_left left m) → ⊥
         chosen true left done none = block_of_class one (fits (TestLast t one other) there).1 none
         chosen false left done none = block_of_class other (fits (TestLast t one other) there).2 none
 
-    pub return_meant : fetch f.code f.block f.instr ≡ Last (ReturnLast t) → LastAmiss code s (last.Return res) m → ⊥
+    pub return_meant : fetch f.code f.block f.instr ≡ Last (ReturnLast t) → LastStuck code s (last.Return res) m → ⊥
     return_meant there =
-        evaluation_there s value_of (value_for code s.actor.0 res m) m (ReturnAmiss s)
+        evaluation_there s value_of (value_for code s.actor.0 res m) m (ReturnStuck s)
         (λ none. has_meaning r w p i e f run comes_to (λ u left. asks left (Returns u (everything f.mem)) over) (asked (ReturnLast t) there) (sym is ∙ none)) (framed r code w ls x s m p i e f now st) returned
       where
-        returned : (v : Value) (left : ℕ) → value_for code s.actor.0 res m ≡ Done (value_of v) left → ReturnAmiss s v (with_left left m) → ⊥
+        returned : (v : Value) (left : ℕ) → value_for code s.actor.0 res m ≡ Done (value_of v) left → ReturnStuck s v (with_left left m) → ⊥
         returned v left done (inl missing) = refers r code w ls x s m p i e f now st (value_refs v) (gives_there r w p i e f run t (value_of v) left (sym is ∙ done)) missing
         returned v left done (inr none) = framed r code w ls x s m p i e f now st none
 
-    an_error : (u : ValueTree) (left : ℕ) → Fit r w p i e f run (throws r w p i e f run u left) → ErrorAmiss s u m.heap → ⊥
+    an_error : (u : ValueTree) (left : ℕ) → Fit r w p i e f run (throws r w p i e f run u left) → ErrorStuck s u m.heap → ⊥
     an_error (ErrorValue n) left fit none = framed r code w ls x s m p i e f now st none
-    an_error (IntValue n) left fit amiss = fit.0
-    an_error (BoolValue b) left fit amiss = fit.0
-    an_error (TextValue t) left fit amiss = fit.0
-    an_error VoidValue left fit amiss = fit.0
-    an_error (RecordValue n vs) left fit amiss = fit.0
-    an_error (RefValue kd k) left fit amiss = fit.0
+    an_error (IntValue n) left fit stuck = fit.0
+    an_error (BoolValue b) left fit stuck = fit.0
+    an_error (TextValue t) left fit stuck = fit.0
+    an_error VoidValue left fit stuck = fit.0
+    an_error (RecordValue n vs) left fit stuck = fit.0
+    an_error (RefValue kd k) left fit stuck = fit.0
 
-    pub throw_meant : fetch f.code f.block f.instr ≡ Last (ThrowLast t) → LastAmiss code s (last.Throw res) m → ⊥
+    pub throw_meant : fetch f.code f.block f.instr ≡ Last (ThrowLast t) → LastStuck code s (last.Throw res) m → ⊥
     throw_meant there =
-        evaluation_there s value_of (value_for code s.actor.0 res m) m (ThrowAmiss s)
+        evaluation_there s value_of (value_for code s.actor.0 res m) m (ThrowStuck s)
         (λ none. has_meaning r w p i e f run comes_to (throws r w p i e f run) (asked (ThrowLast t) there) (sym is ∙ none)) (framed r code w ls x s m p i e f now st) thrown
       where
-        thrown : (v : Value) (left : ℕ) → value_for code s.actor.0 res m ≡ Done (value_of v) left → ThrowAmiss s v (with_left left m) → ⊥
-        thrown v left done amiss =
+        thrown : (v : Value) (left : ℕ) → value_for code s.actor.0 res m ≡ Done (value_of v) left → ThrowStuck s v (with_left left m) → ⊥
+        thrown v left done stuck =
             an_error (value_of v) left
-            (fits_onward r w p i e f run comes_to (throws r w p i e f run) (value_of v) left (asked (ThrowLast t) there) (sym is ∙ done)) amiss
+            (fits_onward r w p i e f run comes_to (throws r w p i e f run) (value_of v) left (asked (ThrowLast t) there) (sym is ∙ done)) stuck
 
   -- by what stands at the end
-  pub end_there : ((g : ℕ) → s.block.now.last ≡ last.Choose g → LastAmiss code s (last.Choose g) m → ⊥) → (l : code_last.Last) → s.block.now.last ≡ l → (text : LastTree) → fetch f.code f.block f.instr ≡ Last text
-      → EndOf (coding_now r code w ls x s m p i e f now st) text (end_of l) → LastAmiss code s l m → ⊥
-  end_there choices (last.Goto b) same text there of amiss = block_of_class b (fits (GotoLast b) (there ∙ ap Last of)) amiss
-  end_there choices (last.Pass b) same text there of (inl amiss) = block_of_class b (fits (PassLast b) (there ∙ ap Last of)) amiss
+  pub end_there : ((g : ℕ) → s.block.now.last ≡ last.Choose g → LastStuck code s (last.Choose g) m → ⊥) → (l : code_last.Last) → s.block.now.last ≡ l → (text : LastTree) → fetch f.code f.block f.instr ≡ Last text
+      → EndOf (coding_now r code w ls x s m p i e f now st) text (end_of l) → LastStuck code s l m → ⊥
+  end_there choices (last.Goto b) same text there of stuck = block_of_class b (fits (GotoLast b) (there ∙ ap Last of)) stuck
+  end_there choices (last.Pass b) same text there of (inl stuck) = block_of_class b (fits (PassLast b) (there ∙ ap Last of)) stuck
   end_there choices (last.Pass b) same text there of (inr none) = framed r code w ls x s m p i e f now st none
-  end_there choices (last.Test res one other) same text there of amiss = test_meant of.0 res of.2 one other (there ∙ ap Last of.1) amiss
-  end_there choices (last.Choose g) same text there of amiss = choices g same amiss
-  end_there choices (last.Return res) same text there of amiss = return_meant of.0 res of.2 (there ∙ ap Last of.1) amiss
-  end_there choices (last.Throw res) same text there of amiss = throw_meant of.0 res of.2 (there ∙ ap Last of.1) amiss
+  end_there choices (last.Test res one other) same text there of stuck = test_meant of.0 res of.2 one other (there ∙ ap Last of.1) stuck
+  end_there choices (last.Choose g) same text there of stuck = choices g same stuck
+  end_there choices (last.Return res) same text there of stuck = return_meant of.0 res of.2 (there ∙ ap Last of.1) stuck
+  end_there choices (last.Throw res) same text there of stuck = throw_meant of.0 res of.2 (there ∙ ap Last of.1) stuck
 
-pub end_meant : (r : RawTree) (code : Code) (w : Supply) (ls : List Line) (x : Scan) (s : Stand) (m : Process) (p : Proc Frame) (i : ℕ) (e : Entry) (f : Frame)
+pub end_meant : (r : RawTree) (code : Code) (w : Supply) (ls : List Line) (x : Scan) (s : ControlPoint) (m : Process) (p : Proc Frame) (i : ℕ) (e : Entry) (f : Frame)
     → EndMeant r code w ls x s m p i e f
-end_meant r code w ls x s m p i e f now ends amiss = by_step now.may
+end_meant r code w ls x s m p i e f now ends stuck = by_step now.may
   where
     by_step : MayStep r ls x s m p i e f → ⊥
     by_step (moves st zero_state) =
         let a = the_end r code.classes.items s i f (coded_by now.standing.program) now.standing.standing st.standing st.instruction ends in
         let c = coding_now r code w ls x s m p i e f now st in
-        end_there r code w ls x s m p i e f now st (λ g same is. choice_meant r code w ls x s m p i e f g now ends same is) s.block.now.last refl a.text a.fetched (subst (EndOf c a.text) (sym a.coded) (end_from c a.text)) amiss
-    by_step (chooses wait) = choice_meant r code w ls x s m p i e f wait.group now ends wait.wait.last (subst (λ l. LastAmiss code s l m) wait.wait.last amiss)
+        end_there r code w ls x s m p i e f now st (λ g same is. choice_meant r code w ls x s m p i e f g now ends same is) s.block.now.last refl a.text a.fetched (subst (EndOf c a.text) (sym a.coded) (end_from c a.text)) stuck
+    by_step (chooses wait) = choice_meant r code w ls x s m p i e f wait.group now ends wait.wait.last (subst (λ l. LastStuck code s l m) wait.wait.last stuck)

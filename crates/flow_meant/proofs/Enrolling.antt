@@ -29,13 +29,13 @@ use Rattle.flow_cancel.specs.Dropping as memory_refs
 use Rattle.flow_numbered.specs.Numbered.{thing}
 use Rattle.flow_meaning.specs.Cells.{Ref, Cell, Single}
 use Rattle.flow_meaning.specs.Process.{Entry, Proc}
-use Rattle.flow_meaning.specs.Occ.{Scan, refs_in}
+use Rattle.flow_meaning.specs.References.{Scan, refs_in}
 use Rattle.flow_meaning.specs.Orderly.{Rising}
 use Rattle.flow_meaning.specs.Work.{new_cell}
 use Rattle.flow_meaning.specs.Step.{on_core}
 use Rattle.flow_meaning.specs.Frame.{Frame}
 use Rattle.flow_meaning.proofs.Posture.{thing_added}
-use Rattle.flow_picture.specs.Shows.{ActorShows, nobody, somebody, spot_of_actor, cell_number}
+use Rattle.flow_picture.specs.Representing.{ActorRepresents, nobody, somebody, spot_of_actor, cell_number}
 use Rattle.flow_picture.specs.Holds.{There, AllThere, held_cell, held_stream, hold, hold_all}
 use Rattle.flow_picture.proofs.Cells.{nothing_at}
 use Rattle.flow_picture.proofs.Finds.{none_above, stored_other, stored_new}
@@ -43,9 +43,9 @@ use Rattle.flow_picture.proofs.Owners.{note_found, noted_result}
 use Rattle.flow_picture.proofs.Tasks.{refs_same}
 use Rattle.flow_steps.specs.declared.process.Process.{Process}
 use Rattle.flow_steps.specs.Acting.{with_args}
-use Rattle.flow_steps.specs.Straying.{SomeMissing}
-use Rattle.flow_steps.specs.AmissCalls.{EnrolsAmiss, no_class_of, other_params, args_missing, no_result}
-use Rattle.flow_follows.specs.Shown.{Shown}
+use Rattle.flow_steps.specs.Stuck.{SomeMissing}
+use Rattle.flow_steps.specs.StuckCalls.{EnrolsStuck, no_class_of, other_params, args_missing, no_result}
+use Rattle.flow_follows.specs.Matching.{ProcessRepresents}
 use Rattle.flow_follows.proofs.Stands.{both_mapped, as_many}
 use Rattle.flow_follows.proofs.Takings.{all_frames}
 use Rattle.flow_follows.proofs.Making.{cell_made}
@@ -100,7 +100,7 @@ ResultsThere q = (j n : ℕ) (d : Entry) → thing q.core.entries j ≡ Some d �
 abbrev pub NotesRise : HeapTree → Type 0
 NotesRise h = stored.IsRising 0 h.actors.things h.actors.greatest
 
-module _ (r : RawTree) (ls : List Line) (x : Scan) (k : Process) (q : Proc Frame) (s : Shown r ls x k q) (rising : Rising 0 q.core.made q.core.cells) where
+module _ (r : RawTree) (ls : List Line) (x : Scan) (k : Process) (q : Proc Frame) (s : ProcessRepresents r ls x k q) (rising : Rising 0 q.core.made q.core.cells) where
   abbrev h : HeapTree
   h = k.heap
 
@@ -118,7 +118,7 @@ module _ (r : RawTree) (ls : List Line) (x : Scan) (k : Process) (q : Proc Frame
       n : (n : Note) × (stored.thing h.actors.things j ≡ Some n) × (is_result (next_cell h) n.result ≡ true)
       n = note_found (next_cell h) j 0 h.actors.greatest h.actors.things notes e
 
-      by_actor : ActorShows r (stored.thing h.actors.things j) (stored.thing h.frames.things j) (thing q.core.entries j) (thing q.actors j) → ⊥
+      by_actor : ActorRepresents r (stored.thing h.actors.things j) (stored.thing h.frames.things j) (thing q.core.entries j) (thing q.actors j) → ⊥
       by_actor (nobody none b c d) = let a = n.1 in cc (a, none)
       by_actor (somebody y) =
           let same : y.note ≡ n.0 = let a = y.noted in let b = n.1 in cc (a, b) in
@@ -164,7 +164,7 @@ module _ (r : RawTree) (ls : List Line) (x : Scan) (k : Process) (q : Proc Frame
         (no_owner notes results (owner (next_cell h) h.actors.things) refl)
         ∙ ap (may_start_at None) unset_there
 
-    pub enrols_found : NotesRise h → ResultsThere q → EnrolsAmiss code class vs h → ⊥
+    pub enrols_found : NotesRise h → ResultsThere q → EnrolsStuck code class vs h → ⊥
     enrols_found notes results (no_class_of none) = class_there none
     enrols_found notes results (other_params c at other) = other (as_many_params c at)
     enrols_found notes results (args_missing missing) = args_there missing

@@ -26,52 +26,52 @@ use Rattle.flow_frame.specs.Frames.{FrameTree}
 use Rattle.flow_cancel.specs.Heap.{actor_id, owner, is_result}
 use Rattle.flow_cancel.specs.declared.actors.Note.{Note}
 use Rattle.flow_numbered.specs.Numbered.{thing}
-use Rattle.flow_meaning.specs.Asks.{Supply}
+use Rattle.flow_meaning.specs.Requests.{Supply}
 use Rattle.flow_meaning.specs.Cells.{Ref}
 use Rattle.flow_meaning.specs.Evaluating.{StepOf, evaluated, value, values}
 use Rattle.flow_meaning.specs.Process.{Entry, Proc}
-use Rattle.flow_meaning.specs.Occ.{Scan}
+use Rattle.flow_meaning.specs.References.{Scan}
 use Rattle.flow_meaning.specs.Step.{kept_by, view}
 use Rattle.flow_meaning.specs.Class.{fetched, class_names}
 use Rattle.flow_meaning.specs.Frame.{Frame, look}
 use Rattle.flow_meaning.proofs.Posture.{same_number}
-use Rattle.flow_picture.specs.Shows.{Stands, ActorShows, nobody, somebody}
-use Rattle.flow_picture.specs.Standing.{HasPlace, number_in}
+use Rattle.flow_picture.specs.Representing.{LiveFrameRepresents, ActorRepresents, nobody, somebody}
+use Rattle.flow_picture.specs.FrameChanges.{HasPlace, number_in}
 use Rattle.flow_picture.specs.Holds.{AllThere}
 use Rattle.flow_unstuck.specs.Places.{class_vars}
 use Rattle.flow_unstuck.specs.Rules.{KeepsRules}
 use Rattle.flow_unstuck.specs.Written.{heads}
 use Rattle.flow_unstuck.specs.Asking.{AsksFit}
 use Rattle.flow_unstuck.specs.Fitting.{typed_by}
-use Rattle.flow_steps.specs.declared.frames.Stand.{Stand}
+use Rattle.flow_steps.specs.declared.frames.ControlPoint.{ControlPoint}
 use Rattle.flow_steps.specs.declared.process.Process.{Process}
-use Rattle.flow_steps.specs.Sights.{sight_in, with_left, program_time}
+use Rattle.flow_steps.specs.Evaluating.{sight_in, with_left, program_time}
 use Rattle.flow_steps.specs.Stepping.{value_for, values_for}
-use Rattle.flow_steps.specs.Straying.{SomeMissing, FrameMissing, PlaceMissing, NoPlace, CancelsAmiss, OwnerAmiss}
-use Rattle.flow_steps.specs.AmissCalls.{EvaluatesAmiss, meaningless, frame_gone, rest_amiss}
-use Rattle.flow_follows.specs.Placing.{Stood}
-use Rattle.flow_follows.specs.Shown.{Shown}
+use Rattle.flow_steps.specs.Stuck.{SomeMissing, FrameMissing, PlaceMissing, NoPlace, CancelsStuck, OwnerStuck}
+use Rattle.flow_steps.specs.StuckCalls.{EvaluatesStuck, meaningless, frame_gone, rest_stuck}
+use Rattle.flow_follows.specs.Placing.{RepresentsActor}
+use Rattle.flow_follows.specs.Matching.{ProcessRepresents}
 use Rattle.flow_follows.specs.Seeing.{IsCodeOf}
 use Rattle.flow_follows.proofs.Arguments.{args_follow}
 use Rattle.flow_follows.proofs.Seen.{expr_follows}
 use Rattle.flow_follows.proofs.Stands.{as_many}
 use Rattle.flow_executes.specs.Executing.{coded_by, InProgram}
-use Rattle.flow_executes.specs.Going.{AtOperands, MayStep, moves, chooses}
+use Rattle.flow_executes.specs.Continuing.{AtOperands, MayStep, moves, chooses}
 use Rattle.flow_executes.proofs.Decodes.{the_instruction}
 use Rattle.flow_found.proofs.References.{some_none, none_missing}
 use Rattle.flow_allowed.specs.Allowing.{Running}
 use Rattle.flow_allowed.proofs.Steps.{class_is, rules, asks_fit}
 
 -- a frame in memory has as many places as the one that it shows
-pub as_many_places : (r : RawTree) (n : FrameTree Value) (e : Entry) (f : Frame) → Stands r n e f → length n.places ≡ length f.mem.slots + length f.mem.locals
+pub as_many_places : (r : RawTree) (n : FrameTree Value) (e : Entry) (f : Frame) → LiveFrameRepresents r n e f → length n.places ≡ length f.mem.slots + length f.mem.locals
 as_many_places r n e f s = sym (as_many (option_map value_of) n.places) ∙ ap length s.places ∙ length-append f.mem.slots f.mem.locals
 
-place_below : (r : RawTree) (n : FrameTree Value) (e : Entry) (f : Frame) (q : Slotted) → Stands r n e f → HasPlace f q → number_in (length f.code.slots) q < length n.places
+place_below : (r : RawTree) (n : FrameTree Value) (e : Entry) (f : Frame) (q : Slotted) → LiveFrameRepresents r n e f → HasPlace f q → number_in (length f.code.slots) q < length n.places
 place_below r n e f (Slot k) s has = let many = as_many_places r n e f s in omega (arith, many, has)
 place_below r n e f (Local k) s has = let many = as_many_places r n e f s in let slots = s.slots in omega (arith, many, slots, has)
 
 -- an actor that stands somewhere in memory has its frame and the places of the frame, and what it refers to is there
-module _ (r : RawTree) (ls : List Line) (x : Scan) (m : Process) (p : Proc Frame) (i : ℕ) (e : Entry) (f : Frame) (st : Stood r ls x m p i e f) where
+module _ (r : RawTree) (ls : List Line) (x : Scan) (m : Process) (p : Proc Frame) (i : ℕ) (e : Entry) (f : Frame) (st : RepresentsActor r ls x m p i e f) where
   pub frame_there : FrameMissing i m.heap → ⊥
   frame_there none = some_none (sym st.acts.framed ∙ none)
 
@@ -101,11 +101,11 @@ module _ (r : RawTree) (ls : List Line) (x : Scan) (m : Process) (p : Proc Frame
         ap (λ (b : ActorId). values_for code b.0 rs m) is ∙ ap (λ k. values_at (sight_in code i m) k m.left) same ∙ args_follow r ls x m p i e f code w st program time few es
 
 -- one that takes its next step does, also at its wait, where it stands at no instruction
-pub step_framed : (r : RawTree) (ls : List Line) (x : Scan) (s : Stand) (m : Process) (p : Proc Frame) (i : ℕ) (e : Entry) (f : Frame) → MayStep r ls x s m p i e f → FrameMissing s.actor.0 m.heap → ⊥
+pub step_framed : (r : RawTree) (ls : List Line) (x : Scan) (s : ControlPoint) (m : Process) (p : Proc Frame) (i : ℕ) (e : Entry) (f : Frame) → MayStep r ls x s m p i e f → FrameMissing s.actor.0 m.heap → ⊥
 step_framed r ls x s m p i e f (moves st zero_state) none = frame_of r ls x m _ i e _ st.stood s.actor st.standing.actor none
 step_framed r ls x s m p i e f (chooses at) none = frame_of r ls x m p i e f at.stood s.actor at.standing.actor none
 
-pub no_instruction : (r : RawTree) (ls : List Line) (x : Scan) (s : Stand) (m : Process) (p : Proc Frame) (i : ℕ) (e : Entry) (f : Frame) (code : Code) → InProgram r code s f → AtOperands r ls x s m p i e f
+pub no_instruction : (r : RawTree) (ls : List Line) (x : Scan) (s : ControlPoint) (m : Process) (p : Proc Frame) (i : ℕ) (e : Entry) (f : Frame) (code : Code) → InProgram r code s f → AtOperands r ls x s m p i e f
     → (y : Instruction) → slice_get s.block.now.body.items s.instruction ≡ Some y → ⊥
 no_instruction r ls x s m p i e f code inp at y there =
     let a = the_instruction r code.classes.items s i f (coded_by inp.program) inp.standing y at.standing at.instruction there in
@@ -127,22 +127,22 @@ owner_noted k a (y ∷ ys) e none = by_number (nat_eq a y.0) refl none (owner_no
             let equal = ap (λ n. nat_eq n y.0) (sym same) ∙ same_number y.0 in cc (h, equal)
         by_result false g = rest g none
 
-pub owner_there : (r : RawTree) (ls : List Line) (x : Scan) (m : Process) (p : Proc Frame) (k : ℕ) → Shown r ls x m p → OwnerAmiss k m.heap → ⊥
-owner_there r ls x m p k shown amiss =
-    by (stored.thing m.heap.actors.things amiss.0) (stored.thing m.heap.frames.things amiss.0) refl refl (shown.holds.shows.actors amiss.0) amiss.2
+pub owner_there : (r : RawTree) (ls : List Line) (x : Scan) (m : Process) (p : Proc Frame) (k : ℕ) → ProcessRepresents r ls x m p → OwnerStuck k m.heap → ⊥
+owner_there r ls x m p k shown stuck =
+    by (stored.thing m.heap.actors.things stuck.0) (stored.thing m.heap.frames.things stuck.0) refl refl (shown.holds.shows.actors stuck.0) stuck.2
   where
-    by : (n : Option Note) (g : Option (FrameTree Value)) → stored.thing m.heap.actors.things amiss.0 ≡ n → stored.thing m.heap.frames.things amiss.0 ≡ g
-        → ActorShows r n g (thing p.core.entries amiss.0) (thing p.actors amiss.0) → CancelsAmiss amiss.0 m.heap → ⊥
-    by n g noted framed (nobody none a b c) is = owner_noted k amiss.0 m.heap.actors.things amiss.1 (noted ∙ none)
+    by : (n : Option Note) (g : Option (FrameTree Value)) → stored.thing m.heap.actors.things stuck.0 ≡ n → stored.thing m.heap.frames.things stuck.0 ≡ g
+        → ActorRepresents r n g (thing p.core.entries stuck.0) (thing p.actors stuck.0) → CancelsStuck stuck.0 m.heap → ⊥
+    by n g noted framed (nobody none a b c) is = owner_noted k stuck.0 m.heap.actors.things stuck.1 (noted ∙ none)
     by n g noted framed (somebody y) (inl none) = some_none (sym (noted ∙ y.noted) ∙ none)
     by n g noted framed (somebody y) (inr none) = some_none (sym (framed ∙ y.framed) ∙ none)
 
 -- what is evaluated has a meaning, and what comes after it doesn't go astray
-pub evaluation_there : {A B : Type 0} (s : Stand) (seen : B → A) (c : Res A) (m : Process) (rest : B → Process → Type 0) → (c ≡ Meaningless → ⊥) → (FrameMissing s.actor.0 m.heap → ⊥)
-    → ((b : B) (left : ℕ) → c ≡ Done (seen b) left → rest b (with_left left m) → ⊥) → EvaluatesAmiss s seen c m rest → ⊥
+pub evaluation_there : {A B : Type 0} (s : ControlPoint) (seen : B → A) (c : Res A) (m : Process) (rest : B → Process → Type 0) → (c ≡ Meaningless → ⊥) → (FrameMissing s.actor.0 m.heap → ⊥)
+    → ((b : B) (left : ℕ) → c ≡ Done (seen b) left → rest b (with_left left m) → ⊥) → EvaluatesStuck s seen c m rest → ⊥
 evaluation_there s seen c m rest has_meaning framed onward (meaningless is) = has_meaning is
 evaluation_there s seen c m rest has_meaning framed onward (frame_gone is) = framed is
-evaluation_there s seen c m rest has_meaning framed onward (rest_amiss b left done amiss) = onward b left done amiss
+evaluation_there s seen c m rest has_meaning framed onward (rest_stuck b left done stuck) = onward b left done stuck
 
 -- an actor that runs is never stuck
 module _ (r : RawTree) (w : Supply) (p : Proc Frame) (i : ℕ) (e : Entry) (f : Frame) (run : Running r p i e f) where

@@ -31,13 +31,13 @@ use Rattle.flow_code.specs.Classes.{MethodCode}
 use Rattle.flow_code.specs.View.{aim_of}
 use Rattle.flow_code.specs.Coding.{aimed, coded_instruction}
 use Rattle.flow_trace.specs.declared.line.Line.{Line}
-use Rattle.flow_meaning.specs.Asks as asks
-use Rattle.flow_meaning.specs.Asks.{Supply}
+use Rattle.flow_meaning.specs.Requests as asks
+use Rattle.flow_meaning.specs.Requests.{Supply}
 use Rattle.flow_meaning.specs.Cells.{Ref}
 use Rattle.flow_meaning.specs.Evaluating.{StepOf, evaluated, done, sent, cancelled, method_act, based_act, value, values, before_last, last_of}
 use Rattle.flow_meaning.specs.Evaluating as evaluating
 use Rattle.flow_meaning.specs.Process.{Entry, Proc}
-use Rattle.flow_meaning.specs.Occ.{Scan}
+use Rattle.flow_meaning.specs.References.{Scan}
 use Rattle.flow_meaning.specs.Step.{view}
 use Rattle.flow_meaning.specs.Class.{class_names}
 use Rattle.flow_meaning.specs.Frame.{Frame, look, next_instr}
@@ -45,17 +45,17 @@ use Rattle.flow_picture.specs.Holds.{There, AllThere}
 use Rattle.flow_unstuck.specs.Places.{class_vars}
 use Rattle.flow_unstuck.specs.Rules.{MessageFits, InstrFits}
 use Rattle.flow_unstuck.specs.Written.{heads}
-use Rattle.flow_steps.specs.declared.frames.Stand.{Stand}
+use Rattle.flow_steps.specs.declared.frames.ControlPoint.{ControlPoint}
 use Rattle.flow_steps.specs.declared.process.Process.{Process}
 use Rattle.flow_steps.specs.Holding.{outcome_refs}
-use Rattle.flow_steps.specs.Standing.{noted, next_stand, place_held, field_path, values as given_values}
-use Rattle.flow_steps.specs.Sights.{with_left}
+use Rattle.flow_steps.specs.Points.{noted, next_stand, place_held, field_path, values as given_values}
+use Rattle.flow_steps.specs.Evaluating.{with_left}
 use Rattle.flow_steps.specs.Stepping.{value_for}
-use Rattle.flow_steps.specs.Straying.{SomeMissing}
-use Rattle.flow_steps.specs.AmissAsks.{SendsAmiss, nothing_sent, cell_missing, refers_amiss, MethodAmiss}
-use Rattle.flow_steps.specs.AmissSteps.{CallsAmiss, no_reference, frame_gone, method_amiss, CallsAmissOf, MethodStepAmiss}
-use Rattle.flow_follows.specs.Placing.{Stood}
-use Rattle.flow_follows.specs.Going.{MayBeStale}
+use Rattle.flow_steps.specs.Stuck.{SomeMissing}
+use Rattle.flow_steps.specs.StuckRequests.{SendsStuck, nothing_sent, cell_missing, refers_stuck, MethodStuck}
+use Rattle.flow_steps.specs.StuckSteps.{CallsStuck, no_reference, frame_gone, method_stuck, CallsStuckOf, MethodStepStuck}
+use Rattle.flow_follows.specs.Placing.{RepresentsActor}
+use Rattle.flow_follows.specs.Continuing.{MayBeStale}
 use Rattle.flow_follows.proofs.Brought.{all_there_by}
 use Rattle.flow_executes.specs.Assigning.{AimsAt}
 use Rattle.flow_executes.proofs.Decodes.{aim_there}
@@ -67,7 +67,7 @@ use Rattle.flow_asked.specs.Next.{MayCallOn, MayAskNext}
 use Rattle.flow_asked.proofs.Allowed.{ask_allowed}
 use Rattle.flow_allowed.specs.Allowing.{Running}
 use Rattle.flow_allowed.proofs.Steps.{gives_there}
-use Rattle.flow_meant.specs.Meant.{AtStep}
+use Rattle.flow_meant.specs.NeverStuck.{AtStep}
 use Rattle.flow_meant.proofs.Here.{Fit, own_rules, refers_there, owner_there, evaluation_there, fits_at, has_meaning, fits_onward}
 use Rattle.flow_meant.proofs.Assigns.{by, coding_now, old, seen, framed, value_is_that}
 use Rattle.flow_effects.proofs.Methods.{sent_there}
@@ -91,7 +91,7 @@ two_typed (Some t) (Some u) (Some us) ts e = let same : t ∷ u ∷ us ≡ ts = 
 two_sent : (m : Method) (v : TypeTree) (ts : List TypeTree) → (t : TypeTree) × (u : TypeTree) × (us : List TypeTree) × (ts ≡ t ∷ u ∷ us) → MessageFits m v ts → ⊥
 two_sent m v ts two message = no_message m v two.0 two.1 two.2 (subst (MessageFits m v) two.3 message)
 
-module _ (r : RawTree) (code : Code) (w : Supply) (ls : List Line) (x : Scan) (s : Stand) (m : Process) (p : Proc Frame) (i : ℕ) (e : Entry) (f : Frame)
+module _ (r : RawTree) (code : Code) (w : Supply) (ls : List Line) (x : Scan) (s : ControlPoint) (m : Process) (p : Proc Frame) (i : ℕ) (e : Entry) (f : Frame)
     (now : AtStep r code w ls x s m p i e f) (st : MayBeStale r ls x s m p i e f) where
   abbrev run : Running r p i e f
   run = now.running
@@ -106,7 +106,7 @@ module _ (r : RawTree) (code : Code) (w : Supply) (ls : List Line) (x : Scan) (s
   abbrev later_proc : Proc Frame
   later_proc = resumed i next m.left p
 
-  later_stood : Stood r ls x later later_proc i e next
+  later_stood : RepresentsActor r ls x later later_proc i e next
   later_stood = next_stood r ls m p i e f x s m.left st
 
   refers_later : (qs : List Ref) → AllThere p qs → SomeMissing qs later.heap → ⊥
@@ -120,11 +120,11 @@ module _ (r : RawTree) (code : Code) (w : Supply) (ls : List Line) (x : Scan) (s
   given o = map value_of (given_values o)
 
   sends_there : (called : Method) (kd : Kind) (k : ℕ) (arg_given : Option Value) (left : ℕ) → There p (kd, k) → AllThere p (refs_of (arg (given arg_given) 0))
-      → Fit r w p i e f run (evaluated f (done (option_map (asks.Sends k) (sent called (given arg_given))) left) onward) → SendsAmiss called kd k arg_given later.heap → ⊥
+      → Fit r w p i e f run (evaluated f (done (option_map (asks.Sends k) (sent called (given arg_given))) left) onward) → SendsStuck called kd k arg_given later.heap → ⊥
   sends_there called kd k o left there refer fit (nothing_sent none) =
       (subst (λ z. Fit r w p i e f run (evaluated f (done (option_map (asks.Sends k) z) left) onward)) none fit).0
   sends_there called kd k o left there refer fit (cell_missing gone) = refers_later ((kd, k) ∷ []) (there, tt) (inl gone)
-  sends_there called kd k o left there refer fit (refers_amiss out is missing) =
+  sends_there called kd k o left there refer fit (refers_stuck out is missing) =
       refers_later (outcome_refs out) (sent_there p called (given o) (outcome_of out) is refer) missing
 
   only_cancel : (called : Method) (k left : ℕ) → Fit r w p i e f run (evaluated f (done (cancelled called k) left) onward) → (called ≡ method.Cancel → ⊥) → ⊥
@@ -132,12 +132,12 @@ module _ (r : RawTree) (code : Code) (w : Supply) (ls : List Line) (x : Scan) (s
   only_cancel called k left fit other = fit.0
 
   method_there : (called : Method) (kd : Kind) (k : CellId) (o : Option Value) (left : ℕ) → There p (kd, k.0) → AllThere p (refs_of (arg (given o) 0))
-      → Fit r w p i e f run (evaluated f (done (method_act called (RefValue kd k.0) (given o)) left) onward) → MethodAmiss called kd k o later.heap → ⊥
-  method_there called kind.Promise k o left there refer fit amiss = sends_there called kind.Promise k.0 o left there refer fit amiss
-  method_there called kind.PromiseStream k o left there refer fit amiss = sends_there called kind.PromiseStream k.0 o left there refer fit amiss
+      → Fit r w p i e f run (evaluated f (done (method_act called (RefValue kd k.0) (given o)) left) onward) → MethodStuck called kd k o later.heap → ⊥
+  method_there called kind.Promise k o left there refer fit stuck = sends_there called kind.Promise k.0 o left there refer fit stuck
+  method_there called kind.PromiseStream k o left there refer fit stuck = sends_there called kind.PromiseStream k.0 o left there refer fit stuck
   method_there called kind.Future k o left there refer fit (inl other) = only_cancel called k.0 left fit other
-  method_there called kind.Future k o left there refer fit (inr amiss) = owner_there r ls x later later_proc k.0 later_stood.shown amiss
-  method_there called kind.FutureStream k o left there refer fit amiss = fit.0
+  method_there called kind.Future k o left there refer fit (inr stuck) = owner_there r ls x later later_proc k.0 later_stood.shown stuck
+  method_there called kind.FutureStream k o left there refer fit stuck = fit.0
 
   module _ (y z : Ident) (ys : List Ident) (es : ExprTrees) (aim : Aim) (called : Method) (there : fetch f.code f.block f.instr ≡ Body (ActInstr (y ∷ z ∷ ys) es))
       (aims : aimed (coding_now r code w ls x s m p i e f now st) (y ∷ before_last z ys) ≡ Some (aim_of aim)) (name : named method_names (last_of z ys).name ≡ Some called) where
@@ -176,12 +176,12 @@ module _ (r : RawTree) (code : Code) (w : Supply) (ls : List Line) (x : Scan) (s
     a_reference (Some (RecordValue n vs)) is us left fit none = fit.0
 
     calls_there : (o : Option Value) (left l : ℕ) → AllThere p (refs_of (arg (given o) 0)) → Fit r w p i e f run (called_on path (given o) left)
-        → CallsAmiss code s aim called o (with_left l m) → ⊥
+        → CallsStuck code s aim called o (with_left l m) → ⊥
     calls_there o left l refer fit (no_reference none) = a_reference path refl (given o) left fit none
     calls_there o left l refer fit (frame_gone none) = framed r code w ls x s m p i e f now st none
-    calls_there o left l refer fit (method_amiss kd k is amiss) =
+    calls_there o left l refer fit (method_stuck kd k is stuck) =
         let here : path ≡ Some (RefValue kd k.0) = sym same_path ∙ is in
-        method_there called kd k o left (may.there kd k.0 here) refer (subst (λ q. Fit r w p i e f run (called_on q (given o) left)) here fit) amiss
+        method_there called kd k o left (may.there kd k.0 here) refer (subst (λ q. Fit r w p i e f run (called_on q (given o) left)) here fit) stuck
 
     -- the step of the class machine, with the arguments known
     fit : Fit r w p i e f run (evaluated f (values (class_names r) (view w i p.core) (look f.mem) es) (called_on path))
@@ -194,9 +194,9 @@ module _ (r : RawTree) (code : Code) (w : Supply) (ls : List Line) (x : Scan) (s
   -- without an argument, with one; none has two
   plain_there : (y z : Ident) (ys : List Ident) (aim : Aim) (called : Method) → fetch f.code f.block f.instr ≡ Body (ActInstr (y ∷ z ∷ ys) NoExprs)
       → aimed (coding_now r code w ls x s m p i e f now st) (y ∷ before_last z ys) ≡ Some (aim_of aim) → named method_names (last_of z ys).name ≡ Some called
-      → CallsAmiss code s aim called None m → ⊥
-  plain_there y z ys aim called there aims name amiss =
-      calls_there y z ys NoExprs aim called there aims name None p.core.left m.left tt (fit y z ys NoExprs aim called there aims name) amiss
+      → CallsStuck code s aim called None m → ⊥
+  plain_there y z ys aim called there aims name stuck =
+      calls_there y z ys NoExprs aim called there aims name None p.core.left m.left tt (fit y z ys NoExprs aim called there aims name) stuck
 
   module _ (y z : Ident) (ys : List Ident) (t : ExprTree) (aim : Aim) (called : Method) (a : Resolved) (there : fetch f.code f.block f.instr ≡ Body (ActInstr (y ∷ z ∷ ys) (MoreExprs t NoExprs)))
       (aims : aimed (coding_now r code w ls x s m p i e f now st) (y ∷ before_last z ys) ≡ Some (aim_of aim)) (name : named method_names (last_of z ys).name ≡ Some called)
@@ -215,14 +215,14 @@ module _ (r : RawTree) (code : Code) (w : Supply) (ls : List Line) (x : Scan) (s
         subst (λ q. Fit r w p i e f run q) (evaluated_then f comes_to (λ v left. Done (v ∷ []) left) on_path)
         (fit y z ys (MoreExprs t NoExprs) aim called there aims name)
 
-    calls_on : (v : Value) (left : ℕ) → value_for code s.actor.0 a m ≡ Done (value_of v) left → CallsAmissOf code s aim called v (with_left left m) → ⊥
-    calls_on v left done amiss =
+    calls_on : (v : Value) (left : ℕ) → value_for code s.actor.0 a m ≡ Done (value_of v) left → CallsStuckOf code s aim called v (with_left left m) → ⊥
+    calls_on v left done stuck =
         calls_there y z ys (MoreExprs t NoExprs) aim called there aims name (Some v) left left (gives_there r w p i e f run t (value_of v) left (sym is ∙ done))
-        (fits_onward r w p i e f run comes_to (λ u l. on_path (u ∷ []) l) (value_of v) left one (sym is ∙ done)) amiss
+        (fits_onward r w p i e f run comes_to (λ u l. on_path (u ∷ []) l) (value_of v) left one (sym is ∙ done)) stuck
 
-    with_argument : MethodStepAmiss code s aim called (a ∷ []) m → ⊥
+    with_argument : MethodStepStuck code s aim called (a ∷ []) m → ⊥
     with_argument =
-        evaluation_there s value_of (value_for code s.actor.0 a m) m (CallsAmissOf code s aim called)
+        evaluation_there s value_of (value_for code s.actor.0 a m) m (CallsStuckOf code s aim called)
         (λ none. has_meaning r w p i e f run comes_to (λ v left. on_path (v ∷ []) left) one (sym is ∙ none)) (framed r code w ls x s m p i e f now st) calls_on
 
   too_many : (y z : Ident) (ys : List Ident) (t u : ExprTree) (es : ExprTrees) → fetch f.code f.block f.instr ≡ Body (ActInstr (y ∷ z ∷ ys) (MoreExprs t (MoreExprs u es))) → ⊥
@@ -235,19 +235,19 @@ module _ (r : RawTree) (code : Code) (w : Supply) (ls : List Line) (x : Scan) (s
 
   by_args : (y z : Ident) (ys : List Ident) (aim : Aim) (called : Method) (args : List Resolved) (es : ExprTrees) → fetch f.code f.block f.instr ≡ Body (ActInstr (y ∷ z ∷ ys) es)
       → aimed (coding_now r code w ls x s m p i e f now st) (y ∷ before_last z ys) ≡ Some (aim_of aim) → named method_names (last_of z ys).name ≡ Some called
-      → nodes_of args ≡ resolved_all (coding_now r code w ls x s m p i e f now st).names es → MethodStepAmiss code s aim called args m → ⊥
-  by_args y z ys aim called [] NoExprs there aims name is amiss = plain_there y z ys aim called there aims name amiss
-  by_args y z ys aim called (a ∷ []) (MoreExprs t NoExprs) there aims name is amiss =
-      let node : node_of a ≡ resolved (coding_now r code w ls x s m p i e f now st).names t = cc (is) in with_argument y z ys t aim called a there aims name node amiss
-  by_args y z ys aim called [] (MoreExprs t es) there aims name is amiss = cc (is)
-  by_args y z ys aim called (a ∷ []) NoExprs there aims name is amiss = cc (is)
-  by_args y z ys aim called (a ∷ []) (MoreExprs t (MoreExprs u es)) there aims name is amiss = cc (is)
-  by_args y z ys aim called (a ∷ b ∷ cs) NoExprs there aims name is amiss = cc (is)
-  by_args y z ys aim called (a ∷ b ∷ cs) (MoreExprs t NoExprs) there aims name is amiss = cc (is)
-  by_args y z ys aim called (a ∷ b ∷ cs) (MoreExprs t (MoreExprs u es)) there aims name is amiss = too_many y z ys t u es there
+      → nodes_of args ≡ resolved_all (coding_now r code w ls x s m p i e f now st).names es → MethodStepStuck code s aim called args m → ⊥
+  by_args y z ys aim called [] NoExprs there aims name is stuck = plain_there y z ys aim called there aims name stuck
+  by_args y z ys aim called (a ∷ []) (MoreExprs t NoExprs) there aims name is stuck =
+      let node : node_of a ≡ resolved (coding_now r code w ls x s m p i e f now st).names t = cc (is) in with_argument y z ys t aim called a there aims name node stuck
+  by_args y z ys aim called [] (MoreExprs t es) there aims name is stuck = cc (is)
+  by_args y z ys aim called (a ∷ []) NoExprs there aims name is stuck = cc (is)
+  by_args y z ys aim called (a ∷ []) (MoreExprs t (MoreExprs u es)) there aims name is stuck = cc (is)
+  by_args y z ys aim called (a ∷ b ∷ cs) NoExprs there aims name is stuck = cc (is)
+  by_args y z ys aim called (a ∷ b ∷ cs) (MoreExprs t NoExprs) there aims name is stuck = cc (is)
+  by_args y z ys aim called (a ∷ b ∷ cs) (MoreExprs t (MoreExprs u es)) there aims name is stuck = too_many y z ys t u es there
 
   pub method_meant : (aim : Aim) (called : Method) (args : List Resolved) (text : InstrTree) → fetch f.code f.block f.instr ≡ Body text
-      → MethodCode (aim_of aim) called (nodes_of args) ≡ coded_instruction (coding_now r code w ls x s m p i e f now st) f.code text → MethodStepAmiss code s aim called args m → ⊥
+      → MethodCode (aim_of aim) called (nodes_of args) ≡ coded_instruction (coding_now r code w ls x s m p i e f now st) f.code text → MethodStepStuck code s aim called args m → ⊥
   method_meant aim called args text there coded =
       let of = method_coded (coding_now r code w ls x s m p i e f now st) f.code text (aim_of aim) called (nodes_of args) coded in
       by_args of.root of.second of.others aim called args of.exprs (there ∙ ap Body of.is) of.aims of.named of.resolved

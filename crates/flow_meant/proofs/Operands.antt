@@ -16,15 +16,15 @@ use Rattle.flow_cancel.specs.Heap.{HeapTree, cell_id}
 use Rattle.flow_numbered.specs.Numbered.{thing}
 use Rattle.flow_meaning.specs.Cells.{Ref, Cell, Single, Stream, taken}
 use Rattle.flow_meaning.specs.Process.{Proc}
-use Rattle.flow_meaning.specs.Occ.{Scan, refs_in, value_in}
+use Rattle.flow_meaning.specs.References.{Scan, refs_in, value_in}
 use Rattle.flow_meaning.specs.Frame.{Frame}
-use Rattle.flow_picture.specs.Shows.{held_from}
+use Rattle.flow_picture.specs.Representing.{held_from}
 use Rattle.flow_picture.specs.Losing.{RightCell}
 use Rattle.flow_picture.specs.Leaving.{wait_kind}
 use Rattle.flow_picture.specs.Holds.{Holds, AllThere, hold}
-use Rattle.flow_steps.specs.declared.frames.Stand.{Stand}
+use Rattle.flow_steps.specs.declared.frames.ControlPoint.{ControlPoint}
 use Rattle.flow_steps.specs.Waiting.{ready_at, first_ready}
-use Rattle.flow_steps.specs.AmissWaits.{NoBranchOf, no_wait, no_group, before_first, ReadyAmiss, KeepsAmiss, finished, no_frame, when_ready}
+use Rattle.flow_steps.specs.StuckWaits.{NoBranchOf, no_wait, no_group, before_first, ReadyStuck, KeepsStuck, finished, no_frame, when_ready}
 use Rattle.flow_follows.specs.Taking.{Takeable}
 use Rattle.flow_follows.specs.Waiting.{Waitable}
 use Rattle.flow_follows.proofs.Takings.{all_frames}
@@ -32,7 +32,7 @@ use Rattle.flow_found.proofs.References.{some_none}
 use Rattle.flow_found.proofs.Taking.{taken_by}
 
 -- An actor that stands at the wait of a group: it is unfinished, and its frame is there.
-pub record Waiting (h : HeapTree) (s : Stand) (number : ℕ) (group : Group) : Type 0 where
+pub record Waiting (h : HeapTree) (s : ControlPoint) (number : ℕ) (group : Group) : Type 0 where
   pub note : Note
   pub frame : FrameTree Value
   pub noted : stored.thing h.actors.things s.actor.0 ≡ Some note
@@ -41,7 +41,7 @@ pub record Waiting (h : HeapTree) (s : Stand) (number : ℕ) (group : Group) : T
   pub of_number : group_numbered number s.class.now.groups.items ≡ Some group
 
 -- it does so where a reference counts
-pub waiting_held : (kd : Kind) (k : ℕ) (h : HeapTree) (s : Stand) (number : ℕ) (group : Group) → Waiting h s number group → Waiting (hold kd k h) s number group
+pub waiting_held : (kd : Kind) (k : ℕ) (h : HeapTree) (s : ControlPoint) (number : ℕ) (group : Group) → Waiting h s number group → Waiting (hold kd k h) s number group
 waiting_held kd k h s number group w =
     let same = all_frames ((kd, k) ∷ []) h in record {
       note = w.note;
@@ -52,7 +52,7 @@ waiting_held kd k h s number group w =
       of_number = w.of_number;
     }
 
-module _ (r : RawTree) (x : Scan) (h : HeapTree) (p : Proc Frame) (s : Stand) (number : ℕ) (group : Group) (holds : Holds r x h p) (w : Waiting h s number group) where
+module _ (r : RawTree) (x : Scan) (h : HeapTree) (p : Proc Frame) (s : ControlPoint) (number : ℕ) (group : Group) (holds : Holds r x h p) (w : Waiting h s number group) where
   same_wait : (g : ℕ) → s.block.now.last ≡ last.Choose g → number ≡ g
   same_wait g e = let a = w.waits in cc (a, e)
 
@@ -67,16 +67,16 @@ module _ (r : RawTree) (x : Scan) (h : HeapTree) (p : Proc Frame) (s : Stand) (n
       let is : of ≡ group = let a = ap (λ k. group_numbered k s.class.now.groups.items) same in let b = w.of_number in cc (a, b, there) in
       let first = ap (λ (z : Group). z.first) is in omega (arith, l, below, first)
 
-  pub ready_found : (y : Held) (c : Cell) → group.first ≤ y.callback → Takeable p y.cell.0 c → ready_at y.cell.0 h ≡ true → ReadyAmiss s y h → ⊥
+  pub ready_found : (y : Held) (c : Cell) → group.first ≤ y.callback → Takeable p y.cell.0 c → ready_at y.cell.0 h ≡ true → ReadyStuck s y h → ⊥
   ready_found y c l takes ready (inl none) = branch_there y.callback l none
   ready_found y c l takes ready (inr (inl none)) = none number w.waits
   ready_found y c l takes ready (inr (inr (inl nothing))) = taken_by r x h p y.cell.0 c holds takes ready nothing
   ready_found y c l takes ready (inr (inr (inr none))) = some_none (sym w.framed ∙ none)
 
-  pub keeps_found : (y : Held) (c : Cell) → group.first ≤ y.callback → Takeable p y.cell.0 c → KeepsAmiss s y h → ⊥
+  pub keeps_found : (y : Held) (c : Cell) → group.first ≤ y.callback → Takeable p y.cell.0 c → KeepsStuck s y h → ⊥
   keeps_found y c l takes (finished none) = some_none (sym w.noted ∙ none)
   keeps_found y c l takes (no_frame none) = some_none (sym w.framed ∙ none)
-  keeps_found y c l takes (when_ready ready amiss) = ready_found y c l takes ready amiss
+  keeps_found y c l takes (when_ready ready stuck) = ready_found y c l takes ready stuck
 
 -- The operands of an actor as its frame keeps them: the first that is ready, and their cells.
 pub record FirstReady (p : Proc Frame) (h : HeapTree) (n : ℕ) (y : Held) : Type 0 where

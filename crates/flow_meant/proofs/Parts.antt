@@ -36,7 +36,7 @@ use Rattle.flow_code.specs.Coded.{coding}
 use Rattle.flow_code.specs.Places.{place_of, place_in}
 use Rattle.flow_meaning.specs.Evaluating as meaning
 use Rattle.flow_meaning.specs.Frame.{Frame}
-use Rattle.flow_picture.specs.Standing.{HasPlace}
+use Rattle.flow_picture.specs.FrameChanges.{HasPlace}
 use Rattle.flow_unstuck.specs.Places.{class_vars}
 use Rattle.flow_unstuck.specs.Rules.{InstrFits, EffectFits, SayFits, KeepsRules}
 use Rattle.flow_unstuck.specs.Written.{heads}

@@ -16,7 +16,7 @@ use Rattle.flow_meaning.specs.Class.{classes}
 use Rattle.flow_meaning.proofs.Posture.{Unless, unless, after_turn, same_number}
 use Rattle.flow_picture.specs.Rested.{has}
 use Rattle.flow_picture.specs.Alone.{OwnedOnce}
-use Rattle.flow_picture.specs.Keeps.{Tied}
+use Rattle.flow_picture.specs.CellsTied.{CellsTied}
 use Rattle.flow_runs.proofs.Dues.{weight, one_closed}
 use Rattle.flow_open.specs.Open.{Open, StepsOpen}
 use Rattle.flow_open.proofs.Cells.{Hears, P, fill_open, element_open}
@@ -37,7 +37,7 @@ module _ (k : ℕ) where
   pub arrive_open : (j : ℕ) (v : ValueTree) (c : Core) → P k c → Unless (P k) (arrive j v c)
   arrive_open j v c h = after_turn (P k) (λ d. fill j (GoodOutcome v) d) c c.left (λ n. element_open k j v (record c { left = n }) h)
 
-  pub boot_open : (r : RawTree) (me : ℕ) (p : Proc Frame) → Tied p.core → P k p.core → Unless (P k) (boot (classes r) me p).core
+  pub boot_open : (r : RawTree) (me : ℕ) (p : Proc Frame) → CellsTied p.core → P k p.core → Unless (P k) (boot (classes r) me p).core
   boot_open r me p t h = by_frame ((classes r).fresh (classes r).main (IntValue (pos me) ∷ []))
     where
       by_frame : (x : Option Frame) → Unless (P k) (boot_with (classes r) x p).core

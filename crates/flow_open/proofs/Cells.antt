@@ -7,10 +7,10 @@ use Rattle.flow_base.specs.ErrorNumbers.{operation_cancelled, second_waiter}
 use Rattle.flow_value.specs.Values.{ValueTree, OutcomeTree, GoodOutcome}
 use Rattle.flow_numbered.specs.Numbered.{Numbered, thing, added, put, removed}
 use Rattle.flow_meaning.specs.Cells.{PromiseSide, Ref, Waiter, Cell, Single, Stream, is_busy, taken, after_taking, with_waiter, left_by, filled}
-use Rattle.flow_meaning.specs.Asks.{Spot}
+use Rattle.flow_meaning.specs.Requests.{Spot}
 use Rattle.flow_meaning.specs.Process.{Task, Give, Throw, Entry, Core}
 use Rattle.flow_meaning.specs.Lines.{take_line, cancel_line}
-use Rattle.flow_meaning.specs.Occ.{in_ports}
+use Rattle.flow_meaning.specs.References.{in_ports}
 use Rattle.flow_meaning.specs.Orderly.{Rising}
 use Rattle.flow_meaning.specs.React.{at_spot, suspend, wait_by, wait}
 use Rattle.flow_meaning.specs.Work.{fill_cell, fill, free_cell, free, leave_for, give, take_branch, Registration, Registered, Refused, Missing, register_at, register_one, register, first_ready, marked, cancel_by, cancel, cancel_owner, writes}

@@ -7,18 +7,18 @@ use Rattle.flow_worldfile.specs.Worlds as file
 use Rattle.flow_class.specs.Classes.{RawTree}
 use Rattle.flow_numbered.specs.Numbered.{thing}
 use Rattle.flow_meaning.specs.Cells.{PromiseSide, Cell, Stream}
-use Rattle.flow_meaning.specs.Asks.{Supply}
+use Rattle.flow_meaning.specs.Requests.{Supply}
 use Rattle.flow_meaning.specs.Process.{Core, Proc}
 use Rattle.flow_meaning.specs.Orderly.{Orderly, UnlessStopped}
 use Rattle.flow_meaning.specs.Burst.{Live, Burst}
 use Rattle.flow_meaning.specs.Step.{Stepped, step}
 use Rattle.flow_meaning.specs.Class.{classes}
-use Rattle.flow_meaning.specs.Occ.{in_ports}
+use Rattle.flow_meaning.specs.References.{in_ports}
 use Rattle.flow_meaning.specs.Outside.{Outside, host}
 use Rattle.flow_meaning.specs.Runs.{before, after}
 use Rattle.flow_meaning.specs.World.{Place, World, Begun, next_of, begun_by, at_start}
 use Rattle.flow_meaning.specs.Frame.{Frame}
-use Rattle.flow_picture.specs.Keeps.{Tied}
+use Rattle.flow_picture.specs.CellsTied.{CellsTied}
 use Rattle.flow_picture.specs.Lonely.{OwnedAlone}
 use Rattle.flow_runs.specs.Among.{WorldFits}
 
@@ -35,7 +35,7 @@ Open c = (k : ℕ) → 0 < in_ports PromiseSide k c.ports → IsOpen (thing c.ce
 -- made a cell for.
 abbrev pub StepsOpen : Type 0
 StepsOpen =
-    (r : RawTree) (s : Supply) (p : Proc Frame) (q : Stepped Frame) → Orderly p.core → Tied p.core
+    (r : RawTree) (s : Supply) (p : Proc Frame) (q : Stepped Frame) → Orderly p.core → CellsTied p.core
     → OwnedAlone p → Open p.core → step (classes r) s p ≡ Some q
     → UnlessStopped q.0.core.halted (Open q.0.core)
 

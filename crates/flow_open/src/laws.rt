@@ -6,7 +6,7 @@ ghost use Rattle.flow_open.specs.Open.{StepsOpen, StartOpen, EventOpen};
 
 /// The stream of a port has no end: each step keeps it so, of any classes. It is so of each process of a world before its first
 /// event, and after each event of valid classes.
-pub fn ports_open()
+pub fn port_streams_never_end()
     ensures steps { StepsOpen }
     ensures start { StartOpen }
     ensures events { (r : RawTree) → AreValid r → EventOpen r }

@@ -9,7 +9,7 @@ use Rattle.flow_class.specs.Classes.{RawTree}
 use Rattle.flow_numbered.specs.Numbered.{Numbered, thing}
 use Rattle.flow_meaning.specs.Cells.{PromiseSide}
 use Rattle.flow_meaning.specs.Process.{Drop, Halt, Core, Proc}
-use Rattle.flow_meaning.specs.Occ.{one, in_ports, in_requests}
+use Rattle.flow_meaning.specs.References.{one, in_ports, in_requests}
 use Rattle.flow_meaning.specs.Orderly.{UnlessStopped}
 use Rattle.flow_meaning.specs.Work.{pushed, fill}
 use Rattle.flow_meaning.specs.Step.{enrol}
@@ -21,7 +21,7 @@ use Rattle.flow_meaning.proofs.Shifts.{same_of}
 use Rattle.flow_meaning.proofs.InOrder.{no_thing}
 use Rattle.flow_picture.specs.Rested.{has}
 use Rattle.flow_picture.specs.Alone.{OwnedOnce}
-use Rattle.flow_picture.specs.Keeps.{Tied}
+use Rattle.flow_picture.specs.CellsTied.{CellsTied}
 use Rattle.flow_runs.proofs.Dues.{weight, one_closed}
 use Rattle.flow_owned.specs.Unset.{Unset, StepsUnset}
 use Rattle.flow_owned.proofs.Fills.{Waits, P, fill_free}
@@ -59,7 +59,7 @@ module _ (k : ℕ) where
       after_turn (P k) (λ d. fill j (GoodOutcome v) d) c c.left
       (λ n. fill_free k j (GoodOutcome v) (record c { left = n }) (λ e w. no_port k c once (port_there c.ports port (subst (λ m. thing c.ports port ≡ Some m) e at)) w) h)
 
-  pub boot_free : (r : RawTree) (me : ℕ) (p : Proc Frame) → Tied p.core → P k p.core → Unless (P k) (boot (classes r) me p).core
+  pub boot_free : (r : RawTree) (me : ℕ) (p : Proc Frame) → CellsTied p.core → P k p.core → Unless (P k) (boot (classes r) me p).core
   boot_free r me p t h = by_frame ((classes r).fresh (classes r).main (IntValue (pos me) ∷ []))
     where
       by_frame : (x : Option Frame) → Unless (P k) (boot_with (classes r) x p).core

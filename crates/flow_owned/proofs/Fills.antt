@@ -6,7 +6,7 @@ use Rattle.std.specs.declared.option.Option.TheVariants.{None, Some}
 use Rattle.flow_value.specs.Values.{ValueTree, OutcomeTree}
 use Rattle.flow_numbered.specs.Numbered.{Numbered, thing, added, put, removed}
 use Rattle.flow_meaning.specs.Cells.{Ref, Waiter, Cell, Single, Stream, is_busy, taken, after_taking, with_waiter, left_by}
-use Rattle.flow_meaning.specs.Asks.{Spot}
+use Rattle.flow_meaning.specs.Requests.{Spot}
 use Rattle.flow_meaning.specs.Process.{Task, Give, Throw, Entry, Core}
 use Rattle.flow_base.specs.ErrorNumbers.{operation_cancelled, second_waiter}
 use Rattle.flow_meaning.specs.Lines.{take_line, cancel_line}

@@ -6,7 +6,7 @@ use Rattle.flow_tree.specs.Tree.{NamedType, FutureStreamType}
 use Rattle.flow_numbered.specs.Numbered.{Numbered, thing}
 use Rattle.flow_meaning.specs.Cells.{PromiseSide, Cell, Single, Stream}
 use Rattle.flow_meaning.specs.Process.{Entry}
-use Rattle.flow_meaning.specs.Occ.{one, count_maybe, in_requests}
+use Rattle.flow_meaning.specs.References.{one, count_maybe, in_requests}
 use Rattle.flow_meaning.specs.Dropping.{port_of}
 use Rattle.flow_meaning.proofs.Posture.{same_number}
 use Rattle.flow_meaning.proofs.Shifts.{same_of}

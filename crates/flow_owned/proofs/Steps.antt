@@ -12,9 +12,9 @@ use Rattle.flow_eval.specs.Predefined.{natural}
 use Rattle.flow_class.specs.Classes.{RawTree}
 use Rattle.flow_numbered.specs.Numbered.{Numbered, thing, added, put, removed}
 use Rattle.flow_meaning.specs.Cells.{Side, PromiseSide, FutureSide, side_of, Ref, Waiter, Cell, Single, Stream, is_complete, is_ready, waiters}
-use Rattle.flow_meaning.specs.Asks.{DiskCall, Spot, Effect, Make, Start, Draw, Delay, Never, Listen, Disk, Goal, Act, Goes, Pass, Drops, Effects, Operand, Waits as WaitsFor, Sends, Cancels, Prints, SendsTo, Returns, Throws, RunsOut, Stuck, Ask, Supply}
+use Rattle.flow_meaning.specs.Requests.{DiskCall, Spot, Effect, Make, Start, Draw, Delay, Never, Listen, Disk, Goal, Act, Goes, Pass, Drops, Effects, Operand, Waits as WaitsFor, Sends, Cancels, Prints, SendsTo, Returns, Throws, RunsOut, Stuck, Ask, Supply}
 use Rattle.flow_meaning.specs.Process.{Task, Run, Give, Throw, Catch, Store, Keep, Close, Fire, Drop, Entry, Halt, Core, Proc, Raised}
-use Rattle.flow_meaning.specs.Occ.{Scan, Occ, one, count_maybe, count_kept, in_entries, in_ports, scan_of}
+use Rattle.flow_meaning.specs.References.{Scan, reference_count, one, count_maybe, count_kept, in_entries, in_ports, scan_of}
 use Rattle.flow_meaning.specs.Orderly.{Orderly, Rising}
 use Rattle.flow_meaning.specs.Work.{turn, fill, free, new_cell, pushed, writes, owner, first_ready, is_ready_at, leave_for}
 use Rattle.flow_meaning.specs.Effects.{Reaction, result_task, push_result, gives_open, empty_cell, between, is_port, open_port, judged, ask_disk, effect}
@@ -29,7 +29,7 @@ use Rattle.flow_meaning.proofs.Posture.{Unless, unless, unless_map, after_turn}
 use Rattle.flow_meaning.proofs.Shifts.{owned, same_of}
 use Rattle.flow_meaning.proofs.InOrder.{no_thing}
 use Rattle.flow_picture.specs.Alone.{spares, results_at, owners_of, Alone, OwnedOnce}
-use Rattle.flow_picture.specs.Keeps.{Tied}
+use Rattle.flow_picture.specs.CellsTied.{CellsTied}
 use Rattle.flow_picture.specs.Lonely.{OwnedAlone}
 use Rattle.flow_picture.specs.Naming.{CellNamed, OutcomeNamed, ContentNamed, Each, CellsNamed, MemoryNamed}
 use Rattle.flow_picture.specs.Rested.{IsUnset}
@@ -56,13 +56,13 @@ module _ (k : ℕ) where
   results_least [] = omega arith
   results_least (x ∷ es) = let a = results_least es in let b = count_kept PromiseSide k x.1.suspended x.1.operands in omega (arith, a)
 
-  least : (scan : Scan) (c : Core) → awaited k c ≤ Occ scan PromiseSide k c
+  least : (scan : Scan) (c : Core) → awaited k c ≤ reference_count scan PromiseSide k c
   least scan c = let a = results_least c.entries in omega (arith, a)
 
-  gone : (scan : Scan) (c : Core) (j : ℕ) → Occ scan PromiseSide j c ≡ 0 → j ≡ k → Waits k c → ⊥
+  gone : (scan : Scan) (c : Core) (j : ℕ) → reference_count scan PromiseSide j c ≡ 0 → j ≡ k → Waits k c → ⊥
   gone scan c j z e w =
       let a = least scan c in
-      let b = subst (λ n. Occ scan PromiseSide n c ≡ 0) e z in omega (arith, a, b, w)
+      let b = subst (λ n. reference_count scan PromiseSide n c ≡ 0) e z in omega (arith, a, b, w)
 
   -- and no port's stream
   port_counts : (ps : Numbered ℕ) (port : ℕ) → port_of k ps ≡ Some port → 0 < in_ports PromiseSide k ps
@@ -96,7 +96,7 @@ module _ (k : ℕ) where
       by_test false q = refl
 
   -- a lost reference
-  suffer_free : (scan : Scan) (s : Side) (j m n : ℕ) (cell : Cell) (c : Core) → Occ scan PromiseSide j c ≡ m → Rising 0 c.started c.entries → OwnedOnce c → P k c
+  suffer_free : (scan : Scan) (s : Side) (j m n : ℕ) (cell : Cell) (c : Core) → reference_count scan PromiseSide j c ≡ m → Rising 0 c.started c.entries → OwnedOnce c → P k c
       → Unless (P k) (suffer j (loss s m n cell (owner j c.entries) (port_of j c.ports)) c)
   suffer_free scan PromiseSide j zero zero cell c z up once h = free_free k j c (gone scan c j z) h
   suffer_free scan FutureSide j zero zero cell c z up once h = free_free k j c (gone scan c j z) h
@@ -122,7 +122,7 @@ module _ (k : ℕ) where
     where
       by_cell : (x : Option Cell) → Unless (P k) (lose_cell scan s j x c)
       by_cell None = tt
-      by_cell (Some cell) = suffer_free scan s j (Occ scan PromiseSide j c) (Occ scan FutureSide j c) cell c refl up once h
+      by_cell (Some cell) = suffer_free scan s j (reference_count scan PromiseSide j c) (reference_count scan FutureSide j c) cell c refl up once h
 
   fire_free : (scan : Scan) (j : ℕ) (c : Core) → Rising 0 c.started c.entries → OwnedOnce c → P k c → Unless (P k) (Rattle.flow_meaning.specs.Dropping.fire scan j c)
   fire_free scan j c up once h = by_cell (thing c.cells j) refl
@@ -165,7 +165,7 @@ module _ (k : ℕ) where
 
       by_result : (d : Core) (x : Option ℕ) → e.result ≡ x → awaited k d ≡ awaited k (record c { entries = removed c.entries i }) → d.cells ≡ c.cells → Unless (P k) (give_result scan x o d)
       by_result d None own same cells = unless d.halted (still d same cells)
-      by_result d (Some j) own same cells = by_futures d same cells j own (Occ scan FutureSide j d)
+      by_result d (Some j) own same cells = by_futures d same cells j own (reference_count scan FutureSide j d)
 
   -- sends and prints
   send_free : (i j : ℕ) (o : OutcomeTree) (c : Core) → (j ≡ k → Waits k c → ⊥) → P k c → Unless (P k) (send_in (thing c.cells j) i j o c)
@@ -193,7 +193,7 @@ module _ (k : ℕ) where
   NotTo c (Sends j o) = j ≡ k → Waits k c → ⊥
   NotTo c _ = Unit {0}
 
-  module _ (c : Core) (tied : Tied c) (h : P k c) where
+  module _ (c : Core) (tied : CellsTied c) (h : P k c) where
     unmade : suc c.made ≡ k → Waits k c → ⊥
     unmade e w =
         let l : c.made < k = omega (arith, e) in
@@ -292,7 +292,7 @@ module _ (k : ℕ) where
   not_to c RunsOut n = tt
   not_to c Stuck n = tt
 
-  tied_with : (c : Core) (ts : List Task) (left : ℕ) → Tied c → Tied (record c { tasks = ts; left = left })
+  tied_with : (c : Core) (ts : List Task) (left : ℕ) → CellsTied c → CellsTied (record c { tasks = ts; left = left })
   tied_with c ts left t = let n = t.numbers in record { agree = t.agree; numbers = record { ports = n.ports; cells = n.cells; requests = n.requests }; once = t.once }
 
   seen : (c : Core) → CellsNamed (spares k) c.cells → (j : ℕ) (v : ValueTree) → Rattle.flow_meaning.specs.Cells.outcome (thing c.cells j) ≡ Some (GoodOutcome v) → Named (spares k) v
@@ -307,7 +307,7 @@ module _ (k : ℕ) where
       by_cell (Some (Single content ws)) q f = by_content content (each_at (CellNamed (spares k)) c.cells j (Single content ws) n q) f
       by_cell (Some (Stream vs x w)) q f = absurd (no_thing f)
 
-  module _ (r : RawTree) (s : Supply) (c : Core) (xs : Numbered Frame) (o : Orderly c) (t : Tied c) (alone : OwnedAlone (proc c xs)) (h : P k c) where
+  module _ (r : RawTree) (s : Supply) (c : Core) (xs : Numbered Frame) (o : Orderly c) (t : CellsTied c) (alone : OwnedAlone (proc c xs)) (h : P k c) where
     abbrev Good : Stepped Frame → Type 0
     Good q = Unless (P k) q.0.core
 
@@ -417,5 +417,5 @@ module _ (k : ℕ) where
     if_good (Some x) = tt
     if_good None = tasks_good c.tasks
 
-  pub step_free : (r : RawTree) (s : Supply) (p : Proc Frame) (q : Stepped Frame) → Orderly p.core → Tied p.core → OwnedAlone p → P k p.core → step (classes r) s p ≡ Some q → Unless (P k) q.0.core
+  pub step_free : (r : RawTree) (s : Supply) (p : Proc Frame) (q : Stepped Frame) → Orderly p.core → CellsTied p.core → OwnedAlone p → P k p.core → step (classes r) s p ≡ Some q → Unless (P k) q.0.core
   step_free r s p q o t alone h e = subst (MaybeGood r s p.core p.actors o t alone h) e (if_good r s p.core p.actors o t alone h p.core.halted)

@@ -8,19 +8,19 @@ use Rattle.std.specs.declared.option.Option.TheVariants.{Some}
 use Rattle.flow_class.specs.Classes.{RawTree}
 use Rattle.flow_numbered.specs.Numbered.{thing}
 use Rattle.flow_meaning.specs.Cells.{PromiseSide}
-use Rattle.flow_meaning.specs.Asks.{Supply}
+use Rattle.flow_meaning.specs.Requests.{Supply}
 use Rattle.flow_meaning.specs.Process.{Core, Proc}
 use Rattle.flow_meaning.specs.Orderly.{Orderly, UnlessStopped}
 use Rattle.flow_meaning.specs.Step.{Stepped, step}
 use Rattle.flow_meaning.specs.Class.{classes}
 use Rattle.flow_meaning.specs.Outside.{What}
-use Rattle.flow_meaning.specs.Occ.{in_requests}
+use Rattle.flow_meaning.specs.References.{in_requests}
 use Rattle.flow_meaning.specs.World.{Place, World}
 use Rattle.flow_meaning.specs.Runs.{ClassStates}
 use Rattle.flow_meaning.specs.Frame.{Frame}
 use Rattle.flow_picture.specs.Rested.{IsUnset, Owned}
 use Rattle.flow_picture.specs.Alone.{results_at}
-use Rattle.flow_picture.specs.Keeps.{Tied}
+use Rattle.flow_picture.specs.CellsTied.{CellsTied}
 use Rattle.flow_picture.specs.Lonely.{OwnedAlone}
 use Rattle.flow_runs.specs.Among.{FitsAmong}
 
@@ -36,7 +36,7 @@ Unset c = (k : ℕ) → 0 < awaited k c → IsUnset (thing c.cells k)
 -- made a cell for.
 abbrev pub StepsUnset : Type 0
 StepsUnset =
-    (r : RawTree) (s : Supply) (p : Proc Frame) (q : Stepped Frame) → Orderly p.core → Tied p.core
+    (r : RawTree) (s : Supply) (p : Proc Frame) (q : Stepped Frame) → Orderly p.core → CellsTied p.core
     → OwnedAlone p → Unset p.core → step (classes r) s p ≡ Some q
     → UnlessStopped q.0.core.halted (Unset q.0.core)
 

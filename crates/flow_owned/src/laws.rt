@@ -8,7 +8,7 @@ ghost use Rattle.flow_owned.specs.Unset.{StepsUnset, ProcessesOwn, StatesOwn};
 /// it so, of any classes. So a process of valid classes owns what it made a cell for: the cell is an unset
 /// single result, or of a port a stream, and its promise side is referred to once. It is so of each
 /// process at each boundary of a run in the world of a file in range.
-pub fn owned_kept()
+pub fn processes_own_their_cells()
     ensures steps { StepsUnset }
     ensures processes { ProcessesOwn }
     ensures states { (r : RawTree) → AreValid r → StatesOwn r }

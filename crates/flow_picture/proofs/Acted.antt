@@ -15,19 +15,19 @@ use Rattle.flow_cell.specs.Cells.{CellTree}
 use Rattle.flow_frame.specs.Frames.{FrameTree, fresh, padded}
 use Rattle.flow_cancel.specs.Heap.{HeapTree, cell_id, next_cell, next_actor, new_note, started, promised, promised_at}
 use Rattle.flow_numbered.specs.Numbered.{Numbered, thing, added, put, removed}
-use Rattle.flow_meaning.specs.Asks.{Spot}
+use Rattle.flow_meaning.specs.Requests.{Spot}
 use Rattle.flow_meaning.specs.Process.{Entry, Proc}
 use Rattle.flow_meaning.specs.Step.{kept_by, entry_of}
 use Rattle.flow_meaning.specs.Views.{spot_at}
 use Rattle.flow_meaning.specs.Frame.{Frame, blanks}
 use Rattle.flow_meaning.proofs.Posture.{each_number, thing_put, thing_put_other, thing_added, thing_removed_other}
-use Rattle.flow_picture.specs.Shows.{Shows, OneActor, stands, here, wait_spot, spot_of_actor}
+use Rattle.flow_picture.specs.Representing.{Represents, OneActor, stands, here, wait_spot, spot_of_actor}
 use Rattle.flow_picture.specs.Acting as change
 use Rattle.flow_picture.specs.Acting.{Free, At, actor_put, put_actor, frame_put, put_frame, blank, with_actor, without_actor}
 use Rattle.flow_picture.proofs.Tasks.{tasks_aside, tasks_same}
 use Rattle.flow_picture.proofs.Waits.{cells_aside, cells_same}
-use Rattle.flow_picture.proofs.Cells.{CellsShow, single_kept}
-use Rattle.flow_picture.proofs.Actors.{ActorsShow, actor_put as put_all, actor_added, actor_gone}
+use Rattle.flow_picture.proofs.Cells.{CellsRepresent, single_kept}
+use Rattle.flow_picture.proofs.Actors.{ActorsRepresent, actor_put as put_all, actor_added, actor_gone}
 use Rattle.flow_picture.proofs.Finds.{none_above}
 
 -- what is put again where it stood changes nothing
@@ -84,12 +84,12 @@ module _ (r : RawTree) (h : HeapTree) (p : Proc Frame) where
   }
 
   -- only the frame
-  same_actor : (i : ℕ) (m : FrameTree Value) (f : Frame) (at : At r h p i) → Shows r (actor_put i at.note m h) (put_actor i at.entry f p) → Shows r (frame_put i m h) (put_frame i f p)
+  same_actor : (i : ℕ) (m : FrameTree Value) (f : Frame) (at : At r h p i) → Represents r (actor_put i at.note m h) (put_actor i at.entry f p) → Represents r (frame_put i m h) (put_frame i f p)
   same_actor i m f at s =
       let a = put_same h.actors.things i at.note at.noted in
       let b = same_put p.core.entries i at.entry at.entered in
-      subst (λ es. Shows r (frame_put i m h) (record p { core = record p.core { entries = es }; actors = put p.actors i f })) b
-      (subst (λ ns. Shows r (record h { actors = record h.actors { things = ns }; frames = stored.with_thing h.frames i m }) (put_actor i at.entry f p)) a s)
+      subst (λ es. Represents r (frame_put i m h) (record p { core = record p.core { entries = es }; actors = put p.actors i f })) b
+      (subst (λ ns. Represents r (record h { actors = record h.actors { things = ns }; frames = stored.with_thing h.frames i m }) (put_actor i at.entry f p)) a s)
 
   pub frame_moved : change.FrameMoved r h p
   frame_moved i m f s at now free = same_actor i m f at (actor_moved i at.note m at.entry f s at now free)
@@ -131,7 +131,7 @@ module _ (r : RawTree) (h : HeapTree) (p : Proc Frame) where
     });
   }
 
-  promise_more : (k : ℕ) (o : Option (CellTree Outcome)) → stored.thing h.cells.things k ≡ o → CellsShow spots h.cells.things h.streams.things p.core.cells → CellsShow spots (promised_at k o h.cells).things h.streams.things p.core.cells
+  promise_more : (k : ℕ) (o : Option (CellTree Outcome)) → stored.thing h.cells.things k ≡ o → CellsRepresent spots h.cells.things h.streams.things p.core.cells → CellsRepresent spots (promised_at k o h.cells).things h.streams.things p.core.cells
   promise_more k None e all = all
   promise_more k (Some m) e all = single_kept spots h.cells.things h.streams.things p.core.cells all k m (promised m) e refl refl
 
@@ -149,7 +149,7 @@ module _ (r : RawTree) (h : HeapTree) (p : Proc Frame) where
       let g = entry_of class k in record {
         cells = cells_aside spots (spot_of_actor (added p.actors i f)) i (λ j d. (other_new g f j d).0) (started class places (Some (cell_id k)) h).cells.things h.streams.things p.core.cells free.waits
             (promise_more k (stored.thing h.cells.things k) refl s.cells);
-        actors = subst (λ x. ActorsShow r (stored.added h.actors.things x (new_note (Some (cell_id k)))) (stored.added h.frames.things x (fresh class places)) (added p.core.entries i g) (added p.actors i f)) (sym s.started)
+        actors = subst (λ x. ActorsRepresent r (stored.added h.actors.things x (new_note (Some (cell_id k)))) (stored.added h.frames.things x (fresh class places)) (added p.core.entries i g) (added p.actors i f)) (sym s.started)
             (actor_added r h.actors.things h.frames.things p.core.entries p.actors s.actors i (none_above p.core.entries 0 p.core.started i rising (omega arith)) (new_note (Some (cell_id k))) (fresh class places) g f
             (new_actor class places k c e n));
         tasks = tasks_aside spots (spot_of_actor (added p.actors i f)) kept (λ j. kept_by (thing (added p.core.entries i g) j)) i (other_new g f) h.tasks p.core.tasks free.keeps s.tasks;

@@ -20,7 +20,7 @@ use Rattle.flow_meaning.specs.Cells.{Side, PromiseSide, FutureSide, Cell, Single
 use Rattle.flow_meaning.specs.Process.{Entry, Proc}
 use Rattle.flow_meaning.specs.Frame.{Frame}
 use Rattle.flow_meaning.proofs.Posture.{each_number}
-use Rattle.flow_picture.specs.Shows.{CellShows, spot_of_actor, cell_number}
+use Rattle.flow_picture.specs.Representing.{CellRepresents, spot_of_actor, cell_number}
 use Rattle.flow_picture.specs.Counted.{memory_side, count_at, references, nothing_in_hand, Counted}
 use Rattle.flow_picture.specs.Alive as law
 use Rattle.flow_picture.specs.Alive.{AliveAt, Alive, AliveBut, HasFuture, WantedBut, Wanted}
@@ -28,7 +28,7 @@ use Rattle.flow_picture.proofs.Finds.{stored_other, stored_put, stored_added}
 use Rattle.flow_picture.proofs.Actors.{by_entry}
 
 -- what is counted of a cell on both sides
-counted_there : (m : Option (CellTree Outcome)) (s : Option (StreamTree Value)) (spots : ℕ → _) (c : Cell) → CellShows spots m s (Some c) → AliveAt m s → 0 < count_at PromiseSide m s + count_at FutureSide m s
+counted_there : (m : Option (CellTree Outcome)) (s : Option (StreamTree Value)) (spots : ℕ → _) (c : Cell) → CellRepresents spots m s (Some c) → AliveAt m s → 0 < count_at PromiseSide m s + count_at FutureSide m s
 counted_there (Some m) None spots (Single o ws) h a = a
 counted_there None (Some s) spots (Stream q e w) h a = a
 counted_there None None spots c h a = absurd h
@@ -39,7 +39,7 @@ counted_there (Some m) (Some s) spots c h a = absurd h
 module _ (r : RawTree) (h : HeapTree) (p : Proc Frame) where
   pub alive_shown : law.AliveShown r h p
   alive_shown s counted alive k c at =
-      let a = counted_there (stored.thing h.cells.things k) (stored.thing h.streams.things k) (spot_of_actor p.actors) c (subst (CellShows (spot_of_actor p.actors) (stored.thing h.cells.things k) (stored.thing h.streams.things k)) at (s.cells k)) (alive k) in
+      let a = counted_there (stored.thing h.cells.things k) (stored.thing h.streams.things k) (spot_of_actor p.actors) c (subst (CellRepresents (spot_of_actor p.actors) (stored.thing h.cells.things k) (stored.thing h.streams.things k)) at (s.cells k)) (alive k) in
       let b = counted PromiseSide k in
       let d = counted FutureSide k in omega (arith, a, b, d)
 

@@ -8,9 +8,9 @@ use Rattle.flow_value.specs.Values.{ValueTree, refs_of}
 use Rattle.flow_references.specs.Named.{GivesFutures, AllNamed}
 use Rattle.flow_numbered.specs.Numbered.{Numbered}
 use Rattle.flow_meaning.specs.Cells.{PromiseSide, FutureSide, side_of, Ref, Waiter, Cell, waiters, held}
-use Rattle.flow_meaning.specs.Asks.{Start, Delay, Never, Listen, Disk, Make, Draw}
+use Rattle.flow_meaning.specs.Requests.{Start, Delay, Never, Listen, Disk, Make, Draw}
 use Rattle.flow_meaning.specs.Process.{Task, Run, Give, Throw, Catch, Store, Keep, Close, Fire, Drop, Entry}
-use Rattle.flow_meaning.specs.Occ.{same_side, refs_in, value_in, one, count, count_maybe, count_waiters, count_kept, in_cells, in_entries, in_task, in_tasks}
+use Rattle.flow_meaning.specs.References.{same_side, refs_in, value_in, one, count, count_maybe, count_waiters, count_kept, in_cells, in_entries, in_task, in_tasks}
 use Rattle.flow_meaning.specs.Frame.{Frame, everything}
 use Rattle.flow_picture.specs.Counted.{frames_hold}
 use Rattle.flow_picture.specs.Naming.{RefNamed, RefsNamed, CellsNamed, EntriesNamed, TaskNamed, TasksNamed, FramesNamed, HoldsNext}

@@ -21,7 +21,7 @@ use Rattle.flow_meaning.specs.Deliver.{closed_request}
 use Rattle.flow_meaning.specs.Frame.{Frame}
 use Rattle.flow_meaning.proofs.Posture.{same_number, each_number, other_number}
 use Rattle.flow_meaning.specs.Step.{on_core}
-use Rattle.flow_picture.specs.Shows.{Shows, nobody, cell_number}
+use Rattle.flow_picture.specs.Representing.{Represents, nobody, cell_number}
 use Rattle.flow_picture.specs.Rested.{NumbersRise, PortsRise, OneEach}
 use Rattle.flow_picture.specs.Beside as change
 
@@ -127,8 +127,8 @@ one_each (x ∷ xs) above n h q k e = by_test (nat_eq k x.1) refl e (one_each xs
 
 module _ (r : RawTree) (h : HeapTree) (p : Proc Frame) where
   -- with another hold, other ports and other requests
-  with_others : (o : Option CellId) (ps rs : List ℕ) (m : Option ℕ) (xs : Numbered ℕ) (qs : List ℕ) → Shows r h p → m ≡ option_map cell_number o → ((k : ℕ) → has_number ps k ≡ is_some (port_of k xs)) → qs ≡ rs
-      → Shows r (record h { main = o; ports = ps; requests = rs }) (on_core (λ c. record c { main = m; ports = xs; requests = qs }) p)
+  with_others : (o : Option CellId) (ps rs : List ℕ) (m : Option ℕ) (xs : Numbered ℕ) (qs : List ℕ) → Represents r h p → m ≡ option_map cell_number o → ((k : ℕ) → has_number ps k ≡ is_some (port_of k xs)) → qs ≡ rs
+      → Represents r (record h { main = o; ports = ps; requests = rs }) (on_core (λ c. record c { main = m; ports = xs; requests = qs }) p)
   with_others o ps rs m xs qs s a b c =
       record { cells = s.cells; actors = s.actors; tasks = s.tasks; made = s.made; started = s.started; main = a; ports = b; requests = c }
 

@@ -9,7 +9,7 @@ use Rattle.flow_meaning.specs.Cells.{PromiseSide, FutureSide}
 use Rattle.flow_meaning.specs.Process.{Entry}
 use Rattle.flow_meaning.specs.Orderly.{is_suspended, tasks_of, Stands, Orderly}
 use Rattle.flow_meaning.proofs.Posture.{other_number, each_number}
-use Rattle.flow_picture.specs.Shows.{Shows, CellShows, ActorShows, nobody, somebody, stands, at_wait, spot_of_actor}
+use Rattle.flow_picture.specs.Representing.{Represents, CellRepresents, ActorRepresents, nobody, somebody, stands, at_wait, spot_of_actor}
 use Rattle.flow_picture.specs.Counted.{kept_count, references, nothing_in_hand, Counted, branches_of, branches_at, waiters_at, waiting_of, Agree}
 use Rattle.flow_picture.specs.Rested.{has, IsUnset, Owned}
 use Rattle.flow_picture.specs.Example.{waiting_classes, waiting_heap, waiting_process, WaitingRests}
@@ -25,13 +25,13 @@ one_two P a b rest = each_number 1 P a (λ k n. by_two k (other_number 1 k n))
         by_test true f = let same : 2 ≡ k = grind (arith, nat_tests) in subst P same b
         by_test false f = rest k e f
 
-shown : Shows waiting_classes waiting_heap waiting_process
+shown : Represents waiting_classes waiting_heap waiting_process
 shown = record {
   cells =
-      one_two (λ k. CellShows (spot_of_actor waiting_process.actors) (stored.thing waiting_heap.cells.things k) (stored.thing waiting_heap.streams.things k) (thing waiting_process.core.cells k)) (refl, refl) (refl, refl)
+      one_two (λ k. CellRepresents (spot_of_actor waiting_process.actors) (stored.thing waiting_heap.cells.things k) (stored.thing waiting_heap.streams.things k) (thing waiting_process.core.cells k)) (refl, refl) (refl, refl)
       (λ k a b. rw (a, b) tt);
   actors =
-      one_two (λ i. ActorShows waiting_classes (stored.thing waiting_heap.actors.things i) (stored.thing waiting_heap.frames.things i) (thing waiting_process.core.entries i) (thing waiting_process.actors i))
+      one_two (λ i. ActorRepresents waiting_classes (stored.thing waiting_heap.actors.things i) (stored.thing waiting_heap.frames.things i) (thing waiting_process.core.entries i) (thing waiting_process.actors i))
       (somebody (record {
         note = _;
         memory = _;

@@ -32,11 +32,11 @@ use Rattle.flow_meaning.specs.Dropping.{Loss, Kept, Freed, Broken, Orphan, Unhea
 use Rattle.flow_meaning.specs.Step.{proc, on_core}
 use Rattle.flow_meaning.specs.Frame.{Frame}
 use Rattle.flow_meaning.proofs.Posture.{each_number, thing_put, thing_put_other}
-use Rattle.flow_picture.specs.Shows.{Shows}
+use Rattle.flow_picture.specs.Representing.{Represents}
 use Rattle.flow_picture.specs.Counted.{kept_count, references, frames_hold, nothing_in_hand, branches_at, waiting_by, waiting_of, Agree}
 use Rattle.flow_picture.specs.Acting.{NoKeep, At}
 use Rattle.flow_picture.specs.Leaving.{MayLeave, first_part}
-use Rattle.flow_picture.specs.Losing.{RightCell, Same, Follows}
+use Rattle.flow_picture.specs.Losing.{RightCell, Same, LossMatches}
 use Rattle.flow_picture.specs.Holds as law
 use Rattle.flow_picture.specs.Holds.{Holds, with_refs, lost_further, filled_in, MayWait}
 use Rattle.flow_picture.proofs.Actors.{by_entry}
@@ -117,7 +117,7 @@ module _ (r : RawTree) (h : HeapTree) (p : Proc Frame) where
   }
 
   -- lines and turns are seen in the process alone
-  pub aside : (ls : List Line) (n : ℕ) → Shows r h p → Shows r h (on_core (λ c. record c { lines = ls; left = n }) p)
+  pub aside : (ls : List Line) (n : ℕ) → Represents r h p → Represents r h (on_core (λ c. record c { lines = ls; left = n }) p)
   aside ls n s = record { cells = s.cells; actors = s.actors; tasks = s.tasks; made = s.made; started = s.started; main = s.main; ports = s.ports; requests = s.requests }
 
 -- a cancelled actor's references
@@ -198,7 +198,7 @@ module _ (r : RawTree) (h : HeapTree) (p : Proc Frame) where
       subst (λ y. Same r (cancelled i g) (on_core (cancel i y) p)) same
       (same_of (cancelled i g) (on_core (cancel i b.entry) p) (actor_cancelled r g p nothing_in_hand i (record { shows = s.0; counted = s.1 }) w b))
 
-  done : (kd : Kind) (k n : ℕ) (c : Cell) (x : Lost) (y : Loss) → Follows r p k x y → MayWait p.core → thing p.core.cells k ≡ Some c → RightCell kd c → (y ≡ Broken → is_complete c ≡ false) → p.core.left ≡ suc n
+  done : (kd : Kind) (k n : ℕ) (c : Cell) (x : Lost) (y : Loss) → LossMatches r p k x y → MayWait p.core → thing p.core.cells k ≡ Some c → RightCell kd c → (y ≡ Broken → is_complete c ≡ false) → p.core.left ≡ suc n
       → Same r (lost_further kd k x) (on_core (suffer k y) p)
   done kd k n c (g, after.Nothing) Kept f w at t open_ left = f
   done kd k n c (g, after.Nothing) Freed f w at t open_ left = absurd f

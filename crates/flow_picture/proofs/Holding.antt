@@ -11,7 +11,7 @@ use Rattle.flow_eval.specs.Records.{value_at, value_put, at_place, field_place}
 use Rattle.flow_eval.specs.Functions.{put_in, read_in, place_of}
 use Rattle.flow_eval.specs.Functions as eval
 use Rattle.flow_meaning.specs.Cells.{Side}
-use Rattle.flow_meaning.specs.Occ.{count, refs_in}
+use Rattle.flow_meaning.specs.References.{count, refs_in}
 use Rattle.flow_meaning.specs.Variables.{filled, flat}
 use Rattle.flow_meaning.specs.Frame.{Memory, read, write, held_in, reversed, blanks, all_emptied, occ_memory, put_root}
 use Rattle.flow_meaning.proofs.Shifts.{same_of}

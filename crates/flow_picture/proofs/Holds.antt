@@ -20,12 +20,12 @@ use Rattle.flow_cancel.specs.Heap.{HeapTree, actor_id, pushed}
 use Rattle.flow_numbered.specs.Numbered.{thing}
 use Rattle.flow_meaning.specs.Cells.{Side, PromiseSide, FutureSide, Waiter, Cell, Single, Stream, is_complete}
 use Rattle.flow_meaning.specs.Process.{Task, Run, Proc}
-use Rattle.flow_meaning.specs.Occ.{Scan, one, refs_in, value_in, in_task}
+use Rattle.flow_meaning.specs.References.{Scan, one, refs_in, value_in, in_task}
 use Rattle.flow_meaning.specs.Work as work
 use Rattle.flow_meaning.specs.Work.{fill}
 use Rattle.flow_meaning.specs.Step.{on_core}
 use Rattle.flow_meaning.specs.Frame.{Frame}
-use Rattle.flow_picture.specs.Shows.{Shows, CellShows, spot_of_actor}
+use Rattle.flow_picture.specs.Representing.{Represents, CellRepresents, spot_of_actor}
 use Rattle.flow_picture.specs.Counted.{memory_side, references}
 use Rattle.flow_picture.specs.Changes.{SameTask, cell_put, stream_put, fire}
 use Rattle.flow_picture.specs.Losing.{RightCell}
@@ -48,15 +48,15 @@ pushed_stream s k None t h = refl
 pushed_stream s k (Some m) t h = refl
 
 module _ (r : RawTree) (h : HeapTree) (p : Proc Frame) where
-  found_single : (k : ℕ) (o : Option OutcomeTree) (ws : List Waiter) → Shows r h p → thing p.core.cells k ≡ Some (Single o ws) → (m : CellTree Outcome) × (stored.thing h.cells.things k ≡ Some m)
+  found_single : (k : ℕ) (o : Option OutcomeTree) (ws : List Waiter) → Represents r h p → thing p.core.cells k ≡ Some (Single o ws) → (m : CellTree Outcome) × (stored.thing h.cells.things k ≡ Some m)
   found_single k o ws s at =
       memory_single (spot_of_actor p.actors) (stored.thing h.cells.things k) (stored.thing h.streams.things k) o ws
-      (subst (CellShows (spot_of_actor p.actors) (stored.thing h.cells.things k) (stored.thing h.streams.things k)) at (s.cells k))
+      (subst (CellRepresents (spot_of_actor p.actors) (stored.thing h.cells.things k) (stored.thing h.streams.things k)) at (s.cells k))
 
-  found_stream : (k : ℕ) (q : List ValueTree) (e : Option ℕ) (w : Option Waiter) → Shows r h p → thing p.core.cells k ≡ Some (Stream q e w) → (m : StreamTree Value) × (stored.thing h.streams.things k ≡ Some m)
+  found_stream : (k : ℕ) (q : List ValueTree) (e : Option ℕ) (w : Option Waiter) → Represents r h p → thing p.core.cells k ≡ Some (Stream q e w) → (m : StreamTree Value) × (stored.thing h.streams.things k ≡ Some m)
   found_stream k q e w s at =
       memory_stream (spot_of_actor p.actors) (stored.thing h.cells.things k) (stored.thing h.streams.things k) q e w
-      (subst (CellShows (spot_of_actor p.actors) (stored.thing h.cells.things k) (stored.thing h.streams.things k)) at (s.cells k))
+      (subst (CellRepresents (spot_of_actor p.actors) (stored.thing h.cells.things k) (stored.thing h.streams.things k)) at (s.cells k))
 
   -- a reference counts
   single_held : (x : Scan) (side : Side) (k : ℕ) (m : CellTree Outcome) → Holds r x h p → stored.thing h.cells.things k ≡ Some m → Holds r (λ s j. one s j side k + 0 + x s j) (held_cell (memory_side side) k (stored.thing h.cells.things k) h) p
@@ -122,7 +122,7 @@ module _ (r : RawTree) (h : HeapTree) (p : Proc Frame) where
       there : stored.thing (stored.put h.cells.things k n) k ≡ Some n
       there = stored_put h.cells.things k m n e
 
-  send_shows : (k : ℕ) (o : Outcome) (m : StreamTree Value) → Shows r h p → stored.thing h.streams.things k ≡ Some m → Shows r (pushed (fire k) (stream_put k (sent o m) h)) (filled_proc k o)
+  send_shows : (k : ℕ) (o : Outcome) (m : StreamTree Value) → Represents r h p → stored.thing h.streams.things k ≡ Some m → Represents r (pushed (fire k) (stream_put k (sent o m) h)) (filled_proc k o)
   send_shows k (outcome.Value v) m s e = stream_sent r h p k m v s e
   send_shows k (outcome.Error x) m s e = stream_ended r h p k m x s e
 

@@ -10,11 +10,11 @@ use Rattle.flow_cell.specs.Cells.{CellTree, Counts, no_counts, count_of, held, r
 use Rattle.flow_stream.specs.Streams.{StreamTree, empty}
 use Rattle.flow_cancel.specs.Heap.{HeapTree, next_cell, with_result, with_stream, without}
 use Rattle.flow_meaning.specs.Cells.{Side, PromiseSide, FutureSide}
-use Rattle.flow_meaning.specs.Occ.{same_side, one}
+use Rattle.flow_meaning.specs.References.{same_side, one}
 use Rattle.flow_meaning.proofs.Posture.{same_number, other_number, each_number}
 use Rattle.flow_picture.specs.Counted.{memory_side, count_at, kept_count}
 use Rattle.flow_picture.specs.Changes.{cell_put, stream_put}
-use Rattle.flow_picture.specs.Keeping as of
+use Rattle.flow_picture.specs.CountChanges as of
 use Rattle.flow_picture.proofs.Finds.{stored_other, stored_put, stored_added, stored_new, stored_removed, stored_gone}
 
 abbrev mark : Bool → Bool → ℕ

@@ -6,8 +6,8 @@ use Rattle.std.specs.declared.option.Option.{Option}
 use Rattle.std.specs.declared.option.Option.TheVariants.{None, Some}
 use Rattle.flow_cell.specs.Waiting.{same_waiter, has_waiter, without_newest}
 use Rattle.flow_meaning.specs.Cells.{Ref, Waiter, as_list, without}
-use Rattle.flow_meaning.specs.Asks.{Spot}
-use Rattle.flow_picture.specs.Shows.{waiter_in}
+use Rattle.flow_meaning.specs.Requests.{Spot}
+use Rattle.flow_picture.specs.Representing.{waiter_in}
 use Rattle.flow_picture.specs.Counted.{branches_of, branches_at}
 use Rattle.flow_picture.specs.Leaving.{first_part}
 

@@ -17,14 +17,14 @@ use Rattle.flow_cancel.specs.Leaving as leaving
 use Rattle.flow_cancel.specs.Leaving.{leave_all, without_callbacks, withdrawn, withdrawn_from, waits, suspended_in, suspended, marked_in, cancelled_by, cancelled}
 use Rattle.flow_numbered.specs.Numbered.{Numbered, thing, put}
 use Rattle.flow_meaning.specs.Cells.{Ref, Waiter, Cell, Single, Stream, as_list, without, without_one, left_by}
-use Rattle.flow_meaning.specs.Asks.{Spot}
+use Rattle.flow_meaning.specs.Requests.{Spot}
 use Rattle.flow_meaning.specs.Process.{Throw, Entry, Proc}
 use Rattle.flow_meaning.specs.Work.{pushed, drops, left_cells, running, marked, cancel_by}
 use Rattle.flow_meaning.specs.Step.{kept_by, on_core, proc}
 use Rattle.flow_meaning.specs.Views.{spot_at}
 use Rattle.flow_meaning.specs.Frame.{Frame}
 use Rattle.flow_meaning.proofs.Posture.{each_number, thing_put, thing_put_other}
-use Rattle.flow_picture.specs.Shows.{Shows, CellShows, held_from, OneActor, stands, ended, FrameShows, Position, here, at_wait, wait_spot, spot_of_actor}
+use Rattle.flow_picture.specs.Representing.{Represents, CellRepresents, held_from, OneActor, stands, ended, FrameRepresents, Position, here, at_wait, wait_spot, spot_of_actor}
 use Rattle.flow_picture.specs.Counted.{branches_of, branches_at, waiters_at}
 use Rattle.flow_picture.specs.Acting.{At}
 use Rattle.flow_picture.specs.Leaving as change
@@ -76,7 +76,7 @@ cell_left i k n rs (Some (Stream q x w)) e =
 pub held_as : (r : RawTree) (n : Note) (m : FrameTree Value) (e : Entry) (f : Frame) → OneActor r n m e f → m.callbacks ≡ held_from (wait_spot f).first e.operands
 held_as r n m e f o = by_frame o.frame
   where
-    by_frame : FrameShows r m e f → m.callbacks ≡ held_from (wait_spot f).first e.operands
+    by_frame : FrameRepresents r m e f → m.callbacks ≡ held_from (wait_spot f).first e.operands
     by_frame (stands s) = s.callbacks
     by_frame (ended x) = x.callbacks ∙ ap (held_from (wait_spot f).first) (sym x.operands)
 
@@ -87,7 +87,7 @@ waits_for_none (suc n) = refl
 pub suspended_as : (r : RawTree) (n : Note) (m : FrameTree Value) (e : Entry) (f : Frame) → OneActor r n m e f → waits m.state m.callbacks ≡ e.suspended
 suspended_as r n m e f o = by_frame o.frame
   where
-    by_frame : FrameShows r m e f → waits m.state m.callbacks ≡ e.suspended
+    by_frame : FrameRepresents r m e f → waits m.state m.callbacks ≡ e.suspended
     by_frame (stands s) = s.suspended
     by_frame (ended x) = ap (waits m.state) x.callbacks ∙ waits_for_none m.state ∙ sym x.suspended
 
@@ -99,7 +99,7 @@ runs r n m e f o = record { class = o.class; result = o.result; marked = o.marke
     position (here a b c) = here a b c
     position (at_wait g a b) = at_wait g a b
 
-    by_frame : FrameShows r m e f → FrameShows r (record m { callbacks = [] }) (running e) f
+    by_frame : FrameRepresents r m e f → FrameRepresents r (record m { callbacks = [] }) (running e) f
     by_frame (stands s) = stands (record {
       code = s.code;
       places = s.places;
@@ -120,7 +120,7 @@ runs r n m e f o = record { class = o.class; result = o.result; marked = o.marke
 marks : (r : RawTree) (n : Note) (m : FrameTree Value) (e : Entry) (f : Frame) → OneActor r n m e f → OneActor r (record n { marked = true }) m (marked e) f
 marks r n m e f o = record { class = o.class; result = o.result; marked = refl; frame = by_frame o.frame }
   where
-    by_frame : FrameShows r m e f → FrameShows r m (marked e) f
+    by_frame : FrameRepresents r m e f → FrameRepresents r m (marked e) f
     by_frame (stands s) = stands (record {
       code = s.code;
       places = s.places;
@@ -156,8 +156,8 @@ module _ (r : RawTree) (h : HeapTree) (p : Proc Frame) where
 
   pub withdrawn_shown : change.Withdrawn r h p
   withdrawn_shown i s at may =
-      subst (λ o. Shows r (withdrawn_from i o h) (on_core (left_wait i at.entry) p)) (sym at.framed)
-      (subst (λ hs. Shows r (leave_all i hs g) (on_core (left_wait i at.entry) p)) (sym (held_as r at.note at.memory at.entry at.frame at.same))
+      subst (λ o. Represents r (withdrawn_from i o h) (on_core (left_wait i at.entry) p)) (sym at.framed)
+      (subst (λ hs. Represents r (leave_all i hs g) (on_core (left_wait i at.entry) p)) (sym (held_as r at.note at.memory at.entry at.frame at.same))
       (whole (leave_all i (held_from (wait_spot at.frame).first at.entry.operands) g)
       (leave_these spots i kept g p.core.cells p.core.tasks s.cells
       (tasks_aside spots spots (λ j. kept_by (thing p.core.entries j)) kept i (kept_others i (running at.entry)) h.tasks p.core.tasks may.keeps s.tasks)
@@ -172,9 +172,9 @@ module _ (r : RawTree) (h : HeapTree) (p : Proc Frame) where
       first_is : {x y : ℕ} → x ≡ y → x ≡ y + 0
       first_is e = omega (arith, e)
 
-      whole : (d : HeapTree) → Left spots i kept d g (λ k. cell_less i (branches_at k 0 at.entry.operands) (thing p.core.cells k)) (drops at.entry.operands p.core.tasks) → Shows r d (on_core (left_wait i at.entry) p)
+      whole : (d : HeapTree) → Left spots i kept d g (λ k. cell_less i (branches_at k 0 at.entry.operands) (thing p.core.cells k)) (drops at.entry.operands p.core.tasks) → Represents r d (on_core (left_wait i at.entry) p)
       whole d l = record {
-        cells = λ k. subst (λ c. CellShows spots (stored.thing d.cells.things k) (stored.thing d.streams.things k) c) (cell_left i k may.many at.entry.operands (thing p.core.cells k) (may.waits k) ∙ sym (found_left i p.core.cells k)) (l.cells k);
+        cells = λ k. subst (λ c. CellRepresents spots (stored.thing d.cells.things k) (stored.thing d.streams.things k) c) (cell_left i k may.many at.entry.operands (thing p.core.cells k) (may.waits k) ∙ sym (found_left i p.core.cells k)) (l.cells k);
         actors = λ j. rw (l.beside.actors, l.beside.frames)
             (entry_put r h.actors.things h.frames.things p.core.entries p.actors s.actors i at (record at.memory { callbacks = [] }) (running at.entry) (runs r at.note at.memory at.entry at.frame at.same) j);
         tasks = l.tasks;
@@ -195,9 +195,9 @@ module _ (r : RawTree) (h : HeapTree) (p : Proc Frame) where
       (refl, ap kept_by (thing_put p.core.entries i e (marked e) at) ∙ sym (ap kept_by at))
       (λ j n. (refl, ap kept_by (thing_put_other p.core.entries i j (marked e) n)))
 
-  mark_shown : (i : ℕ) (s : Shows r h p) (at : At r h p i) → Shows r (leaving.marked i h) (with_mark i at.entry)
+  mark_shown : (i : ℕ) (s : Represents r h p) (at : At r h p i) → Represents r (leaving.marked i h) (with_mark i at.entry)
   mark_shown i s at =
-      subst (λ o. Shows r (record h { actors = marked_in i o h.actors }) (with_mark i at.entry)) (sym at.noted) (record {
+      subst (λ o. Represents r (record h { actors = marked_in i o h.actors }) (with_mark i at.entry)) (sym at.noted) (record {
         cells = s.cells;
         actors = note_put r h.actors.things h.frames.things p.core.entries p.actors s.actors i at (record at.note { marked = true }) (marked at.entry) (marks r at.note at.memory at.entry at.frame at.same);
         tasks = tasks_same spots spots (λ j. kept_by (thing p.core.entries j)) (λ j. kept_by (thing (put p.core.entries i (marked at.entry)) j)) (kept_marked i at.entry at.entered) h.tasks p.core.tasks s.tasks;
@@ -226,8 +226,8 @@ module _ (r : RawTree) (h : HeapTree) (p : Proc Frame) where
     same = marks r at.note at.memory at.entry at.frame at.same;
   }
 
-  gone : (i : ℕ) → Shows r h p → (at : At r h p i) → MayLeave i at.entry.operands p.core
-      → Shows r (withdrawn i (memory.pushed (thrown i) (leaving.marked i h))) (on_core (left_wait i (marked at.entry)) (on_core (pushed (Throw i operation_cancelled)) (with_mark r h p i at.entry)))
+  gone : (i : ℕ) → Represents r h p → (at : At r h p i) → MayLeave i at.entry.operands p.core
+      → Represents r (withdrawn i (memory.pushed (thrown i) (leaving.marked i h))) (on_core (left_wait i (marked at.entry)) (on_core (pushed (Throw i operation_cancelled)) (with_mark r h p i at.entry)))
   gone i s at may =
       withdrawn_shown r (memory.pushed (thrown i) (leaving.marked i h)) (on_core (pushed (Throw i operation_cancelled)) (with_mark r h p i at.entry)) i
       (pushed_shown r (leaving.marked i h) (with_mark r h p i at.entry) (thrown i) (Throw i operation_cancelled) (mark_shown r h p i s at) refl)
@@ -236,12 +236,12 @@ module _ (r : RawTree) (h : HeapTree) (p : Proc Frame) where
 
   pub cancelled_shown : change.Cancelled r h p
   cancelled_shown i s at may =
-      subst (λ b. Shows r (cancelled_by b i (leaving.marked i h)) (on_core (cancel_by at.entry.suspended i at.entry) p))
+      subst (λ b. Represents r (cancelled_by b i (leaving.marked i h)) (on_core (cancel_by at.entry.suspended i at.entry) p))
       (sym (ap suspended_in at.framed ∙ suspended_as r at.note at.memory at.entry at.frame at.same)) (by_flag at.entry.suspended refl)
     where
-      by_flag : (b : Bool) → at.entry.suspended ≡ b → Shows r (cancelled_by b i (leaving.marked i h)) (on_core (cancel_by b i at.entry) p)
+      by_flag : (b : Bool) → at.entry.suspended ≡ b → Represents r (cancelled_by b i (leaving.marked i h)) (on_core (cancel_by b i at.entry) p)
       by_flag false e = mark_shown r h p i s at
       by_flag true e =
-          subst (λ es. Shows r (withdrawn i (memory.pushed (thrown i) (leaving.marked i h)))
+          subst (λ es. Represents r (withdrawn i (memory.pushed (thrown i) (leaving.marked i h)))
           (proc (record p.core { cells = left_cells i p.core.cells; entries = es; tasks = drops at.entry.operands (Throw i operation_cancelled ∷ p.core.tasks) }) p.actors))
           (put_twice p.core.entries i (marked at.entry) (running (marked at.entry))) (gone i s at (may e))

@@ -8,9 +8,9 @@ use Rattle.flow_value.specs.declared.value.Kind.{Kind}
 use Rattle.flow_class.specs.Classes.{RawTree}
 use Rattle.flow_numbered.specs.Numbered.{Numbered, thing, put}
 use Rattle.flow_meaning.specs.Cells.{PromiseSide, side_of, Cell}
-use Rattle.flow_meaning.specs.Asks.{Act, Effects, Make, Start, Draw, Delay, Never, Listen, Disk, Goal, Stored, Kept, Ask, Supply}
+use Rattle.flow_meaning.specs.Requests.{Act, Effects, Make, Start, Draw, Delay, Never, Listen, Disk, Goal, Stored, Kept, Ask, Supply}
 use Rattle.flow_meaning.specs.Process.{Task, Run, Give, Throw, Catch, Store, Keep, Close, Fire, Drop, Halt, Core}
-use Rattle.flow_meaning.specs.Occ.{same_side}
+use Rattle.flow_meaning.specs.References.{same_side}
 use Rattle.flow_meaning.specs.Effects.{gives_new, empty_cell}
 use Rattle.flow_meaning.specs.Step.{proc, Stepped, view, answer, run_next, run, step_tasks, step_if}
 use Rattle.flow_meaning.specs.Class.{classes}

@@ -9,7 +9,7 @@ use Rattle.flow_value.specs.Values.{IntValue, OutcomeTree}
 use Rattle.flow_numbered.specs.Numbered.{thing}
 use Rattle.flow_meaning.specs.Cells.{PromiseSide, Cell}
 use Rattle.flow_meaning.specs.Process.{Drop, Halt, Core}
-use Rattle.flow_meaning.specs.Occ.{one, in_requests}
+use Rattle.flow_meaning.specs.References.{one, in_requests}
 use Rattle.flow_meaning.specs.Orderly.{UnlessStopped}
 use Rattle.flow_meaning.specs.Work.{pushed, fill, fill_cell}
 use Rattle.flow_meaning.specs.Step.{proc}
@@ -18,7 +18,7 @@ use Rattle.flow_meaning.specs.Deliver.{boot_core, boot_with, deliver, arrive, st
 use Rattle.flow_meaning.specs.Frame.{Frame}
 use Rattle.flow_meaning.proofs.Posture.{Unless, unless, unless_map, after_turn}
 use Rattle.flow_picture.specs.Rested.{has}
-use Rattle.flow_picture.specs.Keeps.{Tied}
+use Rattle.flow_picture.specs.CellsTied.{CellsTied}
 use Rattle.flow_picture.specs.Alone.{spares, owners_of, Alone}
 use Rattle.flow_picture.specs.Lonely as law
 use Rattle.flow_picture.specs.Lonely.{OwnedAlone}
@@ -54,7 +54,7 @@ fill_owners : (k j n : ℕ) (o : OutcomeTree) (x : Option Cell) (c : Core) → o
 fill_owners k j n o None c e = tt
 fill_owners k j n o (Some cell) c e = unless c.halted e
 
-delivered : (k : ℕ) (o : OutcomeTree) (c : Core) → Tied c → has k c.requests ≡ true → Unless (λ d. owners_of k d ≡ 0) (deliver k o c)
+delivered : (k : ℕ) (o : OutcomeTree) (c : Core) → CellsTied c → has k c.requests ≡ true → Unless (λ d. owners_of k d ≡ 0) (deliver k o c)
 delivered k o c t h =
     let d = pushed (Drop kind.Promise k) (record c { requests = closed_request k c.requests }) in
     let a = one_closed k c.requests h in

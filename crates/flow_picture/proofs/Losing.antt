@@ -23,17 +23,17 @@ use Rattle.flow_cancel.specs.Dropping.{dropping, content, broken_if_not, cancel_
 use Rattle.flow_numbered.specs.Numbered.{thing}
 use Rattle.flow_meaning.specs.Cells.{Side, PromiseSide, FutureSide, side_of, Waiter, Single, good, held, is_complete}
 use Rattle.flow_meaning.specs.Process.{Entry, Proc}
-use Rattle.flow_meaning.specs.Occ.{refs_in, one, count, count_waiters, in_entries}
+use Rattle.flow_meaning.specs.References.{refs_in, one, count, count_waiters, in_entries}
 use Rattle.flow_meaning.specs.Work.{dropping_values, free, free_cell, owner}
 use Rattle.flow_meaning.specs.Dropping.{promises_gone, futures_gone, loss, port_of}
 use Rattle.flow_meaning.specs.Step.{on_core}
 use Rattle.flow_meaning.specs.Frame.{Frame}
 use Rattle.flow_meaning.proofs.Posture.{same_number, each_number}
-use Rattle.flow_picture.specs.Shows.{Somebody, spot_of_actor, waiter_in, cell_number}
+use Rattle.flow_picture.specs.Representing.{Somebody, spot_of_actor, waiter_in, cell_number}
 use Rattle.flow_picture.specs.Counted.{memory_side, count_at, kept_count, references}
 use Rattle.flow_picture.specs.Changes.{cell_put, without_cell}
 use Rattle.flow_picture.specs.Rested.{IsStream}
-use Rattle.flow_picture.specs.Losing.{Losing, Same, Follows}
+use Rattle.flow_picture.specs.Losing.{Losing, Same, LossMatches}
 use Rattle.flow_picture.proofs.Finds.{stored_gone, stored_removed}
 use Rattle.flow_picture.proofs.Cells.{single_at, AsSingle}
 use Rattle.flow_picture.proofs.Actors.{by_note, by_entry}
@@ -156,10 +156,10 @@ module _ (r : RawTree) (h : HeapTree) (p : Proc Frame) (kd : Kind) (k : ℕ) (o 
   )
 
   -- the promise side broke, if it isn't set
-  breaks : Follows r p k (kept_heap, broken_if_not (set_in m.content)) (promises_gone (is_complete (Single o ws)))
-  breaks = subst (λ x. Follows r p k (kept_heap, broken_if_not (set_in m.content)) (promises_gone (is_complete (Single x ws)))) same_content (by_content m.content)
+  breaks : LossMatches r p k (kept_heap, broken_if_not (set_in m.content)) (promises_gone (is_complete (Single o ws)))
+  breaks = subst (λ x. LossMatches r p k (kept_heap, broken_if_not (set_in m.content)) (promises_gone (is_complete (Single x ws)))) same_content (by_content m.content)
     where
-      by_content : (c : Option Outcome) → Follows r p k (kept_heap, broken_if_not (set_in c)) (promises_gone (is_complete (Single (option_map outcome_of c) ws)))
+      by_content : (c : Option Outcome) → LossMatches r p k (kept_heap, broken_if_not (set_in c)) (promises_gone (is_complete (Single (option_map outcome_of c) ws)))
       by_content None = stays
       by_content (Some x) = stays
 
@@ -168,9 +168,9 @@ module _ (r : RawTree) (h : HeapTree) (p : Proc Frame) (kd : Kind) (k : ℕ) (o 
   no_port None e = refl
   no_port (Some q) e = absurd (subst IsStream l.cell (l.owned.port q k e).0)
 
-  orphan : Follows r p k (kept_heap, cancel_owner h.actors.things (heap.owner k h.actors.things)) (futures_gone (owner k p.core.entries) (port_of k p.core.ports))
+  orphan : LossMatches r p k (kept_heap, cancel_owner h.actors.things (heap.owner k h.actors.things)) (futures_gone (owner k p.core.entries) (port_of k p.core.ports))
   orphan =
-      subst (λ x. Follows r p k (kept_heap, cancel_owner h.actors.things (heap.owner k h.actors.things)) (futures_gone (owner k p.core.entries) x)) (sym (no_port (port_of k p.core.ports) refl))
+      subst (λ x. LossMatches r p k (kept_heap, cancel_owner h.actors.things (heap.owner k h.actors.things)) (futures_gone (owner k p.core.entries) x)) (sym (no_port (port_of k p.core.ports) refl))
       (by_owner (heap.owner k h.actors.things) refl (owner k p.core.entries) refl)
     where
       person : (i : ℕ) (n : Note) → stored.thing h.actors.things i ≡ Some n → Somebody r (stored.thing h.actors.things i) (stored.thing h.frames.things i) (thing p.core.entries i) (thing p.actors i)
@@ -183,8 +183,8 @@ module _ (r : RawTree) (h : HeapTree) (p : Proc Frame) (kd : Kind) (k : ℕ) (o 
       few i e f g = let a = (l.owned.result i k e f g).1 in omega (arith, a)
 
       by_mark : (i : ℕ) (n : Note) (e : Entry) → stored.thing h.actors.things i ≡ Some n → thing p.core.entries i ≡ Some e → e.result ≡ Some k → (b : Bool) → n.marked ≡ b → e.marked ≡ b
-          → (x : Option (ℕ × Entry)) → owner k p.core.entries ≡ x → Follows r p k (kept_heap, cancel_if_not i (Some n)) (futures_gone x None)
-      by_mark i n e ni ei ek true nm em None u = subst (λ b. Follows r p k (kept_heap, if b then memory.Nothing else memory.Cancel (actor_id i)) (futures_gone None None)) (sym nm) stays
+          → (x : Option (ℕ × Entry)) → owner k p.core.entries ≡ x → LossMatches r p k (kept_heap, cancel_if_not i (Some n)) (futures_gone x None)
+      by_mark i n e ni ei ek true nm em None u = subst (λ b. LossMatches r p k (kept_heap, if b then memory.Nothing else memory.Cancel (actor_id i)) (futures_gone None None)) (sym nm) stays
       by_mark i n e ni ei ek true nm em (Some y) u =
           let g = entry_found k 0 p.core.started y p.core.entries l.entries u in
           let same : i ≡ y.0 = one_owner k i y.0 e y.1 p.core.entries (few i e ei ek) ei g.0 ek g.1 in
@@ -193,10 +193,10 @@ module _ (r : RawTree) (h : HeapTree) (p : Proc Frame) (kd : Kind) (k : ℕ) (o 
       by_mark i n e ni ei ek false nm em (Some y) u =
           let g = entry_found k 0 p.core.started y p.core.entries l.entries u in
           let same : i ≡ y.0 = one_owner k i y.0 e y.1 p.core.entries (few i e ei ek) ei g.0 ek g.1 in
-          subst (λ b. Follows r p k (kept_heap, if b then memory.Nothing else memory.Cancel (actor_id i)) (futures_gone (Some y) None)) (sym nm) (ap actor_id same, g.0, stays)
+          subst (λ b. LossMatches r p k (kept_heap, if b then memory.Nothing else memory.Cancel (actor_id i)) (futures_gone (Some y) None)) (sym nm) (ap actor_id same, g.0, stays)
 
       by_owner : (x : Option ℕ) → heap.owner k h.actors.things ≡ x → (y : Option (ℕ × Entry)) → owner k p.core.entries ≡ y
-          → Follows r p k (kept_heap, cancel_owner h.actors.things x) (futures_gone y None)
+          → LossMatches r p k (kept_heap, cancel_owner h.actors.things x) (futures_gone y None)
       by_owner None e None f = stays
       by_owner None e (Some y) f =
           let g = entry_found k 0 p.core.started y p.core.entries l.entries f in
@@ -209,12 +209,12 @@ module _ (r : RawTree) (h : HeapTree) (p : Proc Frame) (kd : Kind) (k : ℕ) (o 
           let a = person i g.0 g.1 in
           let same : a.note ≡ g.0 = let b = a.noted in let c = g.1 in cc (b, c) in
           let ek = a.same.result ∙ ap (λ (z : Note). option_map cell_number z.result) same ∙ noted_result k g.0.result g.2 in
-          subst (λ z. Follows r p k (kept_heap, cancel_if_not i z) (futures_gone y None)) (sym g.1)
+          subst (λ z. LossMatches r p k (kept_heap, cancel_if_not i z) (futures_gone y None)) (sym g.1)
           (by_mark i g.0 a.entry g.1 a.entered ek g.0.marked refl (a.same.marked ∙ ap (λ (z : Note). z.marked) same) y f)
 
   -- each case
   by_counts : (side : Side) → sd ≡ side → (a b : ℕ) → P ≡ a → F ≡ b
-      → Follows r p k (cell_lost k (cell_less (memory_side sd) m) h (counts.loss (memory_side side) (record { promises = a; futures = b }))) (loss side a b (Single o ws) (owner k p.core.entries) (port_of k p.core.ports))
+      → LossMatches r p k (cell_lost k (cell_less (memory_side sd) m) h (counts.loss (memory_side side) (record { promises = a; futures = b }))) (loss side a b (Single o ws) (owner k p.core.entries) (port_of k p.core.ports))
   by_counts PromiseSide e zero zero pz fz = goes pz fz
   by_counts FutureSide e zero zero pz fz = goes pz fz
   by_counts PromiseSide e zero (suc b) pz fz = breaks
@@ -224,10 +224,10 @@ module _ (r : RawTree) (h : HeapTree) (p : Proc Frame) (kd : Kind) (k : ℕ) (o 
   by_counts PromiseSide e (suc a) (suc b) pz fz = stays
   by_counts FutureSide e (suc a) (suc b) pz fz = stays
 
-  pub single_follows : Follows r p k (drop_cell (memory_side sd) k h (stored.thing h.cells.things k)) (loss sd P F (Single o ws) (owner k p.core.entries) (port_of k p.core.ports))
+  pub single_follows : LossMatches r p k (drop_cell (memory_side sd) k h (stored.thing h.cells.things k)) (loss sd P F (Single o ws) (owner k p.core.entries) (port_of k p.core.ports))
   single_follows =
-      subst (λ x. Follows r p k (drop_cell (memory_side sd) k h x) (loss sd P F (Single o ws) (owner k p.core.entries) (port_of k p.core.ports))) (sym at)
-      (subst (λ c. Follows r p k (cell_lost k (cell_less (memory_side sd) m) h (counts.loss (memory_side sd) c)) (loss sd P F (Single o ws) (owner k p.core.entries) (port_of k p.core.ports))) (sym less_is)
+      subst (λ x. LossMatches r p k (drop_cell (memory_side sd) k h x) (loss sd P F (Single o ws) (owner k p.core.entries) (port_of k p.core.ports))) (sym at)
+      (subst (λ c. LossMatches r p k (cell_lost k (cell_less (memory_side sd) m) h (counts.loss (memory_side sd) c)) (loss sd P F (Single o ws) (owner k p.core.entries) (port_of k p.core.ports))) (sym less_is)
       (by_counts sd refl P F refl refl))
 
   -- and it may be dropped

@@ -21,17 +21,17 @@ use Rattle.flow_cancel.specs.Dropping.{dropping, broken_if_not, stream_less, str
 use Rattle.flow_numbered.specs.Numbered.{thing, removed}
 use Rattle.flow_meaning.specs.Cells.{Side, PromiseSide, FutureSide, side_of, Waiter, Cell, Stream, as_list, is_complete, is_some}
 use Rattle.flow_meaning.specs.Process.{Entry, Proc}
-use Rattle.flow_meaning.specs.Occ.{refs_in, one, count, count_waiters}
+use Rattle.flow_meaning.specs.References.{refs_in, one, count, count_waiters}
 use Rattle.flow_meaning.specs.Work.{dropping_values, free, free_cell, owner}
 use Rattle.flow_meaning.specs.Dropping.{promises_gone, futures_gone, loss, port_of}
 use Rattle.flow_meaning.specs.Step.{on_core}
 use Rattle.flow_meaning.specs.Frame.{Frame}
 use Rattle.flow_meaning.proofs.Posture.{each_number}
-use Rattle.flow_picture.specs.Shows.{spot_of_actor, waiter_in, error_number}
+use Rattle.flow_picture.specs.Representing.{spot_of_actor, waiter_in, error_number}
 use Rattle.flow_picture.specs.Counted.{memory_side, count_at, kept_count, references}
 use Rattle.flow_picture.specs.Changes.{stream_put, without_cell}
 use Rattle.flow_picture.specs.Rested.{IsUnset}
-use Rattle.flow_picture.specs.Losing.{Losing, Same, Follows, free_port}
+use Rattle.flow_picture.specs.Losing.{Losing, Same, LossMatches, free_port}
 use Rattle.flow_picture.proofs.Finds.{stored_gone, stored_removed}
 use Rattle.flow_picture.proofs.Cells.{stream_at, AsStream}
 use Rattle.flow_picture.proofs.Shown.{stream_counted, stream_is_gone, values_shown}
@@ -133,10 +133,10 @@ module _ (r : RawTree) (h : HeapTree) (p : Proc Frame) (kd : Kind) (k : ℕ) (q 
       by_number s j = each_number k (λ j. kept_count s j (gone_heap h) ≡ references s j p) (kept_here s ∙ sym (none_here s)) (λ j n. kept_there s j n) j
 
   -- the promise side broke, if it has no end
-  breaks : Follows r p k (kept_heap, broken_if_not (set_in m.end)) (promises_gone (is_complete cell))
-  breaks = subst (λ y. Follows r p k (kept_heap, broken_if_not (set_in m.end)) (promises_gone (is_complete (Stream q y w)))) same_end (by_end m.end)
+  breaks : LossMatches r p k (kept_heap, broken_if_not (set_in m.end)) (promises_gone (is_complete cell))
+  breaks = subst (λ y. LossMatches r p k (kept_heap, broken_if_not (set_in m.end)) (promises_gone (is_complete (Stream q y w)))) same_end (by_end m.end)
     where
-      by_end : (c : Option ErrorCode) → Follows r p k (kept_heap, broken_if_not (set_in c)) (promises_gone (is_complete (Stream q (option_map error_number c) w)))
+      by_end : (c : Option ErrorCode) → LossMatches r p k (kept_heap, broken_if_not (set_in c)) (promises_gone (is_complete (Stream q (option_map error_number c) w)))
       by_end None = stays
       by_end (Some e) = stays
 
@@ -178,18 +178,18 @@ module _ (r : RawTree) (h : HeapTree) (p : Proc Frame) (kd : Kind) (k : ℕ) (q 
             each_number k (λ j. kept_count s j (gone_heap (without_port k h)) ≡ references s j unported) (kept_here s ∙ sym (none_here s))
             (λ j n. let a = kept_there s j n in let b = less s j in let c = no_one s k j PromiseSide n in omega (arith, a, b, c)) j
 
-  orphan : F ≡ 0 → Follows r p k (lost.unheard k (stream_less (memory_side sd) m) h (has_number h.ports k)) (futures_gone (owner k p.core.entries) (port_of k p.core.ports))
+  orphan : F ≡ 0 → LossMatches r p k (lost.unheard k (stream_less (memory_side sd) m) h (has_number h.ports k)) (futures_gone (owner k p.core.entries) (port_of k p.core.ports))
   orphan fz =
-      subst (λ y. Follows r p k (lost.unheard k (stream_less (memory_side sd) m) h (has_number h.ports k)) (futures_gone y (port_of k p.core.ports))) (sym (no_owner (owner k p.core.entries) refl))
-      (subst (λ b. Follows r p k (lost.unheard k (stream_less (memory_side sd) m) h b) (futures_gone None (port_of k p.core.ports))) (sym (l.shows.ports k)) (by_port (port_of k p.core.ports) refl))
+      subst (λ y. LossMatches r p k (lost.unheard k (stream_less (memory_side sd) m) h (has_number h.ports k)) (futures_gone y (port_of k p.core.ports))) (sym (no_owner (owner k p.core.entries) refl))
+      (subst (λ b. LossMatches r p k (lost.unheard k (stream_less (memory_side sd) m) h b) (futures_gone None (port_of k p.core.ports))) (sym (l.shows.ports k)) (by_port (port_of k p.core.ports) refl))
     where
-      by_port : (y : Option ℕ) → port_of k p.core.ports ≡ y → Follows r p k (lost.unheard k (stream_less (memory_side sd) m) h (is_some y)) (futures_gone None y)
+      by_port : (y : Option ℕ) → port_of k p.core.ports ≡ y → LossMatches r p k (lost.unheard k (stream_less (memory_side sd) m) h (is_some y)) (futures_gone None y)
       by_port None e = stays
       by_port (Some port) e = unheard port e fz
 
   -- each case
   by_counts : (side : Side) → sd ≡ side → (a b : ℕ) → P ≡ a → F ≡ b
-      → Follows r p k (stream_lost k (stream_less (memory_side sd) m) h (counts.loss (memory_side side) (record { promises = a; futures = b }))) (loss side a b cell (owner k p.core.entries) (port_of k p.core.ports))
+      → LossMatches r p k (stream_lost k (stream_less (memory_side sd) m) h (counts.loss (memory_side side) (record { promises = a; futures = b }))) (loss side a b cell (owner k p.core.entries) (port_of k p.core.ports))
   by_counts PromiseSide e zero zero pz fz = goes pz fz
   by_counts FutureSide e zero zero pz fz = goes pz fz
   by_counts PromiseSide e zero (suc b) pz fz = breaks
@@ -199,10 +199,10 @@ module _ (r : RawTree) (h : HeapTree) (p : Proc Frame) (kd : Kind) (k : ℕ) (q 
   by_counts PromiseSide e (suc a) (suc b) pz fz = stays
   by_counts FutureSide e (suc a) (suc b) pz fz = stays
 
-  pub stream_follows : Follows r p k (drop_stream (memory_side sd) k h (stored.thing h.streams.things k)) (loss sd P F cell (owner k p.core.entries) (port_of k p.core.ports))
+  pub stream_follows : LossMatches r p k (drop_stream (memory_side sd) k h (stored.thing h.streams.things k)) (loss sd P F cell (owner k p.core.entries) (port_of k p.core.ports))
   stream_follows =
-      subst (λ y. Follows r p k (drop_stream (memory_side sd) k h y) (loss sd P F cell (owner k p.core.entries) (port_of k p.core.ports))) (sym at)
-      (subst (λ c. Follows r p k (stream_lost k (stream_less (memory_side sd) m) h (counts.loss (memory_side sd) c)) (loss sd P F cell (owner k p.core.entries) (port_of k p.core.ports))) (sym less_is)
+      subst (λ y. LossMatches r p k (drop_stream (memory_side sd) k h y) (loss sd P F cell (owner k p.core.entries) (port_of k p.core.ports))) (sym at)
+      (subst (λ c. LossMatches r p k (stream_lost k (stream_less (memory_side sd) m) h (counts.loss (memory_side sd) c)) (loss sd P F cell (owner k p.core.entries) (port_of k p.core.ports))) (sym less_is)
       (by_counts sd refl P F refl refl))
 
   -- and it may be dropped

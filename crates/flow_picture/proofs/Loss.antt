@@ -13,23 +13,23 @@ use Rattle.flow_cell.specs.Cells.{CellTree}
 use Rattle.flow_stream.specs.Streams.{StreamTree}
 use Rattle.flow_cancel.specs.Heap.{HeapTree}
 use Rattle.flow_meaning.specs.Cells.{Waiter, Single, Stream}
-use Rattle.flow_meaning.specs.Asks.{Spot}
+use Rattle.flow_meaning.specs.Requests.{Spot}
 use Rattle.flow_meaning.specs.Process.{Proc}
 use Rattle.flow_meaning.specs.Frame.{Frame}
-use Rattle.flow_picture.specs.Shows.{CellShows, spot_of_actor}
+use Rattle.flow_picture.specs.Representing.{CellRepresents, spot_of_actor}
 use Rattle.flow_picture.specs.Losing as law
 use Rattle.flow_picture.specs.Losing.{RightCell, Losing}
 use Rattle.flow_picture.proofs.Losing.{single_follows, single_may}
 use Rattle.flow_picture.proofs.LosingStreams.{stream_follows, stream_may}
 
 -- what stands in memory where the process has a single result, or a stream
-pub memory_single : (spots : ℕ → Spot) (m : Option (CellTree Outcome)) (s : Option (StreamTree Value)) (o : Option OutcomeTree) (ws : List Waiter) → CellShows spots m s (Some (Single o ws)) → (x : CellTree Outcome) × (m ≡ Some x)
+pub memory_single : (spots : ℕ → Spot) (m : Option (CellTree Outcome)) (s : Option (StreamTree Value)) (o : Option OutcomeTree) (ws : List Waiter) → CellRepresents spots m s (Some (Single o ws)) → (x : CellTree Outcome) × (m ≡ Some x)
 memory_single spots (Some m) None o ws h = (m, refl)
 memory_single spots None None o ws h = absurd h
 memory_single spots None (Some s) o ws h = absurd h
 memory_single spots (Some m) (Some s) o ws h = absurd h
 
-pub memory_stream : (spots : ℕ → Spot) (m : Option (CellTree Outcome)) (s : Option (StreamTree Value)) (q : List ValueTree) (e : Option ℕ) (w : Option Waiter) → CellShows spots m s (Some (Stream q e w)) → (x : StreamTree Value) × (s ≡ Some x)
+pub memory_stream : (spots : ℕ → Spot) (m : Option (CellTree Outcome)) (s : Option (StreamTree Value)) (q : List ValueTree) (e : Option ℕ) (w : Option Waiter) → CellRepresents spots m s (Some (Stream q e w)) → (x : StreamTree Value) × (s ≡ Some x)
 memory_stream spots None (Some s) q e w h = (s, refl)
 memory_stream spots None None q e w h = absurd h
 memory_stream spots (Some m) None q e w h = absurd h
@@ -39,12 +39,12 @@ module _ (r : RawTree) (h : HeapTree) (p : Proc Frame) where
   pub single_at : (kd : Kind) (k : ℕ) (o : Option OutcomeTree) (ws : List Waiter) → Losing r h p kd k (Single o ws) → (x : CellTree Outcome) × (stored.thing h.cells.things k ≡ Some x)
   single_at kd k o ws l =
       memory_single (spot_of_actor p.actors) (stored.thing h.cells.things k) (stored.thing h.streams.things k) o ws
-      (subst (CellShows (spot_of_actor p.actors) (stored.thing h.cells.things k) (stored.thing h.streams.things k)) l.cell (l.shows.cells k))
+      (subst (CellRepresents (spot_of_actor p.actors) (stored.thing h.cells.things k) (stored.thing h.streams.things k)) l.cell (l.shows.cells k))
 
   pub stream_at : (kd : Kind) (k : ℕ) (q : List ValueTree) (e : Option ℕ) (w : Option Waiter) → Losing r h p kd k (Stream q e w) → (x : StreamTree Value) × (stored.thing h.streams.things k ≡ Some x)
   stream_at kd k q e w l =
       memory_stream (spot_of_actor p.actors) (stored.thing h.cells.things k) (stored.thing h.streams.things k) q e w
-      (subst (CellShows (spot_of_actor p.actors) (stored.thing h.cells.things k) (stored.thing h.streams.things k)) l.cell (l.shows.cells k))
+      (subst (CellRepresents (spot_of_actor p.actors) (stored.thing h.cells.things k) (stored.thing h.streams.things k)) l.cell (l.shows.cells k))
 
   pub may_drop_it : law.MayDrop r h p
   may_drop_it kind.Promise k (Single o ws) l = let m = single_at kind.Promise k o ws l in single_may r h p kind.Promise k o ws l m.0 m.1

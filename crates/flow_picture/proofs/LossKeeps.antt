@@ -28,10 +28,10 @@ use Rattle.flow_cancel.specs.Dropping as lost
 use Rattle.flow_numbered.specs.Numbered.{thing}
 use Rattle.flow_meaning.specs.Cells.{Side, PromiseSide, FutureSide, side_of, Waiter, Single, Stream}
 use Rattle.flow_meaning.specs.Process.{Entry, Proc}
-use Rattle.flow_meaning.specs.Occ.{one, in_entries}
+use Rattle.flow_meaning.specs.References.{one, in_entries}
 use Rattle.flow_meaning.specs.Frame.{Frame}
 use Rattle.flow_meaning.proofs.Posture.{each_number}
-use Rattle.flow_picture.specs.Shows.{cell_number}
+use Rattle.flow_picture.specs.Representing.{cell_number}
 use Rattle.flow_picture.specs.Counted.{memory_side, references}
 use Rattle.flow_picture.specs.Changes.{cell_put, stream_put}
 use Rattle.flow_picture.specs.Losing.{Losing}

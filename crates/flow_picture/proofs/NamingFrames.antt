@@ -22,7 +22,7 @@ use Rattle.flow_eval.specs.Functions.{read_in}
 use Rattle.flow_eval.specs.Eval.{Res, Done, Fails, Spent, Meaningless}
 use Rattle.flow_eval.specs.Eval.{then as goes_on}
 use Rattle.flow_eval.specs.Answers.{bool_of, int_of, text_of, error_of, arg}
-use Rattle.flow_meaning.specs.Asks.{Spot, Act, Goes, Drops, Effects, Operand, Waits, Sends, Returns, Effect, Make, Start, Goal, Stored, Kept, Ask}
+use Rattle.flow_meaning.specs.Requests.{Spot, Act, Goes, Drops, Effects, Operand, Waits, Sends, Returns, Effect, Make, Start, Goal, Stored, Kept, Ask}
 use Rattle.flow_meaning.specs.Process.{View}
 use Rattle.flow_meaning.specs.Evaluating.{Names, setting, bind, StepOf, asks, given, evaluated, Effectful, World, Actor, effect_in, effect_of, world_effect, value, values, call_act, plain_act, function_act, based_act, method_act, sent, cancelled, done, before_last, last_of}
 use Rattle.flow_meaning.specs.Frame.{Memory, Frame, look, emptied, reversed, blanks, everything, put_at, assign, spot_of, go, next_instr, over, lose, raised, raise, with_error}

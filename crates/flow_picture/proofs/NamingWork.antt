@@ -8,10 +8,10 @@ use Rattle.flow_value.specs.declared.value.Kind.{Kind}
 use Rattle.flow_value.specs.Values.{ValueTree, ValueTrees, IntValue, BoolValue, TextValue, VoidValue, ErrorValue, RecordValue, RefValue, NoValues, MoreValues, OutcomeTree, GoodOutcome, BadOutcome, refs_of, refs_of_all}
 use Rattle.flow_numbered.specs.Numbered.{Numbered, thing, added, put, removed}
 use Rattle.flow_meaning.specs.Cells.{Side, PromiseSide, FutureSide, side_of, Ref, Waiter, Cell, Single, Stream, waiters, held, filled, taken, after_taking, left_by, with_waiter, is_busy, is_complete, is_ready}
-use Rattle.flow_meaning.specs.Asks.{Spot}
+use Rattle.flow_meaning.specs.Requests.{Spot}
 use Rattle.flow_meaning.specs.Process.{Task, Give, Throw, Fire, Entry, Core}
 use Rattle.flow_meaning.specs.Lines.{take_line, cancel_line, broken_line, wait_line, end_line}
-use Rattle.flow_meaning.specs.Occ.{Scan, Occ, refs_in, value_in}
+use Rattle.flow_meaning.specs.References.{Scan, reference_count, refs_in, value_in}
 use Rattle.flow_meaning.specs.Work.{turn_of, writes, pushed, drops, dropping_values, fill, fill_cell, free, free_cell, left_cells, running, leave_for, give, take_branch, Registration, Registered, Refused, Missing, register_at, register_one, register, is_result, owner, marked, cancel_by, cancel, cancel_owner}
 use Rattle.flow_meaning.specs.Dropping.{promises_gone, loss, port_of, suffer, lose_cell, lose_ref, drop, fire_to, fire_at, fire_cell, fire, set_result, give_result, close}
 use Rattle.flow_meaning.specs.React.{suspend}
@@ -238,7 +238,7 @@ module _ (p : Rule) where
 
   lose_cell_named : (scan : Scan) (s : Side) (k : ℕ) (x : Option Cell) (c : Core) → CoreNamed p c → CoreNamed p (lose_cell scan s k x c)
   lose_cell_named scan s k None c n = n
-  lose_cell_named scan s k (Some cell) c n = suffer_named s k cell (Occ scan PromiseSide k c) (Occ scan FutureSide k c) (owner k c.entries) (port_of k c.ports) c refl n
+  lose_cell_named scan s k (Some cell) c n = suffer_named s k cell (reference_count scan PromiseSide k c) (reference_count scan FutureSide k c) (owner k c.entries) (port_of k c.ports) c refl n
 
   pub lose_named : (scan : Scan) (s : Side) (k : ℕ) (c : Core) → CoreNamed p c → CoreNamed p (lose_ref scan s k c)
   lose_named scan s k c n = lose_cell_named scan s k (thing c.cells k) c n
@@ -271,7 +271,7 @@ module _ (p : Rule) where
 
   given_named : (scan : Scan) (x : Option ℕ) (o : OutcomeTree) (c : Core) → OutcomeNamed p o → CoreNamed p c → CoreNamed p (give_result scan x o c)
   given_named scan None o c h n = dropping_named (value_in o) c (outcome_values o h) n
-  given_named scan (Some k) o c h n = result_named k o (Occ scan FutureSide k c) c h n
+  given_named scan (Some k) o c h n = result_named k o (reference_count scan FutureSide k c) c h n
 
   pub close_named : (scan : Scan) (i : ℕ) (x : Option ℕ) (o : OutcomeTree) (c : Core) → OutcomeNamed p o → CoreNamed p c → CoreNamed p (close scan i x o c)
   close_named scan i x o c h n =

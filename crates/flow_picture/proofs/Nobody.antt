@@ -8,7 +8,7 @@ use Rattle.flow_references.specs.Named.{Named, FieldsNamed, AllNamed}
 use Rattle.flow_numbered.specs.Numbered.{Numbered}
 use Rattle.flow_meaning.specs.Cells.{PromiseSide, side_of, Ref, Cell, Single, Stream, held}
 use Rattle.flow_meaning.specs.Process.{Entry, Task, Run, Give, Throw, Catch, Store, Keep, Close, Fire, Drop}
-use Rattle.flow_meaning.specs.Occ.{count_kept, in_entries, same_side, refs_in, value_in, one, count, in_cells, in_task, in_tasks}
+use Rattle.flow_meaning.specs.References.{count_kept, in_entries, same_side, refs_in, value_in, one, count, in_cells, in_task, in_tasks}
 use Rattle.flow_meaning.specs.Frame.{Memory, Frame, occ_memory}
 use Rattle.flow_picture.specs.Counted.{frames_hold}
 use Rattle.flow_picture.specs.Naming.{OutcomeNamed, RefNamed, CellNamed, CellsNamed, TaskNamed, TasksNamed, PlacesNamed, MemoryNamed, FramesNamed}

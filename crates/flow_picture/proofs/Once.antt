@@ -3,7 +3,7 @@ use Rattle.std.proofs.Common.{◌≡◌, ℕ, ◌+◌, ◌<◌, ◌≤◌, nat_e
 use Rattle.std.proofs.lemmas.Bool.Decides.{nat_tests}
 use Rattle.flow_numbered.specs.Numbered.{Numbered}
 use Rattle.flow_meaning.specs.Cells.{PromiseSide}
-use Rattle.flow_meaning.specs.Occ.{one, in_ports, in_requests}
+use Rattle.flow_meaning.specs.References.{one, in_ports, in_requests}
 use Rattle.flow_picture.specs.Rested.{NumbersRise, PortsRise}
 use Rattle.flow_picture.specs.Alone as law
 use Rattle.flow_picture.proofs.Alone.{owners_counted}

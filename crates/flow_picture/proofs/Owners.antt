@@ -13,7 +13,7 @@ use Rattle.flow_cancel.specs.Heap as memory
 use Rattle.flow_numbered.specs.Numbered.{Numbered, thing, removed}
 use Rattle.flow_meaning.specs.Cells.{PromiseSide}
 use Rattle.flow_meaning.specs.Process.{Entry}
-use Rattle.flow_meaning.specs.Occ.{one, count_maybe, in_entries}
+use Rattle.flow_meaning.specs.References.{one, count_maybe, in_entries}
 use Rattle.flow_meaning.specs.Orderly.{Rising}
 use Rattle.flow_meaning.specs.Work.{is_result, owner}
 use Rattle.flow_meaning.proofs.Posture.{same_number, thing_removed_other, above_none}

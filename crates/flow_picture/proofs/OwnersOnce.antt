@@ -5,7 +5,7 @@ use Rattle.std.specs.declared.option.Option.TheVariants.{Some}
 use Rattle.flow_numbered.specs.Numbered.{Numbered, thing, added, put, removed}
 use Rattle.flow_meaning.specs.Cells.{PromiseSide}
 use Rattle.flow_meaning.specs.Process.{Entry, Core}
-use Rattle.flow_meaning.specs.Occ.{one, count_maybe, in_ports, in_requests}
+use Rattle.flow_meaning.specs.References.{one, count_maybe, in_ports, in_requests}
 use Rattle.flow_meaning.specs.Deliver.{closed_request}
 use Rattle.flow_picture.specs.Alone.{results_at, owners_of, OwnedOnce}
 use Rattle.std.specs.Prelude.{nat_lt}

@@ -8,7 +8,7 @@ use Rattle.flow_value.specs.Values.{OutcomeTree, GoodOutcome, BadOutcome}
 use Rattle.flow_numbered.specs.Numbered.{Numbered, thing, added, put, removed}
 use Rattle.flow_meaning.specs.Cells.{Side, PromiseSide, FutureSide, side_of, Ref, Waiter, Cell, Single, Stream, waiters, as_list, without, without_one, left_by, is_complete, is_busy, taken, after_taking, filled, with_waiter}
 use Rattle.flow_meaning.specs.Process.{Proc}
-use Rattle.flow_meaning.specs.Occ.{same_side, refs_in, value_in, one, count, count_waiters, count_kept, in_cells, in_tasks, in_requests}
+use Rattle.flow_meaning.specs.References.{same_side, refs_in, value_in, one, count, count_waiters, count_kept, in_cells, in_tasks, in_requests}
 use Rattle.flow_meaning.specs.Work.{fill_cell, left_cells, running}
 use Rattle.flow_meaning.specs.Orderly.{Rising}
 use Rattle.flow_meaning.specs.Step.{on_core}

@@ -17,17 +17,17 @@ use Rattle.flow_cancel.specs.Heap as memory
 use Rattle.flow_cancel.specs.Dropping as memory_drops
 use Rattle.flow_numbered.specs.Numbered.{Numbered, thing, put, removed}
 use Rattle.flow_meaning.specs.Cells.{Waiter, Cell, Single, Stream, filled, after_taking, taken, with_waiter}
-use Rattle.flow_meaning.specs.Asks.{Spot}
+use Rattle.flow_meaning.specs.Requests.{Spot}
 use Rattle.flow_meaning.specs.Process.{Task, Proc}
-use Rattle.flow_meaning.specs.Occ.{refs_in}
+use Rattle.flow_meaning.specs.References.{refs_in}
 use Rattle.flow_meaning.specs.Work.{drops, dropping_values, new_cell, fill, fill_cell}
 use Rattle.flow_meaning.specs.Step.{kept_by, on_core}
 use Rattle.flow_meaning.specs.Frame.{Frame}
-use Rattle.flow_picture.specs.Shows.{Shows, TasksShow, spot_of_actor, waiter_in, error_number}
+use Rattle.flow_picture.specs.Representing.{Represents, TasksRepresent, spot_of_actor, waiter_in, error_number}
 use Rattle.flow_picture.specs.Changes as change
 use Rattle.flow_picture.specs.Changes.{SameTask, SameTop, cell_put, stream_put, put_cell, without_cell}
 use Rattle.flow_picture.proofs.Tasks.{first, no_tasks, drops_show, refs_same}
-use Rattle.flow_picture.proofs.Cells.{CellsShow, single_at, stream_at, single_put, single_kept, single_added, single_gone, stream_put as put_stream, stream_kept, stream_added, stream_gone}
+use Rattle.flow_picture.proofs.Cells.{CellsRepresent, single_at, stream_at, single_put, single_kept, single_added, single_gone, stream_put as put_stream, stream_kept, stream_added, stream_gone}
 use Rattle.flow_picture.proofs.Finds.{none_above}
 
 module _ (r : RawTree) (h : HeapTree) (p : Proc Frame) where
@@ -38,7 +38,7 @@ module _ (r : RawTree) (h : HeapTree) (p : Proc Frame) where
   kept i = kept_by (thing p.core.entries i)
 
   -- tasks
-  with_tasks : (ts : List stack.Task) (us : List Task) → Shows r h p → TasksShow spots kept ts us → Shows r (record h { tasks = ts }) (on_core (λ c. record c { tasks = us }) p)
+  with_tasks : (ts : List stack.Task) (us : List Task) → Represents r h p → TasksRepresent spots kept ts us → Represents r (record h { tasks = ts }) (on_core (λ c. record c { tasks = us }) p)
   with_tasks ts us s t =
       record { cells = s.cells; actors = s.actors; tasks = t; made = s.made; started = s.started; main = s.main; ports = s.ports; requests = s.requests }
 
@@ -47,22 +47,22 @@ module _ (r : RawTree) (h : HeapTree) (p : Proc Frame) where
 
   pub popped_shown : change.Popped r h p
   popped_shown t ts s top =
-      let f = first spots kept t ts p.core.tasks (subst (λ xs. TasksShow spots kept xs p.core.tasks) top s.tasks) in
+      let f = first spots kept t ts p.core.tasks (subst (λ xs. TasksRepresent spots kept xs p.core.tasks) top s.tasks) in
       record { top = f.top; below = f.below; tasks = f.tasks; same = f.same; rest = with_tasks ts f.below s f.rest }
 
   pub no_tasks_shown : change.NoTasks r h p
-  no_tasks_shown s none = no_tasks spots kept p.core.tasks (subst (λ xs. TasksShow spots kept xs p.core.tasks) none s.tasks)
+  no_tasks_shown s none = no_tasks spots kept p.core.tasks (subst (λ xs. TasksRepresent spots kept xs p.core.tasks) none s.tasks)
 
   pub dropped_shown : change.Dropped r h p
   dropped_shown rs s = with_tasks (memory_drops.drops rs h.tasks) (drops rs p.core.tasks) s (drops_show spots kept rs h.tasks p.core.tasks s.tasks)
 
   pub values_shown : change.ValuesDropped r h p
   values_shown vs s =
-      subst (λ rs. Shows r (record h { tasks = memory_drops.drops rs h.tasks }) (on_core (dropping_values (map value_of vs)) p)) (sym (refs_same vs)) (dropped_shown (refs_in (map value_of vs)) s)
+      subst (λ rs. Represents r (record h { tasks = memory_drops.drops rs h.tasks }) (on_core (dropping_values (map value_of vs)) p)) (sym (refs_same vs)) (dropped_shown (refs_in (map value_of vs)) s)
 
   -- the same process, where only the cells of the heap change, and with other cells
-  with_cells : (d : HeapTree) (cs : Numbered Cell) → Shows r h p → d.tasks ≡ h.tasks → d.actors ≡ h.actors → d.frames ≡ h.frames → d.main ≡ h.main → d.ports ≡ h.ports → d.requests ≡ h.requests
-      → next_cell d ≡ next_cell h → CellsShow spots d.cells.things d.streams.things cs → Shows r d (on_core (λ c. record c { cells = cs }) p)
+  with_cells : (d : HeapTree) (cs : Numbered Cell) → Represents r h p → d.tasks ≡ h.tasks → d.actors ≡ h.actors → d.frames ≡ h.frames → d.main ≡ h.main → d.ports ≡ h.ports → d.requests ≡ h.requests
+      → next_cell d ≡ next_cell h → CellsRepresent spots d.cells.things d.streams.things cs → Represents r d (on_core (λ c. record c { cells = cs }) p)
   with_cells d cs s t a f m po rq n all = record {
     cells = all;
     actors = λ i. rw (a, f) (s.actors i);
@@ -85,10 +85,10 @@ module _ (r : RawTree) (h : HeapTree) (p : Proc Frame) where
       (stream_kept spots h.cells.things h.streams.things p.core.cells s.cells k m (record m { references = n }) e refl refl refl)
 
   -- a cell gets content, and fires
-  fires : (d : HeapTree) (k : ℕ) (o : OutcomeTree) (cell : Cell) → thing p.core.cells k ≡ Some cell → Shows r d (on_core (put_cell k (filled cell o)) p)
-      → Shows r (memory.pushed (change.fire k) d) (on_core (fill k o) p)
+  fires : (d : HeapTree) (k : ℕ) (o : OutcomeTree) (cell : Cell) → thing p.core.cells k ≡ Some cell → Represents r d (on_core (put_cell k (filled cell o)) p)
+      → Represents r (memory.pushed (change.fire k) d) (on_core (fill k o) p)
   fires d k o cell e s =
-      subst (λ x. Shows r (memory.pushed (change.fire k) d) (on_core (fill_cell k o x) p)) (sym e) (record {
+      subst (λ x. Represents r (memory.pushed (change.fire k) d) (on_core (fill_cell k o x) p)) (sym e) (record {
         cells = s.cells;
         actors = s.actors;
         tasks = (refl, s.tasks);
@@ -141,7 +141,7 @@ module _ (r : RawTree) (h : HeapTree) (p : Proc Frame) where
       let at : thing p.core.cells k ≡ Some c = a.cell ∙ ap (λ us. Some (Stream (map value_of us) (option_map error_number m.end) a.waiter)) q in
       let same : cell ≡ c = cc (there, at) in (
         ap taken same,
-        subst (λ x. Shows r (stream_put k n h) (on_core (put_cell k (after_taking x)) p)) (sym same)
+        subst (λ x. Represents r (stream_put k n h) (on_core (put_cell k (after_taking x)) p)) (sym same)
             (with_cells (stream_put k n h) (put p.core.cells k d) s refl refl refl refl refl refl refl
             (put_stream spots h.cells.things h.streams.things p.core.cells s.cells k m n c d e at (refl, refl, a.waiting))),
       )
@@ -158,7 +158,7 @@ module _ (r : RawTree) (h : HeapTree) (p : Proc Frame) where
       let c = Single (option_map outcome_of m.content) a.waiters in
       let d = Single (option_map outcome_of m.content) (a.waiters ++ w ∷ []) in
       let same : cell ≡ c = let x = a.cell in cc (there, x) in
-      subst (λ x. Shows r (cell_put k n h) (on_core (put_cell k (with_waiter x w)) p)) (sym same)
+      subst (λ x. Represents r (cell_put k n h) (on_core (put_cell k (with_waiter x w)) p)) (sym same)
       (with_cells (cell_put k n h) (put p.core.cells k d) s refl refl refl refl refl refl refl
       (single_put spots h.cells.things h.streams.things p.core.cells s.cells k m n c d e a.cell (refl, ap (λ ws. ws ++ waiter_in spots w ∷ []) a.waiting ∙ waiters_added a.waiters w)))
 
@@ -174,7 +174,7 @@ module _ (r : RawTree) (h : HeapTree) (p : Proc Frame) where
       let d = Stream (map value_of m.queue) (option_map error_number m.end) (Some w) in
       let at : thing p.core.cells k ≡ Some c = a.cell ∙ ap (λ x. Some (Stream (map value_of m.queue) (option_map error_number m.end) x)) (no_waiter a.waiter (sym free ∙ a.waiting)) in
       let same : cell ≡ c = cc (there, at) in
-      subst (λ x. Shows r (stream_put k n h) (on_core (put_cell k (with_waiter x w)) p)) (sym same)
+      subst (λ x. Represents r (stream_put k n h) (on_core (put_cell k (with_waiter x w)) p)) (sym same)
       (with_cells (stream_put k n h) (put p.core.cells k d) s refl refl refl refl refl refl refl
       (put_stream spots h.cells.things h.streams.things p.core.cells s.cells k m n c d e at (refl, refl, refl)))
 
@@ -198,7 +198,7 @@ module _ (r : RawTree) (h : HeapTree) (p : Proc Frame) where
 
   pub result_made : change.ResultMade r h p
   result_made s rising = record {
-    cells = subst (λ k. CellsShow spots (stored.added h.cells.things k unset) h.streams.things (new_cell (Single None []) p.core).cells) (sym s.made)
+    cells = subst (λ k. CellsRepresent spots (stored.added h.cells.things k unset) h.streams.things (new_cell (Single None []) p.core).cells) (sym s.made)
         (single_added spots h.cells.things h.streams.things p.core.cells s.cells (suc p.core.made) unset (Single None []) (none_above p.core.cells 0 p.core.made (suc p.core.made) rising (omega arith)) (refl, refl));
     actors = s.actors;
     tasks = s.tasks;
@@ -211,7 +211,7 @@ module _ (r : RawTree) (h : HeapTree) (p : Proc Frame) where
 
   pub stream_made : change.StreamMade r h p
   stream_made s rising = record {
-    cells = subst (λ k. CellsShow spots h.cells.things (stored.added h.streams.things k empty) (new_cell (Stream [] None None) p.core).cells) (sym s.made)
+    cells = subst (λ k. CellsRepresent spots h.cells.things (stored.added h.streams.things k empty) (new_cell (Stream [] None None) p.core).cells) (sym s.made)
         (stream_added spots h.cells.things h.streams.things p.core.cells s.cells (suc p.core.made) empty (Stream [] None None) (none_above p.core.cells 0 p.core.made (suc p.core.made) rising (omega arith)) (refl, refl, refl));
     actors = s.actors;
     tasks = s.tasks;

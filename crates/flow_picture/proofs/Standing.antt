@@ -18,9 +18,9 @@ use Rattle.flow_meaning.specs.Variables.{flat}
 use Rattle.flow_meaning.specs.Cells.{Ref}
 use Rattle.flow_meaning.specs.Process.{Entry}
 use Rattle.flow_meaning.specs.Frame.{Memory, Frame, write}
-use Rattle.flow_picture.specs.Shows.{Stands, ended, Position, here, at_wait, held_from, wait_spot}
-use Rattle.flow_picture.specs.Standing as law
-use Rattle.flow_picture.specs.Standing.{number_in, HasPlace, next_callback}
+use Rattle.flow_picture.specs.Representing.{LiveFrameRepresents, ended, Position, here, at_wait, held_from, wait_spot}
+use Rattle.flow_picture.specs.FrameChanges as law
+use Rattle.flow_picture.specs.FrameChanges.{number_in, HasPlace, next_callback}
 use Rattle.flow_picture.proofs.Left.{held_as}
 
 -- lists
@@ -127,7 +127,7 @@ module _ (r : RawTree) (m : FrameTree Value) (e : Entry) (f : Frame) where
     spot = s.spot;
   }
 
-  no_callback : Stands r m e f → e.operands ≡ [] → m.callbacks ≡ []
+  no_callback : LiveFrameRepresents r m e f → e.operands ≡ [] → m.callbacks ≡ []
   no_callback s n = s.callbacks ∙ ap (held_from (wait_spot f).first) n
 
   none_waits : (n : ℕ) → waits n [] ≡ false

@@ -3,11 +3,11 @@ use Rattle.std.proofs.Common.{refl, arith}
 use Rattle.flow_class.specs.Classes.{RawTree}
 use Rattle.flow_cancel.specs.Heap.{no_heap}
 use Rattle.flow_meaning.specs.Deliver.{idle}
-use Rattle.flow_picture.specs.Shows.{Shows, nobody}
+use Rattle.flow_picture.specs.Representing.{Represents, nobody}
 use Rattle.flow_picture.specs.Starting as law
 use Rattle.flow_picture.proofs.Beside.{vanished_shown}
 
-nobody_there : (r : RawTree) → Shows r no_heap idle
+nobody_there : (r : RawTree) → Represents r no_heap idle
 nobody_there r = record {
   cells = λ k. tt;
   actors = λ i. nobody refl refl refl refl;

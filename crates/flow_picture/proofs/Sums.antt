@@ -6,7 +6,7 @@ use Rattle.flow_value.specs.Values.{ValueTree, refs_of}
 use Rattle.flow_numbered.specs.Numbered.{Numbered, thing, added, put, removed}
 use Rattle.flow_meaning.specs.Cells.{Side, PromiseSide, FutureSide, Ref, Waiter, Cell}
 use Rattle.flow_meaning.specs.Process.{Task, Entry}
-use Rattle.flow_meaning.specs.Occ.{refs_in, one, count, count_waiters, in_cells, in_entries, in_tasks, in_ports}
+use Rattle.flow_meaning.specs.References.{refs_in, one, count, count_waiters, in_cells, in_entries, in_tasks, in_ports}
 use Rattle.flow_meaning.specs.Work.{drops}
 use Rattle.flow_meaning.specs.Frame.{Frame}
 use Rattle.flow_picture.specs.Counted.{frames_hold}

@@ -7,12 +7,12 @@ use Rattle.flow_cancel.specs.declared.task.Task as stack
 use Rattle.flow_cancel.specs.declared.task.Task.TheVariants as task
 use Rattle.flow_cancel.specs.Dropping as memory
 use Rattle.flow_meaning.specs.Cells.{Ref}
-use Rattle.flow_meaning.specs.Asks.{Spot}
+use Rattle.flow_meaning.specs.Requests.{Spot}
 use Rattle.flow_meaning.specs.Process.{Task, Run, Give, Throw, Catch, Store, Keep, Close, Fire, Drop}
-use Rattle.flow_meaning.specs.Occ.{refs_in}
+use Rattle.flow_meaning.specs.References.{refs_in}
 use Rattle.flow_meaning.specs.Work.{drops}
 use Rattle.flow_meaning.specs.Orderly.{is_of, tasks_of}
-use Rattle.flow_picture.specs.Shows.{TaskShows, TasksShow}
+use Rattle.flow_picture.specs.Representing.{TaskRepresents, TasksRepresent}
 use Rattle.flow_picture.specs.Acting.{NoKeep}
 
 -- the newest task
@@ -20,19 +20,19 @@ pub record First (spots : ℕ → Spot) (kept : ℕ → ℕ) (t : stack.Task) (t
   pub top : Task
   pub below : List Task
   pub tasks : us ≡ top ∷ below
-  pub same : TaskShows spots kept t top
-  pub rest : TasksShow spots kept ts below
+  pub same : TaskRepresents spots kept t top
+  pub rest : TasksRepresent spots kept ts below
 
-pub first : (spots : ℕ → Spot) (kept : ℕ → ℕ) (t : stack.Task) (ts : List stack.Task) (us : List Task) → TasksShow spots kept (t ∷ ts) us → First spots kept t ts us
+pub first : (spots : ℕ → Spot) (kept : ℕ → ℕ) (t : stack.Task) (ts : List stack.Task) (us : List Task) → TasksRepresent spots kept (t ∷ ts) us → First spots kept t ts us
 first spots kept t ts [] h = absurd h
 first spots kept t ts (u ∷ us) h = record { top = u; below = us; tasks = refl; same = h.0; rest = h.1 }
 
-pub no_tasks : (spots : ℕ → Spot) (kept : ℕ → ℕ) (us : List Task) → TasksShow spots kept [] us → us ≡ []
+pub no_tasks : (spots : ℕ → Spot) (kept : ℕ → ℕ) (us : List Task) → TasksRepresent spots kept [] us → us ≡ []
 no_tasks spots kept [] h = refl
 no_tasks spots kept (u ∷ us) h = absurd h
 
 -- drops come on top
-pub drops_show : (spots : ℕ → Spot) (kept : ℕ → ℕ) (rs : List Ref) (ts : List stack.Task) (us : List Task) → TasksShow spots kept ts us → TasksShow spots kept (memory.drops rs ts) (drops rs us)
+pub drops_show : (spots : ℕ → Spot) (kept : ℕ → ℕ) (rs : List Ref) (ts : List stack.Task) (us : List Task) → TasksRepresent spots kept ts us → TasksRepresent spots kept (memory.drops rs ts) (drops rs us)
 drops_show spots kept [] ts us h = h
 drops_show spots kept (r ∷ rs) ts us h = (refl, drops_show spots kept rs ts us h)
 
@@ -54,7 +54,7 @@ module _ (spots spots' : ℕ → Spot) (kept kept' : ℕ → ℕ) (i : ℕ) (sam
   no_keep_rest (Fire k) us n = n
   no_keep_rest (Drop kind k) us n = n
 
-  task_aside : (t : stack.Task) (u : Task) (us : List Task) → NoKeep i (u ∷ us) → TaskShows spots kept t u → TaskShows spots' kept' t u
+  task_aside : (t : stack.Task) (u : Task) (us : List Task) → NoKeep i (u ∷ us) → TaskRepresents spots kept t u → TaskRepresents spots' kept' t u
   task_aside (task.Run a) u us n h = h
   task_aside (task.Give a b o) u us n h = h
   task_aside (task.Throw a e) u us n h = h
@@ -67,20 +67,20 @@ module _ (spots spots' : ℕ → Spot) (kept kept' : ℕ → ℕ) (i : ℕ) (sam
       (h.0, h.1 ∙ (rw (s.0, s.1) refl), h.2 ∙ (rw s.0 refl))
   task_aside (task.Close a o) u us n h = h
 
-  pub tasks_aside : (ts : List stack.Task) (us : List Task) → NoKeep i us → TasksShow spots kept ts us → TasksShow spots' kept' ts us
+  pub tasks_aside : (ts : List stack.Task) (us : List Task) → NoKeep i us → TasksRepresent spots kept ts us → TasksRepresent spots' kept' ts us
   tasks_aside [] [] n h = tt
   tasks_aside [] (u ∷ us) n h = absurd h
   tasks_aside (t ∷ ts) [] n h = absurd h
   tasks_aside (t ∷ ts) (u ∷ us) n h = (task_aside t u us n h.0, tasks_aside ts us (no_keep_rest u us n) h.1)
 
 -- nothing has changed where they are the same
-pub tasks_same : (spots spots' : ℕ → Spot) (kept kept' : ℕ → ℕ) → ((j : ℕ) → (spots' j ≡ spots j) × (kept' j ≡ kept j)) → (ts : List stack.Task) (us : List Task) → TasksShow spots kept ts us → TasksShow spots' kept' ts us
+pub tasks_same : (spots spots' : ℕ → Spot) (kept kept' : ℕ → ℕ) → ((j : ℕ) → (spots' j ≡ spots j) × (kept' j ≡ kept j)) → (ts : List stack.Task) (us : List Task) → TasksRepresent spots kept ts us → TasksRepresent spots' kept' ts us
 tasks_same spots spots' kept kept' same [] [] h = tt
 tasks_same spots spots' kept kept' same [] (u ∷ us) h = h
 tasks_same spots spots' kept kept' same (t ∷ ts) [] h = h
 tasks_same spots spots' kept kept' same (t ∷ ts) (u ∷ us) h = (task_same t u h.0, tasks_same spots spots' kept kept' same ts us h.1)
   where
-    task_same : (t : stack.Task) (u : Task) → TaskShows spots kept t u → TaskShows spots' kept' t u
+    task_same : (t : stack.Task) (u : Task) → TaskRepresents spots kept t u → TaskRepresents spots' kept' t u
     task_same (task.Run a) u h = h
     task_same (task.Give a b o) u h = h
     task_same (task.Throw a e) u h = h

@@ -9,7 +9,7 @@ use Rattle.flow_value.specs.Values.{ValueTree, OutcomeTree}
 use Rattle.flow_numbered.specs.Numbered.{Numbered, thing, added, put, removed}
 use Rattle.flow_meaning.specs.Cells.{FutureSide, Waiter, Cell, Single, Stream, waiters, filled, taken, after_taking, as_list, without, left_by}
 use Rattle.flow_meaning.specs.Process.{Task, Give, Throw, Entry, Core}
-use Rattle.flow_meaning.specs.Occ.{Scan, Occ}
+use Rattle.flow_meaning.specs.References.{Scan, reference_count}
 use Rattle.flow_meaning.specs.Lines.{take_line, cancel_line}
 use Rattle.flow_meaning.specs.Work.{writes, new_cell, fill, fill_cell, free, free_cell, left_cells, running, leave_for, give, take_branch, marked, cancel_by, cancel}
 use Rattle.flow_meaning.specs.Orderly.{Rising}
@@ -67,7 +67,7 @@ free_tidy z k cell c at w t =
     subst (λ x. Unless (Tidy z) (free_cell k x c)) (sym at) (unless c.halted (gone_tidy z k cell c at w t))
 
 -- where no future is left, nobody waits
-pub nobody_waits : (scan : Scan) (k : ℕ) (cell : Cell) (c : Core) → thing c.cells k ≡ Some cell → Occ scan FutureSide k c ≡ 0 → waiters cell ≡ []
+pub nobody_waits : (scan : Scan) (k : ℕ) (cell : Cell) (c : Core) → thing c.cells k ≡ Some cell → reference_count scan FutureSide k c ≡ 0 → waiters cell ≡ []
 nobody_waits scan k cell c at e =
     unwaited k (waiters cell)
     (let a = cells_sum FutureSide k c.cells in

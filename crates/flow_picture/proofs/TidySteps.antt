@@ -12,10 +12,10 @@ use Rattle.flow_eval.specs.Predefined.{natural}
 use Rattle.flow_trace.specs.declared.line.Line.{Line}
 use Rattle.flow_numbered.specs.Numbered.{Numbered, thing, added, put, removed}
 use Rattle.flow_meaning.specs.Cells.{Side, PromiseSide, FutureSide, side_of, Ref, Waiter, Cell, Single, Stream, is_complete, is_ready, waiters}
-use Rattle.flow_meaning.specs.Asks.{Spot, Act, Goes, Pass, Drops, Effects, Operand, Waits, Sends, Cancels, Prints, SendsTo, Returns, Throws, RunsOut, Stuck, DiskCall, Effect, Make, Start, Draw, Delay, Never, Listen, Disk, Goal, Stored, Kept, Ask, Supply}
+use Rattle.flow_meaning.specs.Requests.{Spot, Act, Goes, Pass, Drops, Effects, Operand, Waits, Sends, Cancels, Prints, SendsTo, Returns, Throws, RunsOut, Stuck, DiskCall, Effect, Make, Start, Draw, Delay, Never, Listen, Disk, Goal, Stored, Kept, Ask, Supply}
 use Rattle.flow_meaning.specs.Process.{Task, Run, Give, Throw, Catch, Store, Keep, Close, Fire, Drop, Entry, Halt, Core, Proc, Raised, Engine}
 use Rattle.flow_meaning.specs.Lines.{broken_line, end_line, throw_line, print_line}
-use Rattle.flow_meaning.specs.Occ.{Scan, Occ, scan_of}
+use Rattle.flow_meaning.specs.References.{Scan, reference_count, scan_of}
 use Rattle.flow_meaning.specs.Work.{writes, pushed, new_cell, fill, take_branch, first_ready, is_ready_at, owner, cancel, cancel_owner}
 use Rattle.flow_meaning.specs.Dropping.{promises_gone, loss, port_of, suffer, lose_cell, lose_ref, drop, fire_to, fire_at, fire_cell, set_result, give_result, close}
 use Rattle.flow_meaning.specs.Effects.{throws, result_task, push_result, gives_new, gives_open, empty_cell, between, is_port, open_port, judged, ask_disk, effect, send_to}
@@ -29,8 +29,8 @@ use Rattle.flow_meaning.proofs.Shifts.{either, run_of, keep_of, close_of}
 use Rattle.flow_meaning.proofs.Order.{Ordered, ordered, rising_added}
 use Rattle.flow_meaning.proofs.OrderTasks.{taken_at}
 use Rattle.flow_picture.specs.Rested.{NumbersRise}
-use Rattle.flow_picture.specs.Keeps as law
-use Rattle.flow_picture.specs.Keeps.{Tied}
+use Rattle.flow_picture.specs.CellsTied as law
+use Rattle.flow_picture.specs.CellsTied.{CellsTied}
 use Rattle.flow_picture.specs.Alone.{owners_of}
 use Rattle.flow_picture.proofs.Owners.{entry_found}
 use Rattle.flow_picture.proofs.OwnersOnce.{Since, since, once_since, once_of, port_gone, request_gone, port_made, request_made}
@@ -132,7 +132,7 @@ start_tidy z i goal class name c r t =
     by_goal (Kept spot) n = let d = pushed (Keep i spot (kind.Future, suc c.made)) (pushed (Run i) (record c { left = n })) in unless c.halted (enrol_tidy z class name d r t)
 
 -- drops
-suffer_tidy : (z : Since) → (scan : Scan) (s : Side) (k : ℕ) (cell : Cell) (a b : ℕ) (o : Option (ℕ × Entry)) (q : Option ℕ) (c : Core) → thing c.cells k ≡ Some cell → Occ scan FutureSide k c ≡ b → owner k c.entries ≡ o
+suffer_tidy : (z : Since) → (scan : Scan) (s : Side) (k : ℕ) (cell : Cell) (a b : ℕ) (o : Option (ℕ × Entry)) (q : Option ℕ) (c : Core) → thing c.cells k ≡ Some cell → reference_count scan FutureSide k c ≡ b → owner k c.entries ≡ o
     → Rising 0 c.started c.entries → Tidy z c → Unless (Tidy z) (suffer k (loss s a b cell o q) c)
 suffer_tidy z scan PromiseSide k cell zero zero o q c at f ow r t = free_tidy z k cell c at (nobody_waits scan k cell c at f) t
 suffer_tidy z scan FutureSide k cell zero zero o q c at f ow r t = free_tidy z k cell c at (nobody_waits scan k cell c at f) t
@@ -152,7 +152,7 @@ suffer_tidy z scan FutureSide k cell (suc a) zero None None c at f ow r t = unle
 
 lose_cell_tidy : (z : Since) → (scan : Scan) (s : Side) (k : ℕ) (x : Option Cell) (c : Core) → thing c.cells k ≡ x → Rising 0 c.started c.entries → Tidy z c → Unless (Tidy z) (lose_cell scan s k x c)
 lose_cell_tidy z scan s k None c at r t = tt
-lose_cell_tidy z scan s k (Some cell) c at r t = suffer_tidy z scan s k cell (Occ scan PromiseSide k c) (Occ scan FutureSide k c) (owner k c.entries) (port_of k c.ports) c at refl refl r t
+lose_cell_tidy z scan s k (Some cell) c at r t = suffer_tidy z scan s k cell (reference_count scan PromiseSide k c) (reference_count scan FutureSide k c) (owner k c.entries) (port_of k c.ports) c at refl refl r t
 
 lose_tidy : (z : Since) → (scan : Scan) (s : Side) (k : ℕ) (c : Core) → Rising 0 c.started c.entries → Tidy z c → Unless (Tidy z) (lose_ref scan s k c)
 lose_tidy z scan s k c r t = lose_cell_tidy z scan s k (thing c.cells k) c refl r t
@@ -176,7 +176,7 @@ fire_cell_tidy z scan k None c at r t = tt
 fire_cell_tidy z scan k (Some cell) c at r t = fire_at_tidy z scan k cell (is_ready cell) (waiters cell) c at r t
 
 -- an actor ends
-result_tidy : (z : Since) → (scan : Scan) (k : ℕ) (v : OutcomeTree) (f : ℕ) (c : Core) → Occ scan FutureSide k c ≡ f → Tidy z c → Unless (Tidy z) (set_result k v f c)
+result_tidy : (z : Since) → (scan : Scan) (k : ℕ) (v : OutcomeTree) (f : ℕ) (c : Core) → reference_count scan FutureSide k c ≡ f → Tidy z c → Unless (Tidy z) (set_result k v f c)
 result_tidy z scan k v zero c e t = unless c.halted (by_cell (thing c.cells k) refl)
   where
     no_thing : (k : ℕ) (cs : Numbered Cell) → thing cs k ≡ None → removed cs k ≡ cs
@@ -194,7 +194,7 @@ result_tidy z scan k v (suc f) c e t = after_turn (Tidy z) (fill k v) c c.left (
 
 given_tidy : (z : Since) → (scan : Scan) (x : Option ℕ) (v : OutcomeTree) (c : Core) → Tidy z c → Unless (Tidy z) (give_result scan x v c)
 given_tidy z scan None v c t = unless c.halted t
-given_tidy z scan (Some k) v c t = result_tidy z scan k v (Occ scan FutureSide k c) c refl t
+given_tidy z scan (Some k) v c t = result_tidy z scan k v (reference_count scan FutureSide k c) c refl t
 
 close_tidy : (z : Since) → (scan : Scan) (i : ℕ) (x : Option ℕ) (v : OutcomeTree) (c : Core) → Awake i c → Rising 0 c.started c.entries → Tidy z c → Unless (Tidy z) (close scan i x v c)
 close_tidy z scan i x v c a r t =
@@ -287,13 +287,13 @@ module _ {A : Type 0} (z : Since) (e : Engine A) where
   step_keeps s p q o t h = subst KeepsMaybe h (if_keeps s p.core.halted p.core p.actors (ordered p.core o) t)
 
 -- as it is said
-to_tied : (z : Since) (c : Core) → ((k : ℕ) → z.owners k < 2) → Tidy z c → Tied c
+to_tied : (z : Since) (c : Core) → ((k : ℕ) → z.owners k < 2) → Tidy z c → CellsTied c
 to_tied z c few t = record { agree = t.0; numbers = record { ports = t.3; cells = t.1; requests = t.2 }; once = once_of z c few t.4 }
 
-to_tidy : (c : Core) → Tied c → Tidy (since c) c
+to_tidy : (c : Core) → CellsTied c → Tidy (since c) c
 to_tidy c t = (t.agree, t.numbers.cells, t.numbers.requests, t.numbers.ports, once_since c t.once)
 
-few_then : (c : Core) → Tied c → (k : ℕ) → owners_of k c < 2
+few_then : (c : Core) → CellsTied c → (k : ℕ) → owners_of k c < 2
 few_then c t k = (t.once k).0
 
 pub steps_tied : law.StepsTied
@@ -316,7 +316,7 @@ closed_rise k above n (x ∷ xs) h = by_test (nat_eq k x) (closed_rise k x n xs 
     by_test true g = from above x xs (omega (arith, h.0)) h.2
     by_test false g = (h.0, h.1, g)
 
-pub deliveries_since : (k : ℕ) (o : OutcomeTree) (c : Core) → Tied c → Unless (Tidy (since c)) (deliver k o c)
+pub deliveries_since : (k : ℕ) (o : OutcomeTree) (c : Core) → CellsTied c → Unless (Tidy (since c)) (deliver k o c)
 deliveries_since k o c t =
     let u = to_tidy c t in
     let d = pushed (Drop kind.Promise k) (record c { requests = closed_request k c.requests }) in
@@ -326,13 +326,13 @@ deliveries_since k o c t =
 pub deliveries_tied : law.DeliveriesTied
 deliveries_tied k o c t = unless_map (deliver k o c).halted (to_tied (since c) (deliver k o c) (few_then c t)) (deliveries_since k o c t)
 
-pub arrivals_since : (k : ℕ) (v : ValueTree) (c : Core) → Tied c → Unless (Tidy (since c)) (arrive k v c)
+pub arrivals_since : (k : ℕ) (v : ValueTree) (c : Core) → CellsTied c → Unless (Tidy (since c)) (arrive k v c)
 arrivals_since k v c t = after_turn (Tidy (since c)) (fill k (GoodOutcome v)) c c.left (λ n. fill_tidy (since c) k (GoodOutcome v) (record c { left = n }) (to_tidy c t))
 
 pub arrivals_tied : law.ArrivalsTied
 arrivals_tied k v c t = unless_map (arrive k v c).halted (to_tied (since c) (arrive k v c) (few_then c t)) (arrivals_since k v c t)
 
-pub boots_since : (class : ℕ) (name : List ℕ) (c : Core) → Orderly c → Tied c → Unless (Tidy (since c)) (boot_core class name c)
+pub boots_since : (class : ℕ) (name : List ℕ) (c : Core) → Orderly c → CellsTied c → Unless (Tidy (since c)) (boot_core class name c)
 boots_since class name c o t =
     after_turn (Tidy (since c)) (λ d. record (enrol class name d) { main = Some (suc d.made) }) c c.left
     (λ n. unless c.halted (enrol_tidy (since c) class name (record c { left = n }) o.numbered (to_tidy c t)))
@@ -340,7 +340,7 @@ boots_since class name c o t =
 pub boots_tied : law.BootsTied
 boots_tied class name c o t = unless_map (boot_core class name c).halted (to_tied (since c) (boot_core class name c) (few_then c t)) (boots_since class name c o t)
 
-stopped_tied : (m : Option ℕ) (c : Core) → Tied c → Tied (stop_main m c)
+stopped_tied : (m : Option ℕ) (c : Core) → CellsTied c → CellsTied (stop_main m c)
 stopped_tied None c t = t
 stopped_tied (Some k) c t = record { agree = t.agree; numbers = record { ports = t.numbers.ports; cells = t.numbers.cells; requests = t.numbers.requests }; once = t.once }
 

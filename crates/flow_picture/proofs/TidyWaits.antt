@@ -6,7 +6,7 @@ use Rattle.flow_base.specs.ErrorNumbers.{second_waiter}
 use Rattle.flow_value.specs.Values.{ValueTree}
 use Rattle.flow_numbered.specs.Numbered.{Numbered, thing, added, put, removed}
 use Rattle.flow_meaning.specs.Cells.{Ref, Waiter, Cell, Single, Stream, waiters, with_waiter, is_busy}
-use Rattle.flow_meaning.specs.Asks.{Spot}
+use Rattle.flow_meaning.specs.Requests.{Spot}
 use Rattle.flow_meaning.specs.Process.{Throw, Entry, Core}
 use Rattle.flow_meaning.specs.Work.{new_cell, Registration, Registered, Refused, Missing, register_at, register_one, register}
 use Rattle.flow_meaning.specs.Step.{entry_of, enrol, with_operand}

@@ -10,10 +10,10 @@ use Rattle.flow_cell.specs.Cells.{CellTree}
 use Rattle.flow_stream.specs.Streams.{StreamTree}
 use Rattle.flow_numbered.specs.Numbered.{Numbered, thing}
 use Rattle.flow_meaning.specs.Cells.{Waiter, Cell, Single, Stream, as_list}
-use Rattle.flow_meaning.specs.Asks.{Spot}
-use Rattle.flow_picture.specs.Shows.{CellShows, waiter_in}
+use Rattle.flow_meaning.specs.Requests.{Spot}
+use Rattle.flow_picture.specs.Representing.{CellRepresents, waiter_in}
 use Rattle.flow_picture.specs.Counted.{branches_of, waiters_at}
-use Rattle.flow_picture.proofs.Cells.{CellsShow}
+use Rattle.flow_picture.proofs.Cells.{CellsRepresent}
 
 -- Where each actor stands may change for one that waits nowhere.
 module _ (spots spots' : ℕ → Spot) (i : ℕ) (same : (j : ℕ) → (i ≡ j → ⊥) → spots' j ≡ spots j) where
@@ -44,7 +44,7 @@ module _ (spots spots' : ℕ → Spot) (i : ℕ) (same : (j : ℕ) → (i ≡ j 
   maybe_aside None h = refl
   maybe_aside (Some w) h = let s = same w.actor (differs w.actor (not_of w [] h)) in rw s refl
 
-  cell_aside : (m : Option (CellTree Outcome)) (s : Option (StreamTree Value)) (c : Option Cell) → branches_of i (waiters_at c) ≡ [] → CellShows spots m s c → CellShows spots' m s c
+  cell_aside : (m : Option (CellTree Outcome)) (s : Option (StreamTree Value)) (c : Option Cell) → branches_of i (waiters_at c) ≡ [] → CellRepresents spots m s c → CellRepresents spots' m s c
   cell_aside None None None n h = tt
   cell_aside (Some m) None (Some (Single o ws)) n h = (h.0, h.1 ∙ waiters_aside ws n)
   cell_aside None (Some m) (Some (Stream q e w)) n h = (h.0, h.1, h.2 ∙ maybe_aside w n)
@@ -56,7 +56,7 @@ module _ (spots spots' : ℕ → Spot) (i : ℕ) (same : (j : ℕ) → (i ≡ j 
   cell_aside (Some m) (Some s) None n h = absurd h
   cell_aside (Some m) (Some s) (Some c) n h = absurd h
 
-  pub cells_aside : (ms : stored.Numbered (CellTree Outcome)) (ss : stored.Numbered (StreamTree Value)) (cs : Numbered Cell) → ((k : ℕ) → branches_of i (waiters_at (thing cs k)) ≡ []) → CellsShow spots ms ss cs → CellsShow spots' ms ss cs
+  pub cells_aside : (ms : stored.Numbered (CellTree Outcome)) (ss : stored.Numbered (StreamTree Value)) (cs : Numbered Cell) → ((k : ℕ) → branches_of i (waiters_at (thing cs k)) ≡ []) → CellsRepresent spots ms ss cs → CellsRepresent spots' ms ss cs
   cells_aside ms ss cs n all k = cell_aside (stored.thing ms k) (stored.thing ss k) (thing cs k) (n k) (all k)
 
 -- where all stand as before, nothing has changed
@@ -69,7 +69,7 @@ module _ (spots spots' : ℕ → Spot) (same : (j : ℕ) → spots' j ≡ spots 
   maybe_same None = refl
   maybe_same (Some w) = let s = same w.actor in rw s refl
 
-  cell_same : (m : Option (CellTree Outcome)) (s : Option (StreamTree Value)) (c : Option Cell) → CellShows spots m s c → CellShows spots' m s c
+  cell_same : (m : Option (CellTree Outcome)) (s : Option (StreamTree Value)) (c : Option Cell) → CellRepresents spots m s c → CellRepresents spots' m s c
   cell_same None None None h = tt
   cell_same (Some m) None (Some (Single o ws)) h = (h.0, h.1 ∙ waiters_same ws)
   cell_same None (Some m) (Some (Stream q e w)) h = (h.0, h.1, h.2 ∙ maybe_same w)
@@ -81,5 +81,5 @@ module _ (spots spots' : ℕ → Spot) (same : (j : ℕ) → spots' j ≡ spots 
   cell_same (Some m) (Some s) None h = absurd h
   cell_same (Some m) (Some s) (Some c) h = absurd h
 
-  pub cells_same : (ms : stored.Numbered (CellTree Outcome)) (ss : stored.Numbered (StreamTree Value)) (cs : Numbered Cell) → CellsShow spots ms ss cs → CellsShow spots' ms ss cs
+  pub cells_same : (ms : stored.Numbered (CellTree Outcome)) (ss : stored.Numbered (StreamTree Value)) (cs : Numbered Cell) → CellsRepresent spots ms ss cs → CellsRepresent spots' ms ss cs
   cells_same ms ss cs all k = cell_same (stored.thing ms k) (stored.thing ss k) (thing cs k) (all k)

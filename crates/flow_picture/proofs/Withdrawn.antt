@@ -15,11 +15,11 @@ use Rattle.flow_cancel.specs.Heap.{HeapTree}
 use Rattle.flow_cancel.specs.Leaving.{leave_one, leave_all, leave_cell_at, leave_stream_at, left_cells, kind_at, is_waiter}
 use Rattle.flow_numbered.specs.Numbered.{Numbered, thing}
 use Rattle.flow_meaning.specs.Cells.{Ref, Waiter, Cell, Single, Stream}
-use Rattle.flow_meaning.specs.Asks.{Spot}
+use Rattle.flow_meaning.specs.Requests.{Spot}
 use Rattle.flow_meaning.specs.Process.{Task, Drop}
 use Rattle.flow_meaning.specs.Work.{drops}
 use Rattle.flow_meaning.proofs.Posture.{same_number, other_number, each_number}
-use Rattle.flow_picture.specs.Shows.{CellShows, TasksShow, waiter_in, held_from}
+use Rattle.flow_picture.specs.Representing.{CellRepresents, TasksRepresent, waiter_in, held_from}
 use Rattle.flow_picture.specs.Counted.{branches_at}
 use Rattle.flow_picture.specs.Leaving.{wait_kind, RightKinds}
 use Rattle.flow_picture.proofs.Finds.{stored_other, stored_put}
@@ -59,20 +59,20 @@ module _ (spots : ℕ → Spot) (i : ℕ) where
   stream_less b None = None
   stream_less b (Some m) = if is_waiter (the_waiter b) m.waiter then Some (record m { waiter = None }) else Some m
 
-  single_leaves : (b : ℕ) (m : CellTree Outcome) (o : Option _) (ws : List Waiter) → CellShows spots (Some m) None (Some (Single o ws)) → CellShows spots (single_less b (Some m)) None (Some (Single o (without_branch ws i b)))
+  single_leaves : (b : ℕ) (m : CellTree Outcome) (o : Option _) (ws : List Waiter) → CellRepresents spots (Some m) None (Some (Single o ws)) → CellRepresents spots (single_less b (Some m)) None (Some (Single o (without_branch ws i b)))
   single_leaves b m o ws s = by_test (has_waiter m.waiters (the_waiter b)) refl
     where
       found : has_waiter m.waiters (the_waiter b) ≡ has_branch ws i b
       found = ap (λ vs. has_waiter vs (the_waiter b)) s.1 ∙ has_as spots i b ws
 
-      by_test : (t : Bool) → has_waiter m.waiters (the_waiter b) ≡ t → CellShows spots (if t then Some (record m { waiters = without_newest m.waiters (the_waiter b) }) else Some m) None (Some (Single o (without_branch ws i b)))
+      by_test : (t : Bool) → has_waiter m.waiters (the_waiter b) ≡ t → CellRepresents spots (if t then Some (record m { waiters = without_newest m.waiters (the_waiter b) }) else Some m) None (Some (Single o (without_branch ws i b)))
       by_test true e = (s.0, ap (λ vs. without_newest vs (the_waiter b)) s.1 ∙ without_as spots i b ws)
       by_test false e = (s.0, s.1 ∙ ap (map (waiter_in spots)) (sym (unhad spots i b ws (sym found ∙ e))))
 
-  stream_leaves : (b : ℕ) (m : StreamTree Value) (q : List _) (x : Option ℕ) (w : Option Waiter) → CellShows spots None (Some m) (Some (Stream q x w)) → CellShows spots None (stream_less b (Some m)) (Some (Stream q x (less_one i b w)))
+  stream_leaves : (b : ℕ) (m : StreamTree Value) (q : List _) (x : Option ℕ) (w : Option Waiter) → CellRepresents spots None (Some m) (Some (Stream q x w)) → CellRepresents spots None (stream_less b (Some m)) (Some (Stream q x (less_one i b w)))
   stream_leaves b m q x None s = by_test (is_waiter (the_waiter b) m.waiter) (ap (is_waiter (the_waiter b)) s.2)
     where
-      by_test : (t : Bool) → t ≡ false → CellShows spots None (if t then Some (record m { waiter = None }) else Some m) (Some (Stream q x None))
+      by_test : (t : Bool) → t ≡ false → CellRepresents spots None (if t then Some (record m { waiter = None }) else Some m) (Some (Stream q x None))
       by_test true e = absurd (cc)
       by_test false e = s
   stream_leaves b m q x (Some w) s = by_test (is_waiter (the_waiter b) m.waiter) (is_branch i b w) (ap (is_waiter (the_waiter b)) s.2 ∙ same_waiters)
@@ -87,15 +87,15 @@ module _ (spots : ℕ → Spot) (i : ℕ) where
           one_of : has_waiter (map (waiter_in spots) (w ∷ [])) (the_waiter b) ≡ has_branch (w ∷ []) i b → is_waiter (the_waiter b) (Some (waiter_in spots w)) ≡ is_branch i b w
           one_of e = sym (or_none (is_waiter (the_waiter b) (Some (waiter_in spots w)))) ∙ e ∙ or_none (is_branch i b w)
 
-      by_test : (t u : Bool) → t ≡ u → CellShows spots None (if t then Some (record m { waiter = None }) else Some m) (Some (Stream q x (if u then None else Some w)))
+      by_test : (t u : Bool) → t ≡ u → CellRepresents spots None (if t then Some (record m { waiter = None }) else Some m) (Some (Stream q x (if u then None else Some w)))
       by_test true true e = (s.0, s.1, refl)
       by_test true false e = absurd (cc)
       by_test false true e = absurd (cc)
       by_test false false e = s
 
   -- what stands at each number afterwards
-  abbrev AllShow : HeapTree → (ℕ → Option Cell) → Type 0
-  AllShow h c = (k : ℕ) → CellShows spots (stored.thing h.cells.things k) (stored.thing h.streams.things k) (c k)
+  abbrev AllRepresent : HeapTree → (ℕ → Option Cell) → Type 0
+  AllRepresent h c = (k : ℕ) → CellRepresents spots (stored.thing h.cells.things k) (stored.thing h.streams.things k) (c k)
 
   -- a heap whose cells and tasks alone are others
   pub record SameBeside (d h : HeapTree) : Type 0 where
@@ -125,21 +125,21 @@ module _ (spots : ℕ → Spot) (i : ℕ) where
           by_test false = record { frames = refl; actors = refl; made = refl; cells = refl; streams = refl; main = refl; ports = refl; requests = refl }
 
   -- one branch leaves a cell
-  there : (b k : ℕ) (h : HeapTree) (o : Option (CellTree Outcome)) (x : Option (StreamTree Value)) (c : Option Cell) → stored.thing h.cells.things k ≡ o → stored.thing h.streams.things k ≡ x → CellShows spots o x c
-      → CellShows spots (stored.thing (leave_cell_at k (the_waiter b) o h).cells.things k) (stored.thing (leave_cell_at k (the_waiter b) o h).streams.things k) (one_cell b c)
+  there : (b k : ℕ) (h : HeapTree) (o : Option (CellTree Outcome)) (x : Option (StreamTree Value)) (c : Option Cell) → stored.thing h.cells.things k ≡ o → stored.thing h.streams.things k ≡ x → CellRepresents spots o x c
+      → CellRepresents spots (stored.thing (leave_cell_at k (the_waiter b) o h).cells.things k) (stored.thing (leave_cell_at k (the_waiter b) o h).streams.things k) (one_cell b c)
   there b k h None None None e f s = rw (f, e) (rw f tt)
   there b k h (Some m) None (Some (Single v ws)) e f s =
-      subst (λ z. CellShows spots (stored.thing (left_cells k (the_waiter b) m h.cells).things k) z (Some (Single v (without_branch ws i b)))) (sym f)
-      (subst (λ z. CellShows spots z None (Some (Single v (without_branch ws i b)))) (sym (by_test (has_waiter m.waiters (the_waiter b)))) (single_leaves b m v ws s))
+      subst (λ z. CellRepresents spots (stored.thing (left_cells k (the_waiter b) m h.cells).things k) z (Some (Single v (without_branch ws i b)))) (sym f)
+      (subst (λ z. CellRepresents spots z None (Some (Single v (without_branch ws i b)))) (sym (by_test (has_waiter m.waiters (the_waiter b)))) (single_leaves b m v ws s))
     where
       by_test : (t : Bool) → stored.thing (if t then stored.with_thing h.cells k (record m { waiters = without_newest m.waiters (the_waiter b) }) else h.cells).things k
           ≡ (if t then Some (record m { waiters = without_newest m.waiters (the_waiter b) }) else Some m)
       by_test true = stored_put h.cells.things k m (record m { waiters = without_newest m.waiters (the_waiter b) }) e
       by_test false = e
   there b k h None (Some m) (Some (Stream q x w)) e f s =
-      subst (λ z. CellShows spots z (stored.thing (leave_stream_at k (the_waiter b) (stored.thing h.streams.things k) h.streams).things k) (Some (Stream q x (less_one i b w)))) (sym e)
-      (subst (λ z. CellShows spots None (stored.thing (leave_stream_at k (the_waiter b) z h.streams).things k) (Some (Stream q x (less_one i b w)))) (sym f)
-      (subst (λ z. CellShows spots None z (Some (Stream q x (less_one i b w)))) (sym (by_test (is_waiter (the_waiter b) m.waiter))) (stream_leaves b m q x w s)))
+      subst (λ z. CellRepresents spots z (stored.thing (leave_stream_at k (the_waiter b) (stored.thing h.streams.things k) h.streams).things k) (Some (Stream q x (less_one i b w)))) (sym e)
+      (subst (λ z. CellRepresents spots None (stored.thing (leave_stream_at k (the_waiter b) z h.streams).things k) (Some (Stream q x (less_one i b w)))) (sym f)
+      (subst (λ z. CellRepresents spots None z (Some (Stream q x (less_one i b w)))) (sym (by_test (is_waiter (the_waiter b) m.waiter))) (stream_leaves b m q x w s)))
     where
       by_test : (t : Bool) → stored.thing (if t then stored.with_thing h.streams k (record m { waiter = None }) else h.streams).things k ≡ (if t then Some (record m { waiter = None }) else Some m)
       by_test true = stored_put h.streams.things k m (record m { waiter = None }) f
@@ -171,7 +171,7 @@ module _ (spots : ℕ → Spot) (i : ℕ) where
           by_test false = (refl, refl)
 
   -- the kind by which it waited
-  kind_as : (o : Option (CellTree Outcome)) (x : Option (StreamTree Value)) (c : Option Cell) → CellShows spots o x c → kind_at o ≡ wait_kind c
+  kind_as : (o : Option (CellTree Outcome)) (x : Option (StreamTree Value)) (c : Option Cell) → CellRepresents spots o x c → kind_at o ≡ wait_kind c
   kind_as None None None s = refl
   kind_as (Some m) None (Some (Single v ws)) s = refl
   kind_as None (Some m) (Some (Stream q e w)) s = refl
@@ -207,14 +207,14 @@ module _ (spots : ℕ → Spot) (i : ℕ) where
 
   -- all of them leave
   pub record Left (kept : ℕ → ℕ) (d h : HeapTree) (c : ℕ → Option Cell) (us : List Task) : Type 0 where
-    pub cells : AllShow d c
-    pub tasks : TasksShow spots kept d.tasks us
+    pub cells : AllRepresent d c
+    pub tasks : TasksRepresent spots kept d.tasks us
     pub beside : SameBeside d h
 
-  pub leave_these : (kept : ℕ → ℕ) (h : HeapTree) (cs : Numbered Cell) (us : List Task) → AllShow h (λ k. thing cs k) → TasksShow spots kept h.tasks us
+  pub leave_these : (kept : ℕ → ℕ) (h : HeapTree) (cs : Numbered Cell) (us : List Task) → AllRepresent h (λ k. thing cs k) → TasksRepresent spots kept h.tasks us
       → (rs : List Ref) (b n : ℕ) → n ≡ (spots i).first + b → RightKinds cs rs → Left kept (leave_all i (held_from n rs) h) h (λ k. cell_less i (branches_at k b rs) (thing cs k)) (drops rs us)
   leave_these kept h cs us all ts [] b n e kinds = record {
-    cells = λ k. subst (λ z. CellShows spots (stored.thing h.cells.things k) (stored.thing h.streams.things k) z) (same_cell (thing cs k)) (all k);
+    cells = λ k. subst (λ z. CellRepresents spots (stored.thing h.cells.things k) (stored.thing h.streams.things k) z) (same_cell (thing cs k)) (all k);
     tasks = ts;
     beside = record { frames = refl; actors = refl; made = refl; cells = refl; streams = refl; main = refl; ports = refl; requests = refl };
   }
@@ -230,13 +230,13 @@ module _ (spots : ℕ → Spot) (i : ℕ) where
           → Left kept (leave_one i (record { callback = n; cell = record { 0 = r.1 } }) g) h (λ k. cell_less i (branches_at k b (r ∷ rs)) (thing cs k)) (drops (r ∷ rs) us)
       after g l = record {
         cells =
-            each_number r.1 (λ k. CellShows spots (stored.thing d.cells.things k) (stored.thing d.streams.things k) (cell_less i (branches_at k b (r ∷ rs)) (thing cs k)))
-            (subst (λ z. CellShows spots (stored.thing d.cells.things r.1) (stored.thing d.streams.things r.1) z) here_less
-            (subst (λ m. CellShows spots (stored.thing (leave_cell_at r.1 (record { actor = record { 0 = i }; callback = m }) o g).cells.things r.1)
+            each_number r.1 (λ k. CellRepresents spots (stored.thing d.cells.things k) (stored.thing d.streams.things k) (cell_less i (branches_at k b (r ∷ rs)) (thing cs k)))
+            (subst (λ z. CellRepresents spots (stored.thing d.cells.things r.1) (stored.thing d.streams.things r.1) z) here_less
+            (subst (λ m. CellRepresents spots (stored.thing (leave_cell_at r.1 (record { actor = record { 0 = i }; callback = m }) o g).cells.things r.1)
             (stored.thing (leave_cell_at r.1 (record { actor = record { 0 = i }; callback = m }) o g).streams.things r.1) (one_cell b (cell_less i (branches_at r.1 (suc b) rs) (thing cs r.1)))) (sym e)
             (there b r.1 g o (stored.thing g.streams.things r.1) (cell_less i (branches_at r.1 (suc b) rs) (thing cs r.1)) refl refl (l.cells r.1))))
             (λ j differ. let x = elsewhere r.1 j (record { actor = record { 0 = i }; callback = n }) g o differ in
-            subst (λ z. CellShows spots (stored.thing d.cells.things j) (stored.thing d.streams.things j) z) (other_less j differ) (rw (x.0, x.1) (l.cells j)));
+            subst (λ z. CellRepresents spots (stored.thing d.cells.things j) (stored.thing d.streams.things j) z) (other_less j differ) (rw (x.0, x.1) (l.cells j)));
         tasks = (ap (λ z. Drop z r.1) (kinds.0 ∙ sym (less_kind (branches_at r.1 (suc b) rs) (thing cs r.1)) ∙ sym (kind_as o (stored.thing g.streams.things r.1) (cell_less i (branches_at r.1 (suc b) rs) (thing cs r.1)) (l.cells r.1))), rw (tasks_left r.1 (record { actor = record { 0 = i }; callback = n }) g o) l.tasks);
         beside = both d g h (leave_one i (record { callback = n; cell = record { 0 = r.1 } }) g).tasks (same_left r.1 (record { actor = record { 0 = i }; callback = n }) g o (stored.thing g.streams.things r.1) refl) l.beside;
       }

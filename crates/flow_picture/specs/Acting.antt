@@ -12,7 +12,7 @@ use Rattle.flow_meaning.specs.Process.{Task, Keep, Entry, Core, Proc}
 use Rattle.flow_meaning.specs.Step.{proc, entry_of}
 use Rattle.flow_meaning.specs.Orderly.{Rising}
 use Rattle.flow_meaning.specs.Frame.{Frame, blanks}
-use Rattle.flow_picture.specs.Shows.{Shows, Somebody, OneActor, wait_spot}
+use Rattle.flow_picture.specs.Representing.{Represents, Somebody, OneActor, wait_spot}
 use Rattle.flow_picture.specs.Counted.{branches_of, waiters_at}
 
 -- no operand of an actor is to be kept
@@ -75,42 +75,42 @@ module _ (r : RawTree) (h : HeapTree) (p : Proc Frame) where
   -- An actor changes: it stands at the same wait, with as many operands; or it is free.
   abbrev pub ActorKept : Type 0
   ActorKept =
-      (i : ℕ) (n : Note) (m : FrameTree Value) (e : Entry) (f : Frame) → Shows r h p → (s : At r h p i)
+      (i : ℕ) (n : Note) (m : FrameTree Value) (e : Entry) (f : Frame) → Represents r h p → (s : At r h p i)
       → OneActor r n m e f
       → wait_spot f ≡ wait_spot s.frame → length e.operands ≡ length s.entry.operands
-      → Shows r (actor_put i n m h) (put_actor i e f p)
+      → Represents r (actor_put i n m h) (put_actor i e f p)
 
   abbrev pub ActorMoved : Type 0
   ActorMoved =
-      (i : ℕ) (n : Note) (m : FrameTree Value) (e : Entry) (f : Frame) → Shows r h p → At r h p i
+      (i : ℕ) (n : Note) (m : FrameTree Value) (e : Entry) (f : Frame) → Represents r h p → At r h p i
       → OneActor r n m e f → Free i p.core
-      → Shows r (actor_put i n m h) (put_actor i e f p)
+      → Represents r (actor_put i n m h) (put_actor i e f p)
 
   -- only its frame does
   abbrev pub FrameKept : Type 0
   FrameKept =
-      (i : ℕ) (m : FrameTree Value) (f : Frame) → Shows r h p → (s : At r h p i)
+      (i : ℕ) (m : FrameTree Value) (f : Frame) → Represents r h p → (s : At r h p i)
       → OneActor r s.note m s.entry f → wait_spot f ≡ wait_spot s.frame
-      → Shows r (frame_put i m h) (put_frame i f p)
+      → Represents r (frame_put i m h) (put_frame i f p)
 
   abbrev pub FrameMoved : Type 0
   FrameMoved =
-      (i : ℕ) (m : FrameTree Value) (f : Frame) → Shows r h p → (s : At r h p i)
+      (i : ℕ) (m : FrameTree Value) (f : Frame) → Represents r h p → (s : At r h p i)
       → OneActor r s.note m s.entry f → Free i p.core
-      → Shows r (frame_put i m h) (put_frame i f p)
+      → Represents r (frame_put i m h) (put_frame i f p)
 
   -- an actor starts, and is finished
   abbrev pub Started : Type 0
   Started =
-      (class places k : ℕ) (c : ClassTree) → Shows r h p → slice_get r.classes class ≡ Some c
+      (class places k : ℕ) (c : ClassTree) → Represents r h p → slice_get r.classes class ≡ Some c
       → places ≡ length c.slots + length c.locals
       → Rising 0 p.core.started p.core.entries → Free (suc p.core.started) p.core
-      → Shows r (started class places (Some (cell_id k)) h) (with_actor class k (blank c) p)
+      → Represents r (started class places (Some (cell_id k)) h) (with_actor class k (blank c) p)
 
   abbrev pub Finished : Type 0
   Finished =
-      (i most : ℕ) → Shows r h p → At r h p i → Free i p.core
+      (i most : ℕ) → Represents r h p → At r h p i → Free i p.core
       → stored.IsRising 0 h.actors.things h.actors.greatest
       → stored.IsRising 0 h.frames.things h.frames.greatest
       → Rising 0 p.core.started p.core.entries → Rising 0 most p.actors
-      → Shows r (finished i h) (without_actor i p)
+      → Represents r (finished i h) (without_actor i p)

@@ -21,7 +21,7 @@ use Rattle.flow_numbered.specs.Numbered.{thing}
 use Rattle.flow_meaning.specs.Cells.{Side, FutureSide, Cell}
 use Rattle.flow_meaning.specs.Process.{Entry, Proc}
 use Rattle.flow_meaning.specs.Frame.{Frame}
-use Rattle.flow_picture.specs.Shows.{Shows}
+use Rattle.flow_picture.specs.Representing.{Represents}
 use Rattle.flow_picture.specs.Counted.{memory_side, references, nothing_in_hand, Counted}
 use Rattle.flow_picture.specs.Changes.{cell_put, stream_put}
 use Rattle.flow_picture.specs.Rested.{Referenced}
@@ -70,11 +70,11 @@ module _ (r : RawTree) (h : HeapTree) (p : Proc Frame) where
 
   -- so it is in the process that the heap shows
   abbrev pub AliveShown : Type 0
-  AliveShown = Shows r h p → Counted nothing_in_hand h p → Alive h → Referenced p
+  AliveShown = Represents r h p → Counted nothing_in_hand h p → Alive h → Referenced p
 
   abbrev pub WantedShown : Type 0
   WantedShown =
-      (i k : ℕ) (e : Entry) → Shows r h p → Counted nothing_in_hand h p → Wanted h
+      (i k : ℕ) (e : Entry) → Represents r h p → Counted nothing_in_hand h p → Wanted h
       → thing p.core.entries i ≡ Some e → e.marked ≡ false → e.result ≡ Some k → 0 < references FutureSide k p
 
 module _ (h : HeapTree) where

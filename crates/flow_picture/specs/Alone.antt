@@ -5,9 +5,9 @@ use Rattle.flow_class.specs.Classes.{RawTree}
 use Rattle.flow_references.specs.Named.{Rule}
 use Rattle.flow_numbered.specs.Numbered.{Numbered}
 use Rattle.flow_meaning.specs.Cells.{PromiseSide, side_of}
-use Rattle.flow_meaning.specs.Asks.{Supply, Effect, Start, Delay, Never, Listen, Disk}
+use Rattle.flow_meaning.specs.Requests.{Supply, Effect, Start, Delay, Never, Listen, Disk}
 use Rattle.flow_meaning.specs.Process.{Entry, Core, Proc}
-use Rattle.flow_meaning.specs.Occ.{same_side, count_maybe, in_ports, in_requests}
+use Rattle.flow_meaning.specs.References.{same_side, count_maybe, in_ports, in_requests}
 use Rattle.flow_meaning.specs.Step.{Stepped, step}
 use Rattle.flow_meaning.specs.Class.{classes}
 use Rattle.flow_meaning.specs.Frame.{Frame}

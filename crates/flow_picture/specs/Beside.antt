@@ -12,30 +12,30 @@ use Rattle.flow_meaning.specs.Dropping.{port_of}
 use Rattle.flow_meaning.specs.Deliver.{closed_request, vanish}
 use Rattle.flow_meaning.specs.Step.{on_core}
 use Rattle.flow_meaning.specs.Frame.{Frame}
-use Rattle.flow_picture.specs.Shows.{Shows, cell_number}
+use Rattle.flow_picture.specs.Representing.{Represents, cell_number}
 use Rattle.flow_picture.specs.Rested.{NumbersRise, OneEach}
 
 module _ (r : RawTree) (h : HeapTree) (p : Proc Frame) where
   -- the hold on the result of `main`
   abbrev pub MainHeld : Type 0
   MainHeld =
-      (o : Option CellId) → Shows r h p
-      → Shows r (record h { main = o }) (on_core (λ c. record c { main = option_map cell_number o }) p)
+      (o : Option CellId) → Represents r h p
+      → Represents r (record h { main = o }) (on_core (λ c. record c { main = option_map cell_number o }) p)
 
   -- a port that nobody listened to gets a stream, and is gone
   abbrev pub PortAdded : Type 0
   PortAdded =
-      (port k : ℕ) → Shows r h p
-      → Shows r (record h {
+      (port k : ℕ) → Represents r h p
+      → Represents r (record h {
         ports =
             with_number h.ports k;
       }) (on_core (λ c. record c { ports = added c.ports port k }) p)
 
   abbrev pub PortGone : Type 0
   PortGone =
-      (port k : ℕ) → Shows r h p → port_of k p.core.ports ≡ Some port → OneEach p.core.ports
+      (port k : ℕ) → Represents r h p → port_of k p.core.ports ≡ Some port → OneEach p.core.ports
       → has_number (without_number h.ports k) k ≡ false
-      → Shows r (record h {
+      → Represents r (record h {
         ports =
             without_number h.ports k;
       }) (on_core (λ c. record c { ports = removed c.ports port }) p)
@@ -43,20 +43,20 @@ module _ (r : RawTree) (h : HeapTree) (p : Proc Frame) where
   -- a request is opened on a new cell, and closed
   abbrev pub RequestAdded : Type 0
   RequestAdded =
-      (k above most : ℕ) → Shows r h p → NumbersRise above most p.core.requests → most < k
-      → Shows r (record h {
+      (k above most : ℕ) → Represents r h p → NumbersRise above most p.core.requests → most < k
+      → Represents r (record h {
         requests =
             with_number h.requests k;
       }) (on_core (λ c. record c { requests = c.requests ++ k ∷ [] }) p)
 
   abbrev pub RequestClosed : Type 0
   RequestClosed =
-      (k : ℕ) → Shows r h p
-      → Shows r (record h {
+      (k : ℕ) → Represents r h p
+      → Represents r (record h {
         requests =
             without_number h.requests k;
       }) (on_core (λ c. record c { requests = closed_request k c.requests }) p)
 
   -- everything goes but the numbers given so far
   abbrev pub Vanished : Type 0
-  Vanished = Shows r h p → Shows r (cleared h) (vanish p)
+  Vanished = Represents r h p → Represents r (cleared h) (vanish p)

@@ -13,7 +13,7 @@ use Rattle.flow_cancel.specs.Heap.{HeapTree}
 use Rattle.flow_numbered.specs.Numbered.{Numbered, thing}
 use Rattle.flow_meaning.specs.Cells.{Side, PromiseSide, FutureSide, Ref, Waiter, Cell, waiters}
 use Rattle.flow_meaning.specs.Process.{Entry, Core, Proc}
-use Rattle.flow_meaning.specs.Occ.{Scan, scan_of, Occ}
+use Rattle.flow_meaning.specs.References.{Scan, scan_of, reference_count}
 use Rattle.flow_meaning.specs.Frame.{Frame, occ_memory}
 
 abbrev pub memory_side : Side → memory.Side
@@ -35,7 +35,7 @@ frames_hold fs = scan_of (λ s k f. occ_memory s k f.mem) fs
 
 -- the references to a side of a cell in a process of frames
 abbrev pub references : Side → ℕ → Proc Frame → ℕ
-references s k p = Occ (frames_hold p.actors) s k p.core
+references s k p = reference_count (frames_hold p.actors) s k p.core
 
 abbrev pub nothing_in_hand : Scan
 nothing_in_hand s k = 0

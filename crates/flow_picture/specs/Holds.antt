@@ -24,14 +24,14 @@ use Rattle.flow_cancel.specs.Leaving.{withdrawn, cancelled}
 use Rattle.flow_numbered.specs.Numbered.{thing}
 use Rattle.flow_meaning.specs.Cells.{Ref, side_of, Cell, is_complete}
 use Rattle.flow_meaning.specs.Process.{Task, Run, Entry, Core, Proc}
-use Rattle.flow_meaning.specs.Occ.{Scan, count, refs_in, value_in, in_task}
+use Rattle.flow_meaning.specs.References.{Scan, count, refs_in, value_in, in_task}
 use Rattle.flow_meaning.specs.Work.{fill, cancel}
 use Rattle.flow_meaning.specs.Orderly.{Rising}
 use Rattle.flow_meaning.specs.Work as work
 use Rattle.flow_meaning.specs.Dropping.{lose_ref}
 use Rattle.flow_meaning.specs.Step.{on_core}
 use Rattle.flow_meaning.specs.Frame.{Frame}
-use Rattle.flow_picture.specs.Shows.{Shows}
+use Rattle.flow_picture.specs.Representing.{Represents}
 use Rattle.flow_picture.specs.Counted.{Counted, Agree, frames_hold}
 use Rattle.flow_picture.specs.Acting.{NoKeep, At}
 use Rattle.flow_picture.specs.Leaving.{RightKinds, left_wait}
@@ -40,7 +40,7 @@ use Rattle.flow_picture.specs.Losing.{RightCell, Losing, Same}
 
 -- A heap shows a process, and its counts are the references in it and in hand.
 pub record Holds (r : RawTree) (in_hand : Scan) (h : HeapTree) (p : Proc Frame) : Type 0 where
-  pub shows : Shows r h p
+  pub shows : Represents r h p
   pub counted : Counted in_hand h p
 
 -- references come to hand

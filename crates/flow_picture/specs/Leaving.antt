@@ -13,7 +13,7 @@ use Rattle.flow_meaning.specs.Process.{Entry, Core, Proc}
 use Rattle.flow_meaning.specs.Work.{drops, leave, cancel_by}
 use Rattle.flow_meaning.specs.Step.{on_core}
 use Rattle.flow_meaning.specs.Frame.{Frame}
-use Rattle.flow_picture.specs.Shows.{Shows}
+use Rattle.flow_picture.specs.Representing.{Represents}
 use Rattle.flow_picture.specs.Counted.{branches_of, branches_at, waiters_at}
 use Rattle.flow_picture.specs.Acting.{NoKeep, At}
 
@@ -47,12 +47,12 @@ left_wait i e c = record (leave i e c) { tasks = drops e.operands c.tasks }
 module _ (r : RawTree) (h : HeapTree) (p : Proc Frame) where
   abbrev pub Withdrawn : Type 0
   Withdrawn =
-      (i : ℕ) → Shows r h p → (s : At r h p i) → MayLeave i s.entry.operands p.core
-      → Shows r (withdrawn i h) (on_core (left_wait i s.entry) p)
+      (i : ℕ) → Represents r h p → (s : At r h p i) → MayLeave i s.entry.operands p.core
+      → Represents r (withdrawn i h) (on_core (left_wait i s.entry) p)
 
   -- an actor is marked as cancelled, and leaves its wait if it is suspended
   abbrev pub Cancelled : Type 0
   Cancelled =
-      (i : ℕ) → Shows r h p → (s : At r h p i)
+      (i : ℕ) → Represents r h p → (s : At r h p i)
       → (s.entry.suspended ≡ true → MayLeave i s.entry.operands p.core)
-      → Shows r (cancelled i h) (on_core (cancel_by s.entry.suspended i s.entry) p)
+      → Represents r (cancelled i h) (on_core (cancel_by s.entry.suspended i s.entry) p)

@@ -1,4 +1,4 @@
-pub mod Shows
+pub mod Representing
 pub mod Counted
 pub mod Rested
 pub mod Changes
@@ -6,11 +6,11 @@ pub mod Acting
 pub mod Leaving
 pub mod Beside
 pub mod References
-pub mod Keeping
+pub mod CountChanges
 pub mod Losing
-pub mod Standing
+pub mod FrameChanges
 pub mod Holding
-pub mod Keeps
+pub mod CellsTied
 pub mod Alive
 pub mod Starting
 pub mod Example

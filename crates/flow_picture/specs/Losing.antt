@@ -11,13 +11,13 @@ use Rattle.flow_cancel.specs.declared.task.Dropped.TheVariants as memory
 use Rattle.flow_numbered.specs.Numbered.{thing, removed}
 use Rattle.flow_meaning.specs.Cells.{PromiseSide, FutureSide, side_of, Cell, Single, Stream}
 use Rattle.flow_meaning.specs.Process.{Core, Proc}
-use Rattle.flow_meaning.specs.Occ.{one}
+use Rattle.flow_meaning.specs.References.{one}
 use Rattle.flow_meaning.specs.Work.{free, owner}
 use Rattle.flow_meaning.specs.Dropping.{Loss, Kept, Freed, Broken, Orphan, Unheard, loss, port_of}
 use Rattle.flow_meaning.specs.Orderly.{Rising}
 use Rattle.flow_meaning.specs.Step.{on_core}
 use Rattle.flow_meaning.specs.Frame.{Frame}
-use Rattle.flow_picture.specs.Shows.{Shows}
+use Rattle.flow_picture.specs.Representing.{Represents}
 use Rattle.flow_picture.specs.Counted.{references, nothing_in_hand, Counted}
 use Rattle.flow_picture.specs.Rested.{Owned, InNumbers, Sorted}
 
@@ -31,7 +31,7 @@ RightCell _ _ = ⊥
 
 -- A reference to a cell was taken out of the process, and still counts in memory.
 pub record Losing (r : RawTree) (h : HeapTree) (p : Proc Frame) (kd : Kind) (k : ℕ) (c : Cell) : Type 0 where
-  pub shows : Shows r h p
+  pub shows : Represents r h p
   pub counted : Counted (λ s j. one s j (side_of kd) k) h p
   pub cell : thing p.core.cells k ≡ Some c
   pub right : RightCell kd c
@@ -42,21 +42,21 @@ pub record Losing (r : RawTree) (h : HeapTree) (p : Proc Frame) (kd : Kind) (k :
 
 -- a heap shows a process, and its counts are the process's references
 abbrev pub Same : RawTree → HeapTree → Proc Frame → Type 0
-Same r h p = Shows r h p × Counted nothing_in_hand h p
+Same r h p = Represents r h p × Counted nothing_in_hand h p
 
 -- the stream of a port goes, and the port
 abbrev pub free_port : (cell port : ℕ) → Core → Core
 free_port k q c = free k (record c { ports = removed c.ports q })
 
 -- What memory says of the loss, and the case of the rule: the heap shows the process, or the one whose cell is gone.
-abbrev pub Follows : RawTree → Proc Frame → ℕ → Lost → Loss → Type 0
-Follows r p k (h, memory.Nothing) Kept = Same r h p
-Follows r p k (h, memory.Freed) Freed = Same r h (on_core (free k) p)
-Follows r p k (h, memory.Broken) Broken = Same r h p
-Follows r p k (h, memory.Cancel a) (Orphan i e) =
+abbrev pub LossMatches : RawTree → Proc Frame → ℕ → Lost → Loss → Type 0
+LossMatches r p k (h, memory.Nothing) Kept = Same r h p
+LossMatches r p k (h, memory.Freed) Freed = Same r h (on_core (free k) p)
+LossMatches r p k (h, memory.Broken) Broken = Same r h p
+LossMatches r p k (h, memory.Cancel a) (Orphan i e) =
     (a ≡ actor_id i) × (thing p.core.entries i ≡ Some e) × Same r h p
-Follows r p k (h, memory.PortFreed) (Unheard q) = Same r h (on_core (free_port k q) p)
-Follows r p k _ _ = ⊥
+LossMatches r p k (h, memory.PortFreed) (Unheard q) = Same r h (on_core (free_port k q) p)
+LossMatches r p k _ _ = ⊥
 
 module _ (r : RawTree) (h : HeapTree) (p : Proc Frame) where
   abbrev pub MayDrop : Type 0
@@ -65,4 +65,4 @@ module _ (r : RawTree) (h : HeapTree) (p : Proc Frame) where
   abbrev pub LossFollows : Type 0
   LossFollows =
       (kd : Kind) (k : ℕ) (c : Cell) → Losing r h p kd k c
-      → Follows r p k (dropped kd k h) (loss (side_of kd) (references PromiseSide k p) (references FutureSide k p) c (owner k p.core.entries) (port_of k p.core.ports))
+      → LossMatches r p k (dropped kd k h) (loss (side_of kd) (references PromiseSide k p) (references FutureSide k p) c (owner k p.core.entries) (port_of k p.core.ports))

@@ -9,7 +9,7 @@ use Rattle.flow_class.specs.Classes.{RawTree}
 use Rattle.flow_references.specs.Named.{Rule, GivesFutures, Named, AllNamed, MaybeNamed}
 use Rattle.flow_numbered.specs.Numbered.{Numbered, thing}
 use Rattle.flow_meaning.specs.Cells.{Ref, Cell, Single, Stream}
-use Rattle.flow_meaning.specs.Asks.{Act, Effects, Effect, Make, Start, Draw, Delay, Never, Listen, Disk, Ask, Supply}
+use Rattle.flow_meaning.specs.Requests.{Act, Effects, Effect, Make, Start, Draw, Delay, Never, Listen, Disk, Ask, Supply}
 use Rattle.flow_meaning.specs.Process.{Task, Run, Give, Throw, Catch, Store, Keep, Close, Fire, Drop, Entry, Core, Proc}
 use Rattle.flow_meaning.specs.Step.{Stepped, view, step}
 use Rattle.flow_meaning.specs.Deliver.{deliver, arrive, boot, stop}

@@ -6,7 +6,7 @@ use Rattle.flow_value.specs.Values.{ValueTree, OutcomeTree}
 use Rattle.flow_numbered.specs.Numbered.{thing, added, put, removed}
 use Rattle.flow_meaning.specs.Cells.{Side, PromiseSide, FutureSide, Ref, Waiter, Cell, Single, Stream, waiters, held, is_complete, is_busy, taken, after_taking, with_waiter}
 use Rattle.flow_meaning.specs.Process.{Task, Entry, Proc}
-use Rattle.flow_meaning.specs.Occ.{refs_in, value_in, one, count, count_maybe, count_waiters, count_kept, in_task}
+use Rattle.flow_meaning.specs.References.{refs_in, value_in, one, count, count_maybe, count_waiters, count_kept, in_task}
 use Rattle.flow_meaning.specs.Work.{pushed, dropping, dropping_values, new_cell, fill}
 use Rattle.flow_meaning.specs.Orderly.{Rising}
 use Rattle.flow_meaning.specs.Step.{proc, on_core, popped}

@@ -14,7 +14,7 @@ use Rattle.flow_meaning.specs.Dropping.{port_of}
 use Rattle.flow_meaning.specs.Views.{Referred}
 use Rattle.flow_meaning.specs.Class.{classes}
 use Rattle.flow_meaning.specs.Frame.{Frame}
-use Rattle.flow_picture.specs.Shows.{Shows}
+use Rattle.flow_picture.specs.Representing.{Represents}
 use Rattle.flow_picture.specs.Counted.{references, nothing_in_hand, Counted, Agree}
 
 -- numbers that rise strictly, and the last is n at most
@@ -83,7 +83,7 @@ pub record Sorted (h : HeapTree) : Type 0 where
 
 -- What a heap and the process that it shows keep from step to step of an event that isn't stopped.
 pub record Running (r : RawTree) (h : HeapTree) (p : Proc Frame) : Type 0 where
-  pub shows : Shows r h p
+  pub shows : Represents r h p
   pub counted : Counted nothing_in_hand h p
   pub agree : Agree p.core
   pub orderly : Orderly p.core

@@ -4,11 +4,11 @@ use Rattle.flow_cancel.specs.Heap.{HeapTree, no_heap, cleared}
 use Rattle.flow_meaning.specs.Process.{Proc}
 use Rattle.flow_meaning.specs.Deliver.{idle, vanish}
 use Rattle.flow_meaning.specs.Frame.{Frame}
-use Rattle.flow_picture.specs.Shows.{Shows}
+use Rattle.flow_picture.specs.Representing.{Represents}
 use Rattle.flow_picture.specs.Rested.{Rested}
 
 abbrev pub IdleRests : Type 0
 IdleRests = (r : RawTree) → Rested r no_heap idle
 
 abbrev pub VanishedRests : Type 0
-VanishedRests = (r : RawTree) (h : HeapTree) (p : Proc Frame) → Shows r h p → Rested r (cleared h) (vanish p)
+VanishedRests = (r : RawTree) (h : HeapTree) (p : Proc Frame) → Represents r h p → Rested r (cleared h) (vanish p)

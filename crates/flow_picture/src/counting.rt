@@ -7,13 +7,13 @@ ghost use Rattle.flow_meaning.specs.Cells.{Side};
 ghost use Rattle.flow_meaning.specs.Process.{Proc};
 ghost use Rattle.flow_meaning.specs.Frame.{Frame};
 ghost use Rattle.flow_picture.specs.References as of;
-ghost use Rattle.flow_picture.specs.Keeping as kept;
+ghost use Rattle.flow_picture.specs.CountChanges as kept;
 ghost use Rattle.flow_picture.specs.Losing as losing;
 ghost use Rattle.flow_picture.specs.Alive as alive;
 ghost use Rattle.flow_picture.specs.Holds as holds;
 
 /// How many places of a process refer to a side of a cell, after each thing that a process does to its tasks and cells.
-pub fn references_of_cells()
+pub fn cell_work_changes_references()
     ensures pushed { (p : Proc Frame) (s : Side) (j : ℕ) → of.OfPushed p s j }
     ensures popped { (p : Proc Frame) (s : Side) (j : ℕ) → of.OfPopped p s j }
     ensures dropped { (p : Proc Frame) (s : Side) (j : ℕ) → of.OfDropped p s j }
@@ -28,7 +28,7 @@ pub fn references_of_cells()
 
 /// And after each thing that it does to its actors, to the hold on `main`, to ports and to requests. An actor that leaves its
 /// wait changes nothing: its waiters, or the operands that it kept, become drops.
-pub fn references_of_actors()
+pub fn actor_work_changes_references()
     ensures left { (p : Proc Frame) (s : Side) (j : ℕ) → of.OfLeft p s j }
     ensures entry { (p : Proc Frame) (s : Side) (j : ℕ) → of.OfEntry p s j }
     ensures frame { (p : Proc Frame) (s : Side) (j : ℕ) → of.OfFrame p s j }
@@ -42,7 +42,7 @@ pub fn references_of_actors()
 {}
 
 /// The counts that a heap keeps after each thing that is done to its cells.
-pub fn counts_kept()
+pub fn cell_work_changes_counts()
     ensures cell { (h : HeapTree) (s : Side) (j : ℕ) → kept.CellKeeps h s j }
     ensures stream { (h : HeapTree) (s : Side) (j : ℕ) → kept.StreamKeeps h s j }
     ensures held { (h : HeapTree) (s : Side) (j : ℕ) → kept.CellHeld h s j }
@@ -57,7 +57,7 @@ pub fn counts_kept()
 
 /// Where a heap's counts are the references in its process, and one that was taken out, that reference may be dropped; and
 /// what memory says of the loss by its counts is the case of the rule, which is told by a scan for references.
-pub fn losses_follow()
+pub fn counts_decide_losses()
     ensures may { (r : RawTree) (h : HeapTree) (p : Proc Frame) → losing.MayDrop r h p }
     ensures follows { (r : RawTree) (h : HeapTree) (p : Proc Frame) → losing.LossFollows r h p }
 {}
@@ -65,7 +65,7 @@ pub fn losses_follow()
 /// No loss of a reference leaves a cell without one, nor the result of an unmarked actor without a future, but that of the
 /// actor that is to be cancelled; a new cell has a reference as soon as one is held. And where a heap's counts are the references
 /// in its process, the process's cells and results have theirs too.
-pub fn references_stay()
+pub fn losses_leave_cells_referenced()
     ensures alive { (r : RawTree) (h : HeapTree) (p : Proc Frame) → alive.LossAlive r h p }
     ensures wanted { (r : RawTree) (h : HeapTree) (p : Proc Frame) → alive.LossWanted r h p }
     ensures made { (h : HeapTree) → alive.ResultAlive h }
@@ -79,7 +79,7 @@ pub fn references_stay()
 
 /// With the references in hand: one that is stored counts, and so do those of a list; what is in hand goes into a cell, which
 /// fires; and the result of an effect is given by a task, under which the actor goes on.
-pub fn stored_counts()
+pub fn stored_references_count()
     ensures held { (r : RawTree) (h : HeapTree) (p : Proc Frame) → holds.Held r h p }
     ensures all { (r : RawTree) (h : HeapTree) (p : Proc Frame) → holds.AllHeld r h p }
     ensures filled { (r : RawTree) (h : HeapTree) (p : Proc Frame) → holds.Filled r h p }
@@ -88,7 +88,7 @@ pub fn stored_counts()
 
 /// An actor leaves its wait or is cancelled, with the references in hand; and a reference is lost and what that leads to is done
 /// as the rule says: the cell is freed or broken, the actor of its result cancelled, or its port freed.
-pub fn losses_done()
+pub fn losses_are_carried_out()
     ensures left { (r : RawTree) (h : HeapTree) (p : Proc Frame) → holds.WaitLeft r h p }
     ensures cancelled { (r : RawTree) (h : HeapTree) (p : Proc Frame) → holds.ActorCancelled r h p }
     ensures lost { (r : RawTree) (h : HeapTree) (p : Proc Frame) → holds.LossDone r h p }

@@ -10,7 +10,7 @@ ghost use Rattle.flow_picture.specs.Leaving as leaving;
 ghost use Rattle.flow_picture.specs.Beside as beside;
 
 /// Tasks: one comes on top, the newest is taken, drops of references and of values come on top.
-pub fn tasks_shown()
+pub fn heap_represents_task_changes()
     ensures pushed { (r : RawTree) (h : HeapTree) (p : Proc Frame) → tasks_and_cells.Pushed r h p }
     ensures popped { (r : RawTree) (h : HeapTree) (p : Proc Frame) → tasks_and_cells.Popped r h p }
     ensures none { (r : RawTree) (h : HeapTree) (p : Proc Frame) → tasks_and_cells.NoTasks r h p }
@@ -21,7 +21,7 @@ pub fn tasks_shown()
 {}
 
 /// Cells: one is made, or goes; only its counts change; it gets content and fires; an element is taken.
-pub fn cells_shown()
+pub fn heap_represents_cell_changes()
     ensures result { (r : RawTree) (h : HeapTree) (p : Proc Frame)
         → tasks_and_cells.ResultMade r h p }
     ensures stream { (r : RawTree) (h : HeapTree) (p : Proc Frame)
@@ -44,7 +44,7 @@ pub fn cells_shown()
 
 /// Waits: a waiter comes to a cell; an actor leaves its wait, where its operands are dropped in order; and one that is
 /// cancelled does, if it is suspended.
-pub fn waits_shown()
+pub fn heap_represents_wait_changes()
     ensures awaited { (r : RawTree) (h : HeapTree) (p : Proc Frame)
         → tasks_and_cells.CellAwaited r h p }
     ensures stream_awaited { (r : RawTree) (h : HeapTree) (p : Proc Frame)
@@ -55,7 +55,7 @@ pub fn waits_shown()
 
 /// Actors: one changes where it stands, or goes on elsewhere while nothing says where it stands; one starts, and is
 /// finished.
-pub fn actors_shown()
+pub fn heap_represents_actor_changes()
     ensures kept { (r : RawTree) (h : HeapTree) (p : Proc Frame) → actors.ActorKept r h p }
     ensures moved { (r : RawTree) (h : HeapTree) (p : Proc Frame) → actors.ActorMoved r h p }
     ensures frame_kept { (r : RawTree) (h : HeapTree) (p : Proc Frame) → actors.FrameKept r h p }
@@ -65,7 +65,7 @@ pub fn actors_shown()
 {}
 
 /// The hold on the result of `main`, ports, requests, and a loss of power.
-pub fn rest_shown()
+pub fn heap_represents_other_changes()
     ensures main { (r : RawTree) (h : HeapTree) (p : Proc Frame) → beside.MainHeld r h p }
     ensures port { (r : RawTree) (h : HeapTree) (p : Proc Frame) → beside.PortAdded r h p }
     ensures port_gone { (r : RawTree) (h : HeapTree) (p : Proc Frame) → beside.PortGone r h p }

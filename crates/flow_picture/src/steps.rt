@@ -1,6 +1,6 @@
 // What the steps of a process keep.
 
-ghost use Rattle.flow_picture.specs.Keeps.{StepsTied, DeliveriesTied, ArrivalsTied, BootsTied, StopsTied, IdleTied, VanishedTied, OwnersStay};
+ghost use Rattle.flow_picture.specs.CellsTied.{StepsTied, DeliveriesTied, ArrivalsTied, BootsTied, StopsTied, IdleTied, VanishedTied, OwnersStay};
 ghost use Rattle.std.specs.Prelude.{ℕ, List};
 ghost use Rattle.flow_class.specs.Classes.{RawTree};
 ghost use Rattle.flow_value.specs.declared.value.Value.{Value};
@@ -11,7 +11,7 @@ ghost use Rattle.flow_frame.specs.Frames.{FrameTree};
 ghost use Rattle.flow_picture.specs.Holding as holding;
 ghost use Rattle.flow_picture.specs.Example.{WaitingRests};
 ghost use Rattle.flow_picture.specs.Starting.{IdleRests, VanishedRests};
-ghost use Rattle.flow_picture.specs.Standing as standing;
+ghost use Rattle.flow_picture.specs.FrameChanges as standing;
 ghost use Rattle.flow_picture.specs.Lonely.{StepsLonely, IdleLonely, VanishedLonely, DeliveriesLonely, ArrivalsLonely, BootsLonely, StopsLonely};
 ghost use Rattle.flow_picture.specs.Alone.{OwnersCounted, NobodyElse, NobodyYet, StaysAlone, BornAlone, PortsOnce, RequestsOnce, OneReference};
 ghost use Rattle.flow_picture.specs.Naming.{StepsNamed, AnyMade, DeliveriesNamed, ArrivalsNamed, BootsNamed, StopsNamed};
@@ -20,7 +20,7 @@ ghost use Rattle.flow_picture.specs.Naming.{StepsNamed, AnyMade, DeliveriesNamed
 /// a cell are those of its operands there, that the numbers of cells, requests and ports' streams rise, and that a cell is
 /// made for one thing at most: the result of an actor, the stream of a port, an open request; unless it stops the event. So
 /// it is of a process that never ran, and after a loss of power. A step makes a cell for something only where it makes it.
-pub fn waits_kept()
+pub fn steps_keep_waits_consistent()
     ensures steps { StepsTied }
     ensures deliveries { DeliveriesTied }
     ensures arrivals { ArrivalsTied }
@@ -33,7 +33,7 @@ pub fn waits_kept()
 
 /// What a frame in memory becomes is what the frame of the process becomes: a place is read or written; the actor goes on
 /// elsewhere, keeps an operand, is suspended, is over.
-pub fn frames_shown()
+pub fn heap_represents_frame_changes()
     ensures read { (r : RawTree) (m : FrameTree Value) (e : Entry) (f : Frame)
         → standing.PlaceRead r m e f }
     ensures written { (r : RawTree) (m : FrameTree Value) (e : Entry) (f : Frame)
@@ -50,7 +50,7 @@ pub fn frames_shown()
 
 /// How often a frame refers to a side of a cell, after a place was written or emptied, locals were emptied, or a value was
 /// put where a path leads.
-pub fn references_of_frames()
+pub fn frame_work_changes_references()
     ensures written { (m : Memory) (s : Side) (j : ℕ) → holding.OfWritten m s j }
     ensures emptied { (m : Memory) (s : Side) (j : ℕ) → holding.OfEmptied m s j }
     ensures locals { (m : Memory) (s : Side) (j : ℕ) → holding.OfLocals m s j }
@@ -60,7 +60,7 @@ pub fn references_of_frames()
 
 /// A process that never ran rests, and so does one after a loss of power, and, for example, one whose `main` waits for a
 /// timer: everything that holds at rest holds of it.
-pub fn starts_at_rest()
+pub fn fresh_processes_rest()
     ensures idle { IdleRests }
     ensures vanished { VanishedRests }
     ensures example { WaitingRests }

@@ -20,9 +20,9 @@ use Rattle.flow_cancel.specs.Leaving.{leave_stream_at, leave_cell_at, waiter_of,
 use Rattle.flow_meaning.specs.Cells.{Ref}
 use Rattle.flow_picture.specs.Changes.{cell_put, stream_put}
 use Rattle.flow_picture.specs.Holds.{held_cell, held_stream, hold, hold_all, set_cell, send_stream, filled_in}
-use Rattle.flow_steps.specs.Bringing.{made, promise_ended, without_promise}
+use Rattle.flow_steps.specs.Delivering.{made, promise_ended, without_promise}
 use Rattle.flow_steps.specs.Waiting.{Registered, stream_awaited, awaited, register, register_all, registered_then}
-use Rattle.flow_poised.specs.Poised.{IsEnding}
+use Rattle.flow_poised.specs.StaleWaits.{IsEnding}
 
 pub record Aside (h g : HeapTree) : Type 0 where
   pub frames : g.frames ≡ h.frames

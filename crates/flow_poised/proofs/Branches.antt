@@ -9,7 +9,7 @@ use Rattle.flow_code.specs.Coding.{Coding, homes_of, coded_branch, coded_groups}
 use Rattle.flow_code.specs.Coded.{coding, coded}
 use Rattle.flow_follows.proofs.Stands.{get_mapped, both_mapped}
 use Rattle.flow_executes.proofs.Decodes.{both_there}
-use Rattle.flow_poised.specs.Poised as law
+use Rattle.flow_poised.specs.StaleWaits as law
 
 none_of : {A B : Type 0} (g : A → B) (xs : List A) → map g xs ≡ [] → xs ≡ []
 none_of g [] e = refl

@@ -16,10 +16,10 @@ use Rattle.flow_cancel.specs.Leaving.{waits, withdrawn_from, withdrawn, marked, 
 use Rattle.flow_meaning.proofs.Posture.{each_number}
 use Rattle.flow_picture.specs.Acting.{frame_put}
 use Rattle.flow_picture.proofs.Finds.{stored_other, stored_put, stored_removed, stored_gone}
-use Rattle.flow_steps.specs.Bringing.{gone_to}
-use Rattle.flow_steps.specs.Standing.{reframed, with_frame, gone, noting, places_emptied, place_put, place_lost, places_lost, losing_from, lost_from}
+use Rattle.flow_steps.specs.Delivering.{gone_to}
+use Rattle.flow_steps.specs.Points.{reframed, with_frame, gone, noting, places_emptied, place_put, place_lost, places_lost, losing_from, lost_from}
 use Rattle.flow_steps.specs.Waiting.{callbacks_in, callbacks_of, suspended_at}
-use Rattle.flow_poised.specs.Poised.{IsEnding, Fine, in_no_state, is_waiting, is_ending, Poised}
+use Rattle.flow_poised.specs.StaleWaits.{IsEnding, Fine, in_no_state, is_waiting, is_ending, NoStaleWaits}
 use Rattle.flow_poised.proofs.Aside.{Aside, pushing, dropping_refs, leaving_all}
 
 -- all frames but that of an actor, if there is one, are fine
@@ -31,13 +31,13 @@ fine_in i a ts us more (in_no_state e) = in_no_state e
 fine_in i a ts us more (is_waiting e) = is_waiting e
 fine_in i a ts us more (is_ending e) = is_ending (more e)
 
-pub all_but_none : (h : HeapTree) → PoisedBut None h → Poised h
+pub all_but_none : (h : HeapTree) → PoisedBut None h → NoStaleWaits h
 all_but_none h p i a at = p i a (λ e. absurd (cc (e))) at
 
-pub but_none : (h : HeapTree) → Poised h → PoisedBut None h
+pub but_none : (h : HeapTree) → NoStaleWaits h → PoisedBut None h
 but_none h p i a out at = p i a at
 
-pub but_one : (k : ℕ) (h : HeapTree) → Poised h → PoisedBut (Some k) h
+pub but_one : (k : ℕ) (h : HeapTree) → NoStaleWaits h → PoisedBut (Some k) h
 but_one k h p i a out at = p i a at
 
 pub aside_but : (o : Option ℕ) (h g : HeapTree) → Aside h g → PoisedBut o h → PoisedBut o g
@@ -87,13 +87,13 @@ pub callback_but : (o : Option ℕ) (k : ℕ) (x : Held) (h : HeapTree) → Pois
 callback_but o k x h p = framed_but (λ f. with_callback f x) (tame_callback x) o k h p
 
 -- it goes on elsewhere
-pub gone_poised : (k b n : ℕ) (h : HeapTree) → PoisedBut (Some k) h → Poised (gone k b n h)
+pub gone_poised : (k b n : ℕ) (h : HeapTree) → PoisedBut (Some k) h → NoStaleWaits (gone k b n h)
 gone_poised k b n h p = by_frame (thing h.frames.things k) refl
   where
     other : (i : ℕ) → (k ≡ i → ⊥) → Some k ≡ Some i → ⊥
     other i differ e = differ (cc (e))
 
-    by_frame : (x : Option (FrameTree Value)) → thing h.frames.things k ≡ x → Poised (reframed (gone_to b n) k x h)
+    by_frame : (x : Option (FrameTree Value)) → thing h.frames.things k ≡ x → NoStaleWaits (reframed (gone_to b n) k x h)
     by_frame None at =
         each_number k (λ i. (a : FrameTree Value) → thing h.frames.things i ≡ Some a → Fine i a h.tasks)
         (λ a there. absurd (let e : None ≡ Some a = sym at ∙ there in cc (e)))
@@ -101,7 +101,7 @@ gone_poised k b n h p = by_frame (thing h.frames.things k) refl
     by_frame (Some f) at =
         all_but_none (frame_put k (gone_to b n f) h) (one_put None k f (gone_to b n f) h at (λ out. in_no_state refl) (λ i a differ out there. p i a (other i differ) there))
 
-pub told_poised : (t : Bool) (k b n : ℕ) (h : HeapTree) → Poised h → Poised (noting t k b n h)
+pub told_poised : (t : Bool) (k b n : ℕ) (h : HeapTree) → NoStaleWaits h → NoStaleWaits (noting t k b n h)
 told_poised true k b n h p = p
 told_poised false k b n h p = gone_poised k b n h (but_one k h p)
 
@@ -141,7 +141,7 @@ withdrawn_ends k i h e = by_frame (thing h.frames.things k)
     by_frame (Some f) = (leaving_all k f.callbacks (frame_put k (record f { callbacks = [] }) h)).ends i e
 
 -- it is to be thrown an error, or to end
-pub ending_poised : (k : ℕ) (h : HeapTree) → IsEnding k h.tasks → PoisedBut (Some k) h → Poised h
+pub ending_poised : (k : ℕ) (h : HeapTree) → IsEnding k h.tasks → PoisedBut (Some k) h → NoStaleWaits h
 ending_poised k h e p i =
     each_number k (λ i. (a : FrameTree Value) → thing h.frames.things i ≡ Some a → Fine i a h.tasks) (λ a there. is_ending e)
     (λ i differ a there. p i a (λ s. differ (cc (s))) there) i
@@ -149,10 +149,10 @@ ending_poised k h e p i =
 marking : (k : ℕ) (h : HeapTree) → Aside h (marked k h)
 marking k h = record { frames = refl; ends = λ i e. e }
 
-pub cancelled_poised : (k : ℕ) (h : HeapTree) → Poised h → Poised (cancelled k h)
+pub cancelled_poised : (k : ℕ) (h : HeapTree) → NoStaleWaits h → NoStaleWaits (cancelled k h)
 cancelled_poised k h p = by_wait (suspended k h) (marked k h) (all_but_none (marked k h) (aside_but None h (marked k h) (marking k h) (but_none h p)))
   where
-    by_wait : (b : Bool) (g : HeapTree) → Poised g → Poised (cancelled_by b k g)
+    by_wait : (b : Bool) (g : HeapTree) → NoStaleWaits g → NoStaleWaits (cancelled_by b k g)
     by_wait false g q = q
     by_wait true g q =
         let t : Task = task.Throw (actor_id k) (record { 0 = operation_cancelled }) in
@@ -161,7 +161,7 @@ cancelled_poised k h p = by_wait (suspended k h) (marked k h) (all_but_none (mar
         (withdrawn_but k one (aside_but (Some k) g one (pushing t g) (but_one k g q)))
 
 -- it waits for all its operands
-pub suspended_poised : (k n : ℕ) (h : HeapTree) → (some : (x : Held) × ((xs : List Held) × (callbacks_of k h ≡ x ∷ xs))) → Poised h → Poised (suspended_at k n h)
+pub suspended_poised : (k n : ℕ) (h : HeapTree) → (some : (x : Held) × ((xs : List Held) × (callbacks_of k h ≡ x ∷ xs))) → NoStaleWaits h → NoStaleWaits (suspended_at k n h)
 suspended_poised k n h some p = by_frame (thing h.frames.things k) refl
   where
     fine : (n : ℕ) (f : FrameTree Value) → thing h.frames.things k ≡ Some f → Fine k (in_state n f) h.tasks
@@ -170,7 +170,7 @@ suspended_poised k n h some p = by_frame (thing h.frames.things k) refl
         let held : f.callbacks ≡ some.0 ∷ some.1.0 = sym (ap callbacks_in at) ∙ some.1.1 in
         is_waiting (ap (waits (suc n)) held)
 
-    by_frame : (x : Option (FrameTree Value)) → thing h.frames.things k ≡ x → Poised (reframed (in_state n) k x h)
+    by_frame : (x : Option (FrameTree Value)) → thing h.frames.things k ≡ x → NoStaleWaits (reframed (in_state n) k x h)
     by_frame None at = p
     by_frame (Some f) at =
         all_but_none (frame_put k (in_state n f) h) (one_put None k f (in_state n f) h at (λ out. fine n f at) (λ i a differ out there. p i a there))
@@ -193,7 +193,7 @@ added_is (y ∷ ys) n x i a e = by_test (nat_eq i y.0) refl e (added_is ys n x i
         by_rest (inl s) = inl s
         by_rest (inr s) = inr (ap (λ b. if b then Some y.1 else thing ys i) is ∙ s)
 
-pub started_poised : (class places : ℕ) (xs : List (Option Value)) (o : Option CellId) (h : HeapTree) → Poised h → Poised (started_holding class places xs o h)
+pub started_poised : (class places : ℕ) (xs : List (Option Value)) (o : Option CellId) (h : HeapTree) → NoStaleWaits h → NoStaleWaits (started_holding class places xs o h)
 started_poised class places xs o h p i a at = by_new (added_is h.frames.things (next_actor h) (frames.holding class places xs) i a at)
   where
     by_new : (frames.holding class places xs ≡ a) ⊎ (thing h.frames.things i ≡ Some a) → Fine i a h.tasks
@@ -201,7 +201,7 @@ started_poised class places xs o h p i a at = by_new (added_is h.frames.things (
     by_new (inr s) = p i a s
 
 -- and is finished
-pub finished_poised : (k : ℕ) (h : HeapTree) → IsRising 0 h.frames.things h.frames.greatest → PoisedBut (Some k) h → Poised (finished k h)
+pub finished_poised : (k : ℕ) (h : HeapTree) → IsRising 0 h.frames.things h.frames.greatest → PoisedBut (Some k) h → NoStaleWaits (finished k h)
 finished_poised k h rising p i =
     each_number k (λ i. (a : FrameTree Value) → thing (finished k h).frames.things i ≡ Some a → Fine i a h.tasks)
     (λ a there. absurd (let e : None ≡ Some a = sym (stored_gone h.frames.things h.frames.greatest k rising) ∙ there in cc (e)))

@@ -9,15 +9,15 @@ use Rattle.flow_class.specs.Classes.{RawTree}
 use Rattle.flow_cancel.specs.Heap.{HeapTree}
 use Rattle.flow_numbered.specs.Numbered.{thing}
 use Rattle.flow_meaning.specs.Cells.{Ref}
-use Rattle.flow_meaning.specs.Asks.{Spot}
+use Rattle.flow_meaning.specs.Requests.{Spot}
 use Rattle.flow_meaning.specs.Process.{Proc, Entry, Task, Run, Give, Throw, Catch, Store, Keep, Close, Fire, Drop}
 use Rattle.flow_meaning.specs.Frame.{Frame}
 use Rattle.flow_meaning.specs.Orderly.{Orderly, Proceeds, is_suspended, is_of, tasks_of, steps, stores, keeps, takes, throws, catches, ends}
 use Rattle.flow_meaning.specs.Orderly as orderly
-use Rattle.flow_picture.specs.Shows.{Shows, TaskShows, TasksShow}
+use Rattle.flow_picture.specs.Representing.{Represents, TaskRepresents, TasksRepresent}
 use Rattle.flow_follows.specs.Placing.{Acts}
-use Rattle.flow_poised.specs.Poised as law
-use Rattle.flow_poised.specs.Poised.{Ends, IsEnding, Fine, in_no_state, is_waiting, is_ending}
+use Rattle.flow_poised.specs.StaleWaits as law
+use Rattle.flow_poised.specs.StaleWaits.{Ends, IsEnding, Fine, in_no_state, is_waiting, is_ending}
 
 -- a task of the definitions by which an actor is thrown an error, or ends; and whether there is one
 abbrev EndsIn : ℕ → Task → Type 0
@@ -30,7 +30,7 @@ HasEnd i [] = ⊥
 HasEnd i (t ∷ ts) = EndsIn i t ⊎ HasEnd i ts
 
 module _ (spots : ℕ → Spot) (kept : ℕ → ℕ) (i : ℕ) where
-  ends_same : (t : stack.Task) (u : Task) → TaskShows spots kept t u → Ends i t → EndsIn i u
+  ends_same : (t : stack.Task) (u : Task) → TaskRepresents spots kept t u → Ends i t → EndsIn i u
   ends_same (task.Throw a e) u same end = subst (EndsIn i) (sym same) (sym end)
   ends_same (task.Close a o) u same end = subst (EndsIn i) (sym same) (sym end)
   ends_same (task.Run a) u same end = absurd end
@@ -41,7 +41,7 @@ module _ (spots : ℕ → Spot) (kept : ℕ → ℕ) (i : ℕ) where
   ends_same (task.Store a v) u same end = absurd end
   ends_same (task.Keep a n k) u same end = absurd end
 
-  ending_there : (ts : List stack.Task) (us : List Task) → TasksShow spots kept ts us → IsEnding i ts → HasEnd i us
+  ending_there : (ts : List stack.Task) (us : List Task) → TasksRepresent spots kept ts us → IsEnding i ts → HasEnd i us
   ending_there [] us show end = absurd end
   ending_there (t ∷ ts) [] show end = absurd show
   ending_there (t ∷ ts) (u ∷ us) show (inl end) = inl (ends_same t u show.0 end)
@@ -117,7 +117,7 @@ no_end_kept_by i spot q None xs ys stands e end = cc (stands, e)
 no_end_kept_by i spot q (Some true) xs ys stands e end = cc (stands, e)
 no_end_kept_by i spot q (Some false) xs ys stands e end = no_end_kept i spot q xs ys stands e end
 
-pub at_kept_operand : (r : RawTree) (h : HeapTree) (p q : Proc Frame) (i : ℕ) (spot : Spot) (x : Ref) (e : Entry) (f : Frame) (ts : List Task) → Shows r h p → Orderly p.core → law.Poised h
+pub at_kept_operand : (r : RawTree) (h : HeapTree) (p q : Proc Frame) (i : ℕ) (spot : Spot) (x : Ref) (e : Entry) (f : Frame) (ts : List Task) → Represents r h p → Orderly p.core → law.NoStaleWaits h
     → p.core.tasks ≡ Keep i spot x ∷ ts → (a : Acts r h q i e f) → e.suspended ≡ false → a.memory.state ≡ 0
 at_kept_operand r h p q i spot x e f ts shows in_order poised tasks a awake = by_fine (poised i a.memory a.framed)
   where

@@ -31,22 +31,22 @@ use Rattle.flow_cancel.specs.Heap.{HeapTree, has_number, pushed, finished}
 use Rattle.flow_cancel.specs.Dropping.{Lost, refs_in, cell_lost, cell_less, drop_cell, unheard, stream_lost, stream_less, drop_stream, dropped, dropping}
 use Rattle.flow_cancel.specs.Leaving.{withdrawn}
 use Rattle.flow_picture.specs.Holds.{hold, filled_in}
-use Rattle.flow_steps.specs.declared.frames.Stand.{Stand}
+use Rattle.flow_steps.specs.declared.frames.ControlPoint.{ControlPoint}
 use Rattle.flow_steps.specs.declared.next.Pace.{Pace}
 use Rattle.flow_steps.specs.declared.next.Pace.TheVariants.{On}
 use Rattle.flow_steps.specs.declared.process.Process.{Process}
 use Rattle.flow_steps.specs.Doing.{turned, doing, telling}
 use Rattle.flow_steps.specs.Holding.{on_heap, with_heap, broken, filled_broken, lost_by, lost, outcome_refs, refs_dropped, futures_of}
 use Rattle.flow_steps.specs.Acting.{some_values, with_args}
-use Rattle.flow_steps.specs.Bringing.{made, without_promise, result_set, ended_with, closing}
-use Rattle.flow_steps.specs.Standing.{values, GoesTo, StandsNow, next_stand, places_emptied, lost_from, place_put}
+use Rattle.flow_steps.specs.Delivering.{made, without_promise, result_set, ended_with, closing}
+use Rattle.flow_steps.specs.Points.{values, GoesTo, IsAtPoint, next_stand, places_emptied, lost_from, place_put}
 use Rattle.flow_steps.specs.Stepping.{IsClose}
 use Rattle.flow_steps.specs.Tasks.{bound, Given, TopTaken, with_error, dropped_places, caught, failed, Raises, FiresAt, IsDone, main_waits, main_starts}
-use Rattle.flow_steps.specs.Waiting.{Keeps, kept_marked, kept_unready, kept_ready}
-use Rattle.flow_executes.specs.Going.{InClass}
+use Rattle.flow_steps.specs.Waiting.{KeepsOperand, kept_marked, kept_unready, kept_ready}
+use Rattle.flow_executes.specs.Continuing.{InClass}
 use Rattle.flow_executes.proofs.Onward.{goes_after}
-use Rattle.flow_poised.specs.Poised as law
-use Rattle.flow_poised.specs.Poised.{Ends, IsEnding, Fine, in_no_state, is_waiting, is_ending, Poised, Branched}
+use Rattle.flow_poised.specs.StaleWaits as law
+use Rattle.flow_poised.specs.StaleWaits.{Ends, IsEnding, Fine, in_no_state, is_waiting, is_ending, NoStaleWaits, Branched}
 use Rattle.flow_poised.proofs.Aside.{Aside, and_then, still, pushing, dropping_refs, making, holding, holding_all, filling, losing_promise}
 use Rattle.flow_poised.proofs.Framed.{PoisedBut, all_but_none, but_none, aside_but, place_but, gone_poised, emptied_but, lost_from_but, lost_from_ends, withdrawn_but, withdrawn_ends, ending_poised, started_poised, finished_poised}
 use Rattle.flow_poised.proofs.Steps.{aside_poised, good_is, turned_good, doing_good, noted_good, left_over, gives_good, stopped_good, branch_good, keeps_good, runs_good, goes_on_good}
@@ -82,46 +82,46 @@ losing kind.Future k h = dropping_cell Future k h (thing h.cells.things k)
 losing kind.PromiseStream k h = dropping_stream Promise k h (thing h.streams.things k)
 losing kind.FutureStream k h = dropping_stream Future k h (thing h.streams.things k)
 
-broken_good : (kd : Kind) (k : ℕ) (m : Process) → Poised m.heap → Poised (broken kd k m).heap
+broken_good : (kd : Kind) (k : ℕ) (m : Process) → NoStaleWaits m.heap → NoStaleWaits (broken kd k m).heap
 broken_good kd k m p = by_turn (nat_lt 0 m.left)
   where
-    by_turn : (b : Bool) → Poised (if b then filled_broken kd k (turned m) else turned m).heap
+    by_turn : (b : Bool) → NoStaleWaits (if b then filled_broken kd k (turned m) else turned m).heap
     by_turn false = turned_good m p
     by_turn true = aside_poised (turned m).heap _ (filling kd k _ (turned m).heap) (turned_good m p)
 
-lost_by_good : (kd : Kind) (k : ℕ) (l : Lost) (m : Process) → Poised l.0 → Poised (lost_by kd k l m).heap
+lost_by_good : (kd : Kind) (k : ℕ) (l : Lost) (m : Process) → NoStaleWaits l.0 → NoStaleWaits (lost_by kd k l m).heap
 lost_by_good kd k (h, after.Nothing) m p = p
 lost_by_good kd k (h, after.Freed) m p = p
 lost_by_good kd k (h, after.PortFreed) m p = p
 lost_by_good kd k (h, after.Broken) m p = broken_good kd k (with_heap h m) p
 lost_by_good kd k (h, after.Cancel a) m p = stopped_good a.0 (with_heap h m) p
 
-lost_good : (kd : Kind) (k : ℕ) (m : Process) → Poised m.heap → Poised (lost kd k m).heap
+lost_good : (kd : Kind) (k : ℕ) (m : Process) → NoStaleWaits m.heap → NoStaleWaits (lost kd k m).heap
 lost_good kd k m p = lost_by_good kd k (dropped kd k m.heap) m (aside_poised m.heap (dropped kd k m.heap).0 (losing kd k m.heap) p)
 
 -- an actor ends
-result_good : (k : ℕ) (o : Outcome) (m : Process) → Poised m.heap → Poised (result_set k o m).heap
+result_good : (k : ℕ) (o : Outcome) (m : Process) → NoStaleWaits m.heap → NoStaleWaits (result_set k o m).heap
 result_good k o m p = by_turn (nat_lt 0 m.left)
   where
-    by_turn : (b : Bool) → Poised (if b then on_heap (filled_in kind.Future k o) (on_heap (without_promise k) (turned m)) else turned m).heap
+    by_turn : (b : Bool) → NoStaleWaits (if b then on_heap (filled_in kind.Future k o) (on_heap (without_promise k) (turned m)) else turned m).heap
     by_turn false = turned_good m p
     by_turn true =
         let h = (turned m).heap in
         let g = without_promise k h in
         aside_poised h (filled_in kind.Future k o g) (and_then h g (filled_in kind.Future k o g) (losing_promise k h) (filling kind.Future k o g)) (turned_good m p)
 
-ended_good : (r : Option CellId) (o : Outcome) (m : Process) → Poised m.heap → Poised (ended_with r o m).heap
+ended_good : (r : Option CellId) (o : Outcome) (m : Process) → NoStaleWaits m.heap → NoStaleWaits (ended_with r o m).heap
 ended_good None o m p = aside_poised m.heap _ (dropping_refs (outcome_refs o) m.heap) p
 ended_good (Some k) o m p = by_futures (nat_lt 0 (futures_of (thing m.heap.cells.things k.0)))
   where
-    by_futures : (b : Bool) → Poised (if b then result_set k.0 o m else on_heap (refs_dropped (outcome_refs o)) (lost kind.Promise k.0 m)).heap
+    by_futures : (b : Bool) → NoStaleWaits (if b then result_set k.0 o m else on_heap (refs_dropped (outcome_refs o)) (lost kind.Promise k.0 m)).heap
     by_futures true = result_good k.0 o m p
     by_futures false = aside_poised (lost kind.Promise k.0 m).heap _ (dropping_refs (outcome_refs o) (lost kind.Promise k.0 m).heap) (lost_good kind.Promise k.0 m p)
 
-closing_good : (i : ActorId) (o : Outcome) (r : Option CellId) (m : Process) → Poised m.heap → Poised (closing i o r m).heap
+closing_good : (i : ActorId) (o : Outcome) (r : Option CellId) (m : Process) → NoStaleWaits m.heap → NoStaleWaits (closing i o r m).heap
 closing_good i o r m p = by_turn (nat_lt 0 m.left)
   where
-    by_turn : (b : Bool) → Poised (if b then telling (Rattle.flow_steps.specs.Bringing.end_line i o) (ended_with r o (turned m)) else turned m).heap
+    by_turn : (b : Bool) → NoStaleWaits (if b then telling (Rattle.flow_steps.specs.Delivering.end_line i o) (ended_with r o (turned m)) else turned m).heap
     by_turn true = ended_good r o (turned m) (turned_good m p)
     by_turn false = turned_good m p
 
@@ -130,7 +130,7 @@ error_but : (o : Option ℕ) (i : ℕ) (n : Option ℕ) (e : ErrorCode) (h : Hea
 error_but o i None e h p = p
 error_but o i (Some n) e h p = place_but o i n _ h p
 
-caught_poised : (i : ActorId) (c : Catcher) (e : ErrorCode) (h : HeapTree) → PoisedBut (Some i.0) h → Poised (caught i c e h)
+caught_poised : (i : ActorId) (c : Catcher) (e : ErrorCode) (h : HeapTree) → PoisedBut (Some i.0) h → NoStaleWaits (caught i c e h)
 caught_poised i c e h p =
     let o : Option ℕ = Some i.0 in
     let one = pushed (task.Catch i e) h in
@@ -154,7 +154,7 @@ close_ends i o (task.Drop kd k) is = absurd is
 close_ends i o (task.Store j v) is = absurd is
 close_ends i o (task.Keep j n k) is = absurd is
 
-failed_poised : (i : ActorId) (t : stack.Task) (h : HeapTree) → Ends i.0 t → PoisedBut (Some i.0) h → Poised (failed i t h)
+failed_poised : (i : ActorId) (t : stack.Task) (h : HeapTree) → Ends i.0 t → PoisedBut (Some i.0) h → NoStaleWaits (failed i t h)
 failed_poised i t h end p =
     let o : Option ℕ = Some i.0 in
     let one = pushed t h in
@@ -162,28 +162,28 @@ failed_poised i t h end p =
     ending_poised i.0 (failed i t h) (withdrawn_ends i.0 i.0 two (lost_from_ends i.0 i.0 0 one (inl end)))
     (withdrawn_but i.0 two (lost_from_but o i.0 0 one (aside_but o h one (pushing t h) p)))
 
-raised_good : (i : ActorId) (c : Option Catcher) (e : ErrorCode) (m n : Process) → Raises i c e m n → PoisedBut (Some i.0) m.heap → Poised n.heap
+raised_good : (i : ActorId) (c : Option Catcher) (e : ErrorCode) (m n : Process) → Raises i c e m n → PoisedBut (Some i.0) m.heap → NoStaleWaits n.heap
 raised_good i (Some c) e m n h p = good_is n _ h (caught_poised i c e m.heap p)
 raised_good i None e m n h p = good_is n _ h.fails (failed_poised i h.task m.heap (close_ends i _ h.task h.closes) p)
 
 -- where actors stand
-stands_in : (code : Code) (i : ActorId) (m : Process) (s : Stand) → (now : StandsNow code.classes.items i m s) → InClass code now.frame.class s
+stands_in : (code : Code) (i : ActorId) (m : Process) (s : ControlPoint) → (now : IsAtPoint code.classes.items i m s) → InClass code now.frame.class s
 stands_in code i m s now = record { class = now.stands.class; block = now.stands.block }
 
-goes_in : (code : Code) (k : ℕ) (s t : Stand) (b n : ℕ) → InClass code k s → GoesTo s b n t → InClass code k t
+goes_in : (code : Code) (k : ℕ) (s t : ControlPoint) (b n : ℕ) → InClass code k s → GoesTo s b n t → InClass code k t
 goes_in code k s t b n within to =
-    let same : t.class ≡ s.class = ap (λ (y : Stand). y.class) to.same in record {
+    let same : t.class ≡ s.class = ap (λ (y : ControlPoint). y.class) to.same in record {
       class = within.class ∙ ap (λ y. Some y.now) (sym same);
-      block = ap (λ y. slice_get y.now.blocks.items t.place) same ∙ ap (λ (y : Stand). slice_get s.class.now.blocks.items y.place) to.same ∙ to.at;
+      block = ap (λ y. slice_get y.now.blocks.items t.place) same ∙ ap (λ (y : ControlPoint). slice_get s.class.now.blocks.items y.place) to.same ∙ to.at;
     }
 
-stays_there : (s t : Stand) (x : Held) (m n : Process) (pace : Pace) → pace ≡ On t → Keeps s x m pace n → s ≡ t
+stays_there : (s t : ControlPoint) (x : Held) (m n : Process) (pace : Pace) → pace ≡ On t → KeepsOperand s x m pace n → s ≡ t
 stays_there s t x m n pace on (kept_unready q unmarked unready is) = let e : s ≡ t = cc (on) in e
 stays_there s t x m n pace on (kept_marked q marked is) = absurd (cc (on))
 stays_there s t x m n pace on (kept_ready q b unmarked ready at takes) = absurd (cc (on))
 
 -- a task is taken off
-popped_but : (o : Option ℕ) (t : stack.Task) (m start : Process) → ((i : ℕ) → (o ≡ Some i → ⊥) → Ends i t → ⊥) → TopTaken t m start → Poised m.heap → PoisedBut o start.heap
+popped_but : (o : Option ℕ) (t : stack.Task) (m start : Process) → ((i : ℕ) → (o ≡ Some i → ⊥) → Ends i t → ⊥) → TopTaken t m start → NoStaleWaits m.heap → PoisedBut o start.heap
 popped_but o t m start none taken p = subst (λ (y : Process). PoisedBut o y.heap) (sym taken.rest) off
   where
     fine : (i : ℕ) (a : _) → (o ≡ Some i → ⊥) → Fine i a m.heap.tasks → Fine i a taken.tasks
@@ -201,12 +201,12 @@ popped_but o t m start none taken p = subst (λ (y : Process). PoisedBut o y.hea
 start_frames : (t : stack.Task) (m start : Process) → TopTaken t m start → start.heap.frames ≡ m.heap.frames
 start_frames t m start taken = ap (λ (y : Process). y.heap.frames) taken.rest
 
-bound_good : (i : ℕ) (o : Option ℕ) (v : Value) (m : Process) → Poised m.heap → Poised (on_heap (bound i o v) m).heap
+bound_good : (i : ℕ) (o : Option ℕ) (v : Value) (m : Process) → NoStaleWaits m.heap → NoStaleWaits (on_heap (bound i o v) m).heap
 bound_good i None v m p = p
 bound_good i (Some n) v m p = all_but_none (place_put i n (Some v) m.heap) (place_but None i n (Some v) m.heap (but_none m.heap p))
 
 module _ (code : Code) (branched : Branched code.classes.items) where
-  given_good : (i : ActorId) (b : ℕ) (o : Outcome) (m n : Process) → Given code i b o m n → Poised m.heap → Poised n.heap
+  given_good : (i : ActorId) (b : ℕ) (o : Outcome) (m n : Process) → Given code i b o m n → NoStaleWaits m.heap → NoStaleWaits n.heap
   given_good i b (outcome.Error e) m n h p = good_is n _ h (doing_good (task.Throw i e) m p)
   given_good i b (outcome.Value v) m n h p =
       goes_on_good code branched h.pace h.stands.frame.class
@@ -214,18 +214,18 @@ module _ (code : Code) (branched : Branched code.classes.items) where
       subst (InClass code h.stands.frame.class) (goes_after h.goes t _ _ h.between h.pace h.after on) (goes_in code h.stands.frame.class h.stand h.goes h.branch.block 0 (stands_in code i m h.stand h.stands) h.to))
       h.between n h.further (left_over _ _ (on_heap (bound i.0 h.branch.into v) m) h.between h.pace h.after (bound_good i.0 h.branch.into v m p))
 
-  fires_good : (kd : Kind) (k : CellId) (w : Option Waiter) (m n : Process) → FiresAt code kd k w m n → Poised m.heap → Poised n.heap
+  fires_good : (kd : Kind) (k : CellId) (w : Option Waiter) (m n : Process) → FiresAt code kd k w m n → NoStaleWaits m.heap → NoStaleWaits n.heap
   fires_good kd k None m n h p = good_is n _ h (lost_good kd k.0 m p)
   fires_good kd k (Some w) m n h p = branch_good h.stand h.branch k (doing (task.Fire k) m) n h.takes (doing_good (task.Fire k) m p)
 
-  drop_good : (kd : Kind) (k : ℕ) (m : Process) → Poised m.heap → Poised (if nat_lt 0 m.left then lost kd k (turned m) else turned m).heap
+  drop_good : (kd : Kind) (k : ℕ) (m : Process) → NoStaleWaits m.heap → NoStaleWaits (if nat_lt 0 m.left then lost kd k (turned m) else turned m).heap
   drop_good kd k m p = by_turn (nat_lt 0 m.left)
     where
-      by_turn : (b : Bool) → Poised (if b then lost kd k (turned m) else turned m).heap
+      by_turn : (b : Bool) → NoStaleWaits (if b then lost kd k (turned m) else turned m).heap
       by_turn true = lost_good kd k (turned m) (turned_good m p)
       by_turn false = turned_good m p
 
-  by_task : (t : stack.Task) (m start n : Process) → IsRising 0 m.heap.frames.things m.heap.frames.greatest → Poised m.heap → TopTaken t m start → IsDone code t start n → Poised n.heap
+  by_task : (t : stack.Task) (m start n : Process) → IsRising 0 m.heap.frames.things m.heap.frames.greatest → NoStaleWaits m.heap → TopTaken t m start → IsDone code t start n → NoStaleWaits n.heap
   by_task (task.Run i) m start n rising p taken h =
       runs_good code branched h.stand h.stands.frame.class (stands_in code i start h.stand h.stands) start n h.runs
       (all_but_none start.heap (popped_but None (task.Run i) m start (λ j out end. end) taken p))

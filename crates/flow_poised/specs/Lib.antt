@@ -1,1 +1,1 @@
-pub mod Poised
+pub mod StaleWaits

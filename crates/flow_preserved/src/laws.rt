@@ -1,19 +1,19 @@
 // Compilation preserves what a program does.
 
-ghost use Rattle.flow_preserved.specs.Laws.{TracesKept, TracesReturned, SightsKept, SightsReturned};
+ghost use Rattle.flow_preserved.specs.Laws.{TracesPreserved, TracesReflected, ObservationsPreserved, ObservationsReflected};
 
-use flow_carried::laws::carried_alike;
-use flow_faithful::laws::compiled_faithfully;
+use flow_carried::laws::classes_simulate_program;
+use flow_faithful::laws::compiled_classes_carry_program;
 
 /// Of a program that the front accepts and the classes that it is compiled to the same is seen in every
 /// world: the lines of the trace, and at each boundary of events the unfinished actors and the branches
 /// at which they wait; and so both ways.
-pub fn compiled_alike()
-    ensures traces { TracesKept }
-    ensures traces_back { TracesReturned }
-    ensures views { SightsKept }
-    ensures views_back { SightsReturned }
+pub fn compile_preserves_traces()
+    ensures traces { TracesPreserved }
+    ensures traces_back { TracesReflected }
+    ensures views { ObservationsPreserved }
+    ensures views_back { ObservationsReflected }
 {
-    compiled_faithfully();
-    carried_alike();
+    compiled_classes_carry_program();
+    classes_simulate_program();
 }

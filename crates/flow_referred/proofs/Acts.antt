@@ -12,9 +12,9 @@ use Rattle.flow_draw.specs.Words.{scaled}
 use Rattle.flow_eval.specs.Predefined.{natural}
 use Rattle.flow_numbered.specs.Numbered.{Numbered, thing, added, put}
 use Rattle.flow_meaning.specs.Cells.{Side, PromiseSide, FutureSide, side_of, Cell, Single, Stream, is_complete, filled}
-use Rattle.flow_meaning.specs.Asks.{DiskCall, Effect, Make, Start, Draw, Delay, Never, Listen, Disk, Goal, Stored, Kept, Supply}
+use Rattle.flow_meaning.specs.Requests.{DiskCall, Effect, Make, Start, Draw, Delay, Never, Listen, Disk, Goal, Stored, Kept, Supply}
 use Rattle.flow_meaning.specs.Process.{Task, Run, Throw, Store, Keep, Fire, Entry, Core}
-use Rattle.flow_meaning.specs.Occ.{one, count, count_maybe, in_task, refs_in}
+use Rattle.flow_meaning.specs.References.{one, count, count_maybe, in_task, refs_in}
 use Rattle.flow_meaning.specs.Orderly.{Rising}
 use Rattle.flow_meaning.specs.Lines.{start_line}
 use Rattle.flow_meaning.specs.Work.{turn, writes, pushed, new_cell, fill_cell, fill}
@@ -119,11 +119,11 @@ module _ (k : ℕ) (ys : Numbered Frame) (i : ℕ) where
   effect_refers s goal (Make kd) c h fresh = gives_new_refers goal kd (empty_cell kd) c h fresh
   effect_refers s goal (Start class args) c h fresh = tt
   effect_refers s goal (Draw lo hi) c h fresh =
-      by_if (between (hi -ℤ lo) 1 (2 ^ 32)) (gives i goal (IntValue (scaled lo (natural (hi -ℤ lo)) s.word)) c, Some Rattle.flow_meaning.specs.Asks.Drew) (throws i bad_argument c)
+      by_if (between (hi -ℤ lo) 1 (2 ^ 32)) (gives i goal (IntValue (scaled lo (natural (hi -ℤ lo)) s.word)) c, Some Rattle.flow_meaning.specs.Requests.Drew) (throws i bad_argument c)
       (gives_refers goal (IntValue (scaled lo (natural (hi -ℤ lo)) s.word)) c h) (push_fine (Throw i bad_argument) c h)
   effect_refers s goal (Delay ticks) c h fresh =
       let time = s.now + natural ticks in
-      by_if (nat_le time (2 ^ 62)) (gives_open i goal c, Some (Rattle.flow_meaning.specs.Asks.Timer (suc c.made) time)) (throws i out_of_range c) (gives_open_refers goal c h fresh) (push_fine (Throw i out_of_range) c h)
+      by_if (nat_le time (2 ^ 62)) (gives_open i goal c, Some (Rattle.flow_meaning.specs.Requests.Timer (suc c.made) time)) (throws i out_of_range c) (gives_open_refers goal c h fresh) (push_fine (Throw i out_of_range) c h)
   effect_refers s goal Never c h fresh = gives_new_refers goal kind.Future (Single None []) c h fresh
   effect_refers s goal (Listen port) c h fresh =
       by_if (is_port port) (open_port i goal (natural port) (thing c.ports (natural port)) c) (throws i bad_argument c) (port_refers goal (natural port) (thing c.ports (natural port)) c h fresh) (push_fine (Throw i bad_argument) c h)
@@ -131,7 +131,7 @@ module _ (k : ℕ) (ys : Numbered Frame) (i : ℕ) where
 
   pub send_to_refers : (s : Supply) (q port : ℤ) (text : List ℕ) (c : Core) → Refers k c ys → Fine (send_to s i q port text c).0
   send_to_refers s q port text c h =
-      by_if (int_le (pos 0) q && nat_lt (natural q) s.processes && is_port port) (pushed (Run i) c, Some (Rattle.flow_meaning.specs.Asks.Packet (natural q) (natural port) text)) (throws i bad_argument c)
+      by_if (int_le (pos 0) q && nat_lt (natural q) s.processes && is_port port) (pushed (Run i) c, Some (Rattle.flow_meaning.specs.Requests.Packet (natural q) (natural port) text)) (throws i bad_argument c)
       (push_fine (Run i) c h) (push_fine (Throw i bad_argument) c h)
 
   pub print_refers : (l : Option Line) (c : Core) → Refers k c ys → Fine (print i l c)

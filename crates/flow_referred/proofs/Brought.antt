@@ -9,7 +9,7 @@ use Rattle.flow_class.specs.Classes.{RawTree}
 use Rattle.flow_numbered.specs.Numbered.{Numbered, thing, added, put}
 use Rattle.flow_meaning.specs.Cells.{Side, PromiseSide, FutureSide, Cell, Single, Stream, filled}
 use Rattle.flow_meaning.specs.Process.{Drop, Fire, Core, Proc}
-use Rattle.flow_meaning.specs.Occ.{one, count_maybe, in_task}
+use Rattle.flow_meaning.specs.References.{one, count_maybe, in_task}
 use Rattle.flow_meaning.specs.Orderly.{Rising}
 use Rattle.flow_meaning.specs.Work.{pushed, new_cell, fill_cell, fill}
 use Rattle.flow_meaning.specs.Step.{proc, entry_of, enrol}

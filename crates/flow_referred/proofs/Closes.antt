@@ -7,7 +7,7 @@ use Rattle.flow_class.specs.Classes.{RawTree}
 use Rattle.flow_numbered.specs.Numbered.{Numbered, thing, put, removed}
 use Rattle.flow_meaning.specs.Cells.{Side, PromiseSide, FutureSide, Waiter, Cell, Single, Stream, filled}
 use Rattle.flow_meaning.specs.Process.{Task, Close, Fire, Entry, Core}
-use Rattle.flow_meaning.specs.Occ.{Occ, refs_in, value_in, one, count, count_maybe, count_kept, in_entries, in_task}
+use Rattle.flow_meaning.specs.References.{reference_count, refs_in, value_in, one, count, count_maybe, count_kept, in_entries, in_task}
 use Rattle.flow_meaning.specs.Orderly.{Orderly}
 use Rattle.flow_meaning.specs.Lines.{end_line}
 use Rattle.flow_meaning.specs.Work.{writes, fill_cell, fill, dropping_values}
@@ -20,7 +20,7 @@ use Rattle.flow_meaning.proofs.Posture.{Unless, unless, after_turn, same_number,
 use Rattle.flow_meaning.proofs.Shifts.{close_of}
 use Rattle.flow_meaning.proofs.InOrder.{no_thing}
 use Rattle.flow_picture.specs.Counted.{frames_hold}
-use Rattle.flow_picture.specs.Keeps.{Tied}
+use Rattle.flow_picture.specs.CellsTied.{CellsTied}
 use Rattle.flow_picture.specs.References.{entry_holds, frame_holds}
 use Rattle.flow_picture.specs.Rested.{IsUnset}
 use Rattle.flow_picture.proofs.Keeping.{no_one}
@@ -38,7 +38,7 @@ unset_single (Some (Single None ws)) h = (ws, refl)
 unset_single (Some (Single (Some o) ws)) h = absurd h
 unset_single (Some (Stream q e w)) h = absurd h
 
-module _ (k : ℕ) (r : RawTree) (types : CellTypes) (c : Core) (xs : Numbered Frame) (o : Orderly c) (p : ProcessFits r types c xs) (t : Tied c) (results : ResultsAlone c xs) (ts : List Task) (h : Refers k c xs) (i : ℕ) (oc : OutcomeTree) (top : c.tasks ≡ Close i oc ∷ ts)
+module _ (k : ℕ) (r : RawTree) (types : CellTypes) (c : Core) (xs : Numbered Frame) (o : Orderly c) (p : ProcessFits r types c xs) (t : CellsTied c) (results : ResultsAlone c xs) (ts : List Task) (h : Refers k c xs) (i : ℕ) (oc : OutcomeTree) (top : c.tasks ≡ Close i oc ∷ ts)
     (unset : (j : ℕ) (e : Entry) → thing c.entries i ≡ Some e → e.result ≡ Some j → IsUnset (thing c.cells j)) where
   abbrev ys : Numbered Frame
   ys = removed xs i
@@ -96,7 +96,7 @@ module _ (k : ℕ) (r : RawTree) (types : CellTypes) (c : Core) (xs : Numbered F
                     let g = to_gone w in
                     let m = wants_counts k r types c xs p o.numbered t (removed c.entries i) g.0 g.1 g.2 g.4 in
                     let n = results i result a.entry a.at a.owner.owns in
-                    let n2 : refs k PromiseSide c xs ≡ 1 = subst (λ z. Occ (frames_hold xs) PromiseSide z c ≡ 1) same n in
+                    let n2 : refs k PromiseSide c xs ≡ 1 = subst (λ z. reference_count (frames_hold xs) PromiseSide z c ≡ 1) same n in
                     let x = counted PromiseSide in
                     let y : one PromiseSide k PromiseSide result ≡ 1 = ap (λ z. one PromiseSide k PromiseSide z) same ∙ ap (λ (b : Bool). if b then 1 else 0) (same_number k) in
                     let less : in_entries PromiseSide k (removed c.entries i) ≤ refs k PromiseSide gone ys = omega arith in omega (arith, m, n2, x, y, less)),
@@ -148,7 +148,7 @@ module _ (k : ℕ) (r : RawTree) (types : CellTypes) (c : Core) (xs : Numbered F
         let x = unset_single (thing c.cells result) (unset result a.entry a.at a.owner.owns) in
         subst (λ z. Fine (close (frames_hold ys) i z oc now)) (sym a.owner.owns)
         (after_turn (λ d. Refers k d ys) (λ d. give_result (frames_hold ys) (Some result) oc (writes (end_line i oc) d)) gone c.left
-        (λ n. by_futures x.0 x.1 n (Occ (frames_hold ys) FutureSide result (writes (end_line i oc) (record gone { left = n })))))
+        (λ n. by_futures x.0 x.1 n (reference_count (frames_hold ys) FutureSide result (writes (end_line i oc) (record gone { left = n })))))
 
   pub close_refers : Unless (λ d. Refers k d (close_actor (classes r) i oc (thing c.entries i) (proc now xs)).0.actors) (close_actor (classes r) i oc (thing c.entries i) (proc now xs)).0.core
   close_refers =

@@ -10,7 +10,7 @@ use Rattle.flow_class.specs.Classes.{RawTree}
 use Rattle.flow_numbered.specs.Numbered.{Numbered, thing, put, removed}
 use Rattle.flow_meaning.specs.Cells.{Side, PromiseSide, FutureSide, side_of, Ref, Waiter, Cell, Single, Stream, is_ready, waiters, held, filled, taken, after_taking}
 use Rattle.flow_meaning.specs.Process.{Task, Run, Give, Throw, Catch, Store, Keep, Close, Fire, Drop, Entry, Core}
-use Rattle.flow_meaning.specs.Occ.{Scan, Occ, refs_in, value_in, one, count, count_kept, count_maybe, in_task}
+use Rattle.flow_meaning.specs.References.{Scan, reference_count, refs_in, value_in, one, count, count_kept, count_maybe, in_task}
 use Rattle.flow_meaning.specs.Orderly.{Orderly, Rising, tasks_of}
 use Rattle.flow_meaning.specs.Work.{turn, pushed, writes, fill, fill_cell, dropping_values, leave_for, take_branch, give, is_ready_at}
 use Rattle.flow_meaning.specs.Dropping.{port_of, lose_cell, lose_ref, drop, fire_to, fire_at, fire_cell, fire, loss, set_result, give_result, close}
@@ -23,7 +23,7 @@ use Rattle.flow_meaning.proofs.Order.{taking_waiters}
 use Rattle.flow_meaning.proofs.Posture.{Unless, unless, after_turn, thing_put, each_number, thing_put_other}
 use Rattle.flow_meaning.proofs.Shifts.{keep_of, close_of}
 use Rattle.flow_picture.specs.Counted.{Agree, frames_hold, waiters_at}
-use Rattle.flow_picture.specs.Keeps.{Tied}
+use Rattle.flow_picture.specs.CellsTied.{CellsTied}
 use Rattle.flow_picture.specs.Leaving.{wait_kind, RightKinds}
 use Rattle.flow_picture.specs.References.{cell_holds, entry_holds}
 use Rattle.flow_picture.proofs.Tidy.{agree_by}
@@ -69,7 +69,7 @@ module _ (k : ℕ) (c : Core) (xs : Numbered Frame) (i b j : ℕ) (e : Entry) (v
       (Rattle.flow_meaning.proofs.Order.rising_put c.cells 0 c.made j (after_taking cell) up) in
       ((λ z. a.0 (l.0 z)), (λ s. let x = a.1 s in let y = l.1 s in let w : in_task s k (Give i b o) ≡ in_task s k (Give 0 0 o) = refl in omega (arith, x, y, w)), (λ w. a.2 (l.2 w)))
 
-module _ (k : ℕ) (r : RawTree) (actors : List RoutineTree) (rules : Rattle.flow_unstuck.specs.Rules.ClassRules r actors) (types : CellTypes) (c : Core) (xs : Numbered Frame) (o : Orderly c) (p : ProcessFits r types c xs) (t : Tied c) (ts : List Task) (h : Refers k c xs) where
+module _ (k : ℕ) (r : RawTree) (actors : List RoutineTree) (rules : Rattle.flow_unstuck.specs.Rules.ClassRules r actors) (types : CellTypes) (c : Core) (xs : Numbered Frame) (o : Orderly c) (p : ProcessFits r types c xs) (t : CellsTied c) (ts : List Task) (h : Refers k c xs) where
   abbrev now : Core
   now = record c { tasks = ts }
 

@@ -7,7 +7,7 @@ use Rattle.flow_class.specs.Classes.{RawTree}
 use Rattle.flow_numbered.specs.Numbered.{Numbered, thing, put}
 use Rattle.flow_meaning.specs.Cells.{Side, FutureSide, Waiter, Cell, is_ready, waiters, taken, after_taking}
 use Rattle.flow_meaning.specs.Process.{Task, Give, Fire, Entry, Core}
-use Rattle.flow_meaning.specs.Occ.{in_task}
+use Rattle.flow_meaning.specs.References.{in_task}
 use Rattle.flow_meaning.specs.Orderly.{Orderly, AllWait, is_suspended, tasks_of}
 use Rattle.flow_meaning.specs.Lines.{take_line}
 use Rattle.flow_meaning.specs.Work.{pushed, writes, leave_for, give, take_branch}
@@ -16,7 +16,7 @@ use Rattle.flow_meaning.specs.Frame.{Frame}
 use Rattle.flow_meaning.proofs.Posture.{Unless, unless, after_turn}
 use Rattle.flow_meaning.proofs.Shifts.{cell_waits}
 use Rattle.flow_picture.specs.Counted.{frames_hold}
-use Rattle.flow_picture.specs.Keeps.{Tied}
+use Rattle.flow_picture.specs.CellsTied.{CellsTied}
 use Rattle.flow_picture.specs.Leaving.{RightKinds}
 use Rattle.flow_unstuck.specs.Alone.{ResultsAlone}
 use Rattle.flow_unstuck.specs.Fitting.{CellTypes, ActorAt, PostureFits, TasksFit, ProcessFits}
@@ -32,7 +32,7 @@ suspended_of (Some e) h = (e, refl, same e.suspended h)
     same : (b : Bool) → Some b ≡ Some true → b ≡ true
     same b h = cc
 
-module _ (k : ℕ) (r : RawTree) (types : CellTypes) (c : Core) (xs : Numbered Frame) (o : Orderly c) (p : ProcessFits r types c xs) (t : Tied c) (results : ResultsAlone c xs) (ts : List Task) (h : Refers k c xs) (j : ℕ) (top : c.tasks ≡ Fire j ∷ ts) where
+module _ (k : ℕ) (r : RawTree) (types : CellTypes) (c : Core) (xs : Numbered Frame) (o : Orderly c) (p : ProcessFits r types c xs) (t : CellsTied c) (results : ResultsAlone c xs) (ts : List Task) (h : Refers k c xs) (j : ℕ) (top : c.tasks ≡ Fire j ∷ ts) where
   abbrev now : Core
   now = record c { tasks = ts }
 

@@ -16,9 +16,9 @@ use Rattle.flow_class.specs.Places.{place_named}
 use Rattle.flow_class.specs.Classes.{InstrTree, SetInstr, EffectInstr, NewInstr, ActInstr, DropInstr, LastTree, GotoLast, PassLast, TestLast, ChooseLast, ReturnLast, ThrowLast, CallbackTree}
 use Rattle.flow_class.specs.Code.{type_at, Fetched, Body, Last, Nothing, fetch, callback_at}
 use Rattle.flow_meaning.specs.Cells.{Side}
-use Rattle.flow_meaning.specs.Asks.{Spot, Make, Goal, Stored, Kept, Act, Drops, Waits, Returns, Effects, Ask}
+use Rattle.flow_meaning.specs.Requests.{Spot, Make, Goal, Stored, Kept, Act, Drops, Waits, Returns, Effects, Ask}
 use Rattle.flow_meaning.specs.Process.{View}
-use Rattle.flow_meaning.specs.Occ.{count, refs_in}
+use Rattle.flow_meaning.specs.References.{count, refs_in}
 use Rattle.flow_meaning.specs.Variables.{flat, filled}
 use Rattle.flow_meaning.specs.Evaluating.{Names, bind, StepOf, asks, given, evaluated, Effectful, effect_in, effect_of, value, values, call_act}
 use Rattle.flow_meaning.specs.Frame.{Memory, Frame, look, read, write, everything, occ_memory, put_root, put_at, assign, spot_of, next_instr, over, lose}

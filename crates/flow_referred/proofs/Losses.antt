@@ -8,7 +8,7 @@ use Rattle.flow_class.specs.Classes.{RawTree}
 use Rattle.flow_numbered.specs.Numbered.{Numbered, thing, put, removed}
 use Rattle.flow_meaning.specs.Cells.{Side, PromiseSide, FutureSide, Cell, Single, Stream, is_complete, held, filled}
 use Rattle.flow_meaning.specs.Process.{Task, Throw, Fire, Entry, Core}
-use Rattle.flow_meaning.specs.Occ.{one, count_maybe, count_kept, in_entries, in_ports, in_task, refs_in, count}
+use Rattle.flow_meaning.specs.References.{one, count_maybe, count_kept, in_entries, in_ports, in_task, refs_in, count}
 use Rattle.flow_meaning.specs.Orderly.{Rising, tasks_of}
 use Rattle.flow_meaning.specs.Lines.{cancel_line, broken_line}
 use Rattle.flow_meaning.specs.Work.{free_cell, free, fill_cell, fill, writes, dropping_values, owner, marked, cancel_by, cancel, pushed, leave_for}
@@ -19,7 +19,7 @@ use Rattle.flow_meaning.proofs.Posture.{Unless, unless, after_turn, same_number,
 use Rattle.flow_meaning.proofs.Shifts.{same_of}
 use Rattle.flow_meaning.proofs.InOrder.{no_thing}
 use Rattle.flow_picture.specs.Counted.{references, frames_hold}
-use Rattle.flow_picture.specs.Keeps.{Tied}
+use Rattle.flow_picture.specs.CellsTied.{CellsTied}
 use Rattle.flow_picture.proofs.Owners.{entry_found, entry_unfound, one_owner}
 use Rattle.flow_picture.proofs.Referring.{of_port_gone}
 use Rattle.flow_picture.proofs.Beside.{one_each}
@@ -28,7 +28,7 @@ use Rattle.flow_unstuck.proofs.States.{actor_of}
 use Rattle.flow_referred.proofs.Onward.{IsThere, no_refs, refs, Wants, Onward, onward_on, Refers, refers_on, entry_onward, replaced_onward, gone_onward, drop_onward, filling_onward, IsOpen, swap_onward, push_onward}
 use Rattle.flow_referred.proofs.Tasks.{right_kinds, agree_put}
 
-module _ (k : ℕ) (r : RawTree) (types : CellTypes) (c : Core) (xs : Numbered Frame) (p : ProcessFits r types c xs) (up : Rising 0 c.started c.entries) (t : Tied c) where
+module _ (k : ℕ) (r : RawTree) (types : CellTypes) (c : Core) (xs : Numbered Frame) (p : ProcessFits r types c xs) (up : Rising 0 c.started c.entries) (t : CellsTied c) where
   abbrev Kept : Core → Type 0
   Kept d = Onward k no_refs no_refs c xs d xs
 

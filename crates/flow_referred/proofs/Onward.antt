@@ -7,7 +7,7 @@ use Rattle.flow_value.specs.Values.{ValueTree, OutcomeTree, GoodOutcome, BadOutc
 use Rattle.flow_numbered.specs.Numbered.{Numbered, thing, added, put, removed}
 use Rattle.flow_meaning.specs.Cells.{Side, PromiseSide, FutureSide, side_of, Ref, Waiter, Cell, Single, Stream, waiters, held, good, filled, taken, after_taking, left_by}
 use Rattle.flow_meaning.specs.Process.{Task, Entry, Core, Proc}
-use Rattle.flow_meaning.specs.Occ.{refs_in, value_in, one, count, count_waiters, in_task}
+use Rattle.flow_meaning.specs.References.{refs_in, value_in, one, count, count_waiters, in_task}
 use Rattle.flow_meaning.specs.Orderly.{Rising}
 use Rattle.flow_meaning.specs.Work.{pushed, drops, dropping_values, running, leave_for, left_cells}
 use Rattle.flow_meaning.specs.Step.{proc}

@@ -8,9 +8,9 @@ use Rattle.flow_value.specs.Values.{ValueTree, GoodOutcome}
 use Rattle.flow_class.specs.Classes.{RawTree}
 use Rattle.flow_numbered.specs.Numbered.{Numbered, thing, put}
 use Rattle.flow_meaning.specs.Cells.{Side, Cell}
-use Rattle.flow_meaning.specs.Asks.{Act, Goes, Pass, Drops, Effects, Operand, Waits, Sends, Cancels, Prints, SendsTo, Returns, Throws, RunsOut, Stuck, Effect, Make, Start, Draw, Delay, Never, Listen, Disk, Goal, Ask, Supply}
+use Rattle.flow_meaning.specs.Requests.{Act, Goes, Pass, Drops, Effects, Operand, Waits, Sends, Cancels, Prints, SendsTo, Returns, Throws, RunsOut, Stuck, Effect, Make, Start, Draw, Delay, Never, Listen, Disk, Goal, Ask, Supply}
 use Rattle.flow_meaning.specs.Process.{Task, Run, Throw, Keep, Close, Entry, Core}
-use Rattle.flow_meaning.specs.Occ.{count, refs_in}
+use Rattle.flow_meaning.specs.References.{count, refs_in}
 use Rattle.flow_meaning.specs.Orderly.{Orderly, tasks_of}
 use Rattle.flow_meaning.specs.Lines.{print_line}
 use Rattle.flow_meaning.specs.Work.{pushed}
@@ -21,7 +21,7 @@ use Rattle.flow_meaning.specs.Class.{next_step, classes, class_names}
 use Rattle.flow_meaning.proofs.Posture.{Unless, unless, after_turn}
 use Rattle.flow_meaning.proofs.Shifts.{run_of, same_of}
 use Rattle.flow_meaning.proofs.TaskShifts.{beyond_none}
-use Rattle.flow_picture.specs.Keeps.{Tied}
+use Rattle.flow_picture.specs.CellsTied.{CellsTied}
 use Rattle.flow_picture.specs.Leaving.{RightKinds}
 use Rattle.flow_unstuck.specs.Fitting.{CellTypes, ActorAt, ActorFits, PostureFits, ProcessFits}
 use Rattle.flow_unstuck.proofs.CellStates.{cell_there}
@@ -55,7 +55,7 @@ module _ (k : ℕ) (r : RawTree) (types : CellTypes) (c : Core) (xs : Numbered F
       by_frame None f = absurd f
       by_frame (Some f) a = right_kinds r types c p.cells f 0 e.operands (subst (λ b. PostureFits r types b a.class e f (tasks_of i c.tasks)) s a.posture).2
 
-module _ (k : ℕ) (r : RawTree) (s : Supply) (types : CellTypes) (c : Core) (xs : Numbered Frame) (o : Orderly c) (p : ProcessFits r types c xs) (t : Tied c) (ts : List Task) (h : Refers k c xs) (i : ℕ) (top : c.tasks ≡ Run i ∷ ts) where
+module _ (k : ℕ) (r : RawTree) (s : Supply) (types : CellTypes) (c : Core) (xs : Numbered Frame) (o : Orderly c) (p : ProcessFits r types c xs) (t : CellsTied c) (ts : List Task) (h : Refers k c xs) (i : ℕ) (top : c.tasks ≡ Run i ∷ ts) where
   abbrev After : steps.Stepped Frame → Type 0
   After z = Unless (λ d. Refers k d z.0.actors) z.0.core
 

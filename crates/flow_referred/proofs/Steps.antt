@@ -11,7 +11,7 @@ use Rattle.flow_class.specs.Code.{Body, Last, fetch, catcher_at}
 use Rattle.flow_numbered.specs.Numbered.{Numbered, thing, put, removed}
 use Rattle.flow_meaning.specs.Cells.{Side, PromiseSide, FutureSide, side_of, Ref, Waiter, Cell, Single, Stream, is_ready, waiters, taken, after_taking}
 use Rattle.flow_meaning.specs.Process.{Task, Run, Give, Throw, Catch, Store, Keep, Close, Fire, Drop, Entry, Core, Raised}
-use Rattle.flow_meaning.specs.Occ.{Scan, Occ, refs_in, value_in, one, count, count_kept, in_task}
+use Rattle.flow_meaning.specs.References.{Scan, reference_count, refs_in, value_in, one, count, count_kept, in_task}
 use Rattle.flow_meaning.specs.Orderly.{Orderly, Rising, tasks_of}
 use Rattle.flow_meaning.specs.Work.{pushed, writes, dropping_values, leave_for, take_branch, give, is_ready_at}
 use Rattle.flow_meaning.specs.Dropping.{port_of, lose_cell, lose_ref, fire_to, fire_at, fire_cell, fire, loss}
@@ -23,7 +23,7 @@ use Rattle.flow_meaning.specs.Class.{classes, class_names}
 use Rattle.flow_meaning.proofs.Posture.{Unless, unless, after_turn, thing_put, own_task}
 use Rattle.flow_meaning.proofs.Shifts.{give_of, throw_of, store_of, keep_of, close_of}
 use Rattle.flow_picture.specs.Counted.{Agree, frames_hold}
-use Rattle.flow_picture.specs.Keeps.{Tied}
+use Rattle.flow_picture.specs.CellsTied.{CellsTied}
 use Rattle.flow_picture.proofs.Holding.{of_all_locals}
 use Rattle.flow_picture.proofs.Referring.{of_popped}
 use Rattle.flow_unstuck.specs.Places.{class_vars, HoldsTypes}
@@ -35,7 +35,7 @@ use Rattle.flow_referred.proofs.Onward.{IsThere, no_refs, refs, Wants, Onward, o
 use Rattle.flow_referred.proofs.Hands.{store_takes, take_takes, raise_takes}
 use Rattle.flow_referred.proofs.Tasks.{right_kinds, agree_put, Kept, now, swapped, handed_on, stored_on, leaves_on}
 
-module _ (k : ℕ) (r : RawTree) (actors : List RoutineTree) (rules : ClassRules r actors) (types : CellTypes) (c : Core) (xs : Numbered Frame) (o : Orderly c) (p : ProcessFits r types c xs) (t : Tied c) (ts : List Task) (h : Refers k c xs) where
+module _ (k : ℕ) (r : RawTree) (actors : List RoutineTree) (rules : ClassRules r actors) (types : CellTypes) (c : Core) (xs : Numbered Frame) (o : Orderly c) (p : ProcessFits r types c xs) (t : CellsTied c) (ts : List Task) (h : Refers k c xs) where
   abbrev After : steps.Stepped Frame → Type 0
   After q = Unless (λ d. Refers k d q.0.actors) q.0.core
 

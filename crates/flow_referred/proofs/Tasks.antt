@@ -13,7 +13,7 @@ use Rattle.flow_valid.specs.Validity.{operand_type}
 use Rattle.flow_numbered.specs.Numbered.{Numbered, thing, put, removed}
 use Rattle.flow_meaning.specs.Cells.{Side, PromiseSide, FutureSide, side_of, Ref, Waiter, Cell, Single, Stream, waiters, taken, after_taking}
 use Rattle.flow_meaning.specs.Process.{Task, Run, Give, Throw, Catch, Store, Keep, Close, Fire, Drop, Entry, Core}
-use Rattle.flow_meaning.specs.Occ.{refs_in, value_in, one, count, count_kept, in_task}
+use Rattle.flow_meaning.specs.References.{refs_in, value_in, one, count, count_kept, in_task}
 use Rattle.flow_meaning.specs.Orderly.{is_suspended}
 use Rattle.flow_meaning.specs.Work.{pushed, writes, dropping_values, leave_for}
 use Rattle.flow_meaning.specs.Step.{proc, with_operand}

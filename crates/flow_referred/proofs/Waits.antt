@@ -7,9 +7,9 @@ use Rattle.flow_value.specs.declared.value.Kind.TheVariants as kind
 use Rattle.flow_value.specs.Values.{ValueTree, OutcomeTree, GoodOutcome}
 use Rattle.flow_numbered.specs.Numbered.{Numbered, thing, put}
 use Rattle.flow_meaning.specs.Cells.{Side, FutureSide, side_of, Ref, Waiter, Cell, Single, Stream, is_busy, with_waiter, taken, after_taking}
-use Rattle.flow_meaning.specs.Asks.{Spot}
+use Rattle.flow_meaning.specs.Requests.{Spot}
 use Rattle.flow_meaning.specs.Process.{Task, Run, Give, Throw, Close, Entry, Core}
-use Rattle.flow_meaning.specs.Occ.{refs_in, one, count, count_kept, in_task}
+use Rattle.flow_meaning.specs.References.{refs_in, one, count, count_kept, in_task}
 use Rattle.flow_meaning.specs.Orderly.{Rising}
 use Rattle.flow_meaning.specs.Lines.{take_line, wait_line, cancel_line}
 use Rattle.flow_meaning.specs.Work.{writes, pushed, dropping_values, leave_for, give, take_branch, first_ready, Registration, Registered, Refused, Missing, register_at, register, owner, marked, cancel_by, cancel, cancel_owner}

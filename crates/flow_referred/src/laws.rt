@@ -6,6 +6,6 @@ ghost use Rattle.flow_referred.specs.Referred.{StatesReferred};
 
 /// No cell of a process of valid classes is without a reference, and a future refers to the result of each
 /// unfinished actor that isn't marked as cancelled: at each boundary of a run in the world of a file in range.
-pub fn references_kept()
+pub fn cells_stay_referenced()
     ensures states { (r : RawTree) → AreValid r → StatesReferred r }
 {}

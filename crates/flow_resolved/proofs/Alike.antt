@@ -17,7 +17,7 @@ use Rattle.flow_eval.specs.Operators.{inverted, negated}
 use Rattle.flow_eval.specs.Records.{record_id, field_place, field, field_answer, at_place}
 use Rattle.flow_eval.specs.Eval.{Setting, Runner, Res, Done, Fails, Spent, Meaningless, then, at_once, more_args, found, variable, or_then, and_then, truth_of, both, second, method_called, function_called, declared_called, called, eval, eval_all}
 use Rattle.flow_resolved.specs.Tree.{Node, Nodes}
-use Rattle.flow_resolved.specs.Evaluation.{Sight, numbered_field, field_by, value_at, values_at}
+use Rattle.flow_resolved.specs.Evaluation.{ActorViewTree, numbered_field, field_by, value_at, values_at}
 use Rattle.flow_resolved.specs.Resolving.{Naming, place_node, variable_node, function_node, declared_node, call_node, resolved, resolved_all, place_by, IsNumbering, AreRecords, AreFunctions, held_by, AreSeen, SameMeaning, ResolvedAlike}
 
 then_same : {A B : Type 0} (r q : Res A) (go to : A → ℕ → Res B) → r ≡ q → ((x : A) (left : ℕ) → go x left ≡ to x left) → then r go ≡ then q to
@@ -74,16 +74,16 @@ field_same places rs x (Some f) (RecordValue r vs) e = ap (at_place vs) (e r)
 field_same places rs x (Some f) (RefValue k c) e = refl
 
 -- a variable
-place_same : (s : Sight) (o : Option ℕ) (left : ℕ) → value_at s (place_node o) left ≡ at_once (found (held_by s.held o)) left
+place_same : (s : ActorViewTree) (o : Option ℕ) (left : ℕ) → value_at s (place_node o) left ≡ at_once (found (held_by s.held o)) left
 place_same s None left = refl
 place_same s (Some n) left = refl
 
-variable_same : (s : Sight) (look : List ℕ → Option ValueTree) (x : List ℕ) (c o : Option ℕ) (left : ℕ) → look x ≡ held_by s.held o
+variable_same : (s : ActorViewTree) (look : List ℕ → Option ValueTree) (x : List ℕ) (c o : Option ℕ) (left : ℕ) → look x ≡ held_by s.held o
     → value_at s (variable_node c o) left ≡ at_once (variable look x c) left
 variable_same s look x None o left e = place_same s o left ∙ ap (λ v. at_once (found v) left) (sym e)
 variable_same s look x (Some n) o left e = refl
 
-module _ (n : Naming) (s : Sight) (look : List ℕ → Option ValueTree)
+module _ (n : Naming) (s : ActorViewTree) (look : List ℕ → Option ValueTree)
     (records : AreRecords s.setting.records n.record_of) (functions : AreFunctions s.setting.functions n.function)
     (fields : IsNumbering s.setting.records n.field s.places) (seen : AreSeen look n.place s.held) where
   -- a call whose arguments are known

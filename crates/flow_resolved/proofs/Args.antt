@@ -7,7 +7,7 @@ use Rattle.flow_eval.specs.declared.stop.Halt.TheVariants as halt
 use Rattle.flow_eval.specs.Eval.{Res, Done, Fails, Spent, Meaningless, then, more_args}
 use Rattle.flow_eval.specs.View.{Gives, GivesAll}
 use Rattle.flow_resolved.specs.declared.expr.Resolved.{Resolved}
-use Rattle.flow_resolved.specs.Evaluation.{Sight, value_at, values_at}
+use Rattle.flow_resolved.specs.Evaluation.{ActorViewTree, value_at, values_at}
 use Rattle.flow_resolved.specs.View.{node_of, nodes_of}
 
 -- arguments so far, before those of the rest
@@ -32,7 +32,7 @@ args_stop vs go r halt.Spent left g = (ap (λ r. prefixed vs (more_args r go)) g
 args_stop vs go r halt.NoMeaning left g = ap (λ r. prefixed vs (more_args r go)) g
 args_stop vs go r halt.OutOfMemory left g = tt
 
-module _ (s : Sight) where
+module _ (s : ActorViewTree) where
   args_at : (es : List Resolved) (i : ℕ) (d : Resolved) (left : ℕ) → i < length es
       → values_at s (nodes_of (drop i es)) left ≡ more_args (value_at s (node_of (get_or es i d)) left) (values_at s (nodes_of (drop (suc i) es)))
   args_at [] i d left lt = absurd (omega arith)

@@ -29,30 +29,30 @@ use Rattle.flow_resolved.specs.declared.expr.Resolved.TheOpen as resolved
 use Rattle.flow_resolved.specs.declared.expr.Resolved.TheFolds.{fold-roll-Resolved}
 use Rattle.flow_resolved.specs.Tree.{Node, FieldNode, BinaryNode}
 use Rattle.flow_resolved.specs.View.{node_of, node_step}
-use Rattle.flow_resolved.specs.Evaluation.{Sight, numbered_field, field_by, value_at}
+use Rattle.flow_resolved.specs.Evaluation.{ActorViewTree, numbered_field, field_by, value_at}
 
 pub struct_seen : (b : Box (Record Value) Global) → value_of (Struct b) ≡ RecordValue b.value.id (values_of b.value.fields.items)
 struct_seen b = ap value_of (sym (rolls-Struct b)) ∙ fold-roll-Value ValueTree value_step (layer.Struct b)
 
 -- an expression comes to this value, whatever turns are left
-abbrev pub Comes : Sight → Node → ValueTree → Type 0
+abbrev pub Comes : ActorViewTree → Node → ValueTree → Type 0
 Comes s e v = (left : ℕ) → value_at s e left ≡ Done v left
 
-pub field_comes : (s : Sight) (e : Node) (f : ℕ) (v w : ValueTree) → Comes s e v → Some w ≡ numbered_field s.places v f → Comes s (FieldNode e (Some f)) w
+pub field_comes : (s : ActorViewTree) (e : Node) (f : ℕ) (v w : ValueTree) → Comes s e v → Some w ≡ numbered_field s.places v f → Comes s (FieldNode e (Some f)) w
 field_comes s e f v w h k left =
     ap (λ r. then r (λ v left. at_once (field_answer (field_by s.places v (Some f))) left)) (h left)
     ∙ ap (λ o. at_once (field_answer o) left) (sym k)
 
-pub field_seen : (s : Sight) (e : Node) (f : ℕ) (v : ValueTree) (r : Option (Bor Value)) → Comes s e v → option_map value_of (option_copied r) ≡ numbered_field s.places v f
+pub field_seen : (s : ActorViewTree) (e : Node) (f : ℕ) (v : ValueTree) (r : Option (Bor Value)) → Comes s e v → option_map value_of (option_copied r) ≡ numbered_field s.places v f
     → IfSome r (λ w. Comes s (FieldNode e (Some f)) (value_of w.now))
 field_seen s e f v None h k = tt
 field_seen s e f v (Some w) h k = field_comes s e f v (value_of w.now) h k
 
 -- a sign between whole numbers that are known
-both_known : (s : Sight) (op : Op) (l : Node) (b : ℤ) (v : ValueTree) (left : ℕ) → Comes s l (IntValue b) → both op v (value_at s l left) ≡ both op v (Done (IntValue b) left)
+both_known : (s : ActorViewTree) (op : Op) (l : Node) (b : ℤ) (v : ValueTree) (left : ℕ) → Comes s l (IntValue b) → both op v (value_at s l left) ≡ both op v (Done (IntValue b) left)
 both_known s op l b v left h = ap (both op v) (h left)
 
-second_known : (s : Sight) (op : Op) (r : Node) (a b : ℤ) (left : ℕ) → Comes s r (IntValue b) → second op (IntValue a) (value_at s r) left ≡ at_once (on_ints op a b) left
+second_known : (s : ActorViewTree) (op : Op) (r : Node) (a b : ℤ) (left : ℕ) → Comes s r (IntValue b) → second op (IntValue a) (value_at s r) left ≡ at_once (on_ints op a b) left
 second_known s Or r a b left h = refl
 second_known s And r a b left h = refl
 second_known s Eq r a b left h = both_known s Eq r b (IntValue a) left h
@@ -67,16 +67,16 @@ second_known s Mul r a b left h = both_known s Mul r b (IntValue a) left h
 second_known s Div r a b left h = both_known s Div r b (IntValue a) left h
 second_known s Rem r a b left h = both_known s Rem r b (IntValue a) left h
 
-binary_known : (s : Sight) (op : Op) (l r : Node) (a b : ℤ) (left : ℕ) → Comes s l (IntValue a) → Comes s r (IntValue b)
+binary_known : (s : ActorViewTree) (op : Op) (l r : Node) (a b : ℤ) (left : ℕ) → Comes s l (IntValue a) → Comes s r (IntValue b)
     → then (value_at s l left) (λ v k. second op v (value_at s r) k) ≡ at_once (on_ints op a b) left
 binary_known s op l r a b left h k = ap (λ q. then q (λ v k. second op v (value_at s r) k)) (h left) ∙ second_known s op r a b left k
 
-pub ints_give : (s : Sight) (op : Op) (l r : Node) (a b : ℤ) (q : Result Value Halt) (left : ℕ) → Comes s l (IntValue a) → Comes s r (IntValue b) → GivesAnswer (on_ints op a b) q
+pub ints_give : (s : ActorViewTree) (op : Op) (l r : Node) (a b : ℤ) (q : Result Value Halt) (left : ℕ) → Comes s l (IntValue a) → Comes s r (IntValue b) → GivesAnswer (on_ints op a b) q
     → Gives (then (value_at s l left) (λ v k. second op v (value_at s r) k)) q left
 ints_give s op l r a b q left h k g = subst (λ z. Gives z q left) (sym (binary_known s op l r a b left h k)) (answer_gives (on_ints op a b) left q g)
 
 -- what follows a value that is known
-pub known_gives : (s : Sight) (e : Node) (v : ValueTree) (go : ValueTree → ℕ → Res ValueTree) (q : Result Value Halt) (left rest : ℕ) → Comes s e v → Gives (go v left) q rest
+pub known_gives : (s : ActorViewTree) (e : Node) (v : ValueTree) (go : ValueTree → ℕ → Res ValueTree) (q : Result Value Halt) (left rest : ℕ) → Comes s e v → Gives (go v left) q rest
     → Gives (then (value_at s e left) go) q rest
 known_gives s e v go q left rest h g = subst (λ z. Gives z q rest) (sym (ap (λ r. then r go) (h left))) g
 
@@ -99,7 +99,7 @@ truth_once Mul a b t left e = absurd (some_none t e)
 truth_once Div a b t left e = absurd (some_none t e)
 truth_once Rem a b t left e = absurd (some_none t e)
 
-pub ints_compare : (s : Sight) (op : Op) (l r : Node) (a b : ℤ) (o : Option Bool) → Comes s l (IntValue a) → Comes s r (IntValue b) → o ≡ compared op (int_cmp a b)
+pub ints_compare : (s : ActorViewTree) (op : Op) (l r : Node) (a b : ℤ) (o : Option Bool) → Comes s l (IntValue a) → Comes s r (IntValue b) → o ≡ compared op (int_cmp a b)
     → IfSome o (λ t. (left : ℕ) → truth_of (value_at s (BinaryNode op l r) left) ≡ Done (BoolValue t) left)
 ints_compare s op l r a b None h k e = tt
 ints_compare s op l r a b (Some t) h k e = λ left. ap truth_of (binary_known s op l r a b left h k) ∙ truth_once op a b t left e

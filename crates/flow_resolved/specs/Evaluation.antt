@@ -13,7 +13,7 @@ use Rattle.flow_resolved.specs.Tree.{Node, Nodes, IntNode, TextNode, BoolNode, V
 
 -- what an expression sees: the setting, what runs a plain function, the place of a field in a record by the number of its
 -- name, and what the places of a frame hold
-pub record Sight : Type 0 where
+pub record ActorViewTree : Type 0 where
   pub setting : Setting
   pub run : Runner
   pub places : RecordId → ℕ → Option ℕ
@@ -28,7 +28,7 @@ abbrev pub field_by : (RecordId → ℕ → Option ℕ) → ValueTree → Option
 field_by places v None = None
 field_by places v (Some f) = numbered_field places v f
 
-module _ (s : Sight) where
+module _ (s : ActorViewTree) where
   abbrev mutual
     pub value_at : Node → ℕ → Res ValueTree
     value_at (IntNode n) left = Done (IntValue n) left

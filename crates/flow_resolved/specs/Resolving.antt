@@ -13,7 +13,7 @@ use Rattle.flow_ast.specs.Typing.{routine_named}
 use Rattle.flow_eval.specs.Functions.{routine_at}
 use Rattle.flow_eval.specs.Eval.{eval}
 use Rattle.flow_resolved.specs.Tree.{Node, Nodes, IntNode, TextNode, BoolNode, VoidNode, PlaceNode, CallNode, RecordNode, FunctionNode, UnknownNode, FieldNode, MethodNode, NotNode, NegNode, BinaryNode, NothingNode, NoNodes, MoreNodes}
-use Rattle.flow_resolved.specs.Evaluation.{Sight, value_at}
+use Rattle.flow_resolved.specs.Evaluation.{ActorViewTree, value_at}
 
 -- what names stand for: records, the places of functions, the numbers of the names of fields, and the places of an actor
 pub record Naming : Type 0 where
@@ -82,7 +82,7 @@ abbrev pub AreSeen : (List ℕ → Option ValueTree) → (List ℕ → Option �
 AreSeen look place held = (x : List ℕ) → look x ≡ held_by held (place x)
 
 -- A resolved expression comes to what its text means, turns included.
-pub record SameMeaning (n : Naming) (s : Sight) (look : List ℕ → Option ValueTree) : Type 0 where
+pub record SameMeaning (n : Naming) (s : ActorViewTree) (look : List ℕ → Option ValueTree) : Type 0 where
   pub same : (e : ExprTree) (left : ℕ) → value_at s (resolved n e) left ≡ eval s.setting s.run look e left
 
 -- records and functions are those of these names, the first of several
@@ -94,7 +94,7 @@ AreFunctions fs function = (x : List ℕ) → routine_named fs x ≡ routine_at 
 
 abbrev pub ResolvedAlike : Type 0
 ResolvedAlike =
-    (n : Naming) (s : Sight) (look : List ℕ → Option ValueTree)
+    (n : Naming) (s : ActorViewTree) (look : List ℕ → Option ValueTree)
     → AreRecords s.setting.records n.record_of
     → AreFunctions s.setting.functions n.function
     → IsNumbering s.setting.records n.field s.places

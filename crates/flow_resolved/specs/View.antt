@@ -17,9 +17,9 @@ use Rattle.flow_resolved.specs.declared.expr.Resolved.{Resolved}
 use Rattle.flow_resolved.specs.declared.expr.Resolved.TheOpen.{Resolved-F, Int, Text, Bool, VoidValue, Place, Call, Record, Function, Unknown, Field, Method, Not, Neg, Binary, Nothing}
 use Rattle.flow_resolved.specs.declared.expr.Resolved.TheFolds.{fold-Resolved}
 use Rattle.flow_resolved.specs.declared.names.FieldNames.{FieldNames}
-use Rattle.flow_resolved.specs.declared.evaluate.Sight as code
+use Rattle.flow_resolved.specs.declared.evaluate.ActorViewTree as code
 use Rattle.flow_resolved.specs.Tree.{Node, Nodes, IntNode, TextNode, BoolNode, VoidNode, PlaceNode, CallNode, RecordNode, FunctionNode, UnknownNode, FieldNode, MethodNode, NotNode, NegNode, BinaryNode, NothingNode, nodes_of_list}
-use Rattle.flow_resolved.specs.Evaluation.{Sight}
+use Rattle.flow_resolved.specs.Evaluation.{ActorViewTree}
 
 -- one layer of an expression, with the mirrors of its parts in their places
 abbrev pub node_step : Resolved-F Node → Node
@@ -59,8 +59,8 @@ places_in names (Declared k) f = place_in names.records.items k f
 abbrev pub held_in : List (Option Value) → ℕ → Option ValueTree
 held_in places n = option_map value_of (slice_index_or places n None)
 
-abbrev pub sight_of : {C : Type 0} → (C → ℕ → Option OutcomeTree) → code.Sight C → Sight
-sight_of content s = record {
+abbrev pub actor_view_of : {C : Type 0} → (C → ℕ → Option OutcomeTree) → code.ActorViewTree C → ActorViewTree
+actor_view_of content s = record {
   setting = setting_of content s.setting;
   run = run_function (setting_of content s.setting) CALL_DEPTH;
   places = places_in s.fields.now;

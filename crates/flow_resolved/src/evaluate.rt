@@ -14,7 +14,7 @@ ghost use Rattle.flow_eval.specs.View.{GivesAnswer, Gives, GivesAll, setting_of}
 ghost use Rattle.flow_tree.specs.DeclView.{function_of};
 ghost use Rattle.flow_tree.specs.declared.limits.TheConstants.{CALL_DEPTH};
 ghost use Rattle.flow_resolved.specs.Evaluation.{numbered_field, field_by, value_at, values_at};
-ghost use Rattle.flow_resolved.specs.View.{node_of, nodes_of, places_in, held_in, sight_of};
+ghost use Rattle.flow_resolved.specs.View.{node_of, nodes_of, places_in, held_in, actor_view_of};
 ghost use Rattle.flow_resolved.specs.Truth.{GivesTruth};
 
 use crate::expr::Resolved;
@@ -34,7 +34,7 @@ use std::alloc::Global;
 /// What an expression of an actor sees: the records, functions, cells and time, the fields of records by number, and what the
 /// places of its frame hold, those behind the last one nothing.
 #[derive(Drop)]
-pub struct Sight<'a, C> {
+pub struct ActorView<'a, C> {
     pub setting: Setting<'a, C>,
     pub fields: &'a FieldNames,
     pub places: &'a [Option<Value>],
@@ -88,9 +88,9 @@ pub fn field<'a>(fields: &FieldNames, value: &'a Value, name: usize) -> Option<&
 /// The value that an expression reads where it stands, as far as that is told without evaluation: what a place holds, or a
 /// field of that.
 #[cycle(seen)]
-fn seen<'a, C: CellView>(sight: &Sight<'a, C>, expr: &Resolved) -> Option<&'a Value>
+fn seen<'a, C: CellView>(sight: &ActorView<'a, C>, expr: &Resolved) -> Option<&'a Value>
     ensures { IfSome result (λ v. (left : ℕ)
-        → value_at (sight_of C.content sight.now) (node_of expr.now) left
+        → value_at (actor_view_of C.content sight.now) (node_of expr.now) left
         ≡ Done (value_of v.now) left) }
 {
     match expr {
@@ -104,12 +104,12 @@ fn seen<'a, C: CellView>(sight: &Sight<'a, C>, expr: &Resolved) -> Option<&'a Va
 #[tactic(auto, using(crate::proofs::Known::field_seen))]
 /// A field of the value that an expression reads where it stands.
 fn seen_field<'a, C: CellView>(
-    sight: &Sight<'a, C>,
+    sight: &ActorView<'a, C>,
     of: &Resolved,
     name: Option<usize>,
 ) -> Option<&'a Value>
     ensures { IfSome result (λ v. (left : ℕ)
-        → value_at (sight_of C.content sight.now) (FieldNode (node_of of.now) name) left
+        → value_at (actor_view_of C.content sight.now) (FieldNode (node_of of.now) name) left
         ≡ Done (value_of v.now) left) }
 {
     let Some(name) = name else {
@@ -122,9 +122,9 @@ fn seen_field<'a, C: CellView>(
 }
 
 /// The whole number that an expression is or reads, as far as that is told without evaluation.
-fn int_in<C: CellView>(sight: &Sight<C>, expr: &Resolved) -> Option<i64>
+fn int_in<C: CellView>(sight: &ActorView<C>, expr: &Resolved) -> Option<i64>
     ensures { IfSome result (λ n. (left : ℕ)
-        → value_at (sight_of C.content sight.now) (node_of expr.now) left
+        → value_at (actor_view_of C.content sight.now) (node_of expr.now) left
         ≡ Done (IntValue n) left) }
 {
     match expr {
@@ -209,11 +209,11 @@ fn call_function<C: CellView>(
 /// An expression of an actor, with the turns that are left.
 #[cycle(evaluate)]
 pub fn evaluate_resolved<C: CellView>(
-    sight: &Sight<C>,
+    sight: &ActorView<C>,
     expr: &Resolved,
     turns: &mut Turns,
 ) -> Result<Value, Halt>
-    ensures gives { Gives (value_at (sight_of C.content sight.now) (node_of expr.now)
+    ensures gives { Gives (value_at (actor_view_of C.content sight.now) (node_of expr.now)
         turns.old.left) result turns.new.left }
     ensures fewer { turns.new.left ≤ turns.old.left }
 {
@@ -252,12 +252,12 @@ pub fn evaluate_resolved<C: CellView>(
 /// A field of an expression.
 #[cycle(evaluate)]
 fn evaluate_field<C: CellView>(
-    sight: &Sight<C>,
+    sight: &ActorView<C>,
     of: &Resolved,
     name: Option<usize>,
     turns: &mut Turns,
 ) -> Result<Value, Halt>
-    ensures gives { Gives (then (value_at (sight_of C.content sight.now) (node_of of.now)
+    ensures gives { Gives (then (value_at (actor_view_of C.content sight.now) (node_of of.now)
         turns.old.left) (λ v l. at_once (field_answer
         (field_by (places_in sight.now.fields.now) v name)) l)) result turns.new.left }
     ensures fewer { turns.new.left ≤ turns.old.left }
@@ -272,14 +272,14 @@ fn evaluate_field<C: CellView>(
 /// A method of an expression.
 #[cycle(evaluate)]
 fn evaluate_call<C: CellView>(
-    sight: &Sight<C>,
+    sight: &ActorView<C>,
     of: &Resolved,
     method: Option<Method>,
     args: &[Resolved],
     turns: &mut Turns,
 ) -> Result<Value, Halt>
-    ensures gives { Gives (then (value_at (sight_of C.content sight.now) (node_of of.now)
-        turns.old.left) (λ v l. then (values_at (sight_of C.content sight.now) (nodes_of args.now)
+    ensures gives { Gives (then (value_at (actor_view_of C.content sight.now) (node_of of.now)
+        turns.old.left) (λ v l. then (values_at (actor_view_of C.content sight.now) (nodes_of args.now)
         l) (λ vs l. at_once (method_called (C.content sight.now.setting.view.now) method v vs) l)))
         result turns.new.left }
     ensures fewer { turns.new.left ≤ turns.old.left }
@@ -294,13 +294,13 @@ fn evaluate_call<C: CellView>(
 /// A method of a value.
 #[cycle(evaluate)]
 fn evaluate_method<C: CellView>(
-    sight: &Sight<C>,
+    sight: &ActorView<C>,
     base: &Value,
     method: Option<Method>,
     args: &[Resolved],
     turns: &mut Turns,
 ) -> Result<Value, Halt>
-    ensures gives { Gives (then (values_at (sight_of C.content sight.now) (nodes_of args.now)
+    ensures gives { Gives (then (values_at (actor_view_of C.content sight.now) (nodes_of args.now)
         turns.old.left) (λ vs l. at_once (method_called (C.content sight.now.setting.view.now)
         method (value_of base.now) vs) l)) result turns.new.left }
     ensures fewer { turns.new.left ≤ turns.old.left }
@@ -313,15 +313,15 @@ fn evaluate_method<C: CellView>(
 #[cycle(evaluate)]
 #[tactic(auto, using(crate::proofs::Known::ints_give))]
 fn evaluate_binary<C: CellView>(
-    sight: &Sight<C>,
+    sight: &ActorView<C>,
     op: Op,
     left: &Resolved,
     right: &Resolved,
     turns: &mut Turns,
 ) -> Result<Value, Halt>
-    ensures gives { Gives (then (value_at (sight_of C.content sight.now) (node_of left.now)
+    ensures gives { Gives (then (value_at (actor_view_of C.content sight.now) (node_of left.now)
         turns.old.left) (λ v l. second op v
-        (value_at (sight_of C.content sight.now) (node_of right.now)) l)) result turns.new.left }
+        (value_at (actor_view_of C.content sight.now) (node_of right.now)) l)) result turns.new.left }
     ensures fewer { turns.new.left ≤ turns.old.left }
 {
     if let Some(a) = int_in(sight, left) {
@@ -336,14 +336,14 @@ fn evaluate_binary<C: CellView>(
 /// A sign whose left operand is known.
 #[cycle(evaluate)]
 fn evaluate_second<C: CellView>(
-    sight: &Sight<C>,
+    sight: &ActorView<C>,
     op: Op,
     left: &Value,
     right: &Resolved,
     turns: &mut Turns,
 ) -> Result<Value, Halt>
     ensures gives { Gives (second op (value_of left.now)
-        (value_at (sight_of C.content sight.now) (node_of right.now)) turns.old.left) result
+        (value_at (actor_view_of C.content sight.now) (node_of right.now)) turns.old.left) result
         turns.new.left }
     ensures fewer { turns.new.left ≤ turns.old.left }
 {
@@ -379,11 +379,11 @@ fn evaluate_second<C: CellView>(
 #[cycle(evaluate)]
 #[tactic(auto, using(crate::proofs::Args::args_more, crate::proofs::Args::args_stopped, crate::proofs::Args::prefixed_none, crate::proofs::Weights::arg_below))]
 pub fn evaluate_args<C: CellView>(
-    sight: &Sight<C>,
+    sight: &ActorView<C>,
     args: &[Resolved],
     turns: &mut Turns,
 ) -> Result<Vec<Value>, Halt>
-    ensures gives { GivesAll (values_at (sight_of C.content sight.now) (nodes_of args.now)
+    ensures gives { GivesAll (values_at (actor_view_of C.content sight.now) (nodes_of args.now)
         turns.old.left) result turns.new.left }
     ensures fewer { turns.new.left ≤ turns.old.left }
 {
@@ -397,13 +397,13 @@ pub fn evaluate_args<C: CellView>(
 #[tactic(auto, using(crate::proofs::Known::ints_compare))]
 /// What a comparison of whole numbers gives, as far as that is told without evaluation.
 fn compare_ints<C: CellView>(
-    sight: &Sight<C>,
+    sight: &ActorView<C>,
     op: Op,
     left: &Resolved,
     right: &Resolved,
 ) -> Option<bool>
     ensures { IfSome result (λ b. (k : ℕ)
-        → truth_of (value_at (sight_of C.content sight.now)
+        → truth_of (value_at (actor_view_of C.content sight.now)
         (BinaryNode op (node_of left.now) (node_of right.now)) k) ≡ Done (BoolValue b) k) }
 {
     let Some(a) = int_in(sight, left) else {
@@ -417,12 +417,12 @@ fn compare_ints<C: CellView>(
 
 /// The truth value of an expression of an actor, which has no meaning where it is none.
 pub fn evaluate_truth<C: CellView>(
-    sight: &Sight<C>,
+    sight: &ActorView<C>,
     expr: &Resolved,
     turns: &mut Turns,
 ) -> Result<bool, Halt>
     ensures gives { GivesTruth (truth_of
-        (value_at (sight_of C.content sight.now) (node_of expr.now) turns.old.left)) result
+        (value_at (actor_view_of C.content sight.now) (node_of expr.now) turns.old.left)) result
         turns.new.left }
     ensures fewer { turns.new.left ≤ turns.old.left }
 {

@@ -7,17 +7,17 @@ use Rattle.flow_meaning.specs.Frame.{Frame}
 use Rattle.flow_meaning.specs.Outside.{What}
 use Rattle.flow_meaning.specs.World.{World}
 use Rattle.flow_meaning.specs.World as meaning
-use Rattle.flow_awake.specs.Awake.{RestsKept, WorldRests}
+use Rattle.flow_awake.specs.Awake.{BoundaryInvariant, WorldRests}
 use Rattle.flow_runs.specs.Among.{RestsAmong, AllRest, WorldFits}
 use Rattle.flow_steps.specs.declared.process.Process.{Process}
 use Rattle.flow_world.specs.declared.place.Place.{Place}
 use Rattle.flow_world.specs.Ending.{Seen}
-use Rattle.flow_events.specs.Showing.{PlacesShow, WorldShows}
-use Rattle.flow_deeds.specs.Settling.{Settled}
+use Rattle.flow_events.specs.Showing.{PlacesRepresent, WorldRepresents}
+use Rattle.flow_deeds.specs.Quiescence.{Quiescent}
 use Rattle.flow_rested.specs.Boundary.{IsAtRest}
 
 module _ (r : RawTree) where
-  process_rests : (m : Process) (k : ℕ) (events : List (Pending What)) (x : meaning.Place Frame) → Settled r m x.proc → RestsAmong r k events x → RestsKept r x.proc
+  process_rests : (m : Process) (k : ℕ) (events : List (Pending What)) (x : meaning.Place Frame) → Quiescent r m x.proc → RestsAmong r k events x → BoundaryInvariant r x.proc
       → IsAtRest r m x.proc
   process_rests m k events x s fits kept = record {
     settled = s;
@@ -38,8 +38,8 @@ module _ (r : RawTree) where
     };
   }
 
-  places_rest : (processes k : ℕ) (events : List (Pending What)) (ats : List Place) (xs : List (meaning.Place Frame)) → PlacesShow (Settled r) processes k ats xs
-      → AllRest r k events xs → AllByRecursion (λ (a : meaning.Place Frame). RestsKept r a.proc) xs → PlacesShow (IsAtRest r) processes k ats xs
+  places_rest : (processes k : ℕ) (events : List (Pending What)) (ats : List Place) (xs : List (meaning.Place Frame)) → PlacesRepresent (Quiescent r) processes k ats xs
+      → AllRest r k events xs → AllByRecursion (λ (a : meaning.Place Frame). BoundaryInvariant r a.proc) xs → PlacesRepresent (IsAtRest r) processes k ats xs
   places_rest n k events [] [] s fits kept = tt
   places_rest n k events [] (x ∷ xs) s fits kept = absurd s
   places_rest n k events (at ∷ ats) [] s fits kept = absurd s
@@ -54,7 +54,7 @@ module _ (r : RawTree) where
     places_rest n (suc k) events ats xs s.1 fits.1 kept.1,
   )
 
-  pub world_rests : (v : Seen) (m : World Frame) → WorldShows (Settled r) v m → WorldFits r m → WorldRests r m → WorldShows (IsAtRest r) v m
+  pub world_rests : (v : Seen) (m : World Frame) → WorldRepresents (Quiescent r) v m → WorldFits r m → WorldRests r m → WorldRepresents (IsAtRest r) v m
   world_rests v m s fits kept = record {
     places = places_rest m.out.file.processes 0 m.out.events.pending v.places m.places s.places fits.places kept;
     outside = s.outside;

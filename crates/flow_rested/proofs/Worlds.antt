@@ -16,21 +16,21 @@ use Rattle.flow_meaning.specs.World.{World, at_start}
 use Rattle.flow_awake.specs.Awake.{AreWhole, WorldRests}
 use Rattle.flow_awake.proofs.Worlds.{whole_rest}
 use Rattle.flow_runs.specs.Laws.{AreValid}
-use Rattle.flow_runs.proofs.Runs.{runs_exist}
+use Rattle.flow_runs.proofs.Runs.{run_exists}
 use Rattle.flow_allowed.specs.Tasking.{IsProgram}
 use Rattle.flow_machine.specs.declared.host.Burst.TheVariants.{Rested}
 use Rattle.flow_world.specs.Ending.{Seen}
 use Rattle.flow_world.specs.Happening.{Happens}
 use Rattle.flow_world.specs.Starting.{Starts}
-use Rattle.flow_events.specs.Showing.{WorldShows}
+use Rattle.flow_events.specs.Showing.{WorldRepresents}
 use Rattle.flow_events.proofs.Next.{same_end}
 use Rattle.flow_events.proofs.Started.{start_shown}
-use Rattle.flow_deeds.specs.Settling.{Settled}
+use Rattle.flow_deeds.specs.Quiescence.{Quiescent}
 use Rattle.flow_deeds.proofs.Settling.{settled_first}
-use Rattle.flow_lasting.specs.Lasting.{Lasting}
+use Rattle.flow_lasting.specs.Invariant.{WorldInvariant}
 use Rattle.flow_lasting.proofs.Lasting.{lasting_starts, lasting_stays}
 use Rattle.flow_lasting.proofs.Mid.{begun_mid, burst_mid}
-use Rattle.flow_run.specs.Tracing.{Goes, no_event, one_more}
+use Rattle.flow_run.specs.Tracing.{RunsEvents, no_event, one_more}
 use Rattle.flow_traced.proofs.Codes.{code_stays}
 use Rattle.flow_happens.proofs.Whole.{happening}
 use Rattle.flow_exact.specs.Exact.{HaveFewPlaces}
@@ -46,8 +46,8 @@ module _ {A : Type 0} (puts : A → Line → Result (Unit {0}) OutFault → A �
   record Came (v : Seen) : Type 0 where
     code : IsProgram r v.code
     state : World Frame
-    shows : WorldShows (Settled r) v state
-    keeps : Lasting r state
+    shows : WorldRepresents (Quiescent r) v state
+    keeps : WorldInvariant r state
     on : Onwards (classes r) states state.out.ran state
 
   event_came : (u v : Seen) (b c : A) → Came u → Happens puts u b Rested v c → Came v
@@ -56,7 +56,7 @@ module _ {A : Type 0} (puts : A → Line → Result (Unit {0}) OutFault → A �
       let x = happening puts r u v w b c k.code k.shows k.keeps h in
       let begun = x.event.begun in
       let left = x.event.left in
-      let ongoing = (same_end (Settled r) puts u v w b c k.shows).2 h in
+      let ongoing = (same_end (Quiescent r) puts u v w b c k.shows).2 h in
       let mid = burst_mid (classes r) w.out.ran (before begun) left x.event.follows (begun_mid (classes r) w.out.ran w begun refl k.keeps.times x.event.begins) in
       record {
         code = subst (IsProgram r) (sym (code_stays puts u v b c Rested h)) k.code;
@@ -66,20 +66,20 @@ module _ {A : Type 0} (puts : A → Line → Result (Unit {0}) OutFault → A �
         on = subst (λ n. Onwards (classes r) states n (after w begun left)) (sym mid.ran) (next_on (classes r) states w.out.ran w begun left k.on ongoing x.event.begins x.event.follows x.rests);
       }
 
-  events_came : (with_frames : Bool) (w v : Seen) (a b : A) → Came w → Goes puts with_frames w a v b → Came v
+  events_came : (with_frames : Bool) (w v : Seen) (a b : A) → Came w → RunsEvents puts with_frames w a v b → Came v
   events_came with_frames w _ a _ k no_event = k
   events_came with_frames w v a d k (one_more {u = u} {b = b} {c = c} goes does told) = event_came u v b c (events_came with_frames w u a b k goes) does
 
 module _ {A : Type 0} (puts : A → Line → Result (Unit {0}) OutFault → A → Type 0) where
   in_run : (c : RawClasses) (file : World0) (with_frames : Bool) (first v : Seen) (a b : A) (whole : AreWhole (raw_of c)) → HaveFewPlaces (raw_of c) → IsInRange (seen file)
-      → Starts c file first → Goes puts with_frames first a v b → (states : List (World Frame)) (lines : List Line) → IsRun (classes (raw_of c)) (seen file) states lines
+      → Starts c file first → RunsEvents puts with_frames first a v b → (states : List (World Frame)) (lines : List Line) → IsRun (classes (raw_of c)) (seen file) states lines
       → law.RestsInRun (raw_of c) (seen file) v
   in_run c file with_frames first v a b whole few range starts goes states lines run =
       let r = raw_of c in
       let start : Came puts r whole.valid states first = record {
         code = code_first c file whole few first starts;
         state = at_start (seen file);
-        shows = start_shown (Settled r) c file first (settled_first r) starts;
+        shows = start_shown (Quiescent r) c file first (settled_first r) starts;
         keeps = lasting_starts r (seen file) range;
         on = record { rest = run.later; lines = run.rest; runs = run.runs; left = run.from_start };
       } in
@@ -90,7 +90,7 @@ module _ {A : Type 0} (puts : A → Line → Result (Unit {0}) OutFault → A �
 
   pub classes_rest : law.ClassesRest puts
   classes_rest c file with_frames first v a b whole few range starts goes =
-      let x = runs_exist (raw_of c) whole.valid (seen file) range in
+      let x = run_exists (raw_of c) whole.valid (seen file) range in
       in_run c file with_frames first v a b whole few range starts goes x.is.0 x.lines x.is.1
 
   pub programs_rest : law.ProgramsRest puts

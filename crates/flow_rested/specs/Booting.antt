@@ -15,23 +15,23 @@ use Rattle.flow_meaning.specs.Process.{Proc}
 use Rattle.flow_meaning.specs.Step.{on_core}
 use Rattle.flow_steps.specs.declared.process.Process.{Process}
 use Rattle.flow_steps.specs.Doing.{begun}
-use Rattle.flow_steps.specs.Sights.{program_time}
+use Rattle.flow_steps.specs.Evaluating.{program_time}
 use Rattle.flow_machine.specs.declared.host.Burst.{Burst}
 use Rattle.flow_machine.specs.Bursts.{MainBursts}
-use Rattle.flow_kept.specs.Kept.{Kept}
+use Rattle.flow_kept.specs.Invariant.{ProcessInvariant}
 use Rattle.flow_allowed.specs.Tasking.{IsProgram}
-use Rattle.flow_bursts.specs.Bursting.{Steadfast, Follows}
-use Rattle.flow_boundaries.specs.Bringing.{Resting}
+use Rattle.flow_bursts.specs.Bursting.{HostKeepsTime, SimulatesBurst}
+use Rattle.flow_boundaries.specs.Delivering.{Resting}
 
 module _ {A W : Type 0} (serves : Host W) (shows : A → Numbered ℕ → W → Type 0)
     (wrote : A → List Line → A → Type 0) (code : Code) (processes : ℕ) (r : RawTree) where
   -- a process that doesn't hold its `main`, between events, in a world whose time programs can tell
   abbrev pub BootFollows : Type 0
   BootFollows =
-      IsProgram r code → Steadfast serves → (now turns : ℕ) (me : ProcId) (m n : Process) (p : Proc Frame) (w : W) (a b : A)
-      (e : Burst) → Resting r m p → Kept r (on_core (begin turns) p) → p.core.main ≡ None
-      → (let q = boot (classes r) me.0 (on_core (begin turns) p) in UnlessStopped q.core.halted (Kept r q))
+      IsProgram r code → HostKeepsTime serves → (now turns : ℕ) (me : ProcId) (m n : Process) (p : Proc Frame) (w : W) (a b : A)
+      (e : Burst) → Resting r m p → ProcessInvariant r (on_core (begin turns) p) → p.core.main ≡ None
+      → (let q = boot (classes r) me.0 (on_core (begin turns) p) in UnlessStopped q.core.halted (ProcessInvariant r q))
       → shows a p.core.ports w → program_time now ≡ pos now → now ≡ (serves.supply w).now
       → processes ≡ (serves.supply w).processes
       → MainBursts serves shows wrote code processes me (begun now turns m) a e n b
-      → Follows serves shows wrote code processes r [] a (boot (classes r) me.0 (on_core (begin turns) p)) w e n b
+      → SimulatesBurst serves shows wrote code processes r [] a (boot (classes r) me.0 (on_core (begin turns) p)) w e n b

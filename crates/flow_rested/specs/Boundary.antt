@@ -23,14 +23,14 @@ use Rattle.flow_awake.specs.Awake.{AreWhole}
 use Rattle.flow_steps.specs.declared.process.Process.{Process}
 use Rattle.flow_world.specs.Ending.{Seen}
 use Rattle.flow_world.specs.Starting.{Starts}
-use Rattle.flow_events.specs.Showing.{WorldShows}
-use Rattle.flow_deeds.specs.Settling.{Settled}
-use Rattle.flow_run.specs.Tracing.{Goes}
+use Rattle.flow_events.specs.Showing.{WorldRepresents}
+use Rattle.flow_deeds.specs.Quiescence.{Quiescent}
+use Rattle.flow_run.specs.Tracing.{RunsEvents}
 use Rattle.flow_exact.specs.Exact.{HaveFewPlaces}
 
 -- a process in memory that is ready for the next event, with its heap at rest, and the process that it shows
 pub record IsAtRest (r : RawTree) (m : Process) (p : Proc Frame) : Type 0 where
-  pub settled : Settled r m p
+  pub settled : Quiescent r m p
   pub rested : Rested r m.heap p
 
 -- A world in memory shows the state at which the run of these classes is after as many events, process by process at rest.
@@ -39,14 +39,14 @@ pub record RestsInRun (r : RawTree) (w : worlds.World) (v : Seen) : Type 0 where
   pub run : ClassStates r w states
   pub state : World Frame
   pub after_as_many : slice_get states v.ran ≡ Some state
-  pub shows : WorldShows (IsAtRest r) v state
+  pub shows : WorldRepresents (IsAtRest r) v state
 
 module _ {A : Type 0} (puts : A → Line → Result (Unit {0}) OutFault → A → Type 0) where
   -- So does each world in memory that comes of valid classes in the world of a file in range, event after event.
   abbrev pub ClassesRest : Type 0
   ClassesRest =
       (c : RawClasses) (file : World0) (with_frames : Bool) (first v : Seen) (a b : A) → AreWhole (raw_of c)
-      → HaveFewPlaces (raw_of c) → IsInRange (seen file) → Starts c file first → Goes puts with_frames first a v b
+      → HaveFewPlaces (raw_of c) → IsInRange (seen file) → Starts c file first → RunsEvents puts with_frames first a v b
       → RestsInRun (raw_of c) (seen file) v
 
   -- and of the classes of a text
@@ -54,5 +54,5 @@ module _ {A : Type 0} (puts : A → Line → Result (Unit {0}) OutFault → A �
   ProgramsRest =
       (text : List ℕ) (program : Program) (c : RawClasses) (file : World0) (with_frames : Bool) (first v : Seen) (a b : A)
       → IsSound text program → first_heavy (program_of program).decls ≡ None → Has (program_of program) (raw_of c)
-      → IsInRange (seen file) → Starts c file first → Goes puts with_frames first a v b
+      → IsInRange (seen file) → Starts c file first → RunsEvents puts with_frames first a v b
       → RestsInRun (raw_of c) (seen file) v

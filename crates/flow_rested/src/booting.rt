@@ -9,7 +9,7 @@ use flow_machine::host::Host;
 
 /// The call of `main` in memory and the burst that follows are a boot of the class machine and its burst, with the lines that
 /// the host wrote.
-pub fn boots_follow<H: Host>()
+pub fn boots_refine<H: Host>()
     ensures { (code : Code) (processes : ℕ) (r : RawTree)
         → BootFollows H.serves H.shows H.wrote code processes r }
 {}

@@ -13,7 +13,7 @@ use Rattle.flow_ast.specs.Slots.{body_slots, branch_slots, waited_slots, declare
 use Rattle.flow_ast.specs.Typing.{or_else}
 use Rattle.flow_rules.specs.Items.{Env, Refusal, item, with_states, with_var, in_loop, in_catch, declared, waited, if_state, behind, started, slot_names, fresh, test_fault, maybe_test, declare_fault, wait_fault, body_refusal, branch_refusal}
 use Rattle.flow_rules.specs.WalkView.{bare, Grows, Says, Steps, Passes, StmtAnswer, BranchAnswer, BodyAnswer, PartAnswer, Leads, else_refusal, else_slots}
-use Rattle.flow_rules.proofs.Walking.{take_own, take_first, vars_started, bare_started, vars_waited, bare_waited, scope_closed}
+use Rattle.flow_rules.proofs.Walking.{take_own, take_first, vars_started, placeless_started, vars_waited, placeless_waited, scope_closed}
 use Rattle.flow_rules.proofs.Arms.{Shape, names_both, states_both, or_assoc}
 
 -- this is the first refusal
@@ -200,7 +200,7 @@ pub grows_started : (e inner : Env) (b : Body) → inner ≡ started e b → inn
 grows_started e inner b is states = record {
   states = states;
   vars = ap (λ n. take (length e.setting.vars) n.setting.vars) is ∙ vars_started e b;
-  others = ap bare is ∙ bare_started e b;
+  others = ap bare is ∙ placeless_started e b;
 }
 
 pub grows_behind : (e inner : Env) (b : Body) → inner ≡ behind e b → Grows e inner b
@@ -230,7 +230,7 @@ when_closed e mid inner new w b is g v s o l c =
     let states : mid.states ≡ e.states ++ slot_names (waited_slots w) =
     ap (λ (n : Env). n.states) is ∙ sym (append-nil (waited e w.into).states) ∙ waited_states e w.into [] ∙ ap (λ l. e.states ++ slot_names l) (append-nil (waited_slots w)) in
     scope_closed e mid inner new b (slot_names (waited_slots w)) states
-    (ap (λ n. take (length e.setting.vars) n.setting.vars) is ∙ vars_waited e w.into) (ap bare is ∙ bare_waited e w.into) g v s o l c
+    (ap (λ n. take (length e.setting.vars) n.setting.vars) is ∙ vars_waited e w.into) (ap bare is ∙ placeless_waited e w.into) g v s o l c
     ∙ ap (λ l. with_states e l) (sym (names_both (waited_slots w) (body_slots b)))
 
 -- behind a `for`
@@ -264,6 +264,6 @@ module _ (e e1 e2 e3 e4 new : Env) (i n b : Body) where
       ∙ append_assoc e.states (slot_names (body_slots i)) (slot_names (body_slots n)) ∙ ap (λ l. e.states ++ l) (sym (names_both (body_slots i) (body_slots n))) in
       let vars : take (length e.setting.vars) e3.setting.vars ≡ e.setting.vars =
       ap (λ m. take (length e.setting.vars) m.setting.vars) three ∙ ap (λ m. take (length e.setting.vars) m.setting.vars) w.init ∙ vars_started e i in
-      let others : bare e3 ≡ bare e = ap bare three ∙ ap bare w.init ∙ bare_started e i in
+      let others : bare e3 ≡ bare e = ap bare three ∙ ap bare w.init ∙ placeless_started e i in
       scope_closed e e3 e4 new b ss states vars others (grows_behind e3 e4 b w.body) w.body_vars w.new_states w.new_kept w.new_looped w.new_caught
       ∙ ap (λ l. with_states e l) (sym (names_both (body_slots i ++ body_slots n) (body_slots b)) ∙ ap slot_names (append_assoc (body_slots i) (body_slots n) (body_slots b)))

@@ -15,7 +15,7 @@ use Rattle.flow_tree.specs.Tree.{TypeTree, ExprTree}
 use Rattle.flow_tree.specs.Body.{IntoTree, WaitTree, Body, End, DeclareStmt, WaitStmt}
 use Rattle.flow_tree.specs.StmtView.{stmt_of, body_of, branches_of, simple_of, else_of}
 use Rattle.flow_ast.specs.Slots.{body_slots, branch_slots}
-use Rattle.flow_rules.specs.declared.found.Found as code
+use Rattle.flow_rules.specs.declared.type_view.TypeView as code
 use Rattle.flow_rules.specs.declared.walk.Walk.{Walk}
 use Rattle.flow_rules.specs.declared.walk.Around.{Around}
 use Rattle.flow_rules.specs.Judged.{Setting}

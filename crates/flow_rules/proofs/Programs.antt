@@ -26,12 +26,12 @@ use Rattle.flow_rules.specs.Judged.{Setting}
 use Rattle.flow_rules.specs.Items.{Refusal, item, written, among, body_refusal}
 use Rattle.flow_rules.specs.Closing.{ways}
 use Rattle.flow_rules.specs.Rules.{with_name, name_fault, fields_fault, record_fault, param_fault, params_fault, header_fault, body_env, routine_refusal, decl_refusal, decls_refusal, param_name, Size, first_large, setting_of}
-use Rattle.flow_rules.specs.declared.found.Found as code
+use Rattle.flow_rules.specs.declared.type_view.TypeView as code
 use Rattle.flow_rules.specs.View.{found_of}
 use Rattle.flow_rules.specs.MapView.{bound}
 use Rattle.flow_rules.specs.declared.walk.Walk.{Walk}
 use Rattle.flow_rules.specs.declared.walk.Around.{Around}
-use Rattle.flow_rules.specs.declared.known.Names.{Names}
+use Rattle.flow_rules.specs.declared.top_names.TopNames.{TopNames}
 use Rattle.flow_rules.specs.Known.{holds_by, record_holds}
 use lib.ListN.{length-map}
 use Rattle.flow_rules.specs.Items.{Env}
@@ -280,7 +280,7 @@ fails_says p OutOfMemory h = h
 abbrev pub outside : Around
 outside = record { looped = false; caught = false }
 
-abbrev made : Bor Names → Bool → List (List ℕ × TypeTree) → TypeTree → List (List ℕ) → Env
+abbrev made : Bor TopNames → Bool → List (List ℕ × TypeTree) → TypeTree → List (List ℕ) → Env
 made n p vs r ss = record {
   setting = record { known = known_by n.now; holds = holds_by (flag_of n.now); vars = vs; plain = p };
   returns = r;
@@ -303,7 +303,7 @@ abbrev the_setting : (List ℕ → Option Meaning) → (List ℕ → Bool) → B
 the_setting f g plain = record { known = f; holds = holds_by g; vars = []; plain = plain }
 
 -- what is in force in all routines of a program, and its declarations by their code
-pub setting_all : (n : Names) (ds : List Decl) → known_by n ≡ known (map decl_of ds) → flag_of n ≡ record_holds (known (map decl_of ds)) (suc (length ds)) → setting_by n ≡ setting_of (map decl_of ds)
+pub setting_all : (n : TopNames) (ds : List Decl) → known_by n ≡ known (map decl_of ds) → flag_of n ≡ record_holds (known (map decl_of ds)) (suc (length ds)) → setting_by n ≡ setting_of (map decl_of ds)
 setting_all n ds k h =
     ap₂ the_setting k (h ∙ ap (λ m. record_holds (known (map decl_of ds)) (suc m)) (sym (length-map ds decl_of)))
 

@@ -74,29 +74,29 @@ vars_started e (ModifyStmt at xs c k) = take_own e.setting.vars
 vars_started e (CallStmt at xs es k) = take_own e.setting.vars
 vars_started e (WaitStmt at w k) = vars_waited e w.into
 
-pub bare_waited : (e : Env) (i : Option IntoTree) → bare (waited e i) ≡ bare e
-bare_waited e None = refl
-bare_waited e (Some i) = refl
+pub placeless_waited : (e : Env) (i : Option IntoTree) → bare (waited e i) ≡ bare e
+placeless_waited e None = refl
+placeless_waited e (Some i) = refl
 
-pub bare_started : (e : Env) (b : Body) → bare (started e b) ≡ bare e
-bare_started e End = refl
-bare_started e (BlockStmt at b k) = refl
-bare_started e (IfStmt at t b k) = refl
-bare_started e (IfElseStmt at t b c k) = refl
-bare_started e (WhileStmt at t b k) = refl
-bare_started e (ForStmt at i t n b k) = refl
-bare_started e (LoopStmt at b k) = refl
-bare_started e (BreakStmt at k) = refl
-bare_started e (ContinueStmt at k) = refl
-bare_started e (ReturnStmt at v k) = refl
-bare_started e (ThrowStmt at v k) = refl
-bare_started e (TryStmt at b q x h k) = refl
-bare_started e (ChooseStmt at bs k) = refl
-bare_started e (DeclareStmt at i v k) = refl
-bare_started e (AssignStmt at xs v k) = refl
-bare_started e (ModifyStmt at xs c k) = refl
-bare_started e (CallStmt at xs es k) = refl
-bare_started e (WaitStmt at w k) = bare_waited e w.into
+pub placeless_started : (e : Env) (b : Body) → bare (started e b) ≡ bare e
+placeless_started e End = refl
+placeless_started e (BlockStmt at b k) = refl
+placeless_started e (IfStmt at t b k) = refl
+placeless_started e (IfElseStmt at t b c k) = refl
+placeless_started e (WhileStmt at t b k) = refl
+placeless_started e (ForStmt at i t n b k) = refl
+placeless_started e (LoopStmt at b k) = refl
+placeless_started e (BreakStmt at k) = refl
+placeless_started e (ContinueStmt at k) = refl
+placeless_started e (ReturnStmt at v k) = refl
+placeless_started e (ThrowStmt at v k) = refl
+placeless_started e (TryStmt at b q x h k) = refl
+placeless_started e (ChooseStmt at bs k) = refl
+placeless_started e (DeclareStmt at i v k) = refl
+placeless_started e (AssignStmt at xs v k) = refl
+placeless_started e (ModifyStmt at xs c k) = refl
+placeless_started e (CallStmt at xs es k) = refl
+placeless_started e (WaitStmt at w k) = placeless_waited e w.into
 
 -- along the statements of a body: what is in force at the rest of it
 pub record Along (first e : Env) (rest all : Body) : Type 0 where
@@ -113,7 +113,7 @@ along_step first e new f rest all h s = record {
   refusal = h.refusal ∙ s.refusal rest;
   states = s.states rest ∙ h.states;
   vars = take_less first.setting.vars e.setting.vars new.setting.vars h.vars (ap (λ n. take (length e.setting.vars) n.setting.vars) s.exact ∙ vars_started e (f End));
-  others = ap bare s.exact ∙ bare_started e (f End) ∙ h.others;
+  others = ap bare s.exact ∙ placeless_started e (f End) ∙ h.others;
 }
 
 pub along_last : (first e : Env) (all : Body) → Along first e End all → (body_refusal first all ≡ None) × Grows first e all

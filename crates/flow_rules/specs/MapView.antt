@@ -7,9 +7,9 @@ use denote.Ref.{Bor}
 use Rattle.indexmap.specs.IndexMap.{IndexMap, keys}
 use Rattle.flow_tree.specs.Tree.{TypeTree}
 use Rattle.flow_ast.specs.TypingNames.{named}
-use Rattle.flow_rules.specs.declared.found.Found as code
+use Rattle.flow_rules.specs.declared.type_view.TypeView as code
 use Rattle.flow_rules.specs.declared.callee.Meaning as meant
-use Rattle.flow_rules.specs.declared.known.Names.{Names}
+use Rattle.flow_rules.specs.declared.top_names.TopNames.{TopNames}
 use Rattle.flow_rules.specs.declared.holding.Uses.{Uses}
 use Rattle.flow_rules.specs.Holding.{marked, uses_hold}
 use Rattle.flow_rules.specs.Known.{Meaning, meaning_holds}
@@ -26,7 +26,7 @@ abbrev pub vars_of : {S : Type 0} → IndexMap (Bor (List ℕ)) code.Found S →
 vars_of m = map (bound found_of) m.entries
 
 -- what names declare
-abbrev pub known_by : Names → List ℕ → Option Meaning
+abbrev pub known_by : TopNames → List ℕ → Option Meaning
 known_by n = named (rows_of n.meanings)
 
 -- the flag of a number, where there is one
@@ -39,7 +39,7 @@ abbrev pub numbered : {S : Type 0} → IndexMap (Bor (List ℕ)) meant.Meaning S
 numbered m g x = at_number g (position (λ k. bytes_eq x k.now) (keys m))
 
 -- whether the record of a name is marked as one that holds a reference
-abbrev pub flag_of : Names → List ℕ → Bool
+abbrev pub flag_of : TopNames → List ℕ → Bool
 flag_of n = numbered n.meanings (marked n.holds.items)
 
 -- the records among the meanings, as far as they hold one another or a reference

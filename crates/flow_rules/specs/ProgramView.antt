@@ -9,7 +9,7 @@ use Rattle.flow_tree.specs.DeclView.{params_of}
 use Rattle.flow_tree.specs.Decls.{ParamTree, RoutineTree}
 use Rattle.flow_ast.specs.TypingNames.{named}
 use Rattle.flow_ast.specs.Typing.{is_there}
-use Rattle.flow_rules.specs.declared.known.Names.{Names}
+use Rattle.flow_rules.specs.declared.top_names.TopNames.{TopNames}
 use Rattle.flow_rules.specs.declared.walk.Walk.{Walk}
 use Rattle.flow_rules.specs.declared.program.Routine.{Routine}
 use Rattle.flow_rules.specs.Known.{field_row, holds_by}
@@ -31,7 +31,7 @@ routine_of f = record {
 }
 
 -- what is in force in routines before their parameters
-abbrev pub setting_by : Names → Bool → Setting
+abbrev pub setting_by : TopNames → Bool → Setting
 setting_by n plain = record { known = known_by n; holds = holds_by (flag_of n); vars = []; plain = plain }
 
 -- the names of variables in force

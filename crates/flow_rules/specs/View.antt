@@ -6,10 +6,10 @@ use Rattle.flow_tree.specs.View.{type_of}
 use Rattle.flow_tree.specs.DeclView.{params_of}
 use Rattle.flow_tree.specs.Decls.{ParamTree}
 use Rattle.flow_ast.specs.Typing.{param_types}
-use Rattle.flow_rules.specs.declared.found.Found as code
-use Rattle.flow_rules.specs.declared.found.Found.TheVariants as found
-use Rattle.flow_rules.specs.declared.found.Inner as inners
-use Rattle.flow_rules.specs.declared.found.Inner.TheVariants as inner
+use Rattle.flow_rules.specs.declared.type_view.TypeView as code
+use Rattle.flow_rules.specs.declared.type_view.TypeView.TheVariants as found
+use Rattle.flow_rules.specs.declared.type_view.ElementView as inners
+use Rattle.flow_rules.specs.declared.type_view.ElementView.TheVariants as inner
 use Rattle.flow_rules.specs.declared.callee.Meaning as meant
 use Rattle.flow_rules.specs.declared.callee.Meaning.TheVariants as meaning
 use Rattle.flow_rules.specs.declared.callee.Basic.{Basic}

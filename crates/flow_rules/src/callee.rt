@@ -9,7 +9,7 @@ ghost use Rattle.flow_ast.specs.Typing.{signature, param_types};
 ghost use Rattle.flow_rules.specs.Judged.{Value, Effect, Statement, predefined_callee, declared_callee, called_by, called_on, sends, as_many, Exactly};
 ghost use Rattle.flow_rules.specs.View.{found_of, inner_of, meaning_of, need_of, basic_need, needs_view, callee_of};
 
-use crate::found::{Found, Inner};
+use crate::type_view::{TypeView, ElementView};
 use flow_ast::predefined::{Method, Predefined, predefined_method};
 use flow_base::name::Name;
 use flow_tree::decl::Param;
@@ -37,7 +37,7 @@ pub enum Basic {
 /// What an argument has to be.
 #[derive(Clone, Copy)]
 pub enum Need<'a> {
-    Exactly(Found<'a>),
+    Exactly(TypeView<'a>),
     Traced,
 }
 
@@ -64,7 +64,7 @@ pub enum Kind {
 #[derive(Clone, Copy)]
 pub struct Callee<'a> {
     pub needs: Needs<'a>,
-    pub gives: Option<Found<'a>>,
+    pub gives: Option<TypeView<'a>>,
     pub kind: Kind,
 }
 
@@ -72,9 +72,9 @@ fn basic_need(basic: Basic) -> Need<'static>
     ensures { need_of result ≡ basic_need basic }
 {
     match basic {
-        Basic::Int => Need::Exactly(Found::Int),
-        Basic::Text => Need::Exactly(Found::Str),
-        Basic::Error => Need::Exactly(Found::Error),
+        Basic::Int => Need::Exactly(TypeView::Int),
+        Basic::Text => Need::Exactly(TypeView::Str),
+        Basic::Error => Need::Exactly(TypeView::Error),
         Basic::Traced => Need::Traced,
     }
 }
@@ -86,7 +86,7 @@ fn param_need<'a>(params: &'a [Param], number: usize) -> Option<Need<'a>>
         ≡ slice_get (map Exactly (param_types (params_of params.now))) number }
 {
     match params.get(number) {
-        Some(param) => Some(Need::Exactly(Found::of(&param.ty))),
+        Some(param) => Some(Need::Exactly(TypeView::of(&param.ty))),
         None => None,
     }
 }
@@ -123,7 +123,7 @@ impl<'a> Needs<'a> {
             Needs::Fixed(basics) => fixed_need(basics, number),
             Needs::One(ty) => {
                 if number == 0 {
-                    Some(Need::Exactly(Found::of(ty)))
+                    Some(Need::Exactly(TypeView::of(ty)))
                 } else {
                     None
                 }
@@ -143,7 +143,7 @@ impl<'a> Needs<'a> {
     }
 }
 
-fn value<'a>(needs: &'a [Basic], gives: Found<'a>) -> Callee<'a>
+fn value<'a>(needs: &'a [Basic], gives: TypeView<'a>) -> Callee<'a>
     ensures { callee_of result ≡ record
         { needs = map basic_need needs.now; gives = Some (found_of gives.entry); kind = Value } }
 {
@@ -154,7 +154,7 @@ fn value<'a>(needs: &'a [Basic], gives: Found<'a>) -> Callee<'a>
     }
 }
 
-fn effect<'a>(needs: &'a [Basic], gives: Found<'a>) -> Callee<'a>
+fn effect<'a>(needs: &'a [Basic], gives: TypeView<'a>) -> Callee<'a>
     ensures { callee_of result ≡ record
         { needs = map basic_need needs.now; gives = Some (found_of gives.entry); kind = Effect } }
 {
@@ -181,37 +181,37 @@ pub fn predefined_callee<'a>(call: Predefined) -> Callee<'a>
     ensures { callee_of result ≡ predefined_callee call (signature call) }
 {
     match call {
-        Predefined::ToString => value(&[Basic::Int], Found::Str),
-        Predefined::ToInt => value(&[Basic::Text], Found::Int),
+        Predefined::ToString => value(&[Basic::Int], TypeView::Str),
+        Predefined::ToInt => value(&[Basic::Text], TypeView::Int),
         Predefined::Now => Callee {
             needs: Needs::Fixed(&[]),
-            gives: Some(Found::Int),
+            gives: Some(TypeView::Int),
             kind: Kind::Clock,
         },
-        Predefined::EndOfStream => value(&[], Found::Error),
-        Predefined::TimedOut => value(&[], Found::Error),
-        Predefined::BrokenPromise => value(&[], Found::Error),
-        Predefined::OperationCancelled => value(&[], Found::Error),
-        Predefined::ActorCancelled => value(&[], Found::Error),
-        Predefined::Error => value(&[Basic::Int], Found::Error),
-        Predefined::RandomInt => effect(&[Basic::Int, Basic::Int], Found::Int),
-        Predefined::Delay => effect(&[Basic::Int], Found::Future(Inner::Void)),
-        Predefined::Never => effect(&[], Found::Future(Inner::Void)),
-        Predefined::Listen => effect(&[Basic::Int], Found::FutureStream(Inner::Packet)),
+        Predefined::EndOfStream => value(&[], TypeView::Error),
+        Predefined::TimedOut => value(&[], TypeView::Error),
+        Predefined::BrokenPromise => value(&[], TypeView::Error),
+        Predefined::OperationCancelled => value(&[], TypeView::Error),
+        Predefined::ActorCancelled => value(&[], TypeView::Error),
+        Predefined::Error => value(&[Basic::Int], TypeView::Error),
+        Predefined::RandomInt => effect(&[Basic::Int, Basic::Int], TypeView::Int),
+        Predefined::Delay => effect(&[Basic::Int], TypeView::Future(ElementView::Void)),
+        Predefined::Never => effect(&[], TypeView::Future(ElementView::Void)),
+        Predefined::Listen => effect(&[Basic::Int], TypeView::FutureStream(ElementView::Packet)),
         Predefined::ReadFile => {
             effect(
                 &[Basic::Text, Basic::Int, Basic::Int],
-                Found::Future(Inner::Text),
+                TypeView::Future(ElementView::Text),
             )
         }
         Predefined::WriteFile => {
             effect(
                 &[Basic::Text, Basic::Int, Basic::Text],
-                Found::Future(Inner::Void),
+                TypeView::Future(ElementView::Void),
             )
         }
-        Predefined::SyncFile => effect(&[Basic::Text], Found::Future(Inner::Void)),
-        Predefined::FileSize => effect(&[Basic::Text], Found::Future(Inner::Int)),
+        Predefined::SyncFile => effect(&[Basic::Text], TypeView::Future(ElementView::Void)),
+        Predefined::FileSize => effect(&[Basic::Text], TypeView::Future(ElementView::Int)),
         Predefined::Trace => statement(Needs::Fixed(&[Basic::Traced])),
         Predefined::SendTo => { statement(Needs::Fixed(&[Basic::Int, Basic::Int, Basic::Text])) }
     }
@@ -225,17 +225,17 @@ pub fn declared_callee<'a>(name: &'a Name, meaning: Meaning<'a>) -> Callee<'a>
     match meaning {
         Meaning::Record(fields) => Callee {
             needs: Needs::Params(fields),
-            gives: Some(Found::Named(name.bytes())),
+            gives: Some(TypeView::Named(name.bytes())),
             kind: Kind::Value,
         },
         Meaning::Function(params, returns) => Callee {
             needs: Needs::Params(params),
-            gives: Some(Found::of(returns)),
+            gives: Some(TypeView::of(returns)),
             kind: Kind::Function,
         },
         Meaning::Actor(params, returns) => Callee {
             needs: Needs::Params(params),
-            gives: Some(Found::Future(Inner::Written(returns))),
+            gives: Some(TypeView::Future(ElementView::Written(returns))),
             kind: Kind::Effect,
         },
     }
@@ -245,7 +245,7 @@ fn error_callee<'a>(method: Method) -> Option<Callee<'a>>
     ensures { option_map callee_of result ≡ called_by ErrorType (Some method) }
 {
     match method {
-        Method::Code => Some(value(&[], Found::Int)),
+        Method::Code => Some(value(&[], TypeView::Int)),
         _ => None,
     }
 }
@@ -254,19 +254,19 @@ fn text_callee<'a>(method: Method) -> Option<Callee<'a>>
     ensures { option_map callee_of result ≡ called_by StringType (Some method) }
 {
     match method {
-        Method::Size => Some(value(&[], Found::Int)),
-        Method::Substr => Some(value(&[Basic::Int, Basic::Int], Found::Str)),
+        Method::Size => Some(value(&[], TypeView::Int)),
+        Method::Substr => Some(value(&[Basic::Int, Basic::Int], TypeView::Str)),
         _ => None,
     }
 }
 
-fn future_callee<'a>(of: Inner<'a>, method: Method) -> Option<Callee<'a>>
+fn future_callee<'a>(of: ElementView<'a>, method: Method) -> Option<Callee<'a>>
     ensures { option_map callee_of result
         ≡ called_by (FutureType (inner_of of.entry)) (Some method) }
 {
     match method {
-        Method::IsReady => Some(value(&[], Found::Bool)),
-        Method::IsError => Some(value(&[], Found::Bool)),
+        Method::IsReady => Some(value(&[], TypeView::Bool)),
+        Method::IsError => Some(value(&[], TypeView::Bool)),
         Method::Get => Some(value(&[], of.opened())),
         Method::Cancel => Some(statement(Needs::Fixed(&[]))),
         _ => None,
@@ -288,8 +288,8 @@ fn promise_callee<'a>(of: &'a Ty, method: Method) -> Option<Callee<'a>>
     ensures { option_map callee_of result ≡ called_by (PromiseType (type_of of.now)) (Some method) }
 {
     match method {
-        Method::GetFuture => Some(value(&[], Found::Future(Inner::Written(of)))),
-        Method::IsSet => Some(value(&[], Found::Bool)),
+        Method::GetFuture => Some(value(&[], TypeView::Future(ElementView::Written(of)))),
+        Method::IsSet => Some(value(&[], TypeView::Bool)),
         _ => sending_callee(of, method),
     }
 }
@@ -299,26 +299,26 @@ fn stream_callee<'a>(of: &'a Ty, method: Method) -> Option<Callee<'a>>
         ≡ called_by (PromiseStreamType (type_of of.now)) (Some method) }
 {
     match method {
-        Method::GetFuture => Some(value(&[], Found::FutureStream(Inner::Written(of)))),
+        Method::GetFuture => Some(value(&[], TypeView::FutureStream(ElementView::Written(of)))),
         _ => sending_callee(of, method),
     }
 }
 
-fn method_callee<'a>(base: Found<'a>, method: Method) -> Option<Callee<'a>>
+fn method_callee<'a>(base: TypeView<'a>, method: Method) -> Option<Callee<'a>>
     ensures { option_map callee_of result ≡ called_by (found_of base.entry) (Some method) }
 {
     match base {
-        Found::Error => error_callee(method),
-        Found::Str => text_callee(method),
-        Found::Future(of) => future_callee(of, method),
-        Found::Promise(of) => promise_callee(of, method),
-        Found::PromiseStream(of) => stream_callee(of, method),
-        Found::Int | Found::Bool | Found::Void | Found::Named(_) | Found::FutureStream(_) => None,
+        TypeView::Error => error_callee(method),
+        TypeView::Str => text_callee(method),
+        TypeView::Future(of) => future_callee(of, method),
+        TypeView::Promise(of) => promise_callee(of, method),
+        TypeView::PromiseStream(of) => stream_callee(of, method),
+        TypeView::Int | TypeView::Bool | TypeView::Void | TypeView::Named(_) | TypeView::FutureStream(_) => None,
     }
 }
 
 /// What a name behind a base of this type calls, where it calls something.
-pub fn called_on<'a>(base: Option<Found<'a>>, name: &[u8]) -> Option<Callee<'a>>
+pub fn called_on<'a>(base: Option<TypeView<'a>>, name: &[u8]) -> Option<Callee<'a>>
     ensures { option_map callee_of result ≡ called_on (option_map found_of base.entry) name.now }
 {
     let base = base?;

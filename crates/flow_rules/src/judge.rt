@@ -17,8 +17,8 @@ ghost use Rattle.flow_rules.specs.SettingView.{setting_view};
 use crate::callee::{
     Callee, Kind, Meaning, Need, Needs, called_on, declared_callee, predefined_callee,
 };
-use crate::found::{Found, same_found, takes_both, takes_equality, takes_sign};
-use crate::known::Names;
+use crate::type_view::{TypeView, same_found, takes_both, takes_equality, takes_sign};
+use crate::top_names::TopNames;
 use crate::rule::{
     DISCARD, EFFECT_INSIDE, NOT_HERE, UNKNOWN_NAME, WRONG_COUNT, WRONG_TYPE, lesser, unless,
 };
@@ -31,13 +31,13 @@ use flow_tree::ty::{Ident, Ty};
 use indexmap::IndexMap;
 
 /// The variables in force, the oldest first.
-pub type Vars<'a> = IndexMap<&'a [u8], Found<'a>>;
+pub type Vars<'a> = IndexMap<&'a [u8], TypeView<'a>>;
 
 /// Where an expression stands: the names at the top, the variables in force, and whether it stands in
 /// a function.
 #[derive(Drop)]
 pub struct Setting<'n, 'a> {
-    pub names: &'n Names<'a>,
+    pub names: &'n TopNames<'a>,
     pub vars: Vars<'a>,
     pub plain: bool,
 }
@@ -45,11 +45,11 @@ pub struct Setting<'n, 'a> {
 /// The type of an expression by its form, where it has one, and the least rule that fails in it.
 #[derive(Clone, Copy)]
 pub struct Judged<'a> {
-    pub form: Option<Found<'a>>,
+    pub form: Option<TypeView<'a>>,
     pub fault: Option<u8>,
 }
 
-fn sound<'a>(form: Found<'a>) -> Judged<'a>
+fn sound<'a>(form: TypeView<'a>) -> Judged<'a>
     ensures form { option_map found_of result.form ≡ Some (found_of form.entry) }
     ensures fault { result.fault ≡ None }
 {
@@ -60,7 +60,7 @@ fn sound<'a>(form: Found<'a>) -> Judged<'a>
 }
 
 // An expression that has to be known.
-fn known<'a>(form: Option<Found<'a>>) -> Judged<'a>
+fn known<'a>(form: Option<TypeView<'a>>) -> Judged<'a>
     ensures form { option_map found_of result.form ≡ option_map found_of form.entry }
     ensures fault { result.fault ≡ unless (is_there (option_map found_of form.entry)) UNKNOWN_NAME }
 {
@@ -71,7 +71,7 @@ fn known<'a>(form: Option<Found<'a>>) -> Judged<'a>
 }
 
 /// This type is wanted, where there is one.
-pub fn wants(form: Option<Found<'_>>, wanted: Found<'_>) -> Option<u8>
+pub fn wants(form: Option<TypeView<'_>>, wanted: TypeView<'_>) -> Option<u8>
     ensures { result ≡ wants (option_map found_of form.entry) (found_of wanted.entry) }
 {
     match form {
@@ -81,7 +81,7 @@ pub fn wants(form: Option<Found<'_>>, wanted: Found<'_>) -> Option<u8>
 }
 
 // A type that `trace` takes is wanted, where there is one.
-fn traced(form: Option<Found<'_>>) -> Option<u8>
+fn traced(form: Option<TypeView<'_>>) -> Option<u8>
     ensures { result ≡ fits (option_map found_of form.entry) (Some Traced) }
 {
     match form {
@@ -91,7 +91,7 @@ fn traced(form: Option<Found<'_>>) -> Option<u8>
 }
 
 // An argument fits what stands at its place, if something does.
-fn fits(form: Option<Found<'_>>, need: Option<Need<'_>>) -> Option<u8>
+fn fits(form: Option<TypeView<'_>>, need: Option<Need<'_>>) -> Option<u8>
     ensures { result ≡ fits (option_map found_of form.entry) (option_map need_of need.entry) }
 {
     match need {
@@ -102,7 +102,7 @@ fn fits(form: Option<Found<'_>>, need: Option<Need<'_>>) -> Option<u8>
 }
 
 /// What a sign asks of its operands, as far as they have types.
-pub fn operands(op: Op, left: Option<Found<'_>>, right: Option<Found<'_>>) -> Option<u8>
+pub fn operands(op: Op, left: Option<TypeView<'_>>, right: Option<TypeView<'_>>) -> Option<u8>
     ensures { result ≡ operands op (option_map found_of left.entry)
         (option_map found_of right.entry) }
 {
@@ -118,14 +118,14 @@ pub fn operands(op: Op, left: Option<Found<'_>>, right: Option<Found<'_>>) -> Op
     }
 }
 
-fn only_if<'a>(holds: bool, found: Found<'a>) -> Option<Found<'a>>
+fn only_if<'a>(holds: bool, found: TypeView<'a>) -> Option<TypeView<'a>>
     ensures { option_map found_of result ≡ (if holds then Some (found_of found.entry) else None) }
 {
     if holds { Some(found) } else { None }
 }
 
 // A sum has the type of its operands, of one of them where the other has none.
-fn sum_form<'a>(left: Option<Found<'a>>, right: Option<Found<'a>>) -> Option<Found<'a>>
+fn sum_form<'a>(left: Option<TypeView<'a>>, right: Option<TypeView<'a>>) -> Option<TypeView<'a>>
     ensures { option_map found_of result
         ≡ sum_form (option_map found_of left.entry) (option_map found_of right.entry) }
 {
@@ -141,15 +141,15 @@ fn sum_form<'a>(left: Option<Found<'a>>, right: Option<Found<'a>>) -> Option<Fou
     }
 }
 
-fn sign_form<'a>(op: Op, left: Option<Found<'a>>, right: Option<Found<'a>>) -> Option<Found<'a>>
+fn sign_form<'a>(op: Op, left: Option<TypeView<'a>>, right: Option<TypeView<'a>>) -> Option<TypeView<'a>>
     ensures { option_map found_of result
         ≡ sign_form op (option_map found_of left.entry) (option_map found_of right.entry) }
 {
     match op {
         Op::Add => sum_form(left, right),
-        Op::Sub | Op::Mul | Op::Div | Op::Rem => Some(Found::Int),
+        Op::Sub | Op::Mul | Op::Div | Op::Rem => Some(TypeView::Int),
         Op::Or | Op::And | Op::Eq | Op::Ne | Op::Lt | Op::Le | Op::Gt | Op::Ge => {
-            Some(Found::Bool)
+            Some(TypeView::Bool)
         }
     }
 }
@@ -163,7 +163,7 @@ fn needs_of<'a>(callee: Option<Callee<'a>>) -> Needs<'a>
     }
 }
 
-fn gives_of<'a>(callee: Option<Callee<'a>>) -> Option<Found<'a>>
+fn gives_of<'a>(callee: Option<Callee<'a>>) -> Option<TypeView<'a>>
     ensures { option_map found_of result ≡ gives_of (option_map callee_of callee.entry) }
 {
     match callee {
@@ -191,7 +191,7 @@ fn sign_judged<'a>(op: Op, left: Judged<'a>, right: Judged<'a>) -> Judged<'a>
 
 // The type of the variable with this name, where one is in force.
 #[tactic(auto, using(crate::proofs::Lookups::named_lookup))]
-fn find_var<'a>(vars: &Vars<'a>, name: &[u8]) -> Option<Found<'a>>
+fn find_var<'a>(vars: &Vars<'a>, name: &[u8]) -> Option<TypeView<'a>>
     ensures { option_map found_of result ≡ named (vars_of vars.now) name.now }
 {
     vars.get(name).copied()
@@ -199,11 +199,11 @@ fn find_var<'a>(vars: &Vars<'a>, name: &[u8]) -> Option<Found<'a>>
 
 // The type of the first field with this name.
 #[tactic(auto, using(crate::proofs::Lookups::field_find))]
-fn field_named<'a>(fields: &'a [Param], name: &[u8]) -> Option<Found<'a>>
+fn field_named<'a>(fields: &'a [Param], name: &[u8]) -> Option<TypeView<'a>>
     ensures { option_map found_of result ≡ named (map field_row (params_of fields.now)) name.now }
 {
     match find_named(fields, name) {
-        Some(field) => Some(Found::of(&field.ty)),
+        Some(field) => Some(TypeView::of(&field.ty)),
         None => None,
     }
 }
@@ -302,34 +302,34 @@ impl<'n, 'a> Setting<'n, 'a> {
     }
 
     // The type of a variable in force, where one has this name.
-    fn var_form(&self, name: &Name) -> Option<Found<'a>>
+    fn var_form(&self, name: &Name) -> Option<TypeView<'a>>
         ensures { option_map found_of result ≡ named (setting_view self.now).vars name.now }
     {
         find_var(&self.vars, name.bytes())
     }
 
     // The type of a constant or a variable.
-    fn variable_form(&self, name: &Name) -> Option<Found<'a>>
+    fn variable_form(&self, name: &Name) -> Option<TypeView<'a>>
         ensures { option_map found_of result ≡ variable_form (setting_view self.now) name.now }
     {
         match predefined_constant(name.bytes()) {
-            Some(_) => Some(Found::Int),
+            Some(_) => Some(TypeView::Int),
             None => self.var_form(name),
         }
     }
 
     // The type of a field of what has this type.
-    fn field_form(&self, base: Found<'a>, name: &Name) -> Option<Found<'a>>
+    fn field_form(&self, base: TypeView<'a>, name: &Name) -> Option<TypeView<'a>>
         ensures { option_map found_of result
             ≡ field_form (setting_view self.now) (found_of base.entry) name.now }
     {
         match base {
-            Found::Named(record) => self.record_field(record, name),
+            TypeView::Named(record) => self.record_field(record, name),
             _ => None,
         }
     }
 
-    fn record_field(&self, owner: &[u8], name: &Name) -> Option<Found<'a>>
+    fn record_field(&self, owner: &[u8], name: &Name) -> Option<TypeView<'a>>
         ensures { option_map found_of result
             ≡ field_of (known_by self.now.names.now owner.now) name.now }
     {
@@ -464,10 +464,10 @@ impl<'n, 'a> Setting<'n, 'a> {
         ensures fault { result.fault ≡ fault (setting_view self.now) whole (expr_of expr.now) }
     {
         match expr {
-            Expr::Int(_) => sound(Found::Int),
-            Expr::Text(_) => sound(Found::Str),
-            Expr::Bool(_) => sound(Found::Bool),
-            Expr::VoidValue => sound(Found::Void),
+            Expr::Int(_) => sound(TypeView::Int),
+            Expr::Text(_) => sound(TypeView::Str),
+            Expr::Bool(_) => sound(TypeView::Bool),
+            Expr::VoidValue => sound(TypeView::Void),
             Expr::Var(name) => known(self.variable_form(&name.name)),
             Expr::Call(name, args) => {
                 let callee = self.called(&name.name);
@@ -479,15 +479,15 @@ impl<'n, 'a> Setting<'n, 'a> {
             Expr::Not(of) => {
                 let of = self.judge(false, of);
                 Judged {
-                    form: Some(Found::Bool),
-                    fault: lesser(of.fault, wants(of.form, Found::Bool)),
+                    form: Some(TypeView::Bool),
+                    fault: lesser(of.fault, wants(of.form, TypeView::Bool)),
                 }
             }
             Expr::Neg(of) => {
                 let of = self.judge(false, of);
                 Judged {
-                    form: Some(Found::Int),
-                    fault: lesser(of.fault, wants(of.form, Found::Int)),
+                    form: Some(TypeView::Int),
+                    fault: lesser(of.fault, wants(of.form, TypeView::Int)),
                 }
             }
             Expr::Binary(op, left, right) => {
@@ -535,7 +535,7 @@ impl<'n, 'a> Setting<'n, 'a> {
     }
 
     /// An expression of which this type is wanted.
-    pub fn wanted(&self, whole: bool, expr: &'a Expr, ty: Found<'a>) -> Option<u8>
+    pub fn wanted(&self, whole: bool, expr: &'a Expr, ty: TypeView<'a>) -> Option<u8>
         ensures { result ≡ wanted (setting_view self.now) whole (expr_of expr.now)
             (found_of ty.entry) }
     {

@@ -6,10 +6,10 @@
 
 pub mod callee;
 pub mod closing;
-pub mod found;
+pub mod type_view;
 pub mod holding;
 pub mod judge;
-pub mod known;
+pub mod top_names;
 pub mod program;
 pub mod rule;
 pub mod size;

@@ -19,10 +19,10 @@ ghost use Rattle.flow_rules.specs.ProgramView.{routine_of, setting_by, taken_in,
 
 use crate::callee::Meaning;
 use crate::closing::ways_of;
-use crate::found::Found;
+use crate::type_view::TypeView;
 use crate::judge::{Setting, Vars};
-use crate::known::{
-    Meanings, Names, is_known, is_predefined, meaning_of, name_of, packet_fields, predefined,
+use crate::top_names::{
+    Meanings, TopNames, is_known, is_predefined, meaning_of, name_of, packet_fields, predefined,
     type_known,
 };
 use crate::rule::{FALLS_OFF, NO_MAIN, TWICE, UNKNOWN_NAME, lesser, unless};
@@ -123,7 +123,7 @@ fn add_param<'a>(
         (type_of param.now.ty) fault) }
 {
     let name = param.name.name.bytes();
-    walk.setting.vars.insert(name, Found::of(&param.ty))?;
+    walk.setting.vars.insert(name, TypeView::of(&param.ty))?;
     walk.states.insert(name)?;
     Ok(())
 }
@@ -176,7 +176,7 @@ fn header_fault<'a>(
 }
 
 // What is in force in a routine before its parameters.
-fn start<'n, 'a>(alloc: Global, names: &'n Names<'a>, routine: Routine<'a>) -> Walk<'n, 'a>
+fn start<'n, 'a>(alloc: Global, names: &'n TopNames<'a>, routine: Routine<'a>) -> Walk<'n, 'a>
     ensures setting { setting_view result.setting ≡ setting_by names.now routine.entry.plain }
     ensures returns { found_of result.returns ≡ type_of routine.entry.returns.now }
     ensures empty { (vars_of result.setting.vars ≡ []) × (texts_of result.states ≡ []) }
@@ -189,7 +189,7 @@ fn start<'n, 'a>(alloc: Global, names: &'n Names<'a>, routine: Routine<'a>) -> W
     };
     Walk {
         setting,
-        returns: Found::of(routine.returns),
+        returns: TypeView::of(routine.returns),
         states: IndexSet::new(alloc),
     }
 }
@@ -218,7 +218,7 @@ fn judge_inside<'a>(
 // A routine's header, its body and its closing brace.
 fn judge_routine<'a>(
     alloc: Global,
-    names: &Names<'a>,
+    names: &TopNames<'a>,
     before: &Meanings<'_>,
     routine: Routine<'a>,
 ) -> Result<(), SourceFault>
@@ -261,7 +261,7 @@ fn actor_routine(actor: &ActorDecl) -> Routine<'_>
 
 fn declaration<'a>(
     alloc: Global,
-    names: &Names<'a>,
+    names: &TopNames<'a>,
     before: &Meanings<'_>,
     decl: &'a Decl,
 ) -> Result<(), SourceFault>
@@ -292,7 +292,7 @@ fn declare<'a>(before: &mut Meanings<'a>, decl: &'a Decl) -> Result<(), NoMemory
 /// first item in which one does.
 pub fn declarations<'a>(
     alloc: Global,
-    names: &Names<'a>,
+    names: &TopNames<'a>,
     packet: &'a [Param],
     decls: &'a [Decl],
 ) -> Result<(), SourceFault>
@@ -352,7 +352,7 @@ pub fn judge_program(alloc: Global, program: &Program) -> Result<(), SourceFault
     ensures { Says (refusal_of (program_of program.now)) result }
 {
     let packet = packet_fields(alloc)?;
-    let names = Names::new(alloc, &packet, &program.decls)?;
+    let names = TopNames::new(alloc, &packet, &program.decls)?;
     declarations(alloc, &names, &packet, &program.decls)?;
     item(program.end, unless(is_main(names.find(b"main")), NO_MAIN))?;
     sizes(alloc, &program.decls)

@@ -16,9 +16,9 @@ ghost use Rattle.flow_rules.specs.MapView.{vars_of};
 ghost use Rattle.flow_rules.specs.SettingView.{setting_view};
 ghost use Rattle.flow_rules.specs.WalkView.{texts_of, env_of, Says, StmtAnswer, BranchAnswer, BodyAnswer, PartAnswer, Leads, else_refusal, else_slots};
 
-use crate::found::{Found, Inner};
+use crate::type_view::{TypeView, ElementView};
 use crate::judge::{Setting, operands, wants};
-use crate::known::is_predefined;
+use crate::top_names::is_predefined;
 use crate::rule::{BREAK_OUTSIDE, NEEDS_VALUE, TWICE, WAIT_OUTSIDE, lesser, unless};
 use flow_base::place::Place;
 use flow_tree::expr::{Expr, Op};
@@ -39,7 +39,7 @@ pub struct Around {
 #[derive(Drop)]
 pub struct Walk<'n, 'a> {
     pub setting: Setting<'n, 'a>,
-    pub returns: Found<'a>,
+    pub returns: TypeView<'a>,
     pub states: IndexSet<&'a [u8]>,
 }
 
@@ -75,17 +75,17 @@ fn has_default(ty: &Ty) -> bool
 }
 
 // What a wait asks for: a future or a stream of what it declares, or of `Void`.
-fn wait_type<'a>(next: bool, into: &'a Option<Into>) -> Found<'a>
+fn wait_type<'a>(next: bool, into: &'a Option<Into>) -> TypeView<'a>
     ensures { found_of result ≡ wait_type next (option_map into_of into.now) }
 {
     let of = match into {
-        Some(into) => Inner::Written(&into.ty),
-        None => Inner::Void,
+        Some(into) => ElementView::Written(&into.ty),
+        None => ElementView::Void,
     };
     if next {
-        Found::FutureStream(of)
+        TypeView::FutureStream(of)
     } else {
-        Found::Future(of)
+        TypeView::Future(of)
     }
 }
 
@@ -161,7 +161,7 @@ impl<'n, 'a> Walk<'n, 'a> {
 
     // The variable is in force from here on.
     #[tactic(auto, using(crate::proofs::Inserts::row_inserted))]
-    fn declare(&mut self, name: &'a Ident, ty: Found<'a>) -> Result<(), SourceFault>
+    fn declare(&mut self, name: &'a Ident, ty: TypeView<'a>) -> Result<(), SourceFault>
         requires { named (vars_of self.old.setting.vars) name.now.name ≡ None }
         ensures declared { IfOk result (λ _. (around : Around) → env_of self.new around
             ≡ with_var (env_of self.old around) name.now.name (found_of ty.entry)) }
@@ -196,7 +196,7 @@ impl<'n, 'a> Walk<'n, 'a> {
         ensures memory { IfErr result (λ e. e ≡ OutOfMemory) }
     {
         self.note_state(into)?;
-        self.declare(&into.name, Found::of(&into.ty))
+        self.declare(&into.name, TypeView::of(&into.ty))
     }
 
     fn waited(&mut self, into: &'a Option<Into>) -> Result<(), SourceFault>
@@ -215,7 +215,7 @@ impl<'n, 'a> Walk<'n, 'a> {
     fn test(&self, test: &'a Expr) -> Option<u8>
         ensures { result ≡ test_fault (setting_view self.now.setting) (expr_of test.now) }
     {
-        self.setting.wanted(false, test, Found::Bool)
+        self.setting.wanted(false, test, TypeView::Bool)
     }
 
     fn maybe_test(&self, test: &'a Option<Expr>) -> Option<u8>
@@ -233,7 +233,7 @@ impl<'n, 'a> Walk<'n, 'a> {
             (option_map expr_of error.now) }
     {
         match error {
-            Some(error) => self.setting.wanted(false, error, Found::Error),
+            Some(error) => self.setting.wanted(false, error, TypeView::Error),
             None => unless(caught, BREAK_OUTSIDE),
         }
     }
@@ -243,7 +243,7 @@ impl<'n, 'a> Walk<'n, 'a> {
             (option_map expr_of value.now) }
     {
         match value {
-            Some(value) => self.setting.wanted(true, value, Found::of(ty)),
+            Some(value) => self.setting.wanted(true, value, TypeView::of(ty)),
             None => unless(has_default(ty), NEEDS_VALUE),
         }
     }
@@ -268,7 +268,7 @@ impl<'n, 'a> Walk<'n, 'a> {
         lesser(lesser(target.fault, value.fault), assigned)
     }
 
-    fn operand(&self, op: Op, target: Option<Found<'a>>, value: &'a Expr) -> Option<u8>
+    fn operand(&self, op: Op, target: Option<TypeView<'a>>, value: &'a Expr) -> Option<u8>
         ensures { result ≡ lesser (fault (setting_view self.now.setting) false (expr_of value.now))
             (operands op (option_map found_of target.entry)
             (form (setting_view self.now.setting) (expr_of value.now))) }
@@ -277,14 +277,14 @@ impl<'n, 'a> Walk<'n, 'a> {
         lesser(value.fault, operands(op, target, value.form))
     }
 
-    fn change(&self, target: Option<Found<'a>>, change: &'a Change) -> Option<u8>
+    fn change(&self, target: Option<TypeView<'a>>, change: &'a Change) -> Option<u8>
         ensures { result ≡ change_fault (setting_view self.now.setting)
             (option_map found_of target.entry) (change_of change.now) }
     {
         match change {
             Change::Plus(value) => self.operand(Op::Add, target, value),
             Change::Minus(value) => self.operand(Op::Sub, target, value),
-            Change::Up | Change::Down => wants(target, Found::Int),
+            Change::Up | Change::Down => wants(target, TypeView::Int),
         }
     }
 
@@ -373,7 +373,7 @@ impl<'n, 'a> Walk<'n, 'a> {
             (body_of handler.now)) (body_slots (body_of handler.now)) result }
     {
         let count = self.setting.vars.len();
-        self.declare(error, Found::Error)?;
+        self.declare(error, TypeView::Error)?;
         self.body(around.in_catch(), handler)?;
         self.setting.vars.truncate(count);
         Ok(())

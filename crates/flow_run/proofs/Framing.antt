@@ -7,7 +7,7 @@ use Rattle.flow_trace.specs.declared.line.Line.{Line}
 use Rattle.flow_class.specs.declared.class.Class.{Class}
 use Rattle.flow_steps.specs.declared.views.FrameView.{FrameView}
 use Rattle.flow_world.specs.Around.{Puts, more_lines}
-use Rattle.flow_run.specs.Straying.{SomeNoClass}
+use Rattle.flow_run.specs.StuckTraces.{SomeNoClass}
 
 pub line_before : {A : Type 0} (puts : A → Line → Result (Unit {0}) OutFault → A → Type 0) (a b c : A) (l : Line) (ls : List Line) → puts a l (Ok tt) b
     → Puts puts b ls c → Puts puts a (l ∷ ls) c

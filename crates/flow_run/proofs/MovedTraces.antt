@@ -10,12 +10,12 @@ use Rattle.flow_worldfile.specs.declared.world.World0.{World0}
 use Rattle.flow_class.specs.declared.class.RawClasses.{RawClasses}
 use Rattle.flow_world.specs.declared.event.Event.TheVariants.{Ran}
 use Rattle.flow_world.specs.Ending.{Seen}
-use Rattle.flow_world.specs.Telling.{Telling, TellsAfter, tells}
+use Rattle.flow_world.specs.FaultedLines.{Telling, TellsAfter, tells}
 use Rattle.flow_world.proofs.MovedEvents.{lines_by, does_event_by}
-use Rattle.flow_world.proofs.MovedAmiss.{event_amiss_by}
+use Rattle.flow_world.proofs.MovedStuck.{event_stuck_by}
 use Rattle.flow_run.specs.declared.ending.Ending.{Ending}
-use Rattle.flow_run.specs.Tracing.{Goes, no_event, one_more, Traces, Begins, TracesPart, begun, all}
-use Rattle.flow_run.specs.Straying.{EventsAmiss, event_amiss, frames_amiss, TraceAmiss}
+use Rattle.flow_run.specs.Tracing.{RunsEvents, no_event, one_more, Traces, Begins, TracesPart, begun, all}
+use Rattle.flow_run.specs.StuckTraces.{EventsStuck, event_stuck, frames_stuck, TraceStuck}
 
 -- where lines are told, seen as something else
 module _ {A B : Type 0} (f : A → B) (puts : A → Line → Result (Unit {0}) OutFault → A → Type 0) (puts_there : B → Line → Result (Unit {0}) OutFault → B → Type 0)
@@ -33,7 +33,7 @@ seen_of f t = record { out = f t.out; fault = t.fault }
 
 module _ {A B : Type 0} (f : A → B) (puts : A → Line → Result (Unit {0}) OutFault → A → Type 0) (puts_there : B → Line → Result (Unit {0}) OutFault → B → Type 0)
     (there : (a b : A) (l : Line) → puts a l (Ok tt) b → puts_there (f a) l (Ok tt) (f b)) where
-  goes_by : (frames : Bool) (w : Seen) (a : A) (v : Seen) (b : A) → Goes puts frames w a v b → Goes puts_there frames w (f a) v (f b)
+  goes_by : (frames : Bool) (w : Seen) (a : A) (v : Seen) (b : A) → RunsEvents puts frames w a v b → RunsEvents puts_there frames w (f a) v (f b)
   goes_by frames w a _ _ no_event = no_event
   goes_by frames w a v d (one_more {u = u} {b = b} {c = c} goes does puts_frames) =
       one_more (goes_by frames w a u b goes) (does_event_by f puts puts_there there Ran u b v c does) (lines_by f puts puts_there there c d _ puts_frames)
@@ -75,16 +75,16 @@ module _ {A B : Type 0} (f : A → B) (puts : A → Line → Result (Unit {0}) O
   part_by frames classes file a b (all {e = e} t) = all (traces_by frames classes file a e b t)
 
   -- it goes astray there, too
-  events_amiss_by : (frames : Bool) (w : Seen) (a : A) → EventsAmiss puts frames w a → EventsAmiss puts_there frames w (f a)
-  events_amiss_by frames w a (event_amiss {v = v} {b = b} goes t) = event_amiss (goes_by frames w a v b goes) (event_amiss_by f puts puts_there there v b t)
-  events_amiss_by frames w a (frames_amiss {u = u} {v = v} {b = b} {c = c} goes does t) =
-      frames_amiss (goes_by frames w a u b goes) (does_event_by f puts puts_there there Ran u b v c does) t
+  events_stuck_by : (frames : Bool) (w : Seen) (a : A) → EventsStuck puts frames w a → EventsStuck puts_there frames w (f a)
+  events_stuck_by frames w a (event_stuck {v = v} {b = b} goes t) = event_stuck (goes_by frames w a v b goes) (event_stuck_by f puts puts_there there v b t)
+  events_stuck_by frames w a (frames_stuck {u = u} {v = v} {b = b} {c = c} goes does t) =
+      frames_stuck (goes_by frames w a u b goes) (does_event_by f puts puts_there there Ran u b v c does) t
 
-  pub amiss_by : (frames : Bool) (classes : RawClasses) (file : World0) (a : A) → TraceAmiss puts frames classes file a → TraceAmiss puts_there frames classes file (f a)
-  amiss_by frames classes file a t = record {
+  pub stuck_by : (frames : Bool) (classes : RawClasses) (file : World0) (a : A) → TraceStuck puts frames classes file a → TraceStuck puts_there frames classes file (f a)
+  stuck_by frames classes file a t = record {
     first = t.first;
     headed = f t.headed;
     starts = t.starts;
     head = there a t.headed _ t.head;
-    events = events_amiss_by frames t.first t.headed t.events;
+    events = events_stuck_by frames t.first t.headed t.events;
   }

@@ -11,14 +11,14 @@ use Rattle.flow_machine.specs.declared.host.Burst.TheVariants.{Rested, Spent as 
 use Rattle.flow_world.specs.Ending.{Seen}
 use Rattle.flow_world.specs.Happening.{Happens, Breaks}
 use Rattle.flow_world.specs.Starting.{Starts}
-use Rattle.flow_world.specs.Telling.{Telling, tells, whole, failed}
+use Rattle.flow_world.specs.FaultedLines.{Telling, tells, whole, failed}
 use Rattle.flow_world.proofs.Telling.{no_more}
 use Rattle.flow_run.specs.declared.ending.Ending.TheVariants.{Spent}
-use Rattle.flow_run.specs.Tracing.{Goes, one_more, GoesPart, some, to_end, TracesPart, begun, all}
+use Rattle.flow_run.specs.Tracing.{RunsEvents, one_more, GoesPart, some, to_end, TracesPart, begun, all}
 
 module _ {A : Type 0} (puts : A → Line → Result (Unit {0}) OutFault → A → Type 0) (with_frames : Bool) where
   -- an event failed
-  pub part_of_event : (w u v : Seen) (a b : Telling A) (c : A) → Goes (tells puts) with_frames w a u b → Breaks (tells puts) u b v (failed c)
+  pub part_of_event : (w u v : Seen) (a b : Telling A) (c : A) → RunsEvents (tells puts) with_frames w a u b → Breaks (tells puts) u b v (failed c)
       → GoesPart (tells puts) with_frames w a (failed c)
   part_of_event w u v a b c goes t = by_burst t.burst t.left t.happens
     where

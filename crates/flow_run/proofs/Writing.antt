@@ -13,7 +13,7 @@ use Rattle.flow_trace.specs.Bytes.{Bytes}
 use Rattle.flow_trace.specs.Out.{WritesLine}
 use Rattle.flow_trace.specs.declared.line.Line.{Line}
 use Rattle.flow_world.specs.Around.{Puts, no_line, more_lines}
-use Rattle.flow_world.specs.Telling.{Telling, tells, whole, failed}
+use Rattle.flow_world.specs.FaultedLines.{Telling, tells, whole, failed}
 use Rattle.flow_world.proofs.Telling.{stays}
 use Rattle.flow_run.specs.Written.{put_bytes, bytes_of}
 

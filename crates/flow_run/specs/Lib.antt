@@ -1,4 +1,4 @@
 pub mod Ends
 pub mod Tracing
 pub mod Written
-pub mod Straying
+pub mod StuckTraces

@@ -69,15 +69,15 @@ last_answer Spent = event.Spent
 
 module _ {A : Type 0} (puts : A → Line → Result (Unit {0}) OutFault → A → Type 0) (with_frames : Bool) where
   -- events run one after another, each followed by the frames where they are asked for
-  pub data Goes : Seen → A → Seen → A → Type 0 where
-    no_event : {w : Seen} {a : A} → Goes w a w a
-    one_more : {w u v : Seen} {a b c d : A} → Goes w a u b → EventDoes puts event.Ran u b v c → Puts puts c (lines_if with_frames v) d → Goes w a v d
+  pub data RunsEvents : Seen → A → Seen → A → Type 0 where
+    no_event : {w : Seen} {a : A} → RunsEvents w a w a
+    one_more : {w u v : Seen} {a b c d : A} → RunsEvents w a u b → EventDoes puts event.Ran u b v c → Puts puts c (lines_if with_frames v) d → RunsEvents w a v d
 
   -- they do so up to the end of the run
-  pub record GoesTo (w : Seen) (a : A) (e : Ending) (v : Seen) (b : A) : Type 0 where
+  pub record RunsToEnd (w : Seen) (a : A) (e : Ending) (v : Seen) (b : A) : Type 0 where
     pub last : Seen
     pub before : A
-    pub goes : Goes w a last before
+    pub goes : RunsEvents w a last before
     pub ends : EventDoes puts (last_answer e) last before v b
 
   -- the trace, from its first line to its last
@@ -88,13 +88,13 @@ module _ {A : Type 0} (puts : A → Line → Result (Unit {0}) OutFault → A �
     pub before : A
     pub starts : Starts classes file first
     pub head : puts a line.Head (Ok tt) headed
-    pub goes : GoesTo first headed e left before
+    pub goes : RunsToEnd first headed e left before
     pub ended : puts before (end_line e) (Ok tt) b
 
   -- some of these events, or all up to the end of the run
   pub data GoesPart (w : Seen) (a b : A) : Type 0 where
-    some : {v : Seen} → Goes w a v b → GoesPart w a b
-    to_end : {e : Ending} {v : Seen} → GoesTo w a e v b → GoesPart w a b
+    some : {v : Seen} → RunsEvents w a v b → GoesPart w a b
+    to_end : {e : Ending} {v : Seen} → RunsToEnd w a e v b → GoesPart w a b
 
   -- the trace has begun: its first line, and some of the events
   pub record Begins (classes : RawClasses) (file : World0) (a b : A) : Type 0 where
@@ -103,7 +103,7 @@ module _ {A : Type 0} (puts : A → Line → Result (Unit {0}) OutFault → A �
     pub headed : A
     pub starts : Starts classes file first
     pub head : puts a line.Head (Ok tt) headed
-    pub goes : Goes first headed last b
+    pub goes : RunsEvents first headed last b
 
   -- A first part of the trace, or all of it.
   pub data TracesPart (classes : RawClasses) (file : World0) (a b : A) : Type 0 where

@@ -2,13 +2,13 @@
 
 ghost use Rattle.std.specs.Prelude.{◌≡◌, ◌≤◌, drop, length, map, slice_get, None, IfOk, OnOk, IsErrOf};
 ghost use Rattle.flow_machine.specs.Cause.{RunCause};
-ghost use Rattle.flow_machine.specs.declared.host.RunFault.TheVariants.{Failed, Astray};
+ghost use Rattle.flow_machine.specs.declared.host.RunFault.TheVariants.{Failed, Stuck};
 ghost use Rattle.flow_world.specs.Around.{Puts};
-ghost use Rattle.flow_world.specs.Telling.{tells, whole, failed};
+ghost use Rattle.flow_world.specs.FaultedLines.{tells, whole, failed};
 ghost use Rattle.flow_world.specs.Worlds.{world_seen};
 ghost use Rattle.flow_run.specs.Tracing.{name_of, own_count, callback_line, frames_lines, own_lines};
 ghost use Rattle.flow_run.specs.Tracing.{process_lines, world_lines, lines_if};
-ghost use Rattle.flow_run.specs.Straying.{SomeNoClass, ProcessFramesAmiss, FramesAmiss, FramesAmissIf};
+ghost use Rattle.flow_run.specs.StuckTraces.{SomeNoClass, ProcessFramesStuck, FramesStuck, FramesStuckIf};
 
 use flow_base::ids::{ActorId, ProcId};
 use flow_base::name::Name;
@@ -33,7 +33,7 @@ pub fn put_frames_if<L: LineOut>(
         (whole out.old) (lines_if with_frames (world_seen world.now)) (whole out.new)) }
     ensures part { IsErrOf result Failed → Puts (tells L.puts)
         (whole out.old) (lines_if with_frames (world_seen world.now)) (failed out.new) }
-    ensures astray { IsErrOf result Astray → FramesAmissIf with_frames (world_seen world.now) }
+    ensures stuck { IsErrOf result Stuck → FramesStuckIf with_frames (world_seen world.now) }
     ensures cause { RunCause (L.faults out.old) (L.faults out.new) result }
     ensures kept { L.kept out.new ≡ L.kept out.old }
 {
@@ -50,7 +50,7 @@ fn tell_frames<L: LineOut>(alloc: Global, world: &World, out: &mut L) -> Result<
         (whole out.old) (world_lines (world_seen world.now)) (whole out.new)) }
     ensures part { IsErrOf result Failed → Puts (tells L.puts)
         (whole out.old) (world_lines (world_seen world.now)) (failed out.new) }
-    ensures astray { IsErrOf result Astray → FramesAmiss (world_seen world.now) }
+    ensures stuck { IsErrOf result Stuck → FramesStuck (world_seen world.now) }
     ensures cause { RunCause (L.faults out.old) (L.faults out.new) result }
     ensures kept { L.kept out.new ≡ L.kept out.old }
 {
@@ -75,7 +75,7 @@ fn tell_frames<L: LineOut>(alloc: Global, world: &World, out: &mut L) -> Result<
 /// Puts the frames of the unfinished actors, by process and actor, each with its callbacks by number.
 fn put_frames<L: LineOut>(alloc: Global, world: &World, out: &mut L) -> Result<(), RunFault>
     ensures puts { OnOk result (Puts L.puts out.old (world_lines (world_seen world.now)) out.new) }
-    ensures astray { IsErrOf result Astray → FramesAmiss (world_seen world.now) }
+    ensures stuck { IsErrOf result Stuck → FramesStuck (world_seen world.now) }
     ensures cause { RunCause (L.faults out.old) (L.faults out.new) result }
     ensures kept { L.kept out.new ≡ L.kept out.old }
 {
@@ -96,7 +96,7 @@ fn put_process<L: LineOut>(
 ) -> Result<(), RunFault>
     ensures puts { OnOk result (Puts L.puts out.old (process_lines
         (world_seen world.now) p) out.new) }
-    ensures astray { IsErrOf result Astray → ProcessFramesAmiss (world_seen world.now) p }
+    ensures stuck { IsErrOf result Stuck → ProcessFramesStuck (world_seen world.now) p }
     ensures cause { RunCause (L.faults out.old) (L.faults out.new) result }
     ensures kept { L.kept out.new ≡ L.kept out.old }
 {
@@ -117,8 +117,8 @@ fn put_each<L: LineOut>(
 ) -> Result<(), RunFault>
     ensures puts { let classes = world.now.code.program.classes.items in OnOk result
         (Puts L.puts out.old (frames_lines classes p frames.now callbacks.now) out.new) }
-    ensures astray { let classes = world.now.code.program.classes.items in
-        IsErrOf result Astray → SomeNoClass classes frames.now }
+    ensures stuck { let classes = world.now.code.program.classes.items in
+        IsErrOf result Stuck → SomeNoClass classes frames.now }
     ensures cause { RunCause (L.faults out.old) (L.faults out.new) result }
     ensures kept { L.kept out.new ≡ L.kept out.old }
 {
@@ -143,8 +143,8 @@ fn put_frame<'c, L: LineOut>(
         (Puts L.puts out.old (own_lines classes p frame.now callbacks.now) out.new) }
     ensures others { IfOk result (λ others.
         others.now ≡ drop (own_count frame.now.actor callbacks.now) callbacks.now) }
-    ensures astray { let classes = world.now.code.program.classes.items in
-        IsErrOf result Astray → slice_get classes frame.now.class ≡ None }
+    ensures stuck { let classes = world.now.code.program.classes.items in
+        IsErrOf result Stuck → slice_get classes frame.now.class ≡ None }
     ensures cause { RunCause (L.faults out.old) (L.faults out.new) result }
     ensures kept { L.kept out.new ≡ L.kept out.old }
 {
@@ -157,14 +157,14 @@ fn put_frame<'c, L: LineOut>(
 
 /// The name of the class of a frame.
 fn class_name(alloc: Global, world: &World, frame: &FrameView) -> Result<Name, RunFault>
-    ensures astray { let classes = world.now.code.program.classes.items in
-        IsErrOf result Astray → slice_get classes frame.now.class ≡ None }
+    ensures stuck { let classes = world.now.code.program.classes.items in
+        IsErrOf result Stuck → slice_get classes frame.now.class ≡ None }
     ensures cause { ¬ IsErrOf result Failed }
     ensures name { IfOk result (λ name. let classes = world.now.code.program.classes.items in
         name ≡ name_of (slice_get classes frame.now.class)) }
 {
     let Some(class) = world.classes().raw().classes.get(frame.class as usize) else {
-        return Err(RunFault::Astray);
+        return Err(RunFault::Stuck);
     };
     Ok(class.name.copy(alloc)?)
 }
@@ -191,7 +191,7 @@ fn put_callbacks<L: LineOut>(
 ) -> Result<(), RunFault>
     ensures puts { OnOk result
         (Puts L.puts out.old (map (callback_line p) callbacks.now) out.new) }
-    ensures never { ¬ IsErrOf result Astray }
+    ensures never { ¬ IsErrOf result Stuck }
     ensures cause { RunCause (L.faults out.old) (L.faults out.new) result }
     ensures kept { L.kept out.new ≡ L.kept out.old }
 {

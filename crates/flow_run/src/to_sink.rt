@@ -3,12 +3,12 @@
 ghost use Rattle.std.specs.Prelude.{IfOk, IsErrOf};
 ghost use Rattle.flow_trace.specs.Bytes.{Bytes};
 ghost use Rattle.flow_machine.specs.Cause.{RunCause};
-ghost use Rattle.flow_machine.specs.declared.host.RunFault.TheVariants.{Failed, Astray};
+ghost use Rattle.flow_machine.specs.declared.host.RunFault.TheVariants.{Failed, Stuck};
 ghost use Rattle.flow_worldfile.specs.Worlds.{IsInRange, seen};
-ghost use Rattle.flow_world.specs.Telling.{tells, whole, failed};
+ghost use Rattle.flow_world.specs.FaultedLines.{tells, whole, failed};
 ghost use Rattle.flow_run.specs.Ends.{end_line};
 ghost use Rattle.flow_run.specs.Tracing.{Traces, TracesPart};
-ghost use Rattle.flow_run.specs.Straying.{TraceAmiss};
+ghost use Rattle.flow_run.specs.StuckTraces.{TraceStuck};
 ghost use Rattle.flow_run.specs.Written.{put_bytes};
 ghost use Rattle.flow_trace.specs.Out.{Grows, GrowsTo};
 
@@ -41,7 +41,7 @@ pub fn write_trace<S: Sink>(
         (whole (S.seen out.old).written) ending (whole (S.seen out.new).written)) }
     ensures part { IsErrOf result Failed → TracesPart (tells put_bytes) with_frames classes world
         (whole (S.seen out.old).written) (failed (S.seen out.new).written) }
-    ensures astray { IsErrOf result Astray → TraceAmiss (tells put_bytes) with_frames classes world
+    ensures stuck { IsErrOf result Stuck → TraceStuck (tells put_bytes) with_frames classes world
         (whole (S.seen out.old).written) }
     ensures last { IfOk result (λ ending. GrowsTo
         (S.seen out.old).written (S.seen out.new).written (Bytes (end_line ending))) }

@@ -2,16 +2,16 @@
 
 ghost use Rattle.std.specs.Prelude.{◌≡◌, false, IfOk, IsErrOf};
 ghost use Rattle.flow_machine.specs.Cause.{RunCause};
-ghost use Rattle.flow_machine.specs.declared.host.RunFault.TheVariants.{Failed, Astray};
+ghost use Rattle.flow_machine.specs.declared.host.RunFault.TheVariants.{Failed, Stuck};
 ghost use Rattle.flow_worldfile.specs.Worlds.{IsInRange, seen};
-ghost use Rattle.flow_world.specs.Telling.{tells, whole, failed};
+ghost use Rattle.flow_world.specs.FaultedLines.{tells, whole, failed};
 ghost use Rattle.flow_class.specs.declared.class.RawClasses.{RawClasses};
 ghost use Rattle.flow_worldfile.specs.declared.world.World0.{World0 as File};
 ghost use Rattle.flow_world.specs.Starting.{Starts};
 ghost use Rattle.flow_world.specs.Worlds.{world_seen};
 ghost use Rattle.flow_run.specs.Ends.{PutLast, end_line};
-ghost use Rattle.flow_run.specs.Tracing.{GoesTo, GoesPart, Traces, TracesPart};
-ghost use Rattle.flow_run.specs.Straying.{EventsAmiss, TraceAmiss};
+ghost use Rattle.flow_run.specs.Tracing.{RunsToEnd, GoesPart, Traces, TracesPart};
+ghost use Rattle.flow_run.specs.StuckTraces.{EventsStuck, TraceStuck};
 
 use crate::ending::Ending;
 use crate::frames::put_frames_if;
@@ -41,7 +41,7 @@ pub fn put_trace<L: LineOut>(
         (whole out.old) ending (whole out.new)) }
     ensures part { IsErrOf result Failed → TracesPart (tells L.puts) with_frames classes world
         (whole out.old) (failed out.new) }
-    ensures astray { IsErrOf result Astray → TraceAmiss (tells L.puts) with_frames classes world
+    ensures stuck { IsErrOf result Stuck → TraceStuck (tells L.puts) with_frames classes world
         (whole out.old) }
     ensures last { IfOk result (λ ending. PutLast L.puts (end_line ending) out.new) }
 {
@@ -68,8 +68,8 @@ fn put_lines<L: LineOut>(
     ensures part { IsErrOf result Failed → (classes : RawClasses) (file : File)
         → Starts classes file (world_seen world.old) → TracesPart (tells L.puts) with_frames classes
         file (whole out.old) (failed out.new) }
-    ensures astray { IsErrOf result Astray → (classes : RawClasses) (file : File)
-        → Starts classes file (world_seen world.old) → TraceAmiss (tells L.puts) with_frames classes
+    ensures stuck { IsErrOf result Stuck → (classes : RawClasses) (file : File)
+        → Starts classes file (world_seen world.old) → TraceStuck (tells L.puts) with_frames classes
         file (whole out.old) }
     ensures last { IfOk result (λ ending. PutLast L.puts (end_line ending) out.new) }
 {
@@ -88,11 +88,11 @@ fn put_events<L: LineOut>(
     out: &mut L,
 ) -> Result<Ending, RunFault>
     requires { world.old.ended ≡ false }
-    ensures goes { IfOk result (λ ending. GoesTo (tells L.puts) with_frames
+    ensures goes { IfOk result (λ ending. RunsToEnd (tells L.puts) with_frames
         (world_seen world.old) (whole out.old) ending (world_seen world.new) (whole out.new)) }
     ensures part { IsErrOf result Failed → GoesPart (tells L.puts) with_frames
         (world_seen world.old) (whole out.old) (failed out.new) }
-    ensures astray { IsErrOf result Astray → EventsAmiss (tells L.puts) with_frames
+    ensures stuck { IsErrOf result Stuck → EventsStuck (tells L.puts) with_frames
         (world_seen world.old) (whole out.old) }
     ensures cause { RunCause (L.faults out.old) (L.faults out.new) result }
     ensures kept { L.kept out.new ≡ L.kept out.old }

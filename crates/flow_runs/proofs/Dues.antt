@@ -6,7 +6,7 @@ use Rattle.std.specs.declared.option.Option.TheVariants.{Some}
 use Rattle.flow_tree.specs.Tree.{TypeTree}
 use Rattle.flow_timers.specs.Pending.{Pending, comes_before, placed}
 use Rattle.flow_meaning.specs.Cells.{PromiseSide}
-use Rattle.flow_meaning.specs.Occ.{one, in_requests}
+use Rattle.flow_meaning.specs.References.{one, in_requests}
 use Rattle.flow_meaning.specs.Deliver.{closed_request}
 use Rattle.flow_meaning.specs.Outside.{What, Boots, Rings, Arrives, Answers}
 use Rattle.flow_meaning.specs.World.{is_of}

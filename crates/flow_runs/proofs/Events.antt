@@ -28,7 +28,7 @@ use Rattle.flow_meaning.proofs.Posture.{same_number, unless_map}
 use Rattle.flow_meaning.proofs.InOrder.{no_thing, burst_at_rest}
 use Rattle.flow_unstuck.specs.Rules.{ClassRules}
 use Rattle.flow_unstuck.specs.Ending.{LeadOn, InPlace, Reaches, here, onward}
-use Rattle.flow_unstuck.specs.Existing.{Astray, Strays, now, later}
+use Rattle.flow_unstuck.specs.Existing.{IsStuck, GetsStuck, now, later}
 use Rattle.flow_unstuck.specs.Alone.{StepsKeepFitting}
 use Rattle.flow_unstuck.proofs.Ending.{stopped}
 use Rattle.flow_unstuck.proofs.Beginnings.{begun_begins}
@@ -97,9 +97,9 @@ module _ (r : RawTree) (valid : IsValid r) (actors : List RoutineTree) (rules : 
     burst_good s t (steps next e k) g = burst_good next t k (next_good s next g e)
 
     -- such a state isn't astray
-    not_astray : (l : Live Outside Frame) → Good places count n l → Astray r l → ⊥
-    not_astray l g (inl h) = subst (λ x. Meant x (FitsAmong r n l.out.events.pending l.proc)) h g.own
-    not_astray l g (inr h) =
+    not_stuck : (l : Live Outside Frame) → Good places count n l → IsStuck r l → ⊥
+    not_stuck l g (inl h) = subst (λ x. Meant x (FitsAmong r n l.out.events.pending l.proc)) h g.own
+    not_stuck l g (inr h) =
         let f : FitsAmong r n l.out.events.pending l.proc = subst (λ x. Meant x (FitsAmong r n l.out.events.pending l.proc)) h.0 g.own in
         placed r actors rules l.proc.core l.proc.actors f.in_place.orderly (f.types, f.fits) h.1
 
@@ -278,8 +278,8 @@ module _ (r : RawTree) (valid : IsValid r) (actors : List RoutineTree) (rules : 
         script = subst (λ m. AllByRecursion (LineNames m) l.out.script) (sym x.processes) x.script;
       }
 
-  pub never_strays : (w : World Frame) → WorldFits r w → Strays r w → ⊥
-  never_strays w h (now b l e g reach astray) =
+  pub never_gets_stuck : (w : World Frame) → WorldFits r w → GetsStuck r w → ⊥
+  never_gets_stuck w h (now b l e g reach stuck) =
       let start = event_begins w b h g in
-      not_astray w.places w.out.file.processes start.process l (reached_good w.places w.out.file.processes start.process (before b) l reach start.good) astray
-  never_strays w h (later b l e g q go more) = never_strays (after w b l) (event_kept w b l h g q go) more
+      not_stuck w.places w.out.file.processes start.process l (reached_good w.places w.out.file.processes start.process (before b) l reach start.good) stuck
+  never_gets_stuck w h (later b l e g q go more) = never_gets_stuck (after w b l) (event_kept w b l h g q go) more

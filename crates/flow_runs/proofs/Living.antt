@@ -7,9 +7,9 @@ use Rattle.flow_trace.specs.declared.line.Line.{Line}
 use Rattle.flow_class.specs.Classes.{RawTree}
 use Rattle.flow_numbered.specs.Numbered.{Numbered}
 use Rattle.flow_meaning.specs.Cells.{PromiseSide}
-use Rattle.flow_meaning.specs.Asks.{Request}
+use Rattle.flow_meaning.specs.Requests.{Request}
 use Rattle.flow_meaning.specs.Process.{Halt, Spent, NoMeaning, Core}
-use Rattle.flow_meaning.specs.Occ.{in_requests}
+use Rattle.flow_meaning.specs.References.{in_requests}
 use Rattle.flow_meaning.specs.Orderly.{UnlessStopped}
 use Rattle.flow_meaning.specs.Burst.{Live, add_lines, serve, advanced, advance}
 use Rattle.flow_meaning.specs.Outside.{What, Outside, host}
@@ -17,7 +17,7 @@ use Rattle.flow_meaning.specs.Step.{Stepped, step, proc}
 use Rattle.flow_meaning.specs.Frame.{Frame}
 use Rattle.flow_meaning.specs.Class.{classes}
 use Rattle.flow_meaning.proofs.Posture.{unless_map}
-use Rattle.flow_picture.specs.Keeps.{Tied, TiedUnlessStopped}
+use Rattle.flow_picture.specs.CellsTied.{CellsTied, TiedUnlessStopped}
 use Rattle.flow_picture.specs.Lonely.{OwnedAlone}
 use Rattle.flow_picture.proofs.Lonely.{steps_lonely}
 use Rattle.flow_picture.proofs.TidySteps.{steps_tied}
@@ -44,8 +44,8 @@ meant_map None f x = f x
 meant_map (Some Spent) f x = tt
 meant_map (Some NoMeaning) f x = x
 
--- Tied with other lines.
-tied_lined : (ls : List Line) (c : Core) → Tied c → Tied (add_lines ls c)
+-- CellsTied with other lines.
+tied_lined : (ls : List Line) (c : Core) → CellsTied c → CellsTied (add_lines ls c)
 tied_lined ls c t = let n = t.numbers in record { agree = t.agree; numbers = record { ports = n.ports; cells = n.cells; requests = n.requests }; once = t.once }
 
 fits_lined : (r : RawTree) (types : CellTypes) (ls : List Line) (c : Core) (xs : Numbered Frame) → ProcessFits r types c xs → ProcessFits r types (add_lines ls c) xs
@@ -55,7 +55,7 @@ module _ (r : RawTree) (n : ℕ) where
   -- put together
   pub assembled : (before : CellTypes) (q : Option Request) (es : List (Pending What)) (c : Core) (xs : Numbered Frame) (h : Option Halt)
       → ((types : CellTypes) → StillTyped before types c.requests → AskFits types q → AllBring n types es) → ((k : ℕ) → due n k es ≤ in_requests PromiseSide k c.requests)
-      → UnlessStopped h (InPlace r c xs) → UnlessStopped h (Tied c) → UnlessStopped h (OwnedAlone (proc c xs)) → FineAsking r before q h c xs → Meant h (FitsAmong r n es (proc c xs))
+      → UnlessStopped h (InPlace r c xs) → UnlessStopped h (CellsTied c) → UnlessStopped h (OwnedAlone (proc c xs)) → FineAsking r before q h c xs → Meant h (FitsAmong r n es (proc c xs))
   assembled before q es c xs None brought awaited i t a f =
       record { in_place = i; tied = t; alone = a; types = f.0; fits = f.1; brought = brought f.0 f.2 f.3; awaited = awaited }
   assembled before q es c xs (Some Spent) brought awaited i t a f = tt

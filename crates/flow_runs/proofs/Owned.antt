@@ -4,14 +4,14 @@ use Rattle.std.specs.declared.option.Option.TheVariants.{None, Some}
 use Rattle.flow_numbered.specs.Numbered.{Numbered, thing, removed}
 use Rattle.flow_meaning.specs.Cells.{PromiseSide}
 use Rattle.flow_meaning.specs.Process.{Entry, Core}
-use Rattle.flow_meaning.specs.Occ.{one, count_maybe, in_ports}
+use Rattle.flow_meaning.specs.References.{one, count_maybe, in_ports}
 use Rattle.flow_meaning.specs.Dropping.{port_of}
 use Rattle.flow_meaning.specs.Step.{proc}
 use Rattle.flow_meaning.specs.Frame.{Frame}
 use Rattle.flow_meaning.proofs.Posture.{same_number}
 use Rattle.flow_picture.specs.Rested.{PortsRise}
 use Rattle.flow_picture.specs.Alone.{results_at, owners_of}
-use Rattle.flow_picture.specs.Keeps.{Tied}
+use Rattle.flow_picture.specs.CellsTied.{CellsTied}
 use Rattle.flow_picture.specs.Lonely.{OwnedAlone}
 use Rattle.flow_picture.proofs.Once.{one_reference}
 use Rattle.flow_unstuck.specs.Alone.{PortsAlone, ResultsAlone}
@@ -50,7 +50,7 @@ no_port above made (x ∷ ps) h port = by_test (nat_eq port x.0) refl (no_port x
     by_test true q rest = let same : port ≡ x.0 = grind (arith, q) in subst (λ n. thing ps n ≡ None) (sym same) h.2
     by_test false q rest = ap (λ (b : Bool). if b then Some x.1 else thing (removed ps port) port) q ∙ rest
 
-pub ports_alone : (c : Core) (xs : Numbered Frame) → Tied c → OwnedAlone (proc c xs) → PortsAlone c xs
+pub ports_alone : (c : Core) (xs : Numbered Frame) → CellsTied c → OwnedAlone (proc c xs) → PortsAlone c xs
 ports_alone c xs t h = record {
   alone = λ port k q.
       let m = port_owned k c.ports port q in
@@ -58,7 +58,7 @@ ports_alone c xs t h = record {
   once = no_port 0 c.made c.ports t.numbers.ports;
 }
 
-pub results_alone : (c : Core) (xs : Numbered Frame) → Tied c → OwnedAlone (proc c xs) → ResultsAlone c xs
+pub results_alone : (c : Core) (xs : Numbered Frame) → CellsTied c → OwnedAlone (proc c xs) → ResultsAlone c xs
 results_alone c xs t h i k e at q =
     let m = result_owned k i c.entries e at q in
     let own : 0 < owners_of k c = omega (arith, m) in one_reference k (proc c xs) t.once (h k (inl own)) own

@@ -12,9 +12,9 @@ use Rattle.flow_trace.specs.declared.line.Line.{Line}
 use Rattle.flow_eval.specs.Predefined.{natural}
 use Rattle.flow_numbered.specs.Numbered.{thing, added, put, removed}
 use Rattle.flow_meaning.specs.Cells.{Side, FutureSide, side_of, Ref, Waiter, Cell, is_complete, is_ready, waiters, taken, Single, Stream}
-use Rattle.flow_meaning.specs.Asks.{DiskCall, Spot, Effect, Make, Start, Draw, Delay, Never, Listen, Disk, Goal, Act, Goes, Pass, Drops, Effects, Operand, Waits, Sends, Cancels, Prints, SendsTo, Returns, Throws, RunsOut, Stuck, Ask, Supply}
+use Rattle.flow_meaning.specs.Requests.{DiskCall, Spot, Effect, Make, Start, Draw, Delay, Never, Listen, Disk, Goal, Act, Goes, Pass, Drops, Effects, Operand, Waits, Sends, Cancels, Prints, SendsTo, Returns, Throws, RunsOut, Stuck, Ask, Supply}
 use Rattle.flow_meaning.specs.Process.{Task, Run, Give, Throw, Catch, Store, Keep, Close, Fire, Drop, Entry, Halt, Core, Proc, Raised, Engine}
-use Rattle.flow_meaning.specs.Occ.{Scan, scan_of}
+use Rattle.flow_meaning.specs.References.{Scan, scan_of}
 use Rattle.flow_meaning.specs.Work.{turn_of, turn, fill_cell, fill, free_cell, free, give, take_branch, Registration, Registered, Refused, Missing, owner, cancel_by, cancel, cancel_owner, new_cell, pushed, writes, is_ready_at}
 use Rattle.flow_meaning.specs.Effects.{Reaction, result_task, push_result, gives_open, gives_new, empty_cell, between, is_port, open_port, judged, ask_disk, effect}
 use Rattle.flow_meaning.specs.React.{send_by, send_in, print, suspend, wait_by, wait, at_spot, react}

@@ -9,14 +9,14 @@ use Rattle.flow_meaning.specs.Frame.{Frame}
 use Rattle.flow_meaning.specs.Class.{classes}
 use Rattle.flow_unstuck.specs.Written.{heads}
 use Rattle.flow_unstuck.specs.Rules.{ClassRules}
-use Rattle.flow_unstuck.specs.Existing.{Strays}
+use Rattle.flow_unstuck.specs.Existing.{GetsStuck}
 use Rattle.flow_unstuck.proofs.Functions.{functions_kept}
 use Rattle.flow_unstuck.proofs.KeptClasses.{class_rules}
 use Rattle.flow_unstuck.proofs.StepsKept.{steps_keep}
 use Rattle.flow_unstuck.proofs.Valid.{leads_on}
 use Rattle.flow_unstuck.proofs.Existing.{runs_or_strays, one_trace}
 use Rattle.flow_runs.specs.Among.{WorldFits}
-use Rattle.flow_runs.specs.Laws.{AreValid, EventsKeepFitting, NeverStrays, StatesFit, OneTrace, RunsExist}
+use Rattle.flow_runs.specs.Laws.{AreValid, EventsKeepFitting, NeverStuck, StatesFit, OneTrace, RunsExist}
 use Rattle.flow_runs.proofs.Worlds.{starts_fit}
 use Rattle.flow_runs.proofs.Events as events
 
@@ -27,8 +27,8 @@ module _ (r : RawTree) (sound : AreValid r) where
   pub events_keep_fitting : EventsKeepFitting r
   events_keep_fitting w b l h e g q go = events.event_kept r sound.valid (heads r) rules (leads_on r sound.valid) (steps_keep r sound.valid (heads r) rules) w b l h g q go
 
-  pub never_strays : NeverStrays r
-  never_strays w h s = events.never_strays r sound.valid (heads r) rules (leads_on r sound.valid) (steps_keep r sound.valid (heads r) rules) w h s
+  pub never_gets_stuck : NeverStuck r
+  never_gets_stuck w h s = events.never_gets_stuck r sound.valid (heads r) rules (leads_on r sound.valid) (steps_keep r sound.valid (heads r) rules) w h s
 
   runs_fit : {w : World Frame} {states : List (World Frame)} {lines : List Line} → WorldFits r w → Runs (classes r) w states lines → AllByRecursion (WorldFits r) states
   runs_fit h (ends last e) = tt
@@ -41,9 +41,9 @@ module _ (r : RawTree) (sound : AreValid r) where
       let start = starts_fit r w range in
       subst (AllByRecursion (WorldFits r)) (sym x.from_start) (start, runs_fit start x.runs)
 
-  pub runs_exist : RunsExist r
-  runs_exist w range = by_found (runs_or_strays r (leads_on r sound.valid) w)
+  pub run_exists : RunsExist r
+  run_exists w range = by_found (runs_or_strays r (leads_on r sound.valid) w)
     where
-      by_found : ((lines : List Line) × ClassTrace r w lines) ⊎ Strays r (at_start w) → OneTrace (ClassTrace r w)
+      by_found : ((lines : List Line) × ClassTrace r w lines) ⊎ GetsStuck r (at_start w) → OneTrace (ClassTrace r w)
       by_found (inl x) = record { lines = x.0; is = x.1; only = λ more t. one_trace r (leads_on r sound.valid) w more x.0 t x.1 }
-      by_found (inr s) = absurd (never_strays (at_start w) (starts_fit r w range) s)
+      by_found (inr s) = absurd (never_gets_stuck (at_start w) (starts_fit r w range) s)

@@ -8,9 +8,9 @@ use Rattle.flow_simnet.specs.declared.packet.Fate.{Fate}
 use Rattle.flow_simnet.specs.declared.packet.Fate.TheVariants.{Cut, Drawn, At}
 use Rattle.flow_class.specs.Classes.{RawTree}
 use Rattle.flow_meaning.specs.Cells.{PromiseSide}
-use Rattle.flow_meaning.specs.Asks.{Request, Drew, Timer, Packet, Disks}
+use Rattle.flow_meaning.specs.Requests.{Request, Drew, Timer, Packet, Disks}
 use Rattle.flow_meaning.specs.Process.{Proc}
-use Rattle.flow_meaning.specs.Occ.{one, in_requests}
+use Rattle.flow_meaning.specs.References.{one, in_requests}
 use Rattle.flow_meaning.specs.Outside.{What, Rings, Arrives, Answers, Outside, sent_by, fate_in}
 use Rattle.flow_meaning.specs.Outside as outside
 use Rattle.flow_meaning.specs.World.{is_of, Place, without_requests}

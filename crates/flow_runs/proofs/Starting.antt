@@ -13,9 +13,9 @@ use Rattle.flow_class.specs.Classes.{RawTree}
 use Rattle.flow_valid.specs.Validity.{IsValid}
 use Rattle.flow_numbered.specs.Numbered.{Numbered, thing}
 use Rattle.flow_meaning.specs.Cells.{PromiseSide}
-use Rattle.flow_meaning.specs.Asks.{DiskCall, ReadCall, WriteCall, SyncCall, SizeCall}
+use Rattle.flow_meaning.specs.Requests.{DiskCall, ReadCall, WriteCall, SyncCall, SizeCall}
 use Rattle.flow_meaning.specs.Process.{Drop, Halt, Core, Proc}
-use Rattle.flow_meaning.specs.Occ.{in_requests}
+use Rattle.flow_meaning.specs.References.{in_requests}
 use Rattle.flow_meaning.specs.Work.{pushed, fill}
 use Rattle.flow_meaning.specs.Orderly.{UnlessStopped}
 use Rattle.flow_meaning.specs.Step.{proc, enrol}
@@ -30,7 +30,7 @@ use Rattle.flow_references.specs.Named.{Named}
 use Rattle.flow_picture.specs.Naming.{OutcomeNamed}
 use Rattle.flow_picture.specs.Rested.{has}
 use Rattle.flow_picture.specs.Alone.{spares}
-use Rattle.flow_picture.specs.Keeps.{TiedUnlessStopped}
+use Rattle.flow_picture.specs.CellsTied.{TiedUnlessStopped}
 use Rattle.flow_picture.specs.Lonely.{OwnedAlone}
 use Rattle.flow_picture.proofs.Lonely.{vanished_lonely}
 use Rattle.flow_picture.proofs.LonelyBrought.{deliveries_lonely, arrivals_lonely, boots_lonely, stops_lonely}

@@ -7,12 +7,12 @@ use Rattle.flow_worldfile.specs.declared.directive.Order.{Order}
 use Rattle.flow_class.specs.Classes.{RawTree}
 use Rattle.flow_meaning.specs.Cells.{PromiseSide}
 use Rattle.flow_meaning.specs.Process.{Proc}
-use Rattle.flow_meaning.specs.Occ.{in_requests}
+use Rattle.flow_meaning.specs.References.{in_requests}
 use Rattle.flow_meaning.specs.Law.{AtRest}
 use Rattle.flow_meaning.specs.Outside.{What}
 use Rattle.flow_meaning.specs.World.{Place, World, process_in}
 use Rattle.flow_meaning.specs.Frame.{Frame}
-use Rattle.flow_picture.specs.Keeps.{Tied}
+use Rattle.flow_picture.specs.CellsTied.{CellsTied}
 use Rattle.flow_picture.specs.Lonely.{OwnedAlone}
 use Rattle.flow_unstuck.specs.Ending.{InPlace}
 use Rattle.flow_unstuck.specs.Fitting.{CellTypes, ProcessFits}
@@ -24,7 +24,7 @@ use Rattle.flow_runs.specs.Due.{due, AllBring}
 pub record FitsAmong (r : RawTree) (process : ℕ) (events : List (Pending What)) (p : Proc Frame)
     : Type 0 where
   pub in_place : InPlace r p.core p.actors
-  pub tied : Tied p.core
+  pub tied : CellsTied p.core
   pub alone : OwnedAlone p
   pub types : CellTypes
   pub fits : ProcessFits r types p.core p.actors

@@ -5,7 +5,7 @@ use Rattle.std.specs.declared.option.Option.{Option}
 use Rattle.std.specs.declared.option.Option.TheVariants.{Some}
 use Rattle.flow_tree.specs.Tree.{VoidType, FutureType}
 use Rattle.flow_timers.specs.Pending.{Pending}
-use Rattle.flow_meaning.specs.Asks.{Request, Timer, Disks}
+use Rattle.flow_meaning.specs.Requests.{Request, Timer, Disks}
 use Rattle.flow_meaning.specs.Outside.{What, Rings, Answers}
 use Rattle.flow_unstuck.specs.Asking.{reply_type}
 use Rattle.flow_unstuck.specs.Fitting.{CellTypes}

@@ -13,7 +13,7 @@ use Rattle.flow_meaning.specs.Runs.{before, after, ClassStates, ClassTrace}
 use Rattle.flow_meaning.specs.Frame.{Frame}
 use Rattle.flow_meaning.specs.Class.{classes}
 use Rattle.flow_unstuck.specs.Written.{AreWritten, FunctionsWritten}
-use Rattle.flow_unstuck.specs.Existing.{Strays}
+use Rattle.flow_unstuck.specs.Existing.{GetsStuck}
 use Rattle.flow_runs.specs.Among.{WorldFits}
 
 -- valid classes as the grammar of class text has them, whose places have numbers that can be written
@@ -34,8 +34,8 @@ EventsKeepFitting r =
     → l.proc.core.halted ≡ None → WorldFits r (after w b l)
 
 -- No run comes to what has no meaning.
-abbrev pub NeverStrays : RawTree → Type 0
-NeverStrays r = (w : World Frame) → WorldFits r w → Strays r w → ⊥
+abbrev pub NeverStuck : RawTree → Type 0
+NeverStuck r = (w : World Frame) → WorldFits r w → GetsStuck r w → ⊥
 
 -- So at each boundary of a run in the world of a file in range the world fits.
 abbrev pub StatesFit : RawTree → Type 0

@@ -17,10 +17,10 @@ use Rattle.flow_value.specs.declared.value.Value.TheOpen as layer
 use Rattle.flow_trace.specs.declared.line.Line.{Line}
 use Rattle.flow_cancel.specs.declared.task.Task.TheVariants as task
 use Rattle.flow_numbered.specs.Numbered.{Numbered, thing, added}
-use Rattle.flow_meaning.specs.Asks as asks
-use Rattle.flow_meaning.specs.Asks.{DiskCall, Request}
+use Rattle.flow_meaning.specs.Requests as asks
+use Rattle.flow_meaning.specs.Requests.{DiskCall, Request}
 use Rattle.flow_meaning.specs.Process.{Task, Run, Throw, Core, Proc}
-use Rattle.flow_meaning.specs.Occ.{Scan}
+use Rattle.flow_meaning.specs.References.{Scan}
 use Rattle.flow_meaning.specs.Cells.{Single, Stream}
 use Rattle.flow_meaning.specs.Dropping.{port_of}
 use Rattle.flow_meaning.specs.Work.{pushed, new_cell}
@@ -34,17 +34,17 @@ use Rattle.flow_steps.specs.declared.call.Goal.{Goal}
 use Rattle.flow_steps.specs.declared.process.Process.{Process}
 use Rattle.flow_steps.specs.Doing.{doing}
 use Rattle.flow_steps.specs.Holding.{Gives}
-use Rattle.flow_steps.specs.Bringing.{OpenGiven}
+use Rattle.flow_steps.specs.Delivering.{OpenGiven}
 use Rattle.flow_machine.specs.Requests.{asked_of}
 use Rattle.flow_machine.specs.Hosting.{Serves}
 use Rattle.flow_machine.specs.Serving.{Thrown, StreamGiven, DrawServed, DelayServed, DiskServed, PortOpened, ListenServed, SendServed, may_send}
-use Rattle.flow_follows.specs.Shown.{Shown, with_task, told}
+use Rattle.flow_follows.specs.Matching.{ProcessRepresents, with_task, told}
 use Rattle.flow_follows.specs.Working.{SameGoal}
 use Rattle.flow_follows.proofs.Working.{task_done, as_many_shown, holds_aside, no_more}
 use Rattle.flow_follows.proofs.Giving.{result_given}
 use Rattle.flow_follows.proofs.Making.{request_given, stream_given}
 use Rattle.flow_served.specs.Serving as law
-use Rattle.flow_served.specs.Serving.{Lives, Told, quiet, told as wrote_so, Done, lines_for}
+use Rattle.flow_served.specs.Serving.{Lives, WroteOrQuiet, quiet, told as wrote_so, Done, lines_for}
 
 -- a number is seen as itself
 int_seen : (n : ℤ) → value_of (Int n) ≡ IntValue n
@@ -57,8 +57,8 @@ push_ports i (Some t) c = refl
 
 module _ {A W : Type 0} (serves : Host W) (shows : A → Numbered ℕ → W → Type 0) (wrote : A → List Line → A → Type 0) (r : RawTree) (x : Scan) where
   -- lines come after those that stand
-  lines_after : (ls more : List Line) (m : Process) (p : Proc Frame) → m.asked ≡ None → Shown r ls x m p
-      → Shown r (ls ++ more) x m (on_core (λ c. record c { lines = c.lines ++ more }) p)
+  lines_after : (ls more : List Line) (m : Process) (p : Proc Frame) → m.asked ≡ None → ProcessRepresents r ls x m p
+      → ProcessRepresents r (ls ++ more) x m (on_core (λ c. record c { lines = c.lines ++ more }) p)
   lines_after ls more m p none s = record {
     holds = holds_aside r x m.heap p (p.core.lines ++ more) p.core.left s.holds;
     left = s.left;
@@ -73,10 +73,10 @@ module _ {A W : Type 0} (serves : Host W) (shows : A → Numbered ℕ → W → 
         (i : ActorId) (error : ℕ) → Lives serves shows wrote r x ls m a p w → Thrown serves shows wrote i error m a n b
         → Done serves shows wrote r x ls n a b (reacted p.actors (throws i.0 error p.core)) w
     is_thrown i error l t = record {
-      told = subst (λ z. Told serves shows wrote r x a [] z) (sym t.quiet) quiet;
+      told = subst (λ z. WroteOrQuiet serves shows wrote r x a [] z) (sym t.quiet) quiet;
       lives = record {
-        shown = subst (λ k. Shown r (ls ++ []) x k (on_core (pushed (Throw i.0 error)) p)) (sym t.thrown)
-            (subst (λ k. Shown r k x (doing (task.Throw i (record { 0 = error })) m) (on_core (pushed (Throw i.0 error)) p)) (sym (no_more ls))
+        shown = subst (λ k. ProcessRepresents r (ls ++ []) x k (on_core (pushed (Throw i.0 error)) p)) (sym t.thrown)
+            (subst (λ k. ProcessRepresents r k x (doing (task.Throw i (record { 0 = error })) m) (on_core (pushed (Throw i.0 error)) p)) (sym (no_more ls))
             (task_done r ls x m p (task.Throw i (record { 0 = error })) (Throw i.0 error)
             (as_many_shown r ls x (with_task (Throw i.0 error) x) m p (λ s j. omega arith) l.shown) refl));
         served = ap (λ k. k.asked) t.thrown ∙ l.served;
@@ -85,10 +85,10 @@ module _ {A W : Type 0} (serves : Host W) (shows : A → Numbered ℕ → W → 
     }
 
     -- a number is given
-    int_given : (g : Goal) (h : asks.Goal) (i : ActorId) (k : ℤ) → Shown r ls x m p → SameGoal p i.0 g h → Gives g i (Int k) m n
-        → Shown r ls x n (on_core (gives i.0 h (IntValue k)) p)
+    int_given : (g : Goal) (h : asks.Goal) (i : ActorId) (k : ℤ) → ProcessRepresents r ls x m p → SameGoal p i.0 g h → Gives g i (Int k) m n
+        → ProcessRepresents r ls x n (on_core (gives i.0 h (IntValue k)) p)
     int_given g h i k s same given =
-        subst (λ v. Shown r ls x n (on_core (gives i.0 h v) p)) (int_seen k)
+        subst (λ v. ProcessRepresents r ls x n (on_core (gives i.0 h v) p)) (int_seen k)
         (result_given r ls x m p g h i (Int k) n s (subst (λ v. AllThere p (refs_of v)) (sym (int_seen k)) tt) same given)
 
     -- a number is drawn
@@ -103,8 +103,8 @@ module _ {A W : Type 0} (serves : Host W) (shows : A → Numbered ℕ → W → 
             let number : d.number ≡ v = d.drawn.1 p.core.ports w l.world in
             let q = on_core (gives i.0 h (IntValue v)) p in
             let s = d.drawn.0 p.core.ports w l.world in
-            let shown : Shown r ls x n q =
-            subst (λ z. Shown r ls x n (on_core (gives i.0 h (IntValue z)) p)) number (int_given g h i d.number l.shown same d.given) in
+            let shown : ProcessRepresents r ls x n q =
+            subst (λ z. ProcessRepresents r ls x n (on_core (gives i.0 h (IntValue z)) p)) number (int_given g h i d.number l.shown same d.given) in
             let none : n.asked ≡ None = ap (λ k. k.asked) d.given.given_by ∙ l.served in
             record {
               told = wrote_so s.0;
@@ -167,8 +167,8 @@ module _ {A W : Type 0} (serves : Host W) (shows : A → Numbered ℕ → W → 
         record {
           told = wrote_so d.listens.0;
           lives = record {
-            shown = subst (λ k. Shown r k x n (proc (open_port i.0 h port None p.core).0 p.actors)) (sym (no_more ls))
-                (subst (λ o. Shown r ls x n (proc (open_port i.0 h port o p.core).0 p.actors)) free given.1);
+            shown = subst (λ k. ProcessRepresents r k x n (proc (open_port i.0 h port None p.core).0 p.actors)) (sym (no_more ls))
+                (subst (λ o. ProcessRepresents r ls x n (proc (open_port i.0 h port o p.core).0 p.actors)) free given.1);
             served = none;
             world = subst (λ ps. shows b ps w) (sym (push_ports i.0 (result_task i.0 h (RefValue kind.FutureStream (suc p.core.made))) c)) s;
           };
@@ -200,8 +200,8 @@ module _ {A W : Type 0} (serves : Host W) (shows : A → Numbered ℕ → W → 
         by_range true d =
             let s = d.served p.core.ports w l.world in
             let none : n.asked ≡ None = ap (λ k. k.asked) d.goes ∙ l.served in
-            let ran : Shown r ls x n (on_core (pushed (Run i.0)) p) =
-            subst (λ k. Shown r ls x k (on_core (pushed (Run i.0)) p)) (sym d.goes)
+            let ran : ProcessRepresents r ls x n (on_core (pushed (Run i.0)) p) =
+            subst (λ k. ProcessRepresents r ls x k (on_core (pushed (Run i.0)) p)) (sym d.goes)
             (task_done r ls x m p (task.Run i) (Run i.0) (as_many_shown r ls x (with_task (Run i.0) x) m p (λ z j. omega arith) l.shown) refl) in
             record {
               told = wrote_so s.0;
@@ -213,7 +213,7 @@ module _ {A W : Type 0} (serves : Host W) (shows : A → Numbered ℕ → W → 
             }
 
     -- what was asked is taken
-    asked_taken : (more : List Line) → Shown r ls x m p → told m.asked ≡ more → Shown r (ls ++ more) x (record m { asked = None }) p
+    asked_taken : (more : List Line) → ProcessRepresents r ls x m p → told m.asked ≡ more → ProcessRepresents r (ls ++ more) x (record m { asked = None }) p
     asked_taken more s e = record {
       holds = s.holds;
       left = s.left;
@@ -227,7 +227,7 @@ module _ {A W : Type 0} (serves : Host W) (shows : A → Numbered ℕ → W → 
     line_written count l s e h v = (
       v.1.0,
       record {
-        shown = subst (λ k. Shown r (ls ++ l ∷ []) x k p) (sym v.0) (asked_taken (l ∷ []) s (ap told e));
+        shown = subst (λ k. ProcessRepresents r (ls ++ l ∷ []) x k p) (sym v.0) (asked_taken (l ∷ []) s (ap told e));
         served = ap (λ k. k.asked) v.0;
         world = v.1.1 p.core.ports w h;
       },
@@ -238,8 +238,8 @@ module _ {A W : Type 0} (serves : Host W) (shows : A → Numbered ℕ → W → 
     port_unheard count k ps s e h same v = (
       v.1.0,
       record {
-        shown = subst (λ j. Shown r ls x j p) (sym v.0)
-            (subst (λ j. Shown r j x (record m { asked = None }) p) (no_more ls) (asked_taken [] s (ap told e)));
+        shown = subst (λ j. ProcessRepresents r ls x j p) (sym v.0)
+            (subst (λ j. ProcessRepresents r j x (record m { asked = None }) p) (no_more ls) (asked_taken [] s (ap told e)));
         served = ap (λ k. k.asked) v.0;
         world = subst (λ j. shows b j w) same (v.1.1 ps w h);
       },

@@ -7,10 +7,10 @@ use Rattle.flow_base.specs.declared.ids.CellId.{CellId}
 use Rattle.flow_class.specs.Classes.{RawTree}
 use Rattle.flow_trace.specs.declared.line.Line.{Line}
 use Rattle.flow_numbered.specs.Numbered.{Numbered}
-use Rattle.flow_meaning.specs.Asks as asks
-use Rattle.flow_meaning.specs.Asks.{Request, Supply}
+use Rattle.flow_meaning.specs.Requests as asks
+use Rattle.flow_meaning.specs.Requests.{Request, Supply}
 use Rattle.flow_meaning.specs.Process.{Proc}
-use Rattle.flow_meaning.specs.Occ.{Scan}
+use Rattle.flow_meaning.specs.References.{Scan}
 use Rattle.flow_meaning.specs.Dropping.{port_of}
 use Rattle.flow_meaning.specs.Burst.{Host, Live, serve}
 use Rattle.flow_meaning.specs.Step.{Stepped, reacted}
@@ -24,7 +24,7 @@ use Rattle.flow_steps.specs.declared.process.Process.{Process}
 use Rattle.flow_machine.specs.Requests.{asked_of}
 use Rattle.flow_machine.specs.Hosting.{unheard}
 use Rattle.flow_machine.specs.Serving.{Served}
-use Rattle.flow_follows.specs.Shown.{Shown}
+use Rattle.flow_follows.specs.Matching.{ProcessRepresents}
 use Rattle.flow_follows.specs.Working.{SameGoal}
 
 -- a law on all processes in memory and their hosts, before and after, and on the process and the world that they show
@@ -34,7 +34,7 @@ Always A W law = (r : RawTree) (x : Scan) (ls : List Line) (m n : Process) (a b 
 module _ {A W : Type 0} (serves : Host W) (shows : A → Numbered ℕ → W → Type 0) (wrote : A → List Line → A → Type 0) (r : RawTree) (x : Scan) where
   -- A process in memory that asks for nothing more, and the world around it, show a process and a world of the definitions.
   pub record Lives (ls : List Line) (m : Process) (a : A) (p : Proc Frame) (w : W) : Type 0 where
-    pub shown : Shown r ls x m p
+    pub shown : ProcessRepresents r ls x m p
     pub served : m.asked ≡ None
     pub world : shows a p.core.ports w
 
@@ -44,16 +44,16 @@ module _ {A W : Type 0} (serves : Host W) (shows : A → Numbered ℕ → W → 
   lines_for (Some q) w = (serves.serve q w).0
 
   -- the world wrote these lines, or did nothing
-  pub data Told : A → List Line → A → Type 0 where
-    quiet : {a : A} → Told a [] a
-    told : {a b : A} {ls : List Line} → wrote a ls b → Told a ls b
+  pub data WroteOrQuiet : A → List Line → A → Type 0 where
+    quiet : {a : A} → WroteOrQuiet a [] a
+    told : {a b : A} {ls : List Line} → wrote a ls b → WroteOrQuiet a ls b
 
   -- a step of the definitions is done, and what it asks is served
   abbrev pub then_served : Stepped Frame → W → Live W Frame
   then_served s w = serve serves s.1 s.0 w
 
   pub record Done (ls : List Line) (m : Process) (a b : A) (s : Stepped Frame) (w : W) : Type 0 where
-    pub told : Told a (lines_for s.1 w) b
+    pub told : WroteOrQuiet a (lines_for s.1 w) b
     pub lives : Lives (ls ++ lines_for s.1 w) m b (then_served s w).proc (then_served s w).out
 
   -- what the process of the definitions does for an act of an actor
@@ -100,13 +100,13 @@ module _ {A W : Type 0} (serves : Host W) (shows : A → Numbered ℕ → W → 
     -- the line that a step told is written
     abbrev pub LineWritten : Type 0
     LineWritten =
-        (count : ℕ) (l : Line) → Shown r ls x m p → m.asked ≡ Some (call.Line l) → shows a p.core.ports w
+        (count : ℕ) (l : Line) → ProcessRepresents r ls x m p → m.asked ≡ Some (call.Line l) → shows a p.core.ports w
         → Served serves shows wrote count (call.Line l) (record m { asked = None }) a n b
         → wrote a (l ∷ []) b × Lives (ls ++ l ∷ []) n b p w
 
     -- a stream that nobody reads any more is no longer that of its port
     abbrev pub PortUnheard : Type 0
     PortUnheard =
-        (count : ℕ) (k : CellId) (ps : Numbered ℕ) → Shown r ls x m p → m.asked ≡ Some (call.Unlisten k) → shows a ps w
+        (count : ℕ) (k : CellId) (ps : Numbered ℕ) → ProcessRepresents r ls x m p → m.asked ≡ Some (call.Unlisten k) → shows a ps w
         → unheard k.0 ps ≡ p.core.ports → Served serves shows wrote count (call.Unlisten k) (record m { asked = None }) a n b
         → wrote a [] b × Lives ls n b p w

@@ -11,7 +11,7 @@ use Rattle.flow_tree.specs.GrammarToken.{Declaration, Node, Variable, Marked, be
 use Rattle.flow_tree.specs.Grammar.{sign_at, word_at, name_at}
 use Rattle.flow_tree.specs.GrammarStmt.{StmtsRule}
 use Rattle.flow_tree.specs.GrammarDecl.{ParamRule, param, FieldsRule, no_fields, more_fields, MoreParamsRule, end_params, more_params, ParamsRule, no_params, some_params, RecordRule, fields, RoutineRule, routine, DeclRule, record_decl, function_decl, actor_decl, DeclsRule, no_decls, more_decls}
-use Rattle.flow_tree.specs.Canon.{type_text, named_text, line, fields_text, more_params_text, params_text, routine_text, decl_text, decls_text, body_text, first_place, bare_ident, bare_param, bare_record, bare_routine, bare_decl}
+use Rattle.flow_tree.specs.Canon.{type_text, named_text, line, fields_text, more_params_text, params_text, routine_text, decl_text, decls_text, body_text, first_place, placeless_ident, placeless_param, placeless_record, placeless_routine, placeless_decl}
 use Rattle.flow_show.proofs.Going.{Piece, Any, nothing, both, as_rule, begun, begin_some, behind, spaced, lined, under, blank}
 use Rattle.flow_show.proofs.TokenPieces.{Apart, name_piece, word_piece, sign_piece, Ends, comma_ends, space_ends}
 use Rattle.flow_show.proofs.Valid.{AllValid, valid_head, valid_tail, valid_left, valid_right, valid_begun}
@@ -23,7 +23,7 @@ pub record ParamKept (n : ℕ) (p : ParamTree) : Type 0 where
   pub marked : List Marked
   pub tree : ParamTree
   pub rule : ParamRule n marked tree
-  pub like : bare_param tree ≡ bare_param p
+  pub like : placeless_param tree ≡ placeless_param p
 
 pub param_piece : {n : ℕ} {m : List Marked} {p : ParamTree} → ParamRule n m p → AllValid m → Piece {X = ParamKept n p} (λ y. y.marked) m (named_text p.ty p.name) Apart
 param_piece {n} (param {t = t} x of r e) v =
@@ -38,7 +38,7 @@ pub record FieldsKept (n : ℕ) (fs : List ParamTree) : Type 0 where
   pub marked : List Marked
   pub trees : List ParamTree
   pub rule : FieldsRule n marked trees
-  pub like : map bare_param trees ≡ map bare_param fs
+  pub like : map placeless_param trees ≡ map placeless_param fs
 
 pub fields_piece : {n : ℕ} {m : List Marked} {fs : List ParamTree} → FieldsRule n m fs → AllValid m → Piece {X = FieldsKept n fs} (λ y. y.marked) m (fields_text fs) Any
 fields_piece no_fields v = as_rule nothing (λ y. record { marked = _; trees = _; rule = no_fields; like = refl }) (λ y. refl) refl refl
@@ -59,13 +59,13 @@ pub record MoreParamsKept (n : ℕ) (ps : List ParamTree) : Type 0 where
   pub marked : List Marked
   pub trees : List ParamTree
   pub rule : MoreParamsRule n marked trees
-  pub like : map bare_param trees ≡ map bare_param ps
+  pub like : map placeless_param trees ≡ map placeless_param ps
 
 pub record ParamsKept (ps : List ParamTree) : Type 0 where
   pub marked : List Marked
   pub trees : List ParamTree
   pub rule : ParamsRule marked trees
-  pub like : map bare_param trees ≡ map bare_param ps
+  pub like : map placeless_param trees ≡ map placeless_param ps
 
 more_apart : (ps : List ParamTree) (rest : List ℕ) → Closing rest → Apart (more_params_text ps ++ rest)
 more_apart [] rest (closing w) = refl
@@ -97,7 +97,7 @@ pub record RecordKept (r : RecordTree) : Type 0 where
   pub marked : List Marked
   pub tree : RecordTree
   pub rule : RecordRule marked tree
-  pub like : bare_record tree ≡ bare_record r
+  pub like : placeless_record tree ≡ placeless_record r
 
 record_by : (h w : List ℕ) → line 0 (h ++ codes " {") ++ w ++ line 0 (codes "};") ≡ line 0 (h ++ (32 ∷ (123 ∷ (10 ∷ (w ++ (125 ∷ (59 ∷ [])))))))
 record_by h w = simp append_assoc refl
@@ -118,16 +118,16 @@ record_piece (fields {f = f} {fs = fs} at p q r x xs rule e) v =
     (λ y. kept_marks y.0 y.1.0 y.1.1.0 y.1.1.1.1.0 y.1.1.1.1.1 y.1.1.1.0.marked y.1.1.1.0.trees y.1.1.1.0.rule y.1.1.1.0.like)
     e (record_text x.name (fields_text (f ∷ fs)))
   where
-    kept : (at' x' p' q' r' : Place) (xs' : List Marked) (ts : List ParamTree) → FieldsRule 1 xs' ts → map bare_param ts ≡ map bare_param (f ∷ fs) → RecordKept (record { at = at; name = x; fields = f ∷ fs })
+    kept : (at' x' p' q' r' : Place) (xs' : List Marked) (ts : List ParamTree) → FieldsRule 1 xs' ts → map placeless_param ts ≡ map placeless_param (f ∷ fs) → RecordKept (record { at = at; name = x; fields = f ∷ fs })
     kept at' x' p' q' r' xs' [] rule' like = absurd (nil_cons _ _ like)
     kept at' x' p' q' r' xs' (t ∷ ts) rule' like = record {
       marked = _;
       tree = _;
       rule = fields at' p' q' r' (record { name = x.name; at = x' }) xs' rule' refl;
-      like = ap (λ l. record { at = first_place; name = bare_ident x; fields = l }) like;
+      like = ap (λ l. record { at = first_place; name = placeless_ident x; fields = l }) like;
     }
 
-    kept_marks : (at' x' p' q' r' : Place) (xs' : List Marked) (ts : List ParamTree) (rule' : FieldsRule 1 xs' ts) (like : map bare_param ts ≡ map bare_param (f ∷ fs))
+    kept_marks : (at' x' p' q' r' : Place) (xs' : List Marked) (ts : List ParamTree) (rule' : FieldsRule 1 xs' ts) (like : map placeless_param ts ≡ map placeless_param (f ∷ fs))
         → (kept at' x' p' q' r' xs' ts rule' like).marked ≡ word_at word.Struct at' ∷ (name_at (record { name = x.name; at = x' }) ∷ (sign_at sign.OpenCurly p' ∷ (xs' ++ (sign_at sign.CloseCurly q' ∷ (sign_at sign.Semicolon r' ∷ [])))))
     kept_marks at' x' p' q' r' xs' [] rule' like = absurd (nil_cons _ _ like)
     kept_marks at' x' p' q' r' xs' (t ∷ ts) rule' like = refl
@@ -138,7 +138,7 @@ pub record RoutineKept (actor : Bool) (t : TypeTree) (r : RoutineTree) : Type 0 
   pub marked : List Marked
   pub make : Place → RoutineTree
   pub rule : (at : Place) → RoutineRule actor at t marked (make at)
-  pub like : (at : Place) → bare_routine (make at) ≡ bare_routine r
+  pub like : (at : Place) → placeless_routine (make at) ≡ placeless_routine r
 
 abbrev tail_text : RoutineTree → List ℕ
 tail_text r = r.name.name ++ (40 ∷ (params_text r.params ++ (41 ∷ (32 ∷ braced 0 (body_text 1 r.body)))))
@@ -149,8 +149,8 @@ routine_is w r = routine_by w r.name.name (params_text r.params) (body_text 1 r.
     routine_by : (w n p b : List ℕ) → line 0 (w ++ codes " " ++ n ++ codes "(" ++ p ++ codes ") {") ++ b ++ line 0 (codes "}") ≡ line 0 (w ++ (32 ∷ (n ++ (40 ∷ (p ++ (41 ∷ (32 ∷ braced 0 b)))))))
     routine_by w n p b = simp append_assoc refl
 
-same_length : (xs ys : List ParamTree) → map bare_param xs ≡ map bare_param ys → length ys ≡ length xs
-same_length xs ys e = omega (arith, ap length e, length-map xs bare_param, length-map ys bare_param)
+same_length : (xs ys : List ParamTree) → map placeless_param xs ≡ map placeless_param ys → length ys ≡ length xs
+same_length xs ys e = omega (arith, ap length e, length-map xs placeless_param, length-map ys placeless_param)
 
 pub routine_piece : {actor : Bool} {at : Place} {t : TypeTree} {m : List Marked} {r : RoutineTree} → RoutineRule actor at t m r → AllValid m
     → Piece {X = RoutineKept actor t r} (λ y. y.marked) m (tail_text r) Any
@@ -165,7 +165,7 @@ routine_piece {actor} {at} {t} (routine {c = c} {ps = ps} p q r close x params x
       make = λ at'. record { at = at'; returns = t; name = record { name = x.name; at = y.0 }; params = y.1.1.0.trees; body = y.1.1.1.1.1.0.tree; close = y.1.1.1.1.1.1 };
       rule = λ at'. routine y.1.0 y.1.1.1.0 y.1.1.1.1.0 y.1.1.1.1.1.1 (record { name = x.name; at = y.0 }) y.1.1.0.marked y.1.1.1.1.1.0.marked y.1.1.0.rule
           (subst (λ n. StmtsRule actor 2 (record { statements = 0; variables = n }) c y.1.1.1.1.1.0.marked y.1.1.1.1.1.0.tree) (same_length y.1.1.0.trees ps y.1.1.0.like) y.1.1.1.1.1.0.rule) refl;
-      like = λ at'. λ i. record { at = first_place; returns = t; name = bare_ident x; params = y.1.1.0.like i; body = y.1.1.1.1.1.0.like i; close = first_place };
+      like = λ at'. λ i. record { at = first_place; returns = t; name = placeless_ident x; params = y.1.1.0.like i; body = y.1.1.1.1.1.0.like i; close = first_place };
     })
     (λ y. refl) e refl
 
@@ -178,7 +178,7 @@ pub record DeclKept (x : DeclTree) : Type 0 where
   pub marked : List Marked
   pub tree : DeclTree
   pub rule : DeclRule marked tree
-  pub like : bare_decl tree ≡ bare_decl x
+  pub like : placeless_decl tree ≡ placeless_decl x
   pub some : 0 < length marked
 
 record_some : {m : List Marked} {r : RecordTree} → RecordRule m r → 0 < length m
@@ -226,7 +226,7 @@ pub record DeclsKept (n : ℕ) (xs : List DeclTree) : Type 0 where
   pub marked : List Marked
   pub trees : List DeclTree
   pub rule : DeclsRule n marked trees
-  pub like : map bare_decl trees ≡ map bare_decl xs
+  pub like : map placeless_decl trees ≡ map placeless_decl xs
 
 pub decls_piece : {n : ℕ} {m : List Marked} {xs : List DeclTree} → DeclsRule n m xs → AllValid m → Piece {X = DeclsKept n xs} (λ y. y.marked) m (decls_text xs) Any
 decls_piece no_decls v = as_rule nothing (λ y. record { marked = _; trees = _; rule = no_decls; like = refl }) (λ y. refl) refl refl

@@ -16,7 +16,7 @@ use Rattle.flow_tree.specs.Spelling.{word_bytes, sign_bytes}
 use Rattle.flow_tree.specs.Tree.{TypeTree, ExprTree, ExprTrees, IntExpr, TextExpr, BoolExpr, VoidExpr, VarExpr, CallExpr, FieldExpr, MethodExpr, NotExpr, NegExpr, BinaryExpr, ParenExpr, NoExprs, MoreExprs}
 use Rattle.flow_tree.specs.GrammarToken.{Node, Marked, opens, begin}
 use Rattle.flow_tree.specs.Grammar.{sign_at, node_sign, Wrapper, FutureOf, FutureStreamOf, PromiseOf, PromiseStreamOf, wrapper_word, wrapped, TypeRule, int_type, bool_type, string_type, void_type, error_type, named_type, wrapped_type, level, op_sign, ExprRule, number, text, truth, falsehood, void, variable, call, paren, field, method, negation, minus, binary, ArgsRule, no_args, some_args, MoreArgsRule, end_args, more_args}
-use Rattle.flow_tree.specs.Canon.{type_text, minus_gap, expr_text, args_text, more_args_text, bare_ident, bare_expr, bare_exprs}
+use Rattle.flow_tree.specs.Canon.{type_text, minus_gap, expr_text, args_text, more_args_text, placeless_ident, placeless_expr, placeless_exprs}
 use Rattle.flow_lex.proofs.Bytes.{true_false, word_is_name}
 use Rattle.flow_show.proofs.Going.{Piece, nothing, both, as_rule, begun, spaced, under}
 use Rattle.flow_show.proofs.TokenPieces.{Apart, name_piece, word_piece, sign_piece, Ends, opens_expr, open_round_ends, close_round_ends, comma_ends, dot_ends, not_ends, minus_ends, less_ends, greater_greater, space_ends}
@@ -111,19 +111,19 @@ pub record ExprKept (k d : ℕ) (t : ExprTree) : Type 0 where
   pub marked : List Marked
   pub tree : ExprTree
   pub rule : ExprRule k d marked tree
-  pub like : bare_expr tree ≡ bare_expr t
+  pub like : placeless_expr tree ≡ placeless_expr t
 
 pub record ArgsKept (d : ℕ) (ts : ExprTrees) : Type 0 where
   pub marked : List Marked
   pub trees : ExprTrees
   pub rule : ArgsRule d marked trees
-  pub like : bare_exprs trees ≡ bare_exprs ts
+  pub like : placeless_exprs trees ≡ placeless_exprs ts
 
 pub record MoreArgsKept (d : ℕ) (ts : ExprTrees) : Type 0 where
   pub marked : List Marked
   pub trees : ExprTrees
   pub rule : MoreArgsRule d marked trees
-  pub like : bare_exprs trees ≡ bare_exprs ts
+  pub like : placeless_exprs trees ≡ placeless_exprs ts
 
 pub expr_some : {k d : ℕ} {m : List Marked} {t : ExprTree} → ExprRule k d m t → 0 < length m
 expr_some (number n p) = omega arith
@@ -323,7 +323,7 @@ mutual
       (both (name_piece (Node d ∷ []) f.name f.at (valid_head a))
       (both (sign_piece [] sign.OpenRound p)
       (both (args_piece r (valid_left args _ (valid_tail (valid_tail a)))) (shut q) (λ rest g. closing rest)) (λ rest g. open_round_ends _)) (λ rest g. refl))
-      (λ x. record { marked = _; tree = _; rule = call (record { name = f.name; at = x.0 }) x.1.0 x.1.1.1 x.1.1.0.marked x.1.1.0.rule refl; like = ap (CallExpr (bare_ident f)) x.1.1.0.like })
+      (λ x. record { marked = _; tree = _; rule = call (record { name = f.name; at = x.0 }) x.1.0 x.1.1.1 x.1.1.0.marked x.1.1.0.rule refl; like = ap (CallExpr (placeless_ident f)) x.1.1.0.like })
       (λ x. refl) e (call_text f.name (args_text ts))
   expr_piece {k} {d} (paren p q of r e) v =
       let a = subst AllValid e v in
@@ -336,7 +336,7 @@ mutual
       as_rule
       (both (begun (Node d) (λ y. expr_some y.rule) (expr_some r) (expr_piece r (valid_begun (Node d) of (valid_left (begin (Node d) of) _ a))))
       (both (sign_piece [] sign.Dot p) (name_piece [] x.name x.at (valid_head (valid_tail (valid_right (begin (Node d) of) _ a)))) (λ rest g. dot_ends _)) (λ rest g. refl))
-      (λ y. record { marked = _; tree = _; rule = field y.1.0 (record { name = x.name; at = y.1.1 }) y.0.marked y.0.rule refl; like = ap (λ u. FieldExpr u (bare_ident x)) y.0.like })
+      (λ y. record { marked = _; tree = _; rule = field y.1.0 (record { name = x.name; at = y.1.1 }) y.0.marked y.0.rule refl; like = ap (λ u. FieldExpr u (placeless_ident x)) y.0.like })
       (λ y. refl) e (field_text (expr_text t) x.name)
   expr_piece {k} {d} (method {t = t} {ts = ts} p q r f of args b c e) v =
       let a = subst AllValid e v in
@@ -351,7 +351,7 @@ mutual
         marked = _;
         tree = _;
         rule = method y.1.0 y.1.1.1.0 y.1.1.1.1.1 (record { name = f.name; at = y.1.1.0 }) y.0.marked y.1.1.1.1.0.marked y.0.rule y.1.1.1.1.0.rule refl;
-        like = ap₂ (λ u us. MethodExpr u (bare_ident f) us) y.0.like y.1.1.1.1.0.like;
+        like = ap₂ (λ u us. MethodExpr u (placeless_ident f) us) y.0.like y.1.1.1.1.0.like;
       })
       (λ y. refl) e (method_text (expr_text t) f.name (args_text ts))
   expr_piece {k} {d} (negation {t = t} p of le r e) v =

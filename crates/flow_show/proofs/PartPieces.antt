@@ -13,7 +13,7 @@ use Rattle.flow_tree.specs.Body.{IntoTree, WaitTree, PlusChange, MinusChange, Up
 use Rattle.flow_tree.specs.GrammarToken.{Statement, Node, Marked, begin}
 use Rattle.flow_tree.specs.Grammar.{name_at, TypeRule}
 use Rattle.flow_tree.specs.GrammarStmt.{Counts, state_parts, begin_statement, StartsAt, StateRule, no_state, some_state, IntoRule, declared, OperandRule, wait, wait_next, WaitingRule, plain_wait, into_wait, PathRule, last_name, more_names, AssignRule, assign, plus, minus, up, down, InitRule, declare, declare_value, change, InitPart, no_init, some_init, StepPart, no_step, some_step, MaybeExprRule, no_expr, some_expr}
-use Rattle.flow_tree.specs.Canon.{type_text, expr_text, path_text, into_text, waiting_text, maybe_text, part_text, first_place, bare_ident, bare_expr, bare_into, bare_wait, bare_body}
+use Rattle.flow_tree.specs.Canon.{type_text, expr_text, path_text, into_text, waiting_text, maybe_text, part_text, first_place, placeless_ident, placeless_expr, placeless_into, placeless_wait, placeless_body}
 use Rattle.flow_show.proofs.Going.{Piece, Gap, nothing, both, as_rule, begun, begin_some, behind, spaced, under}
 use Rattle.flow_show.proofs.TokenPieces.{Apart, name_piece, word_piece, sign_piece, open_round_ends, dot_ends, plus_plus_ends, minus_minus_ends, space_ends}
 use Rattle.flow_show.proofs.Valid.{AllValid, valid_head, valid_tail, valid_left, valid_right, valid_begun}
@@ -38,7 +38,7 @@ pub record IntoKept (actor : Bool) (d : ℕ) (c c' : Counts) (i : IntoTree) : Ty
   pub marked : List Marked
   pub tree : IntoTree
   pub rule : IntoRule actor d c c' marked tree
-  pub like : bare_into tree ≡ bare_into i
+  pub like : placeless_into tree ≡ placeless_into i
   pub some : 0 < length marked
 
 named_is : (t n : List ℕ) → t ++ codes " " ++ n ≡ t ++ (32 ∷ n)
@@ -84,7 +84,7 @@ pub record OperandKept (d : ℕ) (next : Bool) (t : ExprTree) : Type 0 where
   pub marked : List Marked
   pub tree : ExprTree
   pub rule : OperandRule d marked next tree
-  pub like : bare_expr tree ≡ bare_expr t
+  pub like : placeless_expr tree ≡ placeless_expr t
   pub some : 0 < length marked
 
 operand_piece : {d : ℕ} {m : List Marked} {next : Bool} {t : ExprTree} → OperandRule d m next t → AllValid m
@@ -104,7 +104,7 @@ pub record WaitKept (actor : Bool) (d : ℕ) (c c' : Counts) (w : WaitTree) : Ty
   pub marked : List Marked
   pub tree : WaitTree
   pub rule : WaitingRule actor d c c' marked tree
-  pub like : bare_wait tree ≡ bare_wait w
+  pub like : placeless_wait tree ≡ placeless_wait w
   pub some : 0 < length marked
 
 wait_text : (i w e : List ℕ) → i ++ codes " = " ++ w ++ e ++ codes ")" ≡ i ++ (32 ∷ (61 ∷ (32 ∷ (w ++ (e ++ codes ")")))))
@@ -135,7 +135,7 @@ pub record PathKept (xs : List Ident) : Type 0 where
   pub marked : List Marked
   pub tree : List Ident
   pub rule : PathRule marked tree
-  pub like : map bare_ident tree ≡ map bare_ident xs
+  pub like : map placeless_ident tree ≡ map placeless_ident xs
   pub some : 0 < length marked
 
 path_more : {m : List Marked} {xs : List Ident} (x : Ident) → PathRule m xs → path_text (x ∷ xs) ≡ x.name ++ (46 ∷ path_text xs)
@@ -148,7 +148,7 @@ path_piece (last_name x) v =
 path_piece (more_names x p more r e) v =
     let a = subst AllValid e v in
     as_rule (both (name_piece [] x.name x.at (valid_head a)) (both (sign_piece [] sign.Dot p) (path_piece r (valid_tail (valid_tail a))) (λ rest g. dot_ends _)) (λ rest g. refl))
-    (λ y. record { marked = _; tree = _; rule = more_names (record { name = x.name; at = y.0 }) y.1.0 y.1.1.marked y.1.1.rule refl; like = ap (λ l. bare_ident x ∷ l) y.1.1.like; some = omega arith })
+    (λ y. record { marked = _; tree = _; rule = more_names (record { name = x.name; at = y.0 }) y.1.0 y.1.1.marked y.1.1.rule refl; like = ap (λ l. placeless_ident x ∷ l) y.1.1.like; some = omega arith })
     (λ y. refl) e (path_more x r)
 
 -- what is put before a body: the new tokens put something equal, places aside, before any body
@@ -158,7 +158,7 @@ pub record PutKept (R : List Marked → Place → Body → Body → Type 0) (res
   pub at : Place
   pub make : Body → Body
   pub rule : (r : Body) → R marked at r (make r)
-  pub like : (r : Body) → bare_body r ≡ bare_body rest → bare_body (make r) ≡ bare_body body
+  pub like : (r : Body) → placeless_body r ≡ placeless_body rest → placeless_body (make r) ≡ placeless_body body
   pub some : 0 < length marked
 
 assign_is : (p e : List ℕ) → p ++ codes " = " ++ e ≡ p ++ (32 ∷ (61 ∷ (32 ∷ e)))
@@ -280,7 +280,7 @@ pub record PartKept (R : List Marked → Body → Type 0) (body : Body) : Type 0
   pub marked : List Marked
   pub tree : Body
   pub rule : R marked tree
-  pub like : bare_body tree ≡ bare_body body
+  pub like : placeless_body tree ≡ placeless_body body
 
 -- a statement's first token begins it
 pub stated : {X : Type 0} {mx : X → List Marked} {o : List Marked} {w : List ℕ} {F : List ℕ → Type 0} (c : Counts) (d : ℕ) → ((x : X) → 0 < length (mx x)) → 0 < length o
@@ -309,7 +309,7 @@ pub record MaybeKept (d : ℕ) (t : Option ExprTree) : Type 0 where
   pub marked : List Marked
   pub tree : Option ExprTree
   pub rule : MaybeExprRule d marked tree
-  pub like : option_map bare_expr tree ≡ option_map bare_expr t
+  pub like : option_map placeless_expr tree ≡ option_map placeless_expr t
 
 pub maybe_piece : {d : ℕ} {m : List Marked} {t : Option ExprTree} {w : List ℕ} → Gap w → MaybeExprRule d m t → AllValid m
     → Piece {X = MaybeKept d t} (λ y. y.marked) m (maybe_text w t) Apart

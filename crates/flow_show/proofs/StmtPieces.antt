@@ -11,7 +11,7 @@ use Rattle.flow_tree.specs.Body.{Body, End, BlockStmt, IfStmt, IfElseStmt, While
 use Rattle.flow_tree.specs.GrammarToken.{Node, Branch, Marked}
 use Rattle.flow_tree.specs.Grammar.{sign_at}
 use Rattle.flow_tree.specs.GrammarStmt.{Counts, begin_statement, StartsAt, assign, plus, minus, up, down, InitRule, declare, declare_value, change, PlainRule, if_stmt, if_else_stmt, while_stmt, for_stmt, loop_stmt, break_stmt, continue_stmt, return_stmt, throw_stmt, try_stmt, choose_stmt, init_stmt, wait_stmt, call_stmt, StmtRule, block_stmt, plain_stmt, BlockRule, braces, BodyRule, block_body, one_body, StmtsRule, no_stmts, more_stmts, WhensRule, no_whens, more_whens, WhenRule, branch}
-use Rattle.flow_tree.specs.Canon.{expr_text, args_text, path_text, waiting_text, maybe_text, part_text, line, indent, body_text, branches_text, first_place, bare_ident, bare_body, bare_branches}
+use Rattle.flow_tree.specs.Canon.{expr_text, args_text, path_text, waiting_text, maybe_text, part_text, line, indent, body_text, branches_text, first_place, placeless_ident, placeless_body, placeless_branches}
 use Rattle.flow_show.proofs.Going.{Piece, Any, all_parts, parts_cat, nothing, both, as_rule, behind, spaced, lined, under, blank, indent_gap, no_gap, reparted}
 use Rattle.flow_show.proofs.TokenPieces.{Apart, name_piece, word_piece, sign_piece, open_round_ends, close_round_ends, open_curly_ends, close_curly_ends, semicolon_ends, space_ends}
 use Rattle.flow_show.proofs.Valid.{AllValid, valid_head, valid_tail, valid_left, valid_right}
@@ -50,7 +50,7 @@ pub record PlainKept (actor : Bool) (d : ℕ) (c c' : Counts) (rest body : Body)
   pub make : Body → Body
   pub ends : Bool
   pub rule : (r : Body) → PlainRule actor d c c' marked at r (make r) ends
-  pub like : (r : Body) → bare_body r ≡ bare_body rest → bare_body (make r) ≡ bare_body body
+  pub like : (r : Body) → placeless_body r ≡ placeless_body rest → placeless_body (make r) ≡ placeless_body body
   pub some : 0 < length marked
 
 pub record StmtKept (actor : Bool) (d : ℕ) (c c' : Counts) (rest body : Body) : Type 0 where
@@ -58,31 +58,31 @@ pub record StmtKept (actor : Bool) (d : ℕ) (c c' : Counts) (rest body : Body) 
   pub make : Body → Body
   pub ends : Bool
   pub rule : (r : Body) → StmtRule actor d c c' marked r (make r) ends
-  pub like : (r : Body) → bare_body r ≡ bare_body rest → bare_body (make r) ≡ bare_body body
+  pub like : (r : Body) → placeless_body r ≡ placeless_body rest → placeless_body (make r) ≡ placeless_body body
 
 pub record BlockKept (actor : Bool) (d : ℕ) (c c' : Counts) (body : Body) : Type 0 where
   pub marked : List Marked
   pub tree : Body
   pub rule : BlockRule actor d c c' marked tree
-  pub like : bare_body tree ≡ bare_body body
+  pub like : placeless_body tree ≡ placeless_body body
 
 pub record StmtsKept (actor : Bool) (d : ℕ) (c c' : Counts) (body : Body) : Type 0 where
   pub marked : List Marked
   pub tree : Body
   pub rule : StmtsRule actor d c c' marked tree
-  pub like : bare_body tree ≡ bare_body body
+  pub like : placeless_body tree ≡ placeless_body body
 
 pub record WhensKept (actor : Bool) (d n : ℕ) (c c' : Counts) (bs : Branches) : Type 0 where
   pub marked : List Marked
   pub tree : Branches
   pub rule : WhensRule actor d n c c' marked tree
-  pub like : bare_branches tree ≡ bare_branches bs
+  pub like : placeless_branches tree ≡ placeless_branches bs
 
 pub record WhenKept (actor : Bool) (d n : ℕ) (c c' : Counts) (rest bs : Branches) : Type 0 where
   pub marked : List Marked
   pub make : Branches → Branches
   pub rule : (r : Branches) → WhenRule actor d n c c' marked r (make r)
-  pub like : (r : Branches) → bare_branches r ≡ bare_branches rest → bare_branches (make r) ≡ bare_branches bs
+  pub like : (r : Branches) → placeless_branches r ≡ placeless_branches rest → placeless_branches (make r) ≡ placeless_branches bs
 
 -- a statement's own text, which the text of what follows comes behind
 pub record Own {X : Type 0} (mx : X → List Marked) (m : List Marked) (k : ℕ) (rest body : Body) : Type 0 where
@@ -324,7 +324,7 @@ mutual
               make = λ r. TryStmt y.0 y.1.0.tree y.1.1.0 (record { name = x.name; at = y.1.1.1.1.1.1.0 }) y.1.1.1.1.1.1.1.1.tree r;
               ends = false;
               rule = λ r. try_stmt y.0 y.1.1.0 y.1.1.1.0 y.1.1.1.1.0 y.1.1.1.1.1.0 y.1.1.1.1.1.1.1.0 (record { name = x.name; at = y.1.1.1.1.1.1.0 }) y.1.0.marked y.1.1.1.1.1.1.1.1.marked y.1.0.rule y.1.1.1.1.1.1.1.1.rule refl;
-              like = λ r h. λ i. TryStmt first_place (y.1.0.like i) first_place (bare_ident x) (y.1.1.1.1.1.1.1.1.like i) (h i);
+              like = λ r h. λ i. TryStmt first_place (y.1.0.like i) first_place (placeless_ident x) (y.1.1.1.1.1.1.1.1.like i) (h i);
               some = omega arith;
             })
             (λ y. refl) e (with_catch k x.name (body_text (suc k) b1) (body_text (suc k) b2));

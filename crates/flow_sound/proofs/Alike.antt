@@ -22,7 +22,7 @@ use Rattle.flow_heapstate.specs.Referring.{references}
 use Rattle.flow_heapstate.specs.Sound.{cell_times, stream_times, cell_at, stream_at, actor_at, SoundHeap, RestsWith}
 use Rattle.flow_heapstate.specs.Judging.{is_sound}
 use Rattle.flow_heapstate.proofs.Judged.{sound_decided}
-use Rattle.flow_meaning.specs.Asks.{Spot}
+use Rattle.flow_meaning.specs.Requests.{Spot}
 use Rattle.flow_meaning.specs.Cells.{Side, Cell, Single, Stream}
 use Rattle.flow_meaning.specs.Process.{Entry, Proc}
 use Rattle.flow_meaning.specs.Step.{kept_by}
@@ -31,10 +31,10 @@ use Rattle.flow_meaning.proofs.InOrder.{no_thing}
 use Rattle.flow_meaning.proofs.Shifts.{same_of}
 use Rattle.flow_picture.specs.Counted.{memory_side, count_at, kept_count}
 use Rattle.flow_picture.specs.Rested.{InNumbers, Sorted, Rested}
-use Rattle.flow_picture.specs.Shows.{cell_number, error_number, spot_of_actor, CellShows, Position, here, at_wait, FrameShows, stands, ended, ActorShows, nobody, somebody, TasksShow, Shows}
-use Rattle.flow_poised.specs.Poised.{Poised, is_waiting}
+use Rattle.flow_picture.specs.Representing.{cell_number, error_number, spot_of_actor, CellRepresents, Position, here, at_wait, FrameRepresents, stands, ended, ActorRepresents, nobody, somebody, TasksRepresent, Represents}
+use Rattle.flow_poised.specs.StaleWaits.{NoStaleWaits, is_waiting}
 use Rattle.flow_steps.specs.declared.process.Process.{Process}
-use Rattle.flow_sound.specs.Restored.{Increase, InOrder, ProcessesRestored}
+use Rattle.flow_sound.specs.Restored.{Increase, HeapInOrder, ProcessesRestored}
 use Rattle.flow_sound.proofs.Standing.{no_true}
 use Rattle.flow_sound.proofs.Waiting.{part_at}
 use Rattle.flow_sound.proofs.Counting.{noted_has}
@@ -100,31 +100,31 @@ module _ (h g : HeapTree) (u : RestsWith (parts_of h) h) (t : RestsWith (parts_o
       (sym (part_at (λ y. y.actor) (actor_part g.actors.things) (λ y. refl) g.frames.things i) ∙ ap (λ q. actor_at q i) t.parts ∙ part_at (λ y. y.actor) (actor_part h.actors.things) (λ y. refl) h.frames.things i)
 
   -- the cells
-  single_shown : (spots : ℕ → Spot) (n : ℕ) (m l : CellTree Outcome) (x : Option Cell) → as_cell g n m ≡ as_cell h n l → CellShows spots (Some l) None x → CellShows spots (Some m) None x
+  single_shown : (spots : ℕ → Spot) (n : ℕ) (m l : CellTree Outcome) (x : Option Cell) → as_cell g n m ≡ as_cell h n l → CellRepresents spots (Some l) None x → CellRepresents spots (Some m) None x
   single_shown spots n m l None e s = absurd s
   single_shown spots n m l (Some (Single content ws)) e s = (s.0 ∙ sym (ap (λ (q : CellPart). q.content) e), ap (λ (q : CellPart). q.waiters) e ∙ s.1)
   single_shown spots n m l (Some (Stream q y w)) e s = absurd s
 
-  stream_shown : (spots : ℕ → Spot) (n : ℕ) (m l : StreamTree Value) (x : Option Cell) → as_stream g n m ≡ as_stream h n l → CellShows spots None (Some l) x → CellShows spots None (Some m) x
+  stream_shown : (spots : ℕ → Spot) (n : ℕ) (m l : StreamTree Value) (x : Option Cell) → as_stream g n m ≡ as_stream h n l → CellRepresents spots None (Some l) x → CellRepresents spots None (Some m) x
   stream_shown spots n m l None e s = absurd s
   stream_shown spots n m l (Some (Single content ws)) e s = absurd s
   stream_shown spots n m l (Some (Stream q y w)) e s =
       (s.0 ∙ sym (ap (λ (q : StreamPart). q.queue) e), s.1 ∙ sym (ap (λ (q : StreamPart). option_map error_number q.end) e), ap (λ (q : StreamPart). q.waiter) e ∙ s.2)
 
-  cell_shown : (spots : ℕ → Spot) (n : ℕ) (x : Option Cell) → CellShows spots (thing h.cells.things n) (thing h.streams.things n) x → CellShows spots (thing g.cells.things n) (thing g.streams.things n) x
+  cell_shown : (spots : ℕ → Spot) (n : ℕ) (x : Option Cell) → CellRepresents spots (thing h.cells.things n) (thing h.streams.things n) x → CellRepresents spots (thing g.cells.things n) (thing g.streams.things n) x
   cell_shown spots n x s = by_case (cells_alike n) (streams_alike n)
     where
-      here_too : {a b : Option (CellTree Outcome)} {c d : Option (StreamTree Value)} → a ≡ b → c ≡ d → CellShows spots a c x → CellShows spots b d x
-      here_too {a} {b} {c} {d} e f s = subst (λ o. CellShows spots b o x) f (subst (λ o. CellShows spots o c x) e s)
+      here_too : {a b : Option (CellTree Outcome)} {c d : Option (StreamTree Value)} → a ≡ b → c ≡ d → CellRepresents spots a c x → CellRepresents spots b d x
+      here_too {a} {b} {c} {d} e f s = subst (λ o. CellRepresents spots b o x) f (subst (λ o. CellRepresents spots o c x) e s)
 
       by_case : Alike (as_cell g n) (as_cell h n) (thing g.cells.things n) (thing h.cells.things n) → Alike (as_stream g n) (as_stream h n) (thing g.streams.things n) (thing h.streams.things n)
-          → CellShows spots (thing g.cells.things n) (thing g.streams.things n) x
+          → CellRepresents spots (thing g.cells.things n) (thing g.streams.things n) x
       by_case (neither a b) (neither c d) = here_too (b ∙ sym a) (d ∙ sym c) s
       by_case (both m l a b e) (neither c d) = here_too (sym a) (sym c) (single_shown spots n m l x e (here_too b d s))
       by_case (neither a b) (both m l c d e) = here_too (sym a) (sym c) (stream_shown spots n m l x e (here_too b d s))
       by_case (both m l a b e) (both i j c d f) = absurd (never x (here_too b d s))
         where
-          never : (o : Option Cell) → CellShows spots (Some l) (Some j) o → ⊥
+          never : (o : Option Cell) → CellRepresents spots (Some l) (Some j) o → ⊥
           never None s = s
           never (Some (Single content ws)) s = s
           never (Some (Stream q y w)) s = s
@@ -159,7 +159,7 @@ module _ (h g : HeapTree) (u : RestsWith (parts_of h) h) (t : RestsWith (parts_o
 
   -- the actors
   module _ (r : RawTree) where
-    frame_shown : (i : ℕ) (m l : FrameTree Value) (e : Entry) (f : Frame) → as_actor g i m ≡ as_actor h i l → waits l.state l.callbacks ≡ true → FrameShows r l e f → FrameShows r m e f
+    frame_shown : (i : ℕ) (m l : FrameTree Value) (e : Entry) (f : Frame) → as_actor g i m ≡ as_actor h i l → waits l.state l.callbacks ≡ true → FrameRepresents r l e f → FrameRepresents r m e f
     frame_shown i m l e f same asleep (ended x) = absurd (no_callback l.state l.callbacks asleep x.callbacks)
     frame_shown i m l e f same asleep (stands x) =
         let class : m.class ≡ l.class = ap (λ (q : ActorPart). q.class) same in
@@ -182,15 +182,15 @@ module _ (h g : HeapTree) (u : RestsWith (parts_of h) h) (t : RestsWith (parts_o
         by_position z (here a b c) = absurd (no_state l.state l.callbacks asleep a)
         by_position z (at_wait k a b) = at_wait k (z ∙ a) (z ∙ b)
 
-    actor_shown : (i : ℕ) (e : Option Entry) (f : Option Frame) → ActorShows r (thing h.actors.things i) (thing h.frames.things i) e f → ActorShows r (thing g.actors.things i) (thing g.frames.things i) e f
+    actor_shown : (i : ℕ) (e : Option Entry) (f : Option Frame) → ActorRepresents r (thing h.actors.things i) (thing h.frames.things i) e f → ActorRepresents r (thing g.actors.things i) (thing g.frames.things i) e f
     actor_shown i e f s = by_case (actors_alike i) s
       where
         nobody_noted : (o : Option Note) → thing g.actors.things i ≡ o → thing g.frames.things i ≡ None → o ≡ None
         nobody_noted None a b = refl
         nobody_noted (Some n) a b = absurd (no_true (subst IsSome b (all_at (λ x. IsSome (thing g.frames.things x.0)) g.actors.things t.rests.framed i n a)))
 
-        by_case : Alike (as_actor g i) (as_actor h i) (thing g.frames.things i) (thing h.frames.things i) → ActorShows r (thing h.actors.things i) (thing h.frames.things i) e f
-            → ActorShows r (thing g.actors.things i) (thing g.frames.things i) e f
+        by_case : Alike (as_actor g i) (as_actor h i) (thing g.frames.things i) (thing h.frames.things i) → ActorRepresents r (thing h.actors.things i) (thing h.frames.things i) e f
+            → ActorRepresents r (thing g.actors.things i) (thing g.frames.things i) e f
         by_case (neither a b) (nobody c d x y) = nobody (nobody_noted (thing g.actors.things i) refl a) a x y
         by_case (neither a b) (somebody x) = absurd (no_thing (sym b ∙ x.framed))
         by_case (both m l a b same) (nobody c d x y) = absurd (no_thing (sym d ∙ b))
@@ -215,15 +215,15 @@ module _ (h g : HeapTree) (u : RestsWith (parts_of h) h) (t : RestsWith (parts_o
                 class = class ∙ sym (ap (λ (q : ActorPart). q.class) same);
                 result = x.same.result ∙ ap (option_map cell_number) (sym result);
                 marked = x.same.marked ∙ ap (λ (z : Note). z.marked) note ∙ old.2 ∙ sym new.2;
-                frame = frame_shown i m l x.entry x.frame same old.3 (subst (λ z. FrameShows r z x.entry x.frame) memory x.same.frame);
+                frame = frame_shown i m l x.entry x.frame same old.3 (subst (λ z. FrameRepresents r z x.entry x.frame) memory x.same.frame);
               };
             })
 
-    pub shown_again : (p : Proc Frame) → Shows r h p → InNumbers p.core → InOrder g → Shows r g p
+    pub shown_again : (p : Proc Frame) → Represents r h p → InNumbers p.core → HeapInOrder g → Represents r g p
     shown_again p s numbers order = record {
       cells = λ k. cell_shown (spot_of_actor p.actors) k (thing p.core.cells k) (s.cells k);
       actors = λ i. actor_shown i (thing p.core.entries i) (thing p.actors i) (s.actors i);
-      tasks = subst (λ ts. TasksShow (spot_of_actor p.actors) (λ i. kept_by (thing p.core.entries i)) ts p.core.tasks) (u.rests.no_task ∙ sym t.rests.no_task) s.tasks;
+      tasks = subst (λ ts. TasksRepresent (spot_of_actor p.actors) (λ i. kept_by (thing p.core.entries i)) ts p.core.tasks) (u.rests.no_task ∙ sym t.rests.no_task) s.tasks;
       made = ap (λ (q : Parts). suc q.cells_made) t.parts ∙ s.made;
       started = ap (λ (q : Parts). suc q.actors_made) t.parts ∙ s.started;
       main = s.main ∙ ap (λ (q : Parts). option_map cell_number q.main) (sym t.parts);
@@ -232,10 +232,10 @@ module _ (h g : HeapTree) (u : RestsWith (parts_of h) h) (t : RestsWith (parts_o
           (λ k. sym (noted_has h.requests k) ∙ sym (requests_same k) ∙ noted_has g.requests k);
     }
 
-    pub poised_again : Poised g
+    pub poised_again : NoStaleWaits g
     poised_again i a e = is_waiting (sleeps g t.rests i a e).3
 
-    pub sorted_again : InOrder g → Sorted g
+    pub sorted_again : HeapInOrder g → Sorted g
     sorted_again order = record {
       cells = t.rests.cells_rise;
       streams = t.rests.streams_rise;
@@ -244,7 +244,7 @@ module _ (h g : HeapTree) (u : RestsWith (parts_of h) h) (t : RestsWith (parts_o
       ports = once g.ports order.ports;
     }
 
-    pub rested_again : (p : Proc Frame) → Rested r h p → InOrder g → Rested r g p
+    pub rested_again : (p : Proc Frame) → Rested r h p → HeapInOrder g → Rested r g p
     rested_again p s order = record {
       running = record {
         shows = shown_again p s.running.shows s.running.numbers order;
@@ -268,7 +268,7 @@ processes_restored r m n p s told made =
     let g = n.process.heap in
     let again : RestsWith (parts_of h) g = subst (λ q. RestsWith q g) made.told made.rests.heap in
     let filled = restored_in_order made.state (subst SoundHeap (sym made.told) told.sound) in
-    let rested = rested_again h g told.rests again r p s.rested (subst InOrder (sym made.made) filled.1) in
+    let rested = rested_again h g told.rests again r p s.rested (subst HeapInOrder (sym made.made) filled.1) in
     let sound : SoundHeap (parts_of g) = subst SoundHeap (sym again.parts) told.sound in (
       record {
         settled = record {

@@ -15,14 +15,14 @@ use Rattle.flow_meaning.specs.Process.{Entry, Proc}
 use Rattle.flow_meaning.specs.World as meaning
 use Rattle.flow_meaning.proofs.InOrder.{no_thing}
 use Rattle.flow_meaning.proofs.Shifts.{same_of}
-use Rattle.flow_picture.specs.Shows.{FrameShows, stands, ended, ActorShows, nobody, somebody}
+use Rattle.flow_picture.specs.Representing.{FrameRepresents, stands, ended, ActorRepresents, nobody, somebody}
 use Rattle.flow_follows.proofs.Stands.{get_mapped}
 use Rattle.flow_steps.specs.declared.process.Process.{Process}
 use Rattle.flow_steps.specs.Views.{frame_view, frames_in}
 use Rattle.flow_world.specs.declared.place.Place.{Place}
 use Rattle.flow_world.specs.Views.{frames_at}
-use Rattle.flow_events.specs.Showing.{PlacesShow}
-use Rattle.flow_run.specs.Straying.{SomeNoClass}
+use Rattle.flow_events.specs.Showing.{PlacesRepresent}
+use Rattle.flow_run.specs.StuckTraces.{SomeNoClass}
 use Rattle.flow_rested.specs.Boundary.{IsAtRest}
 use Rattle.flow_sound.specs.Worlds.{IsTold, AllTold}
 use Rattle.flow_sound.proofs.Alike.{no_callback, sleeps}
@@ -36,13 +36,13 @@ module _ (r : RawTree) (cs : List Class) (text : map class_of cs ≡ r.classes) 
   frame_classed : (m : Process) (p : Proc Frame) → IsAtRest r m p → IsTold m → (i : ℕ) (f : FrameTree Value) → thing m.heap.frames.things i ≡ Some f → slice_get cs f.class ≡ None → ⊥
   frame_classed m p s told i f e = by_case (s.rested.running.shows.actors i)
     where
-      by_frame : (x : Entry) (g : Frame) → FrameShows r f x g → slice_get cs f.class ≡ None → ⊥
+      by_frame : (x : Entry) (g : Frame) → FrameRepresents r f x g → slice_get cs f.class ≡ None → ⊥
       by_frame x g (stands t) none = class_there f.class g.code t.code none
       by_frame x g (ended t) none = no_callback f.state f.callbacks (sleeps m.heap told.rests.rests i f e).3 t.callbacks
 
-      by_case : ActorShows r (thing m.heap.actors.things i) (thing m.heap.frames.things i) (thing p.core.entries i) (thing p.actors i) → slice_get cs f.class ≡ None → ⊥
+      by_case : ActorRepresents r (thing m.heap.actors.things i) (thing m.heap.frames.things i) (thing p.core.entries i) (thing p.actors i) → slice_get cs f.class ≡ None → ⊥
       by_case (nobody a b c d) none = no_thing (sym b ∙ e)
-      by_case (somebody x) none = by_frame x.entry x.frame (subst (λ z. FrameShows r z x.entry x.frame) (same_of (sym x.framed ∙ e)) x.same.frame) none
+      by_case (somebody x) none = by_frame x.entry x.frame (subst (λ z. FrameRepresents r z x.entry x.frame) (same_of (sym x.framed ∙ e)) x.same.frame) none
 
   all_classed : (xs : Numbered (FrameTree Value)) → AllByRecursion (λ x. slice_get cs x.1.class ≡ None → ⊥) xs → SomeNoClass cs (map frame_view xs) → ⊥
   all_classed [] h t = t
@@ -54,7 +54,7 @@ module _ (r : RawTree) (cs : List Class) (text : map class_of cs ≡ r.classes) 
       all_classed m.heap.frames.things
       (all_things (λ x. slice_get cs x.1.class ≡ None → ⊥) m.heap.frames.things m.heap.frames.greatest s.rested.running.sorted.frames (frame_classed m p s told))
 
-  pub places_classed : (processes number : ℕ) (ats : List Place) (xs : List (meaning.Place Frame)) → PlacesShow (IsAtRest r) processes number ats xs → AllTold ats → (k : ℕ)
+  pub places_classed : (processes number : ℕ) (ats : List Place) (xs : List (meaning.Place Frame)) → PlacesRepresent (IsAtRest r) processes number ats xs → AllTold ats → (k : ℕ)
       → SomeNoClass cs (frames_at (slice_get ats k)) → ⊥
   places_classed n j [] xs s told k t = t
   places_classed n j (at ∷ ats) [] s told k t = s

@@ -25,7 +25,7 @@ use Rattle.flow_heapstate.specs.Referring as parts
 use Rattle.flow_heapstate.specs.Referring.{content_refs, place_refs, noted, named, waited, waits_of, cell_refs, stream_refs, actor_refs, result_refs}
 use Rattle.flow_meaning.specs.Cells.{Side, PromiseSide, FutureSide, side_of, Ref, Waiter, Cell, Single, Stream, is_some, as_list, good}
 use Rattle.flow_meaning.specs.Process.{Proc}
-use Rattle.flow_meaning.specs.Occ.{refs_in, one, count, count_maybe, count_waiters, count_kept, in_cells, in_entries, in_tasks, in_ports, in_requests}
+use Rattle.flow_meaning.specs.References.{refs_in, one, count, count_maybe, count_waiters, count_kept, in_cells, in_entries, in_tasks, in_ports, in_requests}
 use Rattle.flow_meaning.specs.Orderly.{Rising}
 use Rattle.flow_meaning.specs.Dropping.{port_of}
 use Rattle.flow_meaning.specs.Frame.{Frame}
@@ -33,7 +33,7 @@ use Rattle.flow_picture.specs.Counted.{references, frames_hold}
 use Rattle.flow_picture.specs.Holding.{held}
 use Rattle.flow_picture.specs.References.{cell_holds, entry_holds, frame_holds}
 use Rattle.flow_picture.specs.Rested.{NumbersRise, PortsRise, IsUnset, IsStream, has}
-use Rattle.flow_picture.specs.Shows.{cell_number, waiter_in, CellShows}
+use Rattle.flow_picture.specs.Representing.{cell_number, waiter_in, CellRepresents}
 use Rattle.flow_picture.proofs.Sums.{sum_by, cells_sum, entries_sum, frames_sum, count_joined}
 use Rattle.flow_picture.proofs.Holding.{all_held, memory_held}
 use Rattle.flow_sound.specs.Heaps.{Fitting}
@@ -180,7 +180,7 @@ module _ (s : Side) (j : ℕ) where
         requested : has_number h.requests n ≡ has n p.core.requests
         requested = noted_has h.requests n ∙ ap (has n) (sym f.rested.running.shows.requests)
 
-        by_case : (c : Option (CellTree Outcome)) (t : Option (StreamTree Value)) (x : Option Cell) → thing p.core.cells n ≡ x → CellShows (spots r h p f) c t x
+        by_case : (c : Option (CellTree Outcome)) (t : Option (StreamTree Value)) (x : Option Cell) → thing p.core.cells n ≡ x → CellRepresents (spots r h p f) c t x
             → if_there w_cell n c + if_there w_stream n t ≡ if_there (cell_holds s j) n x + (request n + port n)
         by_case None None None e k =
             let a = no_request n (subst IsUnset e) in

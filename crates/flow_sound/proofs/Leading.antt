@@ -31,7 +31,7 @@ use Rattle.flow_meaning.specs.Orderly.{Rising}
 use Rattle.flow_meaning.specs.Variables.{flat}
 use Rattle.flow_meaning.specs.Frame.{Frame}
 use Rattle.flow_picture.specs.Holds.{There, AllThere}
-use Rattle.flow_picture.specs.Shows.{cell_number}
+use Rattle.flow_picture.specs.Representing.{cell_number}
 use Rattle.flow_unstuck.specs.Places.{HoldsTypes}
 use Rattle.flow_unstuck.specs.Fitting.{typed_by, ContentFits, QueueFits, CellFits, CellAt}
 use Rattle.flow_kept.proofs.Theres.{all_both, ref_there, value_there}

@@ -24,30 +24,30 @@ use Rattle.flow_meaning.specs.World.{World, at_start}
 use Rattle.flow_allowed.specs.Tasking.{IsProgram}
 use Rattle.flow_awake.specs.Awake.{AreWhole, WorldRests}
 use Rattle.flow_awake.proofs.Worlds.{whole_rest}
-use Rattle.flow_runs.proofs.Runs.{runs_exist}
+use Rattle.flow_runs.proofs.Runs.{run_exists}
 use Rattle.flow_lower.specs.Compiled.{compiled}
 use Rattle.flow_machine.specs.declared.host.Burst.TheVariants.{Rested}
 use Rattle.flow_world.specs.declared.place.Place.{Place}
 use Rattle.flow_world.specs.Around.{Puts, no_line}
 use Rattle.flow_world.specs.Ending.{Seen}
 use Rattle.flow_world.specs.Happening.{Happens, EventDoes}
-use Rattle.flow_world.specs.Ports.{PortsShow}
+use Rattle.flow_world.specs.Ports.{PortsRepresent}
 use Rattle.flow_world.specs.Starting.{Starts}
-use Rattle.flow_world.specs.Telling.{tells}
+use Rattle.flow_world.specs.FaultedLines.{tells}
 use Rattle.flow_world.proofs.Putting.{puts_more, puts_one}
-use Rattle.flow_events.specs.Showing.{PlaceShows, PlacesShow, WorldShows}
+use Rattle.flow_events.specs.Showing.{PlaceRepresents, PlacesRepresent, WorldRepresents}
 use Rattle.flow_events.proofs.Next.{same_end}
 use Rattle.flow_events.proofs.Started.{start_shown}
 use Rattle.flow_run.specs.declared.ending.Ending.{Ending}
 use Rattle.flow_run.specs.declared.ending.Ending.TheVariants.{Idle, Bound, Spent}
-use Rattle.flow_run.specs.Straying.{FramesAmiss}
+use Rattle.flow_run.specs.StuckTraces.{FramesStuck}
 use Rattle.flow_run.specs.Ends.{end_line}
 use Rattle.flow_run.specs.Tracing.{lines_if, last_answer}
 use Rattle.flow_framed.specs.Framed.{ClassShown, seen_if, Shows, ends, spent, event}
 use Rattle.flow_framed.proofs.Alike.{shown_of_classes}
 use Rattle.flow_traced.specs.Traced.{FramesShown}
 use Rattle.flow_traced.proofs.Codes.{code_stays}
-use Rattle.flow_deeds.specs.Settling.{Settled}
+use Rattle.flow_deeds.specs.Quiescence.{Quiescent}
 use Rattle.flow_deeds.proofs.Settling.{settled_first}
 use Rattle.flow_lasting.proofs.Mid.{begun_mid, burst_mid}
 use Rattle.flow_happens.proofs.Whole.{happening, spent_happening}
@@ -57,7 +57,7 @@ use Rattle.flow_preserved.proofs.Carried.{are_carried}
 use Rattle.flow_faithful.proofs.Whole.{compiles_faithfully}
 use Rattle.flow_traces.proofs.Whole.{compiles_whole}
 use Rattle.flow_exact.specs.Exact.{HaveFewPlaces}
-use Rattle.flow_exact.specs.Events.{Upheld}
+use Rattle.flow_exact.specs.Events.{MemoryWorldInvariant}
 use Rattle.flow_exact.proofs.Events.{event_sure}
 use Rattle.flow_exact.proofs.Shown.{code_first}
 use Rattle.flow_exact.proofs.Upheld.{upheld_starts, upheld_stays}
@@ -77,9 +77,9 @@ few_places r few k x e = let l = few k x e in omega (arith, l)
 
 -- a world of which processes are made again shows the same world
 module _ (r : RawTree) where
-  place_again : (processes number : ℕ) (at now : Place) (x : meaning.Place Frame) → PlaceShows (IsAtRest r) processes number at x → IsTold at.machine.process → PlaceAgain at now
-      → PlaceShows (Settled r) processes number now x
-  place_again n k at now x s told (as_it_was e) = subst (λ z. PlaceShows (Settled r) n k z x) (sym e) (record {
+  place_again : (processes number : ℕ) (at now : Place) (x : meaning.Place Frame) → PlaceRepresents (IsAtRest r) processes number at x → IsTold at.machine.process → PlaceAgain at now
+      → PlaceRepresents (Quiescent r) processes number now x
+  place_again n k at now x s told (as_it_was e) = subst (λ z. PlaceRepresents (Quiescent r) n k z x) (sym e) (record {
     up = s.up;
     me = s.me;
     processes_are = s.processes_are;
@@ -91,11 +91,11 @@ module _ (r : RawTree) where
     me = ap (λ (z : ProcId). z.0) made.rests.number ∙ s.me;
     processes_are = made.rests.count ∙ s.processes_are;
     rests = (processes_restored r at.machine now.machine x.proc s.rests told made).0.settled;
-    ports = subst (λ ps. PortsShow ps x.proc.core.ports) (sym (ap (λ (z : Place). z.ports) e)) s.ports;
+    ports = subst (λ ps. PortsRepresent ps x.proc.core.ports) (sym (ap (λ (z : Place). z.ports) e)) s.ports;
   }
 
-  places_again : (processes number : ℕ) (ats nows : List Place) (xs : List (meaning.Place Frame)) → PlacesShow (IsAtRest r) processes number ats xs → AllTold ats → PlacesAgain ats nows
-      → PlacesShow (Settled r) processes number nows xs
+  places_again : (processes number : ℕ) (ats nows : List Place) (xs : List (meaning.Place Frame)) → PlacesRepresent (IsAtRest r) processes number ats xs → AllTold ats → PlacesAgain ats nows
+      → PlacesRepresent (Quiescent r) processes number nows xs
   places_again n k [] [] [] s told t = tt
   places_again n k [] [] (x ∷ xs) s told t = absurd s
   places_again n k [] (now ∷ nows) xs s told t = absurd t
@@ -103,8 +103,8 @@ module _ (r : RawTree) where
   places_again n k (at ∷ ats) (now ∷ nows) [] s told t = absurd s
   places_again n k (at ∷ ats) (now ∷ nows) (x ∷ xs) s told t = (place_again n k at now x s.0 told.0 t.0, places_again n (suc k) ats nows xs s.1 told.1 t.1)
 
-  world_again : (v w : Seen) (m : World Frame) → WorldShows (IsAtRest r) v m → AllTold v.places → WorldAgain v w → WorldShows (Settled r) w m
-  world_again v w m s told t = subst (λ z. WorldShows (Settled r) z m) (sym t.others) (record {
+  world_again : (v w : Seen) (m : World Frame) → WorldRepresents (IsAtRest r) v m → AllTold v.places → WorldAgain v w → WorldRepresents (Quiescent r) w m
+  world_again v w m s told t = subst (λ z. WorldRepresents (Quiescent r) z m) (sym t.others) (record {
     places = places_again m.out.file.processes 0 v.places w.places m.places s.places told t.places;
     outside = s.outside;
     script = s.script;
@@ -116,18 +116,18 @@ module _ (r : RawTree) where
 
 module _ (r : RawTree) (whole : AreWhole r) (few : HaveFewerPlaces r) (f : file.World) (range : IsInRange f) (states : List (World Frame)) (trace : List Line) (run : IsRun (classes r) f states trace) where
   abbrev Keeps : World Frame → Type 0
-  Keeps = Waits (Settled r) (Upheld r) (IsProgram r)
+  Keeps = Waits (Quiescent r) (MemoryWorldInvariant r) (IsProgram r)
 
   -- a world in memory on the way of the run, and the state that it shows, from which the run goes on
   record Here (v : Seen) (m : World Frame) : Type 0 where
     code : IsProgram r v.code
     text : raw_of v.code.program ≡ r
-    shows : WorldShows (Settled r) v m
+    shows : WorldRepresents (Quiescent r) v m
     keeps : Keeps m
     on : Onwards (classes r) states m.out.ran m
 
   -- it is at rest there, and what it tells is sound
-  at_rest : (v : Seen) (m : World Frame) → Here v m → WorldShows (IsAtRest r) v m × RestsInRun r f v
+  at_rest : (v : Seen) (m : World Frame) → Here v m → WorldRepresents (IsAtRest r) v m × RestsInRun r f v
   at_rest v m h =
       let there : slice_get states v.ran ≡ Some m = ap (slice_get states) h.shows.ran ∙ first_left states m.out.ran m h.on.rest h.on.left in
       let kept = holds_at (WorldRests r) states v.ran m (whole_rest r whole f states range (trace, run)) there in
@@ -137,9 +137,9 @@ module _ (r : RawTree) (whole : AreWhole r) (few : HaveFewerPlaces r) (f : file.
   told : (v : Seen) (m : World Frame) → Here v m → AllTold v.places
   told v m h = world_told r few whole.valid f v range (at_rest v m h).1
 
-  frames_classed : (v : Seen) (m : World Frame) → Here v m → FramesAmiss v → ⊥
-  frames_classed v m h amiss =
-      places_classed r v.code.program.classes.items (ap (λ (x : RawTree). x.classes) h.text) m.out.file.processes 0 v.places m.places (at_rest v m h).0.places (told v m h) amiss.0.0 amiss.1
+  frames_classed : (v : Seen) (m : World Frame) → Here v m → FramesStuck v → ⊥
+  frames_classed v m h stuck =
+      places_classed r v.code.program.classes.items (ap (λ (x : RawTree). x.classes) h.text) m.out.file.processes 0 v.places m.places (at_rest v m h).0.places (told v m h) stuck.0.0 stuck.1
 
   -- where processes are made again, the world is there still
   here_again : (v w : Seen) (m : World Frame) → Here v m → WorldAgain v w → Here w m
@@ -155,8 +155,8 @@ module _ (r : RawTree) (whole : AreWhole r) (few : HaveFewerPlaces r) (f : file.
     abbrev Shown : World Frame → List Line → Type 0
     Shown = Shows (classes r) frame_spot with_frames
 
-    seen_law : FramesShown (Settled r) Keeps (IsProgram r) with_frames r
-    seen_law = frames (Settled r) (Upheld r) (IsProgram r) with_frames r (λ m p s. (s.resting.shown.holds.shows, s.resting.sorted)) (λ m k. k.lasting.keeps.fits.count)
+    seen_law : FramesShown (Quiescent r) Keeps (IsProgram r) with_frames r
+    seen_law = frames (Quiescent r) (MemoryWorldInvariant r) (IsProgram r) with_frames r (λ m p s. (s.resting.shown.holds.shows, s.resting.sorted)) (λ m k. k.lasting.keeps.fits.count)
 
     -- so many events ran: where the run is then, the lines that were put, and how what is shown from there on is shown from the first on
     record Came (m : World Frame) (a : A) (v : Seen) (b : A) : Type 0 where
@@ -175,8 +175,8 @@ module _ (r : RawTree) (whole : AreWhole r) (few : HaveFewerPlaces r) (f : file.
         let left = shown.event.left in
         let own = lines_of begun left in
         let next = after w begun left in
-        let ongoing = (same_end (Settled r) puts u v w b c h.shows).2 does in
-        let kept = keeps_on (Settled r) (Upheld r) (IsProgram r) r (upheld_stays r whole.valid) w begun left h.keeps shown.event.begins shown.event.follows shown.rests in
+        let ongoing = (same_end (Quiescent r) puts u v w b c h.shows).2 does in
+        let kept = keeps_on (Quiescent r) (MemoryWorldInvariant r) (IsProgram r) r (upheld_stays r whole.valid) w begun left h.keeps shown.event.begins shown.event.follows shown.rests in
         let mid = burst_mid (classes r) w.out.ran (before begun) left shown.event.follows (begun_mid (classes r) w.out.ran w begun refl h.keeps.0.lasting.times shown.event.begins) in
         let stays = code_stays puts u v b c Rested does in
         let text = ap (λ (x : Code). raw_of x.program) stays ∙ h.text in
@@ -215,19 +215,19 @@ module _ (r : RawTree) (whole : AreWhole r) (few : HaveFewerPlaces r) (f : file.
     ended w v m a b Idle h does = record {
       own = [];
       put = subst (λ z. Puts puts a [] z) (sym does.2) no_line;
-      shows = ends line.EndIdle ((same_end (Settled r) puts w v m a b h.shows).0 does);
+      shows = ends line.EndIdle ((same_end (Quiescent r) puts w v m a b h.shows).0 does);
     }
     ended w v m a b Bound h does = record {
       own = [];
       put = subst (λ z. Puts puts a [] z) (sym does.3) no_line;
-      shows = ends line.EndBound ((same_end (Settled r) puts w v m a b h.shows).1 does);
+      shows = ends line.EndBound ((same_end (Quiescent r) puts w v m a b h.shows).1 does);
     }
     ended w v m a b Spent h does =
         let shown = spent_happening puts r w v m a b h.code h.shows h.keeps.0.lasting does in
         record {
           own = lines_of shown.event.begun shown.event.left;
           put = shown.event.lines;
-          shows = spent shown.event.begun shown.event.left ((same_end (Settled r) puts w v m a b h.shows).3 does) shown.event.begins shown.event.follows shown.spent;
+          shows = spent shown.event.begun shown.event.left ((same_end (Quiescent r) puts w v m a b h.shows).3 does) shown.event.begins shown.event.follows shown.spent;
         }
 
     -- from a boundary on up to the end
@@ -257,7 +257,7 @@ module _ (c : RawClasses) (file : World0) (whole : AreWhole (raw_of c)) (few : H
   start = record {
     code = code_first c file whole (few_places (raw_of c) few) first starts;
     text = ap raw_of starts.program;
-    shows = start_shown (Settled (raw_of c)) c file first (settled_first (raw_of c)) starts;
+    shows = start_shown (Quiescent (raw_of c)) c file first (settled_first (raw_of c)) starts;
     keeps = (upheld_starts (raw_of c) (seen file) range, start_waits (seen file));
     on = record { rest = run.later; lines = run.rest; runs = run.runs; left = run.from_start };
   }
@@ -266,21 +266,21 @@ module _ {A : Type 0} (puts : A → Line → Result (Unit {0}) OutFault → A �
   pub classes_rest_alike : ClassesRestAlike puts
   classes_rest_alike c file with_frames first v a b whole few range starts goes =
       let r = raw_of c in
-      let x = (runs_exist r whole.valid (seen file) range).is in
-      let lines = (runs_exist r whole.valid (seen file) range).lines in
+      let x = (run_exists r whole.valid (seen file) range).is in
+      let lines = (run_exists r whole.valid (seen file) range).lines in
       let k = came r whole few (seen file) range x.0 lines x.1 puts with_frames first v (at_start (seen file)) a b (start c file whole few range first starts x.0 lines x.1) goes in
       record {
         rests = (at_rest r whole few (seen file) range x.0 lines x.1 v k.last k.there).1;
         told = told r whole few (seen file) range x.0 lines x.1 v k.last k.there;
-        sure = λ s amiss. event_sure (tells puts) r v k.last s k.there.code k.there.shows k.there.keeps.0 amiss;
-        classed = λ amiss. frames_classed r whole few (seen file) range x.0 lines x.1 v k.last k.there amiss;
+        sure = λ s stuck. event_sure (tells puts) r v k.last s k.there.code k.there.shows k.there.keeps.0 stuck;
+        classed = λ stuck. frames_classed r whole few (seen file) range x.0 lines x.1 v k.last k.there stuck;
       }
 
   pub classes_go_on : ClassesGoOn puts
   classes_go_on c file with_frames first v a b y z e whole few range starts goes rest =
       let r = raw_of c in
-      let x = (runs_exist r whole.valid (seen file) range).is in
-      let lines = (runs_exist r whole.valid (seen file) range).lines in
+      let x = (run_exists r whole.valid (seen file) range).is in
+      let lines = (run_exists r whole.valid (seen file) range).lines in
       let k = came r whole few (seen file) range x.0 lines x.1 puts with_frames first v (at_start (seen file)) a b (start c file whole few range first starts x.0 lines x.1) goes in
       let l = rest_of r whole few (seen file) range x.0 lines x.1 puts with_frames v k.last y z e k.there rest in
       (k.lines, l.lines, record { rest = k.lines ++ l.lines; shows = k.goes l.lines l.shows; with_head = refl }, k.put, l.put, (l.front, l.with_end))

@@ -19,7 +19,7 @@ use Rattle.flow_heapstate.proofs.Restored.{in_order, whole, restored_is}
 use Rattle.flow_heapstate.proofs.Whole.{is_restored}
 use Rattle.flow_meaning.proofs.Posture.{same_number}
 use Rattle.flow_picture.specs.Rested.{NumbersRise, has}
-use Rattle.flow_sound.specs.Restored.{Increase, InOrder, RestoredInOrder}
+use Rattle.flow_sound.specs.Restored.{Increase, HeapInOrder, RestoredInOrder}
 use Rattle.flow_sound.proofs.Standing.{no_true}
 use Rattle.flow_sound.proofs.Counting.{noted_has}
 
@@ -123,7 +123,7 @@ notes_rise : (low : ℕ) (ss : List ActorState) → RisesFrom low (map actor_num
 notes_rise low [] h = omega arith
 notes_rise low (s ∷ ss) h = (h.0, notes_rise s.actor.0 ss h.1)
 
-whole_in_order : (s : HeapState) → SoundHeap (parts_kept s) → InOrder (whole s)
+whole_in_order : (s : HeapState) → SoundHeap (parts_kept s) → HeapInOrder (whole s)
 whole_in_order s h =
     let order = in_order s h in
     record {
@@ -133,4 +133,4 @@ whole_in_order s h =
     }
 
 pub restored_in_order : RestoredInOrder
-restored_in_order s h = (is_restored s h, subst InOrder (sym (restored_is s h)) (whole_in_order s h))
+restored_in_order s h = (is_restored s h, subst HeapInOrder (sym (restored_is s h)) (whole_in_order s h))

@@ -19,7 +19,7 @@ use Rattle.flow_heapstate.specs.Referring.{references}
 use Rattle.flow_heapstate.specs.Sound.{cell_times, stream_times, RestsWith}
 use Rattle.flow_heapstate.proofs.Numbers.{all_there}
 use Rattle.flow_heapstate.proofs.Recounting.{counts_same}
-use Rattle.flow_meaning.specs.Asks.{Spot}
+use Rattle.flow_meaning.specs.Requests.{Spot}
 use Rattle.flow_meaning.specs.Cells.{PromiseSide, FutureSide, Cell, Single, Stream, is_some}
 use Rattle.flow_meaning.specs.Process.{Task, Proc}
 use Rattle.flow_meaning.specs.Dropping.{port_of}
@@ -27,7 +27,7 @@ use Rattle.flow_meaning.specs.Frame.{Frame}
 use Rattle.flow_meaning.proofs.InOrder.{no_thing}
 use Rattle.flow_picture.specs.Counted.{count_at}
 use Rattle.flow_picture.specs.Rested.{has}
-use Rattle.flow_picture.specs.Shows.{TasksShow, ActorShows, nobody, somebody}
+use Rattle.flow_picture.specs.Representing.{TasksRepresent, ActorRepresents, nobody, somebody}
 use Rattle.flow_sound.specs.Heaps.{Fitting}
 use Rattle.flow_sound.proofs.Totals.{all_by, rising}
 use Rattle.flow_sound.proofs.Standing.{no_true, unmarked, unset_is, stream_is, single_at, single_back, stream_at, stream_back, actor_stands}
@@ -50,7 +50,7 @@ module _ (r : RawTree) (h : HeapTree) (p : Proc Frame) (f : Fitting r h p) where
   no_task : h.tasks ≡ []
   no_task = by_tasks _ _ h.tasks p.core.tasks f.rested.rest.no_tasks f.rested.running.shows.tasks
     where
-      by_tasks : (spots : ℕ → Spot) (kept : ℕ → ℕ) (ts : List stack.Task) (us : List Task) → us ≡ [] → TasksShow spots kept ts us → ts ≡ []
+      by_tasks : (spots : ℕ → Spot) (kept : ℕ → ℕ) (ts : List stack.Task) (us : List Task) → us ≡ [] → TasksRepresent spots kept ts us → ts ≡ []
       by_tasks spots kept [] us e s = refl
       by_tasks spots kept (t ∷ ts) [] e s = absurd s
       by_tasks spots kept (t ∷ ts) (u ∷ us) e s = absurd (cc (e))
@@ -63,7 +63,7 @@ module _ (r : RawTree) (h : HeapTree) (p : Proc Frame) (f : Fitting r h p) where
   framed : (i : ℕ) (n : Note) → thing h.actors.things i ≡ Some n → IsSome (thing h.frames.things i)
   framed i n e = by_case (f.rested.running.shows.actors i)
     where
-      by_case : ActorShows r (thing h.actors.things i) (thing h.frames.things i) (thing p.core.entries i) (thing p.actors i) → IsSome (thing h.frames.things i)
+      by_case : ActorRepresents r (thing h.actors.things i) (thing h.frames.things i) (thing p.core.entries i) (thing p.actors i) → IsSome (thing h.frames.things i)
       by_case (nobody a b c d) = absurd (no_thing (sym a ∙ e))
       by_case (somebody s) = some_there (thing h.frames.things i) s.memory s.framed
 

@@ -25,7 +25,7 @@ use Rattle.flow_heapstate.specs.Sound.{RiseTo, cell_at, stream_at, value_refs, r
 use Rattle.flow_meaning.specs.Cells as meaning
 use Rattle.flow_meaning.specs.Cells.{PromiseSide, FutureSide, Ref, Waiter, Cell, Single, Stream, is_ready, as_list, waiters}
 use Rattle.flow_meaning.specs.Process.{Proc}
-use Rattle.flow_meaning.specs.Occ.{one, in_ports}
+use Rattle.flow_meaning.specs.References.{one, in_ports}
 use Rattle.flow_meaning.specs.Dropping.{port_of}
 use Rattle.flow_meaning.specs.Frame.{Frame}
 use Rattle.flow_meaning.proofs.Posture.{same_number}
@@ -35,7 +35,7 @@ use Rattle.flow_picture.specs.Counted.{references, waiters_at}
 use Rattle.flow_picture.specs.Holds.{AllThere}
 use Rattle.flow_picture.specs.Losing.{RightCell}
 use Rattle.flow_picture.specs.Rested.{IsUnset, IsStream, has}
-use Rattle.flow_picture.specs.Shows.{cell_number, error_number, waiter_in}
+use Rattle.flow_picture.specs.Representing.{cell_number, error_number, waiter_in}
 use Rattle.flow_open.specs.Open.{IsOpen, Open}
 use Rattle.flow_fired.specs.Fired.{is_due, NobodyDue}
 use Rattle.flow_sound.specs.Heaps.{HaveFewerPlaces, Fitting, HeapsSound}

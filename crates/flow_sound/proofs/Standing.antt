@@ -15,14 +15,14 @@ use Rattle.flow_stream.specs.Streams.{StreamTree}
 use Rattle.flow_frame.specs.Frames.{FrameTree}
 use Rattle.flow_cancel.specs.declared.actors.Note.{Note}
 use Rattle.flow_cancel.specs.Heap.{HeapTree}
-use Rattle.flow_meaning.specs.Asks.{Spot}
+use Rattle.flow_meaning.specs.Requests.{Spot}
 use Rattle.flow_meaning.specs.Cells.{Waiter, Cell, Single, Stream}
 use Rattle.flow_meaning.specs.Process.{Entry, Proc}
 use Rattle.flow_meaning.specs.Orderly.{tasks_of}
 use Rattle.flow_meaning.specs.Frame.{Frame}
 use Rattle.flow_meaning.proofs.InOrder.{no_thing}
 use Rattle.flow_meaning.proofs.Shifts.{same_of}
-use Rattle.flow_picture.specs.Shows.{error_number, spot_of_actor, waiter_in, CellShows, ActorShows, nobody, somebody, OneActor, FrameShows, stands, ended, Stands}
+use Rattle.flow_picture.specs.Representing.{error_number, spot_of_actor, waiter_in, CellRepresents, ActorRepresents, nobody, somebody, OneActor, FrameRepresents, stands, ended, LiveFrameRepresents}
 use Rattle.flow_picture.specs.Rested.{IsUnset, IsStream}
 use Rattle.flow_unstuck.specs.Places.{HoldsTypes}
 use Rattle.flow_unstuck.specs.Fitting.{typed_by, PostureFits, ActorAt, ActorFits}
@@ -57,9 +57,9 @@ module _ (r : RawTree) (h : HeapTree) (p : Proc Frame) (f : Fitting r h p) where
     pub waiters_are : m.waiters ≡ map (waiter_in spots) waiters
 
   pub single_at : (n : ℕ) (m : CellTree Outcome) → thing h.cells.things n ≡ Some m → SingleAt n m
-  single_at n m e = by_case (thing h.streams.things n) (thing p.core.cells n) refl refl (subst (λ o. CellShows spots o (thing h.streams.things n) (thing p.core.cells n)) e (f.rested.running.shows.cells n))
+  single_at n m e = by_case (thing h.streams.things n) (thing p.core.cells n) refl refl (subst (λ o. CellRepresents spots o (thing h.streams.things n) (thing p.core.cells n)) e (f.rested.running.shows.cells n))
     where
-      by_case : (s : Option (StreamTree Value)) (c : Option Cell) → thing h.streams.things n ≡ s → thing p.core.cells n ≡ c → CellShows spots (Some m) s c → SingleAt n m
+      by_case : (s : Option (StreamTree Value)) (c : Option Cell) → thing h.streams.things n ≡ s → thing p.core.cells n ≡ c → CellRepresents spots (Some m) s c → SingleAt n m
       by_case None None a b s = absurd s
       by_case None (Some (Single content ws)) a b s = record { content = content; waiters = ws; at = b; apart = a; content_is = s.0; waiters_are = s.1 }
       by_case None (Some (Stream q x w)) a b s = absurd s
@@ -68,9 +68,9 @@ module _ (r : RawTree) (h : HeapTree) (p : Proc Frame) (f : Fitting r h p) where
       by_case (Some t) (Some (Stream q x w)) a b s = absurd s
 
   pub single_back : (n : ℕ) (content : Option OutcomeTree) (ws : List Waiter) → thing p.core.cells n ≡ Some (Single content ws) → (m : CellTree Outcome) × (thing h.cells.things n ≡ Some m)
-  single_back n content ws e = by_case (thing h.cells.things n) (thing h.streams.things n) refl (subst (CellShows spots (thing h.cells.things n) (thing h.streams.things n)) e (f.rested.running.shows.cells n))
+  single_back n content ws e = by_case (thing h.cells.things n) (thing h.streams.things n) refl (subst (CellRepresents spots (thing h.cells.things n) (thing h.streams.things n)) e (f.rested.running.shows.cells n))
     where
-      by_case : (c : Option (CellTree Outcome)) (s : Option (StreamTree Value)) → thing h.cells.things n ≡ c → CellShows spots c s (Some (Single content ws)) → (m : CellTree Outcome) × (thing h.cells.things n ≡ Some m)
+      by_case : (c : Option (CellTree Outcome)) (s : Option (StreamTree Value)) → thing h.cells.things n ≡ c → CellRepresents spots c s (Some (Single content ws)) → (m : CellTree Outcome) × (thing h.cells.things n ≡ Some m)
       by_case None None a s = absurd s
       by_case None (Some t) a s = absurd s
       by_case (Some m) None a s = (m, a)
@@ -88,9 +88,9 @@ module _ (r : RawTree) (h : HeapTree) (p : Proc Frame) (f : Fitting r h p) where
     pub waiter_is : m.waiter ≡ option_map (waiter_in spots) waiter
 
   pub stream_at : (n : ℕ) (m : StreamTree Value) → thing h.streams.things n ≡ Some m → StreamAt n m
-  stream_at n m e = by_case (thing h.cells.things n) (thing p.core.cells n) refl refl (subst (λ o. CellShows spots (thing h.cells.things n) o (thing p.core.cells n)) e (f.rested.running.shows.cells n))
+  stream_at n m e = by_case (thing h.cells.things n) (thing p.core.cells n) refl refl (subst (λ o. CellRepresents spots (thing h.cells.things n) o (thing p.core.cells n)) e (f.rested.running.shows.cells n))
     where
-      by_case : (s : Option (CellTree Outcome)) (c : Option Cell) → thing h.cells.things n ≡ s → thing p.core.cells n ≡ c → CellShows spots s (Some m) c → StreamAt n m
+      by_case : (s : Option (CellTree Outcome)) (c : Option Cell) → thing h.cells.things n ≡ s → thing p.core.cells n ≡ c → CellRepresents spots s (Some m) c → StreamAt n m
       by_case None None a b s = absurd s
       by_case None (Some (Single content ws)) a b s = absurd s
       by_case None (Some (Stream q x w)) a b s = record { queue = q; end = x; waiter = w; at = b; apart = a; queue_is = s.0; end_is = s.1; waiter_is = s.2 }
@@ -99,9 +99,9 @@ module _ (r : RawTree) (h : HeapTree) (p : Proc Frame) (f : Fitting r h p) where
       by_case (Some t) (Some (Stream q x w)) a b s = absurd s
 
   pub stream_back : (n : ℕ) (q : List ValueTree) (x : Option ℕ) (w : Option Waiter) → thing p.core.cells n ≡ Some (Stream q x w) → (m : StreamTree Value) × (thing h.streams.things n ≡ Some m)
-  stream_back n q x w e = by_case (thing h.cells.things n) (thing h.streams.things n) refl (subst (CellShows spots (thing h.cells.things n) (thing h.streams.things n)) e (f.rested.running.shows.cells n))
+  stream_back n q x w e = by_case (thing h.cells.things n) (thing h.streams.things n) refl (subst (CellRepresents spots (thing h.cells.things n) (thing h.streams.things n)) e (f.rested.running.shows.cells n))
     where
-      by_case : (c : Option (CellTree Outcome)) (s : Option (StreamTree Value)) → thing h.streams.things n ≡ s → CellShows spots c s (Some (Stream q x w)) → (m : StreamTree Value) × (thing h.streams.things n ≡ Some m)
+      by_case : (c : Option (CellTree Outcome)) (s : Option (StreamTree Value)) → thing h.streams.things n ≡ s → CellRepresents spots c s (Some (Stream q x w)) → (m : StreamTree Value) × (thing h.streams.things n ≡ Some m)
       by_case None None a s = absurd s
       by_case None (Some t) a s = (t, a)
       by_case (Some m) None a s = absurd s
@@ -116,7 +116,7 @@ module _ (r : RawTree) (h : HeapTree) (p : Proc Frame) (f : Fitting r h p) where
     pub entered : thing p.core.entries i ≡ Some entry
     pub acting : thing p.actors i ≡ Some frame
     pub same : OneActor r note m entry frame
-    pub stands : Stands r m entry frame
+    pub stands : LiveFrameRepresents r m entry frame
     pub asleep : entry.suspended ≡ true
     pub class : ClassTree
     pub is : slice_get r.classes entry.class ≡ Some class
@@ -150,14 +150,14 @@ module _ (r : RawTree) (h : HeapTree) (p : Proc Frame) (f : Fitting r h p) where
         holds = posture.1.holds;
       }
     where
-      by_frame : e.suspended ≡ true → FrameShows r m e g → Stands r m e g
+      by_frame : e.suspended ≡ true → FrameRepresents r m e g → LiveFrameRepresents r m e g
       by_frame asleep (stands s) = s
       by_frame asleep (ended x) = absurd (no_true (sym x.suspended ∙ asleep))
 
   pub actor_stands : (i : ℕ) (m : FrameTree Value) → thing h.frames.things i ≡ Some m → ActorStands i m
   actor_stands i m e = by_case (f.rested.running.shows.actors i)
     where
-      by_case : ActorShows r (thing h.actors.things i) (thing h.frames.things i) (thing p.core.entries i) (thing p.actors i) → ActorStands i m
+      by_case : ActorRepresents r (thing h.actors.things i) (thing h.frames.things i) (thing p.core.entries i) (thing p.actors i) → ActorStands i m
       by_case (nobody a b c d) = absurd (no_thing (sym b ∙ e))
       by_case (somebody s) =
           built i m s.note s.entry s.frame s.noted s.entered s.acting (subst (λ x. OneActor r s.note x s.entry s.frame) (same_of (sym s.framed ∙ e)) s.same)
@@ -174,7 +174,7 @@ module _ (r : RawTree) (h : HeapTree) (p : Proc Frame) (f : Fitting r h p) where
   pub actor_back : (i : ℕ) (e : Entry) → thing p.core.entries i ≡ Some e → (m : FrameTree Value) × (thing h.frames.things i ≡ Some m)
   actor_back i e at = by_case (f.rested.running.shows.actors i)
     where
-      by_case : ActorShows r (thing h.actors.things i) (thing h.frames.things i) (thing p.core.entries i) (thing p.actors i) → (m : FrameTree Value) × (thing h.frames.things i ≡ Some m)
+      by_case : ActorRepresents r (thing h.actors.things i) (thing h.frames.things i) (thing p.core.entries i) (thing p.actors i) → (m : FrameTree Value) × (thing h.frames.things i ≡ Some m)
       by_case (nobody a b c d) = absurd (no_thing (sym c ∙ at))
       by_case (somebody s) = (s.memory, s.framed)
 
@@ -182,6 +182,6 @@ module _ (r : RawTree) (h : HeapTree) (p : Proc Frame) (f : Fitting r h p) where
   pub nobody_there : (i : ℕ) → thing h.frames.things i ≡ None → (thing p.core.entries i ≡ None) × (thing p.actors i ≡ None)
   nobody_there i none = by_case (f.rested.running.shows.actors i)
     where
-      by_case : ActorShows r (thing h.actors.things i) (thing h.frames.things i) (thing p.core.entries i) (thing p.actors i) → (thing p.core.entries i ≡ None) × (thing p.actors i ≡ None)
+      by_case : ActorRepresents r (thing h.actors.things i) (thing h.frames.things i) (thing p.core.entries i) (thing p.actors i) → (thing p.core.entries i ≡ None) × (thing p.actors i ≡ None)
       by_case (nobody a b c d) = (c, d)
       by_case (somebody s) = absurd (no_thing (sym none ∙ s.framed))

@@ -16,7 +16,7 @@ use Rattle.flow_heapstate.specs.Referring.{Ref, content_refs, noted, named, wait
 use Rattle.flow_heapstate.specs.Sound.{value_refs, results}
 use Rattle.flow_meaning.specs.Cells.{side_of, Cell, Single, Stream}
 use Rattle.flow_meaning.specs.Process.{Proc}
-use Rattle.flow_meaning.specs.Occ.{same_side, one, count}
+use Rattle.flow_meaning.specs.References.{same_side, one, count}
 use Rattle.flow_meaning.specs.Frame.{Frame}
 use Rattle.flow_meaning.proofs.Posture.{same_number}
 use Rattle.flow_meaning.proofs.Shifts.{same_of}

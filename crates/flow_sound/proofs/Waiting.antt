@@ -15,7 +15,7 @@ use Rattle.flow_cancel.specs.Heap.{HeapTree, actor_id}
 use Rattle.flow_cancel.specs.Leaving.{is_waiter}
 use Rattle.flow_heapstate.specs.State.{cell_part, stream_part, actor_part, parts_of}
 use Rattle.flow_heapstate.specs.Sound.{at_number, cell_at, stream_at, actor_at, waits_in, WaitsAt, has_held, calls_back, IsWaiting}
-use Rattle.flow_meaning.specs.Asks.{Spot}
+use Rattle.flow_meaning.specs.Requests.{Spot}
 use Rattle.flow_meaning.specs.Cells.{Ref, Waiter, Cell, Single, Stream, waiters, as_list}
 use Rattle.flow_meaning.specs.Process.{Entry, Proc}
 use Rattle.flow_meaning.specs.Frame.{Frame}
@@ -23,7 +23,7 @@ use Rattle.flow_meaning.specs.Views.{spot_at}
 use Rattle.flow_meaning.proofs.Posture.{same_number}
 use Rattle.flow_meaning.proofs.Shifts.{same_of}
 use Rattle.flow_picture.specs.Counted.{branches_of, branches_at, waiters_at, waiting_by, waiting_of}
-use Rattle.flow_picture.specs.Shows.{waiter_in, held_from, wait_spot}
+use Rattle.flow_picture.specs.Representing.{waiter_in, held_from, wait_spot}
 use Rattle.flow_sound.specs.Heaps.{Fitting}
 use Rattle.flow_sound.proofs.Standing.{spots, SingleAt, single_at, single_back, StreamAt, stream_back, ActorStands, actor_stands, actor_back}
 use Rattle.flow_sound.proofs.Standing as standing

@@ -30,7 +30,7 @@ use Rattle.flow_awake.specs.Awake.{AreWhole}
 use Rattle.flow_steps.specs.declared.process.Process.{Process}
 use Rattle.flow_world.specs.declared.place.Place.{Place}
 use Rattle.flow_world.specs.Ending.{Seen}
-use Rattle.flow_events.specs.Showing.{PlacesShow}
+use Rattle.flow_events.specs.Showing.{PlacesRepresent}
 use Rattle.flow_rested.specs.Boundary.{IsAtRest, RestsInRun}
 use Rattle.flow_rested.proofs.Onwards.{holds_at}
 use Rattle.flow_rested.proofs.Worlds.{classes_rest}
@@ -68,7 +68,7 @@ module _ (r : RawTree) (few : HaveFewerPlaces r) where
         rests = rests_with r m.heap x.proc f;
       }
 
-  places_told : (processes k : ℕ) (events : List (Pending What)) (ats : List Place) (xs : List (meaning.Place Frame)) → PlacesShow (IsAtRest r) processes k ats xs → AllRest r k events xs
+  places_told : (processes k : ℕ) (events : List (Pending What)) (ats : List Place) (xs : List (meaning.Place Frame)) → PlacesRepresent (IsAtRest r) processes k ats xs → AllRest r k events xs
       → AllByRecursion (λ (a : meaning.Place Frame). Open a.proc.core) xs → AllByRecursion (λ (a : meaning.Place Frame). Fired a.proc.core) xs → AllTold ats
   places_told n k events [] [] s fits heard fired = tt
   places_told n k events [] (x ∷ xs) s fits heard fired = absurd s

@@ -22,7 +22,7 @@ Increase (k ∷ ks) = RisesFrom k ks
 
 -- What a heap's own types keep, and its parts don't tell: the numbers of actors, of ports' streams
 -- and of open requests stand in their order.
-pub record InOrder (h : HeapTree) : Type 0 where
+pub record HeapInOrder (h : HeapTree) : Type 0 where
   pub actors : IsRising 0 h.actors.things h.actors.greatest
   pub ports : Increase h.ports
   pub requests : Increase h.requests
@@ -31,7 +31,7 @@ pub record InOrder (h : HeapTree) : Type 0 where
 abbrev pub RestoredInOrder : Type 0
 RestoredInOrder =
     (s : HeapState) → SoundHeap (parts_kept s)
-    → RestsWith (parts_kept s) (restored s) × InOrder (restored s)
+    → RestsWith (parts_kept s) (restored s) × HeapInOrder (restored s)
 
 -- What `Machine::restore` makes, of the same number among as many, of what `Machine::state` tells of
 -- a process: its contract says both, that it rests with the state and that its heap is the one filled.

@@ -22,10 +22,10 @@ use Rattle.flow_world.specs.Around.{Puts}
 use Rattle.flow_world.specs.Ending.{Seen}
 use Rattle.flow_world.specs.Happening.{EventDoes}
 use Rattle.flow_world.specs.Starting.{Starts}
-use Rattle.flow_world.specs.Straying.{EventAmiss}
-use Rattle.flow_world.specs.Telling.{Telling, tells}
+use Rattle.flow_world.specs.StuckEvents.{EventStuck}
+use Rattle.flow_world.specs.FaultedLines.{Telling, tells}
 use Rattle.flow_run.specs.declared.ending.Ending.{Ending}
-use Rattle.flow_run.specs.Straying.{FramesAmiss}
+use Rattle.flow_run.specs.StuckTraces.{FramesStuck}
 use Rattle.flow_run.specs.Ends.{end_line, LastIs}
 use Rattle.flow_run.specs.Tracing.{lines_if, last_answer}
 use Rattle.flow_framed.specs.Framed.{ClassShown, SourceShown}
@@ -78,8 +78,8 @@ module _ {A : Type 0} (puts : A → Line → Result (Unit {0}) OutFault → A �
   pub record OnItsWay (r : RawTree) (w : worlds.World) (v : Seen) : Type 0 where
     pub rests : RestsInRun r w v
     pub told : AllTold v.places
-    pub sure : (s : Telling A) → EventAmiss (tells puts) v s → ⊥
-    pub classed : FramesAmiss v → ⊥
+    pub sure : (s : Telling A) → EventStuck (tells puts) v s → ⊥
+    pub classed : FramesStuck v → ⊥
 
   -- So it is at each boundary of such a run of valid classes.
   abbrev pub ClassesRestAlike : Type 0

@@ -21,7 +21,7 @@ use Rattle.flow_steps.specs.declared.process.Process.{Process}
 use Rattle.flow_world.specs.declared.place.Place.{Place}
 use Rattle.flow_world.specs.Ending.{Seen}
 use Rattle.flow_world.specs.Starting.{Starts}
-use Rattle.flow_run.specs.Tracing.{Goes}
+use Rattle.flow_run.specs.Tracing.{RunsEvents}
 use Rattle.flow_sound.specs.Heaps.{HaveFewerPlaces}
 
 -- The state of a process tells all parts of its heap, which are sound, and are judged so: a heap can be
@@ -42,7 +42,7 @@ module _ {A : Type 0} (puts : A → Line → Result (Unit {0}) OutFault → A �
   ClassesTold =
       (c : RawClasses) (file : World0) (with_frames : Bool) (first v : Seen) (a b : A) → AreWhole (raw_of c)
       → HaveFewerPlaces (raw_of c) → IsInRange (seen file) → Starts c file first
-      → Goes puts with_frames first a v b → AllTold v.places
+      → RunsEvents puts with_frames first a v b → AllTold v.places
 
   -- and of the classes of a text
   abbrev pub ProgramsTold : Type 0
@@ -50,4 +50,4 @@ module _ {A : Type 0} (puts : A → Line → Result (Unit {0}) OutFault → A �
       (text : List ℕ) (program : Program) (c : RawClasses) (file : World0) (with_frames : Bool)
       (first v : Seen) (a b : A) → IsSound text program → first_heavy (program_of program).decls ≡ None
       → Has (program_of program) (raw_of c) → IsInRange (seen file) → Starts c file first
-      → Goes puts with_frames first a v b → AllTold v.places
+      → RunsEvents puts with_frames first a v b → AllTold v.places

@@ -25,19 +25,19 @@ use Rattle.flow_cancel.specs.declared.task.Task.TheVariants as task
 use Rattle.flow_cancel.specs.Heap.{HeapTree, next_cell, next_actor, with_result, started_holding}
 use Rattle.flow_cancel.specs.Dropping.{refs_in}
 use Rattle.flow_meaning.specs.Lines.{print_line}
-use Rattle.flow_meaning.specs.Asks as asks
+use Rattle.flow_meaning.specs.Requests as asks
 use Rattle.flow_meaning.specs.Evaluating.{bind, sent, world_effect}
 use Rattle.flow_picture.specs.Holds.{hold_all}
 use Rattle.flow_steps.specs.declared.errors.Fault.{Fault}
 use Rattle.flow_steps.specs.declared.call.Call.{Call}
 use Rattle.flow_steps.specs.declared.call.Goal.{Goal}
-use Rattle.flow_steps.specs.declared.frames.Stand.{Stand}
+use Rattle.flow_steps.specs.declared.frames.ControlPoint.{ControlPoint}
 use Rattle.flow_steps.specs.declared.next.Pace.TheVariants.{Off}
 use Rattle.flow_steps.specs.declared.process.Process.{Process}
 use Rattle.flow_steps.specs.Doing.{turned, doing, asking, telling}
 use Rattle.flow_steps.specs.Holding.{on_heap, value_refs, Gives}
-use Rattle.flow_steps.specs.Bringing.{made, sending}
-use Rattle.flow_steps.specs.Standing.{noted, values}
+use Rattle.flow_steps.specs.Delivering.{made, sending}
+use Rattle.flow_steps.specs.Points.{noted, values}
 use Rattle.flow_steps.specs.Acting.{Values, NewGiven, some_values, with_args, Enrols, StartTold, Starts, ActorCalled, not_called, actor_starts, EffectMade, EffectDone, Printed, IsMessage, MessageAsked, Sends}
 use Rattle.flow_steps.proofs.Holding.{hold_append, value_alone}
 
@@ -90,7 +90,7 @@ starts_by code caller g class args i k p one two three q e f t s = record {
 }
 
 -- an effect whose arguments are known
-pub effect_done : (code : Code) (s : Stand) (g : Goal) (e : Effect) (args : Values) (p told q : Process) → told ≡ noted s p
+pub effect_done : (code : Code) (s : ControlPoint) (g : Goal) (e : Effect) (args : Values) (p told q : Process) → told ≡ noted s p
     → EffectMade code s.actor g e args told q → EffectDone code s g e args p Off q
 effect_done code s g e args p told q n w = (refl, subst (λ x. EffectMade code s.actor g e args x q) n w)
 

@@ -10,8 +10,8 @@ use Rattle.flow_frame.specs.Frames.{FrameTree, with_place}
 use Rattle.flow_cancel.specs.Heap.{HeapTree}
 use Rattle.flow_meaning.specs.Cells.{Ref}
 use Rattle.flow_picture.specs.Holds.{hold_all}
-use Rattle.flow_steps.specs.Standing.{reframed, place_put, places_emptied}
-use Rattle.flow_steps.specs.Straying.{MayNotFill, FrameMissing, PlaceMissing, NoPlace, SomePlaceMissing}
+use Rattle.flow_steps.specs.Points.{reframed, place_put, places_emptied}
+use Rattle.flow_steps.specs.Stuck.{MayNotFill, FrameMissing, PlaceMissing, NoPlace, SomePlaceMissing}
 use Rattle.flow_steps.proofs.Before.{with_frame_still, place_still}
 use Rattle.flow_steps.proofs.Amiss.{set_all_still, send_all_still}
 

@@ -35,24 +35,24 @@ use Rattle.flow_meaning.specs.Cells.{Ref}
 use Rattle.flow_meaning.specs.Evaluating.{sent}
 use Rattle.flow_meaning.specs.Lines.{print_line}
 use Rattle.flow_picture.specs.Holds.{hold, hold_all, held_cell, held_stream}
-use Rattle.flow_steps.specs.declared.frames.Stand.{Stand}
+use Rattle.flow_steps.specs.declared.frames.ControlPoint.{ControlPoint}
 use Rattle.flow_steps.specs.declared.process.Process.{Process}
 use Rattle.flow_steps.specs.Doing.{turned}
 use Rattle.flow_steps.specs.Holding.{outcome_refs, kind_in}
-use Rattle.flow_steps.specs.Bringing.{complete_at, is_set, is_ended}
-use Rattle.flow_steps.specs.Standing.{reframed, lost_from, values}
+use Rattle.flow_steps.specs.Delivering.{complete_at, is_set, is_ended}
+use Rattle.flow_steps.specs.Points.{reframed, lost_from, values}
 use Rattle.flow_steps.specs.Waiting.{Takes, copied, popped, operand_kept, Registered, awaited, stream_awaited, register, register_all, registered_then, Registers}
-use Rattle.flow_steps.specs.Straying.{Missing, SomeMissing, MayNotSet, MayNotSend, MayNotFill, FrameMissing}
-use Rattle.flow_steps.specs.AmissWaits.{NoBranchOf, no_group, before_first, NoCopy, NoCopyIn, NoHead, NothingIn, NothingTaken, TakesAmiss, NoCell, SomeNoCell}
-use Rattle.flow_steps.specs.AmissAsks.{SendsAmiss, cell_missing, refers_amiss, MethodAmiss}
+use Rattle.flow_steps.specs.Stuck.{Missing, SomeMissing, MayNotSet, MayNotSend, MayNotFill, FrameMissing}
+use Rattle.flow_steps.specs.StuckWaits.{NoBranchOf, no_group, before_first, NoCopy, NoCopyIn, NoHead, NothingIn, NothingTaken, TakesStuck, NoCell, SomeNoCell}
+use Rattle.flow_steps.specs.StuckRequests.{SendsStuck, cell_missing, refers_stuck, MethodStuck}
 use Rattle.flow_steps.proofs.Waits.{is_stream, held_here, frames_stay}
 use Rattle.flow_steps.proofs.Before.{some_none, held_frames, put_still, with_frame_still, lost_still, withdrawn_still}
 
 -- no branch of a number
-pub no_group_there : (s : Stand) (callback g : ℕ) → s.block.now.last ≡ last.Choose g → None ≡ group_numbered g s.class.now.groups.items → NoBranchOf s callback
+pub no_group_there : (s : ControlPoint) (callback g : ℕ) → s.block.now.last ≡ last.Choose g → None ≡ group_numbered g s.class.now.groups.items → NoBranchOf s callback
 no_group_there s callback g w e = no_group g w (sym e)
 
-pub begins_later : (s : Stand) (callback g : ℕ) (of : Group) → s.block.now.last ≡ last.Choose g → Some of ≡ group_numbered g s.class.now.groups.items → callback < of.first
+pub begins_later : (s : ControlPoint) (callback g : ℕ) (of : Group) → s.block.now.last ≡ last.Choose g → Some of ≡ group_numbered g s.class.now.groups.items → callback < of.first
     → NoBranchOf s callback
 begins_later s callback g of w e lt = before_first g of w (sym e) lt
 
@@ -80,18 +80,18 @@ nothing_first k h none = by (thing h.streams.things k) none
     by None none = tt
     by (Some s) none = sym (none s refl)
 
-pub copy_amiss : (k : ℕ) (kd : Kind) (h : HeapTree) → is_stream (Some kd) ≡ false → Some kd ≡ kind_in (thing h.cells.things k) (thing h.streams.things k)
+pub copy_stuck : (k : ℕ) (kd : Kind) (h : HeapTree) → is_stream (Some kd) ≡ false → Some kd ≡ kind_in (thing h.cells.things k) (thing h.streams.things k)
     → NoCopyIn (thing h.cells.things k) h → NothingTaken k h
-copy_amiss k kd h is e m = by (thing h.cells.things k) (thing h.streams.things k) e m
+copy_stuck k kd h is e m = by (thing h.cells.things k) (thing h.streams.things k) e m
   where
     by : (c : Option (CellTree Outcome)) (s : Option (StreamTree Value)) → Some kd ≡ kind_in c s → NoCopyIn c h → NothingIn c s h
     by (Some c) s e m = m
     by None (Some s) e m = absurd (false≢true (sym is ∙ ap is_stream e))
     by None None e m = tt
 
-pub first_amiss_at : (k : ℕ) (kd : Kind) (h : HeapTree) → is_stream (Some kd) ≡ true → Some kd ≡ kind_in (thing h.cells.things k) (thing h.streams.things k)
+pub first_stuck_at : (k : ℕ) (kd : Kind) (h : HeapTree) → is_stream (Some kd) ≡ true → Some kd ≡ kind_in (thing h.cells.things k) (thing h.streams.things k)
     → NoHead (thing h.streams.things k) → NothingTaken k h
-first_amiss_at k kd h is e m = by (thing h.cells.things k) (thing h.streams.things k) e m
+first_stuck_at k kd h is e m = by (thing h.cells.things k) (thing h.streams.things k) e m
   where
     by : (c : Option (CellTree Outcome)) (s : Option (StreamTree Value)) → Some kd ≡ kind_in c s → NoHead s → NothingIn c s h
     by (Some c) s e m = absurd (false≢true (sym (ap is_stream e) ∙ is))
@@ -171,7 +171,7 @@ nothing_kept i k x h m = by (thing h.frames.things i) m
     by None m = m
     by (Some f) m = nothing_apart (with_thing h.frames i (with_callback f x)) k h m
 
-pub kept_takes : (s : Stand) (i k : ℕ) (x : Held) (h : HeapTree) → TakesAmiss s k (operand_kept i x h) → TakesAmiss s k h
+pub kept_takes : (s : ControlPoint) (i k : ℕ) (x : Held) (h : HeapTree) → TakesStuck s k (operand_kept i x h) → TakesStuck s k h
 kept_takes s i k x h (inl m) = inl m
 kept_takes s i k x h (inr (inl m)) = inr (inl (nothing_kept i k x h m))
 kept_takes s i k x h (inr (inr m)) = inr (inr (with_frame_still (λ f. with_callback f x) i s.actor.0 h m))
@@ -301,15 +301,15 @@ nothing_printed i (v ∷ vs) e = absurd (some_none e)
 
 -- what isn't sent
 to_sends : (m : Method) (kd : Kind) (k : ℕ) (arg : Option Value) (h : HeapTree) (o : Outcome) → sent m (map value_of (values arg)) ≡ Some (outcome_of o)
-    → Missing kd k h ⊎ SomeMissing (outcome_refs o) h → SendsAmiss m kd k arg h
+    → Missing kd k h ⊎ SomeMissing (outcome_refs o) h → SendsStuck m kd k arg h
 to_sends m kd k arg h o s (inl x) = cell_missing x
-to_sends m kd k arg h o s (inr x) = refers_amiss o s x
+to_sends m kd k arg h o s (inr x) = refers_stuck o s x
 
-pub sends_amiss : (m : Method) (kd : Kind) (k : CellId) (arg : Option Value) (h : HeapTree) (o : Outcome) → (kd ≡ kind.Promise) ⊎ (kd ≡ kind.PromiseStream)
-    → sent m (map value_of (values arg)) ≡ Some (outcome_of o) → Missing kd k.0 h ⊎ SomeMissing (outcome_refs o) h → MethodAmiss m kd k arg h
-sends_amiss m kd k arg h o (inl e) s x =
-    subst (λ d. MethodAmiss m d k arg h) (sym e)
+pub sends_stuck : (m : Method) (kd : Kind) (k : CellId) (arg : Option Value) (h : HeapTree) (o : Outcome) → (kd ≡ kind.Promise) ⊎ (kd ≡ kind.PromiseStream)
+    → sent m (map value_of (values arg)) ≡ Some (outcome_of o) → Missing kd k.0 h ⊎ SomeMissing (outcome_refs o) h → MethodStuck m kd k arg h
+sends_stuck m kd k arg h o (inl e) s x =
+    subst (λ d. MethodStuck m d k arg h) (sym e)
     (to_sends m kind.Promise k.0 arg h o s (subst (λ d. Missing d k.0 h ⊎ SomeMissing (outcome_refs o) h) e x))
-sends_amiss m kd k arg h o (inr e) s x =
-    subst (λ d. MethodAmiss m d k arg h) (sym e)
+sends_stuck m kd k arg h o (inr e) s x =
+    subst (λ d. MethodStuck m d k arg h) (sym e)
     (to_sends m kind.PromiseStream k.0 arg h o s (subst (λ d. Missing d k.0 h ⊎ SomeMissing (outcome_refs o) h) e x))

@@ -29,8 +29,8 @@ use Rattle.flow_resolved.specs.Evaluation.{numbered_field}
 use Rattle.flow_resolved.specs.View.{places_in}
 use Rattle.flow_resolved.specs.declared.names.FieldNames.{FieldNames}
 use Rattle.flow_code.specs.declared.class.Aim.{Aim}
-use Rattle.flow_steps.specs.Standing.{Numbering, field_path, reframed, with_frame, place_held, place_put, place_lost, places_lost, losing_from, lost_from}
-use Rattle.flow_steps.specs.Straying.{FrameMissing, PlaceMissing, NoPlace, SomePlaceMissing, PartMissing, AimsAmiss, no_place, no_part}
+use Rattle.flow_steps.specs.Points.{Numbering, field_path, reframed, with_frame, place_held, place_put, place_lost, places_lost, losing_from, lost_from}
+use Rattle.flow_steps.specs.Stuck.{FrameMissing, PlaceMissing, NoPlace, SomePlaceMissing, PartMissing, AimsStuck, no_place, no_part}
 
 pub some_none : {A : Type 0} {x : A} → Some x ≡ None → ⊥
 some_none h = cc
@@ -172,11 +172,11 @@ flat_path at f fs path v is flat = ap (λ l. field_path at l (Some v)) is ∙ ap
 pub nothing_held : (fields : FieldNames) (path : List ℕ) (o : Option Value) → o ≡ None → PartMissing fields path o
 nothing_held fields path o none = ap (λ (v : Option Value). field_path (places_in fields) path (option_map value_of v)) none ∙ path_nowhere (places_in fields) path
 
-pub aims_amiss : (fields : FieldNames) (i : ℕ) (aim : Aim) (h : HeapTree) → (aim.path.items ≡ [] → ⊥)
-    → NoPlace i aim.place h ⊎ PartMissing fields aim.path.items (place_held i aim.place h) → AimsAmiss fields i aim h
-aims_amiss fields i aim h some (inl none) = no_place none
-aims_amiss fields i aim h some (inr missing) = by aim.path.items refl
+pub aims_stuck : (fields : FieldNames) (i : ℕ) (aim : Aim) (h : HeapTree) → (aim.path.items ≡ [] → ⊥)
+    → NoPlace i aim.place h ⊎ PartMissing fields aim.path.items (place_held i aim.place h) → AimsStuck fields i aim h
+aims_stuck fields i aim h some (inl none) = no_place none
+aims_stuck fields i aim h some (inr missing) = by aim.path.items refl
   where
-    by : (l : List ℕ) → aim.path.items ≡ l → AimsAmiss fields i aim h
+    by : (l : List ℕ) → aim.path.items ≡ l → AimsStuck fields i aim h
     by [] e = absurd (some e)
     by (f ∷ fs) e = no_part f fs e missing

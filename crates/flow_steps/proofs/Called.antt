@@ -25,7 +25,7 @@ use Rattle.flow_stream.specs.Streams.{StreamTree, empty}
 use Rattle.flow_code.specs.declared.program.Code.{Code}
 use Rattle.flow_cancel.specs.Heap.{HeapTree, next_cell, with_result, promised, promised_at}
 use Rattle.flow_cancel.specs.Dropping.{refs_in}
-use Rattle.flow_meaning.specs.Asks as asks
+use Rattle.flow_meaning.specs.Requests as asks
 use Rattle.flow_meaning.specs.Cells as cells
 use Rattle.flow_meaning.specs.Evaluating.{bind, world_effect}
 use Rattle.flow_picture.specs.Holds.{hold, hold_all, held_cell, held_stream}
@@ -33,16 +33,16 @@ use Rattle.flow_steps.specs.declared.call.Goal.{Goal}
 use Rattle.flow_steps.specs.declared.call.Goal.TheVariants as goal
 use Rattle.flow_steps.specs.declared.process.Process.{Process}
 use Rattle.flow_steps.specs.Holding.{on_heap, value_refs, Gives}
-use Rattle.flow_steps.specs.Bringing.{made}
+use Rattle.flow_steps.specs.Delivering.{made}
 use Rattle.flow_steps.specs.Acting.{Enrols, with_args}
-use Rattle.flow_steps.specs.Straying.{CellMissing, StreamMissing, Missing, SomeMissing, NoReference}
+use Rattle.flow_steps.specs.Stuck.{CellMissing, StreamMissing, Missing, SomeMissing, NoReference}
 use Rattle.flow_steps.proofs.Acts.{first_kept}
 use Rattle.flow_steps.proofs.Before.{put_still}
 use Rattle.flow_steps.proofs.Holding.{hold_append, missing_first, missing_later}
 
 -- a write whose file is no text
-pub write_amiss : (vs : List Value) → text_of (arg (map value_of (set vs 2 Void)) 0) ≡ None → world_effect predefined.WriteFile (map value_of vs) ≡ None
-write_amiss vs f =
+pub write_stuck : (vs : List Value) → text_of (arg (map value_of (set vs 2 Void)) 0) ≡ None → world_effect predefined.WriteFile (map value_of vs) ≡ None
+write_stuck vs f =
     ap (λ x. bind x (λ file. bind (int_of (arg (map value_of vs) 1)) (λ offset. bind (text_of (arg (map value_of vs) 2)) (λ text. Some (asks.Disk (asks.WriteCall file offset text))))))
     (ap text_of (sym (first_kept vs)) ∙ f)
 
@@ -129,19 +129,19 @@ made_there kind.FutureStream h e = added_there h.streams.things (next_cell h) em
 pub ref_seen : (kd : Kind) (k : CellId) → value_of (Ref kd k) ≡ RefValue kd k.0
 ref_seen kd k = ap value_of (sym (rolls-Ref kd k)) ∙ fold-roll-Value ValueTree value_step (layer.Ref kd k)
 
-pub gives_amiss : (g : Goal) (kd : Kind) (k : CellId) (h : HeapTree) → (Missing kd k.0 h → ⊥) → SomeMissing (value_refs (Ref kd k)) h ⊎ NoReference g (Ref kd k) → ⊥
-gives_amiss g kd k h there (inl m) = by (subst (λ v. SomeMissing (refs_of v) h) (ref_seen kd k) m)
+pub gives_stuck : (g : Goal) (kd : Kind) (k : CellId) (h : HeapTree) → (Missing kd k.0 h → ⊥) → SomeMissing (value_refs (Ref kd k)) h ⊎ NoReference g (Ref kd k) → ⊥
+gives_stuck g kd k h there (inl m) = by (subst (λ v. SomeMissing (refs_of v) h) (ref_seen kd k) m)
   where
     by : Missing kd k.0 h ⊎ ⊥ → ⊥
     by (inl e) = there e
     by (inr e) = e
-gives_amiss goal.Stored kd k h there (inr e) = e
-gives_amiss (goal.Kept n) kd k h there (inr e) = e
+gives_stuck goal.Stored kd k h there (inr e) = e
+gives_stuck (goal.Kept n) kd k h there (inr e) = e
 
-pub new_amiss : (g : Goal) (kd : Kind) (k : CellId) (p q : Process) → k.0 ≡ next_cell p.heap → q ≡ on_heap (made kd) p
+pub new_stuck : (g : Goal) (kd : Kind) (k : CellId) (p q : Process) → k.0 ≡ next_cell p.heap → q ≡ on_heap (made kd) p
     → SomeMissing (value_refs (Ref kd k)) q.heap ⊎ NoReference g (Ref kd k) → ⊥
-new_amiss g kd k p q n e =
-    gives_amiss g kd k q.heap (λ m. made_there kd p.heap (subst (λ i. Missing kd i (made kd p.heap)) n (subst (λ (x : Process). Missing kd k.0 x.heap) e m)))
+new_stuck g kd k p q n e =
+    gives_stuck g kd k q.heap (λ m. made_there kd p.heap (subst (λ i. Missing kd i (made kd p.heap)) n (subst (λ (x : Process). Missing kd k.0 x.heap) e m)))
 
 -- a cell that was given is there, for its other side too
 pub open_there : (g : Goal) (i : ActorId) (k : CellId) (p q : Process) → k.0 ≡ next_cell p.heap → Gives g i (Ref kind.Future k) (on_heap (made kind.Future) p) q
@@ -168,6 +168,6 @@ result_there code class args i k p q is m =
     cells_still (refs_in args) k.0 (with_result (next_cell p.heap) p.heap) (promised_still k.0 k.0 (thing (with_args args p.heap).cells.things k.0) (with_args args p.heap) then_missing) in
     made_there kind.Future p.heap (subst (λ j. CellMissing j (with_result (next_cell p.heap) p.heap)) is.cell now)
 
-pub call_amiss : (code : Code) (class : ℕ) (args : List Value) (i : ActorId) (k : CellId) (g : Goal) (p q : Process) → Enrols code class args i k p q
+pub call_stuck : (code : Code) (class : ℕ) (args : List Value) (i : ActorId) (k : CellId) (g : Goal) (p q : Process) → Enrols code class args i k p q
     → SomeMissing (value_refs (Ref kind.Future k)) q.heap ⊎ NoReference g (Ref kind.Future k) → ⊥
-call_amiss code class args i k g p q is = gives_amiss g kind.Future k q.heap (result_there code class args i k p q is)
+call_stuck code class args i k g p q is = gives_stuck g kind.Future k q.heap (result_there code class args i k p q is)

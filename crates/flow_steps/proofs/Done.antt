@@ -42,28 +42,28 @@ use Rattle.flow_cancel.specs.declared.task.Task.TheVariants as task
 use Rattle.flow_cancel.specs.Heap.{HeapTree, pushed}
 use Rattle.flow_cancel.specs.Dropping.{dropping}
 use Rattle.flow_cancel.specs.Leaving.{withdrawn}
-use Rattle.flow_steps.specs.declared.frames.Stand.{Stand}
+use Rattle.flow_steps.specs.declared.frames.ControlPoint.{ControlPoint}
 use Rattle.flow_steps.specs.declared.next.Pace.{Pace}
 use Rattle.flow_steps.specs.declared.process.Process.{Process}
 use Rattle.flow_steps.specs.declared.process.Next.TheVariants as next
 use Rattle.flow_steps.specs.Doing.{turned, doing, telling}
 use Rattle.flow_steps.specs.Holding.{on_heap, kind_in}
-use Rattle.flow_steps.specs.Bringing.{end_line, ended_with, closing, closed}
-use Rattle.flow_steps.specs.Standing.{StandsNow, GoesTo, next_stand, noted, values, lost_from, Assigns}
-use Rattle.flow_steps.specs.Waiting.{BranchOf, TakesBranch, Keeps}
+use Rattle.flow_steps.specs.Delivering.{end_line, ended_with, closing, closed}
+use Rattle.flow_steps.specs.Points.{IsAtPoint, GoesTo, next_stand, noted, values, lost_from, Assigns}
+use Rattle.flow_steps.specs.Waiting.{BranchOf, TakesBranch, KeepsOperand}
 use Rattle.flow_steps.specs.Stepping.{OnAfter, GoesOn, Runs, IsClose}
-use Rattle.flow_steps.specs.AmissTasks.{EffectTo}
+use Rattle.flow_steps.specs.StuckTasks.{EffectTo}
 use Rattle.flow_steps.specs.Tasks.{RunsNow, BranchAt, bound_over, bound, ValueGiven, Stored, TopTaken, IsKept, FailsBy, Raises, Raised, FiresAt, Fires, next_waiter, WaiterTakes, Closes, MainStarts, MainCalled, main_waits, main_starts, Tasks, no_task}
 
-pub runs_now : (code : Code) (i : ActorId) (s : Stand) (p q : Process) → StandsNow code.classes.items i p s → Runs code s p q → RunsNow code i p q
+pub runs_now : (code : Code) (i : ActorId) (s : ControlPoint) (p q : Process) → IsAtPoint code.classes.items i p s → Runs code s p q → RunsNow code i p q
 runs_now code i s p q a r = record { stand = s; stands = a; runs = r }
 
-pub branch_found : (s : Stand) (n group : ℕ) (g : Group) (b : Branch) → s.block.now.last ≡ last.Choose group
+pub branch_found : (s : ControlPoint) (n group : ℕ) (g : Group) (b : Branch) → s.block.now.last ≡ last.Choose group
     → Some g ≡ group_numbered group s.class.now.groups.items → Some b ≡ slice_get g.branches.items n → BranchAt s n b
 branch_found s n group g b w e at = record { group = group; of = g; waits = w; of_number = sym e; at = sym at }
 
-pub value_given : (code : Code) (i : ActorId) (n : ℕ) (v : Value) (s t : Stand) (b : Branch) (old : Option Value) (vs : List Value) (pace : Pace) (p one between q : Process)
-    → StandsNow code.classes.items i p s → BranchAt s n b → vs ≡ bound_over i.0 b.into v p.heap → one ≡ on_heap (bound i.0 b.into v) p
+pub value_given : (code : Code) (i : ActorId) (n : ℕ) (v : Value) (s t : ControlPoint) (b : Branch) (old : Option Value) (vs : List Value) (pace : Pace) (p one between q : Process)
+    → IsAtPoint code.classes.items i p s → BranchAt s n b → vs ≡ bound_over i.0 b.into v p.heap → one ≡ on_heap (bound i.0 b.into v) p
     → GoesTo s b.block 0 t → OnAfter t vs one pace between → GoesOn code pace between q → ValueGiven code i n v p q
 value_given code i n v s t b old vs pace p one between q at is o e g a go = record {
   stand = s;
@@ -78,8 +78,8 @@ value_given code i n v s t b old vs pace p one between q at is o e g a go = reco
   further = go;
 }
 
-pub stored_by : (code : Code) (i : ActorId) (v : Value) (s : Stand) (x : Instruction) (aim : Aim) (old : Option Value) (p one two q : Process)
-    → StandsNow code.classes.items i p s → Some x ≡ slice_get s.block.now.body.items s.instruction → EffectTo x aim
+pub stored_by : (code : Code) (i : ActorId) (v : Value) (s : ControlPoint) (x : Instruction) (aim : Aim) (old : Option Value) (p one two q : Process)
+    → IsAtPoint code.classes.items i p s → Some x ≡ slice_get s.block.now.body.items s.instruction → EffectTo x aim
     → Assigns code.fields i aim v p old one → two ≡ on_heap (dropping (values old)) one → q ≡ noted (next_stand s) two → Stored code i v p q
 stored_by code i v s x aim old p one two q at is to a d n = record {
   stand = s;
@@ -98,8 +98,8 @@ stored_by code i v s x aim old p one two q at is to a d n = record {
 pub effect_to : (x : Instruction) (aim : Aim) (e : Effect) (args : Vec Resolved Global) → x ≡ instruction.Effect aim e args → EffectTo x aim
 effect_to x aim e args is = record { effect = e; args = args; is = is }
 
-pub kept_by : (code : Code) (i : ActorId) (x : Held) (s : Stand) (pace : Pace) (p start between q : Process) → TopTaken (task.Run i) p start
-    → StandsNow code.classes.items i start s → Keeps s x start pace between → GoesOn code pace between q → IsKept code i x p q
+pub kept_by : (code : Code) (i : ActorId) (x : Held) (s : ControlPoint) (pace : Pace) (p start between q : Process) → TopTaken (task.Run i) p start
+    → IsAtPoint code.classes.items i start s → KeepsOperand s x start pace between → GoesOn code pace between q → IsKept code i x p q
 kept_by code i x s pace p start between q t at k go =
     record { start = start; stand = s; pace = pace; between = between; next = t; stands = at; keeps = k; further = go }
 
@@ -108,16 +108,16 @@ pub fails_by : (i : ActorId) (e : ErrorCode) (t : Task) (p one two q : Process) 
 fails_by i e t p one two q c f l w =
     record { task = t; closes = c; fails = w ∙ ap (on_heap (withdrawn i.0)) (l ∙ ap (on_heap (lost_from i.0 0)) f) }
 
-pub raised_by : (code : Code) (i : ActorId) (e : ErrorCode) (s : Stand) (p between q : Process) → StandsNow code.classes.items i p s
+pub raised_by : (code : Code) (i : ActorId) (e : ErrorCode) (s : ControlPoint) (p between q : Process) → IsAtPoint code.classes.items i p s
     → Raises i s.block.now.catcher e p between → q ≡ telling (line.Throw i e) between → Raised code i e p q
 raised_by code i e s p between q at r t = record { stand = s; between = between; stands = at; raises = r; told = t }
 
-pub waiter_takes : (code : Code) (k : CellId) (w : Waiter) (s : Stand) (b : ℕ) (p one q : Process) → one ≡ doing (task.Fire k) p
-    → StandsNow code.classes.items w.actor one s → BranchOf s w.callback b → TakesBranch s b k one q → WaiterTakes code k w p q
+pub waiter_takes : (code : Code) (k : CellId) (w : Waiter) (s : ControlPoint) (b : ℕ) (p one q : Process) → one ≡ doing (task.Fire k) p
+    → IsAtPoint code.classes.items w.actor one s → BranchOf s w.callback b → TakesBranch s b k one q → WaiterTakes code k w p q
 waiter_takes code k w s b p one q e at is t = record {
   stand = s;
   branch = b;
-  stands = subst (λ x. StandsNow code.classes.items w.actor x s) e at;
+  stands = subst (λ x. IsAtPoint code.classes.items w.actor x s) e at;
   at = is;
   takes = subst (λ x. TakesBranch s b k x q) e t;
 }

@@ -12,18 +12,18 @@ use Rattle.flow_eval.specs.declared.stop.Halt.{Halt}
 use Rattle.flow_eval.specs.declared.stop.Halt.TheVariants as halt
 use Rattle.flow_resolved.specs.Truth.{GivesTruth}
 use Rattle.flow_steps.specs.declared.errors.Fault.{Fault}
-use Rattle.flow_steps.specs.declared.frames.Stand.{Stand}
+use Rattle.flow_steps.specs.declared.frames.ControlPoint.{ControlPoint}
 use Rattle.flow_steps.specs.declared.next.Pace.{Pace}
 use Rattle.flow_steps.specs.declared.next.Pace.TheVariants.{On, Off}
 use Rattle.flow_steps.specs.declared.process.Process.{Process}
-use Rattle.flow_steps.specs.Standing.{next_stand}
+use Rattle.flow_steps.specs.Points.{next_stand}
 use Rattle.flow_steps.specs.Stepping.{GoesNext, IsTest}
-use Rattle.flow_steps.specs.Straying.{OnAstray, FrameMissing}
-use Rattle.flow_steps.specs.AmissCalls.{HaltsAmiss, EvaluatesAmiss, meaningless, frame_gone, rest_amiss}
-use Rattle.flow_steps.proofs.Holding.{astray_weaker}
-use Rattle.flow_steps.specs.Sights.{Halted, with_left, Evaluates, gives, throws, runs_out}
+use Rattle.flow_steps.specs.Stuck.{OnStuck, FrameMissing}
+use Rattle.flow_steps.specs.StuckCalls.{HaltsStuck, EvaluatesStuck, meaningless, frame_gone, rest_stuck}
+use Rattle.flow_steps.proofs.Holding.{on_stuck_weaker}
+use Rattle.flow_steps.specs.Evaluating.{Halted, with_left, Evaluates, gives, throws, runs_out}
 
-module _ {A B : Type 0} (s : Stand) (seen : B → A) (comes_to : Res A) (p mid q : Process) (goes : B → Process → Pace → Process → Type 0) where
+module _ {A B : Type 0} (s : ControlPoint) (seen : B → A) (comes_to : Res A) (p mid q : Process) (goes : B → Process → Pace → Process → Type 0) where
   -- evaluation gives a value, and what follows is done
   pub value_given : (b : B) (r : Result Pace Fault) → comes_to ≡ Done (seen b) mid.left → mid ≡ with_left mid.left p
       → IfOk r (λ pace. goes b mid pace q) → IfOk r (λ pace. Evaluates s seen comes_to p goes pace q)
@@ -50,7 +50,7 @@ module _ {A B : Type 0} (s : Stand) (seen : B → A) (comes_to : Res A) (p mid q
   breaks_off h (Err e) b rest off is = is
 
 -- the same of a value, of values and of a truth value
-module _ (s : Stand) (p mid q : Process) where
+module _ (s : ControlPoint) (p mid q : Process) where
   pub value_breaks : (comes_to : Res ValueTree) (goes : Value → Process → Pace → Process → Type 0) (h : Halt) (r : Result Pace Fault) → Gives comes_to (Err h) mid.left
       → mid ≡ with_left mid.left p → IfOk r (λ pace. pace ≡ Off) → OnOk r (Halted s h mid q) → IfOk r (λ pace. Evaluates s value_of comes_to p goes pace q)
   value_breaks c goes h r g = breaks_off s value_of c p mid q goes h r (by h g)
@@ -88,33 +88,33 @@ module _ (s : Stand) (p mid q : Process) where
       value_given s value_of c p mid mid (GoesNext s) v r e rest (IfOk-weaker r _ _ (λ pace is. (is, refl)) on)
 
   -- a truth value that leads to one of two blocks
-  pub test_done : (comes_to : Res ValueTree) (b : Bool) (one other : ℕ) (t : Stand) → comes_to ≡ Done (BoolValue b) mid.left → mid ≡ with_left mid.left p
+  pub test_done : (comes_to : Res ValueTree) (b : Bool) (one other : ℕ) (t : ControlPoint) → comes_to ≡ Done (BoolValue b) mid.left → mid ≡ with_left mid.left p
       → IsTest s one other b mid (On t) mid → Evaluates s BoolValue comes_to p (IsTest s one other) (On t) mid
   test_done c b one other t e rest is = gives b mid.left (On t) mid e (subst (λ x. IsTest s one other b x (On t) mid) rest is)
 
 -- what an actor does with what evaluation comes to goes astray
-module _ {A B T : Type 0} (s : Stand) (seen : B → A) (comes_to : Res A) (p mid : Process) (rest : B → Process → Type 0) (r : Result T Fault) where
-  pub rest_strays : (b : B) → comes_to ≡ Done (seen b) mid.left → mid ≡ with_left mid.left p → OnAstray r (rest b mid)
-      → OnAstray r (EvaluatesAmiss s seen comes_to p rest)
-  rest_strays b e same m = astray_weaker r _ _ (λ x. rest_amiss b mid.left e (subst (rest b) same x)) m
+module _ {A B T : Type 0} (s : ControlPoint) (seen : B → A) (comes_to : Res A) (p mid : Process) (rest : B → Process → Type 0) (r : Result T Fault) where
+  pub rest_gets_stuck : (b : B) → comes_to ≡ Done (seen b) mid.left → mid ≡ with_left mid.left p → OnStuck r (rest b mid)
+      → OnStuck r (EvaluatesStuck s seen comes_to p rest)
+  rest_gets_stuck b e same m = on_stuck_weaker r _ _ (λ x. rest_stuck b mid.left e (subst (rest b) same x)) m
 
-  pub halt_strays : (h : Halt) → (h ≡ halt.NoMeaning → comes_to ≡ Meaningless) → mid ≡ with_left mid.left p → OnAstray r (HaltsAmiss s h mid.heap)
-      → OnAstray r (EvaluatesAmiss s seen comes_to p rest)
-  halt_strays h none same m = astray_weaker r _ _ by m
+  pub halt_stuck : (h : Halt) → (h ≡ halt.NoMeaning → comes_to ≡ Meaningless) → mid ≡ with_left mid.left p → OnStuck r (HaltsStuck s h mid.heap)
+      → OnStuck r (EvaluatesStuck s seen comes_to p rest)
+  halt_stuck h none same m = on_stuck_weaker r _ _ by m
     where
-      by : HaltsAmiss s h mid.heap → EvaluatesAmiss s seen comes_to p rest
+      by : HaltsStuck s h mid.heap → EvaluatesStuck s seen comes_to p rest
       by (inl f) = frame_gone (subst (λ (x : Process). FrameMissing s.actor.0 x.heap) same f)
       by (inr e) = meaningless (none e)
 
-module _ {T : Type 0} (s : Stand) (p mid : Process) (r : Result T Fault) (h : Halt) where
-  pub value_strays : (c : Res ValueTree) (rest : Value → Process → Type 0) → Gives c (Err h) mid.left → mid ≡ with_left mid.left p
-      → OnAstray r (HaltsAmiss s h mid.heap) → OnAstray r (EvaluatesAmiss s value_of c p rest)
-  value_strays c rest g = halt_strays s value_of c p mid rest r h (λ e. subst (λ x. Gives c (Err x) mid.left) e g)
+module _ {T : Type 0} (s : ControlPoint) (p mid : Process) (r : Result T Fault) (h : Halt) where
+  pub value_stuck : (c : Res ValueTree) (rest : Value → Process → Type 0) → Gives c (Err h) mid.left → mid ≡ with_left mid.left p
+      → OnStuck r (HaltsStuck s h mid.heap) → OnStuck r (EvaluatesStuck s value_of c p rest)
+  value_stuck c rest g = halt_stuck s value_of c p mid rest r h (λ e. subst (λ x. Gives c (Err x) mid.left) e g)
 
-  pub values_stray : (c : Res (List ValueTree)) (rest : Vec Value Global → Process → Type 0) → GivesAll c (Err h) mid.left → mid ≡ with_left mid.left p
-      → OnAstray r (HaltsAmiss s h mid.heap) → OnAstray r (EvaluatesAmiss s (λ vs. map value_of vs.items) c p rest)
-  values_stray c rest g = halt_strays s (λ (vs : Vec Value Global). map value_of vs.items) c p mid rest r h (λ e. subst (λ x. GivesAll c (Err x) mid.left) e g)
+  pub values_stuck : (c : Res (List ValueTree)) (rest : Vec Value Global → Process → Type 0) → GivesAll c (Err h) mid.left → mid ≡ with_left mid.left p
+      → OnStuck r (HaltsStuck s h mid.heap) → OnStuck r (EvaluatesStuck s (λ vs. map value_of vs.items) c p rest)
+  values_stuck c rest g = halt_stuck s (λ (vs : Vec Value Global). map value_of vs.items) c p mid rest r h (λ e. subst (λ x. GivesAll c (Err x) mid.left) e g)
 
-  pub truth_strays : (c : Res ValueTree) (rest : Bool → Process → Type 0) → GivesTruth c (Err h) mid.left → mid ≡ with_left mid.left p
-      → OnAstray r (HaltsAmiss s h mid.heap) → OnAstray r (EvaluatesAmiss s BoolValue c p rest)
-  truth_strays c rest g = halt_strays s BoolValue c p mid rest r h (λ e. subst (λ x. GivesTruth c (Err x) mid.left) e g)
+  pub truth_stuck : (c : Res ValueTree) (rest : Bool → Process → Type 0) → GivesTruth c (Err h) mid.left → mid ≡ with_left mid.left p
+      → OnStuck r (HaltsStuck s h mid.heap) → OnStuck r (EvaluatesStuck s BoolValue c p rest)
+  truth_stuck c rest g = halt_stuck s BoolValue c p mid rest r h (λ e. subst (λ x. GivesTruth c (Err x) mid.left) e g)

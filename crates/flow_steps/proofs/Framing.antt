@@ -12,7 +12,7 @@ use Rattle.flow_numbered.proofs.Things.{with_same}
 use Rattle.flow_frame.specs.Frames.{FrameTree, IsFilled, held_in, with_place}
 use Rattle.flow_cancel.specs.Heap.{HeapTree}
 use Rattle.flow_cancel.proofs.Puts.{found_put, put_twice}
-use Rattle.flow_steps.specs.Standing.{reframed, with_frame, place_held, place_put, place_lost, places_lost, referring, places_taken, places_emptied, losing_from, lost_from}
+use Rattle.flow_steps.specs.Points.{reframed, with_frame, place_held, place_put, place_lost, places_lost, referring, places_taken, places_emptied, losing_from, lost_from}
 use Rattle.flow_steps.proofs.Sights.{held_same}
 
 -- the frame of an actor that has one

@@ -34,24 +34,24 @@ use Rattle.flow_cancel.specs.declared.task.Task.{Task}
 use Rattle.flow_cancel.specs.Heap.{HeapTree, next_cell, pushed}
 use Rattle.flow_picture.specs.Holds.{hold, hold_all}
 use Rattle.flow_steps.specs.declared.errors.Fault.{Fault}
-use Rattle.flow_steps.specs.declared.frames.Stand.{Stand}
+use Rattle.flow_steps.specs.declared.frames.ControlPoint.{ControlPoint}
 use Rattle.flow_steps.specs.declared.process.Process.{Process}
 use Rattle.flow_steps.specs.Doing.{turned}
 use Rattle.flow_steps.specs.Holding.{on_heap, value_refs}
-use Rattle.flow_steps.specs.Bringing.{made, gone_to}
-use Rattle.flow_steps.specs.Standing.{Numbering, StandsNow, noting, noted, noted_stand, next_stand, GoesTo, place_held, place_put, places_emptied, field_path, Assigns}
+use Rattle.flow_steps.specs.Delivering.{made, gone_to}
+use Rattle.flow_steps.specs.Points.{Numbering, IsAtPoint, noting, noted, noted_stand, next_stand, GoesTo, place_held, place_put, places_emptied, field_path, Assigns}
 use Rattle.flow_steps.specs.Acting.{args_of}
 use Rattle.flow_steps.specs.Stepping.{kept_by, value_for, truth_for, values_for, truth_value}
-use Rattle.flow_steps.specs.Straying.{Strays, OnAstray, StandsNowhere, Missing, FrameMissing, PlaceMissing, NoPlace, PartMissing, AimsAmiss, no_place, no_part}
-use Rattle.flow_steps.specs.AmissAsks.{MethodAmiss}
-use Rattle.flow_steps.specs.AmissWaits.{KeepsAmiss, WaitsAmiss}
-use Rattle.flow_steps.specs.AmissCalls.{EvaluatesAmiss}
-use Rattle.flow_steps.specs.AmissSteps.{SetAmiss, ActAmiss, NoReferenceAt, CallsAmiss, method_amiss, CallsAmissOf, MethodStepAmiss, DoesAmiss, TestAmiss, LastAmiss, ReferenceAmiss, ValueKeptAmiss, AsksAmiss, ChoosesAmiss, operand_amiss, wait_amiss, StepAmiss, behind_all, by_instruction, RunsAmiss, RunsNowAmiss, nowhere, runs_amiss}
+use Rattle.flow_steps.specs.Stuck.{IfStuck, OnStuck, HasNoPoint, Missing, FrameMissing, PlaceMissing, NoPlace, PartMissing, AimsStuck, no_place, no_part}
+use Rattle.flow_steps.specs.StuckRequests.{MethodStuck}
+use Rattle.flow_steps.specs.StuckWaits.{KeepsStuck, WaitsStuck}
+use Rattle.flow_steps.specs.StuckCalls.{EvaluatesStuck}
+use Rattle.flow_steps.specs.StuckSteps.{SetStuck, ActStuck, NoReferenceAt, CallsStuck, method_stuck, CallsStuckOf, MethodStepStuck, DoesStuck, TestStuck, LastStuck, ReferenceStuck, ValueKeptStuck, AsksStuck, ChoosesStuck, operand_stuck, wait_stuck, StepStuck, behind_all, by_instruction, RunsStuck, RunsNowStuck, nowhere, runs_stuck}
 use Rattle.flow_steps.proofs.Before.{with_frame_still, hold_frames, held_frames, path_nowhere}
 use Rattle.flow_steps.proofs.Amiss.{turned_heap}
 use Rattle.flow_steps.proofs.Afterwards.{frame_stays_emptied}
 use Rattle.flow_steps.proofs.Called.{ref_seen, made_there}
-use Rattle.flow_steps.proofs.Holding.{strays_weaker, astray_weaker}
+use Rattle.flow_steps.proofs.Holding.{if_stuck_weaker, on_stuck_weaker}
 
 -- a new cell leaves the frames as they are
 made_frames : (kd : Kind) (h : HeapTree) → (made kd h).frames ≡ h.frames
@@ -75,7 +75,7 @@ place_before : (i n : ℕ) (g h : HeapTree) → g.frames ≡ h.frames → NoPlac
 place_before i n g h e m = subst (λ (fs : Store (FrameTree Value)). PlaceMissing n (thing fs.things i)) e m
 
 -- an assignment
-aims_before : (code : Code) (i : ℕ) (aim : Aim) (g h : HeapTree) → g.frames ≡ h.frames → AimsAmiss code.fields i aim g → AimsAmiss code.fields i aim h
+aims_before : (code : Code) (i : ℕ) (aim : Aim) (g h : HeapTree) → g.frames ≡ h.frames → AimsStuck code.fields i aim g → AimsStuck code.fields i aim h
 aims_before code i aim g h e (no_place m) = no_place (place_before i aim.place g h e m)
 aims_before code i aim g h e (no_part f fs at m) =
     no_part f fs at (subst (λ (xs : Store (FrameTree Value)). PartMissing code.fields aim.path.items (held_at xs)) e m)
@@ -83,12 +83,12 @@ aims_before code i aim g h e (no_part f fs at m) =
     held_at : Store (FrameTree Value) → Option Value
     held_at xs = place_held i aim.place (record h { frames = xs })
 
-module _ (code : Code) (s : Stand) (aim : Aim) (v : Value) (p held : Process) where
-  pub set_aims : held ≡ on_heap (hold_all (value_refs v)) p → AimsAmiss code.fields s.actor.0 aim held.heap → SetAmiss code s aim v p
+module _ (code : Code) (s : ControlPoint) (aim : Aim) (v : Value) (p held : Process) where
+  pub set_aims : held ≡ on_heap (hold_all (value_refs v)) p → AimsStuck code.fields s.actor.0 aim held.heap → SetStuck code s aim v p
   set_aims e m = inr (aims_before code s.actor.0 aim held.heap p.heap (ap (λ (x : Process). x.heap.frames) e ∙ held_frames (value_refs v) p.heap) m)
 
   pub set_after : (old : Option Value) (q : Process) → held ≡ on_heap (hold_all (value_refs v)) p → Assigns code.fields s.actor aim v held old q
-      → FrameMissing s.actor.0 q.heap → SetAmiss code s aim v p
+      → FrameMissing s.actor.0 q.heap → SetStuck code s aim v p
   set_after old q e a m =
       let before = with_frame_still (λ f. with_place f aim.place a.root) s.actor.0 s.actor.0 held.heap (subst (λ (x : Process). FrameMissing s.actor.0 x.heap) a.put m) in
       set_aims e (no_place (frame_no_place s.actor.0 aim.place held.heap before))
@@ -118,7 +118,7 @@ after_emptied i ns p q e m = frame_stays_emptied i i ns p.heap (subst (λ (x : P
 pub after_held : (i : ℕ) (v : Value) (p q : Process) → q ≡ on_heap (hold_all (value_refs v)) p → FrameMissing i q.heap → FrameMissing i p.heap
 after_held i v p q e m = frame_before i q.heap p.heap (ap (λ (x : Process). x.heap.frames) e ∙ held_frames (value_refs v) p.heap) m
 
-pub after_noted : (s : Stand) (p q : Process) (t : Task) (h : HeapTree) → q ≡ noted s p → h ≡ pushed t q.heap → FrameMissing s.actor.0 h → FrameMissing s.actor.0 p.heap
+pub after_noted : (s : ControlPoint) (p q : Process) (t : Task) (h : HeapTree) → q ≡ noted s p → h ≡ pushed t q.heap → FrameMissing s.actor.0 h → FrameMissing s.actor.0 p.heap
 after_noted s p q t h e f m =
     noting_still s.noted s.actor.0 s.place s.instruction s.actor.0 p.heap
     (subst (λ (x : Process). FrameMissing s.actor.0 x.heap) e (subst (λ g. FrameMissing s.actor.0 g) f m))
@@ -127,80 +127,80 @@ after_noted s p q t h e f m =
 pub after_turn : (i : ℕ) (p q : Process) → q ≡ turned p → FrameMissing i q.heap → FrameMissing i p.heap
 after_turn i p q e m = subst (λ (h : HeapTree). FrameMissing i h) (ap (λ (x : Process). x.heap) e ∙ turned_heap p) m
 
-pub begin_missing : (s t : Stand) (b : ℕ) (h : HeapTree) → GoesTo s b 0 t → FrameMissing t.actor.0 h → FrameMissing s.actor.0 h
-begin_missing s t b h g m = subst (λ (x : Stand). FrameMissing x.actor.0 h) g.same m
+pub begin_missing : (s t : ControlPoint) (b : ℕ) (h : HeapTree) → GoesTo s b 0 t → FrameMissing t.actor.0 h → FrameMissing s.actor.0 h
+begin_missing s t b h g m = subst (λ (x : ControlPoint). FrameMissing x.actor.0 h) g.same m
 
 -- a method with one argument, or more
-pub one_strays : {T : Type 0} (code : Code) (s : Stand) (aim : Aim) (m : Method) (es : List Resolved) (e : Resolved) (r : Result T Fault) (p : Process) → length es ≡ 1 → e ≡ get_or es 0 e
-    → OnAstray r (EvaluatesAmiss s value_of (value_for code s.actor.0 e p) p (CallsAmissOf code s aim m)) → OnAstray r (MethodStepAmiss code s aim m es p)
-one_strays code s aim m [] e r p n is go = absurd (omega (arith, n))
-one_strays code s aim m (x ∷ []) e r p n is go =
-    subst (λ y. OnAstray r (EvaluatesAmiss s value_of (value_for code s.actor.0 y p) p (CallsAmissOf code s aim m))) is go
-one_strays code s aim m (x ∷ y ∷ zs) e r p n is go = absurd (omega (arith, n))
+pub one_stuck : {T : Type 0} (code : Code) (s : ControlPoint) (aim : Aim) (m : Method) (es : List Resolved) (e : Resolved) (r : Result T Fault) (p : Process) → length es ≡ 1 → e ≡ get_or es 0 e
+    → OnStuck r (EvaluatesStuck s value_of (value_for code s.actor.0 e p) p (CallsStuckOf code s aim m)) → OnStuck r (MethodStepStuck code s aim m es p)
+one_stuck code s aim m [] e r p n is go = absurd (omega (arith, n))
+one_stuck code s aim m (x ∷ []) e r p n is go =
+    subst (λ y. OnStuck r (EvaluatesStuck s value_of (value_for code s.actor.0 y p) p (CallsStuckOf code s aim m))) is go
+one_stuck code s aim m (x ∷ y ∷ zs) e r p n is go = absurd (omega (arith, n))
 
-pub more_strays : (code : Code) (s : Stand) (aim : Aim) (m : Method) (es : List Resolved) (p : Process) → 2 ≤ length es → MethodStepAmiss code s aim m es p
-more_strays code s aim m [] p n = absurd (omega (arith, n))
-more_strays code s aim m (x ∷ []) p n = absurd (omega (arith, n))
-more_strays code s aim m (x ∷ y ∷ zs) p n = tt
+pub more_stuck : (code : Code) (s : ControlPoint) (aim : Aim) (m : Method) (es : List Resolved) (p : Process) → 2 ≤ length es → MethodStepStuck code s aim m es p
+more_stuck code s aim m [] p n = absurd (omega (arith, n))
+more_stuck code s aim m (x ∷ []) p n = absurd (omega (arith, n))
+more_stuck code s aim m (x ∷ y ∷ zs) p n = tt
 
-pub method_strays : (code : Code) (s : Stand) (aim : Aim) (m : Method) (sent : Option Value) (kd : Kind) (k : CellId) (p told : Process)
+pub method_gets_stuck : (code : Code) (s : ControlPoint) (aim : Aim) (m : Method) (sent : Option Value) (kd : Kind) (k : CellId) (p told : Process)
     → field_path (places_in code.fields) aim.path.items (option_map value_of (place_held s.actor.0 aim.place p.heap)) ≡ Some (RefValue kd k.0)
-    → told ≡ noted (next_stand s) p → MethodAmiss m kd k sent told.heap → CallsAmiss code s aim m sent p
-method_strays code s aim m sent kd k p told at e x = method_amiss kd k at (subst (λ (y : Process). MethodAmiss m kd k sent y.heap) e x)
+    → told ≡ noted (next_stand s) p → MethodStuck m kd k sent told.heap → CallsStuck code s aim m sent p
+method_gets_stuck code s aim m sent kd k p told at e x = method_stuck kd k at (subst (λ (y : Process). MethodStuck m kd k sent y.heap) e x)
 
 -- instructions by their kinds
-pub acts_stray : {T : Type 0} (code : Code) (s : Stand) (x : Instruction) (a : Act) (args : Vec Resolved Global) (es : List Resolved) (r : Result T Fault) (p : Process)
+pub acts_get_stuck : {T : Type 0} (code : Code) (s : ControlPoint) (x : Instruction) (a : Act) (args : Vec Resolved Global) (es : List Resolved) (r : Result T Fault) (p : Process)
     → x ≡ instruction.Act a args → es ≡ args.items
-    → OnAstray r (EvaluatesAmiss s args_of (values_for code s.actor.0 es p) p (ActAmiss code s a)) → OnAstray r (DoesAmiss code s x p)
-acts_stray code s x a args es r p is e go =
-    subst (λ y. OnAstray r (DoesAmiss code s y p)) (sym is)
-    (subst (λ l. OnAstray r (EvaluatesAmiss s args_of (values_for code s.actor.0 l p) p (ActAmiss code s a))) e go)
+    → OnStuck r (EvaluatesStuck s args_of (values_for code s.actor.0 es p) p (ActStuck code s a)) → OnStuck r (DoesStuck code s x p)
+acts_get_stuck code s x a args es r p is e go =
+    subst (λ y. OnStuck r (DoesStuck code s y p)) (sym is)
+    (subst (λ l. OnStuck r (EvaluatesStuck s args_of (values_for code s.actor.0 l p) p (ActStuck code s a))) e go)
 
-pub tests_stray : {T : Type 0} (code : Code) (s : Stand) (x : Last) (e : Resolved) (one other : ℕ) (r : Result T Fault) (p : Process) → x ≡ last.Test e one other
-    → OnAstray r (EvaluatesAmiss s truth_value (truth_for code s.actor.0 e p) p (TestAmiss s one other)) → OnAstray r (LastAmiss code s x p)
-tests_stray code s x e one other r p is go = subst (λ y. OnAstray r (LastAmiss code s y p)) (sym is) go
+pub tests_stuck : {T : Type 0} (code : Code) (s : ControlPoint) (x : Last) (e : Resolved) (one other : ℕ) (r : Result T Fault) (p : Process) → x ≡ last.Test e one other
+    → OnStuck r (EvaluatesStuck s truth_value (truth_for code s.actor.0 e p) p (TestStuck s one other)) → OnStuck r (LastStuck code s x p)
+tests_stuck code s x e one other r p is go = subst (λ y. OnStuck r (LastStuck code s y p)) (sym is) go
 
 -- a wait
-module _ (code : Code) (s t : Stand) (number : ℕ) (g : Group) (p told : Process) where
-  pub operand_strays : (b : Branch) (n : ℕ) → Some g ≡ group_numbered number s.class.now.groups.items → t ≡ noted_stand s → told ≡ noted s p
-      → Some b ≡ slice_get g.branches.items (kept_by t told) → n ≡ g.first + kept_by t told → AsksAmiss code t n b.operand told
-      → ChoosesAmiss code s number p
-  operand_strays b n e m d at k o =
-      let here = subst (λ x. AsksAmiss code t x b.operand told) k o in
-      let noted_here = subst (λ x. AsksAmiss code x (g.first + kept_by x told) b.operand told) m here in
-      let told_here = subst (λ x. AsksAmiss code (noted_stand s) (g.first + kept_by s x) b.operand x) d noted_here in
-      operand_amiss g b (sym e) (sym at') told_here
+module _ (code : Code) (s t : ControlPoint) (number : ℕ) (g : Group) (p told : Process) where
+  pub operand_gets_stuck : (b : Branch) (n : ℕ) → Some g ≡ group_numbered number s.class.now.groups.items → t ≡ noted_stand s → told ≡ noted s p
+      → Some b ≡ slice_get g.branches.items (kept_by t told) → n ≡ g.first + kept_by t told → AsksStuck code t n b.operand told
+      → ChoosesStuck code s number p
+  operand_gets_stuck b n e m d at k o =
+      let here = subst (λ x. AsksStuck code t x b.operand told) k o in
+      let noted_here = subst (λ x. AsksStuck code x (g.first + kept_by x told) b.operand told) m here in
+      let told_here = subst (λ x. AsksStuck code (noted_stand s) (g.first + kept_by s x) b.operand x) d noted_here in
+      operand_stuck g b (sym e) (sym at') told_here
     where
       at' : Some b ≡ slice_get g.branches.items (kept_by s (noted s p))
-      at' = at ∙ ap (λ (x : Stand). slice_get g.branches.items (kept_by x told)) m ∙ ap (λ x. slice_get g.branches.items (kept_by s x)) d
+      at' = at ∙ ap (λ (x : ControlPoint). slice_get g.branches.items (kept_by x told)) m ∙ ap (λ x. slice_get g.branches.items (kept_by s x)) d
 
-  pub wait_strays : Some g ≡ group_numbered number s.class.now.groups.items → t ≡ noted_stand s → told ≡ noted s p
-      → None ≡ slice_get g.branches.items (kept_by t told) → WaitsAmiss t told.heap → ChoosesAmiss code s number p
-  wait_strays e m d at w =
-      wait_amiss g (sym e) (sym (at ∙ ap (λ (x : Stand). slice_get g.branches.items (kept_by x told)) m ∙ ap (λ x. slice_get g.branches.items (kept_by s x)) d))
-      (subst (λ (x : Process). WaitsAmiss (noted_stand s) x.heap) d (subst (λ x. WaitsAmiss x told.heap) m w))
+  pub wait_gets_stuck : Some g ≡ group_numbered number s.class.now.groups.items → t ≡ noted_stand s → told ≡ noted s p
+      → None ≡ slice_get g.branches.items (kept_by t told) → WaitsStuck t told.heap → ChoosesStuck code s number p
+  wait_gets_stuck e m d at w =
+      wait_stuck g (sym e) (sym (at ∙ ap (λ (x : ControlPoint). slice_get g.branches.items (kept_by x told)) m ∙ ap (λ x. slice_get g.branches.items (kept_by s x)) d))
+      (subst (λ (x : Process). WaitsStuck (noted_stand s) x.heap) d (subst (λ x. WaitsStuck x told.heap) m w))
 
 -- a step
-pub instruction_strays : {T : Type 0} (code : Code) (s : Stand) (x : Instruction) (r : Result T Fault) (p : Process) → Some x ≡ slice_get s.block.now.body.items s.instruction
-    → OnAstray r (DoesAmiss code s x p) → OnAstray r (StepAmiss code s p)
-instruction_strays code s x r p at go = astray_weaker r _ _ (λ m. by_instruction x (sym at) m) go
+pub instruction_stuck : {T : Type 0} (code : Code) (s : ControlPoint) (x : Instruction) (r : Result T Fault) (p : Process) → Some x ≡ slice_get s.block.now.body.items s.instruction
+    → OnStuck r (DoesStuck code s x p) → OnStuck r (StepStuck code s p)
+instruction_stuck code s x r p at go = on_stuck_weaker r _ _ (λ m. by_instruction x (sym at) m) go
 
 nothing_at : {A : Type 0} (xs : List A) (n : ℕ) → slice_get xs n ≡ None → length xs ≤ n
 nothing_at [] n e = omega arith
 nothing_at (x ∷ xs) zero e = absurd (cc (e))
 nothing_at (x ∷ xs) (suc n) e = (let le = nothing_at xs n e in omega (arith, le))
 
-pub step_behind : (code : Code) (s : Stand) (p : Process) → slice_get s.block.now.body.items s.instruction ≡ None
-    → (s.instruction ≡ length s.block.now.body.items → ⊥) → StepAmiss code s p
+pub step_behind : (code : Code) (s : ControlPoint) (p : Process) → slice_get s.block.now.body.items s.instruction ≡ None
+    → (s.instruction ≡ length s.block.now.body.items → ⊥) → StepStuck code s p
 step_behind code s p none other = behind_all (omega (arith, nothing_at s.block.now.body.items s.instruction none, other))
 
 -- the steps from where an actor stands, or it stands nowhere
-pub runs_nowhere : (code : Code) (i : ActorId) (p : Process) (e : Fault) → Strays e (StandsNowhere code.classes.items i.0 p.heap) → Strays e (RunsNowAmiss code i p)
-runs_nowhere code i p e m = strays_weaker e _ _ nowhere m
+pub runs_nowhere : (code : Code) (i : ActorId) (p : Process) (e : Fault) → IfStuck e (HasNoPoint code.classes.items i.0 p.heap) → IfStuck e (RunsNowStuck code i p)
+runs_nowhere code i p e m = if_stuck_weaker e _ _ nowhere m
 
-pub runs_astray : {T : Type 0} (code : Code) (i : ActorId) (s : Stand) (p : Process) (r : Result T Fault) → StandsNow code.classes.items i p s → OnAstray r (RunsAmiss code s p)
-    → OnAstray r (RunsNowAmiss code i p)
-runs_astray code i s p r at m = astray_weaker r _ _ (runs_amiss s at) m
+pub runs_get_stuck : {T : Type 0} (code : Code) (i : ActorId) (s : ControlPoint) (p : Process) (r : Result T Fault) → IsAtPoint code.classes.items i p s → OnStuck r (RunsStuck code s p)
+    → OnStuck r (RunsNowStuck code i p)
+runs_get_stuck code i s p r at m = on_stuck_weaker r _ _ (runs_stuck s at) m
 
 -- a path that leads nowhere
 pub part_ends : (at : Numbering) (path : List ℕ) (k d : ℕ) (v w : ValueTree) → k < length path → None ≡ numbered_field at v (get_or path k d)
@@ -229,9 +229,9 @@ module _ (code : Code) (i : ℕ) (aim : Aim) (h : HeapTree) where
       other kd k (cc (there, e))
 
 -- an operand that is a reference
-pub kept_strays : {T : Type 0} (s : Stand) (n : ℕ) (v : Value) (kd : Kind) (k : CellId) (p held : Process) (r : Result T Fault) → v ≡ Ref kd k → held ≡ on_heap (hold kd k.0) p
-    → OnAstray r (KeepsAmiss s (record { callback = n; cell = k }) held.heap) → OnAstray r (ValueKeptAmiss s n v p)
-kept_strays s n v kd k p held r is e m =
-    astray_weaker r _ _
-    (λ x. subst (λ t. ReferenceAmiss s n t p.heap) (sym (ap value_of is ∙ ref_seen kd k))
-    (inr (subst (λ (y : Process). KeepsAmiss s (record { callback = n; cell = k }) y.heap) e x))) m
+pub kept_stuck : {T : Type 0} (s : ControlPoint) (n : ℕ) (v : Value) (kd : Kind) (k : CellId) (p held : Process) (r : Result T Fault) → v ≡ Ref kd k → held ≡ on_heap (hold kd k.0) p
+    → OnStuck r (KeepsStuck s (record { callback = n; cell = k }) held.heap) → OnStuck r (ValueKeptStuck s n v p)
+kept_stuck s n v kd k p held r is e m =
+    on_stuck_weaker r _ _
+    (λ x. subst (λ t. ReferenceStuck s n t p.heap) (sym (ap value_of is ∙ ref_seen kd k))
+    (inr (subst (λ (y : Process). KeepsStuck s (record { callback = n; cell = k }) y.heap) e x))) m

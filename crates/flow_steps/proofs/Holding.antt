@@ -32,10 +32,10 @@ use Rattle.flow_picture.specs.Holds.{hold, hold_all, held_cell, held_stream, set
 use Rattle.flow_steps.specs.declared.call.Goal.{Goal}
 use Rattle.flow_steps.specs.declared.process.Process.{Process}
 use Rattle.flow_steps.specs.Doing.{doing}
-use Rattle.flow_steps.specs.Bringing.{made, requested, heard, OpenGiven, PortGiven, promise_ended, without_promise, closing, closed}
+use Rattle.flow_steps.specs.Delivering.{made, requested, heard, OpenGiven, PortGiven, promise_ended, without_promise, closing, closed}
 use Rattle.flow_steps.specs.declared.errors.Fault.{Fault}
 use Rattle.flow_steps.specs.declared.errors.Fault.TheVariants as fault
-use Rattle.flow_steps.specs.Straying.{Strays, OnAstray, CellMissing, StreamMissing, SomeMissing}
+use Rattle.flow_steps.specs.Stuck.{IfStuck, OnStuck, CellMissing, StreamMissing, SomeMissing}
 use Rattle.flow_steps.specs.Holding.{on_heap, cell_holding, stream_holding, result_filled, stream_filled, value_refs, IsGiving, Gives}
 
 pub hold_append : (rs ss : List cells.Ref) (h : HeapTree) → hold_all (rs ++ ss) h ≡ hold_all ss (hold_all rs h)
@@ -136,13 +136,13 @@ stream_filled_by k o p set held all is e f = f ∙ ap (doing (task.Fire (cell_id
     by None q = absurd q
 
 -- So the cell, or the stream, that got content is not missing.
-pub strays_weaker : (e : Fault) (X Y : Type 0) → (X → Y) → Strays e X → Strays e Y
-strays_weaker fault.OutOfMemory X Y h m = tt
-strays_weaker fault.Astray X Y h m = h m
+pub if_stuck_weaker : (e : Fault) (X Y : Type 0) → (X → Y) → IfStuck e X → IfStuck e Y
+if_stuck_weaker fault.OutOfMemory X Y h m = tt
+if_stuck_weaker fault.Stuck X Y h m = h m
 
-pub astray_weaker : {T : Type 0} (r : Result T Fault) (X Y : Type 0) → (X → Y) → OnAstray r X → OnAstray r Y
-astray_weaker (Ok t) X Y h m = tt
-astray_weaker (Err e) X Y h m = strays_weaker e X Y h m
+pub on_stuck_weaker : {T : Type 0} (r : Result T Fault) (X Y : Type 0) → (X → Y) → OnStuck r X → OnStuck r Y
+on_stuck_weaker (Ok t) X Y h m = tt
+on_stuck_weaker (Err e) X Y h m = if_stuck_weaker e X Y h m
 
 pub set_there : (k : ℕ) (o : Outcome) (p q : Process) → IsSomeAnd (thing p.heap.cells.things k) (λ c. q ≡ on_heap (cell_put k (record c { content = Some o })) p)
     → CellMissing k q.heap → ⊥
@@ -164,13 +164,13 @@ sent_there k o p q is missing = by (thing p.heap.streams.things k) refl is
         let there = found_put p.heap.streams.things k m (sent o m) at in
         let now = ap (λ (x : Process). thing x.heap.streams.things k) is in cc (there, now, missing)
 
-pub set_strays : (e : Fault) (X : Type 0) (k : ℕ) (o : Outcome) (p q : Process) → IsSomeAnd (thing p.heap.cells.things k) (λ c. q ≡ on_heap (cell_put k (record c { content = Some o })) p)
-    → Strays e (CellMissing k q.heap) → Strays e X
-set_strays e X k o p q is m = strays_weaker e (CellMissing k q.heap) X (λ n. absurd (set_there k o p q is n)) m
+pub set_stuck : (e : Fault) (X : Type 0) (k : ℕ) (o : Outcome) (p q : Process) → IsSomeAnd (thing p.heap.cells.things k) (λ c. q ≡ on_heap (cell_put k (record c { content = Some o })) p)
+    → IfStuck e (CellMissing k q.heap) → IfStuck e X
+set_stuck e X k o p q is m = if_stuck_weaker e (CellMissing k q.heap) X (λ n. absurd (set_there k o p q is n)) m
 
-pub send_strays : (e : Fault) (X : Type 0) (k : ℕ) (o : Outcome) (p q : Process) → IsSomeAnd (thing p.heap.streams.things k) (λ s. q ≡ on_heap (stream_put k (sent o s)) p)
-    → Strays e (StreamMissing k q.heap) → Strays e X
-send_strays e X k o p q is m = strays_weaker e (StreamMissing k q.heap) X (λ n. absurd (sent_there k o p q is n)) m
+pub send_stuck : (e : Fault) (X : Type 0) (k : ℕ) (o : Outcome) (p q : Process) → IsSomeAnd (thing p.heap.streams.things k) (λ s. q ≡ on_heap (stream_put k (sent o s)) p)
+    → IfStuck e (StreamMissing k q.heap) → IfStuck e X
+send_stuck e X k o p q is m = if_stuck_weaker e (StreamMissing k q.heap) X (λ n. absurd (sent_there k o p q is n)) m
 
 -- a result that is given
 pub given_all : (g : Goal) (i : ActorId) (v : Value) (t : Task) (p held on all : Process) → IsGiving g i v t

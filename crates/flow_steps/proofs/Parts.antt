@@ -14,7 +14,7 @@ use Rattle.flow_resolved.specs.declared.names.FieldNames.{FieldNames}
 use Rattle.flow_code.specs.declared.class.Aim.{Aim}
 use Rattle.flow_steps.specs.declared.process.Process.{Process}
 use Rattle.flow_steps.specs.Holding.{on_heap}
-use Rattle.flow_steps.specs.Standing.{Numbering, within, exchanged, place_held, place_put, Assigns}
+use Rattle.flow_steps.specs.Points.{Numbering, within, exchanged, place_held, place_put, Assigns}
 use Rattle.flow_steps.proofs.Framing.{put_anew}
 
 -- a part of a field of a record

@@ -27,14 +27,14 @@ use Rattle.flow_cancel.specs.Heap.{HeapTree}
 use Rattle.flow_picture.specs.Changes.{stream_put}
 use Rattle.flow_picture.specs.Holds.{hold_all}
 use Rattle.flow_steps.specs.declared.errors.Fault.{Fault}
-use Rattle.flow_steps.specs.declared.frames.Stand.{Stand}
+use Rattle.flow_steps.specs.declared.frames.ControlPoint.{ControlPoint}
 use Rattle.flow_steps.specs.declared.process.Process.{Process}
 use Rattle.flow_steps.specs.declared.next.Pace.TheVariants.{On, Off}
 use Rattle.flow_steps.specs.Doing.{turned, telling}
 use Rattle.flow_steps.specs.Seen.{content_in}
 use Rattle.flow_steps.specs.Holding.{on_heap, with_heap, outcome_refs, kind_in}
-use Rattle.flow_steps.specs.Bringing.{head_of}
-use Rattle.flow_steps.specs.Standing.{lost_from}
+use Rattle.flow_steps.specs.Delivering.{head_of}
+use Rattle.flow_steps.specs.Points.{lost_from}
 use Rattle.flow_stream.specs.Streams.{or_waiter}
 use Rattle.flow_stream.specs.declared.head.Wait.{Wait}
 use Rattle.flow_stream.specs.declared.head.Wait.TheVariants.{Added, Busy}
@@ -42,10 +42,10 @@ use Rattle.flow_cell.specs.declared.waiter.Waiter.{Waiter}
 use Rattle.flow_cancel.specs.Leaving.{waiter_of}
 use Rattle.flow_numbered.proofs.Things.{with_same}
 use Rattle.std.proofs.lemmas.Option.{same_Some, slice_get-get_or, slice_get_within}
-use Rattle.flow_steps.specs.Waiting.{stream_awaited, awaited, BranchOf, Takes, copied, popped, IsGive, BranchTaken, TakesBranch, no_turn, takes_branch, left_for, callbacks_of, Registered, register, register_all, registered_then, Registers, first_ready, ready_at, marked_at, operand_kept, Keeps, kept_marked, kept_unready, kept_ready, suspended_at, Waits, waits_ready, waits_refused, waits_suspended}
+use Rattle.flow_steps.specs.Waiting.{stream_awaited, awaited, BranchOf, Takes, copied, popped, IsGive, BranchTaken, TakesBranch, no_turn, takes_branch, left_for, callbacks_of, Registered, register, register_all, registered_then, Registers, first_ready, ready_at, marked_at, operand_kept, KeepsOperand, kept_marked, kept_unready, kept_ready, suspended_at, Waits, waits_ready, waits_refused, waits_suspended}
 
 -- the branch of a number
-pub branch_is : (s : Stand) (callback branch number : ℕ) (g : Group) → s.block.now.last ≡ last.Choose number
+pub branch_is : (s : ControlPoint) (callback branch number : ℕ) (g : Group) → s.block.now.last ≡ last.Choose number
     → Some g ≡ group_numbered number s.class.now.groups.items → callback ≡ g.first + branch → BranchOf s callback branch
 branch_is s callback branch number g w e c = record { number = number; group = g; waits = w; of_number = sym e; counted = c }
 
@@ -77,7 +77,7 @@ first_taken k (Ok o) p q none c e = by (thing p.heap.streams.things k) refl c e
     by None is c e = absurd c
 
 -- a branch that took what its cell gives
-pub branch_taken : (s : Stand) (b group : ℕ) (cell : CellId) (o : Outcome) (t : Task) (p between left q : Process)
+pub branch_taken : (s : ControlPoint) (b group : ℕ) (cell : CellId) (o : Outcome) (t : Task) (p between left q : Process)
     → s.block.now.last ≡ last.Choose group → Takes cell.0 o p between → IsGive s.actor b o t
     → left ≡ on_heap (left_for s t) between → q ≡ telling (line.Take s.actor group b) left → BranchTaken s b cell p q
 branch_taken s b group cell o t p between left q w takes g l e = record {
@@ -130,28 +130,28 @@ pub none_ready : (xs : List Held) (k : ℕ) (h : HeapTree) → length xs ≤ k �
 none_ready xs k h le = ap (first_ready h) (drop_all k xs le)
 
 -- a branch that is taken, or isn't for want of a turn
-pub untaken : (s : Stand) (b : ℕ) (cell : CellId) (p q : Process) → false ≡ nat_lt 0 p.left → q ≡ turned p → TakesBranch s b cell p q
+pub untaken : (s : ControlPoint) (b : ℕ) (cell : CellId) (p q : Process) → false ≡ nat_lt 0 p.left → q ≡ turned p → TakesBranch s b cell p q
 untaken s b cell p q t e = no_turn (sym t) e
 
-pub taken_by : (s : Stand) (b : ℕ) (cell : CellId) (r : Result (Unit {0}) Fault) (p mid q : Process) → true ≡ nat_lt 0 p.left → mid ≡ turned p
+pub taken_by : (s : ControlPoint) (b : ℕ) (cell : CellId) (r : Result (Unit {0}) Fault) (p mid q : Process) → true ≡ nat_lt 0 p.left → mid ≡ turned p
     → OnOk r (BranchTaken s b cell mid q) → OnOk r (TakesBranch s b cell p q)
 taken_by s b cell r p mid q t e is = IfOk-weaker r _ _ (λ x i. takes_branch (sym t) (subst (λ y. BranchTaken s b cell y q) e i)) is
 
 -- an operand that is kept
-pub kept_cancelled : (s : Stand) (x : Held) (p mid q : Process) → true ≡ marked_at s.actor.0 p.heap → mid ≡ on_heap (operand_kept s.actor.0 x) p
-    → q ≡ on_heap (left_for s (task.Throw s.actor (record { 0 = operation_cancelled }))) mid → Keeps s x p Off q
+pub kept_cancelled : (s : ControlPoint) (x : Held) (p mid q : Process) → true ≡ marked_at s.actor.0 p.heap → mid ≡ on_heap (operand_kept s.actor.0 x) p
+    → q ≡ on_heap (left_for s (task.Throw s.actor (record { 0 = operation_cancelled }))) mid → KeepsOperand s x p Off q
 kept_cancelled s x p mid q m e f = kept_marked q (sym m) (f ∙ ap (on_heap (left_for s (task.Throw s.actor (record { 0 = operation_cancelled })))) e)
 
-pub kept_on : (s : Stand) (x : Held) (p q : Process) → false ≡ marked_at s.actor.0 p.heap → false ≡ ready_at x.cell.0 p.heap
-    → q ≡ on_heap (operand_kept s.actor.0 x) p → Keeps s x p (On s) q
+pub kept_on : (s : ControlPoint) (x : Held) (p q : Process) → false ≡ marked_at s.actor.0 p.heap → false ≡ ready_at x.cell.0 p.heap
+    → q ≡ on_heap (operand_kept s.actor.0 x) p → KeepsOperand s x p (On s) q
 kept_on s x p q m r e = kept_unready q (sym m) (sym r) e
 
-pub kept_taken : (s : Stand) (x : Held) (b : ℕ) (p mid q : Process) → false ≡ marked_at s.actor.0 p.heap → true ≡ ready_at x.cell.0 p.heap
-    → mid ≡ on_heap (operand_kept s.actor.0 x) p → BranchOf s x.callback b → TakesBranch s b x.cell mid q → Keeps s x p Off q
+pub kept_taken : (s : ControlPoint) (x : Held) (b : ℕ) (p mid q : Process) → false ≡ marked_at s.actor.0 p.heap → true ≡ ready_at x.cell.0 p.heap
+    → mid ≡ on_heap (operand_kept s.actor.0 x) p → BranchOf s x.callback b → TakesBranch s b x.cell mid q → KeepsOperand s x p Off q
 kept_taken s x b p mid q m r e of t = kept_ready q b (sym m) (sym r) of (subst (λ y. TakesBranch s b x.cell y q) e t)
 
 -- a wait that begins
-pub wait_takes : (s : Stand) (g : ℕ) (x : Held) (b : ℕ) (r : Result (Unit {0}) Fault) (p q : Process) → Some x ≡ first_ready p.heap (callbacks_of s.actor.0 p.heap)
+pub wait_takes : (s : ControlPoint) (g : ℕ) (x : Held) (b : ℕ) (r : Result (Unit {0}) Fault) (p q : Process) → Some x ≡ first_ready p.heap (callbacks_of s.actor.0 p.heap)
     → BranchOf s x.callback b → OnOk r (TakesBranch s b x.cell p q) → OnOk r (Waits s g p q)
 wait_takes s g x b r p q e of t = IfOk-weaker r _ _ (λ _ is. waits_ready x b (sym e) of is) t
 
@@ -161,7 +161,7 @@ told (false, h) false e = refl
 told (true, h) false e = absurd (false≢true e)
 told (false, h) true e = absurd (false≢true (sym e))
 
-pub wait_refused : (s : Stand) (g : ℕ) (r : Result (Unit {0}) Fault) (p mid q : Process) → None ≡ first_ready p.heap (callbacks_of s.actor.0 p.heap)
+pub wait_refused : (s : ControlPoint) (g : ℕ) (r : Result (Unit {0}) Fault) (p mid q : Process) → None ≡ first_ready p.heap (callbacks_of s.actor.0 p.heap)
     → Registers (register_all s.actor.0 (callbacks_of s.actor.0 p.heap) p.heap) false p mid
     → OnOk r (q ≡ on_heap (left_for s (task.Throw s.actor (record { 0 = second_waiter }))) mid) → OnOk r (Waits s g p q)
 wait_refused s g r p mid q e reg l =
@@ -169,7 +169,7 @@ wait_refused s g r p mid q e reg l =
     IfOk-weaker r _ _ (λ _ is. waits_refused all.1 (sym e) (told all false reg.0)
     (is ∙ ap (on_heap (left_for s (task.Throw s.actor (record { 0 = second_waiter })))) reg.1)) l
 
-pub wait_suspended : (s : Stand) (g : ℕ) (p mid one two q : Process) → None ≡ first_ready p.heap (callbacks_of s.actor.0 p.heap)
+pub wait_suspended : (s : ControlPoint) (g : ℕ) (p mid one two q : Process) → None ≡ first_ready p.heap (callbacks_of s.actor.0 p.heap)
     → Registers (register_all s.actor.0 (callbacks_of s.actor.0 p.heap) p.heap) true p mid
     → one ≡ on_heap (lost_from s.actor.0 s.class.now.slots) mid → two ≡ on_heap (suspended_at s.actor.0 g) one
     → q ≡ telling (line.Wait s.actor g) two → Waits s g p q

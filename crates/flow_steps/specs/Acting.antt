@@ -30,7 +30,7 @@ use Rattle.flow_trace.specs.declared.line.Line.TheVariants as line
 use Rattle.flow_cancel.specs.declared.task.Task.TheVariants as task
 use Rattle.flow_cancel.specs.Heap.{HeapTree, next_cell, next_actor, with_result, started_holding}
 use Rattle.flow_cancel.specs.Dropping.{refs_in}
-use Rattle.flow_meaning.specs.Asks as asks
+use Rattle.flow_meaning.specs.Requests as asks
 use Rattle.flow_meaning.specs.Evaluating as asked
 use Rattle.flow_meaning.specs.Lines.{print_line}
 use Rattle.flow_picture.specs.Holds.{hold_all}
@@ -39,15 +39,15 @@ use Rattle.flow_steps.specs.declared.call.DiskCall.TheVariants as disk
 use Rattle.flow_steps.specs.declared.call.Call.{Call}
 use Rattle.flow_steps.specs.declared.call.Call.TheVariants as call
 use Rattle.flow_steps.specs.declared.call.Goal.{Goal}
-use Rattle.flow_steps.specs.declared.frames.Stand.{Stand}
+use Rattle.flow_steps.specs.declared.frames.ControlPoint.{ControlPoint}
 use Rattle.flow_steps.specs.declared.next.Pace.{Pace}
 use Rattle.flow_steps.specs.declared.next.Pace.TheVariants.{Off}
 use Rattle.flow_steps.specs.declared.process.Process.{Process}
 use Rattle.flow_steps.specs.Doing.{turned, doing, asking, telling}
 use Rattle.flow_steps.specs.Holding.{on_heap, Gives, owner_cancelled}
-use Rattle.flow_steps.specs.Bringing.{made, sending}
-use Rattle.flow_steps.specs.Standing.{noted, values}
-use Rattle.flow_steps.specs.Sights.{sight_in, Evaluates}
+use Rattle.flow_steps.specs.Delivering.{made, sending}
+use Rattle.flow_steps.specs.Points.{noted, values}
+use Rattle.flow_steps.specs.Evaluating.{sight_in, Evaluates}
 
 -- values as plain data
 abbrev pub Values : Type 0
@@ -131,10 +131,10 @@ abbrev pub EffectMade : Code → ActorId → Goal → Effect → Values → Proc
 EffectMade code i g (effect.World called) args p q = WorldAsked i g called args p q
 EffectMade code i g (effect.Actor class) args p q = ActorCalled code i g class args.items p q
 
-abbrev pub EffectDone : Code → Stand → Goal → Effect → Values → Process → Pace → Process → Type 0
+abbrev pub EffectDone : Code → ControlPoint → Goal → Effect → Values → Process → Pace → Process → Type 0
 EffectDone code s g e args p pace q = (pace ≡ Off) × EffectMade code s.actor g e args (noted s p) q
 
-abbrev pub IsEffect : Code → Stand → Goal → Effect → List Resolved → Process → Pace → Process → Type 0
+abbrev pub IsEffect : Code → ControlPoint → Goal → Effect → List Resolved → Process → Pace → Process → Type 0
 IsEffect code s g e args p pace q =
     Evaluates s args_of (values_at (sight_in code s.actor.0 p) (nodes_of args) p.left) p (EffectDone code s g e) pace q
 

@@ -37,27 +37,27 @@ use Rattle.flow_cancel.specs.Heap.{HeapTree, pushed}
 use Rattle.flow_cancel.specs.Dropping.{dropping}
 use Rattle.flow_cancel.specs.Leaving.{withdrawn}
 use Rattle.flow_picture.specs.Holds.{hold}
-use Rattle.flow_steps.specs.declared.frames.Stand.{Stand}
+use Rattle.flow_steps.specs.declared.frames.ControlPoint.{ControlPoint}
 use Rattle.flow_steps.specs.declared.next.Pace.{Pace}
 use Rattle.flow_steps.specs.declared.process.Next.{Next}
 use Rattle.flow_steps.specs.declared.process.Next.TheVariants as next
 use Rattle.flow_steps.specs.declared.process.Process.{Process}
 use Rattle.flow_steps.specs.Doing.{turned, doing, telling}
 use Rattle.flow_steps.specs.Holding.{on_heap, kind_in, lost}
-use Rattle.flow_steps.specs.Bringing.{closed}
-use Rattle.flow_steps.specs.Standing.{StandsNow, GoesTo, next_stand, noted, gone, place_held, place_put, places_taken, places_emptied, lost_from, referring, values, Assigns}
-use Rattle.flow_steps.specs.Waiting.{BranchOf, TakesBranch, Keeps, ready_at}
+use Rattle.flow_steps.specs.Delivering.{closed}
+use Rattle.flow_steps.specs.Points.{IsAtPoint, GoesTo, next_stand, noted, gone, place_held, place_put, places_taken, places_emptied, lost_from, referring, values, Assigns}
+use Rattle.flow_steps.specs.Waiting.{BranchOf, TakesBranch, KeepsOperand, ready_at}
 use Rattle.flow_steps.specs.Acting.{Enrols, StartTold}
 use Rattle.flow_steps.specs.Stepping.{OnAfter, GoesOn, Runs, IsClose}
 
 -- An actor takes its next steps from where its frame stands.
 pub record RunsNow (code : Code) (i : ActorId) (p q : Process) : Type 0 where
-  pub stand : Stand
-  pub stands : StandsNow code.classes.items i p stand
+  pub stand : ControlPoint
+  pub stands : IsAtPoint code.classes.items i p stand
   pub runs : Runs code stand p q
 
 -- The branch of the wait at which an actor stands.
-pub record BranchAt (s : Stand) (number : ℕ) (b : Branch) : Type 0 where
+pub record BranchAt (s : ControlPoint) (number : ℕ) (b : Branch) : Type 0 where
   pub group : ℕ
   pub of : Group
   pub waits : s.block.now.last ≡ last.Choose group
@@ -75,12 +75,12 @@ bound i None v h = h
 
 -- An actor goes on at a branch that was taken, with its value.
 pub record ValueGiven (code : Code) (i : ActorId) (number : ℕ) (v : Value) (p q : Process) : Type 0 where
-  pub stand : Stand
+  pub stand : ControlPoint
   pub branch : Branch
-  pub goes : Stand
+  pub goes : ControlPoint
   pub pace : Pace
   pub between : Process
-  pub stands : StandsNow code.classes.items i p stand
+  pub stands : IsAtPoint code.classes.items i p stand
   pub at : BranchAt stand number branch
   pub to : GoesTo stand branch.block 0 goes
   pub after : OnAfter goes (bound_over i.0 branch.into v p.heap) (on_heap (bound i.0 branch.into v) p) pace between
@@ -92,11 +92,11 @@ Given code i b (outcome.Error e) p q = q ≡ doing (task.Throw i e) p
 
 -- The result of an effect is stored where its instruction aims; what stood there is dropped, and the actor stands behind it.
 pub record Stored (code : Code) (i : ActorId) (v : Value) (p q : Process) : Type 0 where
-  pub stand : Stand
+  pub stand : ControlPoint
   pub aim : Aim
   pub old : Option Value
   pub between : Process
-  pub stands : StandsNow code.classes.items i p stand
+  pub stands : IsAtPoint code.classes.items i p stand
   pub effect : Effect
   pub args : Vec Resolved Global
   pub at : slice_get stand.block.now.body.items stand.instruction ≡ Some (instruction.Effect aim effect args)
@@ -115,12 +115,12 @@ pub record TopTaken (t : Task) (p q : Process) : Type 0 where
 -- An operand is kept by an actor whose task is next.
 pub record IsKept (code : Code) (i : ActorId) (x : Held) (p q : Process) : Type 0 where
   pub start : Process
-  pub stand : Stand
+  pub stand : ControlPoint
   pub pace : Pace
   pub between : Process
   pub next : TopTaken (task.Run i) p start
-  pub stands : StandsNow code.classes.items i start stand
-  pub keeps : Keeps stand x start pace between
+  pub stands : IsAtPoint code.classes.items i start stand
+  pub keeps : KeepsOperand stand x start pace between
   pub further : GoesOn code pace between q
 
 -- An error goes to the handler of the block, or out of the actor: the operands that are kept are dropped in order, and the
@@ -148,9 +148,9 @@ Raises i (Some c) e p q = q ≡ on_heap (caught i c e) p
 Raises i None e p q = FailsBy i e p q
 
 pub record Raised (code : Code) (i : ActorId) (e : ErrorCode) (p q : Process) : Type 0 where
-  pub stand : Stand
+  pub stand : ControlPoint
   pub between : Process
-  pub stands : StandsNow code.classes.items i p stand
+  pub stands : IsAtPoint code.classes.items i p stand
   pub raises : Raises i stand.block.now.catcher e p between
   pub told : q ≡ telling (line.Throw i e) between
 
@@ -174,9 +174,9 @@ abbrev pub next_waiter : Kind → (cell : ℕ) → HeapTree → Option Waiter
 next_waiter kd k h = if ready_at k h then waiter_by kd k h else None
 
 pub record WaiterTakes (code : Code) (cell : CellId) (w : Waiter) (p q : Process) : Type 0 where
-  pub stand : Stand
+  pub stand : ControlPoint
   pub branch : ℕ
-  pub stands : StandsNow code.classes.items w.actor (doing (task.Fire cell) p) stand
+  pub stands : IsAtPoint code.classes.items w.actor (doing (task.Fire cell) p) stand
   pub at : BranchOf stand w.callback branch
   pub takes : TakesBranch stand branch cell (doing (task.Fire cell) p) q
 

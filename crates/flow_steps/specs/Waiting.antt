@@ -25,15 +25,15 @@ use Rattle.flow_cancel.specs.Heap.{HeapTree, pushed}
 use Rattle.flow_cancel.specs.Leaving.{waiter_of, withdrawn}
 use Rattle.flow_picture.specs.Changes.{cell_put, stream_put}
 use Rattle.flow_picture.specs.Holds.{hold_all}
-use Rattle.flow_steps.specs.declared.frames.Stand.{Stand}
+use Rattle.flow_steps.specs.declared.frames.ControlPoint.{ControlPoint}
 use Rattle.flow_steps.specs.declared.next.Pace.{Pace}
 use Rattle.flow_steps.specs.declared.next.Pace.TheVariants.{On, Off}
 use Rattle.flow_steps.specs.declared.process.Process.{Process}
 use Rattle.flow_steps.specs.Doing.{turned, telling}
 use Rattle.flow_steps.specs.Seen.{content_in}
 use Rattle.flow_steps.specs.Holding.{on_heap, with_heap, outcome_refs}
-use Rattle.flow_steps.specs.Bringing.{head_of}
-use Rattle.flow_steps.specs.Standing.{with_frame, gone, lost_from}
+use Rattle.flow_steps.specs.Delivering.{head_of}
+use Rattle.flow_steps.specs.Points.{with_frame, gone, lost_from}
 
 -- a wait at a cell needn't suspend
 abbrev pub ready_in : Option (CellTree Outcome) → Option (StreamTree Value) → Bool
@@ -94,13 +94,13 @@ abbrev pub suspended_at : (actor group : ℕ) → HeapTree → HeapTree
 suspended_at i g h = with_frame (in_state g) i h
 
 -- an actor leaves its wait for a task: its operands are dropped, then its locals, and then the task comes
-abbrev pub left_for : Stand → Task → HeapTree → HeapTree
+abbrev pub left_for : ControlPoint → Task → HeapTree → HeapTree
 left_for s t h =
     gone s.actor.0 s.place (length s.block.now.body.items)
     (withdrawn s.actor.0 (lost_from s.actor.0 s.class.now.slots (pushed t h)))
 
 -- The branch of an actor's wait that has this number through its class.
-pub record BranchOf (s : Stand) (callback branch : ℕ) : Type 0 where
+pub record BranchOf (s : ControlPoint) (callback branch : ℕ) : Type 0 where
   pub number : ℕ
   pub group : Group
   pub waits : s.block.now.last ≡ last.Choose number
@@ -119,7 +119,7 @@ IsGive i b o (task.Give j c x) = (j ≡ i) × (c ≡ b) × (x.value ≡ o)
 IsGive i b o t = ⊥
 
 -- A branch takes what its cell gives, and the actor leaves its wait, with the line; without a turn it doesn't.
-pub record BranchTaken (s : Stand) (b : ℕ) (cell : CellId) (p q : Process) : Type 0 where
+pub record BranchTaken (s : ControlPoint) (b : ℕ) (cell : CellId) (p q : Process) : Type 0 where
   pub group : ℕ
   pub outcome : Outcome
   pub task : Task
@@ -129,7 +129,7 @@ pub record BranchTaken (s : Stand) (b : ℕ) (cell : CellId) (p q : Process) : T
   pub gives : IsGive s.actor b outcome task
   pub leaves : q ≡ telling (line.Take s.actor group b) (on_heap (left_for s task) between)
 
-pub data TakesBranch (s : Stand) (b : ℕ) (cell : CellId) (p q : Process) : Type 0 where
+pub data TakesBranch (s : ControlPoint) (b : ℕ) (cell : CellId) (p q : Process) : Type 0 where
   no_turn : nat_lt 0 p.left ≡ false → q ≡ turned p → TakesBranch s b cell p q
   takes_branch : nat_lt 0 p.left ≡ true → BranchTaken s b cell (turned p) q → TakesBranch s b cell p q
 
@@ -143,18 +143,18 @@ marked_at i h = is_marked (thing h.actors.things i)
 
 -- An operand that counts already is kept. A marked actor then leaves its wait and is thrown that it was cancelled; an operand
 -- that is ready is taken; otherwise the actor goes on.
-pub data Keeps (s : Stand) (x : Held) (p : Process) : Pace → Process → Type 0 where
+pub data KeepsOperand (s : ControlPoint) (x : Held) (p : Process) : Pace → Process → Type 0 where
   kept_marked : (q : Process) → marked_at s.actor.0 p.heap ≡ true
       → q ≡ on_heap (left_for s (task.Throw s.actor (record { 0 = operation_cancelled }))) (on_heap (operand_kept s.actor.0 x) p)
-      → Keeps s x p Off q
+      → KeepsOperand s x p Off q
   kept_unready : (q : Process) → marked_at s.actor.0 p.heap ≡ false → ready_at x.cell.0 p.heap ≡ false
-      → q ≡ on_heap (operand_kept s.actor.0 x) p → Keeps s x p (On s) q
+      → q ≡ on_heap (operand_kept s.actor.0 x) p → KeepsOperand s x p (On s) q
   kept_ready : (q : Process) (b : ℕ) → marked_at s.actor.0 p.heap ≡ false → ready_at x.cell.0 p.heap ≡ true → BranchOf s x.callback b
-      → TakesBranch s b x.cell (on_heap (operand_kept s.actor.0 x) p) q → Keeps s x p Off q
+      → TakesBranch s b x.cell (on_heap (operand_kept s.actor.0 x) p) q → KeepsOperand s x p Off q
 
 -- All operands are kept. The first that is ready is taken. Otherwise the actor waits for all of them, with the line, and its
 -- locals are dropped; where a stream refuses, that is thrown.
-pub data Waits (s : Stand) (group : ℕ) (p q : Process) : Type 0 where
+pub data Waits (s : ControlPoint) (group : ℕ) (p q : Process) : Type 0 where
   waits_ready : (x : Held) (b : ℕ) → first_ready p.heap (callbacks_of s.actor.0 p.heap) ≡ Some x → BranchOf s x.callback b
       → TakesBranch s b x.cell p q → Waits s group p q
   waits_refused : (h : HeapTree) → first_ready p.heap (callbacks_of s.actor.0 p.heap) ≡ None

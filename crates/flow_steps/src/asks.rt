@@ -4,12 +4,12 @@ ghost use Rattle.std.specs.Prelude.{◌≡◌, ◌⊎◌, IfOk, OnOk, None, Some
 ghost use Rattle.flow_value.specs.View.{value_of, outcome_of};
 ghost use Rattle.flow_meaning.specs.Lines.{print_line};
 ghost use Rattle.flow_meaning.specs.Evaluating.{sent};
-ghost use Rattle.flow_steps.specs.Standing.{values};
+ghost use Rattle.flow_steps.specs.Points.{values};
 ghost use Rattle.flow_steps.specs.Acting.{args_of, IsMessage, Printed, PredefinedCalled, MethodCalled};
-ghost use Rattle.flow_steps.specs.Bringing.{complete_at, sending};
+ghost use Rattle.flow_steps.specs.Delivering.{complete_at, sending};
 ghost use Rattle.flow_steps.specs.Holding.{outcome_refs};
-ghost use Rattle.flow_steps.specs.Straying.{OnAstray, Missing, SomeMissing};
-ghost use Rattle.flow_steps.specs.AmissAsks.{NoMessage, PredefinedAmiss, MethodAmiss};
+ghost use Rattle.flow_steps.specs.Stuck.{OnStuck, Missing, SomeMissing};
+ghost use Rattle.flow_steps.specs.StuckRequests.{NoMessage, PredefinedStuck, MethodStuck};
 ghost use Rattle.flow_eval.specs.Answers.{arg};
 
 use crate::call::Call;
@@ -34,14 +34,14 @@ fn first(args: Vec<Value>) -> Option<Value>
 /// The line of a printed value.
 fn print_line(alloc: Global, actor: ActorId, value: Value) -> Result<Line, Fault>
     ensures done { IfOk result (λ l. print_line actor.0 (value_of value) ≡ Some l) }
-    ensures astray { OnAstray result (print_line actor.0 (value_of value) ≡ None) }
+    ensures stuck { OnStuck result (print_line actor.0 (value_of value) ≡ None) }
 {
     match value {
         Value::Int(n) => Ok(Line::PrintInt(actor, n)),
         Value::Bool(b) => Ok(Line::PrintBool(actor, b)),
         Value::Text(text) => Ok(Line::PrintText(actor, own_text(alloc, text)?)),
         Value::Void | Value::Error(_) | Value::Struct(_) | Value::Ref(_, _) => {
-            Err(Fault::Astray)
+            Err(Fault::Stuck)
         }
     }
 }
@@ -50,19 +50,19 @@ fn print_line(alloc: Global, actor: ActorId, value: Value) -> Result<Line, Fault
 fn sent(method: Method, arg: Option<Value>) -> Result<Outcome, Fault>
     ensures done { IfOk result (λ o. sent method (map value_of (values arg))
         ≡ Some (outcome_of o)) }
-    ensures astray { OnAstray result (sent method (map value_of (values arg)) ≡ None) }
+    ensures stuck { OnStuck result (sent method (map value_of (values arg)) ≡ None) }
 {
     match (method, arg) {
         (Method::Send, arg) => Ok(Outcome::Value(arg.unwrap_or(Value::Void))),
         (Method::SendError, Some(Value::Error(error))) => Ok(Outcome::Error(error)),
-        _ => Err(Fault::Astray),
+        _ => Err(Fault::Stuck),
     }
 }
 
 /// A text that is sent to a port of a process.
 fn send_to(alloc: Global, actor: ActorId, args: Vec<Value>) -> Result<Call, Fault>
     ensures done { IfOk result (λ c. IsMessage actor (args_of args) c) }
-    ensures astray { OnAstray result (NoMessage (args_of args)) }
+    ensures stuck { OnStuck result (NoMessage (args_of args)) }
 {
     let mut args = args;
     let process = int_at(&args, 0)?;
@@ -76,11 +76,11 @@ impl Process {
     // A value is printed.
     fn print(&mut self, actor: ActorId, args: Vec<Value>) -> Result<(), Fault>
         ensures done { OnOk result (Printed actor (args_of args) self.old self.new) }
-        ensures astray { OnAstray result (print_line actor.0 (arg (args_of args) 0) ≡ None) }
+        ensures stuck { OnStuck result (print_line actor.0 (arg (args_of args) 0) ≡ None) }
     {
         self.run_on(actor)?;
         let Some(value) = first(args) else {
-            return Err(Fault::Astray);
+            return Err(Fault::Stuck);
         };
         let line = print_line(self.alloc, actor, value)?;
         self.tell(line);
@@ -96,7 +96,7 @@ impl Process {
         args: Vec<Value>,
     ) -> Result<(), Fault>
         ensures done { OnOk result (PredefinedCalled actor call args self.old self.new) }
-        ensures astray { OnAstray result (PredefinedAmiss actor call args) }
+        ensures stuck { OnStuck result (PredefinedStuck actor call args) }
     {
         match call {
             Predefined::Trace => self.print(actor, args),
@@ -105,25 +105,25 @@ impl Process {
                 self.ask(sent);
                 Ok(())
             }
-            _ => Err(Fault::Astray),
+            _ => Err(Fault::Stuck),
         }
     }
 
     // Whether nothing more can be sent into the cell of a kind of reference, if there is one.
     fn is_complete(&self, kind: Kind, cell: CellId) -> Result<bool, Fault>
         ensures done { IfOk result (λ b. b ≡ complete_at kind cell.0 self.now.heap) }
-        ensures astray { OnAstray result (Missing kind cell.0 self.now.heap) }
+        ensures stuck { OnStuck result (Missing kind cell.0 self.now.heap) }
     {
         match kind {
             Kind::Promise | Kind::Future => {
                 if self.heap.cells().references(cell).is_none() {
-                    return Err(Fault::Astray);
+                    return Err(Fault::Stuck);
                 }
                 Ok(self.heap.cells().content(cell).is_some())
             }
             Kind::PromiseStream | Kind::FutureStream => {
                 if self.heap.streams().references(cell).is_none() {
-                    return Err(Fault::Astray);
+                    return Err(Fault::Stuck);
                 }
                 Ok(self.heap.streams().ended(cell))
             }
@@ -139,7 +139,7 @@ impl Process {
         outcome: Outcome,
     ) -> Result<(), Fault>
         ensures done { OnOk result (self.new ≡ sending actor kind cell.0 outcome self.old) }
-        ensures astray { OnAstray result (Missing kind cell.0 self.old.heap
+        ensures stuck { OnStuck result (Missing kind cell.0 self.old.heap
             ⊎ SomeMissing (outcome_refs outcome) self.old.heap) }
     {
         if self.is_complete(kind, cell)? {
@@ -164,7 +164,7 @@ impl Process {
         arg: Option<Value>,
     ) -> Result<(), Fault>
         ensures done { OnOk result (MethodCalled actor method kind cell arg self.old self.new) }
-        ensures astray { OnAstray result (MethodAmiss method kind cell arg self.old.heap) }
+        ensures stuck { OnStuck result (MethodStuck method kind cell arg self.old.heap) }
     {
         match kind {
             Kind::Promise | Kind::PromiseStream => {
@@ -175,7 +175,7 @@ impl Process {
                 self.heap.push(Task::Run(actor))?;
                 self.cancel_owner(cell)
             }
-            Kind::Future | Kind::FutureStream => Err(Fault::Astray),
+            Kind::Future | Kind::FutureStream => Err(Fault::Stuck),
         }
     }
 }

@@ -7,20 +7,20 @@ ghost use Rattle.flow_value.specs.View.{value_of};
 ghost use Rattle.flow_value.specs.declared.value.Value.TheVariants.{Void};
 ghost use Rattle.flow_eval.specs.Answers.{int_of, text_of, arg};
 ghost use Rattle.flow_cancel.specs.Dropping.{refs_in};
-ghost use Rattle.flow_meaning.specs.Asks.{Disk};
+ghost use Rattle.flow_meaning.specs.Requests.{Disk};
 ghost use Rattle.flow_meaning.specs.Evaluating.{world_effect};
 ghost use Rattle.flow_picture.specs.Holds.{hold_all};
 ghost use Rattle.flow_steps.specs.Acting.{args_of, disk_of, some_values, Enrols, StartTold, ActorCalled, WorldAsked, EffectMade, EffectDone, IsEffect};
 ghost use Rattle.flow_value.specs.declared.value.Value.TheVariants.{Ref};
 ghost use Rattle.flow_cancel.specs.Heap.{next_cell};
 ghost use Rattle.flow_steps.specs.Holding.{on_heap, Gives};
-ghost use Rattle.flow_steps.specs.Bringing.{made, OpenGiven, PortGiven};
-ghost use Rattle.flow_steps.specs.Straying.{OnAstray, SomeMissing};
-ghost use Rattle.flow_steps.specs.AmissCalls.{EnrolsAmiss, MakesAmiss, EffectDoneAmiss, EffectAmiss};
+ghost use Rattle.flow_steps.specs.Delivering.{made, OpenGiven, PortGiven};
+ghost use Rattle.flow_steps.specs.Stuck.{OnStuck, SomeMissing};
+ghost use Rattle.flow_steps.specs.StuckCalls.{EnrolsStuck, MakesStuck, EffectDoneStuck, EffectStuck};
 
 use crate::call::{Call, DiskCall, Goal};
 use crate::errors::Fault;
-use crate::frames::Stand;
+use crate::frames::ControlPoint;
 use crate::next::Pace;
 use crate::process::Process;
 use flow_ast::predefined::Predefined;
@@ -37,11 +37,11 @@ use std::alloc::Global;
 /// The number that an argument is.
 pub(crate) fn int_at(args: &[Value], place: usize) -> Result<i64, Fault>
     ensures done { IfOk result (λ n. int_of (arg (map value_of args.now) place) ≡ Some n) }
-    ensures astray { OnAstray result (int_of (arg (map value_of args.now) place) ≡ None) }
+    ensures stuck { OnStuck result (int_of (arg (map value_of args.now) place) ≡ None) }
 {
     match args.get(place) {
         Some(Value::Int(n)) => Ok(*n),
-        _ => Err(Fault::Astray),
+        _ => Err(Fault::Stuck),
     }
 }
 
@@ -49,14 +49,14 @@ pub(crate) fn int_at(args: &[Value], place: usize) -> Result<i64, Fault>
 pub(crate) fn take_text(alloc: Global, args: &mut [Value], place: usize) -> Result<Text, Fault>
     ensures text { IfOk result (λ t. text_of (arg (map value_of args.old) place) ≡ Some t) }
     ensures rest { OnOk result (args.new ≡ slice_set args.old place Void) }
-    ensures astray { OnAstray result (text_of (arg (map value_of args.old) place) ≡ None) }
+    ensures stuck { OnStuck result (text_of (arg (map value_of args.old) place) ≡ None) }
 {
     if place >= args.len() {
-        return Err(Fault::Astray);
+        return Err(Fault::Stuck);
     }
     match std::mem::replace(&mut args[place], Value::Void) {
         Value::Text(text) => Ok(own_text(alloc, text)?),
-        _ => Err(Fault::Astray),
+        _ => Err(Fault::Stuck),
     }
 }
 
@@ -65,7 +65,7 @@ pub(crate) fn take_text(alloc: Global, args: &mut [Value], place: usize) -> Resu
 fn read_call(alloc: Global, args: &mut [Value]) -> Result<DiskCall, Fault>
     ensures done { IfOk result (λ d. world_effect ReadFile (map value_of args.old)
         ≡ Some (Disk (disk_of d))) }
-    ensures astray { OnAstray result (world_effect ReadFile (map value_of args.old) ≡ None) }
+    ensures stuck { OnStuck result (world_effect ReadFile (map value_of args.old) ≡ None) }
 {
     let offset = int_at(args, 1)?;
     let count = int_at(args, 2)?;
@@ -78,7 +78,7 @@ fn read_call(alloc: Global, args: &mut [Value]) -> Result<DiskCall, Fault>
 fn write_call(alloc: Global, args: &mut [Value]) -> Result<DiskCall, Fault>
     ensures done { IfOk result (λ d. world_effect WriteFile (map value_of args.old)
         ≡ Some (Disk (disk_of d))) }
-    ensures astray { OnAstray result (world_effect WriteFile (map value_of args.old) ≡ None) }
+    ensures stuck { OnStuck result (world_effect WriteFile (map value_of args.old) ≡ None) }
 {
     let offset = int_at(args, 1)?;
     let text = take_text(alloc, args, 2)?;
@@ -91,7 +91,7 @@ impl Process {
     pub(crate) fn new_cell(&mut self, kind: Kind) -> Result<CellId, Fault>
         ensures number { IfOk result (λ k. k.0 ≡ next_cell self.old.heap) }
         ensures made { OnOk result (self.new ≡ on_heap (made kind) self.old) }
-        ensures astray { OnAstray result ⊥ }
+        ensures stuck { OnStuck result ⊥ }
     {
         match kind {
             Kind::Promise | Kind::Future => Ok(self.heap.new_result()?),
@@ -109,7 +109,7 @@ impl Process {
         ensures number { IfOk result (λ k. k.0 ≡ next_cell self.old.heap) }
         ensures given { IfOk result (λ k. Gives goal actor (Ref kind k)
             (on_heap (made kind) self.old) self.new) }
-        ensures astray { OnAstray result ⊥ }
+        ensures stuck { OnStuck result ⊥ }
     {
         let cell = self.new_cell(kind)?;
         self.gives(actor, goal, Value::Ref(kind, cell))?;
@@ -120,7 +120,7 @@ impl Process {
     /// A single result for which the world has an open request.
     pub fn gives_open(&mut self, actor: ActorId, goal: Goal) -> Result<CellId, Fault>
         ensures done { IfOk result (λ k. OpenGiven goal actor k self.old self.new) }
-        ensures astray { OnAstray result ⊥ }
+        ensures stuck { OnStuck result ⊥ }
     {
         let cell = self.gives_new(actor, goal, Kind::Future)?;
         self.hold(Kind::Promise, cell)?;
@@ -132,7 +132,7 @@ impl Process {
     /// A stream for a port that nobody listens to.
     pub fn gives_port(&mut self, actor: ActorId, goal: Goal) -> Result<CellId, Fault>
         ensures done { IfOk result (λ k. PortGiven goal actor k self.old self.new) }
-        ensures astray { OnAstray result ⊥ }
+        ensures stuck { OnStuck result ⊥ }
     {
         let cell = self.gives_new(actor, goal, Kind::FutureStream)?;
         self.hold(Kind::PromiseStream, cell)?;
@@ -144,7 +144,7 @@ impl Process {
     pub(crate) fn effect<'a>(
         &mut self,
         code: &Code,
-        stand: &Stand<'a>,
+        stand: &ControlPoint<'a>,
         goal: Goal,
         effect: Effect,
         args: &[Resolved],
@@ -152,7 +152,7 @@ impl Process {
         ensures done { IfOk result (λ pace. IsEffect code.now stand.now goal effect args.now
             self.old
             pace self.new) }
-        ensures astray { OnAstray result (EffectAmiss code.now stand.now effect args.now self.old) }
+        ensures stuck { OnStuck result (EffectStuck code.now stand.now effect args.now self.old) }
     {
         match self.values(code, stand.actor, args) {
             Ok(args) => self.effect_with(code, stand, goal, effect, args),
@@ -165,7 +165,7 @@ impl Process {
     fn effect_with<'a>(
         &mut self,
         code: &Code,
-        stand: &Stand<'a>,
+        stand: &ControlPoint<'a>,
         goal: Goal,
         effect: Effect,
         args: Vec<Value>,
@@ -173,7 +173,7 @@ impl Process {
         ensures done { IfOk result (λ pace. EffectDone code.now stand.now goal effect args
             self.old pace
             self.new) }
-        ensures astray { OnAstray result (EffectDoneAmiss code.now stand.now effect args self.old) }
+        ensures stuck { OnStuck result (EffectDoneStuck code.now stand.now effect args self.old) }
     {
         self.note(*stand)?;
         self.make_effect(code, stand.actor, goal, effect, args)?;
@@ -190,7 +190,7 @@ impl Process {
         args: Vec<Value>,
     ) -> Result<(), Fault>
         ensures done { OnOk result (EffectMade code.now actor goal effect args self.old self.new) }
-        ensures astray { OnAstray result (MakesAmiss code.now effect args self.old.heap) }
+        ensures stuck { OnStuck result (MakesStuck code.now effect args self.old.heap) }
     {
         match effect {
             Effect::World(call) => self.world_effect(actor, goal, call, args),
@@ -208,7 +208,7 @@ impl Process {
         args: Vec<Value>,
     ) -> Result<(), Fault>
         ensures done { OnOk result (WorldAsked actor goal call args self.old self.new) }
-        ensures astray { OnAstray result (world_effect call (args_of args) ≡ None) }
+        ensures stuck { OnStuck result (world_effect call (args_of args) ≡ None) }
     {
         let mut args = args;
         let asked = match call {
@@ -232,7 +232,7 @@ impl Process {
                 let file = take_text(self.alloc, &mut args, 0)?;
                 Call::Disk(actor, goal, DiskCall::Size(file))
             }
-            _ => return Err(Fault::Astray),
+            _ => return Err(Fault::Stuck),
         };
         self.ask(asked);
         Ok(())
@@ -244,7 +244,7 @@ impl Process {
         ensures filled { IfOk result (λ xs. xs.items ≡ some_values args.items) }
         ensures counted { OnOk result (self.new
             ≡ on_heap (hold_all (refs_in args.items)) self.old) }
-        ensures astray { OnAstray result (SomeMissing (refs_in args.items) self.old.heap) }
+        ensures stuck { OnStuck result (SomeMissing (refs_in args.items) self.old.heap) }
     {
         let mut filled = Vec::with_capacity(self.alloc, places as usize)?;
         for arg in args {
@@ -263,18 +263,18 @@ impl Process {
     ) -> Result<(ActorId, CellId), Fault>
         ensures done { IfOk result (λ r. Enrols code.now number args.items r.0 r.1 self.old
             self.new) }
-        ensures astray { OnAstray result (EnrolsAmiss code.now number args.items self.old.heap) }
+        ensures stuck { OnStuck result (EnrolsStuck code.now number args.items self.old.heap) }
     {
         let Some(class) = code.class(number) else {
-            return Err(Fault::Astray);
+            return Err(Fault::Stuck);
         };
         if args.len() != class.params as usize {
-            return Err(Fault::Astray);
+            return Err(Fault::Stuck);
         }
         let cell = self.heap.new_result()?;
         let filled = self.fill_places(args, class.places)?;
         if !self.heap.may_start(Some(cell)) {
-            return Err(Fault::Astray);
+            return Err(Fault::Stuck);
         }
         let actor = self
             .heap
@@ -291,7 +291,7 @@ impl Process {
         actor: ActorId,
     ) -> Result<(), Fault>
         ensures done { OnOk result (StartTold code.now class actor self.old self.new) }
-        ensures astray { OnAstray result (slice_get code.now.classes.items class ≡ None) }
+        ensures stuck { OnStuck result (slice_get code.now.classes.items class ≡ None) }
     {
         match code.class(class) {
             Some(class) => {
@@ -299,7 +299,7 @@ impl Process {
                 self.tell(Line::Start(actor, name));
                 Ok(())
             }
-            None => Err(Fault::Astray),
+            None => Err(Fault::Stuck),
         }
     }
 
@@ -315,7 +315,7 @@ impl Process {
     ) -> Result<(), Fault>
         ensures done { OnOk result (ActorCalled code.now caller goal number args.items self.old
             self.new) }
-        ensures astray { OnAstray result (EnrolsAmiss code.now number args.items self.old.heap) }
+        ensures stuck { OnStuck result (EnrolsStuck code.now number args.items self.old.heap) }
     {
         if !self.turn() {
             return Ok(());

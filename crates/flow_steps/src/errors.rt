@@ -12,7 +12,7 @@ pub enum Fault {
     /// There was no memory, or what counts, numbers or keeps something came to the end of its numbers.
     OutOfMemory,
     /// Something wasn't there, or didn't fit: no valid class comes here.
-    Astray,
+    Stuck,
 }
 
 impl From<NoMemory> for Fault {

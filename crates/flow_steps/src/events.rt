@@ -4,9 +4,9 @@ ghost use Rattle.std.specs.Prelude.{◌≡◌, OnOk};
 ghost use Rattle.flow_value.specs.declared.value.Kind.TheVariants as kind;
 ghost use Rattle.flow_value.specs.declared.value.Outcome.TheVariants as outcome;
 ghost use Rattle.flow_steps.specs.Holding.{on_heap};
-ghost use Rattle.flow_steps.specs.Bringing.{brought, answered, main_dropped};
-ghost use Rattle.flow_steps.specs.Straying.{OnAstray};
-ghost use Rattle.flow_steps.specs.AmissTasks.{MainStartsAmiss, MainAmiss, BringAmiss, AnswerAmiss};
+ghost use Rattle.flow_steps.specs.Delivering.{brought, answered, main_dropped};
+ghost use Rattle.flow_steps.specs.Stuck.{OnStuck};
+ghost use Rattle.flow_steps.specs.StuckTasks.{MainStartsStuck, MainStuck, BringStuck, AnswerStuck};
 ghost use Rattle.flow_steps.specs.Tasks.{MainStarts, MainCalled};
 
 use crate::errors::Fault;
@@ -22,10 +22,10 @@ impl Process {
     /// is made.
     pub fn call_main(&mut self, code: &Code, me: ProcId) -> Result<(), Fault>
         ensures done { OnOk result (MainCalled code.now me self.old self.new) }
-        ensures astray { OnAstray result (MainAmiss code.now me self.old.heap) }
+        ensures stuck { OnStuck result (MainStuck code.now me self.old.heap) }
     {
         if self.heap.main().is_some() {
-            return Err(Fault::Astray);
+            return Err(Fault::Stuck);
         }
         if !self.turn() {
             return Ok(());
@@ -37,10 +37,10 @@ impl Process {
     // `main` starts, and its result is held.
     fn start_main(&mut self, code: &Code, me: ProcId) -> Result<(), Fault>
         ensures done { OnOk result (MainStarts code.now me self.old self.new) }
-        ensures astray { OnAstray result (MainStartsAmiss code.now me self.old.heap) }
+        ensures stuck { OnStuck result (MainStartsStuck code.now me self.old.heap) }
     {
         let Some(class) = code.main() else {
-            return Err(Fault::Astray);
+            return Err(Fault::Stuck);
         };
         let args = vec![in self.alloc; Value::Int(i64::from(me.0))]?;
         let (actor, cell) = self.enrol(code, class, args)?;
@@ -54,10 +54,10 @@ impl Process {
     pub fn answer(&mut self, cell: CellId, outcome: Outcome) -> Result<(), Fault>
         ensures done { OnOk result (self.new ≡ brought kind.Promise cell.0 outcome
             (on_heap (answered cell.0) self.old)) }
-        ensures astray { OnAstray result (AnswerAmiss cell.0 outcome self.old.heap) }
+        ensures stuck { OnStuck result (AnswerStuck cell.0 outcome self.old.heap) }
     {
         if !self.heap.is_requested(cell) {
-            return Err(Fault::Astray);
+            return Err(Fault::Stuck);
         }
         self.heap.end_request(cell);
         self.heap.push(Task::Drop(Kind::Promise, cell))?;
@@ -69,7 +69,7 @@ impl Process {
         ensures done { OnOk result (self.new ≡ brought kind.PromiseStream cell.0
             (outcome.Value item)
             self.old) }
-        ensures astray { OnAstray result (BringAmiss kind.PromiseStream cell.0 (outcome.Value item)
+        ensures stuck { OnStuck result (BringStuck kind.PromiseStream cell.0 (outcome.Value item)
             self.old.heap) }
     {
         self.give_in(Kind::PromiseStream, cell, Outcome::Value(item))
@@ -78,7 +78,7 @@ impl Process {
     // A turn, and a cell gets content from outside.
     fn give_in(&mut self, kind: Kind, cell: CellId, outcome: Outcome) -> Result<(), Fault>
         ensures done { OnOk result (self.new ≡ brought kind cell.0 outcome self.old) }
-        ensures astray { OnAstray result (BringAmiss kind cell.0 outcome self.old.heap) }
+        ensures stuck { OnStuck result (BringStuck kind cell.0 outcome self.old.heap) }
     {
         if !self.turn() {
             return Ok(());
@@ -90,7 +90,7 @@ impl Process {
     /// The hold on the result of `main` is dropped, if there is one.
     pub fn drop_main(&mut self) -> Result<(), Fault>
         ensures done { OnOk result (self.new ≡ on_heap (main_dropped self.old.heap.main) self.old) }
-        ensures astray { OnAstray result ⊥ }
+        ensures stuck { OnStuck result ⊥ }
     {
         if let Some(cell) = self.heap.main() {
             self.heap.set_main(None);

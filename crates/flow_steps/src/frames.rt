@@ -9,8 +9,8 @@ ghost use Rattle.flow_resolved.specs.View.{places_in};
 ghost use Rattle.flow_numbered.specs.Numbered.{thing};
 ghost use Rattle.flow_cancel.specs.Dropping.{dropping};
 ghost use Rattle.flow_steps.specs.Holding.{on_heap};
-ghost use Rattle.flow_steps.specs.Straying.{OnAstray, FrameMissing, NoPlace, SomePlaceMissing, BlockMissing, Nowhere, StandsNowhere, PartMissing, AimsAmiss};
-ghost use Rattle.flow_steps.specs.Standing.{GoesTo, next_stand, noted_stand, noted, block_in, StandsIn, StandsNow, gone, place_held, place_put, may_refer, referring, field_path, exchanged, Assigns, places_taken, places_emptied, place_lost, lost_from};
+ghost use Rattle.flow_steps.specs.Stuck.{OnStuck, FrameMissing, NoPlace, SomePlaceMissing, BlockMissing, Nowhere, HasNoPoint, PartMissing, AimsStuck};
+ghost use Rattle.flow_steps.specs.Points.{GoesTo, next_stand, noted_stand, noted, block_in, IsPointOf, IsAtPoint, gone, place_held, place_put, may_refer, referring, field_path, exchanged, Assigns, places_taken, places_emptied, place_lost, lost_from};
 ghost use Rattle.flow_steps.specs.Drops.{DropsOver};
 
 use crate::errors::Fault;
@@ -33,7 +33,7 @@ pub(crate) fn may_refer(value: &Value) -> bool
 /// A value that left a place joins others, if it may hold references.
 fn keep_referring(values: &mut Vec<Value>, old: Option<Value>) -> Result<(), Fault>
     ensures done { OnOk result (values.new.items ≡ values.old.items ++ referring old) }
-    ensures astray { OnAstray result ⊥ }
+    ensures stuck { OnStuck result ⊥ }
 {
     match old {
         Some(value) if may_refer(&value) => Ok(values.push(value)?),
@@ -44,7 +44,7 @@ fn keep_referring(values: &mut Vec<Value>, old: Option<Value>) -> Result<(), Fau
 /// Where an actor stands: its class, and the block and the instruction; where it waits, the block of the wait; and whether its
 /// frame says so already.
 #[derive(Clone, Copy)]
-pub struct Stand<'a> {
+pub struct ControlPoint<'a> {
     pub(crate) actor: ActorId,
     pub(crate) class: &'a Class,
     pub(crate) place: u32,
@@ -53,14 +53,14 @@ pub struct Stand<'a> {
     pub(crate) noted: bool,
 }
 
-impl<'a> Stand<'a> {
+impl<'a> ControlPoint<'a> {
     /// Where the actor stands that goes on at a block and an instruction of it. Its frame doesn't say so yet.
-    pub(crate) fn at(&self, place: u32, instruction: u32) -> Result<Stand<'a>, Fault>
+    pub(crate) fn at(&self, place: u32, instruction: u32) -> Result<ControlPoint<'a>, Fault>
         ensures done { IfOk result (λ t. GoesTo self.now place instruction t) }
-        ensures astray { OnAstray result (BlockMissing self.now.class.now place) }
+        ensures stuck { OnStuck result (BlockMissing self.now.class.now place) }
     {
         match self.class.blocks.get(place as usize) {
-            Some(block) => Ok(Stand {
+            Some(block) => Ok(ControlPoint {
                 actor: self.actor,
                 class: self.class,
                 place,
@@ -68,17 +68,17 @@ impl<'a> Stand<'a> {
                 instruction,
                 noted: false,
             }),
-            None => Err(Fault::Astray),
+            None => Err(Fault::Stuck),
         }
     }
 
     /// Where the actor stands that goes on at its next instruction. Its frame doesn't say so yet.
-    pub(crate) fn next(&self) -> Result<Stand<'a>, Fault>
+    pub(crate) fn next(&self) -> Result<ControlPoint<'a>, Fault>
         ensures done { IfOk result (λ t. t ≡ next_stand self.now) }
-        ensures astray { OnAstray result ⊥ }
+        ensures stuck { OnStuck result ⊥ }
     {
         match self.instruction.checked_add(1) {
-            Some(instruction) => Ok(Stand {
+            Some(instruction) => Ok(ControlPoint {
                 actor: self.actor,
                 class: self.class,
                 place: self.place,
@@ -109,13 +109,13 @@ fn block_number(class: &Class, at: Standing) -> Option<u32>
 }
 
 /// Where the frame of an actor stands in its class.
-fn stand_in(code: &Code, actor: ActorId, at: Standing) -> Option<Stand<'_>>
-    ensures done { IfSome result (λ s. StandsIn code.now.classes.items actor at s) }
+fn stand_in(code: &Code, actor: ActorId, at: Standing) -> Option<ControlPoint<'_>>
+    ensures done { IfSome result (λ s. IsPointOf code.now.classes.items actor at s) }
     ensures nowhere { IsNone result → Nowhere code.now.classes.items at }
 {
     let class = code.class(at.class)?;
     let place = block_number(class, at)?;
-    Some(Stand {
+    Some(ControlPoint {
         actor,
         class,
         place,
@@ -185,17 +185,17 @@ fn exchange_field(
 
 impl Process {
     /// Where an actor that has a frame stands.
-    pub(crate) fn stand_of<'a>(&self, code: &'a Code, actor: ActorId) -> Result<Stand<'a>, Fault>
-        ensures done { IfOk result (λ s. StandsNow code.now.classes.items actor self.now s) }
-        ensures astray { OnAstray result (StandsNowhere code.now.classes.items actor.0
+    pub(crate) fn stand_of<'a>(&self, code: &'a Code, actor: ActorId) -> Result<ControlPoint<'a>, Fault>
+        ensures done { IfOk result (λ s. IsAtPoint code.now.classes.items actor self.now s) }
+        ensures stuck { OnStuck result (HasNoPoint code.now.classes.items actor.0
             self.now.heap) }
     {
         let Some(at) = self.heap.frames().standing(actor) else {
-            return Err(Fault::Astray);
+            return Err(Fault::Stuck);
         };
         match stand_in(code, actor, at) {
             Some(stand) => Ok(stand),
-            None => Err(Fault::Astray),
+            None => Err(Fault::Stuck),
         }
     }
 
@@ -212,13 +212,13 @@ impl Process {
         ensures changed { OnOk result (self.new
             ≡ on_heap (place_put actor.0 place value) self.old) }
         ensures held { IfOk result (λ o. o ≡ place_held actor.0 place self.old.heap) }
-        ensures astray { OnAstray result (NoPlace actor.0 place self.old.heap) }
+        ensures stuck { OnStuck result (NoPlace actor.0 place self.old.heap) }
     {
         let Some(places) = self.heap.frames().places_of(actor) else {
-            return Err(Fault::Astray);
+            return Err(Fault::Stuck);
         };
         if place >= places {
-            return Err(Fault::Astray);
+            return Err(Fault::Stuck);
         }
         Ok(self.heap.frames_mut().set_slot(actor, place, value)?)
     }
@@ -229,26 +229,26 @@ impl Process {
         ensures tasks { self.new.heap.tasks ≡ self.old.heap.tasks }
         ensures there { OnOk result (IsSome (thing self.old.heap.frames.things actor.0)) }
         ensures gone { OnOk result (self.new ≡ on_heap (gone actor.0 block instruction) self.old) }
-        ensures astray { OnAstray result (FrameMissing actor.0 self.old.heap) }
+        ensures stuck { OnStuck result (FrameMissing actor.0 self.old.heap) }
     {
         if !self.heap.frames().contains(actor) {
-            return Err(Fault::Astray);
+            return Err(Fault::Stuck);
         }
         self.heap.frames_mut().go(actor, (block, instruction));
         Ok(())
     }
 
     /// Has the frame of an actor say where the actor stands, where it does not yet.
-    pub(crate) fn note<'a>(&mut self, stand: Stand<'a>) -> Result<Stand<'a>, Fault>
+    pub(crate) fn note<'a>(&mut self, stand: ControlPoint<'a>) -> Result<ControlPoint<'a>, Fault>
         ensures stand { IfOk result (λ s. s ≡ noted_stand stand.entry) }
         ensures noted { OnOk result (self.new ≡ noted stand.entry self.old) }
-        ensures astray { OnAstray result (FrameMissing stand.entry.actor.0 self.old.heap) }
+        ensures stuck { OnStuck result (FrameMissing stand.entry.actor.0 self.old.heap) }
     {
         if stand.noted {
             return Ok(stand);
         }
         self.go(stand.actor, stand.place, stand.instruction)?;
-        Ok(Stand {
+        Ok(ControlPoint {
             actor: stand.actor,
             class: stand.class,
             place: stand.place,
@@ -259,9 +259,9 @@ impl Process {
     }
 
     /// Has the frame of an actor go on at its next instruction.
-    pub(crate) fn go_on<'a>(&mut self, stand: &Stand<'a>) -> Result<Stand<'a>, Fault>
+    pub(crate) fn go_on<'a>(&mut self, stand: &ControlPoint<'a>) -> Result<ControlPoint<'a>, Fault>
         ensures done { OnOk result (self.new ≡ noted (next_stand stand.now) self.old) }
-        ensures astray { OnAstray result (FrameMissing stand.now.actor.0 self.old.heap) }
+        ensures stuck { OnStuck result (FrameMissing stand.now.actor.0 self.old.heap) }
     {
         self.note(stand.next()?)
     }
@@ -277,15 +277,15 @@ impl Process {
     ) -> Result<Option<Value>, Fault>
         ensures done { IfOk result (λ old. Assigns fields.now actor aim.now value self.old old
             self.new) }
-        ensures astray { OnAstray result (NoPlace actor.0 aim.now.place self.old.heap
+        ensures stuck { OnStuck result (NoPlace actor.0 aim.now.place self.old.heap
             ⊎ PartMissing fields.now aim.now.path.items
             (place_held actor.0 aim.now.place self.old.heap)) }
     {
         let Some(root) = self.put(actor, aim.place, None)? else {
-            return Err(Fault::Astray);
+            return Err(Fault::Stuck);
         };
         let Some((old, root)) = exchange(fields, root, &aim.path, value) else {
-            return Err(Fault::Astray);
+            return Err(Fault::Stuck);
         };
         self.put(actor, aim.place, Some(root))?;
         Ok(Some(old))
@@ -302,7 +302,7 @@ impl Process {
     ) -> Result<Option<Value>, Fault>
         ensures done { IfOk result (λ old. Assigns code.now.fields actor aim.now value self.old old
             self.new) }
-        ensures astray { OnAstray result (AimsAmiss code.now.fields actor.0 aim.now
+        ensures stuck { OnStuck result (AimsStuck code.now.fields actor.0 aim.now
             self.old.heap) }
     {
         if aim.path.is_empty() {
@@ -317,7 +317,7 @@ impl Process {
             ≡ places_taken actor.0 places.now self.old.heap) }
         ensures emptied { OnOk result (self.new
             ≡ on_heap (places_emptied actor.0 places.now) self.old) }
-        ensures astray { OnAstray result (SomePlaceMissing actor.0 places.now self.old.heap) }
+        ensures stuck { OnStuck result (SomePlaceMissing actor.0 places.now self.old.heap) }
     {
         let mut values = Vec::new(self.alloc);
         for place in places {
@@ -331,7 +331,7 @@ impl Process {
     /// Values that left places are dropped: the references of the first come on top.
     pub(crate) fn drop_values(&mut self, values: Vec<Value>) -> Result<(), Fault>
         ensures done { OnOk result (self.new ≡ on_heap (dropping values.items) self.old) }
-        ensures astray { OnAstray result ⊥ }
+        ensures stuck { OnStuck result ⊥ }
     {
         let mut values = values;
         while let Some(value) = values.pop() {
@@ -345,7 +345,7 @@ impl Process {
     fn empty(&mut self, actor: ActorId, place: u32) -> Result<(), Fault>
         ensures lost { OnOk result (self.new ≡ on_heap (place_lost actor.0 place) self.old) }
         ensures drops { OnOk result (DropsOver self.old.heap.tasks self.new.heap.tasks) }
-        ensures astray { OnAstray result ⊥ }
+        ensures stuck { OnStuck result ⊥ }
     {
         if self.heap.frames().held(actor, place).is_none() {
             return Ok(());
@@ -360,10 +360,10 @@ impl Process {
     fn empty_from(&mut self, actor: ActorId, first: u32) -> Result<(), Fault>
         ensures lost { OnOk result (self.new ≡ on_heap (lost_from actor.0 first) self.old) }
         ensures drops { OnOk result (DropsOver self.old.heap.tasks self.new.heap.tasks) }
-        ensures astray { OnAstray result (FrameMissing actor.0 self.old.heap) }
+        ensures stuck { OnStuck result (FrameMissing actor.0 self.old.heap) }
     {
         if !self.heap.frames().contains(actor) {
-            return Err(Fault::Astray);
+            return Err(Fault::Stuck);
         }
         let count = self.heap.frames().places_held(actor).len();
         let Ok(last) = u32::try_from(count) else {
@@ -380,7 +380,7 @@ impl Process {
         ensures lost { OnOk result (self.new
             ≡ on_heap (lost_from actor.0 class.now.slots) self.old) }
         ensures drops { OnOk result (DropsOver self.old.heap.tasks self.new.heap.tasks) }
-        ensures astray { OnAstray result (FrameMissing actor.0 self.old.heap) }
+        ensures stuck { OnStuck result (FrameMissing actor.0 self.old.heap) }
     {
         self.empty_from(actor, class.slots)
     }
@@ -388,7 +388,7 @@ impl Process {
     /// All places are emptied, and what they held is dropped, by falling number, the locals before the slots.
     pub(crate) fn lose_all(&mut self, actor: ActorId) -> Result<(), Fault>
         ensures done { OnOk result (self.new ≡ on_heap (lost_from actor.0 0) self.old) }
-        ensures astray { OnAstray result (FrameMissing actor.0 self.old.heap) }
+        ensures stuck { OnStuck result (FrameMissing actor.0 self.old.heap) }
     {
         self.empty_from(actor, 0)
     }

@@ -10,25 +10,25 @@ ghost use Rattle.flow_value.specs.View.{value_of};
 ghost use Rattle.flow_value.specs.Values.{RefValue};
 ghost use Rattle.flow_eval.specs.View.{Gives, GivesAll, setting_of};
 ghost use Rattle.flow_resolved.specs.Truth.{GivesTruth};
-ghost use Rattle.flow_resolved.specs.View.{places_in, sight_of};
+ghost use Rattle.flow_resolved.specs.View.{places_in, actor_view_of};
 ghost use Rattle.flow_resolved.specs.Evaluation.{value_at};
 ghost use Rattle.flow_code.specs.declared.class.Act.TheVariants.{Function};
 ghost use Rattle.flow_steps.specs.declared.next.Pace.TheVariants.{On, Off};
-ghost use Rattle.flow_steps.specs.Sights.{Halted, program_time, setting_in, sight_in, with_left, Evaluates};
+ghost use Rattle.flow_steps.specs.Evaluating.{Halted, program_time, setting_in, sight_in, with_left, Evaluates};
 ghost use Rattle.flow_steps.specs.Seen.{contents_seen};
-ghost use Rattle.flow_steps.specs.Standing.{noted, place_held, places_taken, places_emptied, referring, field_path, next_stand};
+ghost use Rattle.flow_steps.specs.Points.{noted, place_held, places_taken, places_emptied, referring, field_path, next_stand};
 ghost use Rattle.flow_steps.specs.Holding.{on_heap};
 ghost use Rattle.flow_steps.specs.Acting.{args_of};
 ghost use Rattle.flow_steps.specs.Stepping.{OnAfter, Does, Ends, StepsOn, Runs, GoesOn, IsSet, IsNew, IsAct, IsChoose, IsMethod, MethodStep, function_result, FunctionCalled, Passes, IsTest, OperandStep, OperandKept, IsReturn, IsThrow, value_for, truth_for, values_for, truth_value};
 ghost use Rattle.flow_steps.specs.Tasks.{RunsNow};
-ghost use Rattle.flow_steps.specs.Straying.{OnAstray, FrameMissing, NoPlace, BlockMissing};
-ghost use Rattle.flow_steps.specs.AmissCalls.{HaltsAmiss, EvaluatesAmiss};
-ghost use Rattle.flow_steps.specs.AmissSteps.{SetAmiss, EmptiesAmiss, FunctionAmiss, ActAmiss, NoReferenceAt, CallsAmiss, MethodStepAmiss, DoesAmiss, TestAmiss, ValueKeptAmiss, AsksAmiss, ChoosesAmiss, ReturnAmiss, ThrowAmiss, LastAmiss, StepAmiss, RunsAmiss, GoesAmiss, RunsNowAmiss};
+ghost use Rattle.flow_steps.specs.Stuck.{OnStuck, FrameMissing, NoPlace, BlockMissing};
+ghost use Rattle.flow_steps.specs.StuckCalls.{HaltsStuck, EvaluatesStuck};
+ghost use Rattle.flow_steps.specs.StuckSteps.{SetStuck, EmptiesStuck, FunctionStuck, ActStuck, NoReferenceAt, CallsStuck, MethodStepStuck, DoesStuck, TestStuck, ValueKeptStuck, AsksStuck, ChoosesStuck, ReturnStuck, ThrowStuck, LastStuck, StepStuck, RunsStuck, GoesStuck, RunsNowStuck};
 
 use crate::branches::branch_in;
 use crate::call::Goal;
 use crate::errors::Fault;
-use crate::frames::{Stand, instruction_at, may_refer};
+use crate::frames::{ControlPoint, instruction_at, may_refer};
 use crate::process::Process;
 use crate::seen::Contents;
 use flow_ast::predefined::Method;
@@ -41,7 +41,7 @@ use flow_eval::evaluate::{Setting, Turns, run_at};
 use flow_eval::stop::Halt;
 use flow_eval::variables::VarList;
 use flow_frame::held::Held;
-use flow_resolved::evaluate::{Sight, evaluate_args, evaluate_resolved, evaluate_truth, field};
+use flow_resolved::evaluate::{ActorView, evaluate_args, evaluate_resolved, evaluate_truth, field};
 use flow_resolved::expr::Resolved;
 use flow_resolved::names::FieldNames;
 use flow_tree::limits::CALL_DEPTH;
@@ -50,7 +50,7 @@ use flow_value::value::{Kind, Outcome, Value};
 /// How an actor goes on after an instruction: at once where it stands now, or by its task, or not at all.
 #[derive(Clone, Copy)]
 pub enum Pace<'a> {
-    On(Stand<'a>),
+    On(ControlPoint<'a>),
     Off,
 }
 
@@ -81,7 +81,7 @@ fn program_time(ticks: u64) -> i64
 /// The number through its class of the branch of a group that waits for the operand after so many.
 fn callback_of(group: &Group, kept: usize) -> Result<u32, Fault>
     ensures done { IfOk result (λ n. n ≡ group.now.first + kept) }
-    ensures astray { OnAstray result ⊥ }
+    ensures stuck { OnStuck result ⊥ }
 {
     match u32::try_from(kept) {
         Ok(kept) => match group.first.checked_add(kept) {
@@ -111,9 +111,9 @@ fn run_function<C: CellView>(
 }
 
 /// A value is forgotten, and the actor goes on at its next instruction.
-fn next_after<'a>(stand: &Stand<'a>, _value: Value) -> Result<Pace<'a>, Fault>
+fn next_after<'a>(stand: &ControlPoint<'a>, _value: Value) -> Result<Pace<'a>, Fault>
     ensures done { IfOk result (λ pace. pace ≡ On (next_stand stand.now)) }
-    ensures astray { OnAstray result ⊥ }
+    ensures stuck { OnStuck result ⊥ }
 {
     Ok(Pace::On(stand.next()?))
 }
@@ -140,11 +140,11 @@ impl Process {
         code: &'a Code,
         actor: ActorId,
         contents: &'a Contents<'a>,
-    ) -> Sight<'a, Contents<'a>>
+    ) -> ActorView<'a, Contents<'a>>
         requires { contents.now.cells.now ≡ self.now.heap.cells }
-        ensures { sight_of contents_seen result ≡ sight_in code.now actor.0 self.now }
+        ensures { actor_view_of contents_seen result ≡ sight_in code.now actor.0 self.now }
     {
-        Sight {
+        ActorView {
             setting: self.setting(code, contents),
             fields: code.fields(),
             places: self.heap.frames().places_held(actor),
@@ -152,16 +152,16 @@ impl Process {
     }
 
     /// Evaluation gave no value: an error is thrown where the actor stands, or no turn was left.
-    pub(crate) fn halted<'a>(&mut self, stand: &Stand<'a>, halt: Halt) -> Result<Pace<'a>, Fault>
+    pub(crate) fn halted<'a>(&mut self, stand: &ControlPoint<'a>, halt: Halt) -> Result<Pace<'a>, Fault>
         ensures off { IfOk result (λ pace. pace ≡ Off) }
         ensures halted { OnOk result (Halted stand.now halt self.old self.new) }
-        ensures astray { OnAstray result (HaltsAmiss stand.now halt self.old.heap) }
+        ensures stuck { OnStuck result (HaltsStuck stand.now halt self.old.heap) }
     {
         self.note(*stand)?;
         match halt {
             Halt::Thrown(error) => self.throw(stand.actor, error)?,
             Halt::Spent => self.spent = true,
-            Halt::NoMeaning => return Err(Fault::Astray),
+            Halt::NoMeaning => return Err(Fault::Stuck),
             Halt::OutOfMemory => return Err(Fault::OutOfMemory),
         }
         Ok(Pace::Off)
@@ -236,20 +236,20 @@ impl Process {
         values
     }
 
-    #[tactic(auto, using(crate::proofs::Done::runs_now, crate::proofs::Going::runs_astray, crate::proofs::Going::runs_nowhere))]
+    #[tactic(auto, using(crate::proofs::Done::runs_now, crate::proofs::Going::runs_get_stuck, crate::proofs::Going::runs_nowhere))]
     /// An actor takes its next steps from where its frame stands.
     pub(crate) fn run(&mut self, code: &Code, actor: ActorId) -> Result<(), Fault>
         ensures done { OnOk result (RunsNow code.now actor self.old self.new) }
-        ensures astray { OnAstray result (RunsNowAmiss code.now actor self.old) }
+        ensures stuck { OnStuck result (RunsNowStuck code.now actor self.old) }
     {
         let stand = self.stand_of(code, actor)?;
         self.run_from(code, stand)
     }
 
     /// An actor takes its next steps, by its instructions, up to one after which other tasks come first.
-    pub(crate) fn run_from(&mut self, code: &Code, stand: Stand<'_>) -> Result<(), Fault>
+    pub(crate) fn run_from(&mut self, code: &Code, stand: ControlPoint<'_>) -> Result<(), Fault>
         ensures done { OnOk result (Runs code.now stand.entry self.old self.new) }
-        ensures astray { OnAstray result (RunsAmiss code.now stand.entry self.old) }
+        ensures stuck { OnStuck result (RunsStuck code.now stand.entry self.old) }
     {
         let mut stand = stand;
         for _step in 0..u64::MAX {
@@ -264,7 +264,7 @@ impl Process {
     /// An actor goes on after a step, where that leaves nothing to do first.
     pub(crate) fn go_from(&mut self, code: &Code, pace: Pace<'_>) -> Result<(), Fault>
         ensures done { OnOk result (GoesOn code.now pace.entry self.old self.new) }
-        ensures astray { OnAstray result (GoesAmiss code.now pace.entry self.old) }
+        ensures stuck { OnStuck result (GoesStuck code.now pace.entry self.old) }
     {
         match pace {
             Pace::On(stand) => self.run_from(code, stand),
@@ -274,9 +274,9 @@ impl Process {
 
     #[tactic(auto, using(crate::proofs::Going::step_behind))]
     // An actor takes its next step, by its instruction.
-    fn take_step<'a>(&mut self, code: &Code, stand: &Stand<'a>) -> Result<Pace<'a>, Fault>
+    fn take_step<'a>(&mut self, code: &Code, stand: &ControlPoint<'a>) -> Result<Pace<'a>, Fault>
         ensures done { IfOk result (λ pace. StepsOn code.now stand.now self.old pace self.new) }
-        ensures astray { OnAstray result (StepAmiss code.now stand.now self.old) }
+        ensures stuck { OnStuck result (StepStuck code.now stand.now self.old) }
     {
         let block = stand.block;
         if let Some(instruction) = instruction_at(block, stand.instruction) {
@@ -285,19 +285,19 @@ impl Process {
         if stand.instruction as usize == block.body.len() {
             return self.last(code, stand, &block.last);
         }
-        Err(Fault::Astray)
+        Err(Fault::Stuck)
     }
 
     #[tactic(auto, using(crate::proofs::Stepped::after_one, crate::proofs::Stepped::after_none, crate::proofs::Holding::value_dropped))]
     /// A value that is left over, if any, is dropped; the actor goes on at once where that leaves nothing to do.
     pub(crate) fn on_after<'a>(
         &mut self,
-        stand: Stand<'a>,
+        stand: ControlPoint<'a>,
         old: Option<Value>,
     ) -> Result<Pace<'a>, Fault>
         ensures done { IfOk result (λ pace. OnAfter stand.entry
             (referring old) self.old pace self.new) }
-        ensures astray { OnAstray result (FrameMissing stand.entry.actor.0 self.old.heap) }
+        ensures stuck { OnStuck result (FrameMissing stand.entry.actor.0 self.old.heap) }
     {
         match old {
             Some(old) if may_refer(&old) => {
@@ -313,12 +313,12 @@ impl Process {
     fn instruction<'a>(
         &mut self,
         code: &Code,
-        stand: &Stand<'a>,
+        stand: &ControlPoint<'a>,
         instruction: &Instruction,
     ) -> Result<Pace<'a>, Fault>
         ensures done { IfOk result (λ pace. Does code.now stand.now instruction.now self.old pace
             self.new) }
-        ensures astray { OnAstray result (DoesAmiss code.now stand.now instruction.now self.old) }
+        ensures stuck { OnStuck result (DoesStuck code.now stand.now instruction.now self.old) }
     {
         match instruction {
             Instruction::Set(aim, expr) => self.set_aim(code, stand, aim, expr),
@@ -329,17 +329,17 @@ impl Process {
             Instruction::Act(act, args) => self.act(code, stand, *act, args),
             Instruction::Method(aim, method, args) => self.method(code, stand, aim, *method, args),
             Instruction::Drop(places) => self.empty_places(stand, places),
-            Instruction::Invalid => Err(Fault::Astray),
+            Instruction::Invalid => Err(Fault::Stuck),
         }
     }
 
     #[tactic(auto, using(crate::proofs::Stepped::after_values, crate::proofs::Stepped::after_none))]
     // Places are emptied, and what they held is dropped.
-    fn empty_places<'a>(&mut self, stand: &Stand<'a>, places: &[u32]) -> Result<Pace<'a>, Fault>
+    fn empty_places<'a>(&mut self, stand: &ControlPoint<'a>, places: &[u32]) -> Result<Pace<'a>, Fault>
         ensures done { IfOk result (λ pace. OnAfter (next_stand stand.now)
             (places_taken stand.now.actor.0 places.now self.old.heap)
             (on_heap (places_emptied stand.now.actor.0 places.now) self.old) pace self.new) }
-        ensures astray { OnAstray result (EmptiesAmiss stand.now places.now self.old.heap) }
+        ensures stuck { OnStuck result (EmptiesStuck stand.now places.now self.old.heap) }
     {
         let next = stand.next()?;
         let values = self.taken(stand.actor, places)?;
@@ -356,16 +356,16 @@ impl Process {
     fn set_aim<'a>(
         &mut self,
         code: &Code,
-        stand: &Stand<'a>,
+        stand: &ControlPoint<'a>,
         aim: &Aim,
         expr: &Resolved,
     ) -> Result<Pace<'a>, Fault>
         ensures done { IfOk result (λ pace. Evaluates stand.now value_of
             (value_for code.now stand.now.actor.0 expr.now self.old) self.old
             (IsSet code.now stand.now aim.now) pace self.new) }
-        ensures astray { OnAstray result (EvaluatesAmiss stand.now value_of
+        ensures stuck { OnStuck result (EvaluatesStuck stand.now value_of
             (value_for code.now stand.now.actor.0 expr.now self.old) self.old
-            (SetAmiss code.now stand.now aim.now)) }
+            (SetStuck code.now stand.now aim.now)) }
     {
         match self.value(code, stand.actor, expr) {
             Ok(value) => self.set_value(code, stand, aim, value),
@@ -377,13 +377,13 @@ impl Process {
     fn set_value<'a>(
         &mut self,
         code: &Code,
-        stand: &Stand<'a>,
+        stand: &ControlPoint<'a>,
         aim: &Aim,
         value: Value,
     ) -> Result<Pace<'a>, Fault>
         ensures done { IfOk result (λ pace. IsSet code.now stand.now aim.now value self.old pace
             self.new) }
-        ensures astray { OnAstray result (SetAmiss code.now stand.now aim.now value self.old) }
+        ensures stuck { OnStuck result (SetStuck code.now stand.now aim.now value self.old) }
     {
         self.hold_value(&value)?;
         let old = self.assign(code, stand.actor, aim, value)?;
@@ -393,12 +393,12 @@ impl Process {
     // A new cell for a place of a promise's type.
     fn new_promise<'a>(
         &mut self,
-        stand: &Stand<'a>,
+        stand: &ControlPoint<'a>,
         place: u32,
         kind: Kind,
     ) -> Result<Pace<'a>, Fault>
         ensures done { IfOk result (λ pace. IsNew stand.now place kind self.old pace self.new) }
-        ensures astray { OnAstray result (NoPlace stand.now.actor.0 place self.old.heap) }
+        ensures stuck { OnStuck result (NoPlace stand.now.actor.0 place self.old.heap) }
     {
         let next = stand.next()?;
         let cell = self.new_cell(kind)?;
@@ -411,16 +411,16 @@ impl Process {
     fn act<'a>(
         &mut self,
         code: &Code,
-        stand: &Stand<'a>,
+        stand: &ControlPoint<'a>,
         act: Act,
         args: &[Resolved],
     ) -> Result<Pace<'a>, Fault>
         ensures done { IfOk result (λ pace. Evaluates stand.now args_of
             (values_for code.now stand.now.actor.0 args.now self.old) self.old
             (IsAct code.now stand.now act) pace self.new) }
-        ensures astray { OnAstray result (EvaluatesAmiss stand.now args_of
+        ensures stuck { OnStuck result (EvaluatesStuck stand.now args_of
             (values_for code.now stand.now.actor.0 args.now self.old) self.old
-            (ActAmiss code.now stand.now act)) }
+            (ActStuck code.now stand.now act)) }
     {
         match self.values(code, stand.actor, args) {
             Ok(args) => self.act_with(code, stand, act, args),
@@ -432,13 +432,13 @@ impl Process {
     fn act_with<'a>(
         &mut self,
         code: &Code,
-        stand: &Stand<'a>,
+        stand: &ControlPoint<'a>,
         act: Act,
         args: Vec<Value>,
     ) -> Result<Pace<'a>, Fault>
         ensures done { IfOk result (λ pace. IsAct code.now stand.now act args self.old pace
             self.new) }
-        ensures astray { OnAstray result (ActAmiss code.now stand.now act args self.old) }
+        ensures stuck { OnStuck result (ActStuck code.now stand.now act args self.old) }
     {
         match act {
             Act::World(call) => {
@@ -450,19 +450,19 @@ impl Process {
         }
     }
 
-    #[tactic(auto, using(crate::proofs::Going::more_strays))]
+    #[tactic(auto, using(crate::proofs::Going::more_stuck))]
     // A method of the reference at which an actor aims.
     fn method<'a>(
         &mut self,
         code: &Code,
-        stand: &Stand<'a>,
+        stand: &ControlPoint<'a>,
         aim: &Aim,
         method: Method,
         args: &[Resolved],
     ) -> Result<Pace<'a>, Fault>
         ensures done { IfOk result (λ pace. MethodStep code.now stand.now aim.now method args.now
             self.old pace self.new) }
-        ensures astray { OnAstray result (MethodStepAmiss code.now stand.now aim.now method args.now
+        ensures stuck { OnStuck result (MethodStepStuck code.now stand.now aim.now method args.now
             self.old) }
     {
         match args {
@@ -471,7 +471,7 @@ impl Process {
                 Ok(value) => self.method_with(code, stand, aim, method, Some(value)),
                 Err(halt) => self.halted(stand, halt),
             },
-            _ => Err(Fault::Astray),
+            _ => Err(Fault::Stuck),
         }
     }
 
@@ -480,18 +480,18 @@ impl Process {
     fn method_with<'a>(
         &mut self,
         code: &Code,
-        stand: &Stand<'a>,
+        stand: &ControlPoint<'a>,
         aim: &Aim,
         method: Method,
         sent: Option<Value>,
     ) -> Result<Pace<'a>, Fault>
         ensures done { IfOk result (λ pace. IsMethod code.now stand.now aim.now method sent self.old
             pace self.new) }
-        ensures astray { OnAstray result (CallsAmiss code.now stand.now aim.now method sent
+        ensures stuck { OnStuck result (CallsStuck code.now stand.now aim.now method sent
             self.old) }
     {
         let Some((kind, cell)) = self.reference_at(code, stand.actor, aim) else {
-            return Err(Fault::Astray);
+            return Err(Fault::Stuck);
         };
         self.go_on(stand)?;
         self.method_act(stand.actor, method, kind, cell, sent)?;
@@ -515,13 +515,13 @@ impl Process {
     fn call_function<'a>(
         &mut self,
         code: &Code,
-        stand: &Stand<'a>,
+        stand: &ControlPoint<'a>,
         function: usize,
         args: Vec<Value>,
     ) -> Result<Pace<'a>, Fault>
         ensures done { IfOk result (λ pace. FunctionCalled code.now stand.now function args self.old
             pace self.new) }
-        ensures astray { OnAstray result (FunctionAmiss code.now stand.now function args self.old) }
+        ensures stuck { OnStuck result (FunctionStuck code.now stand.now function args self.old) }
     {
         match self.function_value(code, function, args) {
             Ok(value) => next_after(stand, value),
@@ -552,10 +552,10 @@ impl Process {
         value
     }
 
-    fn last<'a>(&mut self, code: &Code, stand: &Stand<'a>, last: &Last) -> Result<Pace<'a>, Fault>
+    fn last<'a>(&mut self, code: &Code, stand: &ControlPoint<'a>, last: &Last) -> Result<Pace<'a>, Fault>
         ensures done { IfOk result (λ pace. Ends code.now stand.now last.now self.old pace
             self.new) }
-        ensures astray { OnAstray result (LastAmiss code.now stand.now last.now self.old) }
+        ensures stuck { OnStuck result (LastStuck code.now stand.now last.now self.old) }
     {
         match last {
             Last::Goto(block) => Ok(Pace::On(stand.at(*block, 0)?)),
@@ -569,9 +569,9 @@ impl Process {
 
     #[tactic(auto, using(crate::proofs::Stepped::pass_on, crate::proofs::Stepped::pass_off))]
     // A pass of a loop begins: it takes a turn.
-    fn pass<'a>(&mut self, stand: &Stand<'a>, block: u32) -> Result<Pace<'a>, Fault>
+    fn pass<'a>(&mut self, stand: &ControlPoint<'a>, block: u32) -> Result<Pace<'a>, Fault>
         ensures done { IfOk result (λ pace. Passes stand.now block self.old pace self.new) }
-        ensures astray { OnAstray result (BlockMissing stand.now.class.now block
+        ensures stuck { OnStuck result (BlockMissing stand.now.class.now block
             ⊎ FrameMissing stand.now.actor.0 self.old.heap) }
     {
         let begin = stand.at(block, 0)?;
@@ -586,15 +586,15 @@ impl Process {
     fn throw_value<'a>(
         &mut self,
         code: &Code,
-        stand: &Stand<'a>,
+        stand: &ControlPoint<'a>,
         expr: &Resolved,
     ) -> Result<Pace<'a>, Fault>
         ensures done { IfOk result (λ pace. Evaluates stand.now value_of
             (value_for code.now stand.now.actor.0 expr.now self.old) self.old
             (IsThrow stand.now) pace self.new) }
-        ensures astray { OnAstray result (EvaluatesAmiss stand.now value_of
+        ensures stuck { OnStuck result (EvaluatesStuck stand.now value_of
             (value_for code.now stand.now.actor.0 expr.now self.old) self.old
-            (ThrowAmiss stand.now)) }
+            (ThrowStuck stand.now)) }
     {
         match self.value(code, stand.actor, expr) {
             Ok(value) => self.throw_with(stand, value),
@@ -603,9 +603,9 @@ impl Process {
     }
 
     // That, with the value known.
-    fn throw_with<'a>(&mut self, stand: &Stand<'a>, value: Value) -> Result<Pace<'a>, Fault>
+    fn throw_with<'a>(&mut self, stand: &ControlPoint<'a>, value: Value) -> Result<Pace<'a>, Fault>
         ensures done { IfOk result (λ pace. IsThrow stand.now value self.old pace self.new) }
-        ensures astray { OnAstray result (ThrowAmiss stand.now value self.old) }
+        ensures stuck { OnStuck result (ThrowStuck stand.now value self.old) }
     {
         match value {
             Value::Error(error) => {
@@ -613,14 +613,14 @@ impl Process {
                 self.throw(stand.actor, error)?;
                 Ok(Pace::Off)
             }
-            _ => Err(Fault::Astray),
+            _ => Err(Fault::Stuck),
         }
     }
 
     fn test<'a>(
         &mut self,
         code: &Code,
-        stand: &Stand<'a>,
+        stand: &ControlPoint<'a>,
         expr: &Resolved,
         yes: u32,
         no: u32,
@@ -628,9 +628,9 @@ impl Process {
         ensures done { IfOk result (λ pace. Evaluates stand.now truth_value
             (truth_for code.now stand.now.actor.0 expr.now self.old) self.old
             (IsTest stand.now yes no) pace self.new) }
-        ensures astray { OnAstray result (EvaluatesAmiss stand.now truth_value
+        ensures stuck { OnStuck result (EvaluatesStuck stand.now truth_value
             (truth_for code.now stand.now.actor.0 expr.now self.old) self.old
-            (TestAmiss stand.now yes no)) }
+            (TestStuck stand.now yes no)) }
     {
         match self.truth(code, stand.actor, expr) {
             Ok(true) => Ok(Pace::On(stand.at(yes, 0)?)),
@@ -640,13 +640,13 @@ impl Process {
     }
 
     // The next operand of a wait is asked for; when all are kept, the actor waits.
-    fn choose<'a>(&mut self, code: &Code, stand: &Stand<'a>, number: u32) -> Result<Pace<'a>, Fault>
+    fn choose<'a>(&mut self, code: &Code, stand: &ControlPoint<'a>, number: u32) -> Result<Pace<'a>, Fault>
         ensures done { IfOk result (λ pace. IsChoose code.now stand.now number self.old pace
             self.new) }
-        ensures astray { OnAstray result (ChoosesAmiss code.now stand.now number self.old) }
+        ensures stuck { OnStuck result (ChoosesStuck code.now stand.now number self.old) }
     {
         let Some(group) = stand.class.group(number) else {
-            return Err(Fault::Astray);
+            return Err(Fault::Stuck);
         };
         let stand = self.note(*stand)?;
         let kept = self.operands(stand.actor);
@@ -661,14 +661,14 @@ impl Process {
     fn operand<'a>(
         &mut self,
         code: &Code,
-        stand: &Stand<'a>,
+        stand: &ControlPoint<'a>,
         callback: u32,
         operand: &Operand,
     ) -> Result<Pace<'a>, Fault>
         ensures done { IfOk result (λ pace. OperandStep code.now stand.now callback operand.now
             self.old
             pace self.new) }
-        ensures astray { OnAstray result (AsksAmiss code.now stand.now callback operand.now
+        ensures stuck { OnStuck result (AsksStuck code.now stand.now callback operand.now
             self.old) }
     {
         match operand {
@@ -683,16 +683,16 @@ impl Process {
     fn value_operand<'a>(
         &mut self,
         code: &Code,
-        stand: &Stand<'a>,
+        stand: &ControlPoint<'a>,
         callback: u32,
         expr: &Resolved,
     ) -> Result<Pace<'a>, Fault>
         ensures done { IfOk result (λ pace. Evaluates stand.now value_of
             (value_for code.now stand.now.actor.0 expr.now self.old) self.old
             (OperandKept stand.now callback) pace self.new) }
-        ensures astray { OnAstray result (EvaluatesAmiss stand.now value_of
+        ensures stuck { OnStuck result (EvaluatesStuck stand.now value_of
             (value_for code.now stand.now.actor.0 expr.now self.old) self.old
-            (ValueKeptAmiss stand.now callback)) }
+            (ValueKeptStuck stand.now callback)) }
     {
         match self.value(code, stand.actor, expr) {
             Ok(value) => self.operand_with(stand, callback, value),
@@ -703,16 +703,16 @@ impl Process {
     // That, with the value known.
     fn operand_with<'a>(
         &mut self,
-        stand: &Stand<'a>,
+        stand: &ControlPoint<'a>,
         callback: u32,
         value: Value,
     ) -> Result<Pace<'a>, Fault>
         ensures done { IfOk result (λ pace. OperandKept stand.now callback value self.old pace
             self.new) }
-        ensures astray { OnAstray result (ValueKeptAmiss stand.now callback value self.old) }
+        ensures stuck { OnStuck result (ValueKeptStuck stand.now callback value self.old) }
     {
         let Value::Ref(kind, cell) = value else {
-            return Err(Fault::Astray);
+            return Err(Fault::Stuck);
         };
         self.hold(kind, cell)?;
         self.keep_operand(stand, Held { callback, cell })
@@ -722,15 +722,15 @@ impl Process {
     fn finish_with<'a>(
         &mut self,
         code: &Code,
-        stand: &Stand<'a>,
+        stand: &ControlPoint<'a>,
         expr: &Resolved,
     ) -> Result<Pace<'a>, Fault>
         ensures done { IfOk result (λ pace. Evaluates stand.now value_of
             (value_for code.now stand.now.actor.0 expr.now self.old) self.old
             (IsReturn stand.now) pace self.new) }
-        ensures astray { OnAstray result (EvaluatesAmiss stand.now value_of
+        ensures stuck { OnStuck result (EvaluatesStuck stand.now value_of
             (value_for code.now stand.now.actor.0 expr.now self.old) self.old
-            (ReturnAmiss stand.now)) }
+            (ReturnStuck stand.now)) }
     {
         match self.value(code, stand.actor, expr) {
             Ok(value) => self.end_with_value(stand, value),
@@ -740,9 +740,9 @@ impl Process {
 
     #[tactic(auto, using(crate::proofs::Stepped::returns_by))]
     // That, with the value known.
-    fn end_with_value<'a>(&mut self, stand: &Stand<'a>, value: Value) -> Result<Pace<'a>, Fault>
+    fn end_with_value<'a>(&mut self, stand: &ControlPoint<'a>, value: Value) -> Result<Pace<'a>, Fault>
         ensures done { IfOk result (λ pace. IsReturn stand.now value self.old pace self.new) }
-        ensures astray { OnAstray result (ReturnAmiss stand.now value self.old) }
+        ensures stuck { OnStuck result (ReturnStuck stand.now value self.old) }
     {
         self.hold_value(&value)?;
         self.note(*stand)?;

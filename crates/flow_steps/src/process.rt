@@ -2,8 +2,8 @@
 
 ghost use Rattle.std.specs.Prelude.{◌≡◌, is_some, IfOk};
 ghost use Rattle.std.specs.Option.{option_copied};
-ghost use Rattle.flow_steps.specs.Straying.{OnAstray};
-ghost use Rattle.flow_steps.specs.AmissTasks.{TasksAmiss};
+ghost use Rattle.flow_steps.specs.Stuck.{OnStuck};
+ghost use Rattle.flow_steps.specs.StuckTasks.{TasksStuck};
 ghost use Rattle.flow_steps.specs.Tasks.{Tasks};
 ghost use Rattle.flow_steps.specs.Doing.{never_ran, begun, vanished, asking, telling, unasked};
 
@@ -106,7 +106,7 @@ impl Process {
     /// left. Answers want of memory after `u64::MAX` tasks.
     pub fn run_tasks(&mut self, code: &Code) -> Result<Next, Fault>
         ensures done { IfOk result (λ n. Tasks code.now self.old n self.new) }
-        ensures astray { OnAstray result (TasksAmiss code.now self.old) }
+        ensures stuck { OnStuck result (TasksStuck code.now self.old) }
     {
         for _step in 0..u64::MAX {
             if self.spent {

@@ -8,19 +8,19 @@ ghost use Rattle.flow_cell.specs.declared.counts.Side.TheVariants.{Promise};
 ghost use Rattle.flow_cell.specs.Cells.{released};
 ghost use Rattle.flow_picture.specs.Changes.{cell_put};
 ghost use Rattle.flow_steps.specs.Holding.{on_heap};
-ghost use Rattle.flow_steps.specs.Bringing.{result_set, end_line, ended_with, closing, closed};
+ghost use Rattle.flow_steps.specs.Delivering.{result_set, end_line, ended_with, closing, closed};
 ghost use Rattle.flow_numbered.specs.Numbered.{thing};
 ghost use Rattle.flow_steps.specs.Drops.{DropsOver};
-ghost use Rattle.flow_steps.specs.Standing.{referring, values};
+ghost use Rattle.flow_steps.specs.Points.{referring, values};
 ghost use Rattle.flow_steps.specs.Doing.{departed, doing};
 ghost use Rattle.flow_cancel.specs.declared.task.Task.TheVariants.{Fire};
-ghost use Rattle.flow_steps.specs.Straying.{OnAstray, FrameMissing, LosesAmiss};
-ghost use Rattle.flow_steps.specs.AmissTasks.{StandsAmiss, NoBranchAt, NoPlaceFor, BranchAmiss, GivenAmiss, EffectTo, NoEffect, StoredAmiss, HandlesAmiss, LeavesAmiss, RaisedAmiss, WaiterAmiss, FiresAmiss, NoPromise, ResultAmiss, EndsAmiss, ForgetsAmiss, ClosesAmiss, TaskAmiss};
+ghost use Rattle.flow_steps.specs.Stuck.{OnStuck, FrameMissing, LosesStuck};
+ghost use Rattle.flow_steps.specs.StuckTasks.{StandsStuck, NoBranchAt, NoPlaceFor, BranchStuck, GivenStuck, EffectTo, NoEffect, StoredStuck, HandlesStuck, LeavesStuck, RaisedStuck, WaiterStuck, FiresStuck, NoPromise, ResultStuck, EndsStuck, ForgetsStuck, ClosesStuck, TaskStuck};
 ghost use Rattle.flow_steps.specs.Tasks.{BranchAt, Given, ValueGiven, bound_over, bound, Stored, Raises, Raised, FailsBy, caught, with_error, cell_waiter, stream_waiter, next_waiter, WaiterTakes, Fires, drops_one, IsDone};
 
 use crate::branches::{branch_in, branch_of, group_at};
 use crate::errors::Fault;
-use crate::frames::{Stand, instruction_at};
+use crate::frames::{ControlPoint, instruction_at};
 use crate::process::Process;
 use flow_base::ids::{ActorId, CellId, ErrorCode};
 use flow_cancel::task::Task;
@@ -44,17 +44,17 @@ fn end_line(actor: ActorId, outcome: &Outcome) -> Line
 
 #[tactic(auto, using(crate::proofs::Done::branch_found, crate::proofs::TasksAmiss::no_group_found, crate::proofs::TasksAmiss::not_found))]
 /// The branch of this number of the wait at which an actor stands.
-fn branch_at<'a>(stand: &Stand<'a>, branch: u32) -> Result<&'a Branch, Fault>
+fn branch_at<'a>(stand: &ControlPoint<'a>, branch: u32) -> Result<&'a Branch, Fault>
     ensures done { IfOk result (λ b. BranchAt stand.now branch b.now) }
-    ensures astray { OnAstray result (NoBranchAt stand.now branch) }
+    ensures stuck { OnStuck result (NoBranchAt stand.now branch) }
 {
     let number = group_at(stand.block)?;
     let Some(group) = stand.class.group(number) else {
-        return Err(Fault::Astray);
+        return Err(Fault::Stuck);
     };
     match branch_in(group, branch as usize) {
         Some(branch) => Ok(branch),
-        None => Err(Fault::Astray),
+        None => Err(Fault::Stuck),
     }
 }
 
@@ -62,11 +62,11 @@ fn branch_at<'a>(stand: &Stand<'a>, branch: u32) -> Result<&'a Branch, Fault>
 /// Where an effect aims.
 fn aim_of(instruction: &Instruction) -> Result<&Aim, Fault>
     ensures done { IfOk result (λ aim. EffectTo instruction.now aim.now) }
-    ensures astray { OnAstray result (NoEffect instruction.now) }
+    ensures stuck { OnStuck result (NoEffect instruction.now) }
 {
     match instruction {
         Instruction::Effect(aim, _, _) => Ok(aim),
-        _ => Err(Fault::Astray),
+        _ => Err(Fault::Stuck),
     }
 }
 
@@ -75,7 +75,7 @@ impl Process {
     /// Does a task that was the newest.
     pub(crate) fn do_task(&mut self, code: &Code, task: Task) -> Result<(), Fault>
         ensures done { OnOk result (IsDone code.now task self.old self.new) }
-        ensures astray { OnAstray result (TaskAmiss code.now task self.old) }
+        ensures stuck { OnStuck result (TaskStuck code.now task self.old) }
     {
         match task {
             Task::Run(actor) => self.run(code, actor),
@@ -99,7 +99,7 @@ impl Process {
     // A reference is dropped: a turn, and it counts no more.
     fn drop_one(&mut self, kind: Kind, cell: CellId) -> Result<(), Fault>
         ensures done { OnOk result (self.new ≡ drops_one kind cell self.old) }
-        ensures astray { OnAstray result (LosesAmiss kind cell.0 self.old.heap) }
+        ensures stuck { OnStuck result (LosesStuck kind cell.0 self.old.heap) }
     {
         if !self.turn() {
             return Ok(());
@@ -116,7 +116,7 @@ impl Process {
         outcome: Outcome,
     ) -> Result<(), Fault>
         ensures done { OnOk result (Given code.now actor branch outcome self.old self.new) }
-        ensures astray { OnAstray result (GivenAmiss code.now actor branch outcome self.old) }
+        ensures stuck { OnStuck result (GivenStuck code.now actor branch outcome self.old) }
     {
         match outcome {
             Outcome::Value(value) => self.give_value(code, actor, branch, value),
@@ -133,8 +133,8 @@ impl Process {
         value: Value,
     ) -> Result<(), Fault>
         ensures done { OnOk result (ValueGiven code.now actor branch value self.old self.new) }
-        ensures astray { OnAstray result (StandsAmiss code.now.classes.items actor self.old
-            (BranchAmiss code.now actor branch value self.old)) }
+        ensures stuck { OnStuck result (StandsStuck code.now.classes.items actor self.old
+            (BranchStuck code.now actor branch value self.old)) }
     {
         let stand = self.stand_of(code, actor)?;
         let branch = branch_at(&stand, branch)?;
@@ -155,7 +155,7 @@ impl Process {
             ≡ bound_over actor.0 branch.now.into value self.old.heap) }
         ensures bound { OnOk result (self.new
             ≡ on_heap (bound actor.0 branch.now.into value) self.old) }
-        ensures astray { OnAstray result (NoPlaceFor actor.0 branch.now.into self.old.heap) }
+        ensures stuck { OnStuck result (NoPlaceFor actor.0 branch.now.into self.old.heap) }
     {
         match branch.into {
             Some(place) => self.put(actor, place, Some(value)),
@@ -166,11 +166,11 @@ impl Process {
     // The result of an effect goes into the place of the instruction.
     fn store(&mut self, code: &Code, actor: ActorId, value: Value) -> Result<(), Fault>
         ensures done { OnOk result (Stored code.now actor value self.old self.new) }
-        ensures astray { OnAstray result (StoredAmiss code.now actor self.old) }
+        ensures stuck { OnStuck result (StoredStuck code.now actor self.old) }
     {
         let stand = self.stand_of(code, actor)?;
         let Some(instruction) = instruction_at(stand.block, stand.instruction) else {
-            return Err(Fault::Astray);
+            return Err(Fault::Stuck);
         };
         let aim = aim_of(instruction)?;
         let old = self.assign(code, actor, aim, value)?;
@@ -183,7 +183,7 @@ impl Process {
     // What is left over is dropped, if anything.
     fn drop_old(&mut self, old: Option<Value>) -> Result<(), Fault>
         ensures done { OnOk result (self.new ≡ on_heap (dropping (values old)) self.old) }
-        ensures astray { OnAstray result ⊥ }
+        ensures stuck { OnStuck result ⊥ }
     {
         if let Some(old) = old {
             self.heap.push_drops(&old)?;
@@ -195,7 +195,7 @@ impl Process {
     // handler begins, or the actor ends.
     fn raise(&mut self, code: &Code, actor: ActorId, error: ErrorCode) -> Result<(), Fault>
         ensures done { OnOk result (Raised code.now actor error self.old self.new) }
-        ensures astray { OnAstray result (RaisedAmiss code.now actor self.old) }
+        ensures stuck { OnStuck result (RaisedStuck code.now actor self.old) }
     {
         let stand = self.stand_of(code, actor)?;
         self.leave_by(actor, &stand.block.catcher, error)?;
@@ -211,7 +211,7 @@ impl Process {
         error: ErrorCode,
     ) -> Result<(), Fault>
         ensures done { OnOk result (Raises actor catcher.now error self.old self.new) }
-        ensures astray { OnAstray result (LeavesAmiss actor.0 catcher.now self.old.heap) }
+        ensures stuck { OnStuck result (LeavesStuck actor.0 catcher.now self.old.heap) }
     {
         match catcher {
             Some(catcher) => self.caught(actor, catcher, error),
@@ -223,7 +223,7 @@ impl Process {
     // An error goes out of an actor, which is closed.
     fn uncaught(&mut self, actor: ActorId, error: ErrorCode) -> Result<(), Fault>
         ensures done { OnOk result (FailsBy actor error self.old self.new) }
-        ensures astray { OnAstray result (FrameMissing actor.0 self.old.heap) }
+        ensures stuck { OnStuck result (FrameMissing actor.0 self.old.heap) }
     {
         let outcome = Box::new(self.alloc, Outcome::Error(error))?;
         self.heap.push(Task::Close(actor, outcome))?;
@@ -234,7 +234,7 @@ impl Process {
     // An error goes to a handler.
     fn caught(&mut self, actor: ActorId, catcher: &Catcher, error: ErrorCode) -> Result<(), Fault>
         ensures done { OnOk result (self.new ≡ on_heap (caught actor catcher.now error) self.old) }
-        ensures astray { OnAstray result (HandlesAmiss actor.0 catcher.now self.old.heap) }
+        ensures stuck { OnStuck result (HandlesStuck actor.0 catcher.now self.old.heap) }
     {
         self.heap.push(Task::Catch(actor, error))?;
         let values = self.taken(actor, &catcher.drops)?;
@@ -252,7 +252,7 @@ impl Process {
         error: ErrorCode,
     ) -> Result<(), Fault>
         ensures done { OnOk result (self.new ≡ on_heap (with_error actor.0 place error) self.old) }
-        ensures astray { OnAstray result (NoPlaceFor actor.0 place self.old.heap) }
+        ensures stuck { OnStuck result (NoPlaceFor actor.0 place self.old.heap) }
     {
         if let Some(place) = place {
             self.put(actor, place, Some(Value::Error(error)))?;
@@ -264,10 +264,10 @@ impl Process {
     pub(crate) fn leave(&mut self, actor: ActorId) -> Result<(), Fault>
         ensures left { OnOk result (self.new ≡ departed actor.0 self.old) }
         ensures drops { OnOk result (DropsOver self.old.heap.tasks self.new.heap.tasks) }
-        ensures astray { OnAstray result (FrameMissing actor.0 self.old.heap) }
+        ensures stuck { OnStuck result (FrameMissing actor.0 self.old.heap) }
     {
         if !self.heap.frames().contains(actor) {
-            return Err(Fault::Astray);
+            return Err(Fault::Stuck);
         }
         Ok(self.heap.withdraw(actor)?)
     }
@@ -304,10 +304,10 @@ impl Process {
     // or, on a stream, neither element nor end.
     fn fire(&mut self, code: &Code, cell: CellId) -> Result<(), Fault>
         ensures done { OnOk result (Fires code.now cell self.old self.new) }
-        ensures astray { OnAstray result (FiresAmiss code.now cell self.old) }
+        ensures stuck { OnStuck result (FiresStuck code.now cell self.old) }
     {
         let Some(kind) = self.kind_at(cell) else {
-            return Err(Fault::Astray);
+            return Err(Fault::Stuck);
         };
         match self.next_waiter(kind, cell) {
             Some(waiter) => self.fire_to(code, cell, waiter),
@@ -319,7 +319,7 @@ impl Process {
     // A waiter of a cell takes its branch, and the fire goes on after it.
     fn fire_to(&mut self, code: &Code, cell: CellId, waiter: Waiter) -> Result<(), Fault>
         ensures done { OnOk result (WaiterTakes code.now cell waiter self.old self.new) }
-        ensures astray { OnAstray result (WaiterAmiss code.now cell waiter (doing
+        ensures stuck { OnStuck result (WaiterStuck code.now cell waiter (doing
             (Fire cell) self.old)) }
     {
         self.heap.push(Task::Fire(cell))?;
@@ -333,7 +333,7 @@ impl Process {
     fn close(&mut self, actor: ActorId, outcome: Outcome) -> Result<(), Fault>
         ensures done { OnOk result (IsSomeAnd (thing self.old.heap.actors.things actor.0)
             (λ n. self.new ≡ closed actor outcome n.result self.old)) }
-        ensures astray { OnAstray result (ClosesAmiss actor.0 self.old.heap) }
+        ensures stuck { OnStuck result (ClosesStuck actor.0 self.old.heap) }
     {
         let cell = self.forget(actor)?;
         self.close_result(actor, cell, outcome)
@@ -348,7 +348,7 @@ impl Process {
         outcome: Outcome,
     ) -> Result<(), Fault>
         ensures done { OnOk result (self.new ≡ closing actor outcome cell self.old) }
-        ensures astray { OnAstray result (EndsAmiss cell self.old.heap) }
+        ensures stuck { OnStuck result (EndsStuck cell self.old.heap) }
     {
         if !self.turn() {
             return Ok(());
@@ -362,7 +362,7 @@ impl Process {
     // The outcome of an actor goes to its result, where it has one that a future refers to; otherwise it is dropped.
     fn end_with(&mut self, cell: Option<CellId>, outcome: Outcome) -> Result<(), Fault>
         ensures done { OnOk result (self.new ≡ ended_with cell outcome self.old) }
-        ensures astray { OnAstray result (EndsAmiss cell self.old.heap) }
+        ensures stuck { OnStuck result (EndsStuck cell self.old.heap) }
     {
         let Some(cell) = cell else {
             return self.drop_outcome(&outcome);
@@ -379,10 +379,10 @@ impl Process {
         ensures gone { OnOk result (self.new ≡ on_heap (finished actor.0) self.old) }
         ensures told { IfOk result (λ k. IsSomeAnd (thing self.old.heap.actors.things actor.0)
             (λ n. k ≡ n.result)) }
-        ensures astray { OnAstray result (ForgetsAmiss actor.0 self.old.heap) }
+        ensures stuck { OnStuck result (ForgetsStuck actor.0 self.old.heap) }
     {
         if !self.heap.unfinished(actor) || !self.heap.may_finish(actor) {
-            return Err(Fault::Astray);
+            return Err(Fault::Stuck);
         }
         let result = self.heap.result(actor);
         self.heap.finish(actor);
@@ -393,7 +393,7 @@ impl Process {
     // A turn, and the result is set and fires. The actor's own promise counts no more.
     fn set_result(&mut self, cell: CellId, outcome: Outcome) -> Result<(), Fault>
         ensures done { OnOk result (self.new ≡ result_set cell.0 outcome self.old) }
-        ensures astray { OnAstray result (ResultAmiss cell.0 self.old.heap) }
+        ensures stuck { OnStuck result (ResultStuck cell.0 self.old.heap) }
     {
         if !self.turn() {
             return Ok(());
@@ -407,13 +407,13 @@ impl Process {
         ensures done { OnOk result (IsSomeAnd (thing self.old.heap.cells.things cell.0)
             (λ c. self.new ≡ on_heap (cell_put cell.0
             (record c { references = released Promise c.references })) self.old)) }
-        ensures astray { OnAstray result (NoPromise (thing self.old.heap.cells.things cell.0)) }
+        ensures stuck { OnStuck result (NoPromise (thing self.old.heap.cells.things cell.0)) }
     {
         let Some(references) = self.heap.cells().references(cell) else {
-            return Err(Fault::Astray);
+            return Err(Fault::Stuck);
         };
         if references.count(Side::Promise) == 0 {
-            return Err(Fault::Astray);
+            return Err(Fault::Stuck);
         }
         self.heap.cells_mut().release(cell, Side::Promise);
         Ok(())

@@ -9,7 +9,7 @@ ghost use Rattle.flow_stream.specs.Streams.{with_item};
 ghost use Rattle.flow_picture.specs.Changes.{cell_put, stream_put};
 ghost use Rattle.flow_picture.specs.Holds.{hold, hold_all, sent, filled_in};
 ghost use Rattle.flow_steps.specs.Doing.{turned, doing, stopped};
-ghost use Rattle.flow_steps.specs.Straying.{OnAstray, CellMissing, StreamMissing, Missing, SomeMissing, MayNotSet, MayNotSend, MayNotFill, NoReference, LosesAmiss, CancelsAmiss, OwnerAmiss};
+ghost use Rattle.flow_steps.specs.Stuck.{OnStuck, CellMissing, StreamMissing, Missing, SomeMissing, MayNotSet, MayNotSend, MayNotFill, NoReference, LosesStuck, CancelsStuck, OwnerStuck};
 ghost use Rattle.flow_steps.specs.Waiting.{ready_at};
 ghost use Rattle.flow_steps.specs.Holding.{on_heap, cell_holding, stream_holding, value_refs, outcome_refs, refs_dropped, result_filled, stream_filled, IsGiving, Gives, broken, lost, owner_cancelled, kind_in, futures_of};
 
@@ -45,7 +45,7 @@ impl Process {
     /// An error is thrown where an actor stands.
     pub fn throw(&mut self, actor: ActorId, error: ErrorCode) -> Result<(), Fault>
         ensures done { OnOk result (self.new ≡ doing (Throw actor error) self.old) }
-        ensures astray { OnAstray result ⊥ }
+        ensures stuck { OnStuck result ⊥ }
     {
         self.push(Task::Throw(actor, error))
     }
@@ -53,7 +53,7 @@ impl Process {
     /// An actor takes its next step after all that comes on top.
     pub fn run_on(&mut self, actor: ActorId) -> Result<(), Fault>
         ensures done { OnOk result (self.new ≡ doing (Run actor) self.old) }
-        ensures astray { OnAstray result ⊥ }
+        ensures stuck { OnStuck result ⊥ }
     {
         self.push(Task::Run(actor))
     }
@@ -62,10 +62,10 @@ impl Process {
     // A reference to a side of a single result counts.
     fn hold_cell(&mut self, side: Side, cell: CellId) -> Result<(), Fault>
         ensures done { OnOk result (self.new ≡ on_heap (cell_holding side cell.0) self.old) }
-        ensures astray { OnAstray result (CellMissing cell.0 self.old.heap) }
+        ensures stuck { OnStuck result (CellMissing cell.0 self.old.heap) }
     {
         let Some(references) = self.heap.cells().references(cell) else {
-            return Err(Fault::Astray);
+            return Err(Fault::Stuck);
         };
         if references.count(side) == u64::MAX {
             return Err(Fault::OutOfMemory);
@@ -78,10 +78,10 @@ impl Process {
     // A reference to a side of a stream counts.
     fn hold_stream(&mut self, side: Side, cell: CellId) -> Result<(), Fault>
         ensures done { OnOk result (self.new ≡ on_heap (stream_holding side cell.0) self.old) }
-        ensures astray { OnAstray result (StreamMissing cell.0 self.old.heap) }
+        ensures stuck { OnStuck result (StreamMissing cell.0 self.old.heap) }
     {
         let Some(references) = self.heap.streams().references(cell) else {
-            return Err(Fault::Astray);
+            return Err(Fault::Stuck);
         };
         if references.count(side) == u64::MAX {
             return Err(Fault::OutOfMemory);
@@ -93,7 +93,7 @@ impl Process {
     /// A reference is stored: it counts.
     pub(crate) fn hold(&mut self, kind: Kind, cell: CellId) -> Result<(), Fault>
         ensures done { OnOk result (self.new ≡ on_heap (hold kind cell.0) self.old) }
-        ensures astray { OnAstray result (Missing kind cell.0 self.old.heap) }
+        ensures stuck { OnStuck result (Missing kind cell.0 self.old.heap) }
     {
         match kind {
             Kind::Promise | Kind::Future => self.hold_cell(side_of(kind), cell),
@@ -105,7 +105,7 @@ impl Process {
     /// A value is stored: its references count.
     pub(crate) fn hold_value(&mut self, value: &Value) -> Result<(), Fault>
         ensures done { OnOk result (self.new ≡ on_heap (hold_all (value_refs value.now)) self.old) }
-        ensures astray { OnAstray result (SomeMissing (value_refs value.now) self.old.heap) }
+        ensures stuck { OnStuck result (SomeMissing (value_refs value.now) self.old.heap) }
     {
         match value {
             Value::Struct(record) => {
@@ -126,7 +126,7 @@ impl Process {
     pub(crate) fn hold_outcome(&mut self, outcome: &Outcome) -> Result<(), Fault>
         ensures done { OnOk result (self.new ≡ on_heap (hold_all
             (outcome_refs outcome.now)) self.old) }
-        ensures astray { OnAstray result (SomeMissing (outcome_refs outcome.now) self.old.heap) }
+        ensures stuck { OnStuck result (SomeMissing (outcome_refs outcome.now) self.old.heap) }
     {
         match outcome {
             Outcome::Value(value) => self.hold_value(value),
@@ -139,7 +139,7 @@ impl Process {
     pub(crate) fn drop_outcome(&mut self, outcome: &Outcome) -> Result<(), Fault>
         ensures done { OnOk result (self.new ≡ on_heap (refs_dropped (outcome_refs outcome.now))
             self.old) }
-        ensures astray { OnAstray result ⊥ }
+        ensures stuck { OnStuck result ⊥ }
     {
         match outcome {
             Outcome::Value(value) => Ok(self.heap.push_drops(value)?),
@@ -152,12 +152,12 @@ impl Process {
         ensures done { OnOk result (IsSomeAnd (thing self.old.heap.cells.things cell.0)
             (λ c. self.new ≡ on_heap (cell_put cell.0 (record c { content = Some outcome }))
             self.old)) }
-        ensures astray { OnAstray result (MayNotSet (thing self.old.heap.cells.things cell.0)) }
+        ensures stuck { OnStuck result (MayNotSet (thing self.old.heap.cells.things cell.0)) }
     {
         if self.heap.cells().references(cell).is_none()
             || self.heap.cells().content(cell).is_some()
         {
-            return Err(Fault::Astray);
+            return Err(Fault::Stuck);
         }
         self.heap.cells_mut().set(cell, outcome);
         Ok(())
@@ -167,13 +167,13 @@ impl Process {
     fn send(&mut self, cell: CellId, value: Value) -> Result<(), Fault>
         ensures done { OnOk result (IsSomeAnd (thing self.old.heap.streams.things cell.0)
             (λ s. self.new ≡ on_heap (stream_put cell.0 (with_item s value)) self.old)) }
-        ensures astray { OnAstray result (MayNotSend (thing self.old.heap.streams.things cell.0)) }
+        ensures stuck { OnStuck result (MayNotSend (thing self.old.heap.streams.things cell.0)) }
     {
         if self.heap.streams().references(cell).is_none() {
-            return Err(Fault::Astray);
+            return Err(Fault::Stuck);
         }
         if self.heap.streams().end_error(cell).is_some() {
-            return Err(Fault::Astray);
+            return Err(Fault::Stuck);
         }
         self.heap.streams_mut().push(cell, value)?;
         Ok(())
@@ -184,13 +184,13 @@ impl Process {
         ensures done { OnOk result (IsSomeAnd (thing self.old.heap.streams.things cell.0)
             (λ s. self.new ≡ on_heap (stream_put cell.0 (record s { end = Some error }))
             self.old)) }
-        ensures astray { OnAstray result (MayNotSend (thing self.old.heap.streams.things cell.0)) }
+        ensures stuck { OnStuck result (MayNotSend (thing self.old.heap.streams.things cell.0)) }
     {
         if self.heap.streams().references(cell).is_none() {
-            return Err(Fault::Astray);
+            return Err(Fault::Stuck);
         }
         if self.heap.streams().end_error(cell).is_some() {
-            return Err(Fault::Astray);
+            return Err(Fault::Stuck);
         }
         self.heap.streams_mut().end(cell, error);
         Ok(())
@@ -200,7 +200,7 @@ impl Process {
     fn send_outcome(&mut self, cell: CellId, outcome: Outcome) -> Result<(), Fault>
         ensures done { OnOk result (IsSomeAnd (thing self.old.heap.streams.things cell.0)
             (λ s. self.new ≡ on_heap (stream_put cell.0 (sent outcome s)) self.old)) }
-        ensures astray { OnAstray result (MayNotSend (thing self.old.heap.streams.things cell.0)) }
+        ensures stuck { OnStuck result (MayNotSend (thing self.old.heap.streams.things cell.0)) }
     {
         match outcome {
             Outcome::Value(value) => self.send(cell, value),
@@ -211,7 +211,7 @@ impl Process {
     // A task comes on top.
     fn push(&mut self, task: Task) -> Result<(), Fault>
         ensures done { OnOk result (self.new ≡ doing task self.old) }
-        ensures astray { OnAstray result ⊥ }
+        ensures stuck { OnStuck result ⊥ }
     {
         Ok(self.heap.push(task)?)
     }
@@ -220,7 +220,7 @@ impl Process {
     // A single result gets content that counts already, and fires.
     fn fill_result(&mut self, cell: CellId, outcome: Outcome) -> Result<(), Fault>
         ensures done { OnOk result (self.new ≡ on_heap (result_filled cell.0 outcome) self.old) }
-        ensures astray { OnAstray result (MayNotSet (thing self.old.heap.cells.things cell.0)) }
+        ensures stuck { OnStuck result (MayNotSet (thing self.old.heap.cells.things cell.0)) }
     {
         self.set(cell, outcome)?;
         self.hold(Kind::Future, cell)?;
@@ -232,7 +232,7 @@ impl Process {
     // A stream gets content that counts already, and fires.
     fn fill_stream(&mut self, cell: CellId, outcome: Outcome) -> Result<(), Fault>
         ensures done { OnOk result (self.new ≡ on_heap (stream_filled cell.0 outcome) self.old) }
-        ensures astray { OnAstray result (MayNotSend (thing self.old.heap.streams.things cell.0)) }
+        ensures stuck { OnStuck result (MayNotSend (thing self.old.heap.streams.things cell.0)) }
     {
         self.send_outcome(cell, outcome)?;
         self.hold(Kind::FutureStream, cell)?;
@@ -243,7 +243,7 @@ impl Process {
     /// The cell of a kind of reference, to which more can be sent, gets content that counts already, and fires.
     pub(crate) fn fill(&mut self, kind: Kind, cell: CellId, outcome: Outcome) -> Result<(), Fault>
         ensures done { OnOk result (self.new ≡ on_heap (filled_in kind cell.0 outcome) self.old) }
-        ensures astray { OnAstray result (MayNotFill kind cell.0 self.old.heap) }
+        ensures stuck { OnStuck result (MayNotFill kind cell.0 self.old.heap) }
     {
         match kind {
             Kind::Promise | Kind::Future => self.fill_result(cell, outcome),
@@ -254,19 +254,19 @@ impl Process {
     // The task by which the result of an effect goes where it belongs.
     fn giving(&self, actor: ActorId, goal: Goal, value: Value) -> Result<Task, Fault>
         ensures done { IfOk result (λ t. IsGiving goal actor value t) }
-        ensures astray { OnAstray result (NoReference goal value) }
+        ensures stuck { OnStuck result (NoReference goal value) }
     {
         match (goal, value) {
             (Goal::Stored, value) => Ok(Task::Store(actor, Box::new(self.alloc, value)?)),
             (Goal::Kept(callback), Value::Ref(_, cell)) => Ok(Task::Keep(actor, callback, cell)),
-            (Goal::Kept(_), _) => Err(Fault::Astray),
+            (Goal::Kept(_), _) => Err(Fault::Stuck),
         }
     }
 
     /// The result of an effect goes where it belongs, and the actor goes on after that.
     pub fn gives(&mut self, actor: ActorId, goal: Goal, value: Value) -> Result<(), Fault>
         ensures done { OnOk result (Gives goal actor value self.old self.new) }
-        ensures astray { OnAstray result (SomeMissing (value_refs value) self.old.heap
+        ensures stuck { OnStuck result (SomeMissing (value_refs value) self.old.heap
             ⊎ NoReference goal value) }
     {
         self.hold_value(&value)?;
@@ -278,10 +278,10 @@ impl Process {
     /// A reference counts no more, and what that leads to is done.
     pub(crate) fn lose(&mut self, kind: Kind, cell: CellId) -> Result<(), Fault>
         ensures done { OnOk result (self.new ≡ lost kind cell.0 self.old) }
-        ensures astray { OnAstray result (LosesAmiss kind cell.0 self.old.heap) }
+        ensures stuck { OnStuck result (LosesStuck kind cell.0 self.old.heap) }
     {
         if !self.heap.may_drop(kind, cell) {
-            return Err(Fault::Astray);
+            return Err(Fault::Stuck);
         }
         match self.heap.drop_ref(kind, cell)? {
             Dropped::Nothing | Dropped::Freed => Ok(()),
@@ -297,7 +297,7 @@ impl Process {
     // A cell is broken: a turn, the line, and the error of a broken promise.
     fn break_cell(&mut self, kind: Kind, cell: CellId) -> Result<(), Fault>
         ensures done { OnOk result (self.new ≡ broken kind cell.0 self.old) }
-        ensures astray { OnAstray result (MayNotFill kind cell.0 self.old.heap) }
+        ensures stuck { OnStuck result (MayNotFill kind cell.0 self.old.heap) }
     {
         if !self.turn() {
             return Ok(());
@@ -310,10 +310,10 @@ impl Process {
     /// An unfinished and unmarked actor is cancelled.
     pub(crate) fn cancel(&mut self, actor: ActorId) -> Result<(), Fault>
         ensures done { OnOk result (self.new ≡ stopped actor.0 self.old) }
-        ensures astray { OnAstray result (CancelsAmiss actor.0 self.old.heap) }
+        ensures stuck { OnStuck result (CancelsStuck actor.0 self.old.heap) }
     {
         if !self.heap.unfinished(actor) || !self.heap.frames().contains(actor) {
-            return Err(Fault::Astray);
+            return Err(Fault::Stuck);
         }
         self.heap.cancel(actor)?;
         self.tell(Line::Cancel(actor));
@@ -323,7 +323,7 @@ impl Process {
     /// The unfinished and unmarked actor whose result a cell is, if there is one, is cancelled.
     pub(crate) fn cancel_owner(&mut self, cell: CellId) -> Result<(), Fault>
         ensures done { OnOk result (self.new ≡ owner_cancelled cell.0 self.old) }
-        ensures astray { OnAstray result (OwnerAmiss cell.0 self.old.heap) }
+        ensures stuck { OnStuck result (OwnerStuck cell.0 self.old.heap) }
     {
         let Some(actor) = self.heap.owner(cell) else {
             return Ok(());

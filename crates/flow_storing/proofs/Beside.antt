@@ -26,8 +26,8 @@ use Rattle.flow_cancel.specs.Dropping.{refs_in, drops, content, cell_lost, cell_
 use Rattle.flow_cancel.specs.Leaving.{waiter_of, leave_cell_at, leave_all, withdrawn_from, withdrawn, suspended, marked, cancelled_by, cancelled}
 use Rattle.flow_meaning.specs.Cells.{Ref}
 use Rattle.flow_picture.specs.Holds.{held_cell, held_stream, hold, hold_all, set_cell, send_stream, filled_in}
-use Rattle.flow_steps.specs.Bringing.{made, promise_ended, without_promise}
-use Rattle.flow_steps.specs.Standing.{reframed, with_frame, gone, noting, place_held, place_put, places_emptied, values, place_lost, places_lost, losing_from, lost_from}
+use Rattle.flow_steps.specs.Delivering.{made, promise_ended, without_promise}
+use Rattle.flow_steps.specs.Points.{reframed, with_frame, gone, noting, place_held, place_put, places_emptied, values, place_lost, places_lost, losing_from, lost_from}
 use Rattle.flow_steps.specs.Waiting.{stream_awaited, awaited, register, Registered, registered_then, register_all}
 use Rattle.flow_storing.specs.Storing.{AllStoreNone, NoPromiseStored}
 

@@ -17,7 +17,7 @@ use Rattle.flow_steps.specs.declared.call.Goal.{Goal}
 use Rattle.flow_steps.specs.declared.process.Process.{Process}
 use Rattle.flow_steps.specs.Doing.{doing}
 use Rattle.flow_steps.specs.Holding.{on_heap}
-use Rattle.flow_steps.specs.Bringing.{made, OpenGiven, PortGiven}
+use Rattle.flow_steps.specs.Delivering.{made, OpenGiven, PortGiven}
 use Rattle.flow_machine.specs.Serving.{DrawServed, DelayServed, DiskServed, PortOpened, ListenServed, SendServed, Served}
 use Rattle.flow_storing.specs.Storing as law
 use Rattle.flow_storing.specs.Storing.{StoresNone, NoPromiseStored}

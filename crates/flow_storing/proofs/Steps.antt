@@ -37,19 +37,19 @@ use Rattle.flow_cancel.specs.declared.task.Dropped.TheVariants as after
 use Rattle.flow_cancel.specs.Heap.{HeapTree, pushed}
 use Rattle.flow_cancel.specs.Dropping.{refs_in}
 use Rattle.flow_cancel.specs.Leaving.{withdrawn}
-use Rattle.flow_meaning.specs.Asks as asks
+use Rattle.flow_meaning.specs.Requests as asks
 use Rattle.flow_picture.specs.Holds.{hold, hold_all}
 use Rattle.flow_steps.specs.declared.call.Goal.{Goal}
-use Rattle.flow_steps.specs.declared.frames.Stand.{Stand}
+use Rattle.flow_steps.specs.declared.frames.ControlPoint.{ControlPoint}
 use Rattle.flow_steps.specs.declared.next.Pace.{Pace}
 use Rattle.flow_steps.specs.declared.next.Pace.TheVariants.{On, Off}
 use Rattle.flow_steps.specs.declared.process.Process.{Process}
 use Rattle.flow_steps.specs.Doing.{turned, doing}
 use Rattle.flow_steps.specs.Holding.{on_heap, IsGiving, value_refs, outcome_refs, Gives, cancelled_if}
-use Rattle.flow_steps.specs.Bringing.{made, complete_at, sent_into, sending}
-use Rattle.flow_steps.specs.Standing.{next_stand, noted_stand, noted, places_emptied, lost_from}
-use Rattle.flow_steps.specs.Waiting.{operand_kept, Registered, register_all, left_for, Takes, copied, popped, IsGive, TakesBranch, no_turn, takes_branch, Keeps, kept_marked, kept_unready, kept_ready, Waits, waits_ready, waits_refused, waits_suspended}
-use Rattle.flow_steps.specs.Sights.{with_left, Evaluates, gives, throws, runs_out}
+use Rattle.flow_steps.specs.Delivering.{made, complete_at, sent_into, sending}
+use Rattle.flow_steps.specs.Points.{next_stand, noted_stand, noted, places_emptied, lost_from}
+use Rattle.flow_steps.specs.Waiting.{operand_kept, Registered, register_all, left_for, Takes, copied, popped, IsGive, TakesBranch, no_turn, takes_branch, KeepsOperand, kept_marked, kept_unready, kept_ready, Waits, waits_ready, waits_refused, waits_suspended}
+use Rattle.flow_steps.specs.Evaluating.{with_left, Evaluates, gives, throws, runs_out}
 use Rattle.flow_steps.specs.Acting.{Values, args_of, Enrols, EffectAsked, ActorCalled, not_called, actor_starts, EffectMade, EffectDone, PredefinedCalled, MethodCalled}
 use Rattle.flow_steps.specs.Stepping.{OnAfter, IsSet, made_in_place, IsNew, IsAct, IsMethod, MethodStep, Does, GoesOnAt, Passes, no_pass, pass_begins, IsTest, ReferenceKept, OperandStep, Chooses, asks_operand, all_kept, IsClose, IsReturn, ErrorThrown, Ends, StepsOn, by_instruction, by_last, Runs, runs_on, runs_off, GoesOn}
 use Rattle.std.specs.Prelude.{ℤ, ◌-◌}
@@ -70,16 +70,16 @@ turned_good m p = by_turn (nat_lt 0 m.left)
     by_turn true = p
     by_turn false = p
 
-pub noted_good : (s : Stand) (m : Process) → NoPromiseStored m.heap → NoPromiseStored (noted s m).heap
+pub noted_good : (s : ControlPoint) (m : Process) → NoPromiseStored m.heap → NoPromiseStored (noted s m).heap
 noted_good s m p = told s.noted s.actor.0 s.place s.instruction m.heap p
 
 -- values are left over
-pub left_over : (s : Stand) (vs : List Value) (m n : Process) (pace : Pace) → OnAfter s vs m pace n → NoPromiseStored m.heap → NoPromiseStored n.heap
+pub left_over : (s : ControlPoint) (vs : List Value) (m n : Process) (pace : Pace) → OnAfter s vs m pace n → NoPromiseStored m.heap → NoPromiseStored n.heap
 left_over s [] m n pace h p = good_is n m h.1 p
 left_over s (v ∷ vs) m n pace h p = good_is n _ h.1 (drops_none (refs_in (v ∷ vs)) (task.Run s.actor ∷ (noted s m).heap.tasks) (tt, noted_good s m p))
 
 -- evaluation
-pub evaluates : {A B : Type 0} (s : Stand) (seen : B → A) (comes_to : Res A) (m n : Process) (goes : B → Process → Pace → Process → Type 0) (pace : Pace)
+pub evaluates : {A B : Type 0} (s : ControlPoint) (seen : B → A) (comes_to : Res A) (m n : Process) (goes : B → Process → Pace → Process → Type 0) (pace : Pace)
     → ((v : B) (k n : Process) (pace : Pace) → goes v k pace n → NoPromiseStored k.heap → NoPromiseStored n.heap) → Evaluates s seen comes_to m goes pace n
     → NoPromiseStored m.heap → NoPromiseStored n.heap
 evaluates s seen comes_to m n goes pace further (gives b left a q done h) p = further b (with_left left m) q a h p
@@ -146,7 +146,7 @@ effect_made : (code : Code) (i : ActorId) (g : Goal) (e : Effect) (args : Values
 effect_made code i g (effect.World called) args m n h p = effect_asked i g _ m n h p
 effect_made code i g (effect.Actor class) args m n h p = actor_called code i g class args.items m n h p
 
-effect_done : (code : Code) (s : Stand) (g : Goal) (e : Effect) (args : Values) (m n : Process) (pace : Pace) → EffectDone code s g e args m pace n → NoPromiseStored m.heap → NoPromiseStored n.heap
+effect_done : (code : Code) (s : ControlPoint) (g : Goal) (e : Effect) (args : Values) (m n : Process) (pace : Pace) → EffectDone code s g e args m pace n → NoPromiseStored m.heap → NoPromiseStored n.heap
 effect_done code s g e args m n pace h p = effect_made code s.actor g e args (noted s m) n h.1 (noted_good s m p)
 
 -- call statements
@@ -173,29 +173,29 @@ method_called i called kind.PromiseStream k arg m n h p = good_is n _ h.sends (s
 method_called i called kind.Future k arg m n h p = good_is n _ h.1 (owner_good _ (doing (task.Run i) m) (tt, p))
 method_called i called kind.FutureStream k arg m n h p = absurd h
 
-method_is : (code : Code) (s : Stand) (aim : Aim) (called : Method) (sent : Option Value) (m n : Process) (pace : Pace) → IsMethod code s aim called sent m pace n → NoPromiseStored m.heap → NoPromiseStored n.heap
+method_is : (code : Code) (s : ControlPoint) (aim : Aim) (called : Method) (sent : Option Value) (m n : Process) (pace : Pace) → IsMethod code s aim called sent m pace n → NoPromiseStored m.heap → NoPromiseStored n.heap
 method_is code s aim called sent m n pace h p = method_called s.actor called h.kind h.cell sent (noted (next_stand s) m) n h.calls (noted_good (next_stand s) m p)
 
-method_step : (code : Code) (s : Stand) (aim : Aim) (called : Method) (es : List Resolved) (m n : Process) (pace : Pace) → MethodStep code s aim called es m pace n → NoPromiseStored m.heap → NoPromiseStored n.heap
+method_step : (code : Code) (s : ControlPoint) (aim : Aim) (called : Method) (es : List Resolved) (m n : Process) (pace : Pace) → MethodStep code s aim called es m pace n → NoPromiseStored m.heap → NoPromiseStored n.heap
 method_step code s aim called [] m n pace h p = method_is code s aim called None m n pace h p
 method_step code s aim called (e ∷ []) m n pace h p = evaluates s value_of _ m n _ pace (λ v k n pace h p. method_is code s aim called (Some v) k n pace h p) h p
 method_step code s aim called (e ∷ f ∷ es) m n pace h p = absurd h
 
-act_is : (code : Code) (s : Stand) (a : Act) (args : Values) (m n : Process) (pace : Pace) → IsAct code s a args m pace n → NoPromiseStored m.heap → NoPromiseStored n.heap
+act_is : (code : Code) (s : ControlPoint) (a : Act) (args : Values) (m n : Process) (pace : Pace) → IsAct code s a args m pace n → NoPromiseStored m.heap → NoPromiseStored n.heap
 act_is code s (act.World called) args m n pace h p = predefined_called s.actor called args (noted (next_stand s) m) n h.1 (noted_good (next_stand s) m p)
 act_is code s (act.Function f) args m n pace h p = evaluates s value_of _ m n _ pace (λ v k n pace h p. good_is n k h.1 p) h p
 
-set_is : (code : Code) (s : Stand) (aim : Aim) (v : Value) (m n : Process) (pace : Pace) → IsSet code s aim v m pace n → NoPromiseStored m.heap → NoPromiseStored n.heap
+set_is : (code : Code) (s : ControlPoint) (aim : Aim) (v : Value) (m n : Process) (pace : Pace) → IsSet code s aim v m pace n → NoPromiseStored m.heap → NoPromiseStored n.heap
 set_is code s aim v m n pace h p =
     left_over _ _ h.between n pace h.after
     (good_is h.between _ h.assigns.put (putting s.actor.0 aim.place h.assigns.root _ (holding_all (value_refs v) m.heap p)))
 
-new_is : (s : Stand) (place : ℕ) (kd : Kind) (m n : Process) (pace : Pace) → IsNew s place kd m pace n → NoPromiseStored m.heap → NoPromiseStored n.heap
+new_is : (s : ControlPoint) (place : ℕ) (kd : Kind) (m n : Process) (pace : Pace) → IsNew s place kd m pace n → NoPromiseStored m.heap → NoPromiseStored n.heap
 new_is s place kd m n pace h p =
     left_over _ _ (on_heap (made_in_place s.actor.0 place kd h.cell) m) n pace h.after
     (putting s.actor.0 place _ _ (holding kd h.cell.0 (made kd m.heap) (making kd m.heap p)))
 
-does : (code : Code) (s : Stand) (x : Instruction) (m n : Process) (pace : Pace) → Does code s x m pace n → NoPromiseStored m.heap → NoPromiseStored n.heap
+does : (code : Code) (s : ControlPoint) (x : Instruction) (m n : Process) (pace : Pace) → Does code s x m pace n → NoPromiseStored m.heap → NoPromiseStored n.heap
 does code s (instruction.Set aim e) m n pace h p = evaluates s value_of _ m n _ pace (λ v k n pace h p. set_is code s aim v k n pace h p) h p
 does code s (instruction.Effect aim e args) m n pace h p = evaluates s args_of _ m n _ pace (λ v k n pace h p. effect_done code s _ e v k n pace h p) h p
 does code s (instruction.New place kd) m n pace h p = new_is s place kd m n pace h p
@@ -206,15 +206,15 @@ does code s (instruction.Drop places) m n pace h p =
 does code s instruction.Invalid m n pace h p = absurd h
 
 -- the ends of blocks
-goes_at : (s : Stand) (b : ℕ) (m n : Process) (pace : Pace) → GoesOnAt s b m pace n → NoPromiseStored m.heap → NoPromiseStored n.heap
+goes_at : (s : ControlPoint) (b : ℕ) (m n : Process) (pace : Pace) → GoesOnAt s b m pace n → NoPromiseStored m.heap → NoPromiseStored n.heap
 goes_at s b m n pace h p = good_is n m h.3 p
 
-passes : (s : Stand) (b : ℕ) (m n : Process) (pace : Pace) → Passes s b m pace n → NoPromiseStored m.heap → NoPromiseStored n.heap
+passes : (s : ControlPoint) (b : ℕ) (m n : Process) (pace : Pace) → Passes s b m pace n → NoPromiseStored m.heap → NoPromiseStored n.heap
 passes s b m n pace (no_pass t q to left e) p = good_is q (noted t (turned m)) e (noted_good t (turned m) (turned_good m p))
 passes s b m n pace (pass_begins t q to left e) p = good_is q (turned m) e (turned_good m p)
 
 -- waits
-left_for_good : (s : Stand) (t : Task) (h : HeapTree) → StoresNone t → NoPromiseStored h → NoPromiseStored (left_for s t h)
+left_for_good : (s : ControlPoint) (t : Task) (h : HeapTree) → StoresNone t → NoPromiseStored h → NoPromiseStored (left_for s t h)
 left_for_good s t h none p =
     let i = s.actor.0 in
     let two = lost_from i s.class.now.slots (pushed t h) in
@@ -235,13 +235,13 @@ give_stores i b o (task.Store j v) is = absurd is
 give_stores i b o (task.Keep j n k) is = absurd is
 give_stores i b o (task.Close j x) is = absurd is
 
-pub branch_good : (s : Stand) (b : ℕ) (k : CellId) (m n : Process) → TakesBranch s b k m n → NoPromiseStored m.heap → NoPromiseStored n.heap
+pub branch_good : (s : ControlPoint) (b : ℕ) (k : CellId) (m n : Process) → TakesBranch s b k m n → NoPromiseStored m.heap → NoPromiseStored n.heap
 branch_good s b k m n (no_turn t e) p = good_is n (turned m) e (turned_good m p)
 branch_good s b k m n (takes_branch t h) p =
     good_is n _ h.leaves
     (left_for_good s h.task h.between.heap (give_stores s.actor b h.outcome h.task h.gives) (takes_good k.0 h.outcome (turned m) h.between h.takes (turned_good m p)))
 
-pub keeps_good : (s : Stand) (x : Held) (m n : Process) (pace : Pace) → Keeps s x m pace n → NoPromiseStored m.heap → NoPromiseStored n.heap
+pub keeps_good : (s : ControlPoint) (x : Held) (m n : Process) (pace : Pace) → KeepsOperand s x m pace n → NoPromiseStored m.heap → NoPromiseStored n.heap
 keeps_good s x m n pace (kept_marked q marked e) p = good_is q _ e (left_for_good s _ _ tt (with_framed _ s.actor.0 m.heap p))
 keeps_good s x m n pace (kept_unready q marked ready e) p = good_is q _ e (with_framed _ s.actor.0 m.heap p)
 keeps_good s x m n pace (kept_ready q b marked ready of h) p = branch_good s b x.cell (on_heap (operand_kept s.actor.0 x) m) q h (with_framed _ s.actor.0 m.heap p)
@@ -249,13 +249,13 @@ keeps_good s x m n pace (kept_ready q b marked ready of h) p = branch_good s b x
 registered_good : (i : ℕ) (xs : List Held) (m : Process) (b : Bool) (h : HeapTree) → register_all i xs m.heap ≡ (b, h) → NoPromiseStored m.heap → NoPromiseStored h
 registered_good i xs m b h e p = subst NoPromiseStored (ap (λ (r : Registered). r.1) e) (registering i xs m.heap p)
 
-waits_good : (s : Stand) (group : ℕ) (m n : Process) → Waits s group m n → NoPromiseStored m.heap → NoPromiseStored n.heap
+waits_good : (s : ControlPoint) (group : ℕ) (m n : Process) → Waits s group m n → NoPromiseStored m.heap → NoPromiseStored n.heap
 waits_good s group m n (waits_ready x b first of h) p = branch_good s b x.cell m n h p
 waits_good s group m n (waits_refused h first all e) p = good_is n _ e (left_for_good s _ h tt (registered_good s.actor.0 _ m false h all p))
 waits_good s group m n (waits_suspended h first all e) p =
     good_is n _ e (with_framed _ s.actor.0 _ (losing_all s.actor.0 s.class.now.slots h (registered_good s.actor.0 _ m true h all p)))
 
-reference_good : (s : Stand) (c : ℕ) (v : ValueTree) (m n : Process) (pace : Pace) → ReferenceKept s c v m pace n → NoPromiseStored m.heap → NoPromiseStored n.heap
+reference_good : (s : ControlPoint) (c : ℕ) (v : ValueTree) (m n : Process) (pace : Pace) → ReferenceKept s c v m pace n → NoPromiseStored m.heap → NoPromiseStored n.heap
 reference_good s c (RefValue kd k) m n pace h p = keeps_good s _ (on_heap (hold kd k) m) n pace h (holding kd k m.heap p)
 reference_good s c (IntValue i) m n pace h p = absurd h
 reference_good s c (BoolValue b) m n pace h p = absurd h
@@ -264,15 +264,15 @@ reference_good s c VoidValue m n pace h p = absurd h
 reference_good s c (ErrorValue e) m n pace h p = absurd h
 reference_good s c (RecordValue r vs) m n pace h p = absurd h
 
-operand_good : (code : Code) (s : Stand) (c : ℕ) (o : Operand) (m n : Process) (pace : Pace) → OperandStep code s c o m pace n → NoPromiseStored m.heap → NoPromiseStored n.heap
+operand_good : (code : Code) (s : ControlPoint) (c : ℕ) (o : Operand) (m n : Process) (pace : Pace) → OperandStep code s c o m pace n → NoPromiseStored m.heap → NoPromiseStored n.heap
 operand_good code s c (operand.Value e) m n pace h p = evaluates s value_of _ m n _ pace (λ v k n pace h p. reference_good s c (value_of v) k n pace h p) h p
 operand_good code s c (operand.Effect e args) m n pace h p = evaluates s args_of _ m n _ pace (λ v k n pace h p. effect_done code s _ e v k n pace h p) h p
 
-chooses_good : (code : Code) (s : Stand) (number : ℕ) (g : Group) (m n : Process) (pace : Pace) → Chooses code s number g m pace n → NoPromiseStored m.heap → NoPromiseStored n.heap
+chooses_good : (code : Code) (s : ControlPoint) (number : ℕ) (g : Group) (m n : Process) (pace : Pace) → Chooses code s number g m pace n → NoPromiseStored m.heap → NoPromiseStored n.heap
 chooses_good code s number g m n pace (asks_operand b at h) p = operand_good code s _ b.operand m n pace h p
 chooses_good code s number g m n pace (all_kept at off h) p = waits_good s number m n h p
 
-thrown_good : (s : Stand) (v : ValueTree) (m n : Process) (pace : Pace) → ErrorThrown s v m pace n → NoPromiseStored m.heap → NoPromiseStored n.heap
+thrown_good : (s : ControlPoint) (v : ValueTree) (m n : Process) (pace : Pace) → ErrorThrown s v m pace n → NoPromiseStored m.heap → NoPromiseStored n.heap
 thrown_good s (ErrorValue e) m n pace h p = good_is n _ h.1 (tt, noted_good s m p)
 thrown_good s (IntValue i) m n pace h p = absurd h
 thrown_good s (BoolValue b) m n pace h p = absurd h
@@ -292,16 +292,16 @@ close_stores i o (task.Drop kd k) is = absurd is
 close_stores i o (task.Store j v) is = absurd is
 close_stores i o (task.Keep j n k) is = absurd is
 
-return_good : (s : Stand) (v : Value) (m n : Process) (pace : Pace) → IsReturn s v m pace n → NoPromiseStored m.heap → NoPromiseStored n.heap
+return_good : (s : ControlPoint) (v : Value) (m n : Process) (pace : Pace) → IsReturn s v m pace n → NoPromiseStored m.heap → NoPromiseStored n.heap
 return_good s v m n pace h p =
     let held = on_heap (hold_all (value_refs v)) m in
     good_is n _ h.ends (losing_all s.actor.0 0 (pushed h.task (noted s held).heap) (close_stores s.actor _ h.task h.closes, noted_good s held (holding_all (value_refs v) m.heap p)))
 
-test_good : (s : Stand) (one other : ℕ) (b : Bool) (m n : Process) (pace : Pace) → IsTest s one other b m pace n → NoPromiseStored m.heap → NoPromiseStored n.heap
+test_good : (s : ControlPoint) (one other : ℕ) (b : Bool) (m n : Process) (pace : Pace) → IsTest s one other b m pace n → NoPromiseStored m.heap → NoPromiseStored n.heap
 test_good s one other true m n pace h p = goes_at s one m n pace h p
 test_good s one other false m n pace h p = goes_at s other m n pace h p
 
-ends : (code : Code) (s : Stand) (x : Last) (m n : Process) (pace : Pace) → Ends code s x m pace n → NoPromiseStored m.heap → NoPromiseStored n.heap
+ends : (code : Code) (s : ControlPoint) (x : Last) (m n : Process) (pace : Pace) → Ends code s x m pace n → NoPromiseStored m.heap → NoPromiseStored n.heap
 ends code s (last.Goto b) m n pace h p = goes_at s b m n pace h p
 ends code s (last.Pass b) m n pace h p = passes s b m n pace h p
 ends code s (last.Test e one other) m n pace h p = evaluates s _ _ m n _ pace (λ v k n pace h p. test_good s one other v k n pace h p) h p
@@ -309,12 +309,12 @@ ends code s (last.Choose g) m n pace h p = chooses_good code (noted_stand s) g h
 ends code s (last.Return e) m n pace h p = evaluates s value_of _ m n _ pace (λ v k n pace h p. return_good s v k n pace h p) h p
 ends code s (last.Throw e) m n pace h p = evaluates s value_of _ m n _ pace (λ v k n pace h p. thrown_good s (value_of v) k n pace h p) h p
 
-step_good : (code : Code) (s : Stand) (m n : Process) (pace : Pace) → StepsOn code s m pace n → NoPromiseStored m.heap → NoPromiseStored n.heap
+step_good : (code : Code) (s : ControlPoint) (m n : Process) (pace : Pace) → StepsOn code s m pace n → NoPromiseStored m.heap → NoPromiseStored n.heap
 step_good code s m n pace (by_instruction x at h) p = does code s x m n pace h p
 step_good code s m n pace (by_last at h) p = ends code s s.block.now.last m n pace h p
 
 -- a row of steps
-pub runs_good : (code : Code) (s : Stand) (m n : Process) → Runs code s m n → NoPromiseStored m.heap → NoPromiseStored n.heap
+pub runs_good : (code : Code) (s : ControlPoint) (m n : Process) → Runs code s m n → NoPromiseStored m.heap → NoPromiseStored n.heap
 runs_good code s m n (runs_on a t b between c one more) p = runs_good code t between n more (step_good code s m between (On t) one p)
 runs_good code s m n (runs_off a b c one) p = step_good code s m n Off one p
 

@@ -24,8 +24,8 @@ use Rattle.flow_picture.specs.Holds.{filled_in}
 use Rattle.flow_steps.specs.declared.process.Process.{Process}
 use Rattle.flow_steps.specs.Doing.{turned, doing, telling}
 use Rattle.flow_steps.specs.Holding.{on_heap, with_heap, broken, filled_broken, lost_by, lost, outcome_refs, refs_dropped, futures_of}
-use Rattle.flow_steps.specs.Bringing.{without_promise, result_set, end_line, ended_with, closing, content_brought}
-use Rattle.flow_steps.specs.Standing.{values, next_stand, places_taken, places_emptied}
+use Rattle.flow_steps.specs.Delivering.{without_promise, result_set, end_line, ended_with, closing, content_brought}
+use Rattle.flow_steps.specs.Points.{values, next_stand, places_taken, places_emptied}
 use Rattle.flow_cancel.specs.Leaving.{withdrawn}
 use Rattle.flow_steps.specs.Tasks.{bound, Given, TopTaken, with_error, dropped_places, caught, Raises, FiresAt, IsDone, main_waits, main_starts}
 use Rattle.flow_storing.specs.Storing as law
@@ -144,7 +144,7 @@ main_stores code me m n (main_starts t h) p =
     good_is n _ h.starts.told
     (tt, holding kind.Future h.cell.0 h.between.heap (enrolled_good code h.class (value.Int (pos me.0) ∷ []) h.actor h.cell (turned m) h.between h.enrols (turned_good m p)))
 
-pub brought_stores : law.BroughtStoresNone
+pub brought_stores : law.DeliveredStoresNone
 brought_stores kd k o m p = by_turn (nat_lt 0 m.left)
   where
     by_turn : (b : Bool) → NoPromiseStored (if b then on_heap (content_brought kd k o) (turned m) else turned m).heap

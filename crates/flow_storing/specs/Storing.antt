@@ -15,7 +15,7 @@ use Rattle.flow_numbered.specs.Numbered.{Numbered}
 use Rattle.flow_meaning.specs.Burst.{Host}
 use Rattle.flow_steps.specs.declared.call.Call.{Call}
 use Rattle.flow_steps.specs.declared.process.Process.{Process}
-use Rattle.flow_steps.specs.Bringing.{brought}
+use Rattle.flow_steps.specs.Delivering.{brought}
 use Rattle.flow_steps.specs.Tasks.{TopTaken, IsDone, MainCalled}
 use Rattle.flow_machine.specs.Serving.{Served}
 
@@ -51,8 +51,8 @@ module _ {A W : Type 0} (serves : Host W) (shows : A → Numbered ℕ → W → 
       → NoPromiseStored m.heap → NoPromiseStored n.heap
 
 -- And so do what the world brings, and the call of `main`.
-abbrev pub BroughtStoresNone : Type 0
-BroughtStoresNone =
+abbrev pub DeliveredStoresNone : Type 0
+DeliveredStoresNone =
     (kd : Kind) (k : ℕ) (o : Outcome) (m : Process) → NoPromiseStored m.heap → NoPromiseStored (brought kd k o m).heap
 
 abbrev pub MainStoresNone : Type 0

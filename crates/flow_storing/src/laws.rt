@@ -8,7 +8,7 @@ use flow_machine::host::Host;
 /// `main`.
 pub fn no_promise_is_stored()
     ensures tasks { law.TaskStoresNone }
-    ensures brought { law.BroughtStoresNone }
+    ensures brought { law.DeliveredStoresNone }
     ensures main { law.MainStoresNone }
 {}
 

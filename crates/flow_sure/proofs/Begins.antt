@@ -27,38 +27,38 @@ use Rattle.flow_cancel.specs.declared.task.Task as stack
 use Rattle.flow_cancel.specs.declared.task.Task.TheVariants as task
 use Rattle.flow_cancel.specs.Heap.{actor_id}
 use Rattle.flow_numbered.specs.Numbered.{thing}
-use Rattle.flow_meaning.specs.Asks.{Spot}
+use Rattle.flow_meaning.specs.Requests.{Spot}
 use Rattle.flow_meaning.specs.Process.{Task, Run, Give, Keep, Entry, Proc}
-use Rattle.flow_meaning.specs.Occ.{Scan}
+use Rattle.flow_meaning.specs.References.{Scan}
 use Rattle.flow_meaning.specs.Work.{pushed}
 use Rattle.flow_meaning.specs.Step.{popped, on_core}
 use Rattle.flow_meaning.specs.Views.{spot_at}
 use Rattle.flow_meaning.specs.Frame.{Frame}
 use Rattle.flow_meaning.proofs.Shifts.{keep_of}
-use Rattle.flow_picture.specs.Shows.{TasksShow, wait_spot, spot_of_actor}
+use Rattle.flow_picture.specs.Representing.{TasksRepresent, wait_spot, spot_of_actor}
 use Rattle.flow_picture.specs.Changes.{SameTask}
 use Rattle.flow_picture.specs.Counted.{nothing_in_hand}
 use Rattle.flow_unstuck.specs.Rules.{KeepsRules}
 use Rattle.flow_unstuck.specs.Places.{class_vars}
 use Rattle.flow_unstuck.specs.Written.{heads}
 use Rattle.flow_unstuck.proofs.StepFits.{Actor, actor_here}
-use Rattle.flow_steps.specs.declared.frames.Stand.{Stand}
+use Rattle.flow_steps.specs.declared.frames.ControlPoint.{ControlPoint}
 use Rattle.flow_steps.specs.declared.next.Pace.{Pace}
 use Rattle.flow_steps.specs.declared.process.Process.{Process}
 use Rattle.flow_steps.specs.Holding.{on_heap}
-use Rattle.flow_steps.specs.Standing.{StandsNow, GoesTo}
+use Rattle.flow_steps.specs.Points.{IsAtPoint, GoesTo}
 use Rattle.flow_steps.specs.Stepping.{OnAfter}
 use Rattle.flow_steps.specs.Tasks.{BranchAt, bound_over, bound, TopTaken}
 use Rattle.flow_steps.specs.Tasks as memory
-use Rattle.flow_steps.specs.Waiting.{Keeps}
-use Rattle.flow_steps.specs.Straying.{NoPlace, BlockMissing, StandsNowhere}
-use Rattle.flow_steps.specs.AmissSteps.{GoesAmiss}
-use Rattle.flow_steps.specs.AmissTasks.{nowhere, standing, NoBranchAt, not_waiting, no_group_at, not_in_group, NoPlaceFor, BranchAmiss, no_branch_at, no_place_for, no_block_at, goes_there, GivenAmiss, OperandAmiss, keeps_amiss, goes_after, NotNewest, KeptAmiss, not_next, its_next}
-use Rattle.flow_follows.specs.Shown.{Shown, with_task}
-use Rattle.flow_follows.specs.Placing.{Acts, Stood}
-use Rattle.flow_follows.specs.Taking.{Standing, AtWait}
-use Rattle.flow_follows.specs.Going.{SameInto}
-use Rattle.flow_follows.specs.Keeping.{MayKeep}
+use Rattle.flow_steps.specs.Waiting.{KeepsOperand}
+use Rattle.flow_steps.specs.Stuck.{NoPlace, BlockMissing, HasNoPoint}
+use Rattle.flow_steps.specs.StuckSteps.{GoesStuck}
+use Rattle.flow_steps.specs.StuckTasks.{nowhere, standing, NoBranchAt, not_waiting, no_group_at, not_in_group, NoPlaceFor, BranchStuck, no_branch_at, no_place_for, no_block_at, goes_there, GivenStuck, OperandStuck, keeps_stuck, goes_after, NotNewest, KeptStuck, not_next, its_next}
+use Rattle.flow_follows.specs.Matching.{ProcessRepresents, with_task}
+use Rattle.flow_follows.specs.Placing.{Acts, RepresentsActor}
+use Rattle.flow_follows.specs.Taking.{PointMatches, AtWait}
+use Rattle.flow_follows.specs.Continuing.{SameInto}
+use Rattle.flow_follows.specs.Operands.{MayKeep}
 use Rattle.flow_follows.specs.Stepped.{TopOff}
 use Rattle.flow_follows.specs.Coded.{CodedBy, AtHome}
 use Rattle.flow_follows.proofs.Stands.{both_mapped}
@@ -68,7 +68,7 @@ use Rattle.flow_executes.specs.Executing.{coded_by}
 use Rattle.flow_executes.specs.Giving.{MayBranch}
 use Rattle.flow_executes.specs.Tasking.{MayGet, MayKeepOne}
 use Rattle.flow_executes.proofs.Decodes.{begins_in_code, group_there}
-use Rattle.flow_kept.specs.Kept.{Kept}
+use Rattle.flow_kept.specs.Invariant.{ProcessInvariant}
 use Rattle.flow_kept.specs.Allowed.{BetweenTasks}
 use Rattle.flow_kept.proofs.Acting.{stands_by, standing_there}
 use Rattle.flow_kept.proofs.Homes.{at_home}
@@ -110,14 +110,14 @@ module _ (r : RawTree) (code : Code) (program : IsProgram r code) (y : Process) 
   home : AtHome f.code
   home = at_home r program.whole.valid.valid acts.memory.class f.code acts.stands.code
 
-  pub not_nowhere : (fetch f.code f.block f.instr ≡ Nothing → ⊥) → StandsNowhere code.classes.items i y.heap → ⊥
+  pub not_nowhere : (fetch f.code f.block f.instr ≡ Nothing → ⊥) → HasNoPoint code.classes.items i y.heap → ⊥
   not_nowhere there = stands_there r program.whole code program.coded y.heap z i e f acts there
 
-  module _ (s : Stand) (stands : StandsNow code.classes.items (actor_id i) y s) where
+  module _ (s : ControlPoint) (stands : IsAtPoint code.classes.items (actor_id i) y s) where
     pub in_code : InCode by s f
     in_code = begins_in_code r code.classes.items y z i e f s by acts stands
 
-    pub stand_is : Standing s i f
+    pub stand_is : PointMatches s i f
     stand_is = (stands_by r code program.whole.valid program.coded y z i e f s acts stands).standing
 
     wait_is : (g : ℕ) → fetch f.code f.block f.instr ≡ Last (ChooseLast g) → AtWait s f g
@@ -150,7 +150,7 @@ module _ (r : RawTree) (code : Code) (program : IsProgram r code) (y : Process) 
         some_none (sym cs.2 ∙ ap (λ ds. slice_get ds n) (sym callbacks) ∙ nothing)
 
 -- the newest task that shows the next step of an actor is it
-run_shows : (spots : ℕ → Spot) (kept : ℕ → ℕ) (i : ActorId) (ts : List stack.Task) (us : List Task) → TasksShow spots kept ts (Run i.0 ∷ us)
+run_shows : (spots : ℕ → Spot) (kept : ℕ → ℕ) (i : ActorId) (ts : List stack.Task) (us : List Task) → TasksRepresent spots kept ts (Run i.0 ∷ us)
     → (below : List stack.Task) × (ts ≡ task.Run i ∷ below)
 run_shows spots kept i [] us s = absurd s
 run_shows spots kept i (task.Run a ∷ ts) us s =
@@ -167,7 +167,7 @@ run_shows spots kept i (task.Close a o ∷ ts) us s = absurd (let e = s.0 in cc 
 
 module _ (r : RawTree) (code : Code) (program : IsProgram r code) (ls : List Line) (m : Process) (p : Proc Frame) (now : BetweenTasks r ls m p) (t : stack.Task) (start : Process)
     (taken : TopTaken t m start) (o : TopOff r ls t start p) where
-  abbrev k : Kept r p
+  abbrev k : ProcessInvariant r p
   k = now.kept
 
   abbrev q : Proc Frame
@@ -178,8 +178,8 @@ module _ (r : RawTree) (code : Code) (program : IsProgram r code) (ls : List Lin
 
   -- a branch that was taken
   module _ (i : ActorId) (b : ℕ) (w : Value) (is : o.top ≡ Give i.0 b (outcome_of (outcome.Value w)))
-      (onward : (s u : Stand) (x : Branch) (pace : Pace) (n : Process) → StandsNow code.classes.items i start s → BranchAt s b x → GoesTo s x.block 0 u
-      → OnAfter u (bound_over i.0 x.into w start.heap) (on_heap (bound i.0 x.into w) start) pace n → GoesAmiss code pace n → ⊥) where
+      (onward : (s u : ControlPoint) (x : Branch) (pace : Pace) (n : Process) → IsAtPoint code.classes.items i start s → BranchAt s b x → GoesTo s x.block 0 u
+      → OnAfter u (bound_over i.0 x.into w start.heap) (on_heap (bound i.0 x.into w) start) pace n → GoesStuck code pace n → ⊥) where
     get : MayGet code r ls start q i.0 b (outcome.Value w)
     get = give_allowed r code program ls m p now t start taken o i.0 b (outcome.Value w) is
 
@@ -195,7 +195,7 @@ module _ (r : RawTree) (code : Code) (program : IsProgram r code) (ls : List Lin
     may : MayBranch code r ls start q i.0 b its_entry its_frame
     may = get.1.1.1
 
-    st : Stood r ls hand start q i.0 its_entry its_frame
+    st : RepresentsActor r ls hand start q i.0 its_entry its_frame
     st = record { shown = o.shown; acts = acts }
 
     own_rules : KeepsRules r (heads r) its_frame.code (class_vars its_frame.code)
@@ -207,7 +207,7 @@ module _ (r : RawTree) (code : Code) (program : IsProgram r code) (ls : List Lin
         has_place r ls hand start q i.0 its_entry its_frame st place same.1 (subst (λ j. NoPlace i.0 j start.heap) same.0 none)
     place_there (Some n) None same none = same
 
-    branch_goes : (s : Stand) → StandsNow code.classes.items i start s → BranchAmiss code i b w start s → ⊥
+    branch_goes : (s : ControlPoint) → IsAtPoint code.classes.items i start s → BranchStuck code i b w start s → ⊥
     branch_goes s stands (no_branch_at none) =
         branch_there r code program start q i.0 its_entry its_frame acts s stands may.group b may.callback may.fetched may.at none
     branch_goes s stands (no_place_for x at none) = place_there x.into may.callback.into (may.same s x stands at).1 none
@@ -215,24 +215,24 @@ module _ (r : RawTree) (code : Code) (program : IsProgram r code) (ls : List Lin
         block_there r code program start q i.0 its_entry its_frame acts s stands may.callback.block
         (own_rules.lasts its_frame.block its_frame.instr (ChooseLast may.group) may.fetched b may.callback may.at).goes
         (subst (BlockMissing s.class.now) (may.same s x stands at).0 missing)
-    branch_goes s stands (goes_there x u pace n at to after amiss) = onward s u x pace n stands at to after amiss
+    branch_goes s stands (goes_there x u pace n at to after stuck) = onward s u x pace n stands at to after stuck
 
-    value_given : GivenAmiss code i b (outcome.Value w) start → ⊥
+    value_given : GivenStuck code i b (outcome.Value w) start → ⊥
     value_given (nowhere none) =
         not_nowhere r code program start q i.0 its_entry its_frame acts (not_nothing its_frame.code its_frame.block its_frame.instr may.group may.fetched) none
-    value_given (standing s stands amiss) = branch_goes s stands amiss
+    value_given (standing s stands stuck) = branch_goes s stands stuck
 
   pub given_found : (i : ActorId) (b : ℕ) (v : Outcome) → o.top ≡ Give i.0 b (outcome_of v)
-      → ((w : Value) (s u : Stand) (x : Branch) (pace : Pace) (n : Process) → v ≡ outcome.Value w → StandsNow code.classes.items i start s → BranchAt s b x → GoesTo s x.block 0 u
-      → OnAfter u (bound_over i.0 x.into w start.heap) (on_heap (bound i.0 x.into w) start) pace n → GoesAmiss code pace n → ⊥)
-      → GivenAmiss code i b v start → ⊥
-  given_found i b (outcome.Value w) is onward amiss = value_given i b w is (λ s u x pace n. onward w s u x pace n refl) amiss
-  given_found i b (outcome.Error x) is onward amiss = amiss
+      → ((w : Value) (s u : ControlPoint) (x : Branch) (pace : Pace) (n : Process) → v ≡ outcome.Value w → IsAtPoint code.classes.items i start s → BranchAt s b x → GoesTo s x.block 0 u
+      → OnAfter u (bound_over i.0 x.into w start.heap) (on_heap (bound i.0 x.into w) start) pace n → GoesStuck code pace n → ⊥)
+      → GivenStuck code i b v start → ⊥
+  given_found i b (outcome.Value w) is onward stuck = value_given i b w is (λ s u x pace n. onward w s u x pace n refl) stuck
+  given_found i b (outcome.Error x) is onward stuck = stuck
 
   -- an operand, by an actor whose task is next
   module _ (i : ActorId) (n : ℕ) (c : CellId) (same : SameTask q (task.Keep i n c) o.top) (state : StateIsNone start.heap i.0)
-      (onward : (y : Process) (s : Stand) (pace : Pace) (z : Process) → TopTaken (task.Run i) start y → StandsNow code.classes.items i y s
-      → Keeps s (record { callback = n; cell = c }) y pace z → GoesAmiss code pace z → ⊥) where
+      (onward : (y : Process) (s : ControlPoint) (pace : Pace) (z : Process) → TopTaken (task.Run i) start y → IsAtPoint code.classes.items i y s
+      → KeepsOperand s (record { callback = n; cell = c }) y pace z → GoesStuck code pace z → ⊥) where
     keep : MayKeepOne code r start q i.0 c.0 o.top
     keep = keep_allowed r code program ls m p now t start taken o i.0 n c.0 same state
 
@@ -264,8 +264,8 @@ module _ (r : RawTree) (code : Code) (program : IsProgram r code) (ls : List Lin
         let is : its_doing.frame ≡ keep.frame = let a = its_doing.stands in let b = acting in cc (a, b) in
         subst (λ (f : Frame). fetch f.code f.block f.instr ≡ Nothing → ⊥) is (standing_there r k.types its_doing.frame its_doing.doing.1)
 
-    shown_then : Shown r ls hand start (on_core (pushed (Run i.0)) keep.rest)
-    shown_then = subst (Shown r ls hand start) keep.next o.shown
+    shown_then : ProcessRepresents r ls hand start (on_core (pushed (Run i.0)) keep.rest)
+    shown_then = subst (ProcessRepresents r ls hand start) keep.next o.shown
 
     newest : NotNewest (task.Run i) start → ⊥
     newest none =
@@ -279,12 +279,12 @@ module _ (r : RawTree) (code : Code) (program : IsProgram r code) (ls : List Lin
           acts_by r start.heap y.heap (on_core (pushed (Run i.0)) keep.rest) keep.rest i.0 keep.entry keep.frame (ap (λ (x : Process). x.heap.frames) next.rest)
           (ap (λ (x : Process). x.heap.actors) next.rest) refl refl keep.acts
 
-      off : Shown r ls hand y keep.rest
+      off : ProcessRepresents r ls hand y keep.rest
       off = run_off r ls start y keep.rest i.0 hand shown_then next
 
-      operand_found : (s : Stand) → StandsNow code.classes.items i y s → OperandAmiss code (record { callback = n; cell = c }) y s → ⊥
-      operand_found s stands (goes_after pace z keeps amiss) = onward y s pace z next stands keeps amiss
-      operand_found s stands (keeps_amiss amiss) = by_group (group_numbered keep.group s.class.now.groups.items) refl
+      operand_found : (s : ControlPoint) → IsAtPoint code.classes.items i y s → OperandStuck code (record { callback = n; cell = c }) y s → ⊥
+      operand_found s stands (goes_after pace z keeps stuck) = onward y s pace z next stands keeps stuck
+      operand_found s stands (keeps_stuck stuck) = by_group (group_numbered keep.group s.class.now.groups.items) refl
         where
           ready : MayKeep s keep.rest i.0 keep.group (same.0, c.0) keep.entry keep.frame
           ready = keep.may same.0 (wait_spot keep.frame) s y kept_is (ap (λ (x : Process). x.heap.frames) next.rest) stands
@@ -309,15 +309,15 @@ module _ (r : RawTree) (code : Code) (program : IsProgram r code) (ls : List Lin
           by_group (Some group) at =
               let first = ready.wait.first group at in
               let l = after_first in
-              keeps_found r hand y.heap keep.rest s keep.group group off.holds (waiting group at) (record { callback = n; cell = c }) ready.cell (omega (arith, first, l)) ready.takeable amiss
+              keeps_found r hand y.heap keep.rest s keep.group group off.holds (waiting group at) (record { callback = n; cell = c }) ready.cell (omega (arith, first, l)) ready.takeable stuck
 
-    operand_kept : KeptAmiss code i (record { callback = n; cell = c }) start → ⊥
+    operand_kept : KeptStuck code i (record { callback = n; cell = c }) start → ⊥
     operand_kept (not_next none) = newest none
     operand_kept (its_next y next (nowhere none)) = not_nowhere r code program y keep.rest i.0 keep.entry keep.frame (acts_then y next) there none
-    operand_kept (its_next y next (standing s stands amiss)) = operand_found y next s stands amiss
+    operand_kept (its_next y next (standing s stands stuck)) = operand_found y next s stands stuck
 
   pub kept_found : (i : ActorId) (n : ℕ) (c : CellId) → SameTask q (task.Keep i n c) o.top → StateIsNone start.heap i.0
-      → ((y : Process) (s : Stand) (pace : Pace) (z : Process) → TopTaken (task.Run i) start y → StandsNow code.classes.items i y s
-      → Keeps s (record { callback = n; cell = c }) y pace z → GoesAmiss code pace z → ⊥)
-      → KeptAmiss code i (record { callback = n; cell = c }) start → ⊥
-  kept_found i n c same state onward amiss = operand_kept i n c same state onward amiss
+      → ((y : Process) (s : ControlPoint) (pace : Pace) (z : Process) → TopTaken (task.Run i) start y → IsAtPoint code.classes.items i y s
+      → KeepsOperand s (record { callback = n; cell = c }) y pace z → GoesStuck code pace z → ⊥)
+      → KeptStuck code i (record { callback = n; cell = c }) start → ⊥
+  kept_found i n c same state onward stuck = operand_kept i n c same state onward stuck

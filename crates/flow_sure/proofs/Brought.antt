@@ -23,20 +23,20 @@ use Rattle.flow_steps.specs.declared.process.Next.TheVariants as next
 use Rattle.flow_steps.specs.declared.process.Process.{Process}
 use Rattle.flow_steps.specs.Doing.{begun}
 use Rattle.flow_steps.specs.Holding.{outcome_refs}
-use Rattle.flow_steps.specs.Bringing.{answered}
-use Rattle.flow_steps.specs.Sights.{program_time}
+use Rattle.flow_steps.specs.Delivering.{answered}
+use Rattle.flow_steps.specs.Evaluating.{program_time}
 use Rattle.flow_steps.specs.Tasks.{Tasks, all_spent, no_task, task_asks, task_done}
-use Rattle.flow_steps.specs.AmissTasks.{TasksAmiss, task_now, task_later}
+use Rattle.flow_steps.specs.StuckTasks.{TasksStuck, task_now, task_later}
 use Rattle.flow_machine.specs.declared.host.RunFault.{RunFault}
-use Rattle.flow_machine.specs.declared.host.RunFault.TheVariants.{Astray}
-use Rattle.flow_machine.specs.Breaking.{BreaksOff, no_memory, strays, serving, further, BringingBreaksOff, unbrought, bringing_strays, is_brought}
-use Rattle.flow_follows.specs.Shown.{AreSpent}
+use Rattle.flow_machine.specs.declared.host.RunFault.TheVariants.{Stuck}
+use Rattle.flow_machine.specs.Breaking.{BreaksOff, no_memory, gets_stuck, serving, further, BringingBreaksOff, unbrought, bringing_stuck, is_brought}
+use Rattle.flow_follows.specs.Matching.{AreSpent}
 use Rattle.flow_follows.proofs.Brought.{all_there_by, request_follows}
 use Rattle.flow_effects.proofs.Brings.{event_begins}
 use Rattle.flow_kept.specs.Allowed.{BetweenTasks}
 use Rattle.flow_boundaries.proofs.Bringing.{burst_begins}
 use Rattle.flow_found.proofs.Closing.{bring_found}
-use Rattle.flow_sure.specs.Brought as law
+use Rattle.flow_sure.specs.Delivering as law
 
 -- a number that is among others
 among : (k : ℕ) (ks : List ℕ) → has k ks ≡ has_number ks k
@@ -54,19 +54,19 @@ module _ (r : RawTree) (m : Process) (p : Proc Frame) (now turns : ℕ) where
   abbrev begins : Proc Frame
   begins = on_core (begin turns) p
 
-  pub answer_well : law.AnswerSure r m p now turns
+  pub answer_well : law.AnswerNeverStuck r m p now turns
   answer_well k o rest is_open to there (inl closed) =
       let same = among k p.core.requests ∙ ap (λ ks. has_number ks k) rest.shown.holds.shows.requests in false≢true (sym closed ∙ sym same ∙ is_open)
-  answer_well k o rest is_open to there (inr amiss) =
+  answer_well k o rest is_open to there (inr stuck) =
       let s = request_follows r [] nothing_in_hand start begins k (event_begins r m p now turns rest.shown) is_open in
       let q : Proc Frame = on_core (λ c. pushed (Drop kind.Promise k) (record c { requests = closed_request k c.requests })) begins in
-      bring_found r nothing_in_hand (answered k start.heap) q kind.Promise k to.cell o s.holds (all_there_by p q (outcome_refs o) refl there) to.at to.right to.incomplete amiss
+      bring_found r nothing_in_hand (answered k start.heap) q kind.Promise k to.cell o s.holds (all_there_by p q (outcome_refs o) refl there) to.at to.right to.incomplete stuck
 
-  pub element_well : law.ElementSure r m p now turns
-  element_well k v rest to there amiss =
+  pub element_well : law.ElementNeverStuck r m p now turns
+  element_well k v rest to there stuck =
       let s = event_begins r m p now turns rest.shown in
       bring_found r nothing_in_hand start.heap begins kind.PromiseStream k to.cell (outcome.Value v) s.holds
-      (all_there_by p begins (outcome_refs (outcome.Value v)) refl there) to.at to.right to.incomplete amiss
+      (all_there_by p begins (outcome_refs (outcome.Value v)) refl there) to.at to.right to.incomplete stuck
 
 -- a spent event goes on with nothing
 pub both_ways : {b : Bool} → b ≡ true → b ≡ false → ⊥
@@ -78,21 +78,21 @@ spent_asks code m n e s (no_task _ un none) asks = both_ways s un
 spent_asks code m n e s (task_asks _ first _ t un taken done some) asks = both_ways s un
 spent_asks code m n e s (task_done _ first between _ t _ un taken done none more) asks = both_ways s un
 
-pub spent_tasks : (code : Code) (m : Process) → m.spent ≡ true → TasksAmiss code m → ⊥
-spent_tasks code m s (task_now _ first t un taken amiss) = both_ways s un
+pub spent_tasks : (code : Code) (m : Process) → m.spent ≡ true → TasksStuck code m → ⊥
+spent_tasks code m s (task_now _ first t un taken stuck) = both_ways s un
 spent_tasks code m s (task_later _ first between t un taken done none more) = both_ways s un
 
 module _ {A W : Type 0} (serves : Host W) (shows : A → Numbered ℕ → W → Type 0) (wrote broke : A → List Line → A → Type 0) (code : Code) (processes : ℕ) (r : RawTree) where
-  spent_by : (f : RunFault) (m : Process) (a b : A) → m.spent ≡ true → f ≡ Astray → BreaksOff serves shows wrote broke code processes m a f b → ⊥
+  spent_by : (f : RunFault) (m : Process) (a b : A) → m.spent ≡ true → f ≡ Stuck → BreaksOff serves shows wrote broke code processes m a f b → ⊥
   spent_by f m a b s is (no_memory _ _) = cc (is)
-  spent_by f m a b s is (strays _ _ amiss) = spent_tasks code m s amiss
+  spent_by f m a b s is (gets_stuck _ _ stuck) = spent_tasks code m s stuck
   spent_by f m a b s is (serving _ q _ _ _ tasks some so) = spent_asks code m q next.Asks s tasks refl
   spent_by f m a b s is (further _ q k _ c _ _ tasks served more) = spent_asks code m q next.Asks s tasks refl
 
-  pub spent_well : law.SpentSure serves shows wrote broke code processes r
-  spent_well m a b s breaks = spent_by Astray m a b s refl breaks
+  pub spent_well : law.SpentNeverStuck serves shows wrote broke code processes r
+  spent_well m a b s breaks = spent_by Stuck m a b s refl breaks
 
-  pub brought_well : law.BroughtSure serves shows wrote broke code processes r
+  pub brought_well : law.DeliveredNeverStuck serves shows wrote broke code processes r
   brought_well program steady sure now m a b p w is stored kept world clock time count off = by_begin (burst_begins r now m p is kept)
     where
       by_begin : BetweenTasks r [] m p ⊎ AreSpent [] m p → ⊥
@@ -102,11 +102,11 @@ module _ {A W : Type 0} (serves : Host W) (shows : A → Numbered ℕ → W → 
       by_begin (inr are) = spent_well m a b are.spent off
 
   -- so what is brought and what follows of it, where bringing goes well
-  pub bringing_well : (amiss : Type 0) → (amiss → ⊥) → (m : Process) (a b : A) → (BreaksOff serves shows wrote broke code processes m a Astray b → ⊥)
-      → BringingBreaksOff serves shows wrote broke code processes amiss m a Astray b → ⊥
-  bringing_well amiss never m a b none breaks = by_fault Astray b refl none breaks
+  pub bringing_well : (stuck : Type 0) → (stuck → ⊥) → (m : Process) (a b : A) → (BreaksOff serves shows wrote broke code processes m a Stuck b → ⊥)
+      → BringingBreaksOff serves shows wrote broke code processes stuck m a Stuck b → ⊥
+  bringing_well stuck never m a b none breaks = by_fault Stuck b refl none breaks
     where
-      by_fault : (f : RunFault) (c : A) → f ≡ Astray → (BreaksOff serves shows wrote broke code processes m a Astray c → ⊥) → BringingBreaksOff serves shows wrote broke code processes amiss m a f c → ⊥
+      by_fault : (f : RunFault) (c : A) → f ≡ Stuck → (BreaksOff serves shows wrote broke code processes m a Stuck c → ⊥) → BringingBreaksOff serves shows wrote broke code processes stuck m a f c → ⊥
       by_fault f c e none unbrought = cc (e)
-      by_fault f c e none (bringing_strays strayed) = never strayed
+      by_fault f c e none (bringing_stuck got_stuck) = never got_stuck
       by_fault f c e none (is_brought _ _ off) = none (subst (λ g. BreaksOff serves shows wrote broke code processes m a g c) e off)

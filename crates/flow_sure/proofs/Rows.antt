@@ -4,23 +4,23 @@ use Rattle.std.specs.declared.option.Option.TheVariants.{None}
 use Rattle.flow_class.specs.Classes.{RawTree}
 use Rattle.flow_code.specs.declared.program.Code.{Code}
 use Rattle.flow_trace.specs.declared.line.Line.{Line}
-use Rattle.flow_meaning.specs.Asks.{Supply}
+use Rattle.flow_meaning.specs.Requests.{Supply}
 use Rattle.flow_meaning.specs.Process.{Run, Entry, Proc}
-use Rattle.flow_meaning.specs.Occ.{Scan}
+use Rattle.flow_meaning.specs.References.{Scan}
 use Rattle.flow_meaning.specs.Work.{pushed}
 use Rattle.flow_meaning.specs.Step.{on_core}
 use Rattle.flow_meaning.specs.Frame.{Frame}
 use Rattle.flow_picture.specs.Rested.{Sorted}
-use Rattle.flow_steps.specs.declared.frames.Stand.{Stand}
+use Rattle.flow_steps.specs.declared.frames.ControlPoint.{ControlPoint}
 use Rattle.flow_steps.specs.declared.next.Pace.TheVariants.{On}
 use Rattle.flow_steps.specs.declared.process.Process.{Process}
-use Rattle.flow_steps.specs.Sights.{program_time}
+use Rattle.flow_steps.specs.Evaluating.{program_time}
 use Rattle.flow_steps.specs.Stepping.{StepsOn}
-use Rattle.flow_steps.specs.AmissSteps.{RunsAmiss, step_now, step_later}
-use Rattle.flow_kept.specs.Kept.{Kept}
+use Rattle.flow_steps.specs.StuckSteps.{RunsStuck, step_now, step_later}
+use Rattle.flow_kept.specs.Invariant.{ProcessInvariant}
 use Rattle.flow_kept.proofs.Once.{sorted_stays}
 use Rattle.flow_kept.proofs.Stays.{step_stays}
-use Rattle.flow_executes.specs.Going.{Silent, MayStep, GoesBy, InClass}
+use Rattle.flow_executes.specs.Continuing.{Silent, MayStep, GoesBy, InClass}
 use Rattle.flow_executes.specs.Executing.{InProgram, Asks}
 use Rattle.flow_executes.specs.Running.{Allows}
 use Rattle.flow_executes.proofs.Ends.{step_follows}
@@ -29,21 +29,21 @@ use Rattle.flow_executes.proofs.Rows.{asks_off, holds_then, entered, acting, goe
 use Rattle.flow_executes.proofs.Stays.{in_class_stays}
 use Rattle.flow_allowed.specs.Tasking.{IsProgram}
 use Rattle.flow_goes.proofs.Goes as goes
-use Rattle.flow_meant.specs.Meant.{AtStep, StepMeant}
+use Rattle.flow_meant.specs.NeverStuck.{AtStep, StepMeant}
 
 module _ (r : RawTree) (code : Code) (program : IsProgram r code) (ls : List Line) (x : Scan) (w : Supply)
-    (meant : (s : Stand) (m : Process) (p : Proc Frame) (i : ℕ) (e : Entry) (f : Frame) → StepMeant r code w ls x s m p i e f) (i : ℕ) where
+    (meant : (s : ControlPoint) (m : Process) (p : Proc Frame) (i : ℕ) (e : Entry) (f : Frame) → StepMeant r code w ls x s m p i e f) (i : ℕ) where
   -- the process in which the actor's own task is the newest
   abbrev full : Proc Frame → Proc Frame
   full p = on_core (pushed (Run i)) p
 
-  allowed : Allows r w (Kept r)
+  allowed : Allows r w (ProcessInvariant r)
   allowed = goes.allows r code program w
 
-  standing : (s : Stand) (m : Process) (p : Proc Frame) (e : Entry) (f : Frame) → Kept r (full p) → MayStep r ls x s m p i e f → InClass code e.class s → InProgram r code s f
-  standing s m p e f kept may here = in_program r ls x w (Kept r) code program.coded allowed i s m p e f kept may here
+  standing : (s : ControlPoint) (m : Process) (p : Proc Frame) (e : Entry) (f : Frame) → ProcessInvariant r (full p) → MayStep r ls x s m p i e f → InClass code e.class s → InProgram r code s f
+  standing s m p e f kept may here = in_program r ls x w (ProcessInvariant r) code program.coded allowed i s m p e f kept may here
 
-  at_step : (s : Stand) (m : Process) (p : Proc Frame) (e : Entry) (f : Frame) → Kept r (full p) → MayStep r ls x s m p i e f → InClass code e.class s → m.asked ≡ None
+  at_step : (s : ControlPoint) (m : Process) (p : Proc Frame) (e : Entry) (f : Frame) → ProcessInvariant r (full p) → MayStep r ls x s m p i e f → InClass code e.class s → m.asked ≡ None
       → program_time m.time ≡ pos w.now → Sorted m.heap → AtStep r code w ls x s m p i e f
   at_step s m p e f kept may here none time sorted = record {
     may = may;
@@ -55,18 +55,18 @@ module _ (r : RawTree) (code : Code) (program : IsProgram r code) (ls : List Lin
   }
 
   -- what holds of an actor that goes on after steps of the class machine
-  pub going_on : (number : ℕ) (start : Proc Frame) (t : Stand) (between : Process) → Kept r start → GoesBy r ls x w i number start (On t) between → InClass code number t
-      → ((q : Proc Frame) (d : Entry) (g : Frame) → Kept r (full q) → MayStep r ls x t between q i d g → InClass code d.class t → ⊥) → ⊥
+  pub going_on : (number : ℕ) (start : Proc Frame) (t : ControlPoint) (between : Process) → ProcessInvariant r start → GoesBy r ls x w i number start (On t) between → InClass code number t
+      → ((q : Proc Frame) (d : Entry) (g : Frame) → ProcessInvariant r (full q) → MayStep r ls x t between q i d g → InClass code d.class t → ⊥) → ⊥
   going_on number start t between kept g here rest =
       let a = g.onward in
       let row = subst (Silent r w start) a.runs g.steps in
-      let kept2 = holds_then r w (Kept r) allowed start (full a.process) row kept (goes_on r ls x t between a.process i a.entry a.frame a.next) in
+      let kept2 = holds_then r w (ProcessInvariant r) allowed start (full a.process) row kept (goes_on r ls x t between a.process i a.entry a.frame a.next) in
       rest a.process a.entry a.frame kept2 a.next (subst (λ k. InClass code k t) (sym a.same) here)
 
   -- so it is after one step
-  further : (s : Stand) (m : Process) (p : Proc Frame) (e : Entry) (f : Frame) (t : Stand) (between : Process) → Kept r (full p) → MayStep r ls x s m p i e f → InClass code e.class s → m.asked ≡ None
+  further : (s : ControlPoint) (m : Process) (p : Proc Frame) (e : Entry) (f : Frame) (t : ControlPoint) (between : Process) → ProcessInvariant r (full p) → MayStep r ls x s m p i e f → InClass code e.class s → m.asked ≡ None
       → program_time m.time ≡ pos w.now → StepsOn code s m (On t) between
-      → ((q : Proc Frame) (d : Entry) (g : Frame) → Kept r (full q) → MayStep r ls x t between q i d g → InClass code d.class t → between.asked ≡ None → program_time between.time ≡ pos w.now → ⊥) → ⊥
+      → ((q : Proc Frame) (d : Entry) (g : Frame) → ProcessInvariant r (full q) → MayStep r ls x t between q i d g → InClass code d.class t → between.asked ≡ None → program_time between.time ≡ pos w.now → ⊥) → ⊥
   further s m p e f t between kept may here none time one rest =
       by_step (step_follows r ls m p i e f x s w code (On t) between may (standing s m p e f kept may here) none time
       (allowed.next p i e f kept (entered r ls x s m p i e f may) (acting r ls x s m p i e f may)) one)
@@ -78,15 +78,15 @@ module _ (r : RawTree) (code : Code) (program : IsProgram r code) (ls : List Lin
           going_on e.class (full p) t between kept g (in_class_stays code e.class s t m between here one)
           (λ q d g kept next here. rest q d g kept next here (quiet.asked ∙ none) (ap program_time quiet.time ∙ time))
 
-  pub runs_sure : (s : Stand) (m : Process) (p : Proc Frame) (e : Entry) (f : Frame) → Kept r (full p) → MayStep r ls x s m p i e f → InClass code e.class s → m.asked ≡ None
-      → program_time m.time ≡ pos w.now → Sorted m.heap → RunsAmiss code s m → ⊥
-  runs_sure s m p e f kept may here none time sorted (step_now a b amiss) = meant s m p i e f (at_step s m p e f kept may here none time sorted) amiss
+  pub runs_sure : (s : ControlPoint) (m : Process) (p : Proc Frame) (e : Entry) (f : Frame) → ProcessInvariant r (full p) → MayStep r ls x s m p i e f → InClass code e.class s → m.asked ≡ None
+      → program_time m.time ≡ pos w.now → Sorted m.heap → RunsStuck code s m → ⊥
+  runs_sure s m p e f kept may here none time sorted (step_now a b stuck) = meant s m p i e f (at_step s m p e f kept may here none time sorted) stuck
   runs_sure s m p e f kept may here none time sorted (step_later a t b between one rest) =
       let sorted_then = sorted_stays m between (step_stays code s m between (On t) none one) sorted in
       further s m p e f t between kept may here none time one (λ q d g kept next here none time. runs_sure t between q d g kept next here none time sorted_then rest)
 
   -- an actor that goes on after steps of the class machine
-  pub goes_sure : (number : ℕ) (start : Proc Frame) (t : Stand) (between : Process) → Kept r start → GoesBy r ls x w i number start (On t) between → InClass code number t → between.asked ≡ None
-      → program_time between.time ≡ pos w.now → Sorted between.heap → RunsAmiss code t between → ⊥
-  goes_sure number start t between kept g here none time sorted amiss =
-      going_on number start t between kept g here (λ q d g kept next here. runs_sure t between q d g kept next here none time sorted amiss)
+  pub goes_sure : (number : ℕ) (start : Proc Frame) (t : ControlPoint) (between : Process) → ProcessInvariant r start → GoesBy r ls x w i number start (On t) between → InClass code number t → between.asked ≡ None
+      → program_time between.time ≡ pos w.now → Sorted between.heap → RunsStuck code t between → ⊥
+  goes_sure number start t between kept g here none time sorted stuck =
+      going_on number start t between kept g here (λ q d g kept next here. runs_sure t between q d g kept next here none time sorted stuck)

@@ -12,17 +12,17 @@ use Rattle.flow_meaning.specs.Process.{Entry, Proc}
 use Rattle.flow_meaning.specs.Frame.{Frame}
 use Rattle.flow_awake.specs.Awake.{AreWhole}
 use Rattle.flow_awake.proofs.Groups.{group_begins}
-use Rattle.flow_steps.specs.Straying.{StandsNowhere}
+use Rattle.flow_steps.specs.Stuck.{HasNoPoint}
 use Rattle.flow_follows.specs.Placing.{Acts}
 use Rattle.flow_follows.specs.Seeing.{IsCodeOf}
 use Rattle.flow_kept.proofs.Acting.{by_code}
 use Rattle.flow_kept.proofs.Homes.{at_home}
-use Rattle.flow_found.specs.Found.{StandsSomewhere}
+use Rattle.flow_found.specs.Found.{HasPoint}
 use Rattle.flow_found.proofs.Standing.{stand_found}
 
 module _ (r : RawTree) (whole : AreWhole r) where
   -- where that is a wait, its class has the group
-  pub somewhere : (k : ℕ) (f : Frame) → slice_get r.classes k ≡ Some f.code → (fetch f.code f.block f.instr ≡ Nothing → ⊥) → StandsSomewhere f
+  pub somewhere : (k : ℕ) (f : Frame) → slice_get r.classes k ≡ Some f.code → (fetch f.code f.block f.instr ≡ Nothing → ⊥) → HasPoint f
   somewhere k f at there = record {
     there = there;
     group = λ g e. by_group g (group_at f.code.groups g) refl (group_begins r whole.valid.valid k f.code at (whole.groups k f.code at) f.block f.instr g e);
@@ -33,6 +33,6 @@ module _ (r : RawTree) (whole : AreWhole r) where
       by_group g (Some cs) is begins = (cs, is)
 
   pub stands_there : (code : Code) → IsCodeOf r code → (h : HeapTree) (p : Proc Frame) (i : ℕ) (e : Entry) (f : Frame) → Acts r h p i e f → (fetch f.code f.block f.instr ≡ Nothing → ⊥)
-      → StandsNowhere code.classes.items i h → ⊥
+      → HasNoPoint code.classes.items i h → ⊥
   stands_there code coded h p i e f a there =
       stand_found r code.classes.items h p i e f (by_code r code whole.valid coded) (at_home r whole.valid.valid a.memory.class f.code a.stands.code) a (somewhere a.memory.class f a.stands.code there)

@@ -31,11 +31,11 @@ use Rattle.flow_resolved.specs.Tree.{Nodes}
 use Rattle.flow_trace.specs.declared.line.Line.{Line}
 use Rattle.flow_cancel.specs.declared.task.Task as stack
 use Rattle.flow_meaning.specs.Process.{Store, Proc}
-use Rattle.flow_meaning.specs.Occ.{Scan}
+use Rattle.flow_meaning.specs.References.{Scan}
 use Rattle.flow_meaning.specs.Step.{popped}
 use Rattle.flow_meaning.specs.Frame.{Frame}
 use Rattle.flow_meaning.proofs.Shifts.{store_of}
-use Rattle.flow_picture.specs.Shows.{spot_by}
+use Rattle.flow_picture.specs.Representing.{spot_by}
 use Rattle.flow_picture.specs.Counted.{nothing_in_hand}
 use Rattle.flow_unstuck.specs.Asking.{Stores}
 use Rattle.flow_unstuck.specs.Rules.{KeepsRules}
@@ -44,13 +44,13 @@ use Rattle.flow_unstuck.specs.Written.{heads}
 use Rattle.flow_unstuck.specs.Fitting.{typed_by}
 use Rattle.flow_unstuck.proofs.Handed.{has_place}
 use Rattle.flow_unstuck.proofs.StepFits.{Actor, actor_here}
-use Rattle.flow_steps.specs.declared.frames.Stand.{Stand}
+use Rattle.flow_steps.specs.declared.frames.ControlPoint.{ControlPoint}
 use Rattle.flow_steps.specs.declared.process.Process.{Process}
-use Rattle.flow_steps.specs.Standing.{StandsNow}
+use Rattle.flow_steps.specs.Points.{IsAtPoint}
 use Rattle.flow_steps.specs.Tasks.{TopTaken}
-use Rattle.flow_steps.specs.AmissTasks.{nowhere, standing, NoEffect, EffectAimsAmiss, no_instruction, no_effect_at, aims_nowhere, StoredAmiss}
-use Rattle.flow_follows.specs.Shown.{with_task}
-use Rattle.flow_follows.specs.Placing.{Acts, Stood}
+use Rattle.flow_steps.specs.StuckTasks.{nowhere, standing, NoEffect, EffectAimsStuck, no_instruction, no_effect_at, aims_nowhere, StoredStuck}
+use Rattle.flow_follows.specs.Matching.{with_task}
+use Rattle.flow_follows.specs.Placing.{Acts, RepresentsActor}
 use Rattle.flow_follows.specs.Stepped.{TopOff}
 use Rattle.flow_follows.proofs.Stands.{both_mapped}
 use Rattle.flow_executes.specs.Assigning.{AimsAt, CanAssign}
@@ -59,7 +59,7 @@ use Rattle.flow_executes.specs.Executing.{coded_by}
 use Rattle.flow_executes.proofs.Decodes.{instruction_there}
 use Rattle.flow_executes.proofs.Froms.{instruction_from}
 use Rattle.flow_executes.proofs.Matches.{effect_aims}
-use Rattle.flow_kept.specs.Kept.{Kept}
+use Rattle.flow_kept.specs.Invariant.{ProcessInvariant}
 use Rattle.flow_kept.specs.Allowed.{BetweenTasks}
 use Rattle.flow_kept.proofs.Acting.{acts_at, by_code, stands_by, standing_there}
 use Rattle.flow_kept.proofs.MayDo.{both_parts}
@@ -131,7 +131,7 @@ is_effect instruction.Invalid a g ns same none = cc (same)
 
 module _ (r : RawTree) (code : Code) (program : IsProgram r code) (ls : List Line) (m : Process) (p : Proc Frame) (now : BetweenTasks r ls m p) (t : stack.Task) (start : Process)
     (taken : TopTaken t m start) (o : TopOff r ls t start p) where
-  abbrev k : Kept r p
+  abbrev k : ProcessInvariant r p
   k = now.kept
 
   abbrev q : Proc Frame
@@ -151,7 +151,7 @@ module _ (r : RawTree) (code : Code) (program : IsProgram r code) (ls : List Lin
     acts : Acts r start.heap q i.0 a.entry f
     acts = acts_at r start.heap q i.0 a.entry f o.shown.holds.shows a.at a.stands (standing_there r k.types f a.doing.1)
 
-    st : Stood r ls hand start q i.0 a.entry f
+    st : RepresentsActor r ls hand start q i.0 a.entry f
     st = record { shown = o.shown; acts = acts }
 
     own_rules : KeepsRules r (heads r) f.code (class_vars f.code)
@@ -181,7 +181,7 @@ module _ (r : RawTree) (code : Code) (program : IsProgram r code) (ls : List Lin
     few : length f.code.slots + length f.mem.locals ≤ 2 ^ 32
     few = subst (λ n. length f.code.slots + n ≤ 2 ^ 32) (sym a.doing.1.holds.locals) (program.few acts.memory.class f.code acts.stands.code)
 
-    module _ (s : Stand) (stands : StandsNow code.classes.items i start s) where
+    module _ (s : ControlPoint) (stands : IsAtPoint code.classes.items i start s) where
       number : s.instruction ≡ f.instr
       number = instruction_is r code program ls m p now t start taken o i.0 a.entry f s acts state stands
 
@@ -224,19 +224,19 @@ module _ (r : RawTree) (code : Code) (program : IsProgram r code) (ls : List Lin
           by_from (from_drop ns b same) = cc (b, text)
 
       -- that aims somewhere
-      stored_there : EffectAimsAmiss code i start s → ⊥
+      stored_there : EffectAimsStuck code i start s → ⊥
       stored_there (no_instruction none) = something none
       stored_there (no_effect_at x there none) = some_effect x there none
-      stored_there (aims_nowhere x aim there to amiss) =
+      stored_there (aims_nowhere x aim there to stuck) =
           let aims : AimsAt r.records code f effect.path aim =
           effect_aims r code.classes.items code s i.0 f effect.path effect.expr aim to.effect to.args (coded_by program.coded)
           (in_code r code program start q i.0 a.entry f acts s stands) (stand_is r code program start q i.0 a.entry f acts s stands) number effect.is (there ∙ ap Some to.is)
           program.coded.coded.are_numbers rooted in
-          aims_there r ls hand start q i.0 a.entry f st code effect.path aim (value_of v) aims can amiss
+          aims_there r ls hand start q i.0 a.entry f st code effect.path aim (value_of v) aims can stuck
 
-    value_stored : StoredAmiss code i start → ⊥
+    value_stored : StoredStuck code i start → ⊥
     value_stored (nowhere none) = not_nowhere r code program start q i.0 a.entry f acts (standing_there r k.types f a.doing.1) none
-    value_stored (standing s stands amiss) = stored_there s stands amiss
+    value_stored (standing s stands stuck) = stored_there s stands stuck
 
-  pub stored_found : (i : ActorId) (v : Value) → o.top ≡ Store i.0 (value_of v) → NoPromise (value_of v) → StoredAmiss code i start → ⊥
-  stored_found i v is no_promise amiss = value_stored i v is no_promise amiss
+  pub stored_found : (i : ActorId) (v : Value) → o.top ≡ Store i.0 (value_of v) → NoPromise (value_of v) → StoredStuck code i start → ⊥
+  stored_found i v is no_promise stuck = value_stored i v is no_promise stuck

@@ -1,3 +1,3 @@
-pub mod Sure
-pub mod Plain
-pub mod Brought
+pub mod NeverStuck
+pub mod SimpleTasks
+pub mod Delivering

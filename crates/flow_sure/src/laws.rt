@@ -3,19 +3,19 @@
 ghost use Rattle.std.specs.Prelude.{ℕ};
 ghost use Rattle.flow_class.specs.Classes.{RawTree};
 ghost use Rattle.flow_code.specs.declared.program.Code.{Code};
-ghost use Rattle.flow_sure.specs.Sure.{TaskSure, TasksSure, BurstSure};
+ghost use Rattle.flow_sure.specs.NeverStuck.{TaskNeverStuck, TasksNeverStuck, BurstNeverStuck};
 
 use flow_machine::host::Host;
 
 /// No task goes astray.
-pub fn tasks_sure<H: Host>()
-    ensures task { TaskSure }
+pub fn tasks_are_never_stuck<H: Host>()
+    ensures task { TaskNeverStuck }
     ensures tasks { (code : Code) (processes : ℕ) (r : RawTree)
-        → TasksSure H.serves H.shows H.wrote H.broke code processes r }
+        → TasksNeverStuck H.serves H.shows H.wrote H.broke code processes r }
 {}
 
 /// No burst goes astray.
-pub fn bursts_sure<H: Host>()
+pub fn bursts_are_never_stuck<H: Host>()
     ensures { (code : Code) (processes : ℕ) (r : RawTree)
-        → BurstSure H.serves H.shows H.wrote H.broke code processes r }
+        → BurstNeverStuck H.serves H.shows H.wrote H.broke code processes r }
 {}

@@ -2,6 +2,6 @@
 //! empty bodies: each contract is a law.
 #![tactic(auto)]
 
-pub mod bringing;
+pub mod delivering;
 pub mod laws;
-pub mod plainly;
+pub mod simple_tasks;

@@ -27,8 +27,8 @@ use Rattle.flow_lower.specs.Compiled.{Has}
 use Rattle.flow_worldfile.specs.Worlds.{IsInRange, seen}
 use Rattle.flow_top.specs.declared.outcome.Outcome.TheVariants.{Told, Run}
 use Rattle.flow_top.specs.declared.outcome.ProgramRun.{ProgramRun}
-use Rattle.flow_top.specs.declared.outcome.Told as told
-use Rattle.flow_top.specs.declared.outcome.Told.TheVariants.{Compiled, Passed, OutOfMemory}
+use Rattle.flow_top.specs.declared.outcome.Answered as told
+use Rattle.flow_top.specs.declared.outcome.Answered.TheVariants.{Compiled, Passed, OutOfMemory}
 use Rattle.flow_top.specs.Words.{AreOn, AreFormat, AreCheck, AreCompile, AreRun, JudgeProgram, of_run, NameProgram, of_format, of_judged}
 use Rattle.flow_top.specs.Run.{IsText, HasSound, HasPassing, MayRun, AsksNames, unread, refused, lost, heavy, passed, compiled, no_world, run, AskedSome, none, program, both, Decided, due, read_fault, no_memory, outcome_of, refusal_outcome_of, heavy_outcome}
 use Rattle.flow_top.specs.Steps.{FileRead, is_read, is_unread, unasked, starved, Loaded, is_loaded, is_refused, is_lost, no_text, no_room, ClassesOf, are_classes, is_heavy, no_classes, WorldOf, is_world, is_none, no_room_for_it}

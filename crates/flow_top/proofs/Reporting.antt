@@ -9,22 +9,22 @@ use Rattle.flow_base.specs.declared.fault.OutFault.{OutFault}
 use Rattle.flow_base.specs.declared.fault.OutFault.TheVariants.{Failed, OutOfMemory}
 use Rattle.flow_trace.specs.Out.{Grows}
 use Rattle.flow_trace.specs.declared.line.Line.{Line}
-use Rattle.flow_world.specs.Telling.{tells, whole, failed}
+use Rattle.flow_world.specs.FaultedLines.{tells, whole, failed}
 use Rattle.flow_run.specs.declared.ending.Ending.{Ending}
 use Rattle.flow_run.specs.Tracing.{Traces, TracesPart}
-use Rattle.flow_run.specs.Straying.{TraceAmiss}
+use Rattle.flow_run.specs.StuckTraces.{TraceStuck}
 use Rattle.flow_run.specs.Written.{put_bytes, bytes_of}
 use Rattle.flow_run.proofs.Writing.{bytes_put, part_put}
 use Rattle.flow_exact.proofs.Shown.{program_shown, program_in_part}
 use Rattle.flow_exact.proofs.Sure.{program_sure}
 use Rattle.flow_top.specs.declared.outcome.ProgramRun.{ProgramRun}
-use Rattle.flow_top.specs.declared.outcome.Told.{Told}
+use Rattle.flow_top.specs.declared.outcome.Answered.{Answered}
 use Rattle.flow_top.specs.Run.{text_of, ending_status, fault_status_of, MayRun, AreLines, ReportedTold, write_fault, no_memory_told, ReportedRun, ended, run_write_fault, run_no_memory}
 
 pub whole_part : (a b : Option (List ℕ)) (text : List ℕ) → Appends a b text → AppendsPart a b text
 whole_part a b text p = (text, [], sym (append-nil text), p)
 
-pub told_fault : (outcome : Told) (before after : SinkSeen) (fault : OutFault) → AppendsPart before.written after.written (text_of outcome)
+pub told_fault : (outcome : Answered) (before after : SinkSeen) (fault : OutFault) → AppendsPart before.written after.written (text_of outcome)
     → (fault ≡ Failed → Rose before.faults after.faults) → ReportedTold outcome before after (fault_status_of fault)
 told_fault outcome before after Failed p r = write_fault p (r refl)
 told_fault outcome before after OutOfMemory p r = no_memory_told p
@@ -64,9 +64,9 @@ broke_off r before after Failed may g part rose =
 broke_off r before after OutOfMemory may g part rose = run_no_memory g
 
 -- it didn't go astray
-pub never_astray : (r : ProgramRun) (written : Option (List ℕ)) → MayRun r → TraceAmiss (tells put_bytes) r.frames r.classes r.world (whole written) → ⊥
-never_astray r written may amiss =
-    program_sure (tells put_bytes) may.text r.program.value r.classes r.world r.frames (whole written) may.sound may.light may.has may.in_range amiss
+pub never_stuck : (r : ProgramRun) (written : Option (List ℕ)) → MayRun r → TraceStuck (tells put_bytes) r.frames r.classes r.world (whole written) → ⊥
+never_stuck r written may stuck =
+    program_sure (tells put_bytes) may.text r.program.value r.classes r.world r.frames (whole written) may.sound may.light may.has may.in_range stuck
 
 -- the last flush of a run failed
 pub unflushed : (r : ProgramRun) (before after : SinkSeen) (between : Option (List ℕ)) (ending : Ending) (fault : OutFault) → MayRun r

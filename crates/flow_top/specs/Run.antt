@@ -41,8 +41,8 @@ use Rattle.flow_framed.specs.Framed.{SourceShown}
 use Rattle.flow_top.specs.declared.outcome.Outcome.{Outcome}
 use Rattle.flow_top.specs.declared.outcome.Outcome.TheVariants.{Told, Run}
 use Rattle.flow_top.specs.declared.outcome.ProgramRun.{ProgramRun}
-use Rattle.flow_top.specs.declared.outcome.Told as told
-use Rattle.flow_top.specs.declared.outcome.Told.TheVariants.{Usage, ReadFault, OutOfMemory, Refused, NoWorld, Passed, Compiled, Formatted}
+use Rattle.flow_top.specs.declared.outcome.Answered as told
+use Rattle.flow_top.specs.declared.outcome.Answered.TheVariants.{Usage, ReadFault, OutOfMemory, Refused, NoWorld, Passed, Compiled, Formatted}
 use Rattle.flow_top.specs.Words.{AreFormat, AreCheck, AreCompile, AreRun, JudgeProgram, NameProgram}
 use Rattle.flow_refusal.specs.Refusal.{refusal_text, refusal_status, world_refusal}
 

@@ -20,8 +20,8 @@ use Rattle.flow_staterule.specs.declared.rule.Lost.{Lost}
 use Rattle.flow_worldfile.specs.declared.world.World0.{World0}
 use Rattle.flow_worldfile.specs.declared.world.WorldFault.{WorldFault}
 use Rattle.flow_worldfile.specs.Reading as reading
-use Rattle.flow_top.specs.declared.outcome.Told as told
-use Rattle.flow_top.specs.declared.outcome.Told.TheVariants.{ReadFault, OutOfMemory, Refused, NoWorld}
+use Rattle.flow_top.specs.declared.outcome.Answered as told
+use Rattle.flow_top.specs.declared.outcome.Answered.TheVariants.{ReadFault, OutOfMemory, Refused, NoWorld}
 use Rattle.flow_top.specs.Run.{IsText, HasSound, HasLost, AsksNames, heavy_outcome}
 
 -- What reading the file of this name came to: a call of the files failed exactly where it is unread.

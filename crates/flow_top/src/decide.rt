@@ -11,7 +11,7 @@ ghost use Rattle.flow_top.specs.Run.{Decided, MayTell, outcome_of, refusal_outco
 ghost use Rattle.flow_top.specs.Steps.{FileRead, Loaded, ClassesOf, WorldOf};
 
 use crate::command::{Command, command_of};
-use crate::outcome::{Outcome, ProgramRun, Told};
+use crate::outcome::{Outcome, ProgramRun, Answered};
 use flow_base::fault::OutFault;
 use flow_base::files::Files;
 use flow_base::input::read_file;
@@ -26,28 +26,28 @@ use std::alloc::Global;
 use std::snapshot::Snapshot;
 
 // What a fault of the files comes to.
-fn fault_outcome(fault: OutFault) -> Told
+fn fault_outcome(fault: OutFault) -> Answered
     ensures { result ≡ outcome_of fault }
 {
     match fault {
-        OutFault::Failed => Told::ReadFault,
-        OutFault::OutOfMemory => Told::OutOfMemory,
+        OutFault::Failed => Answered::ReadFault,
+        OutFault::OutOfMemory => Answered::OutOfMemory,
     }
 }
 
 // What a refusal of the program comes to.
-fn refusal_outcome(fault: SourceFault) -> Told
+fn refusal_outcome(fault: SourceFault) -> Answered
     ensures { result ≡ refusal_outcome_of fault }
 {
     match fault {
-        SourceFault::OutOfMemory => Told::OutOfMemory,
-        SourceFault::Refused { .. } | SourceFault::AcrossWait { .. } => Told::Refused(fault),
+        SourceFault::OutOfMemory => Answered::OutOfMemory,
+        SourceFault::Refused { .. } | SourceFault::AcrossWait { .. } => Answered::Refused(fault),
     }
 }
 
 // The bytes of the file of this name, one past the limit of a text at most, or what the command comes to without them. A world
 // file has the same limit as a program.
-fn bytes_of<F: Files>(alloc: Global, name: &str, files: &mut F) -> Result<Vec<u8>, Told>
+fn bytes_of<F: Files>(alloc: Global, name: &str, files: &mut F) -> Result<Vec<u8>, Answered>
     ensures content { (F.seen files.new).content ≡ (F.seen files.old).content }
     ensures others { MovesOnly name.now (F.seen files.old) (F.seen files.new) }
     ensures within { ReadsWithin (PROGRAM_BYTES + 1) name.now (F.seen files.old)
@@ -61,7 +61,7 @@ fn bytes_of<F: Files>(alloc: Global, name: &str, files: &mut F) -> Result<Vec<u8
 }
 
 // The program of the file of this name, which passes the rules, or what the command comes to without it.
-fn load<F: Files>(alloc: Global, name: &str, files: &mut F) -> Result<Sound, Told>
+fn load<F: Files>(alloc: Global, name: &str, files: &mut F) -> Result<Sound, Answered>
     ensures content { (F.seen files.new).content ≡ (F.seen files.old).content }
     ensures others { MovesOnly name.now (F.seen files.old) (F.seen files.new) }
     ensures loaded { Loaded name.now (F.seen files.old) (F.seen files.new) result }
@@ -77,7 +77,7 @@ fn load<F: Files>(alloc: Global, name: &str, files: &mut F) -> Result<Sound, Tol
 }
 
 // What `format` on this program comes to.
-fn format<F: Files>(alloc: Global, name: &str, files: &mut F) -> Told
+fn format<F: Files>(alloc: Global, name: &str, files: &mut F) -> Answered
     ensures { (words : List (List ℕ)) → AreFormat words name.now
         → Decided words (F.seen files.old) (F.seen files.new) (Outcome.Told result) }
 {
@@ -86,35 +86,35 @@ fn format<F: Files>(alloc: Global, name: &str, files: &mut F) -> Told
         Err(told) => return told,
     };
     match read_program(alloc, &bytes) {
-        Ok(program) => Told::Formatted(program),
+        Ok(program) => Answered::Formatted(program),
         Err(fault) => refusal_outcome(fault),
     }
 }
 
 // That the actor at this place weighs too much.
-fn too_heavy(at: Place) -> Told
+fn too_heavy(at: Place) -> Answered
     ensures { result ≡ heavy_outcome at }
 {
-    Told::Refused(SourceFault::Refused {
+    Answered::Refused(SourceFault::Refused {
         rule: Rule::L(9),
         at,
     })
 }
 
 // The classes of a program, or what the command comes to without them.
-fn classes_of(alloc: Global, sound: &Sound) -> Result<ClassProgram, Told>
+fn classes_of(alloc: Global, sound: &Sound) -> Result<ClassProgram, Answered>
     requires { IsAccepted sound.now.typed.program }
     ensures { ClassesOf (program_of sound.now.typed.program) result }
 {
     match compile(alloc, sound) {
         Ok(classes) => Ok(classes),
         Err(CompileFault::TooManyBlocks(at)) => Err(too_heavy(at)),
-        Err(CompileFault::OutOfMemory) => Err(Told::OutOfMemory),
+        Err(CompileFault::OutOfMemory) => Err(Answered::OutOfMemory),
     }
 }
 
 // What `check` on this program comes to.
-fn check<F: Files>(alloc: Global, name: &str, files: &mut F) -> Told
+fn check<F: Files>(alloc: Global, name: &str, files: &mut F) -> Answered
     ensures { (words : List (List ℕ)) → AreCheck words name.now
         → Decided words (F.seen files.old) (F.seen files.new) (Outcome.Told result) }
 {
@@ -123,13 +123,13 @@ fn check<F: Files>(alloc: Global, name: &str, files: &mut F) -> Told
         Err(told) => return told,
     };
     match first_heavy(&sound) {
-        None => Told::Passed,
+        None => Answered::Passed,
         Some(at) => too_heavy(at),
     }
 }
 
 // What `compile` on this program comes to.
-fn compiled<F: Files>(alloc: Global, name: &str, files: &mut F) -> Told
+fn compiled<F: Files>(alloc: Global, name: &str, files: &mut F) -> Answered
     ensures { (words : List (List ℕ)) → AreCompile words name.now
         → Decided words (F.seen files.old) (F.seen files.new) (Outcome.Told result) }
 {
@@ -138,20 +138,20 @@ fn compiled<F: Files>(alloc: Global, name: &str, files: &mut F) -> Told
         Err(told) => return told,
     };
     match classes_of(alloc, &sound) {
-        Ok(classes) => Told::Compiled(classes),
+        Ok(classes) => Answered::Compiled(classes),
         Err(told) => told,
     }
 }
 
 // The world of a text, or what the command comes to without it.
-fn world_of(alloc: Global, bytes: &[u8]) -> Result<World0, Told>
+fn world_of(alloc: Global, bytes: &[u8]) -> Result<World0, Answered>
     ensures answered { WorldOf bytes.now result }
     ensures in_range { IfOk result (λ w. IsInRange (seen w)) }
 {
     match read_world(alloc, bytes) {
         Ok(world) => Ok(world),
-        Err(WorldFault::OutOfMemory) => Err(Told::OutOfMemory),
-        Err(fault) => Err(Told::NoWorld(fault)),
+        Err(WorldFault::OutOfMemory) => Err(Answered::OutOfMemory),
+        Err(fault) => Err(Answered::NoWorld(fault)),
     }
 }
 
@@ -163,15 +163,15 @@ fn run<F: Files>(alloc: Global, name: &str, world: &str, frames: bool, files: &m
 {
     let sound = match load(alloc, name, files) {
         Ok(sound) => sound,
-        Err(told) => return Outcome::Told(told),
+        Err(told) => return Outcome::Answered(told),
     };
     let classes = match classes_of(alloc, &sound) {
         Ok(classes) => classes,
-        Err(told) => return Outcome::Told(told),
+        Err(told) => return Outcome::Answered(told),
     };
     let bytes = match bytes_of(alloc, world, files) {
         Ok(bytes) => bytes,
-        Err(told) => return Outcome::Told(told),
+        Err(told) => return Outcome::Answered(told),
     };
     match world_of(alloc, &bytes) {
         Ok(world) => Outcome::Run(ProgramRun {
@@ -180,7 +180,7 @@ fn run<F: Files>(alloc: Global, name: &str, world: &str, frames: bool, files: &m
             world,
             frames,
         }),
-        Err(told) => Outcome::Told(told),
+        Err(told) => Outcome::Answered(told),
     }
 }
 
@@ -191,10 +191,10 @@ pub fn decide<F: Files>(alloc: Global, words: &[String], files: &mut F) -> Outco
         result }
 {
     match command_of(words) {
-        None => Outcome::Told(Told::Usage),
-        Some(Command::Format(program)) => Outcome::Told(format(alloc, program, files)),
-        Some(Command::Check(program)) => Outcome::Told(check(alloc, program, files)),
-        Some(Command::Compile(program)) => Outcome::Told(compiled(alloc, program, files)),
+        None => Outcome::Answered(Answered::Usage),
+        Some(Command::Format(program)) => Outcome::Answered(format(alloc, program, files)),
+        Some(Command::Check(program)) => Outcome::Answered(check(alloc, program, files)),
+        Some(Command::Compile(program)) => Outcome::Answered(compiled(alloc, program, files)),
         Some(Command::Run(program, world, frames)) => run(alloc, program, world, frames, files),
     }
 }

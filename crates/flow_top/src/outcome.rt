@@ -10,7 +10,7 @@ use std::snapshot::Snapshot;
 #[derive(Drop)]
 pub enum Outcome {
     /// Its text, which is known before it is told.
-    Told(Told),
+    Answered(Answered),
     /// A program is run in a world.
     Run(ProgramRun),
 }
@@ -27,7 +27,7 @@ pub struct ProgramRun {
 
 /// What a command line comes to where nothing is run.
 #[derive(Drop)]
-pub enum Told {
+pub enum Answered {
     /// The words are no command.
     Usage,
     /// A file couldn't be read.

@@ -5,11 +5,11 @@ ghost use Rattle.std.specs.Io.KnownBytes.{Appends};
 ghost use Rattle.flow_base.specs.Bytes.{AppendsPart};
 ghost use Rattle.flow_base.specs.Faults.{HasCause};
 ghost use Rattle.flow_refusal.specs.Refusal.{refusal_text, world_refusal};
-ghost use Rattle.flow_machine.specs.declared.host.RunFault.TheVariants.{Astray};
+ghost use Rattle.flow_machine.specs.declared.host.RunFault.TheVariants.{Stuck};
 ghost use Rattle.flow_machine.specs.Cause.{fault_of};
 ghost use Rattle.flow_top.specs.Run.{text_of, status_of, world_status, ending_status, fault_status_of, MayRun, MayTell, ReportedTold, ReportedRun, Reported};
 
-use crate::outcome::{Outcome, ProgramRun, Told};
+use crate::outcome::{Outcome, ProgramRun, Answered};
 use flow_base::fault::OutFault;
 use flow_base::output::write_whole;
 use flow_base::sink::Sink;
@@ -51,21 +51,21 @@ fn put_world_refusal<S: Sink>(alloc: Global, fault: WorldFault, out: &mut S) -> 
 }
 
 // Writes the text of an outcome that is no run.
-fn put<S: Sink>(alloc: Global, outcome: Told, out: &mut S) -> Result<(), OutFault>
+fn put<S: Sink>(alloc: Global, outcome: Answered, out: &mut S) -> Result<(), OutFault>
     ensures whole { OnOk result (Appends (S.seen out.old).written (S.seen out.new).written
         (text_of outcome)) }
     ensures part { AppendsPart (S.seen out.old).written (S.seen out.new).written (text_of outcome) }
     ensures cause { HasCause (S.seen out.old).faults (S.seen out.new).faults result }
 {
     match outcome {
-        Told::Usage => write_whole(out, b"usage\n"),
-        Told::ReadFault => write_whole(out, b"read fault\n"),
-        Told::OutOfMemory => Ok(()),
-        Told::Refused(fault) => put_refusal(alloc, &fault, out),
-        Told::NoWorld(fault) => put_world_refusal(alloc, fault, out),
-        Told::Passed => write_whole(out, b"ok\n"),
-        Told::Compiled(classes) => write_classes(alloc, classes.raw(), out),
-        Told::Formatted(program) => show_lines(alloc, &program, out),
+        Answered::Usage => write_whole(out, b"usage\n"),
+        Answered::ReadFault => write_whole(out, b"read fault\n"),
+        Answered::OutOfMemory => Ok(()),
+        Answered::Refused(fault) => put_refusal(alloc, &fault, out),
+        Answered::NoWorld(fault) => put_world_refusal(alloc, fault, out),
+        Answered::Passed => write_whole(out, b"ok\n"),
+        Answered::Compiled(classes) => write_classes(alloc, classes.raw(), out),
+        Answered::Formatted(program) => show_lines(alloc, &program, out),
     }
 }
 
@@ -84,18 +84,18 @@ fn world_status(fault: WorldFault) -> u8
 }
 
 // The status of an outcome that was told whole.
-fn status(outcome: &Told) -> u8
+fn status(outcome: &Answered) -> u8
     ensures { result ≡ status_of outcome.now }
 {
     match outcome {
-        Told::Passed => 0,
-        Told::Compiled(_) => 0,
-        Told::Formatted(_) => 0,
-        Told::Usage => 2,
-        Told::ReadFault => 5,
-        Told::OutOfMemory => 7,
-        Told::Refused(fault) => refusal_status(fault),
-        Told::NoWorld(fault) => world_status(*fault),
+        Answered::Passed => 0,
+        Answered::Compiled(_) => 0,
+        Answered::Formatted(_) => 0,
+        Answered::Usage => 2,
+        Answered::ReadFault => 5,
+        Answered::OutOfMemory => 7,
+        Answered::Refused(fault) => refusal_status(fault),
+        Answered::NoWorld(fault) => world_status(*fault),
     }
 }
 
@@ -110,7 +110,7 @@ fn fault_status(fault: OutFault) -> u8
 }
 
 // Writes the text of an outcome that is no run and flushes it, and gives the status.
-fn report_told<S: Sink>(alloc: Global, outcome: Told, out: &mut S) -> u8
+fn report_told<S: Sink>(alloc: Global, outcome: Answered, out: &mut S) -> u8
     ensures { ReportedTold outcome (S.seen out.old) (S.seen out.new) result }
 {
     let told = status(&outcome);
@@ -136,13 +136,13 @@ fn ending_status(ending: Ending) -> u8
 
 // The fault of a run that broke off: that of a program's classes never goes astray.
 fn run_fault(fault: RunFault) -> OutFault
-    requires { fault ≡ Astray → ⊥ }
+    requires { fault ≡ Stuck → ⊥ }
     ensures { fault_of result ≡ fault }
 {
     match fault {
         RunFault::Failed => OutFault::Failed,
         RunFault::OutOfMemory => OutFault::OutOfMemory,
-        RunFault::Astray => unreachable!(),
+        RunFault::Stuck => unreachable!(),
     }
 }
 
@@ -174,7 +174,7 @@ pub fn report<S: Sink>(alloc: Global, outcome: Outcome, out: &mut S) -> u8
     ensures { Reported outcome (S.seen out.old) (S.seen out.new) result }
 {
     match outcome {
-        Outcome::Told(told) => report_told(alloc, told, out),
+        Outcome::Answered(told) => report_told(alloc, told, out),
         Outcome::Run(run) => report_run(alloc, run, out),
     }
 }

@@ -13,7 +13,7 @@ use Rattle.flow_timers.specs.Pending.{Pending}
 use Rattle.flow_simnet.specs.declared.packet.Packet.{Packet}
 use Rattle.flow_machine.specs.declared.host.Burst.{Burst}
 use Rattle.flow_machine.specs.declared.host.Burst.TheVariants.{Rested, Spent}
-use Rattle.flow_world.specs.declared.deed.Deed.{Deed}
+use Rattle.flow_world.specs.declared.action.EventAction.{EventAction}
 use Rattle.flow_world.specs.declared.outside.What.{What}
 use Rattle.flow_world.specs.declared.outside.What.TheVariants as what
 use Rattle.flow_world.specs.Ending.{Seen}
@@ -25,11 +25,11 @@ same_end Rested w = refl
 same_end Spent w = refl
 
 module _ {A : Type 0} (puts : A → Line → Result (Unit {0}) OutFault → A → Type 0) where
-  unless : (held : Bool) (p : ProcId) (d : Deed) (w v : Seen) (a b : A) (e : Burst) → RunsUnless puts held p d w a e v b → v.code ≡ w.code
+  unless : (held : Bool) (p : ProcId) (d : EventAction) (w v : Seen) (a b : A) (e : Burst) → RunsUnless puts held p d w a e v b → v.code ≡ w.code
   unless true p d w v a b e t = ap (λ s. s.code) t.1
   unless false p d w v a b e t = ap (λ s. s.code) t.acted.left
 
-  runs : (p : ProcId) (d : Deed) (w v : Seen) (a b : A) (e : Burst) → Runs puts p d w a e v b → v.code ≡ w.code
+  runs : (p : ProcId) (d : EventAction) (w v : Seen) (a b : A) (e : Burst) → Runs puts p d w a e v b → v.code ≡ w.code
   runs p d w v a b e t = unless t.held p d w v a b e t.runs
 
   ordered : (x : Act) (w v : Seen) (a b : A) (e : Burst) → Ordered puts x w a e v b → v.code ≡ w.code

@@ -27,11 +27,11 @@ use Rattle.flow_simdisk.specs.Disk.{Disk}
 use Rattle.flow_simnet.specs.Links.{cut}
 use Rattle.flow_simnet.specs.Links as table
 use Rattle.flow_world.specs.Happening.{Happens, Ordered, LineComes, Comes, begins}
-use Rattle.flow_world.specs.Shows.{OutsideShows}
+use Rattle.flow_world.specs.Representing.{OutsideRepresents}
 use Rattle.flow_world.proofs.Events.{found, link_cut, link_healed, on_time}
 use Rattle.flow_world.proofs.Putting.{puts_one}
-use Rattle.flow_events.specs.Showing.{PlacesShow, ScriptShows, WorldShows}
-use Rattle.flow_events.specs.Coming.{NextShows}
+use Rattle.flow_events.specs.Showing.{PlacesRepresent, ScriptRepresents, WorldRepresents}
+use Rattle.flow_events.specs.Coming.{NextMatches}
 use Rattle.flow_events.proofs.Next.{same_next}
 use Rattle.flow_traced.specs.Traced.{EventShown}
 use Rattle.flow_traced.specs.Quiet.{begun_proc, StaysQuiet, CutFollows, HealFollows, FailureFollows}
@@ -43,7 +43,7 @@ abbrev quiet : (turns : ℕ) → Place Frame → Place Frame
 quiet turns x = record { up = x.up; proc = begun_proc turns x.proc }
 
 -- a disk of a process is another
-disk_put : (m : Surroundings) (o : Outside) (p : ℕ) (d e : Disk) → OutsideShows m o → d ≡ e → OutsideShows (memory_disk.with_disk p d m) (with_disk o p e)
+disk_put : (m : Surroundings) (o : Outside) (p : ℕ) (d e : Disk) → OutsideRepresents m o → d ≡ e → OutsideRepresents (memory_disk.with_disk p d m) (with_disk o p e)
 disk_put m o p d e s same = record {
   seed = s.seed;
   words = s.words;
@@ -65,8 +65,8 @@ disk_put m o p d e s same = record {
 
 module _ (Rests : Process → Proc Frame → Type 0) (Keeps : World Frame → Type 0) (IsCode : Code → Type 0) (r : RawTree) (still : StaysQuiet Rests Keeps IsCode r) where
   places_quiet :
-      (turns n k i : ℕ) (ats : List memory.Place) (xs : List (Place Frame)) (out : Outside) → PlacesShow Rests n k ats xs → i < length xs
-      → PlacesShow Rests n k ats (slice_set xs i (quiet turns (slice_index_or xs i down)))
+      (turns n k i : ℕ) (ats : List memory.Place) (xs : List (Place Frame)) (out : Outside) → PlacesRepresent Rests n k ats xs → i < length xs
+      → PlacesRepresent Rests n k ats (slice_set xs i (quiet turns (slice_index_or xs i down)))
   places_quiet turns n k i [] [] out s lt = absurd (omega (arith, lt))
   places_quiet turns n k i [] (x ∷ xs) out s lt = elim s [ ]
   places_quiet turns n k i (at ∷ ats) [] out s lt = elim s [ ]
@@ -77,7 +77,7 @@ module _ (Rests : Process → Proc Frame → Type 0) (Keeps : World Frame → Ty
   places_quiet turns n k (suc i) (at ∷ ats) (x ∷ xs) out s lt = (s.0, places_quiet turns n (suc k) i ats xs out s.1 (omega (arith, lt)))
 
   nothing_to_do :
-      (turns n k i : ℕ) (ats : List memory.Place) (xs : List (Place Frame)) (out : Outside) → PlacesShow Rests n k ats xs → i < length xs
+      (turns n k i : ℕ) (ats : List memory.Place) (xs : List (Place Frame)) (out : Outside) → PlacesRepresent Rests n k ats xs → i < length xs
       → advance (classes r) host (live (quiet turns (slice_index_or xs i down)).proc out) ≡ None
   nothing_to_do turns n k i [] [] out s lt = absurd (omega (arith, lt))
   nothing_to_do turns n k i [] (x ∷ xs) out s lt = elim s [ ]
@@ -88,9 +88,9 @@ module _ (Rests : Process → Proc Frame → Type 0) (Keeps : World Frame → Ty
   module _ {A : Type 0} (puts : A → Line → Result (Unit {0}) OutFault → A → Type 0) where
     -- an event of one line, whose process does nothing
     quietly :
-        (w v : Seen) (m : World Frame) (a b : A) (l : Line) (out : Outside) → WorldShows Rests w m → out.active < length m.places → out.file ≡ m.out.file
+        (w v : Seen) (m : World Frame) (a b : A) (l : Line) (out : Outside) → WorldRepresents Rests w m → out.active < length m.places → out.file ≡ m.out.file
         → begun_by (classes r) m (next_of m.out) ≡ Some (alone l (ready m out.active) out) → puts a l (Ok tt) b → v.places ≡ w.places
-        → OutsideShows v.outside out → ScriptShows v.script out.script → v.ran ≡ out.ran → v.bound ≡ w.bound → v.turns ≡ w.turns → v.ended ≡ false
+        → OutsideRepresents v.outside out → ScriptRepresents v.script out.script → v.ran ≡ out.ran → v.bound ≡ w.bound → v.turns ≡ w.turns → v.ended ≡ false
         → EventShown Rests Keeps IsCode puts r m a v b
     quietly w v m a b l out s within file begins put places outside script ran bound turns going =
         let t = m.out.file.turns in
@@ -105,8 +105,8 @@ module _ (Rests : Process → Proc Frame → Type 0) (Keeps : World Frame → Ty
           rests = refl;
           shows = record {
             places =
-                subst (λ f. PlacesShow Rests f.processes 0 v.places (slice_set m.places out.active (quiet t (slice_index_or m.places out.active down)))) (sym file)
-                (subst (λ ats. PlacesShow Rests m.out.file.processes 0 ats (slice_set m.places out.active (quiet t (slice_index_or m.places out.active down)))) (sym places)
+                subst (λ f. PlacesRepresent Rests f.processes 0 v.places (slice_set m.places out.active (quiet t (slice_index_or m.places out.active down)))) (sym file)
+                (subst (λ ats. PlacesRepresent Rests m.out.file.processes 0 ats (slice_set m.places out.active (quiet t (slice_index_or m.places out.active down)))) (sym places)
                 (places_quiet t m.out.file.processes 0 out.active w.places m.places out s.places within));
             outside = outside;
             script = script;
@@ -146,11 +146,11 @@ module _ (Rests : Process → Proc Frame → Type 0) (Keeps : World Frame → Ty
   -- a line of the script that does nothing to a process: what it does to what is outside shows
   quiet_line :
       (w v : Seen) (m : World Frame) (a b : A) (t : ℕ) (l : At) (ls : List At) (k : Order) (x : Line) (sur : Surroundings) (change : Outside → Outside)
-      → StaysQuiet Rests Keeps IsCode r → WorldShows Rests w m → process_of k < length m.places → next w ≡ Some (t, true) → w.script ≡ l ∷ ls → order_of l.act ≡ k
-      → ((left : List (ℕ × Order)) → IsQuiet m t k x change left × OutsideShows sur (change (counted t (process_of k) (record m.out { script = left }))))
+      → StaysQuiet Rests Keeps IsCode r → WorldRepresents Rests w m → process_of k < length m.places → next w ≡ Some (t, true) → w.script ≡ l ∷ ls → order_of l.act ≡ k
+      → ((left : List (ℕ × Order)) → IsQuiet m t k x change left × OutsideRepresents sur (change (counted t (process_of k) (record m.out { script = left }))))
       → puts a x (Ok tt) b → v ≡ after_line w sur ls → EventShown Rests Keeps IsCode puts r m a v b
   quiet_line w v m a b t l ls k x sur change still s there next_is script orders shows put is_now =
-      by_next (next_of m.out) refl (subst (λ n. NextShows w n (next_of m.out) m.out) next_is (same_next Rests w m s))
+      by_next (next_of m.out) refl (subst (λ n. NextMatches w n (next_of m.out) m.out) next_is (same_next Rests w m s))
     where
       head : {Y : Type 0} {x y : Y} {xs ys : List Y} → x ∷ xs ≡ y ∷ ys → x ≡ y
       head e = cc
@@ -158,7 +158,7 @@ module _ (Rests : Process → Proc Frame → Type 0) (Keeps : World Frame → Ty
       tail : {Y : Type 0} {x y : Y} {xs ys : List Y} → x ∷ xs ≡ y ∷ ys → xs ≡ ys
       tail e = cc
 
-      by_next : (y : Next) → next_of m.out ≡ y → NextShows w (Some (t, true)) y m.out → EventShown Rests Keeps IsCode puts r m a v b
+      by_next : (y : Next) → next_of m.out ≡ y → NextMatches w (Some (t, true)) y m.out → EventShown Rests Keeps IsCode puts r m a v b
       by_next Nothing e n = elim n [ ]
       by_next (Event y left) e n = elim n [ ]
       by_next (Script time o left) e n =
@@ -174,7 +174,7 @@ module _ (Rests : Process → Proc Frame → Type 0) (Keeps : World Frame → Ty
           in
           subst (λ z. EventShown Rests Keeps IsCode puts r m a z b) (sym is_now)
           (quietly Rests Keeps IsCode r still puts w now m a b x out s (subst (λ z. z < length m.places) (sym own.active) there) own.file begins_is put refl
-          (shows left).1 (subst (λ zs. ScriptShows ls zs) (sym own.script) (subst (λ zs. ScriptShows zs left) (tail both) n.shows)) (counts ∙ sym own.ran) refl refl refl)
+          (shows left).1 (subst (λ zs. ScriptRepresents ls zs) (sym own.script) (subst (λ zs. ScriptRepresents zs left) (tail both) n.shows)) (counts ∙ sym own.ran) refl refl refl)
 
   pub cut_follows : CutFollows Rests Keeps IsCode r puts
   cut_follows w v m a b t l ls p q still s few there pl ql next_is script cuts h =

@@ -21,13 +21,13 @@ use Rattle.flow_world.specs.Around.{Puts, no_line, more_lines}
 use Rattle.flow_world.specs.Ending.{Seen}
 use Rattle.flow_world.specs.Happening.{EventDoes}
 use Rattle.flow_world.proofs.Putting.{puts_more, puts_one}
-use Rattle.flow_events.specs.Showing.{WorldShows}
+use Rattle.flow_events.specs.Showing.{WorldRepresents}
 use Rattle.flow_events.proofs.Next.{same_end}
 use Rattle.flow_events.proofs.Started.{start_shown}
 use Rattle.flow_run.specs.declared.ending.Ending.{Ending}
 use Rattle.flow_run.specs.declared.ending.Ending.TheVariants.{Idle, Bound, Spent}
 use Rattle.flow_run.specs.Ends.{end_line}
-use Rattle.flow_run.specs.Tracing.{Goes, no_event, one_more, last_answer}
+use Rattle.flow_run.specs.Tracing.{RunsEvents, no_event, one_more, last_answer}
 use Rattle.flow_framed.specs.Framed.{seen_if, Shows, ends, spent, event}
 use Rattle.flow_traced.specs.Traced.{EventsFollow, SpentFollows, KeepsOn, FramesShown, TraceFollows, BeginningFollows}
 use Rattle.flow_traced.proofs.Codes.{code_stays}
@@ -38,7 +38,7 @@ module _ (Rests : Process → Proc Frame → Type 0) (Keeps : World Frame → Ty
   -- and what is shown from the first on goes on from there
   pub record Went (m : World Frame) (a : A) (u : Seen) (b : A) : Type 0 where
     pub last : World Frame
-    pub shows : WorldShows Rests u last
+    pub shows : WorldRepresents Rests u last
     pub keeps : Keeps last
     pub code : IsCode u.code
     pub text : raw_of u.code.program ≡ r
@@ -48,7 +48,7 @@ module _ (Rests : Process → Proc Frame → Type 0) (Keeps : World Frame → Ty
     pub onwards : (all : List Line) → Shows (classes r) frame_spot with_frames m all
         → (rest : List Line) × (all ≡ lines ++ rest) × Shows (classes r) frame_spot with_frames last rest
 
-  pub went : EventsFollow Rests Keeps IsCode puts r → KeepsOn Rests Keeps IsCode r → FramesShown Rests Keeps IsCode with_frames r → (w u : Seen) (m : World Frame) (a b : A) → IsCode w.code → raw_of w.code.program ≡ r → WorldShows Rests w m → Keeps m → Goes puts with_frames w a u b → Went m a u b
+  pub went : EventsFollow Rests Keeps IsCode puts r → KeepsOn Rests Keeps IsCode r → FramesShown Rests Keeps IsCode with_frames r → (w u : Seen) (m : World Frame) (a b : A) → IsCode w.code → raw_of w.code.program ≡ r → WorldRepresents Rests w m → Keeps m → RunsEvents puts with_frames w a u b → Went m a u b
   went law on seen_law w _ m a _ code text s k no_event = record {
     last = m;
     shows = s;
@@ -97,7 +97,7 @@ module _ (Rests : Process → Proc Frame → Type 0) (Keeps : World Frame → Ty
     put : Puts puts a own b
     shows : Shows (classes r) frame_spot with_frames m (own ++ end_line e ∷ [])
 
-  ended : SpentFollows Rests Keeps IsCode puts r → (w v : Seen) (m : World Frame) (a b : A) (e : Ending) → IsCode w.code → WorldShows Rests w m → Keeps m → EventDoes puts (last_answer e) w a v b → Ended m a e b
+  ended : SpentFollows Rests Keeps IsCode puts r → (w v : Seen) (m : World Frame) (a b : A) (e : Ending) → IsCode w.code → WorldRepresents Rests w m → Keeps m → EventDoes puts (last_answer e) w a v b → Ended m a e b
   ended law w v m a b Idle code s k does = record {
     own = [];
     put = subst (λ z. Puts puts a [] z) (sym does.2) no_line;

@@ -27,7 +27,7 @@ use Rattle.flow_world.specs.Around.{Puts}
 use Rattle.flow_world.specs.Ending.{Seen}
 use Rattle.flow_world.specs.Happening.{Happens}
 use Rattle.flow_world.specs.Starting.{Starts}
-use Rattle.flow_events.specs.Showing.{WorldShows}
+use Rattle.flow_events.specs.Showing.{WorldRepresents}
 use Rattle.flow_run.specs.declared.ending.Ending.{Ending}
 use Rattle.flow_run.specs.Ends.{end_line, LastIs}
 use Rattle.flow_run.specs.Tracing.{Traces, Begins, lines_if}
@@ -49,7 +49,7 @@ module _ (Rests : Process → Proc Frame → Type 0) (Keeps : World Frame → Ty
     pub record EventShown (m : World Frame) (a : A) (v : Seen) (b : A) : Type 0 where
       pub event : EventBegan m a b
       pub rests : event.left.proc.core.halted ≡ None
-      pub shows : WorldShows Rests v (after m event.begun event.left)
+      pub shows : WorldRepresents Rests v (after m event.begun event.left)
 
     -- or it needs more turns than there are
     pub record SpentShown (m : World Frame) (a b : A) : Type 0 where
@@ -59,12 +59,12 @@ module _ (Rests : Process → Proc Frame → Type 0) (Keeps : World Frame → Ty
     -- Each event in memory is the next event of the definitions.
     abbrev pub EventsFollow : Type 0
     EventsFollow =
-        (w v : Seen) (m : World Frame) (a b : A) → IsCode w.code → WorldShows Rests w m → Keeps m
+        (w v : Seen) (m : World Frame) (a b : A) → IsCode w.code → WorldRepresents Rests w m → Keeps m
         → Happens puts w a burst.Rested v b → EventShown m a v b
 
     abbrev pub SpentFollows : Type 0
     SpentFollows =
-        (w v : Seen) (m : World Frame) (a b : A) → IsCode w.code → WorldShows Rests w m → Keeps m
+        (w v : Seen) (m : World Frame) (a b : A) → IsCode w.code → WorldRepresents Rests w m → Keeps m
         → Happens puts w a burst.Spent v b → SpentShown m a b
 
   -- What a world keeps it keeps after an event.
@@ -77,7 +77,7 @@ module _ (Rests : Process → Proc Frame → Type 0) (Keeps : World Frame → Ty
   -- seen of the world that it shows.
   abbrev pub FramesShown : (with_frames : Bool) → RawTree → Type 0
   FramesShown with_frames r =
-      (w : Seen) (m : World Frame) → raw_of w.code.program ≡ r → WorldShows Rests w m → Keeps m
+      (w : Seen) (m : World Frame) → raw_of w.code.program ≡ r → WorldRepresents Rests w m → Keeps m
       → lines_if with_frames w ≡ seen_if (classes r) frame_spot with_frames m
 
   -- Where that is so, the lines that are put of classes in a world are what is shown of these classes in it,

@@ -28,19 +28,19 @@ pub trait Boundary {
 /// that it shows, the lines that are put of classes in a world, from the first to the last, are what is
 /// shown of these classes in it; without frames, a trace of them.
 /// And what was put of a trace that has begun is a first part of all that is shown of these classes.
-pub fn trace_follows<B: Boundary, L: LineOut>()
+pub fn traces_refine_if_events_do<B: Boundary, L: LineOut>()
     ensures whole { TraceFollows B.rests B.keeps B.is_code L.puts }
     ensures part { BeginningFollows B.rests B.keeps B.is_code L.puts }
 {}
 
 /// An event leaves the code as it is.
-pub fn code_stays<L: LineOut>()
+pub fn events_keep_code<L: LineOut>()
     ensures { CodeStays L.puts }
 {}
 
 /// Whatever is meant by a boundary: where a process that rests has nothing to do, a link of two processes
 /// that is cut by the script, or heals, is the next event of the definitions, and so is a disk that is to fail.
-pub fn quiet_follows<B: Boundary, L: LineOut>()
+pub fn link_and_disk_events_refine<B: Boundary, L: LineOut>()
     ensures cut { (r : RawTree) → CutFollows B.rests B.keeps B.is_code r L.puts }
     ensures failure { (r : RawTree) → FailureFollows B.rests B.keeps B.is_code r L.puts }
     ensures heal { (r : RawTree) → HealFollows B.rests B.keeps B.is_code r L.puts }

@@ -199,86 +199,86 @@ Canon p = decls_text p.decls
 abbrev pub first_place : Place
 first_place = record { line = 1; column = 1; byte = 0 }
 
-abbrev pub bare_ident : Ident → Ident
-bare_ident x = record { name = x.name; at = first_place }
+abbrev pub placeless_ident : Ident → Ident
+placeless_ident x = record { name = x.name; at = first_place }
 
 abbrev mutual
-  pub bare_expr : ExprTree → ExprTree
-  bare_expr (IntExpr n) = IntExpr n
-  bare_expr (TextExpr t) = TextExpr t
-  bare_expr (BoolExpr b) = BoolExpr b
-  bare_expr VoidExpr = VoidExpr
-  bare_expr (VarExpr x) = VarExpr (bare_ident x)
-  bare_expr (CallExpr f es) = CallExpr (bare_ident f) (bare_exprs es)
-  bare_expr (FieldExpr e x) = FieldExpr (bare_expr e) (bare_ident x)
-  bare_expr (MethodExpr e f es) = MethodExpr (bare_expr e) (bare_ident f) (bare_exprs es)
-  bare_expr (NotExpr e) = NotExpr (bare_expr e)
-  bare_expr (NegExpr e) = NegExpr (bare_expr e)
-  bare_expr (BinaryExpr op a b) = BinaryExpr op (bare_expr a) (bare_expr b)
-  bare_expr (ParenExpr e) = ParenExpr (bare_expr e)
+  pub placeless_expr : ExprTree → ExprTree
+  placeless_expr (IntExpr n) = IntExpr n
+  placeless_expr (TextExpr t) = TextExpr t
+  placeless_expr (BoolExpr b) = BoolExpr b
+  placeless_expr VoidExpr = VoidExpr
+  placeless_expr (VarExpr x) = VarExpr (placeless_ident x)
+  placeless_expr (CallExpr f es) = CallExpr (placeless_ident f) (placeless_exprs es)
+  placeless_expr (FieldExpr e x) = FieldExpr (placeless_expr e) (placeless_ident x)
+  placeless_expr (MethodExpr e f es) = MethodExpr (placeless_expr e) (placeless_ident f) (placeless_exprs es)
+  placeless_expr (NotExpr e) = NotExpr (placeless_expr e)
+  placeless_expr (NegExpr e) = NegExpr (placeless_expr e)
+  placeless_expr (BinaryExpr op a b) = BinaryExpr op (placeless_expr a) (placeless_expr b)
+  placeless_expr (ParenExpr e) = ParenExpr (placeless_expr e)
 
-  pub bare_exprs : ExprTrees → ExprTrees
-  bare_exprs NoExprs = NoExprs
-  bare_exprs (MoreExprs e es) = MoreExprs (bare_expr e) (bare_exprs es)
+  pub placeless_exprs : ExprTrees → ExprTrees
+  placeless_exprs NoExprs = NoExprs
+  placeless_exprs (MoreExprs e es) = MoreExprs (placeless_expr e) (placeless_exprs es)
 
-abbrev pub bare_into : IntoTree → IntoTree
-bare_into i = record { state = i.state; ty = i.ty; name = bare_ident i.name }
+abbrev pub placeless_into : IntoTree → IntoTree
+placeless_into i = record { state = i.state; ty = i.ty; name = placeless_ident i.name }
 
-abbrev pub bare_wait : WaitTree → WaitTree
-bare_wait w = record { into = option_map bare_into w.into; next = w.next; operand = bare_expr w.operand }
+abbrev pub placeless_wait : WaitTree → WaitTree
+placeless_wait w = record { into = option_map placeless_into w.into; next = w.next; operand = placeless_expr w.operand }
 
-abbrev pub bare_change : ChangeTree → ChangeTree
-bare_change (PlusChange e) = PlusChange (bare_expr e)
-bare_change (MinusChange e) = MinusChange (bare_expr e)
-bare_change UpChange = UpChange
-bare_change DownChange = DownChange
+abbrev pub placeless_change : ChangeTree → ChangeTree
+placeless_change (PlusChange e) = PlusChange (placeless_expr e)
+placeless_change (MinusChange e) = MinusChange (placeless_expr e)
+placeless_change UpChange = UpChange
+placeless_change DownChange = DownChange
 
 abbrev mutual
-  pub bare_body : Body → Body
-  bare_body End = End
-  bare_body (BlockStmt at inner rest) = BlockStmt first_place (bare_body inner) (bare_body rest)
-  bare_body (IfStmt at e body rest) = IfStmt first_place (bare_expr e) (bare_body body) (bare_body rest)
-  bare_body (IfElseStmt at e body otherwise rest) = IfElseStmt first_place (bare_expr e) (bare_body body) (bare_body otherwise) (bare_body rest)
-  bare_body (WhileStmt at e inner rest) = WhileStmt first_place (bare_expr e) (bare_body inner) (bare_body rest)
-  bare_body (ForStmt at init e step inner rest) = ForStmt first_place (bare_body init) (option_map bare_expr e) (bare_body step) (bare_body inner) (bare_body rest)
-  bare_body (LoopStmt at inner rest) = LoopStmt first_place (bare_body inner) (bare_body rest)
-  bare_body (BreakStmt at rest) = BreakStmt first_place (bare_body rest)
-  bare_body (ContinueStmt at rest) = ContinueStmt first_place (bare_body rest)
-  bare_body (ReturnStmt at e rest) = ReturnStmt first_place (bare_expr e) (bare_body rest)
-  bare_body (ThrowStmt at e rest) = ThrowStmt first_place (option_map bare_expr e) (bare_body rest)
-  bare_body (TryStmt at inner p x handler rest) = TryStmt first_place (bare_body inner) first_place (bare_ident x) (bare_body handler) (bare_body rest)
-  bare_body (ChooseStmt at branches rest) = ChooseStmt first_place (bare_branches branches) (bare_body rest)
-  bare_body (DeclareStmt at i value rest) = DeclareStmt first_place (bare_into i) (option_map bare_expr value) (bare_body rest)
-  bare_body (AssignStmt at path e rest) = AssignStmt first_place (map bare_ident path) (bare_expr e) (bare_body rest)
-  bare_body (ModifyStmt at path c rest) = ModifyStmt first_place (map bare_ident path) (bare_change c) (bare_body rest)
-  bare_body (CallStmt at path es rest) = CallStmt first_place (map bare_ident path) (bare_exprs es) (bare_body rest)
-  bare_body (WaitStmt at w rest) = WaitStmt first_place (bare_wait w) (bare_body rest)
+  pub placeless_body : Body → Body
+  placeless_body End = End
+  placeless_body (BlockStmt at inner rest) = BlockStmt first_place (placeless_body inner) (placeless_body rest)
+  placeless_body (IfStmt at e body rest) = IfStmt first_place (placeless_expr e) (placeless_body body) (placeless_body rest)
+  placeless_body (IfElseStmt at e body otherwise rest) = IfElseStmt first_place (placeless_expr e) (placeless_body body) (placeless_body otherwise) (placeless_body rest)
+  placeless_body (WhileStmt at e inner rest) = WhileStmt first_place (placeless_expr e) (placeless_body inner) (placeless_body rest)
+  placeless_body (ForStmt at init e step inner rest) = ForStmt first_place (placeless_body init) (option_map placeless_expr e) (placeless_body step) (placeless_body inner) (placeless_body rest)
+  placeless_body (LoopStmt at inner rest) = LoopStmt first_place (placeless_body inner) (placeless_body rest)
+  placeless_body (BreakStmt at rest) = BreakStmt first_place (placeless_body rest)
+  placeless_body (ContinueStmt at rest) = ContinueStmt first_place (placeless_body rest)
+  placeless_body (ReturnStmt at e rest) = ReturnStmt first_place (placeless_expr e) (placeless_body rest)
+  placeless_body (ThrowStmt at e rest) = ThrowStmt first_place (option_map placeless_expr e) (placeless_body rest)
+  placeless_body (TryStmt at inner p x handler rest) = TryStmt first_place (placeless_body inner) first_place (placeless_ident x) (placeless_body handler) (placeless_body rest)
+  placeless_body (ChooseStmt at branches rest) = ChooseStmt first_place (placeless_branches branches) (placeless_body rest)
+  placeless_body (DeclareStmt at i value rest) = DeclareStmt first_place (placeless_into i) (option_map placeless_expr value) (placeless_body rest)
+  placeless_body (AssignStmt at path e rest) = AssignStmt first_place (map placeless_ident path) (placeless_expr e) (placeless_body rest)
+  placeless_body (ModifyStmt at path c rest) = ModifyStmt first_place (map placeless_ident path) (placeless_change c) (placeless_body rest)
+  placeless_body (CallStmt at path es rest) = CallStmt first_place (map placeless_ident path) (placeless_exprs es) (placeless_body rest)
+  placeless_body (WaitStmt at w rest) = WaitStmt first_place (placeless_wait w) (placeless_body rest)
 
-  pub bare_branches : Branches → Branches
-  bare_branches NoBranches = NoBranches
-  bare_branches (MoreBranches at w inner more) = MoreBranches first_place (bare_wait w) (bare_body inner) (bare_branches more)
+  pub placeless_branches : Branches → Branches
+  placeless_branches NoBranches = NoBranches
+  placeless_branches (MoreBranches at w inner more) = MoreBranches first_place (placeless_wait w) (placeless_body inner) (placeless_branches more)
 
-abbrev pub bare_param : ParamTree → ParamTree
-bare_param p = record { ty = p.ty; name = bare_ident p.name }
+abbrev pub placeless_param : ParamTree → ParamTree
+placeless_param p = record { ty = p.ty; name = placeless_ident p.name }
 
-abbrev pub bare_record : RecordTree → RecordTree
-bare_record r = record { at = first_place; name = bare_ident r.name; fields = map bare_param r.fields }
+abbrev pub placeless_record : RecordTree → RecordTree
+placeless_record r = record { at = first_place; name = placeless_ident r.name; fields = map placeless_param r.fields }
 
-abbrev pub bare_routine : RoutineTree → RoutineTree
-bare_routine r = record {
+abbrev pub placeless_routine : RoutineTree → RoutineTree
+placeless_routine r = record {
   at = first_place;
   returns = r.returns;
-  name = bare_ident r.name;
-  params = map bare_param r.params;
-  body = bare_body r.body;
+  name = placeless_ident r.name;
+  params = map placeless_param r.params;
+  body = placeless_body r.body;
   close = first_place;
 }
 
-abbrev pub bare_decl : DeclTree → DeclTree
-bare_decl (StructDecl r) = StructDecl (bare_record r)
-bare_decl (FunctionDecl f) = FunctionDecl (bare_routine f)
-bare_decl (ActorDecl a) = ActorDecl (bare_routine a)
+abbrev pub placeless_decl : DeclTree → DeclTree
+placeless_decl (StructDecl r) = StructDecl (placeless_record r)
+placeless_decl (FunctionDecl f) = FunctionDecl (placeless_routine f)
+placeless_decl (ActorDecl a) = ActorDecl (placeless_routine a)
 
 -- the program with every place the first one
 abbrev pub bare : ProgramTree → ProgramTree
-bare p = record { decls = map bare_decl p.decls; end = first_place }
+bare p = record { decls = map placeless_decl p.decls; end = first_place }

@@ -10,7 +10,7 @@ use Rattle.flow_valid.specs.Validity.{IsValid}
 use Rattle.flow_numbered.specs.Numbered.{Numbered, thing}
 use Rattle.flow_meaning.specs.Cells.{FutureSide, side_of}
 use Rattle.flow_meaning.specs.Process.{Task, Close, Entry, Core}
-use Rattle.flow_meaning.specs.Occ.{refs_in, value_in, one, count}
+use Rattle.flow_meaning.specs.References.{refs_in, value_in, one, count}
 use Rattle.flow_meaning.specs.Orderly.{Orderly}
 use Rattle.flow_meaning.specs.Frame.{Frame}
 use Rattle.flow_meaning.proofs.Shifts.{close_of}

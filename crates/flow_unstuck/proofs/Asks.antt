@@ -33,13 +33,13 @@ use Rattle.flow_valid.specs.Named.{listed, expr_places, exprs_places, base_place
 use Rattle.flow_valid.specs.Filling.{among, instr_reads, instr_fills, operands, group_reads, reads}
 use Rattle.flow_valid.specs.Validity.{operand_type}
 use Rattle.flow_meaning.specs.Variables.{flat, filled}
-use Rattle.flow_meaning.specs.Asks.{Act, Goes, Pass, Drops, Effects, Operand, Waits, Sends, Cancels, Prints, SendsTo, Returns, Throws, RunsOut, Stuck, Spot, Make, Goal, Stored, Kept}
+use Rattle.flow_meaning.specs.Requests.{Act, Goes, Pass, Drops, Effects, Operand, Waits, Sends, Cancels, Prints, SendsTo, Returns, Throws, RunsOut, Stuck, Spot, Make, Goal, Stored, Kept}
 use Rattle.flow_meaning.specs.Process.{View}
 use Rattle.flow_meaning.specs.Evaluating.{Names, effectful, setting, bind, StepOf, asks, given, evaluated, Effectful, effect_in, effect_of, done, before_last, last_of, value, values, function_act, plain_act, based_act, call_act}
 use Rattle.flow_meaning.specs.Frame.{Memory, Frame, read, write, look, held_in, emptied, reversed, everything, assign, spot_of, go, next_instr, over, lose}
 use Rattle.flow_meaning.specs.Class.{promise_kind, placed, effects, instruction, test, operand_ref as asks_operand, operand_by, choose, throw_value, last, fetched, next_step, class_names}
 use Rattle.flow_unstuck.specs.Places.{Filled, HoldsTypes}
-use Rattle.flow_unstuck.specs.Standing.{Stands, StandsWaiting}
+use Rattle.flow_unstuck.specs.FramesAtPoints.{Stands, StandsWaiting}
 use Rattle.flow_unstuck.specs.Rules.{EffectFits, InstrFits, SayFits, CallFits, BranchFits, LastFits, KeepsRules, Typed, AllTyped}
 use Rattle.flow_unstuck.specs.Asking.{Stores, NextOperand, HaveSome, Wanted, ActFits, StaysIn, AsksFit}
 use Rattle.flow_unstuck.proofs.Evaluates.{AllFilled, readable_by, all_readable_by, among_left, among_right, same_self, value_safe, values_safe}

@@ -25,7 +25,7 @@ use Rattle.flow_meaning.specs.Variables.{filled}
 use Rattle.flow_meaning.specs.Evaluating.{bind}
 use Rattle.flow_meaning.specs.Frame.{Memory, Frame, read, write, put_root, put_at, assign, next_instr}
 use Rattle.flow_unstuck.specs.Places.{AreNamed, Filled, HoldsTypes}
-use Rattle.flow_unstuck.specs.Standing.{Stands}
+use Rattle.flow_unstuck.specs.FramesAtPoints.{Stands}
 use Rattle.flow_unstuck.specs.Asking.{HaveSome}
 use Rattle.flow_unstuck.proofs.Evaluates.{same_self}
 use Rattle.flow_unstuck.proofs.Memories.{place_eq, write_other, write_same, within_of, write_holds}

@@ -12,7 +12,7 @@ use Rattle.flow_numbered.specs.Numbered.{Numbered}
 use Rattle.flow_meaning.specs.Process.{Core}
 use Rattle.flow_meaning.specs.Step.{proc}
 use Rattle.flow_meaning.specs.Deliver.{idle_core, idle, boot_core, boot_with, stop, deliver, arrive}
-use Rattle.flow_meaning.specs.Orderly.{Orderly, InOrder, UnlessStopped, Free}
+use Rattle.flow_meaning.specs.Orderly.{Orderly, OrderlyUnlessStopped, UnlessStopped, Free}
 use Rattle.flow_meaning.specs.Outside.{What, Boots, Rings, Arrives, Answers, Outside}
 use Rattle.flow_meaning.specs.World.{Place, World, Begun, Next, Nothing, Script, Event, booted, ordered, packet, arrived, listener, happened, process_of, process_in, ready, counted, with_left, begun_by}
 use Rattle.flow_meaning.specs.Frame.{Frame}
@@ -24,7 +24,7 @@ use Rattle.flow_meaning.proofs.Relating.{related_eased, related_new}
 use Rattle.flow_meaning.proofs.InOrder.{no_thing, boot_in_order, begin_in_order, stop_in_order, deliver_in_order, arrive_in_order}
 use Rattle.flow_meaning.proofs.RestRuns.{idle_orderly, idle_at_rest}
 use Rattle.flow_unstuck.specs.Phases.{Placed}
-use Rattle.flow_unstuck.specs.Going.{Going}
+use Rattle.flow_unstuck.specs.FramesByRequest.{Going}
 use Rattle.flow_unstuck.specs.Ending.{InPlace}
 use Rattle.flow_unstuck.specs.Existing.{RestsInPlace, WorldInPlace}
 use Rattle.flow_unstuck.proofs.KeptPhases.{Itself, itself, related_of, placed_of}
@@ -37,7 +37,7 @@ module _ (r : RawTree) where
   abbrev Stays : Core → Numbered Frame → Type 0
   Stays c xs = UnlessStopped c.halted (InPlace r c xs)
 
-  both : (c : Core) (xs : Numbered Frame) → InOrder c → Unless (λ k. Known k xs) c → Stays c xs
+  both : (c : Core) (xs : Numbered Frame) → OrderlyUnlessStopped c → Unless (λ k. Known k xs) c → Stays c xs
   both c xs o p = unless_map c.halted (λ (x : Orderly c × Known c xs). record { orderly = x.0; frames = x.1 }) (unless_both (Orderly c) (Known c xs) c.halted o p)
 
   -- no phase rises
@@ -46,7 +46,7 @@ module _ (r : RawTree) where
       let going = frames_going r in
       placed_of (classes r) (Going r) going d xs (related_eased (classes r) (classes r) (Itself (classes r) (Going r) going) (itself (classes r) (Going r) going) c d xs xs (related_of (classes r) (Going r) going c xs k) h)
 
-  delivered : (c d : Core) (xs : Numbered Frame) → InOrder d → Unless (Eases c) d → Known c xs → Stays d xs
+  delivered : (c d : Core) (xs : Numbered Frame) → OrderlyUnlessStopped d → Unless (Eases c) d → Known c xs → Stays d xs
   delivered c d xs o h k = both d xs o (unless_map d.halted (eased c d xs k) h)
 
   unchanged : (c : Core) (xs : Numbered Frame) → Orderly c → Known c xs → Stays c xs

@@ -16,7 +16,7 @@ use Rattle.flow_value.specs.Values.{ValueTree, RefValue, OutcomeTree}
 use Rattle.flow_eval.specs.Answers.{int_of, text_of, arg}
 use Rattle.flow_eval.specs.Eval.{Res, Done, Fails, Spent, Meaningless, then}
 use Rattle.flow_eval.specs.Functions.{Call, read_in}
-use Rattle.flow_meaning.specs.Asks.{Act, Goes, Cancels, Prints, Sends, SendsTo}
+use Rattle.flow_meaning.specs.Requests.{Act, Goes, Cancels, Prints, Sends, SendsTo}
 use Rattle.flow_meaning.specs.Process.{View}
 use Rattle.flow_meaning.specs.Evaluating.{Names, Look, bind, setting, sent, cancelled, method_act, done, before_last, last_of, values, function_act, plain_act, based_act, call_act}
 

@@ -9,7 +9,7 @@ use Rattle.flow_class.specs.Classes.{RawTree}
 use Rattle.flow_numbered.specs.Numbered.{Numbered, thing, put}
 use Rattle.flow_meaning.specs.Cells.{Waiter, Cell, Single, Stream, is_ready, waiters, filled, taken, after_taking, without, left_by}
 use Rattle.flow_meaning.specs.Process.{Task, Entry, Core}
-use Rattle.flow_meaning.specs.Occ.{refs_in}
+use Rattle.flow_meaning.specs.References.{refs_in}
 use Rattle.flow_meaning.specs.Work.{running, drops, fill_cell, fill, leave_for, left_cells}
 use Rattle.flow_meaning.specs.Orderly.{tasks_of, Rising}
 use Rattle.flow_meaning.specs.Frame.{Frame}

@@ -10,7 +10,7 @@ use Rattle.flow_numbered.specs.Numbered.{Numbered, thing, removed}
 use Rattle.flow_meaning.specs.Cells.{PromiseSide, FutureSide, Waiter, Cell, waiters}
 use Rattle.flow_meaning.specs.Process.{Task, Close, Entry, Core}
 use Rattle.flow_meaning.specs.Lines.{end_line}
-use Rattle.flow_meaning.specs.Occ.{refs_in, value_in, count, in_cells, in_entries, in_tasks, in_ports, in_requests, count_maybe, Occ}
+use Rattle.flow_meaning.specs.References.{refs_in, value_in, count, in_cells, in_entries, in_tasks, in_ports, in_requests, count_maybe, reference_count}
 use Rattle.flow_meaning.specs.Work.{writes, fill, dropping_values}
 use Rattle.flow_meaning.specs.Dropping.{set_result, give_result, close}
 use Rattle.flow_meaning.specs.Orderly.{tasks_of, is_suspended, AllWait, CellsWait, Orderly}
@@ -83,7 +83,7 @@ module _ (r : RawTree) (types : CellTypes) where
 
 module _ (r : RawTree) (types : CellTypes) (k : ℕ) (o : OutcomeTree) (t : TypeTree) (d : Core) (ys : Numbered Frame) (p : ProcessFits r types d ys) (go : d.halted ≡ None) (has : types k ≡ Some (FutureType t)) (fits : OutcomeFits r.records (typed_by types) o t) where
   -- a result that no future refers to
-  gone : Occ (frames_scan ys) PromiseSide k d ≡ 0 → Occ (frames_scan ys) FutureSide k d ≡ 0 → count PromiseSide k (refs_in (value_in o)) ≡ 0 → count FutureSide k (refs_in (value_in o)) ≡ 0
+  gone : reference_count (frames_scan ys) PromiseSide k d ≡ 0 → reference_count (frames_scan ys) FutureSide k d ≡ 0 → count PromiseSide k (refs_in (value_in o)) ≡ 0 → count FutureSide k (refs_in (value_in o)) ≡ 0
       → Fine r types (set_result k o zero d).halted (set_result k o zero d) ys
   gone a b x y =
       let u = others r types k in
@@ -99,7 +99,7 @@ module _ (r : RawTree) (types : CellTypes) (k : ℕ) (o : OutcomeTree) (t : Type
   lined : (n : ℕ) → ProcessFits r types (record d { left = n }) ys
   lined n = record { cells = p.cells; waiting = p.waiting; actors = p.actors; work = p.work; ports = p.ports; main = p.main; requests = p.requests; numbered = p.numbered; framed = p.framed; registered = p.registered }
 
-  result_set : (n : ℕ) → Occ (frames_scan ys) FutureSide k d ≡ n → Occ (frames_scan ys) PromiseSide k d ≡ 0 → count PromiseSide k (refs_in (value_in o)) ≡ 0 → count FutureSide k (refs_in (value_in o)) ≡ 0
+  result_set : (n : ℕ) → reference_count (frames_scan ys) FutureSide k d ≡ n → reference_count (frames_scan ys) PromiseSide k d ≡ 0 → count PromiseSide k (refs_in (value_in o)) ≡ 0 → count FutureSide k (refs_in (value_in o)) ≡ 0
       → Fine r types (set_result k o n d).halted (set_result k o n d) ys
   result_set zero b a x y = gone a b x y
   result_set (suc f) b a x y = fine_turn r types (λ d. fill k o d) d ys (λ n. fill_fits r types k o (record d { left = n }) ys (FutureType t) t go has (inl refl) fits (lined n))
@@ -113,8 +113,8 @@ module _ (r : RawTree) (types : CellTypes) (i : ℕ) (o : OutcomeTree) (ts : Lis
       result = a.owner.result
 
       -- before the task is off
-      all_zero : Occ (frames_scan (removed xs i)) PromiseSide result (record c { entries = removed c.entries i; tasks = Close i o ∷ ts }) ≡ 0
-      all_zero = subst (λ us. Occ (frames_scan (removed xs i)) PromiseSide result (record c { entries = removed c.entries i; tasks = us }) ≡ 0) top (alone.alone i result a.entry a.at a.owner.owns)
+      all_zero : reference_count (frames_scan (removed xs i)) PromiseSide result (record c { entries = removed c.entries i; tasks = Close i o ∷ ts }) ≡ 0
+      all_zero = subst (λ us. reference_count (frames_scan (removed xs i)) PromiseSide result (record c { entries = removed c.entries i; tasks = us }) ≡ 0) top (alone.alone i result a.entry a.at a.owner.owns)
 
       by_turns : (n : ℕ) → Fine r types (give_result (frames_scan (removed xs i)) a.entry.result o (writes (end_line i o) (record c { tasks = ts; entries = removed c.entries i; left = n }))).halted
           (give_result (frames_scan (removed xs i)) a.entry.result o (writes (end_line i o) (record c { tasks = ts; entries = removed c.entries i; left = n }))) (removed xs i)
@@ -131,5 +131,5 @@ module _ (r : RawTree) (types : CellTypes) (i : ℕ) (o : OutcomeTree) (ts : Lis
           let ra = in_requests PromiseSide result c.requests in
           let ma = count_maybe PromiseSide result FutureSide c.main in
           subst (λ x. Fine r types (give_result (frames_scan ys) x o d).halted (give_result (frames_scan ys) x o d) ys) (sym a.owner.owns)
-          (result_set r types result o a.class.returns d ys state go a.owner.gives a.doing.0 (Occ (frames_scan ys) FutureSide result d) refl (other_tasks q ca ea va ta pa ra ma all_zero) (first_task q ca ea va ta pa ra ma all_zero)
+          (result_set r types result o a.class.returns d ys state go a.owner.gives a.doing.0 (reference_count (frames_scan ys) FutureSide result d) refl (other_tasks q ca ea va ta pa ra ma all_zero) (first_task q ca ea va ta pa ra ma all_zero)
           (alone.apart i result a.entry o ts top a.at a.owner.owns))

@@ -3,7 +3,7 @@ use Rattle.std.proofs.Common.{◌≡◌, ℕ, zero, suc, ◌<◌, ◌≤◌, ◌
 use Rattle.std.specs.declared.option.Option.{Option}
 use Rattle.std.specs.declared.option.Option.TheVariants.{None, Some}
 use Rattle.flow_class.specs.Classes.{RawTree}
-use Rattle.flow_meaning.specs.Asks.{Request}
+use Rattle.flow_meaning.specs.Requests.{Request}
 use Rattle.flow_meaning.specs.Process.{Halt, Core, Proc}
 use Rattle.flow_numbered.specs.Numbered.{Numbered}
 use Rattle.flow_meaning.specs.Step.{Stepped, step_if, step}
@@ -14,7 +14,7 @@ use Rattle.flow_meaning.specs.Class.{classes}
 use Rattle.flow_meaning.proofs.Posture.{Unless, unless_map, unless_both}
 use Rattle.flow_meaning.proofs.InOrder.{advance_in_order}
 use Rattle.flow_unstuck.specs.Phases.{Placed}
-use Rattle.flow_unstuck.specs.Going.{Going}
+use Rattle.flow_unstuck.specs.FramesByRequest.{Going}
 use Rattle.flow_unstuck.specs.Ending.{LeadOn, InPlace, here, onward, NoPlace, Ends, BurstsEnd}
 use Rattle.flow_unstuck.proofs.KeptPhases.{PlacedMaybe, step_placed}
 use Rattle.flow_unstuck.proofs.Goes.{frames_going}

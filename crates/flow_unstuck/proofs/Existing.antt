@@ -11,7 +11,7 @@ use Rattle.flow_worldfile.specs.declared.directive.Order.TheVariants.{Kill, Stop
 use Rattle.flow_simnet.specs.declared.packet.Fate.{Fate}
 use Rattle.flow_simnet.specs.declared.packet.Fate.TheVariants.{Cut as CutOff, Drawn, At}
 use Rattle.flow_class.specs.Classes.{RawTree}
-use Rattle.flow_meaning.specs.Asks.{Request, Drew, Timer, Packet, Disks}
+use Rattle.flow_meaning.specs.Requests.{Request, Drew, Timer, Packet, Disks}
 use Rattle.flow_meaning.specs.Process.{Halt, Spent, NoMeaning, Proc}
 use Rattle.flow_meaning.specs.Step.{Stepped, step}
 use Rattle.flow_meaning.specs.Law.{AtRest}
@@ -28,7 +28,7 @@ use Rattle.flow_meaning.proofs.Shifts.{same_of}
 use Rattle.flow_meaning.proofs.Once.{run_once}
 use Rattle.flow_meaning.proofs.InOrder.{no_thing, burst_at_rest}
 use Rattle.flow_unstuck.specs.Ending.{LeadOn, InPlace, Reaches, here, onward, NoPlace}
-use Rattle.flow_unstuck.specs.Existing.{Strays, now, later, RestsInPlace, WorldInPlace, RunsOrStrays, OneTrace}
+use Rattle.flow_unstuck.specs.Existing.{GetsStuck, now, later, RestsInPlace, WorldInPlace, RunsOrGetsStuck, AtMostOneTrace}
 use Rattle.flow_unstuck.proofs.Ending.{InPlaceNow, next_in_place, stopped, bursts_end}
 use Rattle.flow_unstuck.proofs.Beginnings.{rests_set, begun_begins, start_places}
 
@@ -130,7 +130,7 @@ module _ (r : RawTree) (leads : LeadOn r) where
   reached_place s t (onward next a q) k = reached_place next t q (next_in_place r leads host s next k a)
 
   abbrev Found : World Frame → Type 0
-  Found w = ((states : List (World Frame)) × (lines : List Line) × Runs (classes r) w states lines) ⊎ Strays r w
+  Found w = ((states : List (World Frame)) × (lines : List Line) × Runs (classes r) w states lines) ⊎ GetsStuck r w
 
   module _ (w : World Frame) (b : Begun Frame) (e : ending w.out (next_of w.out) ≡ None) (g : begun_by (classes r) w (next_of w.out) ≡ Some b) where
     -- the event is over
@@ -194,14 +194,14 @@ module _ (r : RawTree) (leads : LeadOn r) where
   run_found zero w le h = ending_found w (ending w.out (next_of w.out)) refl h (λ v lt k. absurd (omega (arith, lt, le)))
   run_found (suc m) w le h = ending_found w (ending w.out (next_of w.out)) refl h (λ v lt k. run_found m v (omega (arith, lt, le)) k)
 
-  pub runs_or_strays : RunsOrStrays r
+  pub runs_or_strays : RunsOrGetsStuck r
   runs_or_strays w = by_found (run_found (bound (at_start w)) (at_start w) (omega arith) (start_places r w.processes))
     where
-      by_found : Found (at_start w) → ((lines : List Line) × ClassTrace r w lines) ⊎ Strays r (at_start w)
+      by_found : Found (at_start w) → ((lines : List Line) × ClassTrace r w lines) ⊎ GetsStuck r (at_start w)
       by_found (inl x) = inl (line.Head ∷ x.1, (at_start w ∷ x.0, record { later = x.0; rest = x.1; runs = x.2; from_start = refl; with_head = refl }))
       by_found (inr x) = inr x
 
-  pub one_trace : OneTrace r
+  pub one_trace : AtMostOneTrace r
   one_trace w lines more a b =
       let rest = (run_once (classes r) (at_start w) a.1.later b.1.later a.1.rest b.1.rest a.1.runs b.1.runs).1 in
       a.1.with_head ∙ ap (λ ls. line.Head ∷ ls) rest ∙ sym b.1.with_head

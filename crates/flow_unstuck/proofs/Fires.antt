@@ -9,7 +9,7 @@ use Rattle.flow_class.specs.Classes.{RawTree}
 use Rattle.flow_numbered.specs.Numbered.{Numbered, thing, removed}
 use Rattle.flow_meaning.specs.Cells.{PromiseSide, FutureSide, side_of, Waiter, Cell, is_ready, waiters}
 use Rattle.flow_meaning.specs.Process.{Task, Fire, Drop, Entry, Core}
-use Rattle.flow_meaning.specs.Occ.{in_cells, in_entries, in_task, in_tasks, in_ports, in_requests, count_maybe, Occ}
+use Rattle.flow_meaning.specs.References.{in_cells, in_entries, in_task, in_tasks, in_ports, in_requests, count_maybe, reference_count}
 use Rattle.flow_meaning.specs.Work.{pushed, take_branch}
 use Rattle.flow_meaning.specs.Dropping.{lose_ref, drop, fire_to, fire_at, fire_cell, fire}
 use Rattle.flow_meaning.specs.Orderly.{tasks_of, is_suspended, AllWait, Orderly}
@@ -31,7 +31,7 @@ popped_alone : (c : Core) (xs : Numbered Frame) (t : Task) (ts : List Task) (n :
 popped_alone c xs t ts n top h = record {
   alone = λ port k q. let ps = removed c.ports port in
       fewer_tasks (frames_scan xs PromiseSide k) (in_cells PromiseSide k c.cells) (in_entries PromiseSide k c.entries) (in_task PromiseSide k t) (in_tasks PromiseSide k ts) (in_ports PromiseSide k ps) (in_requests PromiseSide k c.requests)
-      (count_maybe PromiseSide k FutureSide c.main) (subst (λ us. Occ (frames_scan xs) PromiseSide k (record c { ports = ps; tasks = us }) ≡ 0) top (h.alone port k q));
+      (count_maybe PromiseSide k FutureSide c.main) (subst (λ us. reference_count (frames_scan xs) PromiseSide k (record c { ports = ps; tasks = us }) ≡ 0) top (h.alone port k q));
   once = h.once;
 }
 

@@ -22,7 +22,7 @@ use Rattle.flow_eval.proofs.TypedValues.{some_same, none_some, is_int_value, is_
 use Rattle.flow_class.specs.Classes.{ClassTree, RawTree}
 use Rattle.flow_valid.specs.Validity.{operand_type}
 use Rattle.flow_meaning.specs.Lines.{print_line}
-use Rattle.flow_meaning.specs.Asks.{ReadCall, WriteCall, SyncCall, SizeCall, Effect, Start, Draw, Delay, Never, Listen, Disk, Act, Sends, Cancels}
+use Rattle.flow_meaning.specs.Requests.{ReadCall, WriteCall, SyncCall, SizeCall, Effect, Start, Draw, Delay, Never, Listen, Disk, Act, Sends, Cancels}
 use Rattle.flow_meaning.specs.Evaluating.{Names, bind, Effectful, World, Actor, world_if, effectful_of, effectful, effect_in, world_effect, effect_of, sent, method_act}
 use Rattle.flow_unstuck.specs.Rules.{EffectGives, MessageFits}
 use Rattle.flow_unstuck.specs.Asking.{SentFits, CanPrint, Gives}

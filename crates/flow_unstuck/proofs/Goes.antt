@@ -9,13 +9,13 @@ use Rattle.flow_eval.specs.Eval.{Res, Done, Fails, Spent, Meaningless}
 use Rattle.flow_eval.specs.Answers.{bool_of, error_of}
 use Rattle.flow_class.specs.Classes.{CatcherTree, InstrTree, SetInstr, EffectInstr, NewInstr, ActInstr, DropInstr, LastTree, GotoLast, PassLast, TestLast, ChooseLast, ReturnLast, ThrowLast, CallbackTree, ClassTree, RawTree}
 use Rattle.flow_class.specs.Code.{type_at, Fetched, Body, Last, Nothing, fetch, catcher_at, callback_at}
-use Rattle.flow_meaning.specs.Asks.{Act, Goes, Pass, Drops, Effects, Operand, Waits, Sends, Cancels, Prints, SendsTo, Returns, Throws, RunsOut, Stuck, Spot, Make, Goal, Stored, Kept}
+use Rattle.flow_meaning.specs.Requests.{Act, Goes, Pass, Drops, Effects, Operand, Waits, Sends, Cancels, Prints, SendsTo, Returns, Throws, RunsOut, Stuck, Spot, Make, Goal, Stored, Kept}
 use Rattle.flow_meaning.specs.Process.{View}
 use Rattle.flow_meaning.specs.Evaluating.{Names, bind, StepOf, asks, given, evaluated, Effectful, effect_in, effect_of, value, values, call_act}
 use Rattle.flow_meaning.specs.Frame.{Memory, Frame, look, assign, spot_of, next_instr, over, raised}
 use Rattle.flow_meaning.specs.Class.{promise_kind, placed, effects, instruction, test, operand_ref, operand_by, choose, throw_value, last, fetched, next_step, stored, store_at, bound, onward, take_callback, take_at, begun, fresh_from, class_names, classes}
 use Rattle.flow_unstuck.specs.Phases.{KnownAfter, KeepsPhases}
-use Rattle.flow_unstuck.specs.Going.{IsOf, AsksHere, WaitsHere, Going}
+use Rattle.flow_unstuck.specs.FramesByRequest.{IsOf, AsksHere, WaitsHere, Going}
 use Rattle.flow_unstuck.proofs.Calls.{IsCalled, Comes, act_called}
 
 module _ (r : RawTree) (v : View) (f : Frame) (own : IsOf r f.code) where

@@ -14,7 +14,7 @@ use Rattle.flow_meaning.specs.Effects.{result_task, push_result, gives}
 use Rattle.flow_valid.specs.Validity.{operand_type}
 use Rattle.flow_numbered.specs.Numbered.{Numbered, thing, put}
 use Rattle.flow_meaning.specs.Cells.{Ref, Cell, is_ready, taken, after_taking}
-use Rattle.flow_meaning.specs.Asks.{Goal, Stored, Kept, Request}
+use Rattle.flow_meaning.specs.Requests.{Goal, Stored, Kept, Request}
 use Rattle.flow_meaning.specs.Process.{Task, Run, Give, Throw, Catch, Store, Keep, Close, Fire, Drop, Entry, Core}
 use Rattle.flow_meaning.specs.Lines.{take_line, cancel_line}
 use Rattle.flow_meaning.specs.Work.{writes, pushed, running, leave_for, give, take_branch, marked, cancel_by, cancel}

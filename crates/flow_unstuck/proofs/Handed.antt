@@ -20,7 +20,7 @@ use Rattle.flow_meaning.specs.Variables.{flat}
 use Rattle.flow_meaning.specs.Frame.{assign, Memory, Frame, read, write, held_in, emptied, blanks, go, lose, with_error}
 use Rattle.flow_meaning.specs.Class.{stored, store_at, bound, onward, take_callback, take_at, begun, class_names}
 use Rattle.flow_unstuck.specs.Places.{Filled, HoldsTypes}
-use Rattle.flow_unstuck.specs.Standing.{Reached, FullAt, Stands, StandsWaiting}
+use Rattle.flow_unstuck.specs.FramesAtPoints.{Reached, FullAt, Stands, StandsWaiting}
 use Rattle.flow_unstuck.specs.Rules.{first_types, takes_type, BranchFits, KeepsRules}
 use Rattle.flow_unstuck.specs.Asking.{Stores, HaveSome}
 use Rattle.flow_unstuck.proofs.Evaluates.{among_left}

@@ -8,7 +8,7 @@ use Rattle.flow_eval.specs.Eval.{Res, Done, Fails, Spent, Meaningless}
 use Rattle.flow_class.specs.Classes.{ChooseLast, CallbackTree, RawTree}
 use Rattle.flow_class.specs.Code.{Last, fetch, callback_at}
 use Rattle.flow_meaning.specs.Cells.{Ref}
-use Rattle.flow_meaning.specs.Asks.{Ask, Act, Effects, Operand, Waits, Throws, RunsOut, Stuck, Spot, Kept}
+use Rattle.flow_meaning.specs.Requests.{Ask, Act, Effects, Operand, Waits, Throws, RunsOut, Stuck, Spot, Kept}
 use Rattle.flow_meaning.specs.Process.{View}
 use Rattle.flow_meaning.specs.Evaluating.{Names, StepOf, asks, given, evaluated, Effectful, effect_in, effect_of, value, values}
 use Rattle.flow_meaning.specs.Frame.{Frame, look, spot_of}

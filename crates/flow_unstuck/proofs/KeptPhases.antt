@@ -4,7 +4,7 @@ use Rattle.std.specs.List.{AllByRecursion}
 use Rattle.std.specs.declared.option.Option.{Option}
 use Rattle.std.specs.declared.option.Option.TheVariants.{None, Some}
 use Rattle.flow_numbered.specs.Numbered.{Numbered, thing, put}
-use Rattle.flow_meaning.specs.Asks.{Ask, Supply}
+use Rattle.flow_meaning.specs.Requests.{Ask, Supply}
 use Rattle.flow_meaning.specs.Process.{Task, Run, Halt, Core, View, Engine}
 use Rattle.flow_meaning.specs.Step.{Stepped, proc, view, answer, run_next, run, popped, do_task, step_tasks, step_if}
 use Rattle.flow_meaning.specs.Orderly.{Orderly, UnlessStopped, Phase, Free, Due, phase_of}

@@ -11,7 +11,7 @@ use Rattle.flow_numbered.specs.Numbered.{Numbered, thing, removed}
 use Rattle.flow_meaning.specs.Cells.{Side, PromiseSide, FutureSide, Cell, Single, Stream, is_complete}
 use Rattle.flow_meaning.specs.Process.{Entry, Core}
 use Rattle.flow_meaning.specs.Lines.{broken_line, cancel_line}
-use Rattle.flow_meaning.specs.Occ.{one, in_ports, in_cells, in_entries, in_tasks, in_requests, count_maybe, Occ}
+use Rattle.flow_meaning.specs.References.{one, in_ports, in_cells, in_entries, in_tasks, in_requests, count_maybe, reference_count}
 use Rattle.flow_meaning.specs.Work.{writes, fill, free_cell, free, owner, cancel, cancel_by}
 use Rattle.flow_meaning.specs.Dropping.{port_of, promises_gone, futures_gone, loss, suffer, break_cell, lose_cell, lose_ref}
 use Rattle.flow_meaning.specs.Orderly.{Rising}
@@ -62,12 +62,12 @@ module _ (r : RawTree) (types : CellTypes) (xs : Numbered Frame) where
   cancel_goes false j x d go = go
 
   module _ (c : Core) (p : ProcessFits r types c xs) (go : c.halted ≡ None) (up : Rising 0 c.started c.entries) (alone : PortsGone c xs) where
-    freed : (k : ℕ) (cell : Cell) (t : TypeTree) → thing c.cells k ≡ Some cell → CellFits r types cell t → Occ (frames_scan xs) PromiseSide k c ≡ 0 → Occ (frames_scan xs) FutureSide k c ≡ 0 → Fine r types (free k c).halted (free k c) xs
+    freed : (k : ℕ) (cell : Cell) (t : TypeTree) → thing c.cells k ≡ Some cell → CellFits r types cell t → reference_count (frames_scan xs) PromiseSide k c ≡ 0 → reference_count (frames_scan xs) FutureSide k c ≡ 0 → Fine r types (free k c).halted (free k c) xs
     freed k cell t at h a b =
         subst (λ x. Fine r types (free_cell k x c).halted (free_cell k x c) xs) (sym at) (freed_fits r types k c xs p (unseen k c xs p.registered a b) cell t go at h)
 
     -- a port that nobody hears
-    unheard : (port k : ℕ) (cell : Cell) (t : TypeTree) → port_of k c.ports ≡ Some port → thing c.cells k ≡ Some cell → CellFits r types cell t → Occ (frames_scan xs) FutureSide k c ≡ 0
+    unheard : (port k : ℕ) (cell : Cell) (t : TypeTree) → port_of k c.ports ≡ Some port → thing c.cells k ≡ Some cell → CellFits r types cell t → reference_count (frames_scan xs) FutureSide k c ≡ 0
         → Fine r types (suffer k (futures_gone None (Some port)) c).halted (suffer k (futures_gone None (Some port)) c) xs
     unheard port k cell t q at h b =
         let d = record c { ports = removed c.ports port } in
@@ -93,7 +93,7 @@ module _ (r : RawTree) (types : CellTypes) (xs : Numbered Frame) where
         none_there : (o : Option ℕ) (n : ℕ) → o ≡ None → o ≡ Some n → ⊥
         none_there o n e f = cc
 
-    gone_fits : (k : ℕ) (cell : Cell) (t : TypeTree) (o : Option (ℕ × Entry)) (port : Option ℕ) → owner k c.entries ≡ o → port_of k c.ports ≡ port → thing c.cells k ≡ Some cell → CellFits r types cell t → Occ (frames_scan xs) FutureSide k c ≡ 0
+    gone_fits : (k : ℕ) (cell : Cell) (t : TypeTree) (o : Option (ℕ × Entry)) (port : Option ℕ) → owner k c.entries ≡ o → port_of k c.ports ≡ port → thing c.cells k ≡ Some cell → CellFits r types cell t → reference_count (frames_scan xs) FutureSide k c ≡ 0
         → Fine r types (suffer k (futures_gone o port) c).halted (suffer k (futures_gone o port) c) xs
     gone_fits k cell t (Some o) port own q at h b =
         fine_same r types (cancel o.0 o.1 c).halted (cancel o.0 o.1 c) xs (cancel_goes o.1.suspended o.0 o.1 (writes (cancel_line o.0) c) go) (cancel_state r types o.0 o.1 c xs (owned k c (Some o) up own) p)
@@ -101,7 +101,7 @@ module _ (r : RawTree) (types : CellTypes) (xs : Numbered Frame) where
     gone_fits k cell t None None own q at h b = fine_same r types c.halted c xs go (p)
 
     -- by what still refers to the cell
-    loss_fits : (s : Side) (k m n : ℕ) (cell : Cell) (t : TypeTree) → Occ (frames_scan xs) PromiseSide k c ≡ m → Occ (frames_scan xs) FutureSide k c ≡ n → thing c.cells k ≡ Some cell → types k ≡ Some t → CellFits r types cell t
+    loss_fits : (s : Side) (k m n : ℕ) (cell : Cell) (t : TypeTree) → reference_count (frames_scan xs) PromiseSide k c ≡ m → reference_count (frames_scan xs) FutureSide k c ≡ n → thing c.cells k ≡ Some cell → types k ≡ Some t → CellFits r types cell t
         → Fine r types (suffer k (loss s m n cell (owner k c.entries) (port_of k c.ports)) c).halted (suffer k (loss s m n cell (owner k c.entries) (port_of k c.ports)) c) xs
     loss_fits PromiseSide k zero zero cell t a b at e h = freed k cell t at h a b
     loss_fits FutureSide k zero zero cell t a b at e h = freed k cell t at h a b
@@ -120,4 +120,4 @@ module _ (r : RawTree) (types : CellTypes) (xs : Numbered Frame) where
     lose_fits s k x =
         let there = cell_there r types k x.0 (thing c.cells k) x.1 (p.cells k) in
         subst (λ o. Fine r types (lose_cell (frames_scan xs) s k o c).halted (lose_cell (frames_scan xs) s k o c) xs) (sym there.1)
-        (loss_fits s k (Occ (frames_scan xs) PromiseSide k c) (Occ (frames_scan xs) FutureSide k c) there.0 x.0 refl refl there.1 x.1 there.2)
+        (loss_fits s k (reference_count (frames_scan xs) PromiseSide k c) (reference_count (frames_scan xs) FutureSide k c) there.0 x.0 refl refl there.1 x.1 there.2)

@@ -5,7 +5,7 @@ use Rattle.flow_value.specs.Values.{OutcomeTree}
 use Rattle.flow_numbered.specs.Numbered.{Numbered, thing, removed}
 use Rattle.flow_meaning.specs.Cells.{Side, PromiseSide, FutureSide}
 use Rattle.flow_meaning.specs.Process.{Task, Close, Entry, Core}
-use Rattle.flow_meaning.specs.Occ.{refs_in, value_in, one, count, count_maybe, count_kept, in_cells, in_entries, in_tasks, in_ports, in_requests, Occ}
+use Rattle.flow_meaning.specs.References.{refs_in, value_in, one, count, count_maybe, count_kept, in_cells, in_entries, in_tasks, in_ports, in_requests, reference_count}
 use Rattle.flow_meaning.specs.Dropping.{port_of}
 use Rattle.flow_meaning.specs.Frame.{Frame, occ_memory}
 use Rattle.flow_unstuck.specs.Alone.{frames_scan, PortsAlone, ResultsAlone}
@@ -13,13 +13,13 @@ use Rattle.flow_unstuck.proofs.Unseen.{mark}
 
 -- Without a port nothing refers to the promise side of its stream; and a port is there once.
 pub record PortsGone (c : Core) (xs : Numbered Frame) : Type 0 where
-  pub alone : (port k : ℕ) → port_of k c.ports ≡ Some port → Occ (frames_scan xs) PromiseSide k (record c { ports = removed c.ports port }) ≡ 0
+  pub alone : (port k : ℕ) → port_of k c.ports ≡ Some port → reference_count (frames_scan xs) PromiseSide k (record c { ports = removed c.ports port }) ≡ 0
   pub once : (port : ℕ) → thing (removed c.ports port) port ≡ None
 
 -- Without an actor nothing refers to the promise side of its result; and the value that it ends with doesn't refer to that
 -- result, which no value of its type can.
 pub record ResultsGone (c : Core) (xs : Numbered Frame) : Type 0 where
-  pub alone : (i k : ℕ) (e : Entry) → thing c.entries i ≡ Some e → e.result ≡ Some k → Occ (frames_scan (removed xs i)) PromiseSide k (record c { entries = removed c.entries i }) ≡ 0
+  pub alone : (i k : ℕ) (e : Entry) → thing c.entries i ≡ Some e → e.result ≡ Some k → reference_count (frames_scan (removed xs i)) PromiseSide k (record c { entries = removed c.entries i }) ≡ 0
   pub apart : (i k : ℕ) (e : Entry) (o : OutcomeTree) (ts : List Task) → c.tasks ≡ Close i o ∷ ts → thing c.entries i ≡ Some e → e.result ≡ Some k → count FutureSide k (refs_in (value_in o)) ≡ 0
 
 marked : (b : Bool) → b ≡ true → mark b ≡ 1

@@ -5,7 +5,7 @@ use Rattle.flow_tree.specs.Decls.{RoutineTree}
 use Rattle.flow_class.specs.Classes.{EffectInstr, RawTree}
 use Rattle.flow_class.specs.Code.{Body, fetch}
 use Rattle.flow_numbered.specs.Numbered.{Numbered}
-use Rattle.flow_meaning.specs.Asks.{Supply}
+use Rattle.flow_meaning.specs.Requests.{Supply}
 use Rattle.flow_meaning.specs.Process.{Core}
 use Rattle.flow_meaning.specs.Orderly.{Orderly}
 use Rattle.flow_meaning.specs.Frame.{Frame, assign}

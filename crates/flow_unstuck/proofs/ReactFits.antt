@@ -15,7 +15,7 @@ use Rattle.flow_trace.specs.declared.line.Line.{Line}
 use Rattle.flow_class.specs.Classes.{ClassTree, RawTree}
 use Rattle.flow_numbered.specs.Numbered.{Numbered, thing, added}
 use Rattle.flow_meaning.specs.Cells.{Cell, Single, Stream, is_complete, waiters}
-use Rattle.flow_meaning.specs.Asks.{DiskCall, ReadCall, WriteCall, SyncCall, SizeCall, Request, Drew, Timer, Disks, Effect, Make, Start, Draw, Delay, Never, Listen, Disk, Goal, Stored, Kept, Supply}
+use Rattle.flow_meaning.specs.Requests.{DiskCall, ReadCall, WriteCall, SyncCall, SizeCall, Request, Drew, Timer, Disks, Effect, Make, Start, Draw, Delay, Never, Listen, Disk, Goal, Stored, Kept, Supply}
 use Rattle.flow_meaning.specs.Process.{Run, Throw, Entry, Core}
 use Rattle.flow_meaning.specs.Lines.{cancel_line}
 use Rattle.flow_meaning.specs.Work.{writes, pushed, new_cell, fill, cancel_by, cancel, cancel_owner}

@@ -8,7 +8,7 @@ use Rattle.flow_class.specs.Classes.{RawTree}
 use Rattle.flow_numbered.specs.Numbered.{Numbered, thing, removed}
 use Rattle.flow_meaning.specs.Cells.{PromiseSide, FutureSide, Ref, Waiter, Cell, Single, Stream, waiters, held}
 use Rattle.flow_meaning.specs.Process.{Task, Entry, Core}
-use Rattle.flow_meaning.specs.Occ.{in_cells, in_entries, in_tasks, in_ports, in_requests, count_kept, count_maybe, in_core, Occ}
+use Rattle.flow_meaning.specs.References.{in_cells, in_entries, in_tasks, in_ports, in_requests, count_kept, count_maybe, in_core, reference_count}
 use Rattle.flow_meaning.specs.Work.{free_cell}
 use Rattle.flow_meaning.specs.Orderly.{is_of, tasks_of}
 use Rattle.flow_meaning.specs.Frame.{Frame}
@@ -59,7 +59,7 @@ asleep_off : (i k : ℕ) (cells : Numbered Cell) (qs : List Ref) → ((cell : Ce
 asleep_off i k cells [] q h = tt
 asleep_off i k cells (x ∷ xs) q h = ((λ e. no_wait i k cells q (subst (λ n. WaitsAt i (thing cells n)) e h.0)), asleep_off i k cells xs q h.1)
 
-pub unseen : (k : ℕ) (c : Core) (xs : Numbered Frame) → ((i : ℕ) → IsRegistered i c.entries c.cells) → Occ (frames_scan xs) PromiseSide k c ≡ 0 → Occ (frames_scan xs) FutureSide k c ≡ 0 → StateSees k c xs
+pub unseen : (k : ℕ) (c : Core) (xs : Numbered Frame) → ((i : ℕ) → IsRegistered i c.entries c.cells) → reference_count (frames_scan xs) PromiseSide k c ≡ 0 → reference_count (frames_scan xs) FutureSide k c ≡ 0 → StateSees k c xs
 unseen k c xs reg a b =
     let pa = parts (in_cells PromiseSide k c.cells) (in_entries PromiseSide k c.entries) (in_tasks PromiseSide k c.tasks) (in_ports PromiseSide k c.ports) (in_requests PromiseSide k c.requests) (count_maybe PromiseSide k FutureSide c.main)
     (zero_second (frames_scan xs PromiseSide k) (in_core PromiseSide k c) a) in

@@ -17,7 +17,7 @@ use Rattle.flow_eval.specs.Functions.{Call, read_in}
 use Rattle.flow_class.specs.Classes.{InstrTree, SetInstr, EffectInstr, NewInstr, ActInstr, DropInstr, LastTree, GotoLast, PassLast, TestLast, ChooseLast, ReturnLast, ThrowLast, CallbackTree}
 use Rattle.flow_class.specs.Code.{type_at, Fetched, Body, Last, Nothing, fetch, callback_at}
 use Rattle.flow_valid.specs.Validity.{leads_forward}
-use Rattle.flow_meaning.specs.Asks.{Act, Goes, Pass, Drops, Effects, Operand, Waits, Sends, Cancels, Prints, SendsTo, Returns, Throws, RunsOut, Stuck, Spot, Make, Goal, Stored, Kept}
+use Rattle.flow_meaning.specs.Requests.{Act, Goes, Pass, Drops, Effects, Operand, Waits, Sends, Cancels, Prints, SendsTo, Returns, Throws, RunsOut, Stuck, Spot, Make, Goal, Stored, Kept}
 use Rattle.flow_meaning.specs.Process.{View}
 use Rattle.flow_meaning.specs.Evaluating.{Names, Look, setting, bind, StepOf, asks, given, evaluated, Effectful, effect_in, effect_of, method_act, done, before_last, last_of, value, values, function_act, plain_act, based_act, call_act}
 use Rattle.flow_meaning.specs.Frame.{Frame, look, assign, spot_of, next_instr, over}

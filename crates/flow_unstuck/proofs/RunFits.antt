@@ -11,7 +11,7 @@ use Rattle.flow_eval.specs.Typed.{HaveTypes}
 use Rattle.flow_class.specs.Classes.{ClassTree, RawTree}
 use Rattle.flow_numbered.specs.Numbered.{Numbered, thing, added, put}
 use Rattle.flow_meaning.specs.Cells.{Single}
-use Rattle.flow_meaning.specs.Asks.{Act, Effects, Returns, Effect, Start, Goal, Stored, Kept, Ask, Supply}
+use Rattle.flow_meaning.specs.Requests.{Act, Effects, Returns, Effect, Start, Goal, Stored, Kept, Ask, Supply}
 use Rattle.flow_meaning.specs.Process.{Task, Run, Close, Entry, Core}
 use Rattle.flow_meaning.specs.Lines.{start_line}
 use Rattle.flow_meaning.specs.Work.{writes, pushed, dropping_values, new_cell}

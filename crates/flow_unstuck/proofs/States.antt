@@ -11,8 +11,8 @@ use Rattle.flow_class.specs.Classes.{RawTree}
 use Rattle.flow_numbered.specs.Numbered.{Numbered, thing, put}
 use Rattle.flow_meaning.specs.Cells.{Ref, Waiter, Cell, waiters}
 use Rattle.flow_meaning.specs.Process.{Task, Run, Give, Throw, Catch, Store, Keep, Close, Fire, Drop, Entry, Halt, Spent, NoMeaning, Core}
-use Rattle.flow_meaning.specs.Asks.{Request}
-use Rattle.flow_meaning.specs.Occ.{refs_in}
+use Rattle.flow_meaning.specs.Requests.{Request}
+use Rattle.flow_meaning.specs.References.{refs_in}
 use Rattle.flow_meaning.specs.Work.{turn_of, turn, pushed, drops, dropping_values}
 use Rattle.flow_meaning.specs.Orderly.{is_of, tasks_of, is_suspended, AllWait, CellsWait, Rising}
 use Rattle.flow_meaning.specs.Frame.{Frame}

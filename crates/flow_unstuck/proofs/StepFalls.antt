@@ -11,7 +11,7 @@ use Rattle.flow_numbered.specs.Numbered.{Numbered, thing, put, removed}
 use Rattle.flow_meaning.specs.Cells.{Side, PromiseSide, FutureSide, Ref, Waiter, Cell, is_ready, waiters, held}
 use Rattle.flow_meaning.specs.Process.{Task, Fire, Entry, Core}
 use Rattle.flow_meaning.specs.Lines.{broken_line}
-use Rattle.flow_meaning.specs.Occ.{Scan, Occ}
+use Rattle.flow_meaning.specs.References.{Scan, reference_count}
 use Rattle.flow_meaning.specs.Work.{writes, pushed, fill, free_cell, take_branch, owner}
 use Rattle.flow_meaning.specs.Dropping.{Loss, Freed, Broken, Orphan, Unheard, loss, port_of, suffer, lose_cell, lose_ref, drop, fire_to, fire_at, fire_cell, fire}
 use Rattle.flow_meaning.specs.Dropping as dropping
@@ -22,7 +22,7 @@ use Rattle.flow_meaning.specs.Class.{bound, onward, take_callback, take_at, clas
 use Rattle.flow_meaning.proofs.Posture.{thing_put_other, Unless, unless, unless_map, IsOf, own_task, awake_entry}
 use Rattle.flow_meaning.proofs.Shifts.{owned, OwnedLoss, owned_loss}
 use Rattle.flow_meaning.proofs.TaskShifts.{Popped, popped_at}
-use Rattle.flow_unstuck.specs.Going.{IsOf as OfClasses}
+use Rattle.flow_unstuck.specs.FramesByRequest.{IsOf as OfClasses}
 use Rattle.flow_unstuck.specs.Ending.{LeadOn}
 use Rattle.flow_unstuck.proofs.Weights.{fires, busy, weigh, weight, load, Less, Eased, Falls, lighter_self, still_weight, dropping_lighter, hand_weight, quiet_task, took, within_started, fallen}
 use Rattle.flow_unstuck.proofs.TurnsTaken.{fill_left, branch_turns}
@@ -59,7 +59,7 @@ module _ (xs : Numbered Frame) where
   lose_easy : (scan : Scan) (s : Side) (k : ℕ) (x : Option Cell) (c : Core) → Orderly c → Easy c (lose_cell scan s k x c)
   lose_easy scan s k None c o = tt
   lose_easy scan s k (Some cell) c o =
-      let p = Occ scan PromiseSide k c in let f = Occ scan FutureSide k c in
+      let p = reference_count scan PromiseSide k c in let f = reference_count scan FutureSide k c in
       suffer_easy k (loss s p f cell (owner k c.entries) (port_of k c.ports)) c (owned_loss c s p f cell (owner k c.entries) (port_of k c.ports) (owned k c (owner k c.entries) o.numbered refl))
 
   fire_to_easy : (k : ℕ) (cell : Cell) (w : Waiter) (x : Option Entry) (c : Core) → Easy c (fire_to k cell w x c)

@@ -10,7 +10,7 @@ use Rattle.flow_eval.specs.Typed.{CellsFit}
 use Rattle.flow_class.specs.Classes.{ClassTree, RawTree}
 use Rattle.flow_numbered.specs.Numbered.{Numbered, thing, added}
 use Rattle.flow_meaning.specs.Cells.{Waiter, Cell, Single, Stream, waiters, outcome}
-use Rattle.flow_meaning.specs.Asks.{Supply}
+use Rattle.flow_meaning.specs.Requests.{Supply}
 use Rattle.flow_meaning.specs.Process.{Task, Run, Entry, Core}
 use Rattle.flow_meaning.specs.Step.{Stepped, view, entry_of}
 use Rattle.flow_meaning.specs.Orderly.{tasks_of, Rising, Orderly}

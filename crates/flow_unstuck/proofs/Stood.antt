@@ -13,7 +13,7 @@ use Rattle.flow_valid.specs.Named.{listed, targets}
 use Rattle.flow_valid.specs.Filling.{among, is_local, dropped, instr_fills, instr_empties, reads, behind, waited, taken, is_error, handled, Comes, goes_on, jumps, is_taken, fails, wait_fails, ReadsFilled}
 use Rattle.flow_meaning.specs.Frame.{Memory}
 use Rattle.flow_unstuck.specs.Places.{Filled}
-use Rattle.flow_unstuck.specs.Standing.{Reached, FullAt}
+use Rattle.flow_unstuck.specs.FramesAtPoints.{Reached, FullAt}
 use Rattle.flow_unstuck.proofs.Turning.{must_turn, turns_of, turns_on}
 
 -- behind an instruction there is another one

@@ -11,10 +11,10 @@ use Rattle.flow_class.specs.Code.{Fetched, Body, Last, Nothing, fetch, catcher_a
 use Rattle.flow_valid.specs.Validity.{catchers_kept}
 use Rattle.flow_numbered.specs.Numbered.{Numbered, thing, put, removed}
 use Rattle.flow_meaning.specs.Cells.{Ref}
-use Rattle.flow_meaning.specs.Asks.{Spot, Act, Effects, Effect, Start, Goal, Ask, Supply}
+use Rattle.flow_meaning.specs.Requests.{Spot, Act, Effects, Effect, Start, Goal, Ask, Supply}
 use Rattle.flow_meaning.specs.Process.{Task, Run, Give, Throw, Catch, Store, Keep, Close, Fire, Drop, Entry, Halt, Core}
 use Rattle.flow_meaning.specs.Lines.{throw_line, catch_line}
-use Rattle.flow_meaning.specs.Occ.{scan_of}
+use Rattle.flow_meaning.specs.References.{scan_of}
 use Rattle.flow_meaning.specs.Work.{writes, pushed, dropping_values, leave_for, take_branch, is_ready_at}
 use Rattle.flow_meaning.specs.Dropping.{drop, fire, close}
 use Rattle.flow_meaning.specs.React.{react}
@@ -27,7 +27,7 @@ use Rattle.flow_meaning.proofs.Posture.{thing_put_other, thing_put, own_task, ot
 use Rattle.flow_meaning.proofs.Shifts.{run_of, give_of, throw_of, catch_of, store_of, keep_of, close_of, same_of}
 use Rattle.flow_meaning.proofs.TaskShifts.{next_below, below_unmoved}
 use Rattle.flow_unstuck.specs.Phases.{Placed}
-use Rattle.flow_unstuck.specs.Going.{IsOf as OfClasses, AsksHere, Going}
+use Rattle.flow_unstuck.specs.FramesByRequest.{IsOf as OfClasses, AsksHere, Going}
 use Rattle.flow_unstuck.specs.Ending.{LeadOn, NoPlace}
 use Rattle.flow_unstuck.proofs.Ahead.{behind, ahead, whole, ahead_whole, behind_whole, ahead_behind, ahead_jump, catches_at}
 use Rattle.flow_unstuck.proofs.Weights.{fires, stored_room, busy, weigh, weight, load, Less, Falls, falls_on, still_weight, still_less, dropping_lighter, Hand, weight_at, hand_weight, push_falls, leave_falls, fallen, eased_less}

@@ -10,7 +10,7 @@ use Rattle.flow_class.specs.Classes.{CatcherTree, RawTree}
 use Rattle.flow_class.specs.Code.{catcher_at, fetch}
 use Rattle.flow_numbered.specs.Numbered.{Numbered, thing, put}
 use Rattle.flow_meaning.specs.Cells.{Ref, Cell, is_ready}
-use Rattle.flow_meaning.specs.Asks.{Spot, Supply}
+use Rattle.flow_meaning.specs.Requests.{Spot, Supply}
 use Rattle.flow_meaning.specs.Process.{Task, Run, Give, Throw, Catch, Store, Keep, Close, Fire, Drop, Entry, Core}
 use Rattle.flow_meaning.specs.Lines.{throw_line, catch_line}
 use Rattle.flow_meaning.specs.Work.{writes, pushed, running, dropping_values, leave_for, is_ready_at}

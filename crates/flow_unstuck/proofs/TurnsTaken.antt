@@ -8,10 +8,10 @@ use Rattle.flow_value.specs.declared.value.Kind.TheVariants as kind
 use Rattle.flow_value.specs.Values.{ValueTree, IntValue, BoolValue, TextValue, VoidValue, ErrorValue, RecordValue, RefValue, OutcomeTree, BadOutcome}
 use Rattle.flow_numbered.specs.Numbered.{thing, put, removed}
 use Rattle.flow_meaning.specs.Cells.{Side, FutureSide, PromiseSide, side_of, Cell, taken, after_taking}
-use Rattle.flow_meaning.specs.Asks.{Goal, Stored, Kept}
+use Rattle.flow_meaning.specs.Requests.{Goal, Stored, Kept}
 use Rattle.flow_meaning.specs.Process.{Entry, Core}
 use Rattle.flow_meaning.specs.Lines.{take_line, cancel_line, broken_line, end_line}
-use Rattle.flow_meaning.specs.Occ.{Scan, Occ}
+use Rattle.flow_meaning.specs.References.{Scan, reference_count}
 use Rattle.flow_meaning.specs.Work.{writes, fill_cell, fill, free_cell, free, give, take_branch, owner, cancel_by, cancel}
 use Rattle.flow_meaning.specs.Dropping.{Loss, Freed, Broken, Orphan, Unheard, loss, port_of, suffer, lose_cell, lose_ref, drop, set_result, give_result, close}
 use Rattle.flow_meaning.specs.Dropping as dropping
@@ -70,7 +70,7 @@ suffer_left n k (Unheard port) c h = free_left n k (record c { ports = removed c
 lose_cell_left : (n : ℕ) (scan : Scan) (s : Side) (k : ℕ) (x : Option Cell) (c : Core) → c.left ≤ n → Unless (LeftAtMost n) (lose_cell scan s k x c)
 lose_cell_left n scan s k None c h = tt
 lose_cell_left n scan s k (Some cell) c h =
-    suffer_left n k (loss s (Occ scan PromiseSide k c) (Occ scan FutureSide k c) cell (owner k c.entries) (port_of k c.ports)) c h
+    suffer_left n k (loss s (reference_count scan PromiseSide k c) (reference_count scan FutureSide k c) cell (owner k c.entries) (port_of k c.ports)) c h
 
 lose_left : (n : ℕ) (scan : Scan) (s : Side) (k : ℕ) (c : Core) → c.left ≤ n → Unless (LeftAtMost n) (lose_ref scan s k c)
 lose_left n scan s k c h = lose_cell_left n scan s k (thing c.cells k) c h
@@ -89,7 +89,7 @@ set_result_left n k o (suc f) c h = took (LeftAtMost n) (fill k o) c (λ m lt. f
 
 result_left : (n : ℕ) (scan : Scan) (r : Option ℕ) (o : OutcomeTree) (c : Core) → c.left ≤ n → Unless (LeftAtMost n) (give_result scan r o c)
 result_left n scan None o c h = unless c.halted h
-result_left n scan (Some k) o c h = set_result_left n k o (Occ scan FutureSide k c) c h
+result_left n scan (Some k) o c h = set_result_left n k o (reference_count scan FutureSide k c) c h
 
 pub close_turns : (scan : Scan) (i : ℕ) (r : Option ℕ) (o : OutcomeTree) (c : Core) → Unless (λ d. d.left < c.left) (close scan i r o c)
 close_turns scan i r o c =

@@ -10,7 +10,7 @@ use Rattle.flow_class.specs.declared.class.Slotted.TheVariants.{Slot, Local}
 use Rattle.flow_numbered.specs.Numbered.{Numbered, thing}
 use Rattle.flow_meaning.specs.Cells.{Side, PromiseSide, FutureSide, Ref, side_of, Waiter, Cell, Single, Stream, waiters, held}
 use Rattle.flow_meaning.specs.Process.{Task, Run, Give, Throw, Catch, Store, Keep, Close, Fire, Drop, Entry}
-use Rattle.flow_meaning.specs.Occ.{refs_in, value_in, one, count, count_maybe, count_waiters, in_cells, count_kept, in_entries, in_task, in_tasks, in_ports, in_requests, scan_of}
+use Rattle.flow_meaning.specs.References.{refs_in, value_in, one, count, count_maybe, count_waiters, in_cells, count_kept, in_entries, in_task, in_tasks, in_ports, in_requests, scan_of}
 use Rattle.flow_meaning.specs.Variables.{flat, filled}
 use Rattle.flow_meaning.specs.Frame.{Memory, Frame, reversed, everything, occ_memory}
 use Rattle.flow_unstuck.proofs.Retyped.{Sees, SeesAll, OutcomeSees, QueueSees, CellSees, MemorySees, OperandsSee, TaskSees, TasksSee, AllSeen}

@@ -10,7 +10,7 @@ use Rattle.flow_eval.specs.Predefined.{natural}
 use Rattle.flow_class.specs.Classes.{ClassTree, RawTree}
 use Rattle.flow_numbered.specs.Numbered.{Numbered, thing, put}
 use Rattle.flow_meaning.specs.Cells.{Ref, Waiter, Cell, Single, Stream, is_ready, is_busy, waiters, with_waiter}
-use Rattle.flow_meaning.specs.Asks.{Spot, Act, Goes, Pass, Drops, Effects, Operand, Waits, Sends, Cancels, Prints, SendsTo, Returns, Throws, RunsOut, Stuck, Effect, Start, Goal, Stored, Kept, Packet, Supply}
+use Rattle.flow_meaning.specs.Requests.{Spot, Act, Goes, Pass, Drops, Effects, Operand, Waits, Sends, Cancels, Prints, SendsTo, Returns, Throws, RunsOut, Stuck, Effect, Start, Goal, Stored, Kept, Packet, Supply}
 use Rattle.flow_meaning.specs.Process.{Run, Throw, Keep, Entry, Core}
 use Rattle.flow_meaning.specs.Lines.{wait_line, print_line}
 use Rattle.flow_meaning.specs.Work.{writes, pushed, running, dropping_values, leave_for, is_ready_at, first_ready, Registration, Registered, Refused, Missing, register_at, register_one, register, owner}

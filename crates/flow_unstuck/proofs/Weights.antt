@@ -7,7 +7,7 @@ use Rattle.flow_class.specs.Code.{Fetched, Last, fetch}
 use Rattle.flow_numbered.specs.Numbered.{Numbered, thing}
 use Rattle.flow_meaning.specs.Cells.{Ref}
 use Rattle.flow_meaning.specs.Process.{Task, Run, Give, Throw, Catch, Store, Keep, Close, Fire, Drop, Entry, Core}
-use Rattle.flow_meaning.specs.Occ.{refs_in}
+use Rattle.flow_meaning.specs.References.{refs_in}
 use Rattle.flow_meaning.specs.Work.{turn_of, turn, pushed, running, drops, dropping_values, leave_for}
 use Rattle.flow_meaning.specs.Step.{kept_by}
 use Rattle.flow_meaning.specs.Orderly.{is_of, tasks_of, is_suspended, Rising}

@@ -12,10 +12,10 @@ use Rattle.flow_class.specs.Classes.{EffectInstr, NewInstr, ChooseLast, Callback
 use Rattle.flow_class.specs.Code.{Fetched, Body, Last, fetch, callback_at, type_at}
 use Rattle.flow_valid.specs.Validity.{operand_type}
 use Rattle.flow_meaning.specs.Lines.{print_line}
-use Rattle.flow_meaning.specs.Asks.{DiskCall, ReadCall, WriteCall, SyncCall, SizeCall, Effect, Make, Start, Draw, Delay, Never, Listen, Disk, Goal, Stored, Kept, Ask, Act, Goes, Pass, Drops, Effects, Operand, Waits, Sends, Cancels, Prints, SendsTo, Returns, Throws, RunsOut, Stuck}
+use Rattle.flow_meaning.specs.Requests.{DiskCall, ReadCall, WriteCall, SyncCall, SizeCall, Effect, Make, Start, Draw, Delay, Never, Listen, Disk, Goal, Stored, Kept, Ask, Act, Goes, Pass, Drops, Effects, Operand, Waits, Sends, Cancels, Prints, SendsTo, Returns, Throws, RunsOut, Stuck}
 use Rattle.flow_meaning.specs.Frame.{Frame, over}
 use Rattle.flow_unstuck.specs.Rules.{first_types, takes_type}
-use Rattle.flow_unstuck.specs.Standing.{Stands, StandsWaiting}
+use Rattle.flow_unstuck.specs.FramesAtPoints.{Stands, StandsWaiting}
 
 -- what a disk answers to a call
 abbrev pub reply_type : {A : Type 0} → DiskCall A → TypeTree

@@ -14,7 +14,7 @@ use Rattle.flow_meaning.specs.Burst.{Host, Live, advance}
 use Rattle.flow_meaning.specs.Frame.{Frame, assign}
 use Rattle.flow_meaning.specs.Class.{class_names, classes}
 use Rattle.flow_unstuck.specs.Phases.{Placed}
-use Rattle.flow_unstuck.specs.Going.{Going}
+use Rattle.flow_unstuck.specs.FramesByRequest.{Going}
 
 -- In each class jumps, tests and catch parts lead to blocks of greater number.
 abbrev pub LeadOn : RawTree → Type 0

@@ -14,22 +14,22 @@ use Rattle.flow_meaning.specs.Runs.{before, after, ClassTrace}
 use Rattle.flow_meaning.specs.Frame.{Frame}
 use Rattle.flow_meaning.specs.Class.{classes}
 use Rattle.flow_unstuck.specs.Phases.{Placed}
-use Rattle.flow_unstuck.specs.Going.{Going}
+use Rattle.flow_unstuck.specs.FramesByRequest.{Going}
 use Rattle.flow_unstuck.specs.Ending.{NoPlace, Reaches}
 
 -- what has no meaning: the event was stopped for it, or goes on and an effect's result has no place
-abbrev pub Astray : RawTree → Live Outside Frame → Type 0
-Astray r l =
+abbrev pub IsStuck : RawTree → Live Outside Frame → Type 0
+IsStuck r l =
     (l.proc.core.halted ≡ Some NoMeaning)
     ⊎ ((l.proc.core.halted ≡ None) × NoPlace r l.proc.core l.proc.actors)
 
 -- a run that comes to it, in the next event or in a later one
-pub data Strays (r : RawTree) : World Frame → Type 0 where
+pub data GetsStuck (r : RawTree) : World Frame → Type 0 where
   now : {w : World Frame} (b : Begun Frame) (l : Live Outside Frame) → ending w.out (next_of w.out) ≡ None
-      → begun_by (classes r) w (next_of w.out) ≡ Some b → Reaches (classes r) host (before b) l → Astray r l → Strays r w
+      → begun_by (classes r) w (next_of w.out) ≡ Some b → Reaches (classes r) host (before b) l → IsStuck r l → GetsStuck r w
   later : {w : World Frame} (b : Begun Frame) (l : Live Outside Frame) → ending w.out (next_of w.out) ≡ None
       → begun_by (classes r) w (next_of w.out) ≡ Some b → Burst (classes r) host (before b) l → l.proc.core.halted ≡ None
-      → Strays r (after w b l) → Strays r w
+      → GetsStuck r (after w b l) → GetsStuck r w
 
 -- a process between events: at rest, with frames known by what they asked for last
 abbrev pub RestsInPlace : RawTree → Place Frame → Type 0
@@ -39,8 +39,8 @@ abbrev pub WorldInPlace : RawTree → World Frame → Type 0
 WorldInPlace r w = AllByRecursion (λ (a : Place Frame). RestsInPlace r a) w.places
 
 -- In the world of each file the classes have a trace, and only one; or they come to what has no meaning.
-abbrev pub RunsOrStrays : RawTree → Type 0
-RunsOrStrays r = (w : file.World) → ((lines : List Line) × ClassTrace r w lines) ⊎ Strays r (at_start w)
+abbrev pub RunsOrGetsStuck : RawTree → Type 0
+RunsOrGetsStuck r = (w : file.World) → ((lines : List Line) × ClassTrace r w lines) ⊎ GetsStuck r (at_start w)
 
-abbrev pub OneTrace : RawTree → Type 0
-OneTrace r = (w : file.World) (lines more : List Line) → ClassTrace r w lines → ClassTrace r w more → lines ≡ more
+abbrev pub AtMostOneTrace : RawTree → Type 0
+AtMostOneTrace r = (w : file.World) (lines more : List Line) → ClassTrace r w lines → ClassTrace r w more → lines ≡ more

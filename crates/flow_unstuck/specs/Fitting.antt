@@ -15,7 +15,7 @@ use Rattle.flow_meaning.specs.Process.{Task, Run, Give, Throw, Catch, Store, Kee
 use Rattle.flow_meaning.specs.Orderly.{tasks_of, Rising}
 use Rattle.flow_meaning.specs.Frame.{Frame, over}
 use Rattle.flow_unstuck.specs.Places.{class_vars}
-use Rattle.flow_unstuck.specs.Standing.{Stands, StandsWaiting}
+use Rattle.flow_unstuck.specs.FramesAtPoints.{Stands, StandsWaiting}
 use Rattle.flow_unstuck.specs.Rules.{takes_type}
 use Rattle.flow_unstuck.specs.Registering.{IsRegistered}
 use Rattle.flow_unstuck.specs.Asking.{Stores, NextOperand, OutcomeFits}

@@ -8,7 +8,7 @@ use Rattle.flow_meaning.specs.Process.{View}
 use Rattle.flow_meaning.specs.Frame.{Frame}
 use Rattle.flow_meaning.specs.Class.{classes}
 use Rattle.flow_unstuck.specs.Places.{class_vars}
-use Rattle.flow_unstuck.specs.Standing.{Stands}
+use Rattle.flow_unstuck.specs.FramesAtPoints.{Stands}
 use Rattle.flow_unstuck.specs.Asking.{AsksFit}
 use Rattle.flow_unstuck.specs.Fitting.{CellTypes, typed_by}
 

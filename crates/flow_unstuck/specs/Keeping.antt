@@ -5,7 +5,7 @@ use Rattle.std.specs.declared.option.Option.TheVariants.{None, Some}
 use Rattle.flow_tree.specs.Tree.{TypeTree, VoidType, FutureType}
 use Rattle.flow_class.specs.Classes.{RawTree}
 use Rattle.flow_numbered.specs.Numbered.{Numbered}
-use Rattle.flow_meaning.specs.Asks.{Request, Timer, Disks, Supply}
+use Rattle.flow_meaning.specs.Requests.{Request, Timer, Disks, Supply}
 use Rattle.flow_meaning.specs.Process.{Task, Close, Fire, Drop, Halt, Spent, NoMeaning, Core, Proc}
 use Rattle.flow_meaning.specs.Orderly.{Orderly}
 use Rattle.flow_meaning.specs.Step.{Stepped, step}

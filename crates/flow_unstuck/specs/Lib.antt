@@ -1,9 +1,9 @@
 pub mod Phases
-pub mod Going
+pub mod FramesByRequest
 pub mod Ending
 pub mod Existing
 pub mod Places
-pub mod Standing
+pub mod FramesAtPoints
 pub mod Rules
 pub mod Asking
 pub mod Registering

@@ -5,7 +5,7 @@ use Rattle.std.specs.declared.option.Option.{Option}
 use Rattle.std.specs.declared.option.Option.TheVariants.{None, Some}
 use Rattle.flow_value.specs.Values.{ValueTree}
 use Rattle.flow_numbered.specs.Numbered.{Numbered, thing}
-use Rattle.flow_meaning.specs.Asks.{Ask}
+use Rattle.flow_meaning.specs.Requests.{Ask}
 use Rattle.flow_meaning.specs.Process.{Core, View, Engine}
 use Rattle.flow_meaning.specs.Orderly.{Phase, Free, Risky, Due, Waiting, phase_of}
 use Rattle.flow_meaning.specs.Law.{phase_after}

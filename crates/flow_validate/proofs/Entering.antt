@@ -11,7 +11,7 @@ use Rattle.std.specs.declared.option.Option.{Option}
 use Rattle.std.specs.declared.option.Option.TheVariants.{None, Some}
 use Rattle.flow_validate.specs.Entered.{Covers}
 use Rattle.flow_validate.specs.Following.{has_bit}
-use Rattle.flow_validate.specs.Standing.{Standing, widened, entry_bit, entry_of, Way, plain_way, Widens, room, work, Grows, AreCovered, Led, Entered}
+use Rattle.flow_validate.specs.WalkStates.{WalkState, widened, entry_bit, entry_of, Way, plain_way, Widens, room, work, Grows, AreCovered, Led, Entered}
 use Rattle.flow_validate.proofs.Bits.{has_or}
 
 same_some : {A : Type 0} (a b : A) → Some a ≡ Some b → a ≡ b
@@ -81,7 +81,7 @@ widened_widens : (e : Option ℕ) (empty all : ℕ) → widened e empty ≡ Some
 widened_widens None empty all h = tt
 widened_widens (Some x) empty all h = λ j t. widened_bit (Some x) empty all j h ∙ left_true (has_bit x j) (has_bit empty j) t
 
-pub same_grows : (s : Standing) → Grows s s
+pub same_grows : (s : WalkState) → Grows s s
 same_grows s = record {
   same_length = refl;
   widens = λ b x y h i. subst (Widens x) (same_some x y (sym h ∙ i)) (same_widens x);
@@ -91,14 +91,14 @@ same_grows s = record {
 }
 
 -- a block that isn't there, and one whose entry says so already
-pub beyond : (s : Standing) (empty b : ℕ) → length s.entries ≤ b → Entered s s (plain_way empty b ∷ [])
+pub beyond : (s : WalkState) (empty b : ℕ) → length s.entries ≤ b → Entered s s (plain_way empty b ∷ [])
 beyond s empty b le = record {
   grows = same_grows s;
   covers = ((λ j lt less. absurd (omega (arith, le, less))), tt);
   from = λ i y j h lt. inl (y, h, refl);
 }
 
-pub stays : (s : Standing) (empty b : ℕ) (e : Option ℕ) → slice_get s.entries b ≡ Some e → widened e empty ≡ None → Entered s s (plain_way empty b ∷ [])
+pub stays : (s : WalkState) (empty b : ℕ) (e : Option ℕ) → slice_get s.entries b ≡ Some e → widened e empty ≡ None → Entered s s (plain_way empty b ∷ [])
 stays s empty b None is h = absurd (none_some empty (sym h))
 stays s empty b (Some x) is h =
     let same : bit_or x empty ≡ x = eqb-true (bit_or x empty) x (unchosen (nat_eq (bit_or x empty) x) (bit_or x empty) h) in
@@ -112,11 +112,11 @@ stays s empty b (Some x) is h =
       from = λ i y j g lt. inl (y, g, refl);
     }
 
-module _ (s : Standing) (empty b : ℕ) (e : Option ℕ) (all : ℕ) (is : slice_get s.entries b ≡ Some e) (h : widened e empty ≡ Some all) (small : all < 2 ^ 64) where
+module _ (s : WalkState) (empty b : ℕ) (e : Option ℕ) (all : ℕ) (is : slice_get s.entries b ≡ Some e) (h : widened e empty ≡ Some all) (small : all < 2 ^ 64) where
   within : b < length s.entries
   within = slice_get_within s.entries b e is
 
-  abbrev wider : Standing
+  abbrev wider : WalkState
   wider = record { entries = set s.entries b (Some all); todo = s.todo ++ b ∷ [] }
 
   less_work : work wider ≤ work s
@@ -198,7 +198,7 @@ widens_then (Some x) None z f g = absurd f
 widens_then (Some x) (Some y) None f g = absurd g
 widens_then (Some x) (Some y) (Some z) f g = λ j t. g j (f j t)
 
-pub grows_then : (a b c : Standing) → Grows a b → Grows b c → Grows a c
+pub grows_then : (a b c : WalkState) → Grows a b → Grows b c → Grows a c
 grows_then a b c f g = record {
   same_length = g.same_length ∙ f.same_length;
   widens = λ i x z h k.
@@ -224,14 +224,14 @@ still_covers None y j e w cov = absurd cov
 still_covers (Some x) None j e w cov = absurd w
 still_covers (Some x) (Some y) j e w cov = λ t. w j (cov t)
 
-pub covers_then : (a b : Standing) → Grows a b → (j i : ℕ) (e : Bool) → i < length b.entries → Covers (entry_of a.entries j i) e → Covers (entry_of b.entries j i) e
+pub covers_then : (a b : WalkState) → Grows a b → (j i : ℕ) (e : Bool) → i < length b.entries → Covers (entry_of a.entries j i) e → Covers (entry_of b.entries j i) e
 covers_then a b g j i e lt cov =
     let old = there a.entries i (subst (λ (n : ℕ). i < n) g.same_length lt) in
     let new = there b.entries i lt in
     subst (λ (o : Option (Option ℕ)). Covers (entry_bit o j) e) (sym new.1)
     (still_covers old.0 new.0 j e (g.widens i old.0 new.0 old.1 new.1) (subst (λ (o : Option (Option ℕ)). Covers (entry_bit o j) e) old.1 cov))
 
-covered_then : (a b : Standing) → Grows a b → (vs : List Way) → AreCovered a.entries vs → AreCovered b.entries vs
+covered_then : (a b : WalkState) → Grows a b → (vs : List Way) → AreCovered a.entries vs → AreCovered b.entries vs
 covered_then a b g [] cov = tt
 covered_then a b g (v ∷ vs) cov =
     ((λ j lt less. covers_then a b g j v.block (v.empty j) less (cov.0 j lt (subst (λ (n : ℕ). v.block < n) g.same_length less))), covered_then a b g vs cov.1)
@@ -249,7 +249,7 @@ led_right : (vs ws : List Way) (b j : ℕ) (e : Bool) → Led ws b j e → Led (
 led_right [] ws b j e h = h
 led_right (v ∷ vs) ws b j e h = inr (led_right vs ws b j e h)
 
-pub entered_then : (a b c : Standing) (vs ws : List Way) → Entered a b vs → Entered b c ws → Entered a c (vs ++ ws)
+pub entered_then : (a b c : WalkState) (vs ws : List Way) → Entered a b vs → Entered b c ws → Entered a c (vs ++ ws)
 entered_then a b c vs ws f g = record {
   grows = grows_then a b c f.grows g.grows;
   covers = covered_both c.entries vs ws (covered_then b c g.grows vs f.covers) g.covers;
@@ -267,7 +267,7 @@ entered_then a b c vs ws f g = record {
     by i z j lt (inr led) = inr (led_right vs ws i j (has_bit z j) led)
 
 -- a way whose places are seen otherwise
-pub entered_as : (a b : Standing) (to : ℕ) (f g : ℕ → Bool) → ((j : ℕ) → j < 64 → f j ≡ g j) → Entered a b (record { block = to; empty = f } ∷ []) → Entered a b (record { block = to; empty = g } ∷ [])
+pub entered_as : (a b : WalkState) (to : ℕ) (f g : ℕ → Bool) → ((j : ℕ) → j < 64 → f j ≡ g j) → Entered a b (record { block = to; empty = f } ∷ []) → Entered a b (record { block = to; empty = g } ∷ [])
 entered_as a b to f g same h = record {
   grows = h.grows;
   covers = ((λ j lt less. subst (Covers (entry_of b.entries j to)) (same j lt) (h.covers.0 j lt less)), tt);

@@ -13,7 +13,7 @@ use Rattle.flow_valid.specs.Named.{has_place, has_last, instr_places, names_exis
 use Rattle.flow_validate.specs.Sizes.{HasFewPlaces}
 use Rattle.flow_valid.specs.Filling.{same_place, among, reads, Comes, ReadsFilled}
 use Rattle.flow_validate.specs.Following.{place_in}
-use Rattle.flow_validate.specs.Standing.{IsFilled, AreFilledBelow, FilledOr}
+use Rattle.flow_validate.specs.WalkStates.{IsFilled, AreFilledBelow, FilledOr}
 use Rattle.flow_validate.proofs.Plain.{reads_there, group_there, last_there, block_named, groups_named, there_below, there_mapped}
 
 -- 64 more places

@@ -12,7 +12,7 @@ use Rattle.flow_validate.specs.Apart.{is_parameter_of}
 use Rattle.flow_valid.specs.Filling.{is_parameter, Comes, begins}
 use Rattle.flow_validate.specs.Following.{Passing, entering, passed, block_touches, place_in, has_bit, AreBits}
 use Rattle.flow_validate.specs.Entered.{Covers, Enters, IsPassed, AreFollowed}
-use Rattle.flow_validate.specs.Standing.{Standing, entry_bit, entry_of, plain_way, room, work, Grows, Led, Entered, AreSound, AllPassed, Passes, AreWalks, IsFilled, nothing_entered}
+use Rattle.flow_validate.specs.WalkStates.{WalkState, entry_bit, entry_of, plain_way, room, work, Grows, Led, Entered, AreSound, AllPassed, Passes, AreWalks, IsFilled, nothing_entered}
 use Rattle.flow_validate.proofs.Bits.{twice_not}
 use Rattle.flow_validate.proofs.Entering.{covers_then}
 use Rattle.flow_validate.proofs.Closed.{read_filled}
@@ -31,7 +31,7 @@ length_push [] x = refl
 length_push (y ∷ ys) x = let m = length_push ys x in omega (arith, m)
 
 -- one block less is to be passed
-pub popped_work : (s t : Standing) (b : ℕ) → t.entries ≡ s.entries → s.todo ≡ t.todo ++ b ∷ [] → work t < work s
+pub popped_work : (s t : WalkState) (b : ℕ) → t.entries ≡ s.entries → s.todo ≡ t.todo ++ b ∷ [] → work t < work s
 popped_work s t b same rest =
     let sums : sum_by room t.entries ≡ sum_by room s.entries = ap (sum_by room) same in
     let lengths : length s.todo ≡ length t.todo + 1 = ap length rest ∙ length_push t.todo b in
@@ -41,11 +41,11 @@ popped_work s t b same rest =
     numbers x y l m e f = omega arith
 
 module _ (c : ClassTree) (w : Window) where
-  enters_on : (a b : Standing) → Grows a b → length b.entries ≡ length c.blocks → (j i : ℕ) (e : Bool)
+  enters_on : (a b : WalkState) → Grows a b → length b.entries ≡ length c.blocks → (j i : ℕ) (e : Bool)
       → Enters c (place_in w j) (entry_of a.entries j) i e → Enters c (place_in w j) (entry_of b.entries j) i e
   enters_on a b g long j i e h = λ less. covers_then a b g j i e (subst (λ (n : ℕ). i < n) (sym long) less) (h less)
 
-  passed_on : (a b : Standing) → Grows a b → length b.entries ≡ length c.blocks → (j : ℕ) (k : BlockTree) (s : Passing)
+  passed_on : (a b : WalkState) → Grows a b → length b.entries ≡ length c.blocks → (j : ℕ) (k : BlockTree) (s : Passing)
       → IsPassed c (place_in w j) (entry_of a.entries j) k s → IsPassed c (place_in w j) (entry_of b.entries j) k s
   passed_on a b g long j k s h = record {
     misread = h.misread;
@@ -54,7 +54,7 @@ module _ (c : ClassTree) (w : Window) where
     branches = λ n m r f i. enters_on a b g long j r.block _ (h.branches n m r f i);
   }
 
-  pub passed_more : (s t new : Standing) (b : ℕ) → t.entries ≡ s.entries → s.todo ≡ t.todo ++ b ∷ [] → AreWalks c w s → Passes c w t new b → AreWalks c w new
+  pub passed_more : (s t new : WalkState) (b : ℕ) → t.entries ≡ s.entries → s.todo ≡ t.todo ++ b ∷ [] → AreWalks c w s → Passes c w t new b → AreWalks c w new
   passed_more s t new b same rest h p = record {
     same_length = long;
     sound = p.sound (subst (AreSound c w) (sym same) h.sound);
@@ -87,7 +87,7 @@ module _ (c : ClassTree) (w : Window) where
   entry_there (Some None) j e h = absurd (none_some e h)
   entry_there (Some (Some x)) j e h = (x, refl, same_some (has_bit x j) e h)
 
-  followed : (s : Standing) → s.todo ≡ [] → AreWalks c w s → (j : ℕ) → j < 64 → AreFollowed c (place_in w j) (entry_of s.entries j)
+  followed : (s : WalkState) → s.todo ≡ [] → AreWalks c w s → (j : ℕ) → j < 64 → AreFollowed c (place_in w j) (entry_of s.entries j)
   followed s none h j lt = record { begin = h.begin j lt; all = λ b k e is at. by b k e is (entry_there (slice_get s.entries b) j e at) }
     where
       no_more : (b x : ℕ) (k : BlockTree) → Contains s.todo b ⊎ AllPassed c w s.entries k x → AllPassed c w s.entries k x
@@ -100,7 +100,7 @@ module _ (c : ClassTree) (w : Window) where
           subst (λ (z : Bool). IsPassed c (place_in w j) (entry_of s.entries j) k (passed (place_in w j) (block_touches c k) (entering z))) bit
           (no_more b x k (h.passed b x k is at) j lt)
 
-  pub all_filled : (s : Standing) → s.todo ≡ [] → AreWalks c w s → (j : ℕ) → j < 64 → IsFilled c (place_in w j)
+  pub all_filled : (s : WalkState) → s.todo ≡ [] → AreWalks c w s → (j : ℕ) → j < 64 → IsFilled c (place_in w j)
   all_filled s none h j lt = λ b n walk. read_filled c (place_in w j) (entry_of s.entries j) (followed s none h j lt) walk
 
   -- walks that only begin
@@ -117,7 +117,7 @@ module _ (c : ClassTree) (w : Window) where
   parameters p (Slot n) = refl
   parameters p (Local n) = refl
 
-  pub first_enters : {A : Type 0} (xs : List A) (old new : Standing) (bits : ℕ) → length xs ≡ length c.blocks → old.entries ≡ nothing_entered xs
+  pub first_enters : {A : Type 0} (xs : List A) (old new : WalkState) (bits : ℕ) → length xs ≡ length c.blocks → old.entries ≡ nothing_entered xs
       → AreBits w bits (λ p. not (is_parameter_of c.params p)) → Entered old new (plain_way bits 0 ∷ []) → AreWalks c w new
   first_enters {A = A} xs old new bits same none own h = record {
     same_length = long;

@@ -17,7 +17,7 @@ use Rattle.flow_valid.specs.Named.{targets}
 use Rattle.flow_valid.specs.Filling.{Comes, ReadsEmpty}
 use Rattle.flow_validate.specs.Following.{Passing, entering, passed, block_touches, place_in, has_bit, ArePassing}
 use Rattle.flow_validate.specs.Entered.{Covers, Enters, empty_handled, empty_taken, IsPassed}
-use Rattle.flow_validate.specs.Standing.{Standing, Way, AnyBit, entry_of, handler_ways, branch_way, group_ways, plain_way, last_ways, IsCovered, AreCovered, Led, Entered, AreSound, AllPassed, Passes}
+use Rattle.flow_validate.specs.WalkStates.{WalkState, Way, AnyBit, entry_of, handler_ways, branch_way, group_ways, plain_way, last_ways, IsCovered, AreCovered, Led, Entered, AreSound, AllPassed, Passes}
 use Rattle.flow_validate.proofs.Bits.{has_zero}
 use Rattle.flow_validate.proofs.Sound.{Leads, leads}
 
@@ -171,7 +171,7 @@ module _ (c : ClassTree) (w : Window) (k : BlockTree) (b x : ℕ) (is : slice_ge
   misreads bit es at sound =
       (leads c (place_in w bit.0) b k (has_bit x bit.0) is (sound b x bit.0 at bit.1)).misread (sym (misread_bit bit.0 bit.1) ∙ bit.2)
 
-  module _ (old new : Standing) (at : slice_get old.entries b ≡ Some (Some x)) (filled : q.misread ≡ 0)
+  module _ (old new : WalkState) (at : slice_get old.entries b ≡ Some (Some x)) (filled : q.misread ≡ 0)
       (e : Entered old new (handler_ways c w k.catcher q.thrown ++ last_ways c w k.last q.empty)) where
     catcher_is : catcher_at c b ≡ k.catcher
     catcher_is = ap catcher_in is

@@ -20,7 +20,7 @@ use Rattle.flow_valid.specs.Filling.{filled_path, instr_reads, instr_fills, oper
 use Rattle.flow_validate.specs.Following.{emptied_by, instr_touches, body_touches, last_touches, block_touches}
 use Rattle.flow_validate.specs.Small.{is_small, small_places, reads_of, small_fills, small_instr, small_body, small_last, small_block}
 use Rattle.flow_validate.specs.Sizes.{HasFewPlaces}
-use Rattle.flow_validate.specs.Standing.{AreTouches}
+use Rattle.flow_validate.specs.WalkStates.{AreTouches}
 use Rattle.std.proofs.lemmas.List.{length-map}
 
 pub there_below : {A : Type 0} (xs : List A) (n : ℕ) → is_there (slice_get xs n) ≡ true → n < length xs

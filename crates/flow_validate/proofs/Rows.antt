@@ -16,7 +16,7 @@ use Rattle.flow_tree.specs.Decls.{SlotTree}
 use Rattle.flow_tree.specs.View.{type_of}
 use Rattle.flow_tree.specs.DeclView.{slot_of}
 use Rattle.flow_ast.specs.TypingNames.{named}
-use Rattle.flow_rules.specs.declared.found.Found as code
+use Rattle.flow_rules.specs.declared.type_view.TypeView as code
 use Rattle.flow_rules.specs.View.{found_of}
 use Rattle.flow_rules.specs.MapView.{bound}
 use Rattle.flow_class.specs.declared.class.Slotted.TheVariants.{Slot, Local}

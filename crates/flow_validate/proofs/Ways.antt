@@ -6,7 +6,7 @@ use Rattle.flow_validate.specs.declared.window.Window.{Window}
 use Rattle.flow_valid.specs.Named.{listed}
 use Rattle.flow_valid.specs.Filling.{among, dropped, is_error}
 use Rattle.flow_validate.specs.Following.{AreBits, place_in, has_bit}
-use Rattle.flow_validate.specs.Standing.{Standing, plain_way, handler_ways, branch_way, Entered}
+use Rattle.flow_validate.specs.WalkStates.{WalkState, plain_way, handler_ways, branch_way, Entered}
 use Rattle.std.specs.declared.option.Option.TheVariants.{Some}
 use Rattle.flow_validate.proofs.Bits.{has_or, has_and, has_not}
 use Rattle.flow_validate.proofs.Entering.{entered_as}
@@ -15,13 +15,13 @@ without_bits : (w : Window) (e bit : ℕ) (f : Slotted → Bool) → bit < 2 ^ 6
     → has_bit (bit_and e (18446744073709551615 - bit)) j ≡ (has_bit e j && not (f (place_in w j)))
 without_bits w e bit f small own j lt = has_and e (18446744073709551615 - bit) j ∙ ap (λ (y : Bool). has_bit e j && y) (has_not bit j small lt ∙ ap not (own j lt))
 
-pub branch_entered : (a b : Standing) (w : Window) (k : CallbackTree) (e bit : ℕ) → bit < 2 ^ 64 → AreBits w bit (among (listed k.into))
+pub branch_entered : (a b : WalkState) (w : Window) (k : CallbackTree) (e bit : ℕ) → bit < 2 ^ 64 → AreBits w bit (among (listed k.into))
     → Entered a b (plain_way (bit_and e (18446744073709551615 - bit)) k.block ∷ []) → Entered a b (branch_way w e k ∷ [])
 branch_entered a b w k e bit small own h =
     entered_as a b k.block (has_bit (bit_and e (18446744073709551615 - bit))) (λ j. has_bit e j && not (among (listed k.into) (place_in w j)))
     (without_bits w e bit (among (listed k.into)) small own) h
 
-pub handler_entered : (a b : Standing) (c : ClassTree) (w : Window) (h : CatcherTree) (t drops bit : ℕ) → bit < 2 ^ 64
+pub handler_entered : (a b : WalkState) (c : ClassTree) (w : Window) (h : CatcherTree) (t drops bit : ℕ) → bit < 2 ^ 64
     → AreBits w drops (dropped h.drops) → AreBits w bit (λ p. is_error c p h.error p)
     → Entered a b (plain_way (bit_and (bit_or t drops) (18446744073709551615 - bit)) h.block ∷ [])
     → Entered a b (handler_ways c w (Some h) t)

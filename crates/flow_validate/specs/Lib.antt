@@ -5,7 +5,7 @@ pub mod PlaceNames
 pub mod Following
 pub mod Entered
 pub mod Joined
-pub mod Standing
+pub mod WalkStates
 pub mod Small
 pub mod Apart
 pub mod Verdicts

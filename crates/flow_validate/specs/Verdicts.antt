@@ -2,7 +2,7 @@
 use Rattle.std.specs.Prelude.{◌≡◌, ℕ, ◌<◌, true, List, slice_get}
 use Rattle.std.specs.declared.option.Option.{Option}
 use Rattle.std.specs.declared.option.Option.TheVariants.{None, Some}
-use Rattle.flow_rules.specs.declared.known.Names.{Names}
+use Rattle.flow_rules.specs.declared.top_names.TopNames.{TopNames}
 use Rattle.flow_rules.specs.ProgramView.{setting_by}
 use Rattle.flow_rules.specs.Rules.{setting_of}
 use Rattle.flow_class.specs.Classes.{ClassTree, RawTree}
@@ -17,12 +17,12 @@ ClassTold r c None = IsSoundClass r c
 ClassTold r c (Some k) = BreaksIn r c k
 
 -- a refusal tells the first rule that is broken, and where; want of memory tells nothing
-abbrev pub Told : RawTree → Invalid → Type 0
-Told r (invalid.Rule k c) = Breaks r k c
-Told r invalid.OutOfMemory = Unit {0}
+abbrev pub IsRightRefusal : RawTree → Invalid → Type 0
+IsRightRefusal r (invalid.Rule k c) = Breaks r k c
+IsRightRefusal r invalid.OutOfMemory = Unit {0}
 
 -- what the names at the top show is what the whole program declares
-abbrev pub Sees : RawTree → Names → Type 0
+abbrev pub Sees : RawTree → TopNames → Type 0
 Sees r n = setting_by n ≡ setting_of (all_decls r)
 
 -- the rules V1 and V2 hold
@@ -36,5 +36,5 @@ abbrev pub AreSoundClasses : RawTree → Type 0
 AreSoundClasses r = (i : ℕ) (c : ClassTree) → slice_get r.classes i ≡ Some c → IsSoundClass r c
 
 -- the first of these classes are sound in each class program in which the names are these
-abbrev pub AreSoundBelow : Names → List ClassTree → (count : ℕ) → Type 0
+abbrev pub AreSoundBelow : TopNames → List ClassTree → (count : ℕ) → Type 0
 AreSoundBelow n cs count = (r : RawTree) → Sees r n → (i : ℕ) (c : ClassTree) → i < count → slice_get cs i ≡ Some c → IsSoundClass r c

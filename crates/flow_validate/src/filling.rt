@@ -13,7 +13,7 @@ ghost use Rattle.flow_valid.specs.Filling.{among, is_error, ReadsFilled};
 ghost use Rattle.flow_class.specs.Classes.{ClassTree};
 ghost use Rattle.flow_class.specs.Classes as last;
 ghost use Rattle.flow_validate.specs.Following.{AreBits, place_in};
-ghost use Rattle.flow_validate.specs.Standing.{standing, widened, AnyBit, plain_way, handler_ways, branch_way, last_ways, Entered, HoldsTouches, PassesOr, AreWalks, IsFilled, FilledOr, nothing_entered, AreFilledBelow};
+ghost use Rattle.flow_validate.specs.WalkStates.{standing, widened, AnyBit, plain_way, handler_ways, branch_way, last_ways, Entered, HoldsTouches, PassesOr, AreWalks, IsFilled, FilledOr, nothing_entered, AreFilledBelow};
 
 use crate::touch::{Touches, group_of};
 use crate::window::{Passage, Window};

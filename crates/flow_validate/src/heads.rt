@@ -19,7 +19,7 @@ ghost use Rattle.flow_validate.specs.Answers.{Tells};
 
 use flow_base::memory::NoMemory;
 use flow_class::class::Class;
-use flow_rules::known::{Names, is_predefined, name_of};
+use flow_rules::top_names::{TopNames, is_predefined, name_of};
 use flow_rules::program::declarations;
 use flow_rules::size::sizes;
 use flow_rules::walk::has_text;
@@ -44,7 +44,7 @@ fn is_refused(answer: Result<(), SourceFault>) -> Result<bool, NoMemory>
 /// Whether records and functions keep the rules K1 to K10, K12 and L8 where these names stand at the top.
 pub fn declarations_kept<'a>(
     alloc: Global,
-    names: &Names<'a>,
+    names: &TopNames<'a>,
     packet: &'a [Param],
     decls: &'a [Decl],
 ) -> Result<bool, NoMemory>
@@ -59,7 +59,7 @@ pub fn declarations_kept<'a>(
     Ok(!is_refused(sizes(alloc, decls))?)
 }
 
-fn types_known(names: &Names<'_>, types: &[Ty]) -> bool
+fn types_known(names: &TopNames<'_>, types: &[Ty]) -> bool
     ensures { result ≡ list_all (type_known (known_by names.now)) (map type_of types.now) }
 {
     for ty in types {
@@ -70,7 +70,7 @@ fn types_known(names: &Names<'_>, types: &[Ty]) -> bool
     true
 }
 
-fn slots_known(names: &Names<'_>, slots: &[Slot]) -> bool
+fn slots_known(names: &TopNames<'_>, slots: &[Slot]) -> bool
     ensures { result ≡ list_all (λ (s : SlotTree). type_known (known_by names.now) s.ty)
         (map slot_of slots.now) }
 {
@@ -102,7 +102,7 @@ fn is_free(taken: &IndexSet<&[u8]>, name: &[u8]) -> bool
 }
 
 // Whether the head of a class stands where these names are taken.
-fn head_kept(names: &Names<'_>, taken: &IndexSet<&[u8]>, class: &Class) -> bool
+fn head_kept(names: &TopNames<'_>, taken: &IndexSet<&[u8]>, class: &Class) -> bool
     ensures { (ds : List DeclTree) → AreTaken (texts_of taken.now) ds → result
         ≡ head_kept (known ds) (known_by names.now) (class_of class.now) }
 {
@@ -117,7 +117,7 @@ fn head_kept(names: &Names<'_>, taken: &IndexSet<&[u8]>, class: &Class) -> bool
 
 // The place of the first class whose head doesn't stand, where names are taken one class after another.
 fn first_broken<'a>(
-    names: &Names<'_>,
+    names: &TopNames<'_>,
     taken: &mut IndexSet<&'a [u8]>,
     decls: &'a [Decl],
     classes: &'a [Class],
@@ -140,7 +140,7 @@ fn first_broken<'a>(
 /// The place, from 0, of the first class whose head doesn't stand behind these declarations.
 pub fn broken_head<'a>(
     alloc: Global,
-    names: &Names<'_>,
+    names: &TopNames<'_>,
     decls: &'a [Decl],
     classes: &'a [Class],
 ) -> Result<Option<u32>, NoMemory>

@@ -26,7 +26,7 @@ use flow_base::name::Name;
 use flow_choose::places::var_over;
 use flow_class::class::{Block, Callback, Class, Group, Instr, Last, Slotted};
 use flow_rules::callee::{Callee, Kind};
-use flow_rules::found::{Found, Inner};
+use flow_rules::type_view::{TypeView, ElementView};
 use flow_rules::judge::{Setting, Vars, wants};
 use flow_rules::rule::lesser;
 use flow_tree::decl::Slot;
@@ -114,7 +114,7 @@ fn is_effect<'a>(setting: &Setting<'_, 'a>, value: &'a Expr) -> bool
     calls_effect(setting.called(&name.name))
 }
 
-fn has_type<'a>(setting: &Setting<'_, 'a>, effect: bool, value: &'a Expr, ty: Found<'a>) -> bool
+fn has_type<'a>(setting: &Setting<'_, 'a>, effect: bool, value: &'a Expr, ty: TypeView<'a>) -> bool
     ensures { result ≡ has_type (setting_view setting.now) effect (expr_of value.now)
         (found_of ty.entry) }
 {
@@ -175,32 +175,32 @@ fn last_fits<'a>(class: &'a Class, setting: &Setting<'_, 'a>, last: &'a Last) ->
         (last_of last.now) }
 {
     match last {
-        Last::Test(test, _, _) => has_type(setting, false, test, Found::Bool),
-        Last::Return(value) => has_type(setting, false, value, Found::of(&class.returns)),
-        Last::Throw(value) => has_type(setting, false, value, Found::Error),
+        Last::Test(test, _, _) => has_type(setting, false, test, TypeView::Bool),
+        Last::Return(value) => has_type(setting, false, value, TypeView::of(&class.returns)),
+        Last::Throw(value) => has_type(setting, false, value, TypeView::Error),
         Last::Goto(_) | Last::Pass(_) | Last::Choose(_) => true,
     }
 }
 
 // What a branch waits for: a future or a stream of this.
-fn operand_type<'a>(next: bool, taken: Inner<'a>) -> Found<'a>
+fn operand_type<'a>(next: bool, taken: ElementView<'a>) -> TypeView<'a>
     ensures { found_of result ≡ operand_type next (inner_of taken.entry) }
 {
     if next {
-        Found::FutureStream(taken)
+        TypeView::FutureStream(taken)
     } else {
-        Found::Future(taken)
+        TypeView::Future(taken)
     }
 }
 
 // What the place of a branch takes, or `Void`.
-fn taken_type(class: &Class, into: Option<Slotted>) -> Option<Inner<'_>>
+fn taken_type(class: &Class, into: Option<Slotted>) -> Option<ElementView<'_>>
     ensures { (s : Judging) → option_map inner_of result ≡ taken_type (class_of class.now) s into }
 {
     match into {
-        None => Some(Inner::Void),
+        None => Some(ElementView::Void),
         Some(place) => match type_at(class, place) {
-            Some(ty) => Some(Inner::Written(ty)),
+            Some(ty) => Some(ElementView::Written(ty)),
             None => None,
         },
     }
@@ -286,7 +286,7 @@ fn add_slots<'a>(vars: &mut Vars<'a>, names: &'a [Name], slots: &'a [Slot]) -> R
     ensures { IfOk result (λ _. vars_of vars.new ≡ slot_rows 0 (map slot_of slots.now)) }
 {
     for (slot, name) in slots.iter().zip(names) {
-        vars.insert(name.bytes(), Found::of(&slot.ty))?;
+        vars.insert(name.bytes(), TypeView::of(&slot.ty))?;
     }
     Ok(())
 }
@@ -301,7 +301,7 @@ fn add_locals<'a>(vars: &mut Vars<'a>, names: &'a [Name], locals: &'a [Ty]) -> R
         ≡ vars_of vars.old ++ local_rows 0 (map type_of locals.now)) }
 {
     for (ty, name) in locals.iter().zip(names) {
-        vars.insert(name.bytes(), Found::of(ty))?;
+        vars.insert(name.bytes(), TypeView::of(ty))?;
     }
     Ok(())
 }

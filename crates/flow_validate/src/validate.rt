@@ -12,7 +12,7 @@ ghost use Rattle.flow_validate.specs.PlaceNames.{AreEnough, AreEnoughFor};
 ghost use Rattle.flow_valid.specs.Named.{names_exist};
 ghost use Rattle.flow_valid.specs.Validity.{IsValid, broken_rule, types_fit};
 ghost use Rattle.flow_validate.specs.Gathered.{AreParts, IsReady};
-ghost use Rattle.flow_validate.specs.Verdicts.{ClassTold, Told, Sees, AreHeadsKept, AreSoundClasses};
+ghost use Rattle.flow_validate.specs.Verdicts.{ClassTold, IsRightRefusal, Sees, AreHeadsKept, AreSoundClasses};
 
 use crate::blocks::{catchers_kept, groups_chosen, leads_forward};
 use crate::decls::{Plain, add_functions, add_heads, add_records, apart};
@@ -24,7 +24,7 @@ use crate::types::{PlaceNames, place_names, types_fit, variables};
 use flow_base::memory::NoMemory;
 use flow_class::class::{Class, RawClasses};
 use flow_rules::judge::Setting;
-use flow_rules::known::{Names, packet_fields};
+use flow_rules::top_names::{TopNames, packet_fields};
 use flow_rules::program::is_main;
 use flow_tree::decl::{Decl, Param};
 use flow_valid::program::ClassProgram;
@@ -33,7 +33,7 @@ use std::alloc::Global;
 // Whether the types of a class fit, where its places are variables by their names.
 fn is_typed<'a>(
     alloc: Global,
-    names: &Names<'a>,
+    names: &TopNames<'a>,
     places: &'a PlaceNames,
     class: &'a Class,
 ) -> Result<bool, NoMemory>
@@ -54,7 +54,7 @@ fn is_typed<'a>(
 // The first of the rules V3 to V7 that a class breaks.
 fn broken_rule<'a>(
     alloc: Global,
-    names: &Names<'a>,
+    names: &TopNames<'a>,
     places: &'a PlaceNames,
     class: &'a Class,
 ) -> Result<Option<u8>, NoMemory>
@@ -86,7 +86,7 @@ fn broken_rule<'a>(
 // The first of the rules V3 to V8 that a class breaks.
 fn class_rule<'a>(
     alloc: Global,
-    names: &Names<'a>,
+    names: &TopNames<'a>,
     places: &'a PlaceNames,
     class: &'a Class,
 ) -> Result<Option<u8>, NoMemory>
@@ -107,7 +107,7 @@ fn class_rule<'a>(
 // V3 to V8 on one class after another.
 fn judge_classes<'a>(
     alloc: Global,
-    names: &Names<'a>,
+    names: &TopNames<'a>,
     places: &'a PlaceNames,
     classes: &'a [Class],
 ) -> Result<(), Invalid>
@@ -118,7 +118,7 @@ fn judge_classes<'a>(
     ensures sound { (r : RawTree) → Sees r names.now → r.classes ≡ map class_of classes.now
         → IfOk result (λ _. AreSoundClasses r) }
     ensures refused { (r : RawTree) → Sees r names.now → r.classes ≡ map class_of classes.now
-        → AreHeadsKept r → IfErr result (Told r) }
+        → AreHeadsKept r → IfErr result (IsRightRefusal r) }
 {
     for (place, class) in classes.iter().enumerate() {
         if let Some(rule) = class_rule(alloc, names, places, class)? {
@@ -134,7 +134,7 @@ fn judge_classes<'a>(
 // V1, then V2 on one class after another and on `main`.
 fn judge_heads<'a>(
     alloc: Global,
-    names: &Names<'a>,
+    names: &TopNames<'a>,
     packet: &'a [Param],
     plain: &'a [Decl],
     classes: &'a [Class],
@@ -144,7 +144,7 @@ fn judge_heads<'a>(
     ensures kept { (r : RawTree) → Sees r names.now → plain_decls r ≡ map decl_of plain.now
         → r.classes ≡ map class_of classes.now → IfOk result (λ _. AreHeadsKept r) }
     ensures refused { (r : RawTree) → Sees r names.now → plain_decls r ≡ map decl_of plain.now
-        → r.classes ≡ map class_of classes.now → IfErr result (Told r) }
+        → r.classes ≡ map class_of classes.now → IfErr result (IsRightRefusal r) }
 {
     if !declarations_kept(alloc, names, packet, plain)? {
         return Err(Invalid::Rule {
@@ -227,12 +227,12 @@ fn release(alloc: Global, gathered: Gathered) -> Result<RawClasses, NoMemory>
 }
 
 // The verdict by the names at the top.
-fn judge_named<'a>(alloc: Global, names: &Names<'a>, gathered: &'a Gathered) -> Result<(), Invalid>
+fn judge_named<'a>(alloc: Global, names: &TopNames<'a>, gathered: &'a Gathered) -> Result<(), Invalid>
     requires { IsReady gathered.now }
     ensures valid { (r : RawTree) → Sees r names.now → AreParts r gathered.now
         → IfOk result (λ _. IsValid r) }
     ensures refused { (r : RawTree) → Sees r names.now → AreParts r gathered.now
-        → IfErr result (Told r) }
+        → IfErr result (IsRightRefusal r) }
 {
     judge_heads(
         alloc,
@@ -248,9 +248,9 @@ fn judge_named<'a>(alloc: Global, names: &Names<'a>, gathered: &'a Gathered) -> 
 fn judge(alloc: Global, gathered: &Gathered) -> Result<(), Invalid>
     requires { IsReady gathered.now }
     ensures valid { (r : RawTree) → AreParts r gathered.now → IfOk result (λ _. IsValid r) }
-    ensures refused { (r : RawTree) → AreParts r gathered.now → IfErr result (Told r) }
+    ensures refused { (r : RawTree) → AreParts r gathered.now → IfErr result (IsRightRefusal r) }
 {
-    let names = Names::new(alloc, &gathered.packet, &gathered.decls)?;
+    let names = TopNames::new(alloc, &gathered.packet, &gathered.decls)?;
     judge_named(alloc, &names, gathered)
 }
 
@@ -261,7 +261,7 @@ pub fn validate(alloc: Global, raw: RawClasses) -> Result<ClassProgram, Invalid>
     requires few { AreFew (raw_of raw).classes }
     requires many { length raw.classes.items < 2 ^ 32 }
     ensures valid { IfOk result (λ p. (raw_of p ≡ raw_of raw) × IsValid (raw_of raw)) }
-    ensures refused { IfErr result (Told (raw_of raw)) }
+    ensures refused { IfErr result (IsRightRefusal (raw_of raw)) }
 {
     let gathered = gather(alloc, raw)?;
     judge(alloc, &gathered)?;

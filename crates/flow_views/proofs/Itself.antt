@@ -3,7 +3,7 @@ use Rattle.std.proofs.Common.{◌≡◌, ◌<◌, inl, refl, ap, subst}
 use Rattle.std.specs.declared.option.Option.{Option}
 use Rattle.std.specs.declared.option.Option.TheVariants.{None, Some}
 use Rattle.flow_class.specs.Classes.{RawTree}
-use Rattle.flow_meaning.specs.Asks.{Act, Waits}
+use Rattle.flow_meaning.specs.Requests.{Act, Waits}
 use Rattle.flow_meaning.specs.Process.{View}
 use Rattle.flow_meaning.specs.Evaluating.{StepOf}
 use Rattle.flow_meaning.specs.Orderly.{Phase, Free, Risky, Due, Waiting}
@@ -11,7 +11,7 @@ use Rattle.flow_meaning.specs.Law.{BothOrNone, MatchesAsk, Simulates, still, pha
 use Rattle.flow_meaning.specs.Frame.{Frame, lose, raise}
 use Rattle.flow_meaning.specs.Class.{classes, class_names}
 use Rattle.flow_meaning.specs.Views.{frame_spot}
-use Rattle.flow_picture.specs.Shows.{wait_spot}
+use Rattle.flow_picture.specs.Representing.{wait_spot}
 use Rattle.flow_views.proofs.Steps.{Waited, Well, step_well}
 
 abbrev pub Itself : Phase → Frame → Frame → Type 0

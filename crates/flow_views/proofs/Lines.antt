@@ -10,7 +10,7 @@ use Rattle.flow_class.specs.declared.class.Class.{Class}
 use Rattle.flow_steps.specs.declared.views.CallbackView.{CallbackView}
 use Rattle.flow_cancel.specs.Heap.{actor_id}
 use Rattle.flow_run.specs.Tracing.{name_of, own_count, callback_line, own_lines, frames_lines}
-use Rattle.flow_meaning.specs.Asks.{Spot}
+use Rattle.flow_meaning.specs.Requests.{Spot}
 use Rattle.flow_meaning.specs.Cells.{Ref}
 use Rattle.flow_numbered.specs.Numbered.{Numbered, thing}
 use Rattle.flow_meaning.specs.Orderly.{Rising}

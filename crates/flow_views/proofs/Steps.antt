@@ -8,13 +8,13 @@ use Rattle.flow_eval.specs.Answers.{bool_of, error_of}
 use Rattle.flow_eval.specs.Eval.{Res, Done, Fails, Spent, Meaningless}
 use Rattle.flow_class.specs.Classes.{InstrTree, SetInstr, EffectInstr, NewInstr, ActInstr, DropInstr, LastTree, GotoLast, PassLast, TestLast, ChooseLast, ReturnLast, ThrowLast, CallbackTree}
 use Rattle.flow_class.specs.Code.{type_at, Fetched, Body, Last, Nothing, fetch, callback_at}
-use Rattle.flow_meaning.specs.Asks.{Spot, Make, Goal, Stored, Kept, Act, Waits, Effects, Returns}
+use Rattle.flow_meaning.specs.Requests.{Spot, Make, Goal, Stored, Kept, Act, Waits, Effects, Returns}
 use Rattle.flow_meaning.specs.Process.{View}
 use Rattle.flow_meaning.specs.Evaluating.{Names, bind, StepOf, asks, given, evaluated, Effectful, effect_in, effect_of, value, values, call_act}
 use Rattle.flow_meaning.specs.Class.{promise_kind, placed, effects, instruction, test, operand_ref, operand_by, choose, throw_value, last, fetched, next_step}
 use Rattle.flow_meaning.specs.Frame.{Frame, look, assign, spot_of, next_instr, over, everything}
 use Rattle.flow_meaning.specs.Views.{frame_spot}
-use Rattle.flow_picture.specs.Shows.{wait_spot, spot_by}
+use Rattle.flow_picture.specs.Representing.{wait_spot, spot_by}
 use Rattle.flow_carried.proofs.Evals.{AllMild, IsMild, call_mild}
 
 -- what is so of a frame that asked this

@@ -12,21 +12,21 @@ use Rattle.flow_meaning.specs.Views.{Frames, Callbacks}
 use Rattle.flow_meaning.specs.World as meaning
 use Rattle.flow_world.specs.declared.place.Place.{Place}
 use Rattle.flow_world.specs.Views.{frames_at, callbacks_at, live_in}
-use Rattle.flow_events.specs.Showing.{PlaceShows, PlacesShow}
-use Rattle.flow_picture.specs.Shows.{Shows}
+use Rattle.flow_events.specs.Showing.{PlaceRepresents, PlacesRepresent}
+use Rattle.flow_picture.specs.Representing.{Represents}
 use Rattle.flow_picture.specs.Rested.{Sorted}
 use Rattle.flow_views.specs.Views.{told_frame, told_callback}
 use Rattle.flow_views.specs.Waiting.{PlaceWaits}
-use Rattle.flow_views.specs.Told.{total, WorldTold}
+use Rattle.flow_views.specs.Reports.{total, WorldTold}
 use Rattle.flow_views.proofs.Views.{views_shown}
 
-module _ (Rests : Process → Proc Frame → Type 0) (r : RawTree) (shows : (m : Process) (p : Proc Frame) → Rests m p → Shows r m.heap p × Sorted m.heap) where
-  views : (processes number : ℕ) (at : Place) (x : meaning.Place Frame) → PlaceShows Rests processes number at x → PlaceWaits x
+module _ (Rests : Process → Proc Frame → Type 0) (r : RawTree) (shows : (m : Process) (p : Proc Frame) → Rests m p → Represents r m.heap p × Sorted m.heap) where
+  views : (processes number : ℕ) (at : Place) (x : meaning.Place Frame) → PlaceRepresents Rests processes number at x → PlaceWaits x
       → (frames_in at.machine.process.heap ≡ map told_frame (Frames x.proc)) × (callbacks_in at.machine.process.heap ≡ map told_callback (Callbacks x.proc))
   views n k at x h waits =
       let s = shows at.machine.process x.proc h.rests in views_shown r at.machine.process.heap x.proc s.0 s.1 waits.0 waits.1
 
-  frames : (processes k : ℕ) (ats : List Place) (xs : List (meaning.Place Frame)) → PlacesShow Rests processes k ats xs → AllByRecursion PlaceWaits xs → (n : ℕ)
+  frames : (processes k : ℕ) (ats : List Place) (xs : List (meaning.Place Frame)) → PlacesRepresent Rests processes k ats xs → AllByRecursion PlaceWaits xs → (n : ℕ)
       → frames_at (slice_get ats n) ≡ map told_frame (slice_index_or (map (λ (x : meaning.Place Frame). Frames x.proc) xs) n [])
   frames m k [] [] h waits n = refl
   frames m k [] (x ∷ xs) h waits n = absurd h
@@ -34,7 +34,7 @@ module _ (Rests : Process → Proc Frame → Type 0) (r : RawTree) (shows : (m :
   frames m k (at ∷ ats) (x ∷ xs) h waits zero = (views m k at x h.0 waits.0).0
   frames m k (at ∷ ats) (x ∷ xs) h waits (suc n) = frames m (suc k) ats xs h.1 waits.1 n
 
-  callbacks : (processes k : ℕ) (ats : List Place) (xs : List (meaning.Place Frame)) → PlacesShow Rests processes k ats xs → AllByRecursion PlaceWaits xs → (n : ℕ)
+  callbacks : (processes k : ℕ) (ats : List Place) (xs : List (meaning.Place Frame)) → PlacesRepresent Rests processes k ats xs → AllByRecursion PlaceWaits xs → (n : ℕ)
       → callbacks_at (slice_get ats n) ≡ map told_callback (slice_index_or (map (λ (x : meaning.Place Frame). Callbacks x.proc) xs) n [])
   callbacks m k [] [] h waits n = refl
   callbacks m k [] (x ∷ xs) h waits n = absurd h
@@ -42,7 +42,7 @@ module _ (Rests : Process → Proc Frame → Type 0) (r : RawTree) (shows : (m :
   callbacks m k (at ∷ ats) (x ∷ xs) h waits zero = (views m k at x h.0 waits.0).1
   callbacks m k (at ∷ ats) (x ∷ xs) h waits (suc n) = callbacks m (suc k) ats xs h.1 waits.1 n
 
-  live : (processes k : ℕ) (ats : List Place) (xs : List (meaning.Place Frame)) → PlacesShow Rests processes k ats xs → AllByRecursion PlaceWaits xs
+  live : (processes k : ℕ) (ats : List Place) (xs : List (meaning.Place Frame)) → PlacesRepresent Rests processes k ats xs → AllByRecursion PlaceWaits xs
       → live_in ats ≡ total (map (λ (x : meaning.Place Frame). Frames x.proc) xs)
   live m k [] [] h waits = refl
   live m k [] (x ∷ xs) h waits = absurd h

@@ -14,7 +14,7 @@ use Rattle.flow_steps.specs.declared.process.Process.{Process}
 use Rattle.flow_traced.specs.Traced.{EventBegan, EventsFollow, SpentFollows, KeepsOn, FramesShown}
 use Rattle.flow_traced.proofs.Whole.{trace_follows, beginning_follows}
 use Rattle.flow_views.specs.Waiting.{WorldWaits}
-use Rattle.flow_views.specs.Shown.{RestsShow, KeepsCount, FramesTraced, BeginningTraced}
+use Rattle.flow_views.specs.FrameLines.{RestingRepresents, KeepsCount, FramesTraced, BeginningTraced}
 use Rattle.flow_views.proofs.Waiting.{start_waits, event_waits}
 use Rattle.flow_views.proofs.Worlds.{frames_follow}
 
@@ -40,7 +40,7 @@ module _ (Rests : Process → Proc Frame → Type 0) (Keeps : World Frame → Ty
   pub keeps_on : (r : RawTree) → KeepsOn Rests Keeps IsCode r → KeepsOn Rests Waits IsCode r
   keeps_on r on m b l k begins follows rests = (on m b l k.0 begins follows rests, event_waits r m b l k.1 begins follows rests)
 
-  pub frames : (with_frames : Bool) (r : RawTree) → RestsShow Rests Keeps IsCode r → KeepsCount Rests Keeps IsCode → FramesShown Rests Waits IsCode with_frames r
+  pub frames : (with_frames : Bool) (r : RawTree) → RestingRepresents Rests Keeps IsCode r → KeepsCount Rests Keeps IsCode → FramesShown Rests Waits IsCode with_frames r
   frames true r shows count = frames_follow Rests Waits IsCode r shows (λ m k. count m k.0) (λ m k. k.1)
   frames false r shows count = λ w m text s k. refl
 

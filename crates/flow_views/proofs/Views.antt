@@ -11,14 +11,14 @@ use Rattle.flow_class.specs.Classes.{RawTree}
 use Rattle.flow_cancel.specs.Heap.{HeapTree}
 use Rattle.flow_cancel.specs.Leaving.{waits}
 use Rattle.flow_steps.specs.Views.{frame_view, callback_view, callback_views}
-use Rattle.flow_meaning.specs.Asks.{Spot}
+use Rattle.flow_meaning.specs.Requests.{Spot}
 use Rattle.flow_meaning.specs.Cells.{Ref}
 use Rattle.flow_meaning.specs.Frame.{Frame}
 use Rattle.flow_meaning.specs.Law.{AtRest}
 use Rattle.flow_numbered.specs.Numbered.{Numbered, thing}
 use Rattle.flow_meaning.specs.Process.{Entry, Proc}
 use Rattle.flow_meaning.specs.Views.{spot_at, frame_spot, unfinished, branches_from, waiting}
-use Rattle.flow_picture.specs.Shows.{Shows, FrameShows, stands, ended, here, at_wait, Position, ActorShows, nobody, somebody, Somebody, wait_spot, held_from}
+use Rattle.flow_picture.specs.Representing.{Represents, FrameRepresents, stands, ended, here, at_wait, Position, ActorRepresents, nobody, somebody, Somebody, wait_spot, held_from}
 use Rattle.flow_views.specs.Waiting.{InState}
 use Rattle.flow_views.specs.Views.{told_frame, told_callback, ViewsShown}
 use Rattle.flow_views.proofs.Paired.{Both, Paired, paired}
@@ -37,9 +37,9 @@ wait_state m f (here e b i) h = absurd (none m.callbacks (sym (ap (λ n. waits n
     none : (hs : List Held) → waits 0 hs ≡ true → ⊥
     none hs h = cc
 
-module _ (r : RawTree) (h : HeapTree) (p : Proc Frame) (shows : Shows r h p) (rest : AtRest p.core) (state : InState p) where
+module _ (r : RawTree) (h : HeapTree) (p : Proc Frame) (shows : Represents r h p) (rest : AtRest p.core) (state : InState p) where
   told : (i : ℕ) (s : Somebody r (stored.thing h.actors.things i) (stored.thing h.frames.things i) (thing p.core.entries i) (thing p.actors i))
-      → FrameShows r s.memory s.entry s.frame → ToldAt p.actors i s.memory s.entry
+      → FrameRepresents r s.memory s.entry s.frame → ToldAt p.actors i s.memory s.entry
   told i s (ended k) = absurd (unsuspended k.suspended (rest.suspended i s.entry s.entered))
     where
       unsuspended : s.entry.suspended ≡ false → s.entry.suspended ≡ true → ⊥
@@ -56,7 +56,7 @@ module _ (r : RawTree) (h : HeapTree) (p : Proc Frame) (shows : Shows r h p) (re
   both : (i : ℕ) → Both (ToldAt p.actors) i (stored.thing h.frames.things i) (thing p.core.entries i)
   both i = by_case (shows.actors i)
     where
-      by_case : ActorShows r (stored.thing h.actors.things i) (stored.thing h.frames.things i) (thing p.core.entries i) (thing p.actors i)
+      by_case : ActorRepresents r (stored.thing h.actors.things i) (stored.thing h.frames.things i) (thing p.core.entries i) (thing p.actors i)
           → Both (ToldAt p.actors) i (stored.thing h.frames.things i) (thing p.core.entries i)
       by_case (nobody n m e f) =
           subst (λ o. Both (ToldAt p.actors) i o (thing p.core.entries i)) (sym m)

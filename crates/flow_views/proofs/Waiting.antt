@@ -13,7 +13,7 @@ use Rattle.flow_meaning.specs.Process.{Task, Run, Give, Throw, Catch, Store, Kee
 use Rattle.flow_meaning.specs.Step.{proc}
 use Rattle.flow_meaning.specs.Deliver.{idle, boot_core, boot_with, stop, deliver, arrive}
 use Rattle.flow_meaning.specs.Burst.{Live, Burst}
-use Rattle.flow_meaning.specs.Orderly.{Orderly, InOrder, UnlessStopped, Free, Waiting, phase_by, phase_first, phase_of, is_suspended, tasks_of}
+use Rattle.flow_meaning.specs.Orderly.{Orderly, OrderlyUnlessStopped, UnlessStopped, Free, Waiting, phase_by, phase_first, phase_of, is_suspended, tasks_of}
 use Rattle.flow_meaning.specs.Law.{BothOrNone, AllRelated, Related, AtRest, Same}
 use Rattle.flow_meaning.specs.Outside.{What, Boots, Rings, Arrives, Answers, Outside, host}
 use Rattle.flow_meaning.specs.World.{Place, World, Begun, Next, Nothing, Script, Event, next_of, booted, ordered, packet, arrived, listener, happened, process_of, process_in, ready, counted, with_left, begun_by}
@@ -28,7 +28,7 @@ use Rattle.flow_meaning.proofs.InOrder.{boot_in_order, begin_in_order, stop_in_o
 use Rattle.flow_meaning.proofs.RestRuns.{idle_orderly, idle_at_rest}
 use Rattle.flow_meaning.proofs.Lift.{bursts_follow}
 use Rattle.flow_meaning.proofs.BurstOnce.{burst_once}
-use Rattle.flow_picture.specs.Shows.{wait_spot}
+use Rattle.flow_picture.specs.Representing.{wait_spot}
 use Rattle.flow_views.specs.Waiting.{InState, PlaceWaits, WorldWaits, StartWaits, EventWaits}
 use Rattle.flow_views.proofs.Itself.{Itself, itself}
 
@@ -80,7 +80,7 @@ module _ (r : RawTree) where
   abbrev Fine : Core → Numbered Frame → Type 0
   Fine c xs = UnlessStopped c.halted (Orderly c × Own c xs)
 
-  delivered : (c k : Core) (xs : Numbered Frame) → InOrder k → Unless (Eases c) k → Own c xs → Fine k xs
+  delivered : (c k : Core) (xs : Numbered Frame) → OrderlyUnlessStopped k → Unless (Eases c) k → Own c xs → Fine k xs
   delivered c k xs o h own =
       unless_both (Orderly k) (Own k xs) k.halted o (unless_map k.halted (related_eased (classes r) (classes r) Itself (itself r) c k xs xs own) h)
 

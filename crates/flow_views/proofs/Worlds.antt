@@ -20,12 +20,12 @@ use Rattle.flow_meaning.specs.World as meaning
 use Rattle.flow_world.specs.declared.place.Place.{Place}
 use Rattle.flow_world.specs.Ending.{Seen}
 use Rattle.flow_world.specs.Views.{frames_at, callbacks_at}
-use Rattle.flow_events.specs.Showing.{PlaceShows, PlacesShow, WorldShows}
+use Rattle.flow_events.specs.Showing.{PlaceRepresents, PlacesRepresent, WorldRepresents}
 use Rattle.flow_run.specs.Tracing as memory
 use Rattle.flow_run.specs.Tracing.{name_of, frames_lines}
 use Rattle.flow_framed.specs.Framed.{process_lines, places_lines}
 use Rattle.flow_views.specs.Waiting.{PlaceWaits, WorldWaits}
-use Rattle.flow_views.specs.Shown.{RestsShow, KeepsCount, FramesFollow}
+use Rattle.flow_views.specs.FrameLines.{RestingRepresents, KeepsCount, FramesFollow}
 use Rattle.flow_views.proofs.Views.{views_shown}
 use Rattle.flow_views.proofs.Lines.{views_lines}
 
@@ -39,15 +39,15 @@ names_same (c ∷ cs) (suc k) = names_same cs k
 labels : (c : RawClasses) (r : RawTree) → raw_of c ≡ r → (k : ℕ) → name_of (slice_get c.classes.items k) ≡ (classes r).label k
 labels c r h k = names_same c.classes.items k ∙ ap (λ (z : RawTree). unwrap_or (slice_get (map class_name z.classes) k) []) h
 
-module _ (Rests : Process → Proc Frame → Type 0) (Keeps : World Frame → Type 0) (IsCode : Code → Type 0) (r : RawTree) (shows : RestsShow Rests Keeps IsCode r) where
-  place_lines : (cs : List Class) (names : (k : ℕ) → name_of (slice_get cs k) ≡ (classes r).label k) (p : ProcId) (processes number : ℕ) (at : Place) (x : meaning.Place Frame) → PlaceShows Rests processes number at x
+module _ (Rests : Process → Proc Frame → Type 0) (Keeps : World Frame → Type 0) (IsCode : Code → Type 0) (r : RawTree) (shows : RestingRepresents Rests Keeps IsCode r) where
+  place_lines : (cs : List Class) (names : (k : ℕ) → name_of (slice_get cs k) ≡ (classes r).label k) (p : ProcId) (processes number : ℕ) (at : Place) (x : meaning.Place Frame) → PlaceRepresents Rests processes number at x
       → PlaceWaits x → frames_lines cs p (frames_in at.machine.process.heap) (callbacks_in at.machine.process.heap) ≡ process_lines (classes r) frame_spot p x.proc
   place_lines cs names p processes number at x h waits =
       let s = shows at.machine.process x.proc h.rests in
       let views = views_shown r at.machine.process.heap x.proc s.0 s.1 waits.0 waits.1 in
       ap₂ (λ fs ks. frames_lines cs p fs ks) views.0 views.1 ∙ views_lines (classes r) frame_spot cs names p x.proc waits.0.orderly.numbered
 
-  places_length : (processes k : ℕ) (ats : List Place) (xs : List (meaning.Place Frame)) → PlacesShow Rests processes k ats xs → length ats ≡ length xs
+  places_length : (processes k : ℕ) (ats : List Place) (xs : List (meaning.Place Frame)) → PlacesRepresent Rests processes k ats xs → length ats ≡ length xs
   places_length n k [] [] h = refl
   places_length n k [] (x ∷ xs) h = absurd h
   places_length n k (at ∷ ats) [] h = absurd h
@@ -55,7 +55,7 @@ module _ (Rests : Process → Proc Frame → Type 0) (Keeps : World Frame → Ty
 
   -- those of processes from a number on, which stand there in the world
   module _ (w : Seen) (text : raw_of w.code.program ≡ r) where
-    from_lines : (processes k j : ℕ) (ats : List Place) (xs : List (meaning.Place Frame)) → j ≡ k → ((i : ℕ) → slice_get w.places (k + i) ≡ slice_get ats i) → PlacesShow Rests processes k ats xs
+    from_lines : (processes k j : ℕ) (ats : List Place) (xs : List (meaning.Place Frame)) → j ≡ k → ((i : ℕ) → slice_get w.places (k + i) ≡ slice_get ats i) → PlacesRepresent Rests processes k ats xs
         → AllByRecursion PlaceWaits xs → flat_map (λ n. memory.process_lines w (record { 0 = n })) (range_with_len j (length ats)) ≡ places_lines (classes r) frame_spot k xs
     from_lines n k j [] [] same at h waits = refl
     from_lines n k j [] (x ∷ xs) same at h waits = absurd h
@@ -72,7 +72,7 @@ module _ (Rests : Process → Proc Frame → Type 0) (Keeps : World Frame → Ty
         shift : (i : ℕ) → suc k + i ≡ k + suc i
         shift i = omega arith
 
-  pub frames_shown : KeepsCount Rests Keeps IsCode → ((m : World Frame) → Keeps m → WorldWaits m) → (w : Seen) (m : World Frame) → raw_of w.code.program ≡ r → WorldShows Rests w m → Keeps m
+  pub frames_shown : KeepsCount Rests Keeps IsCode → ((m : World Frame) → Keeps m → WorldWaits m) → (w : Seen) (m : World Frame) → raw_of w.code.program ≡ r → WorldRepresents Rests w m → Keeps m
       → memory.world_lines w ≡ places_lines (classes r) frame_spot 0 m.places
   frames_shown count waits w m text h keeps =
       let processes : w.outside.net.processes ≡ length w.places =

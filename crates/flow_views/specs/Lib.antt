@@ -1,4 +1,4 @@
 pub mod Waiting
 pub mod Views
-pub mod Told
-pub mod Shown
+pub mod Reports
+pub mod FrameLines

@@ -9,7 +9,7 @@ use Rattle.flow_meaning.specs.Frame.{Frame}
 use Rattle.flow_meaning.specs.Law.{AtRest}
 use Rattle.flow_meaning.specs.Process.{Proc}
 use Rattle.flow_meaning.specs.Views.{Unfinished, WaitingBranch, Frames, Callbacks}
-use Rattle.flow_picture.specs.Shows.{Shows}
+use Rattle.flow_picture.specs.Representing.{Represents}
 use Rattle.flow_picture.specs.Rested.{Sorted}
 use Rattle.flow_views.specs.Waiting.{InState}
 
@@ -24,5 +24,5 @@ told_callback b = record { actor = actor_id b.actor; callback = b.branch; cell =
 -- order of their numbers, and its callbacks are the branches at which these wait.
 abbrev pub ViewsShown : Type 0
 ViewsShown =
-    (r : RawTree) (h : HeapTree) (p : Proc Frame) → Shows r h p → Sorted h → AtRest p.core → InState p
+    (r : RawTree) (h : HeapTree) (p : Proc Frame) → Represents r h p → Sorted h → AtRest p.core → InState p
     → (frames_in h ≡ map told_frame (Frames p)) × (callbacks_in h ≡ map told_callback (Callbacks p))

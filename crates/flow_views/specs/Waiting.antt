@@ -14,7 +14,7 @@ use Rattle.flow_meaning.specs.Runs.{before, after}
 use Rattle.flow_meaning.specs.Frame.{Frame}
 use Rattle.flow_meaning.specs.Class.{classes}
 use Rattle.flow_meaning.specs.Views.{frame_spot}
-use Rattle.flow_picture.specs.Shows.{wait_spot}
+use Rattle.flow_picture.specs.Representing.{wait_spot}
 
 -- By its state it waits where it stands, at each suspended actor.
 abbrev pub InState : Proc Frame → Type 0

@@ -3,22 +3,22 @@
 ghost use Rattle.flow_class.specs.Classes.{RawTree};
 ghost use Rattle.flow_views.specs.Waiting.{StartWaits, EventWaits};
 ghost use Rattle.flow_views.specs.Views.{ViewsShown};
-ghost use Rattle.flow_views.specs.Told.{WorldTold};
-ghost use Rattle.flow_views.specs.Shown.{BeginningTraced, FramesFollow, FramesTraced};
+ghost use Rattle.flow_views.specs.Reports.{WorldTold};
+ghost use Rattle.flow_views.specs.FrameLines.{BeginningTraced, FramesFollow, FramesTraced};
 
 use flow_trace::out::LineOut;
 use flow_traced::laws::Boundary;
 
 /// In a run of any classes each frame that waits is, at each boundary of events, in the state of the
 /// wait at which it stands.
-pub fn frames_wait()
+pub fn waiting_frames_have_wait_states()
     ensures start { StartWaits }
     ensures event { (r : RawTree) → EventWaits r }
 {}
 
 /// The frames of a heap that shows a process at rest are the unfinished actors of the process, by their
 /// numbers, and its callbacks are the branches at which these wait.
-pub fn views_shown()
+pub fn heap_represents_views()
     ensures { ViewsShown }
 {}
 
@@ -27,7 +27,7 @@ pub fn views_shown()
 /// are the views of the world that it shows; the lines of frames and callbacks that it puts are those seen
 /// of that world; and so the lines that are put of classes in a world are what is shown of these classes, and
 /// those of a trace that has begun are a first part of that.
-pub fn frames_traced<B: Boundary, L: LineOut>()
+pub fn traces_with_frames_refine<B: Boundary, L: LineOut>()
     ensures told { (r : RawTree) → WorldTold B.rests r }
     ensures frames { (r : RawTree) → FramesFollow B.rests B.keeps B.is_code r }
     ensures traces { FramesTraced B.rests B.keeps B.is_code L.puts }

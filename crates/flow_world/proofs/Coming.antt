@@ -10,14 +10,14 @@ use Rattle.flow_meaning.specs.World as meant
 use Rattle.flow_world.specs.declared.outside.What as kept
 use Rattle.flow_world.specs.declared.outside.What.TheVariants as kept_what
 use Rattle.flow_world.specs.Changes.{is_request_of, requests_gone}
-use Rattle.flow_world.specs.Shows.{letter_at, ArrivalShows, WhatShows, EventShows, EventsShow, brings, coming, PacketsOnce}
+use Rattle.flow_world.specs.Representing.{letter_at, ArrivalRepresents, PendingRepresents, EventRepresents, EventsRepresent, brings, coming, PacketsOnce}
 use Rattle.flow_world.proofs.Letters.{same_number}
 
 -- an event shows what it did where its packet is on its way as before
-pub what_kept : (ls ms : List (ℕ × Letter)) (e : kept.What) (x : What) → ((m : ℕ) → 0 < brings m e → letter_at ms m ≡ letter_at ls m) → WhatShows ls e x → WhatShows ms e x
+pub what_kept : (ls ms : List (ℕ × Letter)) (e : kept.What) (x : What) → ((m : ℕ) → 0 < brings m e → letter_at ms m ≡ letter_at ls m) → PendingRepresents ls e x → PendingRepresents ms e x
 what_kept ls ms (kept_what.Boots p) x k h = h
 what_kept ls ms (kept_what.Rings p c) x k h = h
-what_kept ls ms (kept_what.Arrives p m) x k h = subst (λ o. ArrivalShows p.0 m o x) (sym (k m (positive (nat_eq m m) (same_number m)))) h
+what_kept ls ms (kept_what.Arrives p m) x k h = subst (λ o. ArrivalRepresents p.0 m o x) (sym (k m (positive (nat_eq m m) (same_number m)))) h
   where
     positive : (t : Bool) → t ≡ true → 0 < (if t then 1 else 0)
     positive true e = omega arith
@@ -25,7 +25,7 @@ what_kept ls ms (kept_what.Arrives p m) x k h = subst (λ o. ArrivalShows p.0 m 
 what_kept ls ms (kept_what.Answers p c a) x k h = h
 
 pub events_kept : (ls ms : List (ℕ × Letter)) (es : List (Pending kept.What)) (xs : List (Pending What)) → ((m : ℕ) → 0 < coming m es → letter_at ms m ≡ letter_at ls m)
-    → EventsShow ls es xs → EventsShow ms es xs
+    → EventsRepresent ls es xs → EventsRepresent ms es xs
 events_kept ls ms [] [] k h = h
 events_kept ls ms [] (x ∷ xs) k h = absurd h
 events_kept ls ms (e ∷ es) [] k h = absurd h
@@ -35,18 +35,18 @@ events_kept ls ms (e ∷ es) (x ∷ xs) k h = (
 )
 
 -- an event takes the same place
-same_order : (ls ms : List (ℕ × Letter)) (d e : Pending kept.What) (x y : Pending What) → EventShows ls d x → EventShows ms e y → comes_before d e ≡ comes_before x y
+same_order : (ls ms : List (ℕ × Letter)) (d e : Pending kept.What) (x y : Pending What) → EventRepresents ls d x → EventRepresents ms e y → comes_before d e ≡ comes_before x y
 same_order ls ms d e x y s t = rw (s.time, s.number, t.time, t.number) refl
 
 pub placed_shows : (ls : List (ℕ × Letter)) (d : Pending kept.What) (x : Pending What) (es : List (Pending kept.What)) (xs : List (Pending What))
-    → EventShows ls d x → EventsShow ls es xs → EventsShow ls (placed d es) (placed x xs)
+    → EventRepresents ls d x → EventsRepresent ls es xs → EventsRepresent ls (placed d es) (placed x xs)
 placed_shows ls d x [] [] s h = (s, h)
 placed_shows ls d x [] (y ∷ ys) s h = absurd h
 placed_shows ls d x (e ∷ es) [] s h = absurd h
 placed_shows ls d x (e ∷ es) (y ∷ ys) s h = by_order (comes_before d e) (comes_before x y) (same_order ls ls d e x y s h.0) (placed_shows ls d x es ys s h.1)
   where
-    by_order : (t u : Bool) → t ≡ u → EventsShow ls (placed d es) (placed x ys)
-        → EventsShow ls (if t then d ∷ e ∷ es else e ∷ placed d es) (if u then x ∷ y ∷ ys else y ∷ placed x ys)
+    by_order : (t u : Bool) → t ≡ u → EventsRepresent ls (placed d es) (placed x ys)
+        → EventsRepresent ls (if t then d ∷ e ∷ es else e ∷ placed d es) (if u then x ∷ y ∷ ys else y ∷ placed x ys)
     by_order true true q rest = (s, h)
     by_order true false q rest = absurd (cc)
     by_order false true q rest = absurd (cc)
@@ -117,25 +117,25 @@ either_order a b = by_tests (nat_eq a b) refl (nat_eq b a) refl
     by_tests false e true f = absurd (grind (arith, nat_tests, e, f))
 
 -- the timers and disk requests of a process are the same
-same_request : (ls : List (ℕ × Letter)) (p : ProcId) (e : kept.What) (x : What) → WhatShows ls e x → is_request_of p e ≡ meant.is_of p.0 x
+same_request : (ls : List (ℕ × Letter)) (p : ProcId) (e : kept.What) (x : What) → PendingRepresents ls e x → is_request_of p e ≡ meant.is_of p.0 x
 same_request ls p (kept_what.Boots q) x h = rw h refl
 same_request ls p (kept_what.Rings q c) x h = rw h (either_order q.0 p.0)
 same_request ls p (kept_what.Arrives q m) x h = by_letter (letter_at ls m) h
   where
-    by_letter : (o : _) → ArrivalShows q.0 m o x → false ≡ meant.is_of p.0 x
+    by_letter : (o : _) → ArrivalRepresents q.0 m o x → false ≡ meant.is_of p.0 x
     by_letter None h = absurd h
     by_letter (Some l) h = rw h.1 refl
 same_request ls p (kept_what.Answers q c a) x h = rw h (either_order q.0 p.0)
 
 pub gone_shows : (ls : List (ℕ × Letter)) (p : ProcId) (es : List (Pending kept.What)) (xs : List (Pending What))
-    → EventsShow ls es xs → EventsShow ls (requests_gone p es) (meant.without_requests p.0 xs)
+    → EventsRepresent ls es xs → EventsRepresent ls (requests_gone p es) (meant.without_requests p.0 xs)
 gone_shows ls p [] [] h = h
 gone_shows ls p [] (x ∷ xs) h = absurd h
 gone_shows ls p (e ∷ es) [] h = absurd h
 gone_shows ls p (e ∷ es) (x ∷ xs) h = by_test (is_request_of p e.what) (meant.is_of p.0 x.what) (same_request ls p e.what x.what h.0.what) (gone_shows ls p es xs h.1)
   where
-    by_test : (t u : Bool) → t ≡ u → EventsShow ls (requests_gone p es) (meant.without_requests p.0 xs)
-        → EventsShow ls (if not t then e ∷ requests_gone p es else requests_gone p es) (if not u then x ∷ meant.without_requests p.0 xs else meant.without_requests p.0 xs)
+    by_test : (t u : Bool) → t ≡ u → EventsRepresent ls (requests_gone p es) (meant.without_requests p.0 xs)
+        → EventsRepresent ls (if not t then e ∷ requests_gone p es else requests_gone p es) (if not u then x ∷ meant.without_requests p.0 xs else meant.without_requests p.0 xs)
     by_test true true q rest = rest
     by_test true false q rest = absurd (cc)
     by_test false true q rest = absurd (cc)

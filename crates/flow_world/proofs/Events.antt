@@ -10,7 +10,7 @@ use Rattle.flow_worldfile.specs.declared.directive.Order.{Order}
 use Rattle.flow_meaning.specs.World.{disk_of, with_disk, counted}
 use Rattle.flow_world.specs.Changes.{Surroundings}
 use Rattle.flow_world.specs.declared.outside.What as kept
-use Rattle.flow_world.specs.Shows.{EventsShow, PacketsOnce, NumbersOnce, OutsideShows}
+use Rattle.flow_world.specs.Representing.{EventsRepresent, PacketsOnce, NumbersOnce, OutsideRepresents}
 use Rattle.flow_world.specs.Laws.{LinkCut, LinkHealed, DiskServed, EventTaken, RequestsGone, first_left}
 use Rattle.flow_world.proofs.Coming.{once_left, once_gone, gone_shows}
 use Rattle.flow_world.proofs.Numbers.{numbers_gone, numbers_left}
@@ -18,8 +18,8 @@ use Rattle.flow_world.proofs.Links.{at_set, set_length, same_place, link_within,
 
 -- what doesn't count for what is outside: how many events ran, whose event it is, and the script;
 -- and the time is that of both
-pub on_time : (m : Surroundings) (o : Outside) (t u n : ℕ) (left : List (ℕ × Order)) → t ≡ u → OutsideShows m o
-    → OutsideShows (record m { time = t }) (counted u n (record o { script = left }))
+pub on_time : (m : Surroundings) (o : Outside) (t u n : ℕ) (left : List (ℕ × Order)) → t ≡ u → OutsideRepresents m o
+    → OutsideRepresents (record m { time = t }) (counted u n (record o { script = left }))
 on_time m o t u n left same s = record {
   seed = s.seed;
   words = s.words;
@@ -111,7 +111,7 @@ event_is_taken m w s = record {
   disks = s.disks;
 }
   where
-    left_shows : (es : List (Pending kept.What)) (xs : List (Pending What)) → EventsShow m.net.on_way es xs → EventsShow m.net.on_way (first_left es) (first_left xs)
+    left_shows : (es : List (Pending kept.What)) (xs : List (Pending What)) → EventsRepresent m.net.on_way es xs → EventsRepresent m.net.on_way (first_left es) (first_left xs)
     left_shows [] [] h = h
     left_shows [] (x ∷ xs) h = absurd h
     left_shows (e ∷ es) [] h = absurd h
@@ -162,7 +162,7 @@ found (y ∷ ys) (suc i) x d e = found ys i x d e
 
 pub disk_served : (m : Surroundings) (w : Outside) → DiskServed m w
 disk_served m w p request n reply s d =
-    subst (λ y. (reply ≡ (served request y.fails y.files).1) × OutsideShows n (with_disk w p.0 (served request y.fails y.files).0)) same (d.replied, shown)
+    subst (λ y. (reply ≡ (served request y.fails y.files).1) × OutsideRepresents n (with_disk w p.0 (served request y.fails y.files).0)) same (d.replied, shown)
   where
     same : d.disk ≡ disk_of w p.0
     same = sym (found m.disks p.0 d.disk _ d.there) ∙ ap (λ ds. slice_index_or ds p.0 (record { fails = 0; files = [] })) s.disks
@@ -170,8 +170,8 @@ disk_served m w p request n reply s d =
     new : Disk
     new = (served request d.disk.fails d.disk.files).0
 
-    shown : OutsideShows n (with_disk w p.0 new)
-    shown = subst (λ x. OutsideShows x (with_disk w p.0 new)) (sym d.left) (record {
+    shown : OutsideRepresents n (with_disk w p.0 new)
+    shown = subst (λ x. OutsideRepresents x (with_disk w p.0 new)) (sym d.left) (record {
       seed = s.seed;
       words = s.words;
       processes = s.processes;

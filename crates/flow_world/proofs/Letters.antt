@@ -12,7 +12,7 @@ use Rattle.flow_cancel.proofs.Noted.{at_number}
 use Rattle.flow_simnet.specs.Links.{numbered}
 use Rattle.flow_simnet.specs.declared.packet.Letter.{Letter}
 use Rattle.flow_simnet.specs.declared.packet.Packet.{Packet}
-use Rattle.flow_world.specs.Shows.{letter_at}
+use Rattle.flow_world.specs.Representing.{letter_at}
 
 pub same_number : (k : ℕ) → nat_eq k k ≡ true
 same_number k = grind (arith, nat_tests)

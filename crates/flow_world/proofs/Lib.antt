@@ -8,7 +8,7 @@ pub mod Listening
 pub mod Numbers
 pub mod MovedHosts
 pub mod MovedEvents
-pub mod MovedAmiss
+pub mod MovedStuck
 pub mod Happenings
 pub mod Putting
 pub mod Telling

@@ -13,7 +13,7 @@ use Rattle.flow_meaning.proofs.Posture.{same_number, other_number, each_number, 
 use Rattle.flow_picture.proofs.Finds.{thing_new}
 use Rattle.flow_machine.specs.Hosting.{unheard_at, unheard}
 use Rattle.flow_world.specs.declared.ports.Ports.{Ports}
-use Rattle.flow_world.specs.Ports.{Once, PortsShow}
+use Rattle.flow_world.specs.Ports.{Once, PortsRepresent}
 
 -- nothing is found, or something
 some_isnt : {A : Type 0} (a : A) → Some a ≡ None → ⊥
@@ -128,7 +128,7 @@ pub ports_opened :
     (p q : Ports) (port k : ℕ)
     → ((j : ℕ) → get nat_cmp q.streams j ≡ cond (is_at (nat_cmp port) j) (Some k) (get nat_cmp p.streams j))
     → ((j : ℕ) → get nat_cmp q.ports j ≡ cond (is_at (nat_cmp k) j) (Some port) (get nat_cmp p.ports j))
-    → (ps : Numbered ℕ) → PortsShow p ps → thing ps port ≡ None → port_of k ps ≡ None → PortsShow q (added ps port k)
+    → (ps : Numbered ℕ) → PortsRepresent p ps → thing ps port ≡ None → port_of k ps ≡ None → PortsRepresent q (added ps port k)
 ports_opened p q port k s t ps h e f = record {
   streams = each_number port (λ j. get nat_cmp q.streams j ≡ thing (added ps port k) j)
       (s port ∙ own port (Some k) (get nat_cmp p.streams port) ∙ sym (thing_new ps port k e))
@@ -143,10 +143,10 @@ pub ports_closed :
     (p q : Ports) (port k : ℕ) → Some port ≡ get nat_cmp p.ports k
     → ((j : ℕ) → get nat_cmp q.streams j ≡ cond (is_at (nat_cmp port) j) None (get nat_cmp p.streams j))
     → ((j : ℕ) → get nat_cmp q.ports j ≡ cond (is_at (nat_cmp k) j) None (get nat_cmp p.ports j))
-    → (ps : Numbered ℕ) → PortsShow p ps → PortsShow q (unheard k ps)
+    → (ps : Numbered ℕ) → PortsRepresent p ps → PortsRepresent q (unheard k ps)
 ports_closed p q port k e s t ps h =
     let f : port_of k ps ≡ Some port = sym (h.ports k) ∙ sym e in
-    subst (λ o. PortsShow q (unheard_at o ps)) (sym f) (record {
+    subst (λ o. PortsRepresent q (unheard_at o ps)) (sym f) (record {
       streams = each_number port (λ j. get nat_cmp q.streams j ≡ thing (removed ps port) j)
           (s port ∙ own port None (get nat_cmp p.streams port) ∙ sym (thing_gone ps port h.once))
           (λ j n. s j ∙ other port j None (get nat_cmp p.streams j) n ∙ h.streams j ∙ sym (thing_removed_other ps port j n));
@@ -158,15 +158,15 @@ ports_closed p q port k e s t ps h =
 
 pub ports_same :
     (p q : Ports) (k : ℕ) → None ≡ get nat_cmp p.ports k → q.streams.entries ≡ p.streams.entries → q.ports.entries ≡ p.ports.entries
-    → (ps : Numbered ℕ) → PortsShow p ps → PortsShow q (unheard k ps)
+    → (ps : Numbered ℕ) → PortsRepresent p ps → PortsRepresent q (unheard k ps)
 ports_same p q k e s t ps h =
-    subst (λ o. PortsShow q (unheard_at o ps)) (e ∙ h.ports k) (record {
+    subst (λ o. PortsRepresent q (unheard_at o ps)) (e ∙ h.ports k) (record {
       streams = λ j. subst (λ es. lookup (is_at (nat_cmp j)) es ≡ thing ps j) (sym s) (h.streams j);
       ports = λ j. subst (λ es. lookup (is_at (nat_cmp j)) es ≡ port_of j ps) (sym t) (h.ports j);
       once = h.once;
     })
 
-pub no_ports : (p : Ports) → p.streams.entries ≡ [] → p.ports.entries ≡ [] → PortsShow p []
+pub no_ports : (p : Ports) → p.streams.entries ≡ [] → p.ports.entries ≡ [] → PortsRepresent p []
 no_ports p s t = record {
   streams = λ j. ap (lookup (is_at (nat_cmp j))) s;
   ports = λ j. ap (lookup (is_at (nat_cmp j))) t;

@@ -17,7 +17,7 @@ use Rattle.flow_simdisk.specs.declared.ask.DiskAsk.{DiskAsk}
 use Rattle.flow_meaning.specs.Outside as meaning
 use Rattle.flow_machine.specs.declared.host.Burst.{Burst}
 use Rattle.flow_machine.specs.declared.host.Burst.TheVariants.{Rested, Spent as SpentBurst}
-use Rattle.flow_world.specs.declared.deed.Deed.{Deed}
+use Rattle.flow_world.specs.declared.action.EventAction.{EventAction}
 use Rattle.flow_world.specs.declared.event.Event.{Event}
 use Rattle.flow_world.specs.declared.event.Event.TheVariants.{Ran, Idle, BoundReached, Spent}
 use Rattle.flow_world.specs.declared.outside.What.{What}
@@ -38,7 +38,7 @@ module _ {A B : Type 0} (f : A → B) (puts : A → Line → Result (Unit {0}) O
   abbrev pub inside_by : Inside A → Inside B
   inside_by g = record { me = g.me; ports = g.ports; outside = g.outside; out = f g.out }
 
-  acts_by : (code : Code) (turns : ℕ) (p : ProcId) (d : Deed) (at : Place) (m : Surroundings) (a : A) (e : Burst) (left : Place) (n : Surroundings) (b : A)
+  acts_by : (code : Code) (turns : ℕ) (p : ProcId) (d : EventAction) (at : Place) (m : Surroundings) (a : A) (e : Burst) (left : Place) (n : Surroundings) (b : A)
       → Acts puts code turns p d at m a e left n b → Acts puts_there code turns p d at m (f a) e left n (f b)
   acts_by code turns p d at m a e left n b t = record {
     me = t.me;
@@ -47,7 +47,7 @@ module _ {A B : Type 0} (f : A → B) (puts : A → Line → Result (Unit {0}) O
     up = t.up;
   }
 
-  runs_unless_by : (held : Bool) (p : ProcId) (d : Deed) (w : Seen) (a : A) (e : Burst) (v : Seen) (b : A)
+  runs_unless_by : (held : Bool) (p : ProcId) (d : EventAction) (w : Seen) (a : A) (e : Burst) (v : Seen) (b : A)
       → RunsUnless puts held p d w a e v b → RunsUnless puts_there held p d w (f a) e v (f b)
   runs_unless_by true p d w a e v b t = (t.0, t.1, ap f t.2)
   runs_unless_by false p d w a e v b t =
@@ -63,7 +63,7 @@ module _ {A B : Type 0} (f : A → B) (puts : A → Line → Result (Unit {0}) O
         };
       }
 
-  runs_by : (p : ProcId) (d : Deed) (w : Seen) (a : A) (e : Burst) (v : Seen) (b : A) → Runs puts p d w a e v b → Runs puts_there p d w (f a) e v (f b)
+  runs_by : (p : ProcId) (d : EventAction) (w : Seen) (a : A) (e : Burst) (v : Seen) (b : A) → Runs puts p d w a e v b → Runs puts_there p d w (f a) e v (f b)
   runs_by p d w a e v b t = record { held = t.held; known = t.known; runs = runs_unless_by t.held p d w a e v b t.runs }
 
   killed_by : (p : ProcId) (w : Seen) (a : A) (e : Burst) (v : Seen) (b : A) → Killed puts p w a e v b → Killed puts_there p w (f a) e v (f b)

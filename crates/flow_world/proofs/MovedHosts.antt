@@ -10,7 +10,7 @@ use Rattle.flow_trace.specs.declared.line.Line.{Line}
 use Rattle.flow_code.specs.declared.program.Code.{Code}
 use Rattle.flow_eval.specs.Predefined.{natural}
 use Rattle.flow_numbered.specs.Numbered.{Numbered}
-use Rattle.flow_meaning.specs.Asks.{DiskCall, Request, Drew, Packet}
+use Rattle.flow_meaning.specs.Requests.{DiskCall, Request, Drew, Packet}
 use Rattle.flow_meaning.specs.Burst.{Host}
 use Rattle.flow_meaning.specs.Effects.{between, is_port, judged}
 use Rattle.flow_steps.specs.declared.call.Call.{Call}
@@ -25,11 +25,11 @@ use Rattle.flow_machine.specs.Hosting.{Serves}
 use Rattle.flow_machine.specs.Serving.{Thrown, DrawServed, DelayServed, DiskServed, PortOpened, ListenServed, SendServed, Served, ServedIf, may_send}
 use Rattle.flow_machine.specs.Bursts.{Bursts, rests, runs_out, asks, MainBursts}
 use Rattle.flow_machine.specs.declared.host.RunFault.{RunFault}
-use Rattle.flow_machine.specs.Breaking.{DrawBroke, SendBroke, Unwritten, ServingBroke, ServingBrokeIf, BreaksOff, no_memory, strays, serving, further}
-use Rattle.flow_machine.specs.Breaking.{MainBreaksOff, uncalled, main_strays, untold, called, BringingBreaksOff, unbrought, bringing_strays, is_brought}
-use Rattle.flow_world.specs.declared.deed.Deed.{Deed}
-use Rattle.flow_world.specs.declared.deed.Deed.TheVariants.{Boots, Stops, Delivers, Brings}
-use Rattle.flow_world.specs.Deeds.{Does, Follows}
+use Rattle.flow_machine.specs.Breaking.{DrawBroke, SendBroke, Unwritten, ServingBroke, ServingBrokeIf, BreaksOff, no_memory, gets_stuck, serving, further}
+use Rattle.flow_machine.specs.Breaking.{MainBreaksOff, uncalled, main_stuck, untold, called, BringingBreaksOff, unbrought, bringing_stuck, is_brought}
+use Rattle.flow_world.specs.declared.action.EventAction.{EventAction}
+use Rattle.flow_world.specs.declared.action.EventAction.TheVariants.{Boots, Stops, Delivers, Brings}
+use Rattle.flow_world.specs.Actions.{Does, BurstsAfter}
 
 module _ {A B W : Type 0} (f : A → B) (serves : Host W) (shows : B → Numbered ℕ → W → Type 0) (wrote : B → List Line → B → Type 0)
     (written : A → List Line → A → Type 0) (as_well : (a b : A) (ls : List Line) → written a ls b → wrote (f a) ls (f b)) where
@@ -102,14 +102,14 @@ module _ {A B W : Type 0} (f : A → B) (serves : Host W) (shows : B → Numbere
     bursts = bursts_by code n t.told q t.between b e t.bursts;
   }
 
-  follows_by : (code : Code) (d : Deed) (m : Machine) (p q : Process) (a b : A) (e : Burst)
-      → Follows serves shown written code d m p a e q b → Follows serves shows wrote code d m p (f a) e q (f b)
+  follows_by : (code : Code) (d : EventAction) (m : Machine) (p q : Process) (a b : A) (e : Burst)
+      → BurstsAfter serves shown written code d m p a e q b → BurstsAfter serves shows wrote code d m p (f a) e q (f b)
   follows_by code Boots m p q a b e t = main_by code m.processes m.me p q a b e t
   follows_by code Stops m p q a b e t = bursts_by code m.processes _ q a b e t
   follows_by code (Delivers k o) m p q a b e t = bursts_by code m.processes _ q a b e t
   follows_by code (Brings k v) m p q a b e t = bursts_by code m.processes _ q a b e t
 
-  pub does_by : (code : Code) (now turns : ℕ) (d : Deed) (m : Machine) (a : A) (e : Burst) (n : Machine) (b : A)
+  pub does_by : (code : Code) (now turns : ℕ) (d : EventAction) (m : Machine) (a : A) (e : Burst) (n : Machine) (b : A)
       → Does serves shown written code now turns d m a e n b → Does serves shows wrote code now turns d m (f a) e n (f b)
   does_by code now turns d m a e n b t = record {
     follows = follows_by code d m _ n.process a b e t.follows;
@@ -118,7 +118,7 @@ module _ {A B W : Type 0} (f : A → B) (serves : Host W) (shows : B → Numbere
   }
 
   -- the same, where the host is seen as this after it
-  pub does_to : (code : Code) (now turns : ℕ) (d : Deed) (m : Machine) (a : A) (e : Burst) (n : Machine) (b : A) (left : B) → f b ≡ left
+  pub does_to : (code : Code) (now turns : ℕ) (d : EventAction) (m : Machine) (a : A) (e : Burst) (n : Machine) (b : A) (left : B) → f b ≡ left
       → Does serves shown written code now turns d m a e n b → Does serves shows wrote code now turns d m (f a) e n left
   does_to code now turns d m a e n b left same t = subst (λ h. Does serves shows wrote code now turns d m (f a) e n h) same (does_by code now turns d m a e n b t)
 
@@ -151,22 +151,22 @@ module _ {A B W : Type 0} (f : A → B) (serves : Host W) (shows : B → Numbere
     pub breaks_by : (code : Code) (n : ℕ) (p : Process) (a b : A) (fault : RunFault)
         → BreaksOff serves shown written written_in_part code n p a fault b → BreaksOff serves shows wrote broke code n p (f a) fault (f b)
     breaks_by code n p a _ _ (no_memory _ _) = no_memory p (f a)
-    breaks_by code n p a _ _ (strays _ _ t) = strays p (f a) t
-    breaks_by code n p a b fault (serving _ q _ _ _ t broken amiss) = serving p q (f a) (f b) fault t (serving_broke_by q.asked a b broken) amiss
+    breaks_by code n p a _ _ (gets_stuck _ _ t) = gets_stuck p (f a) t
+    breaks_by code n p a b fault (serving _ q _ _ _ t broken stuck) = serving p q (f a) (f b) fault t (serving_broke_by q.asked a b broken) stuck
     breaks_by code n p a c fault (further _ q r _ b _ _ t served rest) =
         further p q r (f a) (f b) (f c) fault t (served_if_by n q.asked (unasked q) r a b served) (breaks_by code n r b c fault rest)
 
     pub main_breaks_by : (code : Code) (n : ℕ) (me : ProcId) (p : Process) (a b : A) (fault : RunFault)
         → MainBreaksOff serves shown written written_in_part code n me p a fault b → MainBreaksOff serves shows wrote broke code n me p (f a) fault (f b)
     main_breaks_by code n me p a _ _ uncalled = uncalled
-    main_breaks_by code n me p a _ _ (main_strays t) = main_strays t
-    main_breaks_by code n me p a b fault (untold q _ _ t broken amiss) = untold q (f b) fault t (serving_broke_by q.asked a b broken) amiss
+    main_breaks_by code n me p a _ _ (main_stuck t) = main_stuck t
+    main_breaks_by code n me p a b fault (untold q _ _ t broken stuck) = untold q (f b) fault t (serving_broke_by q.asked a b broken) stuck
     main_breaks_by code n me p a c fault (called q r b _ _ t served rest) =
         called q r (f b) (f c) fault t (served_if_by n q.asked (unasked q) r a b served) (breaks_by code n r b c fault rest)
 
-    pub bringing_breaks_by : (code : Code) (n : ℕ) (amiss : Type 0) (brought : Process) (a b : A) (fault : RunFault)
-        → BringingBreaksOff serves shown written written_in_part code n amiss brought a fault b
-        → BringingBreaksOff serves shows wrote broke code n amiss brought (f a) fault (f b)
-    bringing_breaks_by code n amiss brought a _ _ unbrought = unbrought
-    bringing_breaks_by code n amiss brought a _ _ (bringing_strays t) = bringing_strays t
-    bringing_breaks_by code n amiss brought a b fault (is_brought _ _ t) = is_brought fault (f b) (breaks_by code n brought a b fault t)
+    pub bringing_breaks_by : (code : Code) (n : ℕ) (stuck : Type 0) (brought : Process) (a b : A) (fault : RunFault)
+        → BringingBreaksOff serves shown written written_in_part code n stuck brought a fault b
+        → BringingBreaksOff serves shows wrote broke code n stuck brought (f a) fault (f b)
+    bringing_breaks_by code n stuck brought a _ _ unbrought = unbrought
+    bringing_breaks_by code n stuck brought a _ _ (bringing_stuck t) = bringing_stuck t
+    bringing_breaks_by code n stuck brought a b fault (is_brought _ _ t) = is_brought fault (f b) (breaks_by code n brought a b fault t)

@@ -6,7 +6,7 @@ use Rattle.flow_base.specs.declared.ids.ProcId.{ProcId}
 use Rattle.flow_timers.specs.Pending.{Pending, comes_before, placed, without_event}
 use Rattle.flow_world.specs.declared.outside.What as kept
 use Rattle.flow_world.specs.Changes.{is_request_of, requests_gone, request_keys, without_events, Surroundings, without_keys, without_requests}
-use Rattle.flow_world.specs.Shows.{having, NumbersOnce}
+use Rattle.flow_world.specs.Representing.{having, NumbersOnce}
 
 -- one event more, with the next number, and some fewer
 having_placed : (n : ℕ) (d : Pending kept.What) (es : List (Pending kept.What)) → having n (placed d es) ≡ (if nat_eq n d.number then 1 else 0) + having n es

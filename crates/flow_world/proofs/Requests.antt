@@ -17,7 +17,7 @@ use Rattle.flow_world.specs.Changes.{Surroundings}
 use Rattle.flow_world.specs.declared.outside.What as kept
 use Rattle.flow_world.specs.declared.outside.What.TheVariants as kept_what
 use Rattle.flow_world.specs.Changes as does
-use Rattle.flow_world.specs.Shows.{letter_at, ArrivalShows, WhatShows, brings, coming, OutsideShows}
+use Rattle.flow_world.specs.Representing.{letter_at, ArrivalRepresents, PendingRepresents, brings, coming, OutsideRepresents}
 use Rattle.flow_world.specs.Laws.{WordDrawn, TimerAsked, DiskAsked, PacketSent, packet_sent, packet_lines, with_arrival, fate_lines}
 use Rattle.flow_world.proofs.Numbers.{numbers_placed}
 use Rattle.flow_world.proofs.Letters.{letter_put, letter_beside}
@@ -25,7 +25,7 @@ use Rattle.flow_world.proofs.Coming.{events_kept, placed_shows, once_placed, onc
 
 -- one more pending event that brings no packet
 pub pending_more : (m : Surroundings) (w : Outside) (time : ℕ) (e : kept.What) (x : What) → ((n : ℕ) → brings n e ≡ 0)
-    → ((ls : _) → WhatShows ls e x) → OutsideShows m w → OutsideShows (does.with_pending m time e) (with_pending w time x)
+    → ((ls : _) → PendingRepresents ls e x) → OutsideRepresents m w → OutsideRepresents (does.with_pending m time e) (with_pending w time x)
 pending_more m w time e x none what s = record {
   seed = s.seed;
   words = s.words;
@@ -45,7 +45,7 @@ pending_more m w time e x none what s = record {
   disks = s.disks;
 }
 
-next_is : (m : Surroundings) (w : Outside) → OutsideShows m w → next_word m.draws ≡ word_in w 0
+next_is : (m : Surroundings) (w : Outside) → OutsideRepresents m w → next_word m.draws ≡ word_in w 0
 next_is m w s = rw (s.seed, s.words, s.drawn) (ap (word_at w.file.seed w.file.words) (omega arith))
 
 pub word_drawn : (m : Surroundings) (w : Outside) → WordDrawn m w
@@ -76,7 +76,7 @@ timer_asked m w p k time s me = pending_more m w time _ _ (λ n. refl) (λ ls. r
 
 pub disk_is_asked : (m : Surroundings) (w : Outside) → DiskAsked m w
 disk_is_asked m w p k a s me =
-    subst (λ t. OutsideShows (does.with_pending (does.with_word m) t (kept_what.Answers p k a)) (with_pending (with_drawn w 1) time (Answers w.active k.0 (call_of a))))
+    subst (λ t. OutsideRepresents (does.with_pending (does.with_word m) t (kept_what.Answers p k a)) (with_pending (with_drawn w 1) time (Answers w.active k.0 (call_of a))))
     (sym delayed)
     (pending_more (does.with_word m) (with_drawn w 1) time (kept_what.Answers p k a) (Answers w.active k.0 (call_of a)) (λ n. refl) (λ ls. rw me refl) (word_drawn m w s).1)
   where
@@ -87,15 +87,15 @@ disk_is_asked m w p k a s me =
     delayed = ap (λ t. t + does.next_delay m) s.time ∙ ap (λ d. w.time + table.draw_in d (next_word m.draws)) s.diskdelay ∙ ap (λ x. w.time + table.draw_in w.file.diskdelay x) (next_is m w s)
 
 -- what becomes of a packet is the same
-fate_is : (m : Surroundings) (w : Outside) (p q : ProcId) → OutsideShows m w → p.0 ≡ w.active → p.0 < w.file.processes → q.0 < w.file.processes
+fate_is : (m : Surroundings) (w : Outside) (p q : ProcId) → OutsideRepresents m w → p.0 ≡ w.active → p.0 < w.file.processes → q.0 < w.file.processes
     → does.fate_of m p q ≡ fate_in w q.0
 fate_is m w p q s me h i =
     ap (λ c. table.fate_by c m.net.loss m.net.latency m.time (table.word_in m.draws)) (s.cuts p.0 q.0 h i ∙ ap (λ a. is_cut w.cuts a q.0) me)
     ∙ rw (s.loss, s.latency, s.time, s.seed, s.words, s.drawn) refl
 
 -- a packet was sent that doesn't come
-lost_packet : (m : Surroundings) (w : Outside) (taken : ℕ) → OutsideShows m w
-    → OutsideShows (record m { net = record m.net { sent = suc m.net.sent }; draws = record m.draws { used = m.draws.used + taken } }) (record w { sent = suc w.sent; drawn = w.drawn + taken })
+lost_packet : (m : Surroundings) (w : Outside) (taken : ℕ) → OutsideRepresents m w
+    → OutsideRepresents (record m { net = record m.net { sent = suc m.net.sent }; draws = record m.draws { used = m.draws.used + taken } }) (record w { sent = suc w.sent; drawn = w.drawn + taken })
 lost_packet m w taken s = record {
   seed = s.seed;
   words = s.words;
@@ -116,8 +116,8 @@ lost_packet m w taken s = record {
 }
 
 -- a packet was sent that comes at its time
-coming_packet : (m : Surroundings) (w : Outside) (p q : ProcId) (port : ℕ) (text : List ℕ) (time : ℕ) → OutsideShows m w → p.0 ≡ w.active
-    → OutsideShows (with_arrival (At time) q (suc m.net.sent) (does.sent_by (At time) (does.letter p q port text) m))
+coming_packet : (m : Surroundings) (w : Outside) (p q : ProcId) (port : ℕ) (text : List ℕ) (time : ℕ) → OutsideRepresents m w → p.0 ≡ w.active
+    → OutsideRepresents (with_arrival (At time) q (suc m.net.sent) (does.sent_by (At time) (does.letter p q port text) m))
     (with_pending (with_drawn (record w { sent = suc w.sent }) 2) time (Arrives (suc w.sent) w.active q.0 port text))
 coming_packet m w p q port text time s me = record {
   seed = s.seed;
@@ -131,7 +131,7 @@ coming_packet m w p q port text time s me = record {
   drawn = ap (λ n. n + 2) s.drawn;
   made = ap suc s.made;
   events = placed_shows on_way _ _ m.timers.pending w.events.pending
-      (record { time = refl; number = ap suc s.made; what = subst (λ o. ArrivalShows q.0 (suc m.net.sent) o (Arrives (suc w.sent) w.active q.0 port text)) (sym there) (refl, arrival) })
+      (record { time = refl; number = ap suc s.made; what = subst (λ o. ArrivalRepresents q.0 (suc m.net.sent) o (Arrives (suc w.sent) w.active q.0 port text)) (sym there) (refl, arrival) })
       (events_kept m.net.on_way on_way m.timers.pending w.events.pending others s.events);
   packets = once_new m.net.sent time (suc m.timers.made) q m.timers.pending s.packets;
   numbers = numbers_placed m.timers.made _ m.timers.pending refl s.numbers;
@@ -158,7 +158,7 @@ coming_packet m w p q port text time s me = record {
 
 pub packet_is_sent : (m : Surroundings) (w : Outside) → PacketSent m w
 packet_is_sent m w p q port text s me h i =
-    subst (λ g. (packet_lines m p q port text ≡ (line.Send (suc w.sent) (process_id q.0) port text ∷ (outcome g).0)) × OutsideShows (packet_sent m p q port text) (outcome g).1)
+    subst (λ g. (packet_lines m p q port text ≡ (line.Send (suc w.sent) (process_id q.0) port text ∷ (outcome g).0)) × OutsideRepresents (packet_sent m p q port text) (outcome g).1)
     (fate_is m w p q s me h i) (by_fate (does.fate_of m p q))
   where
     outcome : Fate → List Line × Outside
@@ -166,7 +166,7 @@ packet_is_sent m w p q port text s me h i =
 
     by_fate : (f : Fate)
         → ((line.Send (suc m.net.sent) q port text ∷ fate_lines f (suc m.net.sent)) ≡ (line.Send (suc w.sent) (process_id q.0) port text ∷ (outcome f).0))
-        × OutsideShows (with_arrival f q (suc m.net.sent) (does.sent_by f (does.letter p q port text) m)) (outcome f).1
-    by_fate Cut = (rw s.sent refl, subst (λ n. OutsideShows (with_arrival Cut q (suc m.net.sent) (does.sent_by Cut (does.letter p q port text) m)) (record w { sent = suc w.sent; drawn = n })) (omega arith) (lost_packet m w 0 s))
+        × OutsideRepresents (with_arrival f q (suc m.net.sent) (does.sent_by f (does.letter p q port text) m)) (outcome f).1
+    by_fate Cut = (rw s.sent refl, subst (λ n. OutsideRepresents (with_arrival Cut q (suc m.net.sent) (does.sent_by Cut (does.letter p q port text) m)) (record w { sent = suc w.sent; drawn = n })) (omega arith) (lost_packet m w 0 s))
     by_fate Drawn = (rw s.sent refl, lost_packet m w 1 s)
     by_fate (At time) = (rw s.sent refl, coming_packet m w p q port text time s me)

@@ -17,15 +17,15 @@ use Rattle.flow_simdisk.specs.declared.ask.DiskAsk.{DiskAsk}
 use Rattle.flow_machine.specs.Requests.{call_of}
 use Rattle.flow_numbered.specs.Numbered.{Numbered, thing, added}
 use Rattle.flow_meaning.specs.Dropping.{port_of}
-use Rattle.flow_meaning.specs.Asks.{Request, Drew, Timer, Packet, Disks}
+use Rattle.flow_meaning.specs.Requests.{Request, Drew, Timer, Packet, Disks}
 use Rattle.flow_meaning.specs.Outside.{Outside, serve, supply}
 use Rattle.flow_meaning.specs.Outside as meaning
 use Rattle.flow_world.specs.declared.ports.Ports.{Ports}
 use Rattle.flow_world.specs.declared.outside.What.TheVariants as kept
 use Rattle.flow_world.specs.Changes.{Surroundings, with_pending, with_word, next_delay, fate_of, letter, sent_by}
 use Rattle.flow_world.specs.Laws.{fate_lines, with_arrival, packet_sent, packet_lines, disk_asked}
-use Rattle.flow_world.specs.Ports.{PortsShow}
-use Rattle.flow_world.specs.Around.{AroundShows, Puts, no_line, more_lines}
+use Rattle.flow_world.specs.Ports.{PortsRepresent}
+use Rattle.flow_world.specs.Around.{SurroundingsRepresent, Puts, no_line, more_lines}
 use Rattle.flow_world.proofs.Requests.{word_drawn, timer_asked, packet_is_sent, disk_is_asked}
 
 -- the process of the event stays the same
@@ -42,12 +42,12 @@ handed_on P (Err x) s e h = tt
 module _ {A : Type 0} (puts : A → Line → Result (Unit {0}) OutFault → A → Type 0) (me : ProcId) (p : Ports) (m : Surroundings) where
   -- a request is served: its lines are put, and what is outside then shows
   abbrev pub ServedTo : Request → A → A → Surroundings → Type 0
-  ServedTo r o o1 n = (ps : Numbered ℕ) (w : Outside) → AroundShows me p m ps w → Puts puts o (serve r w).0 o1 × AroundShows me p n ps (serve r w).1
+  ServedTo r o o1 n = (ps : Numbered ℕ) (w : Outside) → SurroundingsRepresent me p m ps w → Puts puts o (serve r w).0 o1 × SurroundingsRepresent me p n ps (serve r w).1
 
   -- a line
   pub line_written :
       (r : Result (Unit {0}) OutFault) (o o1 : A) (l : Line) → puts o l r o1
-      → OnOk r (Puts puts o (l ∷ []) o1 × ((ps : Numbered ℕ) (w : Outside) → AroundShows me p m ps w → AroundShows me p m ps w))
+      → OnOk r (Puts puts o (l ∷ []) o1 × ((ps : Numbered ℕ) (w : Outside) → SurroundingsRepresent me p m ps w → SurroundingsRepresent me p m ps w))
   line_written (Ok done) o o1 l h = (more_lines h no_line, λ ps w s. s)
   line_written (Err e) o o1 l h = tt
 
@@ -55,9 +55,9 @@ module _ {A : Type 0} (puts : A → Line → Result (Unit {0}) OutFault → A �
   pub word_served :
       (r : Result ℤ NoMemory) (o : A) (n : Surroundings) (lo : ℤ) (width : ℕ)
       → IfOk r (λ x. x ≡ scaled lo width (next_word m.draws)) → OnOk r (n ≡ with_word m)
-      → IfOk r (λ x. ServedTo Drew o o n × ((ps : Numbered ℕ) (w : Outside) → AroundShows me p m ps w → x ≡ scaled lo width (supply w).word))
+      → IfOk r (λ x. ServedTo Drew o o n × ((ps : Numbered ℕ) (w : Outside) → SurroundingsRepresent me p m ps w → x ≡ scaled lo width (supply w).word))
   word_served (Ok x) o n lo width d e = (
-    λ ps w h. (no_line, subst (λ z. AroundShows me p z ps (serve Drew w).1) (sym e) (record { outside = (word_drawn m w h.outside).1; active = h.active; ports = h.ports })),
+    λ ps w h. (no_line, subst (λ z. SurroundingsRepresent me p z ps (serve Drew w).1) (sym e) (record { outside = (word_drawn m w h.outside).1; active = h.active; ports = h.ports })),
     λ ps w h. d ∙ ap (scaled lo width) (word_drawn m w h.outside).0,
   )
   word_served (Err x) o n lo width d e = tt
@@ -68,7 +68,7 @@ module _ {A : Type 0} (puts : A → Line → Result (Unit {0}) OutFault → A �
       → OnOk r (ServedTo (Timer k.0 time) o o n)
   timer_served (Ok done) o n k time e = λ ps w h. (
     no_line,
-    subst (λ z. AroundShows me p z ps (serve (Timer k.0 time) w).1) (sym e)
+    subst (λ z. SurroundingsRepresent me p z ps (serve (Timer k.0 time) w).1) (sym e)
         (record { outside = timer_asked m w me k time h.outside h.active; active = h.active; ports = h.ports }),
   )
   timer_served (Err x) o n k time e = tt
@@ -82,7 +82,7 @@ module _ {A : Type 0} (puts : A → Line → Result (Unit {0}) OutFault → A �
       let same : n ≡ disk_asked m me k a =
       e ∙ ap (λ z. with_pending z (z.time + delay) (kept.Answers me k a)) b ∙ ap (λ t. with_pending (with_word m) (m.time + t) (kept.Answers me k a)) d in (
         no_line,
-        subst (λ z. AroundShows me p z ps (serve (Disks k.0 (call_of a)) w).1) (sym same)
+        subst (λ z. SurroundingsRepresent me p z ps (serve (Disks k.0 (call_of a)) w).1) (sym same)
             (record { outside = disk_is_asked m w me k a h.outside h.active; active = h.active; ports = h.ports }),
       )
   disk_served (Err x) o n between k a delay d b e = tt
@@ -90,19 +90,19 @@ module _ {A : Type 0} (puts : A → Line → Result (Unit {0}) OutFault → A �
   -- a port
   pub port_opened :
       (r : Result (Unit {0}) NoMemory) (o : A) (q : Ports) (port k : ℕ)
-      → OnOk r ((ps : Numbered ℕ) → PortsShow p ps → thing ps port ≡ None → port_of k ps ≡ None → PortsShow q (added ps port k))
+      → OnOk r ((ps : Numbered ℕ) → PortsRepresent p ps → thing ps port ≡ None → port_of k ps ≡ None → PortsRepresent q (added ps port k))
       → OnOk r (Puts puts o [] o
-      × ((ps : Numbered ℕ) (w : Outside) → AroundShows me p m ps w → thing ps port ≡ None → port_of k ps ≡ None
-      → AroundShows me q m (added ps port k) w))
+      × ((ps : Numbered ℕ) (w : Outside) → SurroundingsRepresent me p m ps w → thing ps port ≡ None → port_of k ps ≡ None
+      → SurroundingsRepresent me q m (added ps port k) w))
   port_opened (Ok done) o q port k f = (no_line, λ ps w h t u. record { outside = h.outside; active = h.active; ports = f ps h.ports t u })
   port_opened (Err x) o q port k f = tt
 
   -- a packet: its line, and what becomes of it
   module _ (q : ProcId) (port : ℕ) (text : List ℕ) (mine : me.0 < m.net.processes) (theirs : q.0 < m.net.processes) where
     packet_shown :
-        (ps : Numbered ℕ) (w : Outside) → AroundShows me p m ps w
+        (ps : Numbered ℕ) (w : Outside) → SurroundingsRepresent me p m ps w
         → (packet_lines m me q port text ≡ (serve (Packet q.0 port text) w).0)
-        × AroundShows me p (packet_sent m me q port text) ps (serve (Packet q.0 port text) w).1
+        × SurroundingsRepresent me p (packet_sent m me q port text) ps (serve (Packet q.0 port text) w).1
     packet_shown ps w h =
         let s = packet_is_sent m w me q port text h.outside h.active (subst (λ n. me.0 < n) h.outside.processes mine) (subst (λ n. q.0 < n) h.outside.processes theirs) in
         let v : Outside = record w { sent = suc w.sent } in
@@ -121,7 +121,7 @@ module _ {A : Type 0} (puts : A → Line → Result (Unit {0}) OutFault → A �
         let left : packet_sent m me q port text ≡ n =
         ap (λ j. with_arrival (fate_of m me q) q j (sent_by (fate_of m me q) (letter me q port text) m)) next
         ∙ ap (λ x. with_arrival x q number (sent_by x (letter me q port text) m)) (sym g) ∙ sym same in
-        (subst (λ ls. Puts puts o ls o2) (sym lines ∙ s.0) (more_lines sent rest), subst (λ z. AroundShows me p z ps (serve (Packet q.0 port text) w).1) left s.1)
+        (subst (λ ls. Puts puts o ls o2) (sym lines ∙ s.0) (more_lines sent rest), subst (λ z. SurroundingsRepresent me p z ps (serve (Packet q.0 port text) w).1) left s.1)
 
     -- over a cut link, lost by a draw, and on its way
     pub packet_cut :

@@ -8,10 +8,10 @@ use Rattle.flow_base.specs.declared.fault.OutFault.{OutFault}
 use Rattle.flow_base.specs.declared.fault.OutFault.TheVariants as put
 use Rattle.flow_trace.specs.declared.line.Line.{Line}
 use Rattle.flow_machine.specs.declared.host.RunFault.{RunFault}
-use Rattle.flow_machine.specs.declared.host.RunFault.TheVariants.{Failed, OutOfMemory, Astray}
+use Rattle.flow_machine.specs.declared.host.RunFault.TheVariants.{Failed, OutOfMemory, Stuck}
 use Rattle.flow_machine.specs.Cause.{RunCause}
 use Rattle.flow_world.specs.Around.{Puts, no_line, more_lines}
-use Rattle.flow_world.specs.Telling.{Telling, TellsAfter, tells, whole, failed, unless_failed}
+use Rattle.flow_world.specs.FaultedLines.{Telling, TellsAfter, tells, whole, failed, unless_failed}
 
 module _ {A : Type 0} (puts : A → Line → Result (Unit {0}) OutFault → A → Type 0) where
   -- a line that was put, and one that failed
@@ -46,11 +46,11 @@ module _ {T : Type 0} where
   put_failed (Err f) fault c e = absurd (nothing_failed (Err f) c e)
 
   -- what went astray didn't fail
-  pub strayed : (r result : Result T RunFault) (fault : Option OutFault) → result ≡ unless_failed r fault → IsErrOf result Astray → IsErrOf r Astray
-  strayed (Ok x) result None h e = let a : Ok x ≡ Err Astray = sym h ∙ e in absurd (cc (a))
-  strayed (Ok x) result (Some put.Failed) h e = let a : Err Failed ≡ Err Astray = sym h ∙ e in absurd (cc (a))
-  strayed (Ok x) result (Some put.OutOfMemory) h e = let a : Err OutOfMemory ≡ Err Astray = sym h ∙ e in absurd (cc (a))
-  strayed (Err f) result fault h e = sym h ∙ e
+  pub got_stuck : (r result : Result T RunFault) (fault : Option OutFault) → result ≡ unless_failed r fault → IsErrOf result Stuck → IsErrOf r Stuck
+  got_stuck (Ok x) result None h e = let a : Ok x ≡ Err Stuck = sym h ∙ e in absurd (cc (a))
+  got_stuck (Ok x) result (Some put.Failed) h e = let a : Err Failed ≡ Err Stuck = sym h ∙ e in absurd (cc (a))
+  got_stuck (Ok x) result (Some put.OutOfMemory) h e = let a : Err OutOfMemory ≡ Err Stuck = sym h ∙ e in absurd (cc (a))
+  got_stuck (Err f) result fault h e = sym h ∙ e
 
   -- what holds where an answer is good
   pub if_ok : (P : Type 0) (r : Result T RunFault) → OnOk r P → IfOk r (λ x. P)

@@ -7,8 +7,8 @@ use Rattle.flow_numbered.specs.Numbered.{Numbered}
 use Rattle.flow_meaning.specs.Outside.{Outside}
 use Rattle.flow_world.specs.declared.ports.Ports.{Ports}
 use Rattle.flow_world.specs.Changes.{Surroundings}
-use Rattle.flow_world.specs.Shows.{OutsideShows}
-use Rattle.flow_world.specs.Ports.{PortsShow}
+use Rattle.flow_world.specs.Representing.{OutsideRepresents}
+use Rattle.flow_world.specs.Ports.{PortsRepresent}
 
 -- a process in its event: its number, its ports, what is outside, and where its lines go
 pub record Inside (A : Type 0) : Type 0 where
@@ -18,10 +18,10 @@ pub record Inside (A : Type 0) : Type 0 where
   pub out : A
 
 -- the process is the one of the event, and its ports and what is outside show
-pub record AroundShows (me : ProcId) (p : Ports) (m : Surroundings) (ps : Numbered ℕ) (w : Outside) : Type 0 where
-  pub outside : OutsideShows m w
+pub record SurroundingsRepresent (me : ProcId) (p : Ports) (m : Surroundings) (ps : Numbered ℕ) (w : Outside) : Type 0 where
+  pub outside : OutsideRepresents m w
   pub active : me.0 ≡ w.active
-  pub ports : PortsShow p ps
+  pub ports : PortsRepresent p ps
 
 -- lines are put, one after another
 pub data Puts {A : Type 0} (puts : A → Line → Result (Unit {0}) OutFault → A → Type 0) : A → List Line → A → Type 0 where
@@ -29,7 +29,7 @@ pub data Puts {A : Type 0} (puts : A → Line → Result (Unit {0}) OutFault →
   more_lines : {a b c : A} {l : Line} {ls : List Line} → puts a l (Ok tt) b → Puts puts b ls c → Puts puts a (l ∷ ls) c
 
 abbrev pub shows : {A : Type 0} → Inside A → Numbered ℕ → Outside → Type 0
-shows h ps w = AroundShows h.me h.ports h.outside ps w
+shows h ps w = SurroundingsRepresent h.me h.ports h.outside ps w
 
 abbrev pub wrote : {A : Type 0} → (A → Line → Result (Unit {0}) OutFault → A → Type 0) → Inside A → List Line → Inside A → Type 0
 wrote puts g ls h = Puts puts g.out ls h.out

@@ -35,8 +35,8 @@ use Rattle.flow_steps.specs.Doing.{vanished}
 use Rattle.flow_machine.specs.Requests.{call_of}
 use Rattle.flow_machine.specs.declared.host.Burst.{Burst}
 use Rattle.flow_machine.specs.declared.host.Burst.TheVariants.{Rested, Spent as SpentBurst}
-use Rattle.flow_world.specs.declared.deed.Deed.{Deed}
-use Rattle.flow_world.specs.declared.deed.Deed.TheVariants.{Boots, Stops, Delivers, Brings}
+use Rattle.flow_world.specs.declared.action.EventAction.{EventAction}
+use Rattle.flow_world.specs.declared.action.EventAction.TheVariants.{Boots, Stops, Delivers, Brings}
 use Rattle.flow_world.specs.declared.event.Event.{Event}
 use Rattle.flow_world.specs.declared.event.Event.TheVariants.{Ran, Idle, BoundReached, Spent}
 use Rattle.flow_world.specs.declared.outside.What.{What}
@@ -44,12 +44,12 @@ use Rattle.flow_world.specs.declared.outside.What.TheVariants as what
 use Rattle.flow_world.specs.declared.place.Place.{Place}
 use Rattle.flow_world.specs.declared.ports.Ports.{Ports}
 use Rattle.flow_world.specs.Around.{Inside, Puts, shows, wrote}
-use Rattle.flow_world.specs.Brought.{answer_line}
+use Rattle.flow_world.specs.Answers.{answer_line}
 use Rattle.flow_world.specs.Changes.{Surroundings, DiskServes, DiskLoses, with_disk, with_events, without_requests}
-use Rattle.flow_world.specs.Deeds.{Does, holds_already, up_after}
+use Rattle.flow_world.specs.Actions.{Does, holds_already, up_after}
 use Rattle.flow_world.specs.Ending.{Seen, next}
-use Rattle.flow_world.specs.Ports.{PortsShow}
-use Rattle.flow_world.specs.Shows.{NumbersOnce, letter_at}
+use Rattle.flow_world.specs.Ports.{PortsRepresent}
+use Rattle.flow_world.specs.Representing.{NumbersOnce, letter_at}
 
 -- the world with something else outside, other links, and without the packet of a number on its way
 abbrev pub with_outside : Surroundings → Seen → Seen
@@ -75,7 +75,7 @@ ends SpentBurst w = w
 
 -- the stream that takes a packet for a port, if any: none where the process is down or nobody listens
 abbrev pub Heard : Place → (port : ℕ) → Option CellId → Type 0
-Heard at port heard = (ps : Numbered ℕ) → PortsShow at.ports ps → option_map (λ k. k.0) heard ≡ thing ps port
+Heard at port heard = (ps : Numbered ℕ) → PortsRepresent at.ports ps → option_map (λ k. k.0) heard ≡ thing ps port
 
 abbrev pub HeardIfUp : (up : Bool) → Place → (port : ℕ) → Option CellId → Type 0
 HeardIfUp true at port heard = Heard at port heard
@@ -91,7 +91,7 @@ pub record Gone (before after : Place) : Type 0 where
   pub vanished : after.machine.process ≡ vanished before.machine.process
   pub me : after.machine.me ≡ before.machine.me
   pub processes : after.machine.processes ≡ before.machine.processes
-  pub ports : PortsShow after.ports []
+  pub ports : PortsRepresent after.ports []
 
 pub record Vanishes (p : ProcId) (w v : Seen) : Type 0 where
   pub place : Place
@@ -111,14 +111,14 @@ pub record Fails (p : ProcId) (count : ℕ) (w v : Seen) : Type 0 where
   pub left : v ≡ with_outside (with_disk p.0 (record disk { fails = count }) w.outside) w
 
 -- whether a process of the world has nothing to do for a deed
-pub record HeldAt (p : ProcId) (d : Deed) (places : List Place) (held : Bool) : Type 0 where
+pub record HeldAt (p : ProcId) (d : EventAction) (places : List Place) (held : Bool) : Type 0 where
   pub at : Place
   pub there : slice_get places p.0 ≡ Some at
   pub held_is : held ≡ holds_already d at.machine
 
 module _ {A : Type 0} (puts : A → Line → Result (Unit {0}) OutFault → A → Type 0) where
   -- a line is put, and so it goes on
-  pub record Told (l : Line) (goes_on : A → Type 0) (a : A) : Type 0 where
+  pub record PutsThen (l : Line) (goes_on : A → Type 0) (a : A) : Type 0 where
     pub between : A
     pub told : puts a l (Ok tt) between
     pub rest : goes_on between
@@ -127,28 +127,28 @@ module _ {A : Type 0} (puts : A → Line → Result (Unit {0}) OutFault → A �
   abbrev pub inside : ProcId → Ports → Surroundings → A → Inside A
   inside p ports m a = record { me = p; ports = ports; outside = m; out = a }
 
-  pub record Acts (code : Code) (turns : ℕ) (p : ProcId) (d : Deed) (at : Place) (m : Surroundings) (a : A) (e : Burst) (left : Place) (n : Surroundings) (b : A) : Type 0 where
+  pub record Acts (code : Code) (turns : ℕ) (p : ProcId) (d : EventAction) (at : Place) (m : Surroundings) (a : A) (e : Burst) (left : Place) (n : Surroundings) (b : A) : Type 0 where
     pub me : ProcId
     pub does : Does meaning.host shows (wrote puts) code m.time turns d at.machine (inside p at.ports m a) e left.machine (inside me left.ports n b)
     pub up : left.up ≡ up_after d at.up
 
-  pub record Acted (p : ProcId) (d : Deed) (at : Place) (w : Seen) (a : A) (e : Burst) (v : Seen) (b : A) : Type 0 where
+  pub record Acted (p : ProcId) (d : EventAction) (at : Place) (w : Seen) (a : A) (e : Burst) (v : Seen) (b : A) : Type 0 where
     pub place : Place
     pub outside : Surroundings
     pub acts : Acts w.code w.turns p d at w.outside a e place outside b
     pub left : v ≡ with_outside outside (with_place p place w)
 
-  pub record ActsAt (p : ProcId) (d : Deed) (w : Seen) (a : A) (e : Burst) (v : Seen) (b : A) : Type 0 where
+  pub record ActsAt (p : ProcId) (d : EventAction) (w : Seen) (a : A) (e : Burst) (v : Seen) (b : A) : Type 0 where
     pub at : Place
     pub there : slice_get w.places p.0 ≡ Some at
     pub acted : Acted p d at w a e v b
 
   -- so it does, unless it has nothing to do
-  abbrev pub RunsUnless : (held : Bool) → ProcId → Deed → Seen → A → Burst → Seen → A → Type 0
+  abbrev pub RunsUnless : (held : Bool) → ProcId → EventAction → Seen → A → Burst → Seen → A → Type 0
   RunsUnless true p d w a e v b = (e ≡ Rested) × (v ≡ w) × (b ≡ a)
   RunsUnless false p d w a e v b = ActsAt p d w a e v b
 
-  pub record Runs (p : ProcId) (d : Deed) (w : Seen) (a : A) (e : Burst) (v : Seen) (b : A) : Type 0 where
+  pub record Runs (p : ProcId) (d : EventAction) (w : Seen) (a : A) (e : Burst) (v : Seen) (b : A) : Type 0 where
     pub held : Bool
     pub known : HeldAt p d w.places held
     pub runs : RunsUnless held p d w a e v b
@@ -168,8 +168,8 @@ module _ {A : Type 0} (puts : A → Line → Result (Unit {0}) OutFault → A �
 
   -- a line of the script, by what it orders
   abbrev pub Ordered : Act → Seen → A → Burst → Seen → A → Type 0
-  Ordered (act.Boot p) w a e v b = Told (line.Boot w.ran w.outside.time p) (λ c. Runs p Boots w c e v b) a
-  Ordered (act.Stop p) w a e v b = Told (line.Stop w.ran w.outside.time p) (λ c. Runs p Stops w c e v b) a
+  Ordered (act.Boot p) w a e v b = PutsThen (line.Boot w.ran w.outside.time p) (λ c. Runs p Boots w c e v b) a
+  Ordered (act.Stop p) w a e v b = PutsThen (line.Stop w.ran w.outside.time p) (λ c. Runs p Stops w c e v b) a
   Ordered (act.Kill p) w a e v b = Killed p w a e v b
   Ordered (act.Cut p q) w a e v b =
       puts a (line.Cut w.ran w.outside.time p q) (Ok tt) b × (e ≡ Rested)
@@ -211,7 +211,7 @@ module _ {A : Type 0} (puts : A → Line → Result (Unit {0}) OutFault → A �
   abbrev pub Happened : What → Seen → A → Burst → Seen → A → Type 0
   Happened (what.Boots p) w a e v b = Ordered (act.Boot p) w a e v b
   Happened (what.Rings p k) w a e v b =
-      Told (line.Timer w.ran w.outside.time p k) (λ c. Runs p (Delivers k (outcome.Value Void)) w c e v b) a
+      PutsThen (line.Timer w.ran w.outside.time p k) (λ c. Runs p (Delivers k (outcome.Value Void)) w c e v b) a
   Happened (what.Arrives p n) w a e v b = Arrived p n w a e v b
   Happened (what.Answers p k asked) w a e v b = Answered p k asked w a e v b
 

@@ -13,7 +13,7 @@ Once [] = Unit {0}
 Once (x ∷ xs) = (thing xs x.0 ≡ None) × (port_of x.1 xs ≡ None) × Once xs
 
 -- the same streams of ports, and the same ports of streams
-pub record PortsShow (p : Ports) (ps : Numbered ℕ) : Type 0 where
+pub record PortsRepresent (p : Ports) (ps : Numbered ℕ) : Type 0 where
   pub streams : (port : ℕ) → get nat_cmp p.streams port ≡ thing ps port
   pub ports : (cell : ℕ) → get nat_cmp p.ports cell ≡ port_of cell ps
   pub once : Once ps

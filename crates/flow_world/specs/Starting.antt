@@ -17,7 +17,7 @@ use Rattle.flow_world.specs.declared.outside.What.TheVariants.{Boots}
 use Rattle.flow_world.specs.declared.place.Place.{Place}
 use Rattle.flow_world.specs.Changes.{Surroundings}
 use Rattle.flow_world.specs.Ending.{Seen}
-use Rattle.flow_world.specs.Ports.{PortsShow}
+use Rattle.flow_world.specs.Ports.{PortsRepresent}
 
 -- a process of so many that never ran: it is down, and listens at no port
 pub record IsFresh (processes number : ℕ) (at : Place) : Type 0 where
@@ -26,7 +26,7 @@ pub record IsFresh (processes number : ℕ) (at : Place) : Type 0 where
   pub me : at.machine.me.0 ≡ number
   pub processes_are : at.machine.processes ≡ processes
   pub never : at.machine.process ≡ never_ran memory
-  pub ports : PortsShow at.ports []
+  pub ports : PortsRepresent at.ports []
 
 -- those from a number on
 abbrev pub AreFresh : (processes first : ℕ) → List Place → Type 0
@@ -51,7 +51,7 @@ outside_at_start w = record {
 }
 
 -- the lines of a script in the order in which they come: by time, and at one time in the order of the file
-pub record InOrder (written : List At) (lines : List At) : Type 0 where
+pub record ScriptInOrder (written : List At) (lines : List At) : Type 0 where
   pub same : IsPermutation written lines
   pub sorted : IsSortedByKey (λ line. line.time) nat_cmp lines
   pub stable : IsStableByKey (λ line. line.time) nat_cmp written lines
@@ -63,7 +63,7 @@ pub record Starts (classes : RawClasses) (file : World0) (w : Seen) : Type 0 whe
   pub count : length w.places ≡ file.processes
   pub places : AreFresh file.processes 0 w.places
   pub outside : w.outside ≡ outside_at_start file
-  pub script : InOrder file.script.items w.script
+  pub script : ScriptInOrder file.script.items w.script
   pub ran : w.ran ≡ 0
   pub bound : w.bound ≡ file.events
   pub turns : w.turns ≡ file.turns

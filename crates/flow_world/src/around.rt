@@ -3,9 +3,9 @@
 ghost use Rattle.std.specs.Prelude.{◌≡◌, ◌<◌, Ok, IfOk, IsErrOf};
 ghost use Rattle.flow_base.specs.declared.fault.OutFault.TheVariants.{Failed};
 ghost use Rattle.flow_meaning.specs.Outside as meaning;
-ghost use Rattle.flow_world.specs.Around.{AroundShows, Puts};
+ghost use Rattle.flow_world.specs.Around.{SurroundingsRepresent, Puts};
 ghost use Rattle.flow_world.specs.Changes.{seen};
-ghost use Rattle.flow_world.specs.Standing.{Standing};
+ghost use Rattle.flow_world.specs.Loans.{Loans};
 
 use crate::asked::Asked;
 use crate::outside::{Outside, What};
@@ -42,7 +42,7 @@ fn or_fault<T>(answer: Result<T, NoMemory>) -> Result<T, OutFault>
 }
 
 impl<'p, 'w, 'l, L: LineOut> Host for Around<'p, 'w, 'l, L> {
-    ghost Kept = { Standing L.Kept };
+    ghost Kept = { Loans L.Kept };
 
     ghost kept = { λ h. record {
       ports = h.ports.ghost_name;
@@ -60,7 +60,7 @@ impl<'p, 'w, 'l, L: LineOut> Host for Around<'p, 'w, 'l, L> {
 
     ghost serves = { meaning.host };
 
-    ghost shows = { λ h ps w. AroundShows h.me h.ports.now (seen h.outside.now) ps w };
+    ghost shows = { λ h ps w. SurroundingsRepresent h.me h.ports.now (seen h.outside.now) ps w };
 
     ghost wrote = { λ g ls h. Puts L.puts g.out.now ls h.out.now };
 

@@ -3,11 +3,11 @@
 ghost use Rattle.std.specs.Prelude.{◌≡◌, ℕ, ◌+◌, ◌<◌, ◌≤◌, ◌^◌, pos, ◌+ℤ◌, ◌≤ℤ◌, ◌<ℤ◌, None, slice_get, IfOk, OnOk, IsErrOf};
 ghost use Rattle.flow_draw.specs.Words.{next_word, scaled};
 ghost use Rattle.flow_machine.specs.Requests.{call_of};
-ghost use Rattle.flow_machine.specs.declared.host.RunFault.TheVariants.{Failed, Astray};
+ghost use Rattle.flow_machine.specs.declared.host.RunFault.TheVariants.{Failed, Stuck};
 ghost use Rattle.flow_world.specs.Changes.{seen, with_pending, with_word, next_delay, fate_of, letter};
 ghost use Rattle.flow_world.specs.Changes.{sent_by, DiskServes, DiskLoses, is_request_of, FirstTaken};
 ghost use Rattle.flow_world.specs.Changes.{request_keys, without_keys, without_requests};
-ghost use Rattle.flow_world.specs.Shows.{NumbersOnce};
+ghost use Rattle.flow_world.specs.Representing.{NumbersOnce};
 
 use crate::asked::Asked;
 use crate::outside::{Outside, What};
@@ -111,12 +111,12 @@ impl Outside {
     /// The disk of a process serves a request.
     pub fn serve(&mut self, p: ProcId, asked: &Asked) -> Result<DiskReply, RunFault>
         ensures cause { ¬ IsErrOf result Failed }
-        ensures astray { IsErrOf result Astray → slice_get (seen self.old).disks p.0 ≡ None }
+        ensures stuck { IsErrOf result Stuck → slice_get (seen self.old).disks p.0 ≡ None }
         ensures served { IfOk result (λ reply.
             DiskServes p (call_of asked.now) (seen self.old) (seen self.new) reply) }
     {
         let Some(disk) = self.disks.get_mut(usize::from(p.0)) else {
-            return Err(RunFault::Astray);
+            return Err(RunFault::Stuck);
         };
         match asked.ask() {
             DiskAsk::Read(name, offset, count) => Ok(disk.read(name, *offset, *count)?),
@@ -133,12 +133,12 @@ impl Outside {
     /// The disk of a process loses what it may at a loss of power. Want of memory too where no more words are given.
     pub fn lose_disk(&mut self, p: ProcId) -> Result<Vec<Kept>, RunFault>
         ensures cause { ¬ IsErrOf result Failed }
-        ensures astray { IsErrOf result Astray → slice_get (seen self.old).disks p.0 ≡ None }
+        ensures stuck { IsErrOf result Stuck → slice_get (seen self.old).disks p.0 ≡ None }
         ensures lost { IfOk result (λ fates. DiskLoses p (seen self.old)
             (seen self.new) fates.items) }
     {
         let Some(disk) = self.disks.get_mut(usize::from(p.0)) else {
-            return Err(RunFault::Astray);
+            return Err(RunFault::Stuck);
         };
         let words = disk.most_words();
         if words >= LAST_NUMBER || self.draws.used() >= LAST_NUMBER - words {

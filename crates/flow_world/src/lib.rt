@@ -3,9 +3,9 @@
 
 mod around;
 mod asked;
-mod brought;
+mod answers;
 mod changes;
-mod deed;
+mod action;
 mod event;
 pub mod laws;
 mod outside;

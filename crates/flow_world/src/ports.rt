@@ -5,7 +5,7 @@ ghost use Rattle.std.specs.Option.{option_map};
 ghost use Rattle.flow_numbered.specs.Numbered.{Numbered, thing, added};
 ghost use Rattle.flow_meaning.specs.Dropping.{port_of};
 ghost use Rattle.flow_machine.specs.Hosting.{unheard};
-ghost use Rattle.flow_world.specs.Ports.{PortsShow};
+ghost use Rattle.flow_world.specs.Ports.{PortsRepresent};
 
 use flow_base::ids::CellId;
 use flow_base::memory::NoMemory;
@@ -23,7 +23,7 @@ impl Ports {
     #[tactic(auto, using(crate::proofs::Listening::no_ports))]
     /// No port is listened at.
     pub fn new(alloc: Global) -> Ports
-        ensures { PortsShow result [] }
+        ensures { PortsRepresent result [] }
     {
         Ports {
             streams: BTreeMap::new(alloc),
@@ -33,7 +33,7 @@ impl Ports {
 
     /// The stream of a port, where it is listened at.
     pub fn stream(&self, port: u16) -> Option<CellId>
-        ensures { (ps : Numbered ℕ) → PortsShow self.now ps
+        ensures { (ps : Numbered ℕ) → PortsRepresent self.now ps
             → option_map (λ k. k.0) result ≡ thing ps port }
     {
         let number = self.streams.get(&port)?;
@@ -42,8 +42,8 @@ impl Ports {
 
     /// A port is listened at. On an error the ports are of no use any more.
     pub fn listen(&mut self, port: u16, cell: CellId) -> Result<(), NoMemory>
-        ensures { OnOk result ((ps : Numbered ℕ) → PortsShow self.old ps → thing ps port ≡ None
-            → port_of cell.0 ps ≡ None → PortsShow self.new (added ps port cell.0)) }
+        ensures { OnOk result ((ps : Numbered ℕ) → PortsRepresent self.old ps → thing ps port ≡ None
+            → port_of cell.0 ps ≡ None → PortsRepresent self.new (added ps port cell.0)) }
     {
         self.streams.insert(port, cell.0)?;
         self.ports.insert(cell.0, port)?;
@@ -53,8 +53,8 @@ impl Ports {
     #[tactic(auto, using(crate::proofs::Listening::ports_same))]
     /// The port of a stream is listened at no more.
     pub fn unlisten(&mut self, cell: CellId)
-        ensures { (ps : Numbered ℕ) → PortsShow self.old ps
-            → PortsShow self.new (unheard cell.0 ps) }
+        ensures { (ps : Numbered ℕ) → PortsRepresent self.old ps
+            → PortsRepresent self.new (unheard cell.0 ps) }
     {
         if let Some(port) = self.ports.remove(&cell.0) {
             self.streams.remove(&port);
@@ -64,7 +64,7 @@ impl Ports {
     #[tactic(auto, using(crate::proofs::Listening::no_ports))]
     /// No port is listened at any more.
     pub fn clear(&mut self)
-        ensures { PortsShow self.new [] }
+        ensures { PortsRepresent self.new [] }
     {
         self.streams.clear();
         self.ports.clear();

@@ -19,7 +19,7 @@ use std::alloc::Global;
 /// out, kind by kind, at each way out of who makes it.
 pub fn put<L: LineOut>(out: &mut L, line: Line) -> Result<(), RunFault>
     ensures puts { OnOk result (L.puts out.old line (Ok tt) out.new) }
-    ensures never { ¬ IsErrOf result run.Astray }
+    ensures never { ¬ IsErrOf result run.Stuck }
     ensures fails { IsErrOf result run.Failed → L.puts out.old line (Err Failed) out.new }
     ensures cause { RunCause (L.faults out.old) (L.faults out.new) result }
     ensures kept { L.kept out.new ≡ L.kept out.old }
@@ -42,7 +42,7 @@ pub fn tell<L: LineOut>(out: &mut L, line: Line) -> Result<(), OutFault>
 #[tactic(auto, using(flow_machine::proofs::Causes::cause_before))]
 /// Puts a line for each write of which a disk kept something or nothing.
 pub fn put_kept<L: LineOut>(alloc: Global, fates: &[Kept], out: &mut L) -> Result<(), RunFault>
-    ensures never { ¬ IsErrOf result run.Astray }
+    ensures never { ¬ IsErrOf result run.Stuck }
     ensures puts { OnOk result (Puts L.puts out.old (map kept_line fates.now) out.new) }
     ensures cause { RunCause (L.faults out.old) (L.faults out.new) result }
     ensures kept { L.kept out.new ≡ L.kept out.old }
@@ -56,7 +56,7 @@ pub fn put_kept<L: LineOut>(alloc: Global, fates: &[Kept], out: &mut L) -> Resul
 // Puts the line of a write.
 fn put_one<L: LineOut>(alloc: Global, kept: &Kept, out: &mut L) -> Result<(), RunFault>
     ensures puts { OnOk result (L.puts out.old (kept_line kept.now) (Ok tt) out.new) }
-    ensures never { ¬ IsErrOf result run.Astray }
+    ensures never { ¬ IsErrOf result run.Stuck }
     ensures cause { RunCause (L.faults out.old) (L.faults out.new) result }
     ensures kept { L.kept out.new ≡ L.kept out.old }
 {

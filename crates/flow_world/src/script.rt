@@ -2,7 +2,7 @@
 
 ghost use Rattle.std.specs.Prelude.{◌≡◌, IfOk};
 ghost use Rattle.flow_world.specs.Ending.{script_time, first_act, lines_after};
-ghost use Rattle.flow_world.specs.Starting.{InOrder};
+ghost use Rattle.flow_world.specs.Starting.{ScriptInOrder};
 
 use flow_base::memory::NoMemory;
 use flow_worldfile::{Act, At};
@@ -28,7 +28,7 @@ impl Model for Script {
 impl Script {
     /// These lines, in the order of the file.
     pub fn new(lines: Vec<At>) -> Result<Script, NoMemory>
-        ensures { IfOk result (λ s. InOrder lines.items s) }
+        ensures { IfOk result (λ s. ScriptInOrder lines.items s) }
     {
         let mut lines = lines;
         lines.sort_by_key(|line| line.time)?;

@@ -5,7 +5,7 @@ ghost use Rattle.std.specs.Borrow.{GName};
 ghost use Rattle.std.proofs.Props.{props};
 ghost use Rattle.flow_base.specs.Faults.{Rose};
 ghost use Rattle.flow_base.specs.declared.fault.OutFault.TheVariants.{Failed};
-ghost use Rattle.flow_world.specs.Telling.{tells, unless_failed};
+ghost use Rattle.flow_world.specs.FaultedLines.{tells, unless_failed};
 
 use flow_base::fault::OutFault;
 use flow_machine::host::RunFault;

@@ -6,22 +6,22 @@ ghost use Rattle.flow_worldfile.specs.declared.world.Act.TheVariants as act;
 ghost use Rattle.flow_simnet.specs.Links.{cut, healed};
 ghost use Rattle.flow_machine.specs.declared.host.Burst.{Burst as Ended};
 ghost use Rattle.flow_machine.specs.declared.host.Burst.TheVariants.{Rested};
-ghost use Rattle.flow_machine.specs.declared.host.RunFault.TheVariants.{Failed, Astray};
+ghost use Rattle.flow_machine.specs.declared.host.RunFault.TheVariants.{Failed, Stuck};
 ghost use Rattle.flow_machine.specs.Cause.{RunCause};
 ghost use Rattle.flow_world.specs.Ending.{MeansEvent, WithinEvent, next};
 ghost use Rattle.flow_world.specs.Worlds.{world_seen};
-ghost use Rattle.flow_world.specs.Telling.{tells, whole, failed};
+ghost use Rattle.flow_world.specs.FaultedLines.{tells, whole, failed};
 ghost use Rattle.flow_world.specs.Happening.{EventDoes, Breaks, Comes, LineComes, EventComes, Ordered, Happened};
 ghost use Rattle.flow_world.specs.Happening.{Killed, Arrived, Taken, Answered, Runs, Fails, HeardIn};
 ghost use Rattle.flow_world.specs.Happening.{Vanishes, HeldAt, ActsAt, begins, with_net};
-ghost use Rattle.flow_world.specs.Straying.{NoProcess, NoDisk, NoLink, ActsAtAmiss, RunsAmiss, OrderedAmiss, TakenAmiss, ArrivedAmiss};
-ghost use Rattle.flow_world.specs.Straying.{AnsweredAmiss, HappenedAmiss, LineAmiss, PendingAmiss, ComesAmiss, EventAmiss};
+ghost use Rattle.flow_world.specs.StuckEvents.{NoProcess, NoDisk, NoLink, ActsAtStuck, EventRunsStuck, OrderedStuck, TakenStuck, ArrivedStuck};
+ghost use Rattle.flow_world.specs.StuckEvents.{AnsweredStuck, HappenedStuck, LineStuck, PendingStuck, ComesStuck, EventStuck};
 ghost use Rattle.flow_world.specs.Starting.{Starts};
 ghost use Rattle.flow_world.specs.Views.{frames_at, callbacks_at, live_in};
 
 use crate::asked::Asked;
-use crate::brought::{disk_line, disk_outcome, packet_value};
-use crate::deed::{Deed, acts, holds_already};
+use crate::answers::{disk_line, disk_outcome, packet_value};
+use crate::action::{EventAction, acts, holds_already};
 use crate::event::Event;
 use crate::outside::{LAST_TIME, Outside, What};
 use crate::place::Place;
@@ -125,8 +125,8 @@ impl World {
             (world_seen self.old) (whole out.old) (world_seen self.new) (whole out.new)) }
         ensures breaks { IsErrOf result Failed → Breaks (tells L.puts)
             (world_seen self.old) (whole out.old) (world_seen self.new) (failed out.new) }
-        ensures astray { IsErrOf result Astray →
-            EventAmiss (tells L.puts) (world_seen self.old) (whole out.old) }
+        ensures stuck { IsErrOf result Stuck →
+            EventStuck (tells L.puts) (world_seen self.old) (whole out.old) }
         ensures cause { RunCause (L.faults out.old) (L.faults out.new) result }
         ensures kept { L.kept out.new ≡ L.kept out.old }
     {
@@ -161,7 +161,7 @@ impl World {
         ensures ended { self.new.ended ≡ true }
         ensures bound { self.new.events ≡ self.old.events }
         ensures ran { OnOk result (self.new.ran ≡ self.old.ran + 1) }
-        ensures astray { IsErrOf result Astray → ComesAmiss (tells L.puts) scripted
+        ensures stuck { IsErrOf result Stuck → ComesStuck (tells L.puts) scripted
             (begins time (world_seen self.old)) (whole out.old) }
         ensures cause { RunCause (L.faults out.old) (L.faults out.new) result }
         ensures kept { L.kept out.new ≡ L.kept out.old }
@@ -220,7 +220,7 @@ impl World {
         ensures ended { self.new.ended ≡ true }
         ensures bound { self.new.events ≡ self.old.events }
         ensures ran { OnOk result (self.new.ran ≡ self.old.ran + 1) }
-        ensures astray { IsErrOf result Astray → ComesAmiss L.puts scripted
+        ensures stuck { IsErrOf result Stuck → ComesStuck L.puts scripted
             (begins time (world_seen self.old)) out.old }
         ensures cause { RunCause (L.faults out.old) (L.faults out.new) result }
         ensures kept { L.kept out.new ≡ L.kept out.old }
@@ -243,14 +243,14 @@ impl World {
         ensures comes { IfOk result (λ e. LineComes L.puts self.old.script
             (world_seen self.old) out.old e (world_seen self.new) out.new) }
         ensures within { WithinEvent (world_seen self.old) (world_seen self.new) }
-        ensures astray { IsErrOf result Astray → LineAmiss L.puts self.old.script
+        ensures stuck { IsErrOf result Stuck → LineStuck L.puts self.old.script
             (world_seen self.old) out.old }
         ensures cause { RunCause (L.faults out.old) (L.faults out.new) result }
         ensures kept { L.kept out.new ≡ L.kept out.old }
     {
         match self.script.next() {
             Some(act) => self.orders(act, out),
-            None => Err(RunFault::Astray),
+            None => Err(RunFault::Stuck),
         }
     }
 
@@ -259,14 +259,14 @@ impl World {
         ensures comes { IfOk result (λ e. EventComes L.puts self.old.outside.timers.pending
             (world_seen self.old) out.old e (world_seen self.new) out.new) }
         ensures within { WithinEvent (world_seen self.old) (world_seen self.new) }
-        ensures astray { IsErrOf result Astray → PendingAmiss L.puts
+        ensures stuck { IsErrOf result Stuck → PendingStuck L.puts
             self.old.outside.timers.pending (world_seen self.old) out.old }
         ensures cause { RunCause (L.faults out.old) (L.faults out.new) result }
         ensures kept { L.kept out.new ≡ L.kept out.old }
     {
         match self.outside.take_first() {
             Some(what) => self.happens(what, out),
-            None => Err(RunFault::Astray),
+            None => Err(RunFault::Stuck),
         }
     }
 
@@ -276,8 +276,8 @@ impl World {
         ensures ordered { IfOk result (λ e. Ordered L.puts act
             (world_seen self.old) out.old e (world_seen self.new) out.new) }
         ensures within { WithinEvent (world_seen self.old) (world_seen self.new) }
-        ensures astray { IsErrOf result Astray →
-            OrderedAmiss L.puts act (world_seen self.old) out.old }
+        ensures stuck { IsErrOf result Stuck →
+            OrderedStuck L.puts act (world_seen self.old) out.old }
         ensures cause { RunCause (L.faults out.old) (L.faults out.new) result }
         ensures kept { L.kept out.new ≡ L.kept out.old }
     {
@@ -287,7 +287,7 @@ impl World {
             Act::Boot(p) => self.boots(p, out),
             Act::Stop(p) => {
                 put(out, Line::Stop(n, t, p))?;
-                self.runs(p, Deed::Stops, out)
+                self.runs(p, EventAction::Stops, out)
             }
             Act::Kill(p) => self.kills(p, out),
             Act::Cut(p, q) => {
@@ -311,8 +311,8 @@ impl World {
         ensures happened { IfOk result (λ e. Happened L.puts what
             (world_seen self.old) out.old e (world_seen self.new) out.new) }
         ensures within { WithinEvent (world_seen self.old) (world_seen self.new) }
-        ensures astray { IsErrOf result Astray →
-            HappenedAmiss L.puts what (world_seen self.old) out.old }
+        ensures stuck { IsErrOf result Stuck →
+            HappenedStuck L.puts what (world_seen self.old) out.old }
         ensures cause { RunCause (L.faults out.old) (L.faults out.new) result }
         ensures kept { L.kept out.new ≡ L.kept out.old }
     {
@@ -321,7 +321,7 @@ impl World {
             What::Rings(p, cell) => {
                 let n = self.number();
                 put(out, Line::Timer(n, self.outside.time, p, cell))?;
-                self.runs(p, Deed::Delivers(cell, Outcome::Value(Value::Void)), out)
+                self.runs(p, EventAction::Delivers(cell, Outcome::Value(Value::Void)), out)
             }
             What::Arrives(p, packet) => self.arrives(p, packet, out),
             What::Answers(p, cell, asked) => self.answers(p, cell, &asked, out),
@@ -334,13 +334,13 @@ impl World {
         ensures happens { IfOk result (λ e. Ordered L.puts (act.Boot p)
             (world_seen self.old) out.old e (world_seen self.new) out.new) }
         ensures within { WithinEvent (world_seen self.old) (world_seen self.new) }
-        ensures astray { IsErrOf result Astray →
-            OrderedAmiss L.puts (act.Boot p) (world_seen self.old) out.old }
+        ensures stuck { IsErrOf result Stuck →
+            OrderedStuck L.puts (act.Boot p) (world_seen self.old) out.old }
         ensures cause { RunCause (L.faults out.old) (L.faults out.new) result }
         ensures kept { L.kept out.new ≡ L.kept out.old }
     {
         put(out, Line::Boot(self.number(), self.outside.time, p))?;
-        self.runs(p, Deed::Boots, out)
+        self.runs(p, EventAction::Boots, out)
     }
 
     /// A link is cut.
@@ -349,13 +349,13 @@ impl World {
         ensures cut { let net = self.old.outside.net in OnOk result
             (world_seen self.new ≡ with_net (record net { cuts = cut net.cuts p.0 q.0 })
             (world_seen self.old)) }
-        ensures astray { IsErrOf result Astray → NoLink p q (world_seen self.old) }
+        ensures stuck { IsErrOf result Stuck → NoLink p q (world_seen self.old) }
         ensures cause { ¬ IsErrOf result Failed }
         ensures within { WithinEvent (world_seen self.old) (world_seen self.new) }
     {
         let count = self.outside.net.processes();
         if p.0 >= count || q.0 >= count {
-            return Err(RunFault::Astray);
+            return Err(RunFault::Stuck);
         }
         self.outside.net.cut(p, q);
         Ok(Burst::Rested)
@@ -367,13 +367,13 @@ impl World {
         ensures healed { let net = self.old.outside.net in OnOk result
             (world_seen self.new ≡ with_net (record net { cuts = healed net.cuts p.0 q.0 })
             (world_seen self.old)) }
-        ensures astray { IsErrOf result Astray → NoLink p q (world_seen self.old) }
+        ensures stuck { IsErrOf result Stuck → NoLink p q (world_seen self.old) }
         ensures cause { ¬ IsErrOf result Failed }
         ensures within { WithinEvent (world_seen self.old) (world_seen self.new) }
     {
         let count = self.outside.net.processes();
         if p.0 >= count || q.0 >= count {
-            return Err(RunFault::Astray);
+            return Err(RunFault::Stuck);
         }
         self.outside.net.heal(p, q);
         Ok(Burst::Rested)
@@ -383,12 +383,12 @@ impl World {
     fn fails(&mut self, p: ProcId, count: u32) -> Result<Burst, RunFault>
         ensures rests { IfOk result (λ e. e ≡ Rested) }
         ensures fails { OnOk result (Fails p count (world_seen self.old) (world_seen self.new)) }
-        ensures astray { IsErrOf result Astray → NoDisk p (world_seen self.old) }
+        ensures stuck { IsErrOf result Stuck → NoDisk p (world_seen self.old) }
         ensures cause { ¬ IsErrOf result Failed }
         ensures within { WithinEvent (world_seen self.old) (world_seen self.new) }
     {
         let Some(disk) = self.outside.disks.get_mut(usize::from(p.0)) else {
-            return Err(RunFault::Astray);
+            return Err(RunFault::Stuck);
         };
         disk.fail_next(count);
         Ok(Burst::Rested)
@@ -400,7 +400,7 @@ impl World {
         ensures happens { IfOk result (λ e. Killed L.puts p
             (world_seen self.old) out.old e (world_seen self.new) out.new) }
         ensures within { WithinEvent (world_seen self.old) (world_seen self.new) }
-        ensures astray { IsErrOf result Astray → NoDisk p (world_seen self.old)
+        ensures stuck { IsErrOf result Stuck → NoDisk p (world_seen self.old)
             ⊎ NoProcess p (world_seen self.old) }
         ensures cause { RunCause (L.faults out.old) (L.faults out.new) result }
         ensures kept { L.kept out.new ≡ L.kept out.old }
@@ -417,11 +417,11 @@ impl World {
     fn vanishes(&mut self, p: ProcId) -> Result<(), RunFault>
         ensures vanishes { OnOk result (Vanishes p (world_seen self.old) (world_seen self.new)) }
         ensures within { WithinEvent (world_seen self.old) (world_seen self.new) }
-        ensures astray { IsErrOf result Astray → NoProcess p (world_seen self.old) }
+        ensures stuck { IsErrOf result Stuck → NoProcess p (world_seen self.old) }
         ensures cause { ¬ IsErrOf result Failed }
     {
         let Some(place) = self.places.get_mut(usize::from(p.0)) else {
-            return Err(RunFault::Astray);
+            return Err(RunFault::Stuck);
         };
         place.up = false;
         place.machine.vanish();
@@ -441,15 +441,15 @@ impl World {
         ensures arrived { IfOk result (λ e. Arrived L.puts p packet
             (world_seen self.old) out.old e (world_seen self.new) out.new) }
         ensures within { WithinEvent (world_seen self.old) (world_seen self.new) }
-        ensures astray { IsErrOf result Astray →
-            ArrivedAmiss L.puts p packet (world_seen self.old) out.old }
+        ensures stuck { IsErrOf result Stuck →
+            ArrivedStuck L.puts p packet (world_seen self.old) out.old }
         ensures cause { RunCause (L.faults out.old) (L.faults out.new) result }
         ensures kept { L.kept out.new ≡ L.kept out.old }
     {
         let n = self.number();
         put(out, Line::Arrival(n, self.outside.time, p, packet))?;
         let Some(packet) = self.outside.net.arrive(packet) else {
-            return Err(RunFault::Astray);
+            return Err(RunFault::Stuck);
         };
         let heard = self.listener(p, packet.port);
         self.takes(heard, p, packet, out)
@@ -467,8 +467,8 @@ impl World {
         ensures taken { IfOk result (λ e. Taken L.puts heard p packet
             (world_seen self.old) out.old e (world_seen self.new) out.new) }
         ensures within { WithinEvent (world_seen self.old) (world_seen self.new) }
-        ensures astray { IsErrOf result Astray →
-            TakenAmiss L.puts heard p packet (world_seen self.old) out.old }
+        ensures stuck { IsErrOf result Stuck →
+            TakenStuck L.puts heard p packet (world_seen self.old) out.old }
         ensures cause { RunCause (L.faults out.old) (L.faults out.new) result }
         ensures kept { L.kept out.new ≡ L.kept out.old }
     {
@@ -477,7 +477,7 @@ impl World {
             return Ok(Burst::Rested);
         };
         let item = packet_value(self.alloc, packet)?;
-        self.runs(p, Deed::Brings(cell, item), out)
+        self.runs(p, EventAction::Brings(cell, item), out)
     }
 
     /// The stream of a port of a process that is up.
@@ -504,8 +504,8 @@ impl World {
         ensures happens { IfOk result (λ e. Answered L.puts p cell asked.now
             (world_seen self.old) out.old e (world_seen self.new) out.new) }
         ensures within { WithinEvent (world_seen self.old) (world_seen self.new) }
-        ensures astray { IsErrOf result Astray →
-            AnsweredAmiss L.puts p cell asked.now (world_seen self.old) out.old }
+        ensures stuck { IsErrOf result Stuck →
+            AnsweredStuck L.puts p cell asked.now (world_seen self.old) out.old }
         ensures cause { RunCause (L.faults out.old) (L.faults out.new) result }
         ensures kept { L.kept out.new ≡ L.kept out.old }
     {
@@ -514,17 +514,17 @@ impl World {
         let line = disk_line(self.alloc, asked.ask(), &reply, n, t, p, cell)?;
         put(out, line)?;
         let outcome = disk_outcome(self.alloc, reply)?;
-        self.runs(p, Deed::Delivers(cell, outcome), out)
+        self.runs(p, EventAction::Delivers(cell, outcome), out)
     }
 
     #[tactic(auto, using(flow_machine::proofs::Causes::cause_before))]
     /// A process does what follows of a deed.
-    fn runs<L: LineOut>(&mut self, p: ProcId, deed: Deed, out: &mut L) -> Result<Burst, RunFault>
+    fn runs<L: LineOut>(&mut self, p: ProcId, deed: EventAction, out: &mut L) -> Result<Burst, RunFault>
         ensures happens { IfOk result (λ e. Runs L.puts p deed
             (world_seen self.old) out.old e (world_seen self.new) out.new) }
         ensures within { WithinEvent (world_seen self.old) (world_seen self.new) }
-        ensures astray { IsErrOf result Astray →
-            RunsAmiss L.puts p deed (world_seen self.old) out.old }
+        ensures stuck { IsErrOf result Stuck →
+            EventRunsStuck L.puts p deed (world_seen self.old) out.old }
         ensures cause { RunCause (L.faults out.old) (L.faults out.new) result }
         ensures kept { L.kept out.new ≡ L.kept out.old }
     {
@@ -535,33 +535,33 @@ impl World {
     }
 
     /// Whether a process has nothing to do for a deed.
-    fn holds_already(&self, p: ProcId, deed: &Deed) -> Result<bool, RunFault>
-        ensures astray { IsErrOf result Astray → slice_get self.now.places.items p.0 ≡ None }
+    fn holds_already(&self, p: ProcId, deed: &EventAction) -> Result<bool, RunFault>
+        ensures stuck { IsErrOf result Stuck → slice_get self.now.places.items p.0 ≡ None }
         ensures cause { ¬ IsErrOf result Failed }
         ensures held { IfOk result (λ held. HeldAt p deed.now self.now.places.items held) }
     {
         match self.places.get(usize::from(p.0)) {
             Some(place) => Ok(holds_already(deed, &place.machine)),
-            None => Err(RunFault::Astray),
+            None => Err(RunFault::Stuck),
         }
     }
 
     /// A process of the world does what follows of a deed.
-    fn acts<L: LineOut>(&mut self, p: ProcId, deed: Deed, out: &mut L) -> Result<Burst, RunFault>
+    fn acts<L: LineOut>(&mut self, p: ProcId, deed: EventAction, out: &mut L) -> Result<Burst, RunFault>
         ensures acts { IfOk result (λ e. ActsAt L.puts p deed
             (world_seen self.old) out.old e (world_seen self.new) out.new) }
         ensures within { WithinEvent (world_seen self.old) (world_seen self.new) }
-        ensures astray { IsErrOf result Astray →
-            ActsAtAmiss L.puts p deed (world_seen self.old) out.old }
+        ensures stuck { IsErrOf result Stuck →
+            ActsAtStuck L.puts p deed (world_seen self.old) out.old }
         ensures cause { RunCause (L.faults out.old) (L.faults out.new) result }
         ensures kept { L.kept out.new ≡ L.kept out.old }
     {
         let Some(place) = self.places.get_mut(usize::from(p.0)) else {
-            return Err(RunFault::Astray);
+            return Err(RunFault::Stuck);
         };
         let count = self.outside.net.processes();
         if p.0 >= count || place.machine.processes() != count {
-            return Err(RunFault::Astray);
+            return Err(RunFault::Stuck);
         }
         let outside = &mut self.outside;
         acts(p, deed, place, outside, &self.code, self.turns, out)

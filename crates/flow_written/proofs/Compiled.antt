@@ -170,8 +170,8 @@ classes_few ns n le (ActorDecl a ∷ ds) f (suc k) c e = classes_few ns n le ds 
 few_tokens : (m n : ℕ) → m ≡ n → n ≤ TOKENS → m ≤ TOKENS
 few_tokens m n e le = omega (arith, e, le)
 
-pub compiled_written : (text : List ℕ) (program : Program) → IsSound text program → AreLight program → IsWritten (compiled (program_of program))
-compiled_written text program sound light =
+pub class_text_exists : (text : List ℕ) (program : Program) → IsSound text program → AreLight program → IsWritten (compiled (program_of program))
+class_text_exists text program sound light =
     let t = program_of program in
     let r = compiled t in
     let d = sound.typed.read.parsed.1 in

@@ -1,7 +1,7 @@
 use Rattle.std.proofs.Common.{◌≡◌, ◌+◌, ◌≤◌, map, drop}
 use Rattle.flow_value.specs.View.{value_of}
 use Rattle.flow_resolved.specs.Evaluation.{values_at}
-use Rattle.flow_resolved.specs.View.{node_of, nodes_of, sight_of}
+use Rattle.flow_resolved.specs.View.{node_of, nodes_of, actor_view_of}
 use Rattle.flow_resolved.proofs.Args.{prefixed}
 use Rattle.flow_resolved.proofs.Weights.{weight, weights}
 use Rattle.flow_resolved.proofs.evaluate.+evaluate.Given as goal
@@ -30,6 +30,6 @@ decreases-evaluate_args g l = weights (nodes_of l.args.now) + 1
 abbrev pub invariant-evaluate_args-loop-arg : goal.invariant-evaluate_args-loop-arg
 invariant-evaluate_args-loop-arg g l = record {
   fewer : l.turns.left ≤ l.initial.turns.left;
-  comes : values_at (sight_of g.C.CellView.content l.sight) (nodes_of l.args) l.initial.turns.left
-      ≡ prefixed (map value_of l.values.items) (values_at (sight_of g.C.CellView.content l.sight) (nodes_of (drop l.arg-index l.args)) l.turns.left);
+  comes : values_at (actor_view_of g.C.CellView.content l.sight) (nodes_of l.args) l.initial.turns.left
+      ≡ prefixed (map value_of l.values.items) (values_at (actor_view_of g.C.CellView.content l.sight) (nodes_of (drop l.arg-index l.args)) l.turns.left);
 }

@@ -42,5 +42,5 @@ returns-clause-puts g c =
     c.loop-number.invariant.puts _
     (subst (λ n. Puts g.L.LineOut.puts c.loop-number.out (flat_map lines (range_with_len k n)) c.loop-number.out) (sym none) no_line)
 
-pub returns-in_err-put_process-clause-astray : goal.returns-in_err-put_process-clause-astray
-returns-in_err-put_process-clause-astray g c = λ astray. (record { 0 = c.loop-number.number }, c.put_process.ensures.astray (search rules))
+pub returns-in_err-put_process-clause-stuck : goal.returns-in_err-put_process-clause-stuck
+returns-in_err-put_process-clause-stuck g c = λ stuck. (record { 0 = c.loop-number.number }, c.put_process.ensures.stuck (search rules))

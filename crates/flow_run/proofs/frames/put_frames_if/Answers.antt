@@ -1,6 +1,6 @@
 use Rattle.std.proofs.Common.{rules, ◌≡◌, false, sym, subst}
 use Rattle.flow_world.specs.Around.{Puts, no_line}
-use Rattle.flow_world.specs.Telling.{tells, whole}
+use Rattle.flow_world.specs.FaultedLines.{tells, whole}
 use Rattle.flow_world.specs.Worlds.{world_seen}
 use Rattle.flow_run.specs.Tracing.{lines_if}
 use Rattle.flow_run.proofs.frames.put_frames_if.Goals as goal

@@ -1,7 +1,7 @@
 use Rattle.std.proofs.Common.{rules, IfOk}
 use Rattle.std.proofs.lemmas.Result.{IfOk-weaker}
 use Rattle.flow_world.specs.Around.{Puts}
-use Rattle.flow_world.specs.Telling.{Telling, tells, whole}
+use Rattle.flow_world.specs.FaultedLines.{Telling, tells, whole}
 use Rattle.flow_world.specs.Worlds.{world_seen}
 use Rattle.flow_world.proofs.MovedEvents.{lines_by}
 use Rattle.flow_world.proofs.Telling.{if_ok, on_ok, told_whole, told_part}

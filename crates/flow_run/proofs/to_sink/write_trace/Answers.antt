@@ -3,8 +3,8 @@ use Rattle.std.proofs.lemmas.Result.{IfOk-weaker}
 use Rattle.flow_trace.specs.Out.{Grows}
 use Rattle.flow_run.specs.Tracing.{Traces, TracesPart}
 use Rattle.flow_run.specs.Written.{put_bytes}
-use Rattle.flow_world.specs.Telling.{tells, whole, failed}
-use Rattle.flow_run.proofs.MovedTraces.{seen_of, told_by, traces_by, part_by, amiss_by}
+use Rattle.flow_world.specs.FaultedLines.{tells, whole, failed}
+use Rattle.flow_run.proofs.MovedTraces.{seen_of, told_by, traces_by, part_by, stuck_by}
 use Rattle.flow_run.proofs.to_sink.write_trace.Goals as goal
 
 pub returns-clause-traces : goal.returns-clause-traces
@@ -37,7 +37,7 @@ returns-clause-last g c =
     ((g.S.Sink.seen middle.out.now).written, grown, search rules))
     c.put_trace-ending.ensures.last
 
-pub returns-clause-astray : goal.returns-clause-astray
-returns-clause-astray g c = λ astray.
-    amiss_by (seen_of (λ w. (g.S.Sink.seen w.out.now).written)) _ (tells put_bytes)
-    (told_by (λ w. (g.S.Sink.seen w.out.now).written) _ put_bytes (λ a b l answer p. p.1)) c.args.with_frames c.args.classes c.args.world _ (c.put_trace-ending.ensures.astray astray)
+pub returns-clause-stuck : goal.returns-clause-stuck
+returns-clause-stuck g c = λ stuck.
+    stuck_by (seen_of (λ w. (g.S.Sink.seen w.out.now).written)) _ (tells put_bytes)
+    (told_by (λ w. (g.S.Sink.seen w.out.now).written) _ put_bytes (λ a b l answer p. p.1)) c.args.with_frames c.args.classes c.args.world _ (c.put_trace-ending.ensures.stuck stuck)

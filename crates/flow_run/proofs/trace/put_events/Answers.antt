@@ -1,10 +1,10 @@
 use Rattle.std.proofs.Common.{rules, ◌≡◌, refl, subst, arith}
 use Rattle.flow_world.specs.declared.event.Event.TheVariants.{Ran, Idle, BoundReached, Spent}
 use Rattle.flow_world.specs.Happening.{EventDoes}
-use Rattle.flow_world.specs.Telling.{tells, whole}
+use Rattle.flow_world.specs.FaultedLines.{tells, whole}
 use Rattle.flow_world.specs.Worlds.{world_seen}
 use Rattle.flow_run.specs.Tracing.{no_event, one_more, some}
-use Rattle.flow_run.specs.Straying.{event_amiss, frames_amiss}
+use Rattle.flow_run.specs.StuckTraces.{event_stuck, frames_stuck}
 use Rattle.flow_run.proofs.Parts.{part_of_event}
 use Rattle.flow_run.proofs.trace.put_events.Goals as goal
 
@@ -69,12 +69,12 @@ returns-in_err-put_frames_if-in-Ran-clause-part g c = λ failed.
     (subst (λ e. EventDoes (tells g.L.LineOut.puts) e (world_seen c.events.world) (whole c.events.out) (world_seen c.event.new.self) (whole c.event.new.out)) is c.in_ok-event.ensures.does)
     (c.put_frames_if.ensures.part (search rules)))
 
-pub returns-in_err-event-clause-astray : goal.returns-in_err-event-clause-astray
-returns-in_err-event-clause-astray g c = λ astray. event_amiss c.events.invariant.goes (c.event.ensures.astray (search rules))
+pub returns-in_err-event-clause-stuck : goal.returns-in_err-event-clause-stuck
+returns-in_err-event-clause-stuck g c = λ stuck. event_stuck c.events.invariant.goes (c.event.ensures.stuck (search rules))
 
-pub returns-in_err-put_frames_if-in-Ran-clause-astray : goal.returns-in_err-put_frames_if-in-Ran-clause-astray
-returns-in_err-put_frames_if-in-Ran-clause-astray g c = λ astray.
+pub returns-in_err-put_frames_if-in-Ran-clause-stuck : goal.returns-in_err-put_frames_if-in-Ran-clause-stuck
+returns-in_err-put_frames_if-in-Ran-clause-stuck g c = λ stuck.
     let is : c.in_ok-event.field-0 ≡ Ran = search rules in
-    frames_amiss c.events.invariant.goes
+    frames_stuck c.events.invariant.goes
     (subst (λ e. EventDoes (tells g.L.LineOut.puts) e (world_seen c.events.world) (whole c.events.out) (world_seen c.event.new.self) (whole c.event.new.out)) is c.in_ok-event.ensures.does)
-    (c.put_frames_if.ensures.astray (search rules))
+    (c.put_frames_if.ensures.stuck (search rules))

@@ -1,7 +1,7 @@
 use Rattle.std.proofs.Common.{rules, subst}
 use Rattle.std.specs.Prelude.{Ok, Err}
 use Rattle.flow_base.specs.declared.fault.OutFault.TheVariants.{Failed}
-use Rattle.flow_world.specs.Telling.{whole, failed}
+use Rattle.flow_world.specs.FaultedLines.{whole, failed}
 use Rattle.flow_world.specs.Worlds.{world_seen}
 use Rattle.flow_world.proofs.Telling.{whole_line, failed_line}
 use Rattle.flow_run.specs.Tracing.{no_event, begun, all}
@@ -47,11 +47,11 @@ returns-in_err-put-2-clause-part g c = λ fails classes file starts. all {e = c.
   ended = failed_line g.L.LineOut.puts _ _ _ (subst (λ l. g.L.LineOut.puts c.put_events.new.out l (Err Failed) c.put-2.new.out) c.line.ensures (c.put-2.ensures.fails (search rules)));
 })
 
-pub returns-in_err-ending-clause-astray : goal.returns-in_err-ending-clause-astray
-returns-in_err-ending-clause-astray g c = λ astray classes file starts. record {
+pub returns-in_err-ending-clause-stuck : goal.returns-in_err-ending-clause-stuck
+returns-in_err-ending-clause-stuck g c = λ stuck classes file starts. record {
   first = world_seen c.args.world.now;
   headed = whole c.put.new.out;
   starts = starts;
   head = whole_line g.L.LineOut.puts _ _ _ c.in_ok-put.ensures.puts;
-  events = c.put_events.ensures.astray (search rules);
+  events = c.put_events.ensures.stuck (search rules);
 }

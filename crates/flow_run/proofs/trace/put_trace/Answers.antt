@@ -8,5 +8,5 @@ returns-clause-traces g c =
 pub returns-clause-part : goal.returns-clause-part
 returns-clause-part g c = λ fails. c.put_lines.ensures.part fails c.args.classes c.args.world c.in_ok-world.ensures.starts
 
-pub returns-clause-astray : goal.returns-clause-astray
-returns-clause-astray g c = λ astray. c.put_lines.ensures.astray astray c.args.classes c.args.world c.in_ok-world.ensures.starts
+pub returns-clause-stuck : goal.returns-clause-stuck
+returns-clause-stuck g c = λ stuck. c.put_lines.ensures.stuck stuck c.args.classes c.args.world c.in_ok-world.ensures.starts

@@ -1,5 +1,5 @@
 use Rattle.std.proofs.Common.{rules, arith}
-use Rattle.flow_steps.specs.Straying.{no_wait, no_block}
+use Rattle.flow_steps.specs.Stuck.{no_wait, no_block}
 use Rattle.std.proofs.lemmas.Option.{slice_get_past}
 use Rattle.flow_steps.proofs.frames.stand_in.Goals as goal
 

@@ -4,7 +4,7 @@ use Rattle.flow_base.specs.declared.fault.OutFault.{OutFault}
 use Rattle.flow_base.specs.declared.fault.OutFault.TheVariants.{Failed}
 use Rattle.flow_machine.specs.Cause.{fault_of}
 use Rattle.flow_top.specs.Run.{ReportedRun}
-use Rattle.flow_top.proofs.Reporting.{came_to_end, broke_off, unflushed, rose_after, never_astray}
+use Rattle.flow_top.proofs.Reporting.{came_to_end, broke_off, unflushed, rose_after, never_stuck}
 use Rattle.flow_top.proofs.report.report_run.Goals as goal
 
 pub returns-in-Err : goal.returns-in-Err
@@ -15,7 +15,7 @@ returns-in-Err g c =
     (λ e. c.write_trace.ensures.cause.failed (is Failed e)))
 
 pub run_fault-requires : goal.run_fault-requires
-run_fault-requires g c = λ e. never_astray c.args.run _ c.requires (c.write_trace.ensures.astray (c.in-Err.is ∙ ap Err e))
+run_fault-requires g c = λ e. never_stuck c.args.run _ c.requires (c.write_trace.ensures.stuck (c.in-Err.is ∙ ap Err e))
 
 pub returns-in-Err-flush : goal.returns-in-Err-flush
 returns-in-Err-flush g c =

@@ -5,7 +5,7 @@ use Rattle.flow_class.specs.View.{class_of, block_of}
 use Rattle.flow_validate.specs.declared.touch.Touches.{Touches}
 use Rattle.flow_validate.specs.Joined.{AreJoined}
 use Rattle.flow_validate.specs.Small.{small_block}
-use Rattle.flow_validate.specs.Standing.{HoldsTouches}
+use Rattle.flow_validate.specs.WalkStates.{HoldsTouches}
 use Rattle.flow_validate.proofs.Plain.{all_plain}
 use Rattle.flow_validate.proofs.filling.all_touches.Goals as goal
 

@@ -2,7 +2,7 @@ use Rattle.std.proofs.Common.{◌*◌, ◌+◌, ◌/◌, ◌%◌, ◌<◌, ◌�
 use Rattle.std.proofs.lemmas.Grind.{div_ceil_times}
 use Rattle.flow_class.specs.View.{class_of}
 use Rattle.flow_validate.specs.Following.{place_in}
-use Rattle.flow_validate.specs.Standing.{IsFilled, FilledOr}
+use Rattle.flow_validate.specs.WalkStates.{IsFilled, FilledOr}
 use Rattle.flow_validate.proofs.Everywhere.{more_filled}
 use Rattle.flow_validate.proofs.filling.kind_filled.Goals as goal
 

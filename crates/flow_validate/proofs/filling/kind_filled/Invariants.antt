@@ -1,6 +1,6 @@
 use Rattle.std.proofs.Common.{◌*◌}
 use Rattle.flow_class.specs.View.{class_of}
-use Rattle.flow_validate.specs.Standing.{AreFilledBelow}
+use Rattle.flow_validate.specs.WalkStates.{AreFilledBelow}
 use Rattle.flow_validate.proofs.filling.kind_filled.Given as goal
 
 abbrev pub invariant-loop-number : goal.invariant-loop-number

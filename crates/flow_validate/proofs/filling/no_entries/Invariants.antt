@@ -1,5 +1,5 @@
 use Rattle.std.proofs.Common.{◌≡◌, ◌++◌, drop}
-use Rattle.flow_validate.specs.Standing.{nothing_entered}
+use Rattle.flow_validate.specs.WalkStates.{nothing_entered}
 use Rattle.flow_validate.proofs.filling.no_entries.Given as goal
 
 abbrev pub invariant-loop : goal.invariant-loop

@@ -5,7 +5,7 @@ use Rattle.flow_tree.specs.View.{type_of}
 use Rattle.flow_tree.specs.DeclView.{slot_of}
 use Rattle.flow_class.specs.View.{class_of}
 use Rattle.flow_valid.specs.Filling.{ReadsFilled}
-use Rattle.flow_validate.specs.Standing.{AreFilledBelow, FilledOr}
+use Rattle.flow_validate.specs.WalkStates.{AreFilledBelow, FilledOr}
 use Rattle.flow_validate.proofs.Everywhere.{everywhere, filled_or, below_as}
 use Rattle.flow_validate.proofs.filling.reads_filled.Goals as goal
 

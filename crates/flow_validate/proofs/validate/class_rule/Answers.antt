@@ -2,7 +2,7 @@ use Rattle.std.proofs.Common.{sym, subst, ◌∙◌}
 use Rattle.flow_class.specs.View.{class_of}
 use Rattle.flow_valid.specs.Filling.{ReadsFilled}
 use Rattle.flow_valid.specs.Validity.{tested, unfilled}
-use Rattle.flow_validate.specs.Standing.{FilledOr}
+use Rattle.flow_validate.specs.WalkStates.{FilledOr}
 use Rattle.flow_validate.proofs.validate.class_rule.Goals as goal
 
 pub returns-in-Some : goal.returns-in-Some

@@ -1,9 +1,9 @@
 use Rattle.std.proofs.Common.{rules, ap, ◌∙◌, subst}
 use Rattle.flow_picture.specs.Holds.{hold_all}
 use Rattle.flow_steps.specs.declared.process.Process.{Process}
-use Rattle.flow_steps.specs.Straying.{SomeMissing}
+use Rattle.flow_steps.specs.Stuck.{SomeMissing}
 use Rattle.flow_steps.specs.Holding.{value_refs}
-use Rattle.flow_steps.proofs.Holding.{kept_but_heap, fields_step, missing_step, field_missing, strays_weaker}
+use Rattle.flow_steps.proofs.Holding.{kept_but_heap, fields_step, missing_step, field_missing, if_stuck_weaker}
 use Rattle.flow_steps.proofs.process.Process.+hold_value.Goals as goal
 
 pub loop-field-preserved : goal.loop-field-preserved
@@ -20,11 +20,11 @@ loop-field-preserved t c =
           c.loop-field.invariant.2,
     )
 
-pub returns-in_err-hold_value-in-Struct-clause-astray : goal.returns-in_err-hold_value-in-Struct-clause-astray
-returns-in_err-hold_value-in-Struct-clause-astray t c =
+pub returns-in_err-hold_value-in-Struct-clause-stuck : goal.returns-in_err-hold_value-in-Struct-clause-stuck
+returns-in_err-hold_value-in-Struct-clause-stuck t c =
     let v = c.field-item.result in
     let q = c.loop-field.self in
-    let h = strays_weaker c.in_err-hold_value-in-Struct.field-0.0 _ (SomeMissing (value_refs c.args.value.now) c.args.self.now.heap)
+    let h = if_stuck_weaker c.in_err-hold_value-in-Struct.field-0.0 _ (SomeMissing (value_refs c.args.value.now) c.args.self.now.heap)
     (λ m. field_missing c.deref-field-items.result.now c.loop-field.field-index v q.heap _ c.loop-field-test.true c.loop-field.invariant.2
-    (subst (λ w. SomeMissing (value_refs w) q.heap) c.field-item.is m)) c.in_err-hold_value-in-Struct.ensures.astray in
+    (subst (λ w. SomeMissing (value_refs w) q.heap) c.field-item.is m)) c.in_err-hold_value-in-Struct.ensures.stuck in
     search (rules, h)

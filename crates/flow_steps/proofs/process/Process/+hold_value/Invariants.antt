@@ -1,7 +1,7 @@
 use Rattle.std.proofs.Common.{◌≡◌, drop}
 use Rattle.flow_picture.specs.Holds.{hold_all}
 use Rattle.flow_steps.specs.Holding.{value_refs}
-use Rattle.flow_steps.specs.Straying.{SomeMissing}
+use Rattle.flow_steps.specs.Stuck.{SomeMissing}
 use Rattle.flow_steps.proofs.Holding.{fields_held, fields_missing}
 use Rattle.flow_steps.proofs.process.Process.+hold_value.Given as goal
 

@@ -1,8 +1,8 @@
-use Rattle.flow_steps.specs.AmissTasks.{EndsAmiss}
-use Rattle.flow_steps.proofs.Holding.{astray_weaker}
+use Rattle.flow_steps.specs.StuckTasks.{EndsStuck}
+use Rattle.flow_steps.proofs.Holding.{on_stuck_weaker}
 use Rattle.flow_steps.proofs.TasksAmiss.{turned_on}
 use Rattle.flow_steps.proofs.process.Process.close_result.Goals as goal
 
-pub returns-clause-astray : goal.returns-clause-astray
-returns-clause-astray c =
-    astray_weaker c.end_with-ended.result _ _ (turned_on (EndsAmiss c.args.cell) c.args.self.now c.turn.new.self c.turn.ensures.left) c.end_with-ended.ensures.astray
+pub returns-clause-stuck : goal.returns-clause-stuck
+returns-clause-stuck c =
+    on_stuck_weaker c.end_with-ended.result _ _ (turned_on (EndsStuck c.args.cell) c.args.self.now c.turn.new.self c.turn.ensures.left) c.end_with-ended.ensures.stuck

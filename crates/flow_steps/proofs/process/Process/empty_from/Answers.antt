@@ -2,7 +2,7 @@ use Rattle.std.proofs.Common.{rules, ◌+◌, ◌-◌, ◌≡◌, length, refl, 
 use Rattle.flow_cancel.specs.Heap.{HeapTree}
 use Rattle.flow_numbered.specs.Numbered.{thing}
 use Rattle.flow_steps.specs.declared.process.Process.{Process}
-use Rattle.flow_steps.specs.Standing.{place_held, place_lost, places_lost}
+use Rattle.flow_steps.specs.Points.{place_held, place_lost, places_lost}
 use Rattle.flow_steps.proofs.Holding.{kept_but_heap}
 use Rattle.flow_steps.proofs.Over.{over_none, over_then}
 use Rattle.flow_steps.proofs.Framing.{filled_behind, still_empty, lost_one, lost_end}

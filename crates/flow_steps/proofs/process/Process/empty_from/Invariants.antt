@@ -1,6 +1,6 @@
 use Rattle.std.proofs.Common.{◌≡◌, ℕ, ◌-◌, ◌≤◌, None}
 use Rattle.flow_steps.specs.Drops.{DropsOver}
-use Rattle.flow_steps.specs.Standing.{place_held, places_lost}
+use Rattle.flow_steps.specs.Points.{place_held, places_lost}
 use Rattle.flow_steps.proofs.process.Process.empty_from.Given as goal
 
 abbrev pub invariant-loop-place : goal.invariant-loop-place

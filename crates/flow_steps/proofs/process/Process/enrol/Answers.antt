@@ -1,6 +1,6 @@
 use Rattle.std.proofs.Common.{rules, ap, sym, ◌∙◌}
 use Rattle.flow_cancel.specs.Heap.{HeapTree}
-use Rattle.flow_steps.specs.AmissCalls.{other_params}
+use Rattle.flow_steps.specs.StuckCalls.{other_params}
 use Rattle.flow_steps.proofs.Acts.{enrols_by}
 use Rattle.flow_steps.proofs.process.Process.enrol.Goals as goal
 
@@ -11,9 +11,9 @@ returns-clause-done c =
     (ap (λ (h : HeapTree). record p { heap = h }) c.in_ok-cell.ensures.made) c.in_ok-filled.ensures.counted c.in_ok-filled.ensures.filled c.in_ok-actor.ensures.number
     (ap (λ (h : HeapTree). record c.fill_places.new.self { heap = h }) c.in_ok-actor.ensures.started)
 
-pub returns-then-len-class-clause-astray : goal.returns-then-len-class-clause-astray
-returns-then-len-class-clause-astray c =
+pub returns-then-len-class-clause-stuck : goal.returns-then-len-class-clause-stuck
+returns-then-len-class-clause-stuck c =
     other_params c.in-Some.class.now (sym c.in-Some.ensures) (λ e. c.if-len-class.true (c.len.ensures ∙ c.args.args.ok.0 ∙ e))
 
-pub returns-clause-astray : goal.returns-clause-astray
-returns-clause-astray c = search rules
+pub returns-clause-stuck : goal.returns-clause-stuck
+returns-clause-stuck c = search rules

@@ -1,10 +1,10 @@
 use Rattle.std.proofs.Common.{rules}
 use Rattle.flow_steps.proofs.Called.{port_there}
-use Rattle.flow_steps.proofs.Holding.{strays_weaker}
+use Rattle.flow_steps.proofs.Holding.{if_stuck_weaker}
 use Rattle.flow_steps.proofs.process.Process.gives_port.Goals as goal
 
-pub returns-in_err-hold-clause-astray : goal.returns-in_err-hold-clause-astray
-returns-in_err-hold-clause-astray c =
-    let h = strays_weaker c.in_err-hold.field-0.0 _ ⊥
-    (port_there c.args.goal c.args.actor c.in_ok-cell.cell c.args.self.now c.gives_new.new.self c.in_ok-cell.ensures.number c.in_ok-cell.ensures.given) c.in_err-hold.ensures.astray in
+pub returns-in_err-hold-clause-stuck : goal.returns-in_err-hold-clause-stuck
+returns-in_err-hold-clause-stuck c =
+    let h = if_stuck_weaker c.in_err-hold.field-0.0 _ ⊥
+    (port_there c.args.goal c.args.actor c.in_ok-cell.cell c.args.self.now c.gives_new.new.self c.in_ok-cell.ensures.number c.in_ok-cell.ensures.given) c.in_err-hold.ensures.stuck in
     search (rules, h)

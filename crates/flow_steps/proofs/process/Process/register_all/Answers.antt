@@ -4,8 +4,8 @@ use Rattle.flow_value.specs.declared.value.Value.{Value}
 use Rattle.flow_numbered.specs.Numbered.{Store, thing}
 use Rattle.flow_steps.specs.declared.process.Process.{Process}
 use Rattle.flow_steps.specs.Waiting.{callbacks_in, callbacks_of, register}
-use Rattle.flow_steps.specs.AmissWaits.{SomeNoCell}
-use Rattle.flow_steps.proofs.Holding.{strays_weaker}
+use Rattle.flow_steps.specs.StuckWaits.{SomeNoCell}
+use Rattle.flow_steps.proofs.Holding.{if_stuck_weaker}
 use Rattle.flow_steps.proofs.Waits.{frames_stay, next_registered, next_refused}
 use Rattle.flow_steps.proofs.Amiss.{no_cell_step, no_cell_here, get_none}
 use Rattle.flow_steps.proofs.process.Process.register_all.Goals as goal
@@ -33,20 +33,20 @@ loop-place-preserved c =
           (ap (λ (x : Process). x.heap) c.in_ok-register.ensures.done.1) c.loop-place.invariant.3,
     )
 
-pub returns-in_default-clause-astray : goal.returns-in_default-clause-astray
-returns-in_default-clause-astray c =
+pub returns-in_default-clause-stuck : goal.returns-in_default-clause-stuck
+returns-in_default-clause-stuck c =
     let i = c.args.actor.0 in
     let n = c.loop-place.place in
     let lt = subst (λ count. n < count) c.operands-count.ensures c.loop-place-test.true in
     let none = c.in_default.ensures ∙ ap (λ (s : Store (FrameTree Value)). slice_get (callbacks_in (thing s.things i)) n) c.loop-place.invariant.1 in
     absurd (get_none (callbacks_of i c.args.self.now.heap) n lt (sym none))
 
-pub returns-in_err-register-clause-astray : goal.returns-in_err-register-clause-astray
-returns-in_err-register-clause-astray c =
+pub returns-in_err-register-clause-stuck : goal.returns-in_err-register-clause-stuck
+returns-in_err-register-clause-stuck c =
     let i = c.args.actor.0 in
     let p = c.args.self.now in
     let n = c.loop-place.place in
     let held = c.in-Some.ensures ∙ ap (λ (s : Store (FrameTree Value)). slice_get (callbacks_in (thing s.things i)) n) c.loop-place.invariant.1 in
-    let h = strays_weaker c.in_err-register.field-0.0 _ (SomeNoCell (callbacks_of i p.heap) p.heap)
-    (no_cell_here (callbacks_of i p.heap) n c.in-Some.held c.loop-place.self.heap _ held c.loop-place.invariant.3) c.in_err-register.ensures.astray in
+    let h = if_stuck_weaker c.in_err-register.field-0.0 _ (SomeNoCell (callbacks_of i p.heap) p.heap)
+    (no_cell_here (callbacks_of i p.heap) n c.in-Some.held c.loop-place.self.heap _ held c.loop-place.invariant.3) c.in_err-register.ensures.stuck in
     search (rules, h)

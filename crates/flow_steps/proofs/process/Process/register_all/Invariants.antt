@@ -1,6 +1,6 @@
 use Rattle.std.proofs.Common.{◌≡◌, drop}
 use Rattle.flow_steps.specs.Waiting.{callbacks_of, register_all}
-use Rattle.flow_steps.specs.AmissWaits.{SomeNoCell}
+use Rattle.flow_steps.specs.StuckWaits.{SomeNoCell}
 use Rattle.flow_steps.proofs.Waits.{registered_after}
 use Rattle.flow_steps.proofs.process.Process.register_all.Given as goal
 

@@ -1,7 +1,7 @@
 use Rattle.std.proofs.Common.{rules, subst}
 use Rattle.flow_steps.specs.Stepping.{StepsOn, runs_on, runs_off}
-use Rattle.flow_steps.specs.AmissSteps.{step_now, step_later}
-use Rattle.flow_steps.proofs.Holding.{strays_weaker}
+use Rattle.flow_steps.specs.StuckSteps.{step_now, step_later}
+use Rattle.flow_steps.proofs.Holding.{if_stuck_weaker}
 use Rattle.flow_steps.proofs.process.Process.run_from.Goals as goal
 
 pub returns-in-Off-clause-done : goal.returns-in-Off-clause-done
@@ -16,7 +16,7 @@ loop-step-preserved c =
       (λ m. c.loop-step.invariant.1 (step_later _ _ _ _ step m)),
     )
 
-pub returns-in_err-next-clause-astray : goal.returns-in_err-next-clause-astray
-returns-in_err-next-clause-astray c =
-    let h = strays_weaker c.in_err-next.field-0.0 _ _ (λ m. c.loop-step.invariant.1 (step_now _ _ m)) c.in_err-next.ensures.astray in
+pub returns-in_err-next-clause-stuck : goal.returns-in_err-next-clause-stuck
+returns-in_err-next-clause-stuck c =
+    let h = if_stuck_weaker c.in_err-next.field-0.0 _ _ (λ m. c.loop-step.invariant.1 (step_now _ _ m)) c.in_err-next.ensures.stuck in
     search (rules, h)

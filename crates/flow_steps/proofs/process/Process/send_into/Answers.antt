@@ -4,14 +4,14 @@ use Rattle.flow_cancel.specs.declared.task.Task.TheVariants.{Run}
 use Rattle.flow_picture.specs.Holds.{hold_all}
 use Rattle.flow_steps.specs.declared.process.Process.{Process}
 use Rattle.flow_steps.specs.Holding.{outcome_refs}
-use Rattle.flow_steps.specs.Bringing.{complete_at}
-use Rattle.flow_steps.specs.Straying.{MayNotFill}
-use Rattle.flow_steps.proofs.Holding.{astray_weaker}
+use Rattle.flow_steps.specs.Delivering.{complete_at}
+use Rattle.flow_steps.specs.Stuck.{MayNotFill}
+use Rattle.flow_steps.proofs.Holding.{on_stuck_weaker}
 use Rattle.flow_steps.proofs.Amiss.{turned_heap, unfilled_missing}
 use Rattle.flow_steps.proofs.process.Process.send_into.Goals as goal
 
-pub returns-clause-astray : goal.returns-clause-astray
-returns-clause-astray c =
+pub returns-clause-stuck : goal.returns-clause-stuck
+returns-clause-stuck c =
     let p = c.args.self.now in
     let kd = c.args.kind in
     let k = c.args.cell.0 in
@@ -20,5 +20,5 @@ returns-clause-astray c =
     let turned = ap (λ (x : Process). x.heap) c.turn.ensures.left ∙ turned_heap p in
     let held = ap (λ (x : Process). x.heap) c.in_ok-hold_outcome.ensures.done ∙ ap (hold_all rs) turned in
     let now = c.in_ok-push.ensures ∙ ap (pushed (Run c.args.actor)) held in
-    astray_weaker c.fill.result _ _ (λ m. inl (unfilled_missing kd k rs (Run c.args.actor) p.heap complete (subst (λ (h : HeapTree). MayNotFill kd k h) now m)))
-    c.fill.ensures.astray
+    on_stuck_weaker c.fill.result _ _ (λ m. inl (unfilled_missing kd k rs (Run c.args.actor) p.heap complete (subst (λ (h : HeapTree). MayNotFill kd k h) now m)))
+    c.fill.ensures.stuck

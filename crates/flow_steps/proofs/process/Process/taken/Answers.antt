@@ -5,9 +5,9 @@ use Rattle.std.specs.declared.option.Option.TheVariants.{None}
 use Rattle.flow_value.specs.declared.value.Value.{Value}
 use Rattle.flow_cancel.specs.Heap.{HeapTree}
 use Rattle.flow_steps.specs.declared.process.Process.{Process}
-use Rattle.flow_steps.specs.Standing.{place_held, place_put, places_taken, places_emptied, referring}
+use Rattle.flow_steps.specs.Points.{place_held, place_put, places_taken, places_emptied, referring}
 use Rattle.flow_steps.proofs.Framing.{emptied_after, taken_after, one_emptied, one_taken}
-use Rattle.flow_steps.proofs.Holding.{strays_weaker, kept_but_heap}
+use Rattle.flow_steps.proofs.Holding.{if_stuck_weaker, kept_but_heap}
 use Rattle.flow_steps.proofs.Before.{place_missing, missing_place_step}
 use Rattle.flow_steps.proofs.process.Process.taken.Goals as goal
 
@@ -31,11 +31,11 @@ loop-place-preserved c =
       missing_place_step i ns k 0 q.heap r.heap _ c.loop-place-test.true heap c.loop-place.invariant.3,
     )
 
-pub returns-in_err-old-clause-astray : goal.returns-in_err-old-clause-astray
-returns-in_err-old-clause-astray c =
-    let h = strays_weaker c.in_err-old.field-0.0 _ _
+pub returns-in_err-old-clause-stuck : goal.returns-in_err-old-clause-stuck
+returns-in_err-old-clause-stuck c =
+    let h = if_stuck_weaker c.in_err-old.field-0.0 _ _
     (place_missing c.args.actor.0 c.args.places.now c.loop-place.place-index 0 c.loop-place.self.heap _ c.loop-place-test.true c.loop-place.invariant.3)
-    c.in_err-old.ensures.astray in
+    c.in_err-old.ensures.stuck in
     search (rules, h)
 
 pub returns-clause-taken : goal.returns-clause-taken

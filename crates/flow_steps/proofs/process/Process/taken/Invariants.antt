@@ -1,6 +1,6 @@
 use Rattle.std.proofs.Common.{◌≡◌, drop}
-use Rattle.flow_steps.specs.Standing.{places_taken, places_emptied}
-use Rattle.flow_steps.specs.Straying.{SomePlaceMissing}
+use Rattle.flow_steps.specs.Points.{places_taken, places_emptied}
+use Rattle.flow_steps.specs.Stuck.{SomePlaceMissing}
 use Rattle.flow_steps.proofs.Framing.{emptied_after, taken_after}
 use Rattle.flow_steps.proofs.process.Process.taken.Given as goal
 

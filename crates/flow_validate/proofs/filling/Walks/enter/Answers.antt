@@ -1,6 +1,6 @@
 use Rattle.std.proofs.Common.{◌<◌, [], ◌∷◌, ℕ, List, set, length, Some, refl, sym, subst, ◌∙◌, arith}
 use Rattle.std.proofs.lemmas.Option.{slice_get_read}
-use Rattle.flow_validate.specs.Standing.{standing, plain_way, Entered}
+use Rattle.flow_validate.specs.WalkStates.{standing, plain_way, Entered}
 use Rattle.flow_validate.proofs.Entering.{stays, widens}
 use Rattle.flow_validate.proofs.filling.Walks.enter.Goals as goal
 

@@ -1,5 +1,5 @@
 use Rattle.std.proofs.Common.{[], ◌∷◌}
-use Rattle.flow_validate.specs.Standing.{standing, plain_way, Entered}
+use Rattle.flow_validate.specs.WalkStates.{standing, plain_way, Entered}
 use Rattle.flow_validate.proofs.Entering.{entered_then, ok_then}
 use Rattle.flow_validate.proofs.filling.Walks.enter_both.Goals as goal
 

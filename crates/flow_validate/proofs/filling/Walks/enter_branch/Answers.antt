@@ -1,6 +1,6 @@
 use Rattle.std.proofs.Common.{[], ◌∷◌, ◌-◌, bit_and}
 use Rattle.flow_class.specs.View.{callback_of}
-use Rattle.flow_validate.specs.Standing.{standing, plain_way, branch_way, Entered}
+use Rattle.flow_validate.specs.WalkStates.{standing, plain_way, branch_way, Entered}
 use Rattle.flow_validate.proofs.Entering.{ok_then}
 use Rattle.flow_validate.proofs.Ways.{branch_entered}
 use Rattle.flow_validate.proofs.filling.Walks.enter_branch.Goals as goal

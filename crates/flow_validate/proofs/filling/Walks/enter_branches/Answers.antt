@@ -1,6 +1,6 @@
 use Rattle.std.proofs.Common.{[], ◌∷◌, map, take, List, subst, sym}
 use Rattle.flow_class.specs.View.{callback_of}
-use Rattle.flow_validate.specs.Standing.{Way, standing, branch_way, Entered}
+use Rattle.flow_validate.specs.WalkStates.{Way, standing, branch_way, Entered}
 use Rattle.flow_validate.proofs.Entering.{entered_then}
 use Rattle.flow_validate.proofs.Ways.{more_mapped}
 use Rattle.flow_validate.proofs.filling.Walks.enter_branches.Goals as goal

@@ -1,6 +1,6 @@
 use Rattle.std.proofs.Common.{map, take}
 use Rattle.flow_class.specs.View.{callback_of}
-use Rattle.flow_validate.specs.Standing.{standing, branch_way, Entered}
+use Rattle.flow_validate.specs.WalkStates.{standing, branch_way, Entered}
 use Rattle.flow_validate.proofs.filling.Walks.enter_branches.Given as goal
 
 abbrev pub invariant-loop-callback : goal.invariant-loop-callback

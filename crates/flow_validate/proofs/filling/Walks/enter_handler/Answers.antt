@@ -5,7 +5,7 @@ use Rattle.flow_validate.specs.Following.{AreBits}
 use Rattle.std.specs.Option.{option_map}
 use Rattle.std.specs.declared.option.Option.{Option}
 use Rattle.flow_class.specs.declared.class.Catcher.{Catcher}
-use Rattle.flow_validate.specs.Standing.{standing, plain_way, handler_ways, Entered}
+use Rattle.flow_validate.specs.WalkStates.{standing, plain_way, handler_ways, Entered}
 use Rattle.flow_validate.proofs.Entering.{ok_then}
 use Rattle.flow_validate.proofs.Ways.{handler_entered}
 use Rattle.flow_validate.proofs.filling.Walks.enter_handler.Goals as goal

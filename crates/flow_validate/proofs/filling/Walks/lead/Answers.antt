@@ -1,7 +1,7 @@
 use Rattle.std.specs.Option.{option_map}
 use Rattle.std.proofs.Common.{◌++◌}
 use Rattle.flow_class.specs.View.{class_of, catcher_of, last_of}
-use Rattle.flow_validate.specs.Standing.{standing, handler_ways, last_ways, Entered}
+use Rattle.flow_validate.specs.WalkStates.{standing, handler_ways, last_ways, Entered}
 use Rattle.flow_validate.proofs.Entering.{entered_then, ok_then}
 use Rattle.flow_validate.proofs.filling.Walks.lead.Goals as goal
 

@@ -4,7 +4,7 @@ use Rattle.std.proofs.lemmas.List.{length-map}
 use Rattle.flow_class.specs.View.{class_of, block_of}
 use Rattle.flow_validate.specs.declared.window.Passage.{Passage}
 use Rattle.flow_validate.specs.Following.{ArePassing}
-use Rattle.flow_validate.specs.Standing.{AnyBit, standing}
+use Rattle.flow_validate.specs.WalkStates.{AnyBit, standing}
 use Rattle.flow_validate.proofs.Groups.{found_at}
 use Rattle.flow_validate.proofs.Entering.{there}
 use Rattle.flow_validate.proofs.Passes.{seen, entered_passing, misreads, block_passes}

@@ -1,6 +1,6 @@
 use Rattle.std.proofs.Common.{◌≡◌, ℕ, List, [], ◌∷◌, length, refl, subst, arith}
 use Rattle.flow_class.specs.View.{class_of}
-use Rattle.flow_validate.specs.Standing.{Standing, standing, PassesOr}
+use Rattle.flow_validate.specs.WalkStates.{WalkState, standing, PassesOr}
 use Rattle.flow_validate.proofs.Followed.{passed_more, all_filled}
 use Rattle.flow_validate.proofs.filling.Walks.pass_all.Goals as goal
 
@@ -11,7 +11,7 @@ none_left (x ∷ xs) h = absurd (omega (arith, h))
 pub loop-block-preserved : goal.loop-block-preserved
 loop-block-preserved c =
     let class = class_of c.args.class.now in
-    let popped : Standing = record { entries = c.loop-block.self.entries.items; todo = c.pop.new.self.items } in
+    let popped : WalkState = record { entries = c.loop-block.self.entries.items; todo = c.pop.new.self.items } in
     let new = standing c.pass.new.self in
     passed_more class c.args.window (standing c.loop-block.self) popped new c.in-Some.block refl c.in-Some.ensures.items c.loop-block.invariant
     (subst (PassesOr class c.args.window popped new c.in-Some.block) c.if-not-branch.false c.in_ok-pass.ensures)

@@ -1,5 +1,5 @@
 use Rattle.flow_class.specs.View.{class_of}
-use Rattle.flow_validate.specs.Standing.{standing, AreWalks, work}
+use Rattle.flow_validate.specs.WalkStates.{standing, AreWalks, work}
 use Rattle.flow_validate.proofs.filling.Walks.pass_all.Given as goal
 
 abbrev pub invariant-loop-block : goal.invariant-loop-block

@@ -1,11 +1,11 @@
 use Rattle.std.proofs.Common.{rules, IfOk}
 use Rattle.std.proofs.lemmas.Result.{IfOk-weaker}
 use Rattle.flow_world.specs.Happening.{Comes, begins}
-use Rattle.flow_world.specs.Telling.{Telling, tells, whole}
+use Rattle.flow_world.specs.FaultedLines.{Telling, tells, whole}
 use Rattle.flow_world.specs.Worlds.{world_seen}
 use Rattle.flow_world.proofs.MovedEvents.{comes_by}
-use Rattle.flow_world.proofs.MovedAmiss.{comes_amiss_by}
-use Rattle.flow_world.proofs.Telling.{told_whole, told_part, strayed}
+use Rattle.flow_world.proofs.MovedStuck.{comes_stuck_by}
+use Rattle.flow_world.proofs.Telling.{told_whole, told_part, got_stuck}
 use Rattle.flow_world.proofs.world.World.carries_out.Goals as goal
 
 pub returns-clause-comes : goal.returns-clause-comes
@@ -30,7 +30,7 @@ returns-clause-breaks g c =
     IfOk-weaker c.comes-burst.result _ _ (λ e does. comes_by (λ k. record { out = k.out.now; fault = k.fault }) _ (tells puts) (λ a b l p. p) c.args.scripted first _ e left _ does) c.comes-burst.ensures.comes in
     told_part (λ e z. Comes (tells puts) c.args.scripted first (whole c.args.out.now) e left z) t _ c.comes-burst.result c.unless_failed.result (search rules) c.unless_failed.ensures c.comes-burst.ensures.cause told
 
-pub returns-clause-astray : goal.returns-clause-astray
-returns-clause-astray g c = λ astray.
-    comes_amiss_by (λ k. record { out = k.out.now; fault = k.fault }) _ (tells g.L.LineOut.puts) (λ a b l p. p) c.args.scripted (begins c.args.time (world_seen c.args.self.now)) _
-    (c.comes-burst.ensures.astray (strayed c.comes-burst.result _ _ c.unless_failed.ensures astray))
+pub returns-clause-stuck : goal.returns-clause-stuck
+returns-clause-stuck g c = λ stuck.
+    comes_stuck_by (λ k. record { out = k.out.now; fault = k.fault }) _ (tells g.L.LineOut.puts) (λ a b l p. p) c.args.scripted (begins c.args.time (world_seen c.args.self.now)) _
+    (c.comes-burst.ensures.stuck (got_stuck c.comes-burst.result _ _ c.unless_failed.ensures stuck))

@@ -1,7 +1,7 @@
 use Rattle.std.proofs.Common.{rules, ◌≡◌, refl, subst}
 use Rattle.flow_machine.specs.declared.host.Burst.TheVariants.{Rested, Spent}
 use Rattle.flow_world.specs.Happening.{Comes, begins, ends}
-use Rattle.flow_world.specs.Telling.{tells, whole}
+use Rattle.flow_world.specs.FaultedLines.{tells, whole}
 use Rattle.flow_world.specs.Worlds.{world_seen}
 use Rattle.flow_world.proofs.Happenings.{ended_again}
 use Rattle.flow_world.proofs.world.World.event.Goals as goal
