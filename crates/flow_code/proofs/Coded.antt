@@ -7,11 +7,11 @@ use Rattle.flow_class.specs.declared.class.Class as text
 use Rattle.flow_class.specs.declared.class.RawClasses.{RawClasses}
 use Rattle.flow_class.specs.Classes.{ClassTree}
 use Rattle.flow_class.specs.View.{class_of, raw_of}
-use Rattle.flow_resolved.specs.declared.names.Names.{Names}
-use Rattle.flow_resolved.specs.declared.names.FieldNames.{FieldNames}
-use Rattle.flow_resolved.specs.Named.{at_name, first_from, naming_of}
-use Rattle.flow_resolved.specs.Resolving.{AreRecords, AreFunctions, IsNumbering}
-use Rattle.flow_resolved.specs.View.{places_in}
+use Rattle.flow_code.specs.declared.expr.names.Names.{Names}
+use Rattle.flow_code.specs.declared.expr.names.FieldNames.{FieldNames}
+use Rattle.flow_code.specs.Resolved.Named.{at_name, first_from, naming_of}
+use Rattle.flow_code.specs.Resolved.Resolving.{AreRecords, AreFunctions, IsNumbering}
+use Rattle.flow_code.specs.Resolved.View.{places_in}
 use Rattle.flow_code.specs.declared.class.Class.{Class}
 use Rattle.flow_code.specs.declared.coding.ClassNames.{ClassNames}
 use Rattle.flow_code.specs.Coder.{name_of_class}

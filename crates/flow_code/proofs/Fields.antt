@@ -5,7 +5,7 @@ use Rattle.std.specs.declared.option.Option.{Option}
 use Rattle.std.specs.declared.option.Option.TheVariants.{None, Some}
 use Rattle.flow_tree.specs.declared.ty.Ident.{Ident}
 use Rattle.std.proofs.lemmas.List.{drop_all}
-use Rattle.flow_resolved.proofs.Maps.{drop_more}
+use Rattle.flow_code.proofs.Resolved.Maps.{drop_more}
 use Rattle.flow_code.specs.Coding.{one_more, fields_of}
 
 -- fields before those of the names from a place on

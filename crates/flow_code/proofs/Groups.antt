@@ -4,7 +4,7 @@ use Rattle.flow_class.specs.declared.class.Group as text
 use Rattle.flow_class.specs.View as view
 use Rattle.flow_class.specs.Classes.{CallbackTree}
 use Rattle.std.proofs.lemmas.List.{drop_all}
-use Rattle.flow_resolved.proofs.Maps.{drop_more}
+use Rattle.flow_code.proofs.Resolved.Maps.{drop_more}
 use Rattle.flow_code.specs.declared.class.Group.{Group}
 use Rattle.flow_code.specs.View.{branch_of, group_of}
 use Rattle.flow_code.specs.Classes.{GroupCode}

@@ -3,7 +3,7 @@ use Rattle.std.proofs.Common.{◌≡◌, ℕ, suc, ◌+◌, ◌<◌, ◌≤◌, 
 use Rattle.flow_class.specs.declared.class.Block.{Block}
 use Rattle.flow_class.specs.View as text
 use Rattle.std.proofs.lemmas.List.{drop_all}
-use Rattle.flow_resolved.proofs.Maps.{drop_more}
+use Rattle.flow_code.proofs.Resolved.Maps.{drop_more}
 use Rattle.flow_code.specs.Coding.{home_noted, homes_from}
 
 pub homes_step : (bs : List Block) (i : ℕ) (d : Block) (old new all : List ℕ) → i < length bs

@@ -3,3 +3,4 @@ pub mod Fields
 pub mod Groups
 pub mod Homes
 pub mod Paths
+pub mod Resolved

@@ -2,7 +2,7 @@
 use Rattle.std.proofs.Common.{◌≡◌, List, [], ◌∷◌, ◌++◌, ap, refl, sym, ◌∙◌}
 use Rattle.flow_tree.specs.declared.ty.Ident.{Ident}
 use Rattle.flow_ast.specs.TypingNames.{named, method_names}
-use Rattle.flow_resolved.specs.Tree.{Nodes}
+use Rattle.flow_code.specs.Resolved.Tree.{Nodes}
 use Rattle.flow_code.specs.Classes.{InstructionTree}
 use Rattle.flow_code.specs.Coding.{Coding, before_last, last_name, act_code, aimed, method_code}
 

@@ -5,7 +5,7 @@ use Rattle.std.specs.declared.option.Option.{Option}
 use Rattle.flow_value.specs.declared.value.Kind.{Kind}
 use Rattle.flow_ast.specs.declared.predefined.Method.{Method}
 use Rattle.flow_class.specs.Classes.{CatcherTree}
-use Rattle.flow_resolved.specs.Tree.{Node, Nodes}
+use Rattle.flow_code.specs.Resolved.Tree.{Node, Nodes}
 use Rattle.flow_code.specs.declared.class.Effect.{Effect}
 use Rattle.flow_code.specs.declared.class.Act.{Act}
 

@@ -2,10 +2,10 @@
 use Rattle.std.specs.Prelude.{◌≡◌, ℕ, List, map, length, codes}
 use Rattle.std.specs.declared.option.Option.{Option}
 use Rattle.flow_class.specs.Classes.{ClassTree, RawTree}
-use Rattle.flow_resolved.specs.Named.{first_from}
-use Rattle.flow_resolved.specs.Resolving.{Naming, AreRecords, AreFunctions, IsNumbering}
-use Rattle.flow_resolved.specs.View.{places_in}
-use Rattle.flow_resolved.specs.declared.names.FieldNames.{FieldNames}
+use Rattle.flow_code.specs.Resolved.Named.{first_from}
+use Rattle.flow_code.specs.Resolved.Resolving.{Naming, AreRecords, AreFunctions, IsNumbering}
+use Rattle.flow_code.specs.Resolved.View.{places_in}
+use Rattle.flow_code.specs.declared.expr.names.FieldNames.{FieldNames}
 use Rattle.flow_code.specs.declared.class.Class.{Class}
 use Rattle.flow_code.specs.Places.{place_in}
 use Rattle.flow_code.specs.Classes.{ClassCode}

@@ -1,7 +1,7 @@
 -- What the coding of a class in the code stands for.
 use Rattle.std.specs.Prelude.{ℕ, List}
 use Rattle.flow_class.specs.declared.class.Class.{Class}
-use Rattle.flow_resolved.specs.Named.{at_name, naming_of}
+use Rattle.flow_code.specs.Resolved.Named.{at_name, naming_of}
 use Rattle.flow_code.specs.declared.coding.Coder.{Coder}
 use Rattle.flow_code.specs.Places.{place_in}
 use Rattle.flow_code.specs.Coding.{Coding}

@@ -14,8 +14,8 @@ use Rattle.flow_ast.specs.TypingNames.{named, call_names, method_names}
 use Rattle.flow_class.specs.declared.class.Slotted.{Slotted}
 use Rattle.flow_class.specs.Classes.{CatcherTree, InstrTree, SetInstr, EffectInstr, NewInstr, ActInstr, DropInstr, LastTree, GotoLast, PassLast, TestLast, ChooseLast, ReturnLast, ThrowLast, BlockTree, CallbackTree, ClassTree}
 use Rattle.flow_class.specs.Code.{type_at}
-use Rattle.flow_resolved.specs.Tree.{Node, Nodes}
-use Rattle.flow_resolved.specs.Resolving.{Naming, resolved, resolved_all}
+use Rattle.flow_code.specs.Resolved.Tree.{Node, Nodes}
+use Rattle.flow_code.specs.Resolved.Resolving.{Naming, resolved, resolved_all}
 use Rattle.flow_code.specs.declared.class.Effect.{Effect}
 use Rattle.flow_code.specs.declared.class.Effect.TheVariants as effect
 use Rattle.flow_code.specs.declared.class.Act.{Act}

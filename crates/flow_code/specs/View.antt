@@ -4,7 +4,7 @@ use Rattle.std.specs.Option.{option_map}
 use Rattle.std.specs.declared.option.Option.{Option}
 use Rattle.std.specs.declared.option.Option.TheVariants.{None}
 use Rattle.flow_class.specs.Classes.{CatcherTree}
-use Rattle.flow_resolved.specs.View.{node_of, nodes_of}
+use Rattle.flow_code.specs.Resolved.View.{node_of, nodes_of}
 use Rattle.flow_code.specs.declared.class.Aim.{Aim}
 use Rattle.flow_code.specs.declared.class.Instruction.{Instruction}
 use Rattle.flow_code.specs.declared.class.Instruction.TheVariants.{Set, Effect, New, Act, Method, Drop, Invalid}

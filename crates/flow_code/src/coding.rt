@@ -6,9 +6,9 @@ ghost use Rattle.std.specs.Str.{bytes_eq};
 ghost use Rattle.flow_tree.specs.View.{expr_of, exprs_of, type_of};
 ghost use Rattle.flow_ast.specs.TypingNames.{named, call_names};
 ghost use Rattle.flow_class.specs.View as text;
-ghost use Rattle.flow_resolved.specs.Named.{at_name, first_from, or_else};
-ghost use Rattle.flow_resolved.specs.Resolving.{resolved, resolved_all};
-ghost use Rattle.flow_resolved.specs.View.{node_of, nodes_of};
+ghost use Rattle.flow_code.specs.Resolved.Named.{at_name, first_from, or_else};
+ghost use Rattle.flow_code.specs.Resolved.Resolving.{resolved, resolved_all};
+ghost use Rattle.flow_code.specs.Resolved.View.{node_of, nodes_of};
 ghost use Rattle.flow_code.specs.Places.{place_of, place_in};
 ghost use Rattle.flow_code.specs.Coding.{is_effect, promise_kind, fields_of, aimed, effect_named, effect_in, act_named, kind_at, coded_set, coded_effect, coded_new, coded_method, coded_operand, act_code, places, coded_instruction, ended, caught, coded_block, coded_branch, homes_of, home_noted, coded_groups, coded_class};
 ghost use Rattle.flow_code.specs.Coder.{coding_of, name_of_class};
@@ -22,9 +22,9 @@ use flow_base::memory::NoMemory;
 use flow_class::class as text;
 use flow_class::class::Slotted;
 use flow_class::places::place_named;
-use flow_resolved::expr::Resolved;
-use flow_resolved::names::Names;
-use flow_resolved::resolve::{NamedPlaces, resolve, resolve_all};
+use crate::expr::expr::Resolved;
+use crate::expr::names::Names;
+use crate::expr::resolve::{NamedPlaces, resolve, resolve_all};
 use flow_tree::expr::Expr;
 use flow_tree::stmt::Target;
 use flow_tree::ty::{Ident, Ty};
@@ -58,7 +58,7 @@ pub(crate) struct ClassNames<'a> {
     named: IndexMap<&'a [u8], u32>,
 }
 
-#[tactic(auto, using(flow_resolved::proofs::Maps::noted_there, flow_resolved::proofs::Maps::noted_new))]
+#[tactic(auto, using(crate::proofs::Resolved::Maps::noted_there, crate::proofs::Resolved::Maps::noted_new))]
 /// Notes the place of a name, unless one is noted already.
 fn note<'a>(
     places: &mut IndexMap<&'a [u8], u32>,
@@ -75,7 +75,7 @@ fn note<'a>(
     Ok(())
 }
 
-#[tactic(auto, using(flow_resolved::proofs::Maps::first_step, flow_resolved::proofs::Maps::first_end))]
+#[tactic(auto, using(crate::proofs::Resolved::Maps::first_step, crate::proofs::Resolved::Maps::first_end))]
 /// The place of the first class of each name.
 fn first_classes<'a>(
     alloc: Global,
@@ -261,7 +261,7 @@ impl<'n, 'a> Coder<'n, 'a> {
         }
     }
 
-    #[tactic(auto, using(flow_resolved::proofs::Resolves::args_resolved))]
+    #[tactic(auto, using(crate::proofs::Resolved::Resolves::args_resolved))]
     // Arguments with their names resolved.
     fn args(&self, args: &[Expr]) -> Result<Vec<Resolved>, NoMemory>
         ensures { IfOk result (λ v. nodes_of v.items

@@ -3,7 +3,7 @@
 ghost use Rattle.std.specs.Prelude.{◌≡◌, IfOk, None, map, slice_get};
 ghost use Rattle.std.specs.Option.{option_copied};
 ghost use Rattle.flow_class.specs.View.{class_of, raw_of};
-ghost use Rattle.flow_resolved.specs.Named.{at_name, naming_of};
+ghost use Rattle.flow_code.specs.Resolved.Named.{at_name, naming_of};
 ghost use Rattle.flow_code.specs.Coded.{IsCoded, coded};
 ghost use Rattle.flow_code.specs.View.{code_of, group_numbered};
 
@@ -11,7 +11,7 @@ use crate::class::{Class, Group};
 use crate::coding::{ClassNames, Coder, small};
 use flow_base::memory::NoMemory;
 use flow_class::class as text;
-use flow_resolved::names::{FieldNames, Names};
+use crate::expr::names::{FieldNames, Names};
 use flow_valid::program::ClassProgram;
 use std::alloc::Global;
 

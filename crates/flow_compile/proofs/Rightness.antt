@@ -5,9 +5,9 @@ use Rattle.flow_tree.specs.DeclView.{program_of}
 use Rattle.flow_class.specs.Classes.{RawTree}
 use Rattle.flow_valid.specs.Validity.{IsValid}
 use Rattle.flow_lower.specs.Compiled.{compiled, Has}
-use Rattle.flow_lawful.specs.Laws.{CompilesValid}
-use Rattle.flow_faithful.specs.Laws.{CompilesFaithfully}
-use Rattle.flow_preserved.specs.Laws.{TracesPreserved, TracesReflected, ObservationsPreserved, ObservationsReflected}
+use Rattle.flow_validity_laws.specs.Laws.{CompilesValid}
+use Rattle.flow_lowering_laws.specs.Programs.{CompilesFaithfully}
+use Rattle.flow_compile_laws.specs.Traces.{TracesPreserved, TracesReflected, ObservationsPreserved, ObservationsReflected}
 use Rattle.flow_compile.specs.Right.{IsAccepted, IsRight}
 
 pub valid_classes : (program : Program) (r : RawTree) → CompilesValid → IsAccepted program → r ≡ compiled (program_of program) → IsValid r

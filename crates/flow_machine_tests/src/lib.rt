@@ -1,4 +1,4 @@
-//! Tests of flow_machine: bursts of one process, over a host that keeps the lines; and of flow_run: traces of a program in
+//! Tests of flow_machine: bursts of one process, over a host that keeps the lines; and of flow_world: traces of a program in
 //! small worlds.
 #![tactic(auto)]
 

@@ -26,3 +26,4 @@ pub mod BareSource
 pub mod BareClass
 pub mod Sights
 pub mod PlacesAside
+pub mod Cancelling

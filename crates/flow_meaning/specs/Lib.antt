@@ -32,3 +32,4 @@ pub mod Carries
 pub mod RunLaw
 pub mod Observations
 pub mod Placeless
+pub mod Cancelling

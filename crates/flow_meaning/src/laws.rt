@@ -1,5 +1,7 @@
 // Laws of runs.
 
+pub mod cancelling;
+
 ghost use Rattle.flow_tree.specs.Decls.{ProgramTree};
 ghost use Rattle.flow_class.specs.Classes.{RawTree};
 ghost use Rattle.flow_meaning.specs.RunLaw.{RunsFollow, RunsReturn, TracesFollow, TracesReturn, RunsRest, TracesRest};

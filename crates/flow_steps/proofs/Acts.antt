@@ -27,7 +27,7 @@ use Rattle.flow_cancel.specs.Dropping.{refs_in}
 use Rattle.flow_meaning.specs.Lines.{print_line}
 use Rattle.flow_meaning.specs.Requests as asks
 use Rattle.flow_meaning.specs.Evaluating.{bind, sent, world_effect}
-use Rattle.flow_picture.specs.Holds.{hold_all}
+use Rattle.flow_heap_refinement.specs.Holds.{hold_all}
 use Rattle.flow_steps.specs.declared.errors.Fault.{Fault}
 use Rattle.flow_steps.specs.declared.call.Call.{Call}
 use Rattle.flow_steps.specs.declared.call.Goal.{Goal}

@@ -9,7 +9,7 @@ use Rattle.flow_numbered.specs.Numbered.{Store, thing, with_thing}
 use Rattle.flow_frame.specs.Frames.{FrameTree, with_place}
 use Rattle.flow_cancel.specs.Heap.{HeapTree}
 use Rattle.flow_meaning.specs.Cells.{Ref}
-use Rattle.flow_picture.specs.Holds.{hold_all}
+use Rattle.flow_heap_refinement.specs.Holds.{hold_all}
 use Rattle.flow_steps.specs.Points.{reframed, place_put, places_emptied}
 use Rattle.flow_steps.specs.Stuck.{MayNotFill, FrameMissing, PlaceMissing, NoPlace, SomePlaceMissing}
 use Rattle.flow_steps.proofs.Before.{with_frame_still, place_still}

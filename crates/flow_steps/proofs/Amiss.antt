@@ -34,7 +34,7 @@ use Rattle.flow_cancel.specs.Leaving.{waiter_of, withdrawn}
 use Rattle.flow_meaning.specs.Cells.{Ref}
 use Rattle.flow_meaning.specs.Evaluating.{sent}
 use Rattle.flow_meaning.specs.Lines.{print_line}
-use Rattle.flow_picture.specs.Holds.{hold, hold_all, held_cell, held_stream}
+use Rattle.flow_heap_refinement.specs.Holds.{hold, hold_all, held_cell, held_stream}
 use Rattle.flow_steps.specs.declared.frames.ControlPoint.{ControlPoint}
 use Rattle.flow_steps.specs.declared.process.Process.{Process}
 use Rattle.flow_steps.specs.Doing.{turned}

@@ -20,14 +20,14 @@ use Rattle.flow_cell.specs.declared.counts.Side.TheVariants as side
 use Rattle.flow_cell.specs.Cells.{CellTree}
 use Rattle.flow_stream.specs.Streams.{StreamTree}
 use Rattle.flow_meaning.specs.Cells.{Ref}
-use Rattle.flow_picture.specs.Holds.{hold, hold_all, held_cell, held_stream}
+use Rattle.flow_heap_refinement.specs.Holds.{hold, hold_all, held_cell, held_stream}
 use Rattle.flow_value.specs.declared.value.Outcome.{Outcome}
 use Rattle.flow_cancel.specs.Heap.{HeapTree}
 use Rattle.flow_cancel.specs.Leaving.{leave_one, leave_all, withdrawn, withdrawn_from}
 use Rattle.flow_cancel.proofs.Puts.{found_put}
-use Rattle.flow_resolved.specs.Evaluation.{numbered_field}
-use Rattle.flow_resolved.specs.View.{places_in}
-use Rattle.flow_resolved.specs.declared.names.FieldNames.{FieldNames}
+use Rattle.flow_code.specs.Resolved.Evaluation.{numbered_field}
+use Rattle.flow_code.specs.Resolved.View.{places_in}
+use Rattle.flow_code.specs.declared.expr.names.FieldNames.{FieldNames}
 use Rattle.flow_code.specs.declared.class.Aim.{Aim}
 use Rattle.flow_steps.specs.Points.{Numbering, field_path, reframed, with_frame, place_held, place_put, place_lost, places_lost, losing_from, lost_from}
 use Rattle.flow_steps.specs.Stuck.{FrameMissing, PlaceMissing, NoPlace, SomePlaceMissing, PartMissing, AimsStuck, no_place, no_part}

@@ -28,7 +28,7 @@ use Rattle.flow_cancel.specs.Dropping.{refs_in}
 use Rattle.flow_meaning.specs.Requests as asks
 use Rattle.flow_meaning.specs.Cells as cells
 use Rattle.flow_meaning.specs.Evaluating.{bind, world_effect}
-use Rattle.flow_picture.specs.Holds.{hold, hold_all, held_cell, held_stream}
+use Rattle.flow_heap_refinement.specs.Holds.{hold, hold_all, held_cell, held_stream}
 use Rattle.flow_steps.specs.declared.call.Goal.{Goal}
 use Rattle.flow_steps.specs.declared.call.Goal.TheVariants as goal
 use Rattle.flow_steps.specs.declared.process.Process.{Process}

@@ -18,7 +18,7 @@ use Rattle.flow_value.specs.declared.value.Outcome.TheVariants as outcome
 use Rattle.flow_value.specs.declared.value.Value.TheVariants as value
 use Rattle.flow_value.specs.declared.value.Kind.{Kind}
 use Rattle.flow_value.specs.declared.value.Kind.TheVariants as kind
-use Rattle.flow_picture.specs.Holds.{hold}
+use Rattle.flow_heap_refinement.specs.Holds.{hold}
 use Rattle.flow_steps.specs.declared.errors.Fault.{Fault}
 use Rattle.flow_steps.specs.Acting.{Enrols, StartTold}
 use Rattle.flow_code.specs.declared.class.Aim.{Aim}
@@ -30,7 +30,7 @@ use Rattle.flow_code.specs.declared.class.Instruction.TheVariants as instruction
 use Rattle.flow_code.specs.declared.class.Last.TheVariants as last
 use Rattle.flow_code.specs.declared.program.Code.{Code}
 use Rattle.flow_code.specs.View.{group_numbered}
-use Rattle.flow_resolved.specs.declared.expr.Resolved.{Resolved}
+use Rattle.flow_code.specs.declared.expr.expr.Resolved.{Resolved}
 use Rattle.flow_numbered.specs.Numbered.{thing}
 use Rattle.flow_cell.specs.declared.waiter.Waiter.{Waiter}
 use Rattle.flow_frame.specs.declared.held.Held.{Held}

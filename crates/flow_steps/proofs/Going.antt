@@ -15,9 +15,9 @@ use Rattle.flow_value.specs.declared.value.Value.{Value}
 use Rattle.flow_value.specs.declared.value.Value.TheVariants.{Ref}
 use Rattle.flow_value.specs.Values.{ValueTree, RefValue}
 use Rattle.flow_value.specs.View.{value_of}
-use Rattle.flow_resolved.specs.declared.expr.Resolved.{Resolved}
-use Rattle.flow_resolved.specs.Evaluation.{numbered_field}
-use Rattle.flow_resolved.specs.View.{places_in}
+use Rattle.flow_code.specs.declared.expr.expr.Resolved.{Resolved}
+use Rattle.flow_code.specs.Resolved.Evaluation.{numbered_field}
+use Rattle.flow_code.specs.Resolved.View.{places_in}
 use Rattle.flow_numbered.specs.Numbered.{Store, thing}
 use Rattle.flow_frame.specs.Frames.{FrameTree, with_place}
 use Rattle.flow_code.specs.declared.class.Act.{Act}
@@ -32,7 +32,7 @@ use Rattle.flow_code.specs.declared.program.Code.{Code}
 use Rattle.flow_code.specs.View.{group_numbered}
 use Rattle.flow_cancel.specs.declared.task.Task.{Task}
 use Rattle.flow_cancel.specs.Heap.{HeapTree, next_cell, pushed}
-use Rattle.flow_picture.specs.Holds.{hold, hold_all}
+use Rattle.flow_heap_refinement.specs.Holds.{hold, hold_all}
 use Rattle.flow_steps.specs.declared.errors.Fault.{Fault}
 use Rattle.flow_steps.specs.declared.frames.ControlPoint.{ControlPoint}
 use Rattle.flow_steps.specs.declared.process.Process.{Process}

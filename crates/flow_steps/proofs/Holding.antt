@@ -26,9 +26,9 @@ use Rattle.flow_cancel.specs.Heap.{HeapTree, cell_id, next_cell, finished}
 use Rattle.flow_cancel.specs.Dropping.{drops}
 use Rattle.flow_cancel.proofs.Puts.{found_put}
 use Rattle.flow_meaning.specs.Cells as cells
-use Rattle.flow_resolved.proofs.Maps.{drop_more}
-use Rattle.flow_picture.specs.Changes.{cell_put, stream_put}
-use Rattle.flow_picture.specs.Holds.{hold, hold_all, held_cell, held_stream, set_cell, send_stream, sent}
+use Rattle.flow_code.proofs.Resolved.Maps.{drop_more}
+use Rattle.flow_heap_refinement.specs.Changes.{cell_put, stream_put}
+use Rattle.flow_heap_refinement.specs.Holds.{hold, hold_all, held_cell, held_stream, set_cell, send_stream, sent}
 use Rattle.flow_steps.specs.declared.call.Goal.{Goal}
 use Rattle.flow_steps.specs.declared.process.Process.{Process}
 use Rattle.flow_steps.specs.Doing.{doing}

@@ -9,8 +9,8 @@ use Rattle.flow_value.specs.declared.value.RecordId.{RecordId}
 use Rattle.flow_value.specs.Values.{ValueTree, ValueTrees, RecordValue}
 use Rattle.flow_value.specs.View.{value_of}
 use Rattle.flow_eval.specs.Records.{at_place, value_at, value_put}
-use Rattle.flow_resolved.specs.View.{places_in}
-use Rattle.flow_resolved.specs.declared.names.FieldNames.{FieldNames}
+use Rattle.flow_code.specs.Resolved.View.{places_in}
+use Rattle.flow_code.specs.declared.expr.names.FieldNames.{FieldNames}
 use Rattle.flow_code.specs.declared.class.Aim.{Aim}
 use Rattle.flow_steps.specs.declared.process.Process.{Process}
 use Rattle.flow_steps.specs.Holding.{on_heap}

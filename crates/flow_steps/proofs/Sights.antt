@@ -16,11 +16,11 @@ use Rattle.flow_eval.specs.Eval.{Setting, truth_of}
 use Rattle.flow_eval.specs.Functions.{run_function}
 use Rattle.flow_eval.specs.View.{Gives, GivesAll, setting_of}
 use Rattle.flow_eval.specs.declared.stop.Halt.{Halt}
-use Rattle.flow_resolved.specs.declared.evaluate.ActorViewTree as code
-use Rattle.flow_resolved.specs.Tree.{Node, Nodes}
-use Rattle.flow_resolved.specs.Evaluation.{ActorViewTree, value_at, values_at}
-use Rattle.flow_resolved.specs.View.{places_in, held_in, actor_view_of}
-use Rattle.flow_resolved.specs.Truth.{GivesTruth}
+use Rattle.flow_code.specs.declared.expr.evaluate.ActorViewTree as code
+use Rattle.flow_code.specs.Resolved.Tree.{Node, Nodes}
+use Rattle.flow_code.specs.Resolved.Evaluation.{ActorViewTree, value_at, values_at}
+use Rattle.flow_code.specs.Resolved.View.{places_in, held_in, actor_view_of}
+use Rattle.flow_code.specs.Resolved.Truth.{GivesTruth}
 use Rattle.flow_code.specs.declared.program.Code.{Code}
 use Rattle.flow_numbered.specs.Numbered.{thing}
 use Rattle.flow_frame.specs.Frames as frames

@@ -12,11 +12,11 @@ use Rattle.flow_value.specs.declared.value.Outcome.TheVariants as outcome
 use Rattle.flow_value.specs.declared.value.Kind.{Kind}
 use Rattle.flow_value.specs.Values.{RefValue}
 use Rattle.flow_value.specs.View.{value_of}
-use Rattle.flow_resolved.specs.View.{places_in}
+use Rattle.flow_code.specs.Resolved.View.{places_in}
 use Rattle.flow_code.specs.declared.class.Aim.{Aim}
 use Rattle.std.specs.declared.vec.Vec.{Vec}
 use Rattle.std.specs.declared.alloc.Global.{Global}
-use Rattle.flow_resolved.specs.declared.expr.Resolved.{Resolved}
+use Rattle.flow_code.specs.declared.expr.expr.Resolved.{Resolved}
 use Rattle.flow_code.specs.declared.class.Act.{Act}
 use Rattle.flow_code.specs.declared.class.Instruction.{Instruction}
 use Rattle.flow_code.specs.declared.class.Instruction.TheVariants as instruction
@@ -30,7 +30,7 @@ use Rattle.flow_cancel.specs.declared.task.Task.{Task}
 use Rattle.flow_cancel.specs.declared.task.Task.TheVariants as task
 use Rattle.flow_cancel.specs.Heap.{next_cell, pushed}
 use Rattle.flow_cancel.specs.Dropping.{dropping}
-use Rattle.flow_picture.specs.Holds.{hold, hold_all}
+use Rattle.flow_heap_refinement.specs.Holds.{hold, hold_all}
 use Rattle.flow_steps.specs.declared.errors.Fault.{Fault}
 use Rattle.flow_steps.specs.declared.frames.ControlPoint.{ControlPoint}
 use Rattle.flow_steps.specs.declared.next.Pace.{Pace}

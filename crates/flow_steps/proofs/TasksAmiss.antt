@@ -29,8 +29,8 @@ use Rattle.flow_cancel.specs.Heap.{HeapTree, finished, pushed}
 use Rattle.flow_cancel.specs.Dropping.{dropping}
 use Rattle.flow_cancel.specs.Leaving.{withdrawn}
 use Rattle.flow_cancel.proofs.Puts.{found_put}
-use Rattle.flow_picture.specs.Changes.{cell_put}
-use Rattle.flow_picture.specs.Holds.{hold_all}
+use Rattle.flow_heap_refinement.specs.Changes.{cell_put}
+use Rattle.flow_heap_refinement.specs.Holds.{hold_all}
 use Rattle.flow_steps.specs.declared.frames.ControlPoint.{ControlPoint}
 use Rattle.flow_steps.specs.declared.next.Pace.{Pace}
 use Rattle.flow_steps.specs.declared.process.Process.{Process}

@@ -18,9 +18,9 @@ use Rattle.flow_value.specs.declared.value.Kind.TheVariants as kind
 use Rattle.flow_value.specs.Values.{ValueTree}
 use Rattle.flow_value.specs.View.{value_of, outcome_of}
 use Rattle.flow_eval.specs.Answers.{int_of, text_of, arg}
-use Rattle.flow_resolved.specs.declared.expr.Resolved.{Resolved}
-use Rattle.flow_resolved.specs.View.{nodes_of}
-use Rattle.flow_resolved.specs.Evaluation.{values_at}
+use Rattle.flow_code.specs.declared.expr.expr.Resolved.{Resolved}
+use Rattle.flow_code.specs.Resolved.View.{nodes_of}
+use Rattle.flow_code.specs.Resolved.Evaluation.{values_at}
 use Rattle.flow_code.specs.declared.class.Class.{Class}
 use Rattle.flow_code.specs.declared.class.Effect.{Effect}
 use Rattle.flow_code.specs.declared.class.Effect.TheVariants as effect
@@ -33,7 +33,7 @@ use Rattle.flow_cancel.specs.Dropping.{refs_in}
 use Rattle.flow_meaning.specs.Requests as asks
 use Rattle.flow_meaning.specs.Evaluating as asked
 use Rattle.flow_meaning.specs.Lines.{print_line}
-use Rattle.flow_picture.specs.Holds.{hold_all}
+use Rattle.flow_heap_refinement.specs.Holds.{hold_all}
 use Rattle.flow_steps.specs.declared.call.DiskCall.{DiskCall}
 use Rattle.flow_steps.specs.declared.call.DiskCall.TheVariants as disk
 use Rattle.flow_steps.specs.declared.call.Call.{Call}

@@ -23,8 +23,8 @@ use Rattle.flow_trace.specs.declared.line.Line.{Line}
 use Rattle.flow_trace.specs.declared.line.Line.TheVariants as line
 use Rattle.flow_cancel.specs.declared.task.Task.TheVariants as task
 use Rattle.flow_cancel.specs.Heap.{HeapTree, cell_id, pushed, next_cell, with_result, with_stream, with_number, without_number, finished}
-use Rattle.flow_picture.specs.Changes.{cell_put}
-use Rattle.flow_picture.specs.Holds.{hold, hold_all, filled_in}
+use Rattle.flow_heap_refinement.specs.Changes.{cell_put}
+use Rattle.flow_heap_refinement.specs.Holds.{hold, hold_all, filled_in}
 use Rattle.flow_steps.specs.declared.process.Process.{Process}
 use Rattle.flow_steps.specs.Doing.{turned, telling, doing}
 use Rattle.flow_steps.specs.declared.call.Goal.{Goal}

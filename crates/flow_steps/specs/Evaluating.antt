@@ -8,8 +8,8 @@ use Rattle.flow_eval.specs.Eval.{Setting, Res, Done, Fails, Spent}
 use Rattle.flow_eval.specs.Functions.{run_function}
 use Rattle.flow_eval.specs.declared.stop.Halt.{Halt}
 use Rattle.flow_eval.specs.declared.stop.Halt.TheVariants as halt
-use Rattle.flow_resolved.specs.Evaluation.{ActorViewTree}
-use Rattle.flow_resolved.specs.View.{places_in}
+use Rattle.flow_code.specs.Resolved.Evaluation.{ActorViewTree}
+use Rattle.flow_code.specs.Resolved.View.{places_in}
 use Rattle.flow_code.specs.declared.program.Code.{Code}
 use Rattle.flow_cancel.specs.declared.task.Task.TheVariants.{Throw}
 use Rattle.flow_steps.specs.declared.frames.ControlPoint.{ControlPoint}

@@ -24,7 +24,7 @@ use Rattle.flow_cancel.specs.declared.task.Task.TheVariants as task
 use Rattle.flow_cancel.specs.Heap.{HeapTree, cell_id, owner}
 use Rattle.flow_meaning.specs.Cells.{Ref}
 use Rattle.flow_meaning.specs.References.{refs_in, value_in}
-use Rattle.flow_picture.specs.Holds.{held_cell, held_stream, set_cell, send_stream, filled_in, given}
+use Rattle.flow_heap_refinement.specs.Holds.{held_cell, held_stream, set_cell, send_stream, filled_in, given}
 use Rattle.flow_steps.specs.Doing.{asking, telling, turned, stopped}
 use Rattle.flow_steps.specs.declared.call.Call.TheVariants as call
 use Rattle.flow_steps.specs.declared.call.Goal.{Goal}

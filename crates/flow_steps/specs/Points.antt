@@ -9,9 +9,9 @@ use Rattle.flow_value.specs.declared.value.RecordId.{RecordId}
 use Rattle.flow_value.specs.Values.{ValueTree, ValueTrees, RecordValue, RefValue}
 use Rattle.flow_value.specs.View.{value_of}
 use Rattle.flow_eval.specs.Records.{at_place, value_put}
-use Rattle.flow_resolved.specs.Evaluation.{numbered_field}
-use Rattle.flow_resolved.specs.View.{places_in}
-use Rattle.flow_resolved.specs.declared.names.FieldNames.{FieldNames}
+use Rattle.flow_code.specs.Resolved.Evaluation.{numbered_field}
+use Rattle.flow_code.specs.Resolved.View.{places_in}
+use Rattle.flow_code.specs.declared.expr.names.FieldNames.{FieldNames}
 use Rattle.flow_code.specs.declared.class.Class.{Class}
 use Rattle.flow_code.specs.declared.class.Group.{Group}
 use Rattle.flow_code.specs.declared.class.Aim.{Aim}
@@ -21,7 +21,7 @@ use Rattle.flow_frame.specs.declared.standing.Standing.{Standing}
 use Rattle.flow_frame.specs.Frames.{FrameTree, held_in, with_place, standing_of}
 use Rattle.flow_cancel.specs.Heap.{HeapTree}
 use Rattle.flow_cancel.specs.Dropping.{dropping}
-use Rattle.flow_picture.specs.Acting.{frame_put}
+use Rattle.flow_heap_refinement.specs.Acting.{frame_put}
 use Rattle.flow_steps.specs.declared.frames.ControlPoint.{ControlPoint}
 use Rattle.flow_steps.specs.declared.process.Process.{Process}
 use Rattle.flow_steps.specs.Holding.{on_heap}

@@ -16,9 +16,9 @@ use Rattle.flow_value.specs.Values.{ValueTree, BoolValue, ErrorValue, RefValue}
 use Rattle.flow_value.specs.View.{value_of}
 use Rattle.flow_eval.specs.Eval.{Res, truth_of, function_called}
 use Rattle.flow_eval.specs.Functions.{run_function}
-use Rattle.flow_resolved.specs.declared.expr.Resolved.{Resolved}
-use Rattle.flow_resolved.specs.View.{node_of, nodes_of, places_in}
-use Rattle.flow_resolved.specs.Evaluation.{value_at, values_at}
+use Rattle.flow_code.specs.declared.expr.expr.Resolved.{Resolved}
+use Rattle.flow_code.specs.Resolved.View.{node_of, nodes_of, places_in}
+use Rattle.flow_code.specs.Resolved.Evaluation.{value_at, values_at}
 use Rattle.flow_code.specs.declared.class.Aim.{Aim}
 use Rattle.flow_code.specs.declared.class.Act.{Act}
 use Rattle.flow_code.specs.declared.class.Act.TheVariants as act
@@ -36,7 +36,7 @@ use Rattle.flow_cancel.specs.declared.task.Task.{Task}
 use Rattle.flow_cancel.specs.declared.task.Task.TheVariants as task
 use Rattle.flow_cancel.specs.Heap.{HeapTree, cell_id, next_cell, pushed}
 use Rattle.flow_cancel.specs.Dropping.{dropping}
-use Rattle.flow_picture.specs.Holds.{hold, hold_all}
+use Rattle.flow_heap_refinement.specs.Holds.{hold, hold_all}
 use Rattle.flow_steps.specs.declared.call.Goal.TheVariants as goal
 use Rattle.flow_steps.specs.declared.frames.ControlPoint.{ControlPoint}
 use Rattle.flow_steps.specs.declared.next.Pace.{Pace}

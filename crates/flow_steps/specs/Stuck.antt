@@ -11,8 +11,8 @@ use Rattle.flow_value.specs.declared.value.Value.TheVariants as value
 use Rattle.flow_value.specs.declared.value.Outcome.{Outcome}
 use Rattle.flow_value.specs.View.{value_of}
 use Rattle.flow_numbered.specs.Numbered as stored
-use Rattle.flow_resolved.specs.View.{places_in}
-use Rattle.flow_resolved.specs.declared.names.FieldNames.{FieldNames}
+use Rattle.flow_code.specs.Resolved.View.{places_in}
+use Rattle.flow_code.specs.declared.expr.names.FieldNames.{FieldNames}
 use Rattle.flow_code.specs.declared.class.Class.{Class}
 use Rattle.flow_code.specs.declared.class.Aim.{Aim}
 use Rattle.flow_cell.specs.Cells.{CellTree}
@@ -23,7 +23,7 @@ use Rattle.flow_cancel.specs.declared.task.Dropped.TheVariants as after
 use Rattle.flow_cancel.specs.Dropping.{dropped, may_drop}
 use Rattle.flow_cancel.specs.Heap.{HeapTree, owner}
 use Rattle.flow_meaning.specs.Cells.{Ref}
-use Rattle.flow_picture.specs.Holds.{hold}
+use Rattle.flow_heap_refinement.specs.Holds.{hold}
 use Rattle.flow_steps.specs.Points.{block_in, place_held, place_put, field_path}
 use Rattle.flow_steps.specs.declared.call.Goal.{Goal}
 use Rattle.flow_steps.specs.declared.call.Goal.TheVariants as goal

@@ -5,9 +5,9 @@ use Rattle.flow_value.specs.declared.value.Value.{Value}
 use Rattle.flow_eval.specs.Eval.{Res, Done, Meaningless}
 use Rattle.flow_eval.specs.declared.stop.Halt.{Halt}
 use Rattle.flow_eval.specs.declared.stop.Halt.TheVariants.{NoMeaning}
-use Rattle.flow_resolved.specs.declared.expr.Resolved.{Resolved}
-use Rattle.flow_resolved.specs.View.{nodes_of}
-use Rattle.flow_resolved.specs.Evaluation.{values_at}
+use Rattle.flow_code.specs.declared.expr.expr.Resolved.{Resolved}
+use Rattle.flow_code.specs.Resolved.View.{nodes_of}
+use Rattle.flow_code.specs.Resolved.Evaluation.{values_at}
 use Rattle.flow_code.specs.declared.class.Class.{Class}
 use Rattle.flow_code.specs.declared.class.Effect.{Effect}
 use Rattle.flow_code.specs.declared.class.Effect.TheVariants as effect

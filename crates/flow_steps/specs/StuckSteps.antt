@@ -10,8 +10,8 @@ use Rattle.flow_value.specs.declared.value.Value.{Value}
 use Rattle.flow_value.specs.declared.value.Kind.{Kind}
 use Rattle.flow_value.specs.Values.{ValueTree, ErrorValue, RefValue}
 use Rattle.flow_value.specs.View.{value_of}
-use Rattle.flow_resolved.specs.declared.expr.Resolved.{Resolved}
-use Rattle.flow_resolved.specs.View.{places_in}
+use Rattle.flow_code.specs.declared.expr.expr.Resolved.{Resolved}
+use Rattle.flow_code.specs.Resolved.View.{places_in}
 use Rattle.flow_code.specs.declared.class.Aim.{Aim}
 use Rattle.flow_code.specs.declared.class.Act.{Act}
 use Rattle.flow_code.specs.declared.class.Act.TheVariants as act
@@ -26,7 +26,7 @@ use Rattle.flow_code.specs.declared.class.Last.TheVariants as last
 use Rattle.flow_code.specs.declared.program.Code.{Code}
 use Rattle.flow_code.specs.View.{group_numbered}
 use Rattle.flow_cancel.specs.Heap.{HeapTree, cell_id}
-use Rattle.flow_picture.specs.Holds.{hold}
+use Rattle.flow_heap_refinement.specs.Holds.{hold}
 use Rattle.flow_steps.specs.declared.frames.ControlPoint.{ControlPoint}
 use Rattle.flow_steps.specs.declared.next.Pace.{Pace}
 use Rattle.flow_steps.specs.declared.next.Pace.TheVariants.{On, Off}

@@ -24,7 +24,7 @@ use Rattle.flow_code.specs.declared.class.Instruction.TheVariants as instruction
 use Rattle.flow_code.specs.declared.class.Last.TheVariants as last
 use Rattle.flow_code.specs.declared.program.Code.{Code}
 use Rattle.flow_code.specs.View.{group_numbered}
-use Rattle.flow_resolved.specs.declared.expr.Resolved.{Resolved}
+use Rattle.flow_code.specs.declared.expr.expr.Resolved.{Resolved}
 use Rattle.flow_numbered.specs.Numbered.{thing}
 use Rattle.flow_cell.specs.declared.counts.Side.TheVariants.{Promise}
 use Rattle.flow_cell.specs.declared.waiter.Waiter.{Waiter}

@@ -23,7 +23,7 @@ use Rattle.flow_code.specs.declared.class.Instruction.TheVariants as instruction
 use Rattle.flow_code.specs.declared.class.Last.TheVariants as last
 use Rattle.flow_code.specs.declared.program.Code.{Code}
 use Rattle.flow_code.specs.View.{group_numbered}
-use Rattle.flow_resolved.specs.declared.expr.Resolved.{Resolved}
+use Rattle.flow_code.specs.declared.expr.expr.Resolved.{Resolved}
 use Rattle.flow_numbered.specs.Numbered.{thing}
 use Rattle.flow_cell.specs.declared.waiter.Waiter.{Waiter}
 use Rattle.flow_cell.specs.Cells.{CellTree}
@@ -36,7 +36,7 @@ use Rattle.flow_cancel.specs.declared.task.Task.TheVariants as task
 use Rattle.flow_cancel.specs.Heap.{HeapTree, pushed}
 use Rattle.flow_cancel.specs.Dropping.{dropping}
 use Rattle.flow_cancel.specs.Leaving.{withdrawn}
-use Rattle.flow_picture.specs.Holds.{hold}
+use Rattle.flow_heap_refinement.specs.Holds.{hold}
 use Rattle.flow_steps.specs.declared.frames.ControlPoint.{ControlPoint}
 use Rattle.flow_steps.specs.declared.next.Pace.{Pace}
 use Rattle.flow_steps.specs.declared.process.Next.{Next}

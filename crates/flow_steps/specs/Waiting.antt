@@ -23,8 +23,8 @@ use Rattle.flow_cancel.specs.declared.task.Task.{Task}
 use Rattle.flow_cancel.specs.declared.task.Task.TheVariants as task
 use Rattle.flow_cancel.specs.Heap.{HeapTree, pushed}
 use Rattle.flow_cancel.specs.Leaving.{waiter_of, withdrawn}
-use Rattle.flow_picture.specs.Changes.{cell_put, stream_put}
-use Rattle.flow_picture.specs.Holds.{hold_all}
+use Rattle.flow_heap_refinement.specs.Changes.{cell_put, stream_put}
+use Rattle.flow_heap_refinement.specs.Holds.{hold_all}
 use Rattle.flow_steps.specs.declared.frames.ControlPoint.{ControlPoint}
 use Rattle.flow_steps.specs.declared.next.Pace.{Pace}
 use Rattle.flow_steps.specs.declared.next.Pace.TheVariants.{On, Off}

@@ -5,7 +5,7 @@ ghost use Rattle.std.specs.Option.{option_copied};
 ghost use Rattle.std.specs.declared.option.Option.TheVariants.{None, Some};
 ghost use Rattle.flow_value.specs.View.{value_of, values_of};
 ghost use Rattle.flow_value.specs.Values.{RecordValue};
-ghost use Rattle.flow_resolved.specs.View.{places_in};
+ghost use Rattle.flow_code.specs.Resolved.View.{places_in};
 ghost use Rattle.flow_numbered.specs.Numbered.{thing};
 ghost use Rattle.flow_cancel.specs.Dropping.{dropping};
 ghost use Rattle.flow_steps.specs.Holding.{on_heap};
@@ -20,7 +20,7 @@ use flow_code::class::{Aim, Block, Class, Instruction};
 use flow_code::program::Code;
 use flow_eval::locals::{put_at, record_value, take_at};
 use flow_frame::standing::Standing;
-use flow_resolved::names::FieldNames;
+use flow_code::expr::names::FieldNames;
 use flow_value::value::{Record, Value};
 
 /// Whether a value may hold references.

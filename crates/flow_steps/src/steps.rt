@@ -6,7 +6,7 @@ ghost use Rattle.flow_cancel.specs.Heap.{finished};
 ghost use Rattle.std.specs.Option.{IsSomeAnd};
 ghost use Rattle.flow_cell.specs.declared.counts.Side.TheVariants.{Promise};
 ghost use Rattle.flow_cell.specs.Cells.{released};
-ghost use Rattle.flow_picture.specs.Changes.{cell_put};
+ghost use Rattle.flow_heap_refinement.specs.Changes.{cell_put};
 ghost use Rattle.flow_steps.specs.Holding.{on_heap};
 ghost use Rattle.flow_steps.specs.Delivering.{result_set, end_line, ended_with, closing, closed};
 ghost use Rattle.flow_numbered.specs.Numbered.{thing};

@@ -10,13 +10,13 @@ use Rattle.flow_base.specs.declared.fault.OutFault.TheVariants.{Failed, OutOfMem
 use Rattle.flow_trace.specs.Out.{Grows}
 use Rattle.flow_trace.specs.declared.line.Line.{Line}
 use Rattle.flow_world.specs.FaultedLines.{tells, whole, failed}
-use Rattle.flow_run.specs.declared.ending.Ending.{Ending}
-use Rattle.flow_run.specs.Tracing.{Traces, TracesPart}
-use Rattle.flow_run.specs.StuckTraces.{TraceStuck}
-use Rattle.flow_run.specs.Written.{put_bytes, bytes_of}
-use Rattle.flow_run.proofs.Writing.{bytes_put, part_put}
-use Rattle.flow_exact.proofs.Shown.{program_shown, program_in_part}
-use Rattle.flow_exact.proofs.Sure.{program_sure}
+use Rattle.flow_world.specs.declared.ending.Ending.{Ending}
+use Rattle.flow_world.specs.Tracing.{Traces, TracesPart}
+use Rattle.flow_world.specs.StuckTraces.{TraceStuck}
+use Rattle.flow_world.specs.Written.{put_bytes, bytes_of}
+use Rattle.flow_world.proofs.Writing.{bytes_put, part_put}
+use Rattle.flow_end_to_end.proofs.Shown.{program_shown, program_in_part}
+use Rattle.flow_end_to_end.proofs.Sure.{program_sure}
 use Rattle.flow_top.specs.declared.outcome.ProgramRun.{ProgramRun}
 use Rattle.flow_top.specs.declared.outcome.Answered.{Answered}
 use Rattle.flow_top.specs.Run.{text_of, ending_status, fault_status_of, MayRun, AreLines, ReportedTold, write_fault, no_memory_told, ReportedRun, ended, run_write_fault, run_no_memory}

@@ -32,12 +32,12 @@ use Rattle.flow_staterule.specs.declared.rule.Lost.{Lost}
 use Rattle.flow_front.specs.Verdict.{IsUnread, IsRefused, IsProgram, IsSound, IsLost}
 use Rattle.flow_lower.specs.Weighing.{first_heavy}
 use Rattle.flow_lower.specs.Compiled.{Has}
-use Rattle.flow_run.specs.declared.ending.Ending.{Ending}
-use Rattle.flow_run.specs.declared.ending.Ending.TheVariants.{Idle, Bound, Spent}
-use Rattle.flow_run.specs.Ends.{end_line, LastIs}
-use Rattle.flow_run.specs.Written.{bytes_of}
+use Rattle.flow_world.specs.declared.ending.Ending.{Ending}
+use Rattle.flow_world.specs.declared.ending.Ending.TheVariants.{Idle, Bound, Spent}
+use Rattle.flow_world.specs.Ends.{end_line, LastIs}
+use Rattle.flow_world.specs.Written.{bytes_of}
 use Rattle.flow_trace.specs.Out.{Grows}
-use Rattle.flow_framed.specs.Framed.{SourceShown}
+use Rattle.flow_compile_laws.specs.Frames.Framed.{SourceShown}
 use Rattle.flow_top.specs.declared.outcome.Outcome.{Outcome}
 use Rattle.flow_top.specs.declared.outcome.Outcome.TheVariants.{Told, Run}
 use Rattle.flow_top.specs.declared.outcome.ProgramRun.{ProgramRun}

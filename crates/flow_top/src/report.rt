@@ -16,7 +16,7 @@ use flow_base::sink::Sink;
 use flow_classprint::write_classes;
 use flow_machine::host::RunFault;
 use flow_refusal::{refusal_line, refusal_status, world_line};
-use flow_run::{Ending, write_trace};
+use flow_world{Ending, write_trace};
 use flow_show::show::show_lines;
 use flow_tree::fault::SourceFault;
 use flow_worldfile::WorldFault;

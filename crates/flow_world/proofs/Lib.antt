@@ -13,3 +13,7 @@ pub mod Happenings
 pub mod Putting
 pub mod Telling
 pub mod Beginnings
+pub mod Framing
+pub mod MovedTraces
+pub mod Parts
+pub mod Writing

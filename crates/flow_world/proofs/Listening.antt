@@ -10,7 +10,7 @@ use Rattle.flow_cancel.proofs.Noted.{at_number}
 use Rattle.flow_numbered.specs.Numbered.{Numbered, thing, added, removed}
 use Rattle.flow_meaning.specs.Dropping.{port_of}
 use Rattle.flow_meaning.proofs.Posture.{same_number, other_number, each_number, thing_added, thing_removed_other}
-use Rattle.flow_picture.proofs.Finds.{thing_new}
+use Rattle.flow_heap_refinement.proofs.Finds.{thing_new}
 use Rattle.flow_machine.specs.Hosting.{unheard_at, unheard}
 use Rattle.flow_world.specs.declared.ports.Ports.{Ports}
 use Rattle.flow_world.specs.Ports.{Once, PortsRepresent}

@@ -13,3 +13,7 @@ pub mod Starting
 pub mod StuckEvents
 pub mod FaultedLines
 pub mod Worlds
+pub mod Ends
+pub mod Tracing
+pub mod Written
+pub mod StuckTraces

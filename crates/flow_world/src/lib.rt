@@ -1,12 +1,14 @@
-//! The world: its processes and what is outside of them, run event by event.
+//! The world, its processes and what is outside of them, run event by event, with every line put as it is made.
 #![tactic(auto)]
 
+mod action;
+mod answers;
 mod around;
 mod asked;
-mod answers;
 mod changes;
-mod action;
+mod ending;
 mod event;
+mod frames;
 pub mod laws;
 mod outside;
 mod place;
@@ -15,7 +17,11 @@ pub mod put;
 mod script;
 mod starting;
 pub mod teller;
+mod to_sink;
+pub mod trace;
 pub mod world;
 
 pub use event::Event;
 pub use world::World;
+pub use ending::Ending;
+pub use to_sink::write_trace;

@@ -1,5 +1,5 @@
 use Rattle.std.proofs.Common.{◌≡◌, ℕ, List, map, drop}
-use Rattle.flow_resolved.specs.Named.{at_name, first_from, or_else}
+use Rattle.flow_code.specs.Resolved.Named.{at_name, first_from, or_else}
 use Rattle.flow_code.specs.Coder.{name_of_class}
 use Rattle.flow_code.proofs.coding.first_classes.Given as goal
 

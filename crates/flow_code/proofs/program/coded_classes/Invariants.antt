@@ -1,7 +1,7 @@
 use Rattle.std.proofs.Common.{◌≡◌, map, take}
 use Rattle.std.specs.declared.option.Option.TheVariants.{None}
 use Rattle.flow_class.specs.View.{class_of}
-use Rattle.flow_resolved.specs.Named.{at_name, naming_of}
+use Rattle.flow_code.specs.Resolved.Named.{at_name, naming_of}
 use Rattle.flow_code.specs.Coded.{coded}
 use Rattle.flow_code.specs.View.{code_of}
 use Rattle.flow_code.proofs.program.coded_classes.Given as goal

@@ -5,7 +5,7 @@ use Rattle.flow_value.specs.declared.value.Value.TheFolds.{fold-roll-Value}
 use Rattle.flow_value.specs.declared.value.Value.TheOpen as layer
 use Rattle.flow_value.specs.Values.{ValueTree}
 use Rattle.flow_value.specs.View.{value_of, value_step, values_of}
-use Rattle.flow_resolved.specs.View.{places_in}
+use Rattle.flow_code.specs.Resolved.View.{places_in}
 use Rattle.flow_steps.proofs.Before.{is_record, either, flat_as, flat_path, field_nowhere, field_past}
 use Rattle.flow_steps.proofs.frames.+exchange.Goals as goal
 

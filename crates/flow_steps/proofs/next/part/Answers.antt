@@ -1,6 +1,6 @@
 use Rattle.std.proofs.Common.{rules}
 use Rattle.flow_value.specs.View.{value_of}
-use Rattle.flow_resolved.specs.View.{places_in}
+use Rattle.flow_code.specs.Resolved.View.{places_in}
 use Rattle.flow_steps.proofs.Going.{part_ends}
 use Rattle.flow_steps.proofs.next.part.Goals as goal
 

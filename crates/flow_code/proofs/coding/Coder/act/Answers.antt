@@ -1,5 +1,5 @@
 use Rattle.std.proofs.Common.{◌∷◌, ap, sym, ◌∙◌}
-use Rattle.flow_resolved.specs.View.{nodes_of}
+use Rattle.flow_code.specs.Resolved.View.{nodes_of}
 use Rattle.flow_code.specs.Coding.{coded_method}
 use Rattle.flow_code.specs.Coder.{coding_of}
 use Rattle.flow_code.proofs.Paths.{method_coded}

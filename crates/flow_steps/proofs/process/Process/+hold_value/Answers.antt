@@ -1,5 +1,5 @@
 use Rattle.std.proofs.Common.{rules, ap, ◌∙◌, subst}
-use Rattle.flow_picture.specs.Holds.{hold_all}
+use Rattle.flow_heap_refinement.specs.Holds.{hold_all}
 use Rattle.flow_steps.specs.declared.process.Process.{Process}
 use Rattle.flow_steps.specs.Stuck.{SomeMissing}
 use Rattle.flow_steps.specs.Holding.{value_refs}

@@ -1,5 +1,5 @@
 use Rattle.std.proofs.Common.{◌≡◌, drop}
-use Rattle.flow_picture.specs.Holds.{hold_all}
+use Rattle.flow_heap_refinement.specs.Holds.{hold_all}
 use Rattle.flow_steps.specs.Holding.{value_refs}
 use Rattle.flow_steps.specs.Stuck.{SomeMissing}
 use Rattle.flow_steps.proofs.Holding.{fields_held, fields_missing}

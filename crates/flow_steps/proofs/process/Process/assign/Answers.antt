@@ -1,7 +1,7 @@
 use Rattle.std.proofs.Common.{ap, length, ◌≡◌, ◌⊎◌, [], ◌∙◌, subst}
 use Rattle.std.proofs.lemmas.Bool.{false≢true}
 use Rattle.std.specs.Bool.{◌==◌}
-use Rattle.flow_resolved.specs.declared.names.FieldNames.{FieldNames}
+use Rattle.flow_code.specs.declared.expr.names.FieldNames.{FieldNames}
 use Rattle.flow_steps.specs.Points.{place_held}
 use Rattle.flow_steps.specs.Stuck.{NoPlace, PartMissing}
 use Rattle.flow_steps.proofs.Holding.{on_stuck_weaker}

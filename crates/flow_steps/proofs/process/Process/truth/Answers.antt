@@ -1,4 +1,4 @@
-use Rattle.flow_resolved.specs.View.{node_of}
+use Rattle.flow_code.specs.Resolved.View.{node_of}
 use Rattle.flow_steps.proofs.Sights.{truth_seen}
 use Rattle.flow_steps.proofs.process.Process.truth.Goals as goal
 

@@ -1,4 +1,4 @@
-use Rattle.flow_resolved.specs.View.{node_of}
+use Rattle.flow_code.specs.Resolved.View.{node_of}
 use Rattle.flow_steps.proofs.Sights.{value_seen}
 use Rattle.flow_steps.proofs.process.Process.value.Goals as goal
 

@@ -1,4 +1,4 @@
-use Rattle.flow_resolved.specs.View.{nodes_of}
+use Rattle.flow_code.specs.Resolved.View.{nodes_of}
 use Rattle.flow_steps.proofs.Sights.{values_seen}
 use Rattle.flow_steps.proofs.process.Process.values.Goals as goal
 

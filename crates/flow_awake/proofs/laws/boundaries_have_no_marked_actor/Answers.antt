@@ -1,8 +1,0 @@
-use Rattle.flow_awake.proofs.Worlds.{whole_rest, whole_keep}
-use Rattle.flow_awake.proofs.laws.boundaries_have_no_marked_actor.Goals as goal
-
-pub returns-clause-steps : goal.returns-clause-steps
-returns-clause-steps c = whole_keep
-
-pub returns-clause-states : goal.returns-clause-states
-returns-clause-states c = whole_rest

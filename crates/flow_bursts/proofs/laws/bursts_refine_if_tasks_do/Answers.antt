@@ -1,5 +1,0 @@
-use Rattle.flow_bursts.proofs.Rows.{burst_follows}
-use Rattle.flow_bursts.proofs.laws.bursts_refine_if_tasks_do.Goals as goal
-
-pub returns : goal.returns
-returns g c = burst_follows g.H.Host.serves g.H.Host.shows g.H.Host.wrote

@@ -1,5 +1,0 @@
-//! What cancelling an actor does to its waits. The definitions stand in `specs/`; the functions of this crate have empty bodies:
-//! each contract is a law.
-#![tactic(auto)]
-
-pub mod laws;

@@ -1,0 +1,3 @@
+pub mod Simulation
+pub mod Traces
+pub mod Frames

@@ -1,0 +1,3 @@
+pub mod simulation;
+pub mod traces;
+pub mod frames;

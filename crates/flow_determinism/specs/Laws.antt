@@ -1,0 +1,41 @@
+-- Sound programs and their classes have one trace in each world in range.
+use Rattle.std.specs.Prelude.{ℕ, List}
+use Rattle.flow_tree.specs.declared.decl.Program.{Program}
+use Rattle.flow_tree.specs.DeclView.{program_of}
+use Rattle.flow_worldfile.specs.Worlds as file
+use Rattle.flow_class.specs.Classes.{RawTree}
+use Rattle.flow_lower.specs.Compiled.{compiled}
+use Rattle.flow_front.specs.Verdict.{IsSound}
+use Rattle.flow_meaning.specs.Runs.{SourceTrace, ClassTrace}
+use Rattle.flow_invariants.specs.Fitting.Laws.{AreValid, OneTrace}
+use Rattle.flow_invariants.specs.Unmarked.{AreWhole, StatesRest, StepsKeep}
+
+-- the classes of a text that the front accepts
+abbrev pub classes_of : Program → RawTree
+classes_of program = compiled (program_of program)
+
+-- They are valid, and written as the grammar of class text has classes.
+abbrev pub CompilesWritten : Type 0
+CompilesWritten = (text : List ℕ) (program : Program) → IsSound text program → AreValid (classes_of program)
+
+-- In the world of each file in range they have one trace, and so has the program by its text.
+abbrev pub ClassesRun : Type 0
+ClassesRun =
+    (text : List ℕ) (program : Program) (w : file.World) → IsSound text program → file.IsInRange w
+    → OneTrace (ClassTrace (classes_of program) w)
+
+abbrev pub SourcesRun : Type 0
+SourcesRun =
+    (text : List ℕ) (program : Program) (w : file.World) → IsSound text program → file.IsInRange w
+    → OneTrace (SourceTrace (program_of program) w)
+
+-- Each group of them has a callback, so they keep within an event what they have to, and no unfinished actor is
+-- marked at its end.
+abbrev pub CompilesWhole : Type 0
+CompilesWhole = (text : List ℕ) (program : Program) → IsSound text program → AreWhole (classes_of program)
+
+abbrev pub ProgramsKeep : Type 0
+ProgramsKeep = (text : List ℕ) (program : Program) → IsSound text program → StepsKeep (classes_of program)
+
+abbrev pub ProgramsRest : Type 0
+ProgramsRest = (text : List ℕ) (program : Program) → IsSound text program → StatesRest (classes_of program)

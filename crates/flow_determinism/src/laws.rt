@@ -1,0 +1,37 @@
+// Laws of the runs of sound programs.
+
+ghost use Rattle.flow_determinism.specs.Laws.{CompilesWritten, ClassesRun, SourcesRun, CompilesWhole, ProgramsKeep, ProgramsRest};
+
+use flow_invariants::laws::unmarked::boundaries_have_no_marked_actor;
+use flow_compile_laws::laws::traces::compile_preserves_traces;
+use flow_invariants::laws::fitting::valid_classes_have_one_trace;
+
+/// The classes of a program that the front accepts, and in which no use of a local is lost, are valid, and
+/// written as the grammar of class text has classes: each has a block, no path is empty, and the numbers of
+/// its places are below 2^64.
+pub fn compiled_classes_are_well_formed()
+    ensures { CompilesWritten }
+{}
+
+/// Such a program has one trace in the world of each file in range, and so have its classes: whatever is
+/// said of its traces is said of one.
+pub fn accepted_programs_have_one_trace()
+    ensures classes { ClassesRun }
+    ensures sources { SourcesRun }
+{
+    compiled_classes_are_well_formed();
+    valid_classes_have_one_trace();
+    compile_preserves_traces();
+}
+
+/// Each `choose` of such a program has a branch, so each group of its classes has a callback. So between two steps
+/// of an event its processes keep what they have to, and at each boundary of a run no unfinished actor is marked
+/// as cancelled, and a future refers to the result of each.
+pub fn compiled_boundaries_have_no_marked_actor()
+    ensures whole { CompilesWhole }
+    ensures steps { ProgramsKeep }
+    ensures states { ProgramsRest }
+{
+    compiled_classes_are_well_formed();
+    boundaries_have_no_marked_actor();
+}

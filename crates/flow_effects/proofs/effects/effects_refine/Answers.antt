@@ -1,8 +1,0 @@
-use Rattle.flow_effects.proofs.Effecting.{effect_step, effect_operand_step}
-use Rattle.flow_effects.proofs.effects.effects_refine.Goals as goal
-
-pub returns-clause-stored : goal.returns-clause-stored
-returns-clause-stored c = effect_step
-
-pub returns-clause-operand : goal.returns-clause-operand
-returns-clause-operand c = effect_operand_step

@@ -1,8 +1,0 @@
-use Rattle.flow_effects.proofs.Fresh.{port_free, actor_free}
-use Rattle.flow_effects.proofs.numbers.numbers_are_new.Goals as goal
-
-pub returns-clause-port : goal.returns-clause-port
-returns-clause-port c = port_free
-
-pub returns-clause-actor : goal.returns-clause-actor
-returns-clause-actor c = actor_free

@@ -1,5 +1,0 @@
-use Rattle.flow_events.proofs.Next.{same_end}
-use Rattle.flow_events.proofs.laws.ends_of_runs_match.Goals as goal
-
-pub returns : goal.returns
-returns g c = same_end g.R.Resting.rests g.L.LineOut.puts

@@ -1,5 +1,0 @@
-use Rattle.flow_exact.proofs.Mains.{boot_well}
-use Rattle.flow_exact.proofs.doing.boots_are_never_stuck.Goals as goal
-
-pub returns : goal.returns
-returns g c = boot_well g.H.Host.serves g.H.Host.shows g.H.Host.wrote g.H.Host.broke

@@ -1,5 +1,0 @@
-use Rattle.flow_exact.proofs.Shown.{classes_shown}
-use Rattle.flow_exact.proofs.laws.class_runs_are_exact.Goals as goal
-
-pub returns : goal.returns
-returns g c = classes_shown g.L.LineOut.puts

@@ -1,3 +1,0 @@
-pub mod Grammar
-mod Rules
-pub mod Whole

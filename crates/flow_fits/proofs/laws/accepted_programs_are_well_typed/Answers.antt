@@ -1,5 +1,0 @@
-use Rattle.flow_fits.proofs.Accepted.{accepted}
-use Rattle.flow_fits.proofs.laws.accepted_programs_are_well_typed.Goals as goal
-
-pub returns : goal.returns
-returns c = accepted c.grammar_keeps_for_parts_simple.ensures

@@ -1,8 +1,0 @@
-use Rattle.flow_follows.proofs.Doing.{top_follows, task_follows}
-use Rattle.flow_follows.proofs.tasking.task_steps_refine.Goals as goal
-
-pub returns-clause-top : goal.returns-clause-top
-returns-clause-top c = top_follows
-
-pub returns-clause-task : goal.returns-clause-task
-returns-clause-task c = task_follows

@@ -1,3 +1,0 @@
-mod Traces
-pub mod Alike
-mod Example

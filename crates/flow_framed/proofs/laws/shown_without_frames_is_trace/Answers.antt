@@ -1,8 +1,0 @@
-use Rattle.flow_framed.proofs.Traces.{trace_shown, class_trace_shown}
-use Rattle.flow_framed.proofs.laws.shown_without_frames_is_trace.Goals as goal
-
-pub returns-clause-source : goal.returns-clause-source
-returns-clause-source c = trace_shown
-
-pub returns-clause-classes : goal.returns-clause-classes
-returns-clause-classes c = class_trace_shown

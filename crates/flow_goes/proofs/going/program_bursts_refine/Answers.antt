@@ -1,8 +1,0 @@
-use Rattle.flow_goes.proofs.Goes.{program_goes, program_follows}
-use Rattle.flow_goes.proofs.going.program_bursts_refine.Goals as goal
-
-pub returns-clause-tasks : goal.returns-clause-tasks
-returns-clause-tasks g c = program_goes g.H.Host.serves g.H.Host.shows g.H.Host.wrote
-
-pub returns-clause-bursts : goal.returns-clause-bursts
-returns-clause-bursts g c = program_follows g.H.Host.serves g.H.Host.shows g.H.Host.wrote

@@ -1,0 +1,6 @@
+pub mod fitting;
+pub mod owned;
+pub mod referenced;
+pub mod unmarked;
+pub mod open_ports;
+pub mod fires;

@@ -1,5 +1,0 @@
-use Rattle.flow_lawful.proofs.Filled.{all_valid}
-use Rattle.flow_lawful.proofs.laws.compiled_classes_are_valid.Goals as goal
-
-pub returns : goal.returns
-returns c = all_valid

@@ -1,0 +1,2 @@
+pub mod actors;
+pub mod programs;

@@ -1,0 +1,4 @@
+pub mod Lookups
+pub mod Stores
+pub mod Actors
+pub mod Bursts

@@ -1,0 +1,4 @@
+pub mod lookups;
+pub mod stores;
+pub mod actors;
+pub mod bursts;

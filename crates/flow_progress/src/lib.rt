@@ -1,0 +1,4 @@
+//! Of valid classes every event ends.
+#![tactic(auto)]
+
+pub mod laws;

@@ -1,4 +1,0 @@
-pub mod Framing
-pub mod MovedTraces
-pub mod Parts
-pub mod Writing

@@ -1,4 +1,0 @@
-pub mod Ends
-pub mod Tracing
-pub mod Written
-pub mod StuckTraces

@@ -1,8 +1,0 @@
-use Rattle.flow_served.proofs.Serving.{line_written, port_unheard}
-use Rattle.flow_served.proofs.laws.written_lines_refine.Goals as goal
-
-pub returns-clause-line : goal.returns-clause-line
-returns-clause-line g c = line_written g.H.Host.serves g.H.Host.shows g.H.Host.wrote
-
-pub returns-clause-port : goal.returns-clause-port
-returns-clause-port g c = port_unheard g.H.Host.serves g.H.Host.shows g.H.Host.wrote

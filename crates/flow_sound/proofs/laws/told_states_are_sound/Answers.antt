@@ -1,8 +1,0 @@
-use Rattle.flow_sound.proofs.Worlds.{classes_told, programs_told}
-use Rattle.flow_sound.proofs.laws.told_states_are_sound.Goals as goal
-
-pub returns-clause-classes : goal.returns-clause-classes
-returns-clause-classes g c = classes_told g.L.LineOut.puts
-
-pub returns-clause-programs : goal.returns-clause-programs
-returns-clause-programs g c = programs_told g.L.LineOut.puts

@@ -1,0 +1,15 @@
+pub mod Continuing
+pub mod Deciding
+pub mod Assigning
+pub mod Calling
+pub mod Choosing
+pub mod Giving
+pub mod Decoding
+pub mod Executing
+pub mod Referring
+pub mod Tasking
+pub mod Matching
+pub mod Running
+pub mod Effects
+pub mod Services
+pub mod Resuming

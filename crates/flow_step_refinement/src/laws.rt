@@ -1,0 +1,3 @@
+pub mod effects;
+pub mod services;
+pub mod resuming;

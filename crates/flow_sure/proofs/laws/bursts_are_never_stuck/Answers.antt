@@ -1,5 +1,0 @@
-use Rattle.flow_sure.proofs.Bursts.{all_bursts_sure}
-use Rattle.flow_sure.proofs.laws.bursts_are_never_stuck.Goals as goal
-
-pub returns : goal.returns
-returns g c = all_bursts_sure g.H.Host.serves g.H.Host.shows g.H.Host.wrote g.H.Host.broke

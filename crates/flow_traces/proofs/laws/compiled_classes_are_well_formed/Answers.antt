@@ -1,5 +1,0 @@
-use Rattle.flow_traces.proofs.Written.{compiles_written}
-use Rattle.flow_traces.proofs.laws.compiled_classes_are_well_formed.Goals as goal
-
-pub returns : goal.returns
-returns c = compiles_written

@@ -1,0 +1,2 @@
+pub mod ControlFlow
+pub mod Typing

@@ -1,0 +1,2 @@
+pub mod control_flow;
+pub mod typing;

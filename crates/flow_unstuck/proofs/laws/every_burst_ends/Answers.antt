@@ -1,6 +1,0 @@
-use Rattle.flow_unstuck.proofs.Ending.{bursts_end}
-use Rattle.flow_unstuck.proofs.Valid.{leads_on}
-use Rattle.flow_unstuck.proofs.laws.every_burst_ends.Goals as goal
-
-pub returns : goal.returns
-returns g c = λ r v. bursts_end r (leads_on r v) g.K.Around.host

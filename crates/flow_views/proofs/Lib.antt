@@ -1,9 +1,0 @@
-mod Steps
-mod Itself
-pub mod Waiting
-mod Paired
-pub mod Views
-mod Lines
-pub mod Told
-pub mod Worlds
-pub mod Traced

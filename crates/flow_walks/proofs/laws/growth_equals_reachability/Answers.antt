@@ -1,5 +1,0 @@
-use Rattle.flow_walks.proofs.Reaching.{grown_reached, reached_grown}
-use Rattle.flow_walks.proofs.laws.growth_equals_reachability.Goals as goal
-
-pub returns : goal.returns
-returns g c = λ edges begins reached grown closed b. (grown_reached edges begins reached grown b, reached_grown edges begins reached grown closed b)

@@ -1,0 +1,43 @@
+use Rattle.std.proofs.Common.{rules, sym, ap, subst, ◌∙◌}
+use Rattle.std.proofs.lemmas.Result.{IfOk-weaker}
+use Rattle.flow_trace.specs.Out.{Grows}
+use Rattle.flow_world.specs.Tracing.{Traces, TracesPart}
+use Rattle.flow_world.specs.Written.{put_bytes}
+use Rattle.flow_world.specs.FaultedLines.{tells, whole, failed}
+use Rattle.flow_world.proofs.MovedTraces.{seen_of, told_by, traces_by, part_by, stuck_by}
+use Rattle.flow_world.proofs.to_sink.write_trace.Goals as goal
+
+pub returns-clause-traces : goal.returns-clause-traces
+returns-clause-traces g c =
+    let name = ap (λ k. k.0) c.put_trace-ending.ensures.kept in
+    IfOk-weaker c.put_trace-ending.result _ _
+    (λ ending t.
+    let moved = traces_by (seen_of (λ w. (g.S.Sink.seen w.out.now).written)) _ (tells put_bytes)
+    (told_by (λ w. (g.S.Sink.seen w.out.now).written) _ put_bytes (λ a b l answer p. p.1)) c.args.with_frames c.args.classes c.args.world _ ending _ t in
+    subst (λ v. Traces (tells put_bytes) c.args.with_frames c.args.classes c.args.world (whole (g.S.Sink.seen c.args.out.now).written) ending (whole (g.S.Sink.seen v).written)) (search rules) moved)
+    c.put_trace-ending.ensures.traces
+
+pub returns-clause-part : goal.returns-clause-part
+returns-clause-part g c = λ fails.
+    let name = ap (λ k. k.0) c.put_trace-ending.ensures.kept in
+    let moved = part_by (seen_of (λ w. (g.S.Sink.seen w.out.now).written)) _ (tells put_bytes)
+    (told_by (λ w. (g.S.Sink.seen w.out.now).written) _ put_bytes (λ a b l answer p. p.1)) c.args.with_frames c.args.classes c.args.world _ _ (c.put_trace-ending.ensures.part fails) in
+    subst (λ v. TracesPart (tells put_bytes) c.args.with_frames c.args.classes c.args.world (whole (g.S.Sink.seen c.args.out.now).written) (failed (g.S.Sink.seen v).written)) (search rules) moved
+
+pub returns-clause-last : goal.returns-clause-last
+returns-clause-last g c =
+    let kept = c.put_trace-ending.ensures.kept in
+    let name = ap (λ k. k.0) kept in
+    let begin = ap (λ k. k.1) kept ∙ c.of-before.ensures in
+    IfOk-weaker c.put_trace-ending.result _ _
+    (λ ending last.
+    let middle = last.0 in
+    let put = last.1.1.whole in
+    let grown = subst (λ v. Grows (g.S.Sink.seen v).written (g.S.Sink.seen middle.out.now).written) (sym last.1.0 ∙ begin) middle.grown in
+    ((g.S.Sink.seen middle.out.now).written, grown, search rules))
+    c.put_trace-ending.ensures.last
+
+pub returns-clause-stuck : goal.returns-clause-stuck
+returns-clause-stuck g c = λ stuck.
+    stuck_by (seen_of (λ w. (g.S.Sink.seen w.out.now).written)) _ (tells put_bytes)
+    (told_by (λ w. (g.S.Sink.seen w.out.now).written) _ put_bytes (λ a b l answer p. p.1)) c.args.with_frames c.args.classes c.args.world _ (c.put_trace-ending.ensures.stuck stuck)

@@ -1,0 +1,6 @@
+pub mod Order
+pub mod Effects
+pub mod Events
+pub mod Invariants
+pub mod Traces
+pub mod Views

@@ -1,0 +1,9 @@
+pub mod Steps
+pub mod Itself
+pub mod Waiting
+pub mod Paired
+pub mod Views
+pub mod Lines
+pub mod Told
+pub mod Worlds
+pub mod Traced

@@ -1,5 +1,0 @@
-use Rattle.flow_written.proofs.Compiled.{compiled_few}
-use Rattle.flow_written.proofs.laws.compiled_classes_have_few_places.Goals as goal
-
-pub returns : goal.returns
-returns c = compiled_few
