@@ -39,7 +39,7 @@ pub noted_some : (e : Env) (b : Bool) (x : List ℕ) (new : List (List ℕ)) →
 noted_some e true x new h is = ap (λ ss. record e { states = ss }) is
 noted_some e false x new h is = cc
 
-pub declared_after : (old mid new : Walk) (i : IntoTree) (t : code.Found) (r : Result (Unit {0}) SourceFault)
+pub declared_after : (old mid new : Walk) (i : IntoTree) (t : code.TypeView) (r : Result (Unit {0}) SourceFault)
     → ((g : Around) → env_of mid g ≡ with_states (env_of old g) (if_state i.state i.name.name)) → found_of t ≡ i.ty
     → IfOk r (λ _. (g : Around) → env_of new g ≡ with_var (env_of mid g) i.name.name (found_of t)) → IfOk r (λ _. (g : Around) → env_of new g ≡ declared (env_of old g) i)
 declared_after old mid new i t (Ok u) noted ty h = λ g. h g ∙ ap₂ (λ e k. with_var e i.name.name k) (noted g) ty

@@ -180,10 +180,10 @@ same_text i j = bytes_eq i.now j.now
 abbrev pub texts : List (Bor (List ℕ)) → List (List ℕ)
 texts ks = map (λ (j : Bor (List ℕ)). j.now) ks
 
-abbrev taken_by : List (Bor (List ℕ) × code.Found) → List ℕ → Bool
+abbrev taken_by : List (Bor (List ℕ) × code.TypeView) → List ℕ → Bool
 taken_by es x = is_there (named (map (bound found_of) es) x)
 
-module _ (s : Setting) (p : ParamTree) (k : Bor (List ℕ)) (v : code.Found) (es es' : List (Bor (List ℕ) × code.Found)) (ks ks' : List (Bor (List ℕ))) (fault : Option ℕ)
+module _ (s : Setting) (p : ParamTree) (k : Bor (List ℕ)) (v : code.TypeView) (es es' : List (Bor (List ℕ) × code.TypeView)) (ks ks' : List (Bor (List ℕ))) (fault : Option ℕ)
     (entries : es' ≡ insert_entry same_text es k v) (keys : ks' ≡ insert_key same_text ks k) (name : k.now ≡ p.name.name) where
   pub new_taken : taken_by es' ≡ with_name p.name.name (taken_by es)
   new_taken = ap taken_by entries ∙ row_taken found_of k v es ∙ ap (λ x. with_name x (taken_by es)) name

@@ -22,7 +22,7 @@ bound f e = (e.0.now, f e.1)
 abbrev pub rows_of : {S : Type 0} → IndexMap (Bor (List ℕ)) meant.Meaning S → List (List ℕ × Meaning)
 rows_of m = map (bound meaning_of) m.entries
 
-abbrev pub vars_of : {S : Type 0} → IndexMap (Bor (List ℕ)) code.Found S → List (List ℕ × TypeTree)
+abbrev pub vars_of : {S : Type 0} → IndexMap (Bor (List ℕ)) code.TypeView S → List (List ℕ × TypeTree)
 vars_of m = map (bound found_of) m.entries
 
 -- what names declare

@@ -31,7 +31,7 @@ inner_of inner.Int = IntType
 inner_of inner.Text = StringType
 inner_of inner.Packet = NamedType (codes "Packet")
 
-abbrev pub found_of : code.Found → TypeTree
+abbrev pub found_of : code.TypeView → TypeTree
 found_of found.Int = IntType
 found_of found.Bool = BoolType
 found_of found.Str = StringType

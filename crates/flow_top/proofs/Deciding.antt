@@ -25,7 +25,7 @@ use Rattle.flow_lower.specs.Weighing.{first_heavy}
 use Rattle.flow_compile.specs.Right.{IsAccepted}
 use Rattle.flow_lower.specs.Compiled.{Has}
 use Rattle.flow_worldfile.specs.Worlds.{IsInRange, seen}
-use Rattle.flow_top.specs.declared.outcome.Outcome.TheVariants.{Told, Run}
+use Rattle.flow_top.specs.declared.outcome.Outcome.TheVariants.{Answered, Run}
 use Rattle.flow_top.specs.declared.outcome.ProgramRun.{ProgramRun}
 use Rattle.flow_top.specs.declared.outcome.Answered as told
 use Rattle.flow_top.specs.declared.outcome.Answered.TheVariants.{Compiled, Passed, OutOfMemory}
@@ -42,7 +42,7 @@ pub asks_none : {before after : FilesSeen} → after.asked ≡ before.asked → 
 asks_none e = record { asked = e ∙ sym (append-nil _); within = tt }
 
 -- the file couldn't be read
-pub without_bytes : (T : Type 0) {before after : FilesSeen} {name : List ℕ} {o : told.Told} (fault : OutFault) → o ≡ outcome_of fault
+pub without_bytes : (T : Type 0) {before after : FilesSeen} {name : List ℕ} {o : told.Answered} (fault : OutFault) → o ≡ outcome_of fault
     → AsksOnce {T = T} before.asked after.asked name (Err fault) → ReadsWithin (PROGRAM_BYTES + 1) name before after
     → Counts {T = T} before.faults after.faults (Err fault) → FileRead name before after (Err o)
 without_bytes T {before = b} {after = a} {name = n} Failed o e within counted = subst (λ x. FileRead n b a (Err x)) (sym o) (is_unread (asks e within) counted)
@@ -60,29 +60,29 @@ pub same_faults : {before after : FilesSeen} {name : List ℕ} {v : Vec ℕ Glob
 same_faults (is_read v is asked same) = same
 
 -- then the program isn't loaded, and it isn't formatted
-pub unloaded : {before after : FilesSeen} {name : List ℕ} {o : told.Told} → FileRead name before after (Err o) → Loaded name before after (Err o)
+pub unloaded : {before after : FilesSeen} {name : List ℕ} {o : told.Answered} → FileRead name before after (Err o) → Loaded name before after (Err o)
 unloaded (is_unread asked counted) = no_text asked counted
 unloaded (unasked asked same) = no_room [] asked (inl refl) same
 unloaded {name = name} (starved asked same) = no_room (name ∷ []) asked (inr refl) same
 
-pub without_file : {words : List (List ℕ)} {before after : FilesSeen} {name : List ℕ} {o : told.Told}
-    → NameProgram words name → FileRead name before after (Err o) → Decided words before after (Told o)
+pub without_file : {words : List (List ℕ)} {before after : FilesSeen} {name : List ℕ} {o : told.Answered}
+    → NameProgram words name → FileRead name before after (Err o) → Decided words before after (Answered o)
 without_file {name = name} named (is_unread asked counted) = read_fault (name ∷ []) (program name named) asked counted
 without_file named (unasked asked same) = no_memory [] none asked same
 without_file {name = name} named (starved asked same) = no_memory (name ∷ []) (program name named) asked same
 
 -- the text is no program
-pub unformatted : {words : List (List ℕ)} {before after : FilesSeen} {name : List ℕ} {o : told.Told} (text : List ℕ) (fault : SourceFault) → o ≡ refusal_outcome_of fault
+pub unformatted : {words : List (List ℕ)} {before after : FilesSeen} {name : List ℕ} {o : told.Answered} (text : List ℕ) (fault : SourceFault) → o ≡ refusal_outcome_of fault
     → AreFormat words name → IsText before.content name text → Reading text (Err fault) → AsksNames before after (name ∷ []) → after.faults ≡ before.faults
-    → Decided words before after (Told o)
+    → Decided words before after (Answered o)
 unformatted {words} {before = b} {after = a} {name = n} text (source.Refused rule at) o are is v asked same =
-    subst (λ x. Decided words b a (Told x)) (sym o) (due _ _ (unread n text rule at are is v) asked same)
+    subst (λ x. Decided words b a (Answered x)) (sym o) (due _ _ (unread n text rule at are is v) asked same)
 unformatted text (source.AcrossWait at declared wait) o are is v asked same = absurd v
 unformatted {words} {before = b} {after = a} {name = n} text source.OutOfMemory o are is v asked same =
-    subst (λ x. Decided words b a (Told x)) (sym o) (no_memory (n ∷ []) (program n (of_format are)) asked same)
+    subst (λ x. Decided words b a (Answered x)) (sym o) (no_memory (n ∷ []) (program n (of_format are)) asked same)
 
 -- the program doesn't pass
-pub judged : {before after : FilesSeen} {name : List ℕ} {o : told.Told} (text : List ℕ) (fault : SourceFault) → o ≡ refusal_outcome_of fault
+pub judged : {before after : FilesSeen} {name : List ℕ} {o : told.Answered} (text : List ℕ) (fault : SourceFault) → o ≡ refusal_outcome_of fault
     → IsText before.content name text → AnswersText text (Err fault) → AsksNames before after (name ∷ []) → after.faults ≡ before.faults
     → Loaded name before after (Err o)
 judged {before = b} {after = a} {name = n} text (source.Refused rule at) o is v asked same = subst (λ x. Loaded n b a (Err x)) (sym o) (is_refused text rule at is v asked same)
@@ -97,8 +97,8 @@ asked_some {words} content names judges (inl e) = subst (AskedSome words content
 asked_some {words} content {name = n} names judges (inr e) = subst (AskedSome words content) (sym e) (program n (of_judged judges))
 
 -- then the command goes no further
-pub without_program : {o : told.Told} {words : List (List ℕ)} {before after : FilesSeen} {name : List ℕ}
-    → JudgeProgram words name → Loaded name before after (Err o) → Decided words before after (Told o)
+pub without_program : {o : told.Answered} {words : List (List ℕ)} {before after : FilesSeen} {name : List ℕ}
+    → JudgeProgram words name → Loaded name before after (Err o) → Decided words before after (Answered o)
 without_program {name = name} judges (is_refused text rule at is why asked same) = due _ _ (refused name text rule at judges is why) asked same
 without_program {name = name} judges (is_lost p l has asked same) = due _ _ (lost name p l judges has) asked same
 without_program {name = name} judges (no_text asked counted) = read_fault (name ∷ []) (program name (of_judged judges)) asked counted
@@ -128,16 +128,16 @@ pub no_fault : {before after : FilesSeen} {name : List ℕ} {s : Sound} → Load
 no_fault (is_loaded s has asked same) = same
 
 pub passes : {words : List (List ℕ)} {before after : FilesSeen} {name : List ℕ} {s : Sound}
-    → AreCheck words name → Loaded name before after (Ok s) → first_heavy (program_of s.typed.program).decls ≡ None → Decided words before after (Told Passed)
+    → AreCheck words name → Loaded name before after (Ok s) → first_heavy (program_of s.typed.program).decls ≡ None → Decided words before after (Answered Passed)
 passes {name = name} {s = s} are l light = due _ _ (passed name s.typed.program are (has_passing l light)) (was_asked l) (no_fault l)
 
-pub too_heavy : {words : List (List ℕ)} {before after : FilesSeen} {name : List ℕ} {s : Sound} {o : told.Told} (at : Place) → o ≡ heavy_outcome at
-    → JudgeProgram words name → Loaded name before after (Ok s) → first_heavy (program_of s.typed.program).decls ≡ Some at → Decided words before after (Told o)
+pub too_heavy : {words : List (List ℕ)} {before after : FilesSeen} {name : List ℕ} {s : Sound} {o : told.Answered} (at : Place) → o ≡ heavy_outcome at
+    → JudgeProgram words name → Loaded name before after (Ok s) → first_heavy (program_of s.typed.program).decls ≡ Some at → Decided words before after (Answered o)
 too_heavy {words} {before = b} {after = a} {name = n} {s = s} at e judges l is =
-    subst (λ x. Decided words b a (Told x)) (sym e) (due _ _ (heavy n s.typed.program at judges (has_sound l) is) (was_asked l) (no_fault l))
+    subst (λ x. Decided words b a (Answered x)) (sym e) (due _ _ (heavy n s.typed.program at judges (has_sound l) is) (was_asked l) (no_fault l))
 
-pub without_classes : {words : List (List ℕ)} {before after : FilesSeen} {name : List ℕ} {s : Sound} {o : told.Told}
-    → JudgeProgram words name → Loaded name before after (Ok s) → ClassesOf (program_of s.typed.program) (Err o) → Decided words before after (Told o)
+pub without_classes : {words : List (List ℕ)} {before after : FilesSeen} {name : List ℕ} {s : Sound} {o : told.Answered}
+    → JudgeProgram words name → Loaded name before after (Ok s) → ClassesOf (program_of s.typed.program) (Err o) → Decided words before after (Answered o)
 without_classes {name = n} judges l (is_heavy at is) = too_heavy at refl judges l is
 without_classes {name = n} judges l no_classes = no_memory (n ∷ []) (program n (of_judged judges)) (was_asked l) (no_fault l)
 
@@ -148,7 +148,7 @@ pub are_light : {p : ProgramTree} {c : RawClasses} → ClassesOf p (Ok c) → fi
 are_light (are_classes c h light) = light
 
 pub compiles : {words : List (List ℕ)} {before after : FilesSeen} {name : List ℕ} {s : Sound} {c : RawClasses}
-    → AreCompile words name → Loaded name before after (Ok s) → ClassesOf (program_of s.typed.program) (Ok c) → Decided words before after (Told (Compiled c))
+    → AreCompile words name → Loaded name before after (Ok s) → ClassesOf (program_of s.typed.program) (Ok c) → Decided words before after (Answered (Compiled c))
 compiles {name = n} {s = s} {c = c} are l cs = due _ _ (compiled n s.typed.program c are (has_passing l (are_light cs)) (has_classes cs)) (was_asked l) (no_fault l)
 
 -- two names are equal, or they are apart
@@ -218,9 +218,9 @@ asked_nothing : {before after : FilesSeen} → AsksNames before after [] → aft
 asked_nothing a = a.asked ∙ append-nil _
 
 -- the world couldn't be read
-pub without_world : {words : List (List ℕ)} {name world : List ℕ} {before mid after : FilesSeen} {s : Sound} {frames : Bool} {o : told.Told}
+pub without_world : {words : List (List ℕ)} {name world : List ℕ} {before mid after : FilesSeen} {s : Sound} {frames : Bool} {o : told.Answered}
     → AreRun words name world frames → Loaded name before mid (Ok s) → first_heavy (program_of s.typed.program).decls ≡ None
-    → Between name world before mid after → FileRead world mid after (Err o) → Decided words before after (Told o)
+    → Between name world before mid after → FileRead world mid after (Err o) → Decided words before after (Answered o)
 without_world {name = n} {world = w} {before = b} {mid = m} {after = a} {s = s} {frames = f} are l light bt (is_unread asked counted) =
     read_fault (n ∷ (w ∷ [])) (both n w f s.typed.program are (has_passing l light)) (asks_both n w b m a bt asked.asked) (counted ∙ ap next_count (no_fault l))
 without_world {name = n} {world = w} {before = b} {mid = m} {after = a} {frames = f} are l light bt (unasked asked same) =
@@ -255,9 +255,9 @@ may_run r same l cs in_range = record {
 }
 
 -- the world is refused, or there is no memory for it
-pub not_ran : {words : List (List ℕ)} {name file : List ℕ} {before mid after : FilesSeen} {s : Sound} {frames : Bool} {c : RawClasses} {v : Vec ℕ Global} {o : told.Told}
+pub not_ran : {words : List (List ℕ)} {name file : List ℕ} {before mid after : FilesSeen} {s : Sound} {frames : Bool} {c : RawClasses} {v : Vec ℕ Global} {o : told.Answered}
     → AreRun words name file frames → Loaded name before mid (Ok s) → ClassesOf (program_of s.typed.program) (Ok c)
-    → Between name file before mid after → FileRead file mid after (Ok v) → WorldOf v.items (Err o) → Decided words before after (Told o)
+    → Between name file before mid after → FileRead file mid after (Ok v) → WorldOf v.items (Err o) → Decided words before after (Answered o)
 not_ran {name = n} {file = w} {before = b} {mid = m} {after = a} {s = s} {frames = f} {v = v} are l cs bt r (is_none fault answered) =
     due _ _ (no_world n w f s.typed.program fault are (has_passing l (are_light cs)) (record { text = v.items; is = world_text b.content bt.content r; answered = answered }))
     (asks_both n w b m a bt (asked_it r).asked) (same_faults r ∙ no_fault l)

@@ -39,7 +39,7 @@ use Rattle.flow_world.specs.Written.{bytes_of}
 use Rattle.flow_trace.specs.Out.{Grows}
 use Rattle.flow_compile_laws.specs.Frames.Framed.{SourceShown}
 use Rattle.flow_top.specs.declared.outcome.Outcome.{Outcome}
-use Rattle.flow_top.specs.declared.outcome.Outcome.TheVariants.{Told, Run}
+use Rattle.flow_top.specs.declared.outcome.Outcome.TheVariants.{Answered, Run}
 use Rattle.flow_top.specs.declared.outcome.ProgramRun.{ProgramRun}
 use Rattle.flow_top.specs.declared.outcome.Answered as told
 use Rattle.flow_top.specs.declared.outcome.Answered.TheVariants.{Usage, ReadFault, OutOfMemory, Refused, NoWorld, Passed, Compiled, Formatted}
@@ -47,7 +47,7 @@ use Rattle.flow_top.specs.Words.{AreFormat, AreCheck, AreCompile, AreRun, JudgeP
 use Rattle.flow_refusal.specs.Refusal.{refusal_text, refusal_status, world_refusal}
 
 -- what is written for an outcome that is no run
-abbrev pub text_of : told.Told → List ℕ
+abbrev pub text_of : told.Answered → List ℕ
 text_of Usage = codes "usage" ++ 10 ∷ []
 text_of ReadFault = codes "read fault" ++ 10 ∷ []
 text_of OutOfMemory = []
@@ -64,7 +64,7 @@ world_status world.OutOfMemory = 7
 world_status _ = 3
 
 -- the status of an outcome that is no run, and whose text went out whole
-abbrev pub status_of : told.Told → ℕ
+abbrev pub status_of : told.Answered → ℕ
 status_of Usage = 2
 status_of ReadFault = 5
 status_of OutOfMemory = 7
@@ -81,18 +81,18 @@ ending_status Bound = 0
 ending_status Spent = 4
 
 -- what a fault of the files comes to
-abbrev pub outcome_of : OutFault → told.Told
+abbrev pub outcome_of : OutFault → told.Answered
 outcome_of fault.Failed = ReadFault
 outcome_of fault.OutOfMemory = OutOfMemory
 
 -- what the verdict on a program that isn't accepted comes to
-abbrev pub refusal_outcome_of : SourceFault → told.Told
+abbrev pub refusal_outcome_of : SourceFault → told.Answered
 refusal_outcome_of (source.Refused rule at) = Refused (source.Refused rule at)
 refusal_outcome_of (source.AcrossWait at declared wait) = Refused (source.AcrossWait at declared wait)
 refusal_outcome_of source.OutOfMemory = OutOfMemory
 
 -- what a program with an actor that weighs too much comes to
-abbrev pub heavy_outcome : Place → told.Told
+abbrev pub heavy_outcome : Place → told.Answered
 heavy_outcome at = Refused (source.Refused (L 9) at)
 
 -- the status where the text didn't go out whole
@@ -144,34 +144,34 @@ pub record MayRun (r : ProgramRun) : Type 0 where
   pub in_range : IsInRange (seen r.world)
 
 abbrev pub MayTell : Outcome → Type 0
-MayTell (Told outcome) = Unit {0}
+MayTell (Answered outcome) = Unit {0}
 MayTell (Run r) = MayRun r
 
 -- What the words come to, by the content of the files (where it isn't told, by bytes that were read), and the names that are
 -- asked for.
 pub data Due (words : List (List ℕ)) (content : List ℕ → Option (List ℕ)) : Outcome → List (List ℕ) → Type 0 where
   -- the words are no command
-  usage : ((name : List ℕ) → NameProgram words name → ⊥) → Due words content (Told Usage) []
+  usage : ((name : List ℕ) → NameProgram words name → ⊥) → Due words content (Answered Usage) []
   -- the text that is formatted is no program
   unread : (name text : List ℕ) (rule : Rule) (at : Place) → AreFormat words name → IsText content name text → IsUnread text rule at
-      → Due words content (Told (Refused (source.Refused rule at))) (name ∷ [])
+      → Due words content (Answered (Refused (source.Refused rule at))) (name ∷ [])
   formatted : (name : List ℕ) (p : Program) → AreFormat words name → HasProgram content name p
-      → Due words content (Told (Formatted p)) (name ∷ [])
+      → Due words content (Answered (Formatted p)) (name ∷ [])
   -- the program is refused
   refused : (name text : List ℕ) (rule : Rule) (at : Place) → JudgeProgram words name → IsText content name text → IsRefused text rule at
-      → Due words content (Told (Refused (source.Refused rule at))) (name ∷ [])
+      → Due words content (Answered (Refused (source.Refused rule at))) (name ∷ [])
   -- a use of a local is lost in the program
   lost : (name : List ℕ) (p : Program) (l : Lost) → JudgeProgram words name → HasLost content name p l
-      → Due words content (Told (Refused (source.AcrossWait l.at l.declared l.wait))) (name ∷ [])
+      → Due words content (Answered (Refused (source.AcrossWait l.at l.declared l.wait))) (name ∷ [])
   -- an actor of the program weighs too much
   heavy : (name : List ℕ) (p : Program) (at : Place) → JudgeProgram words name → HasSound content name p
-      → first_heavy (program_of p).decls ≡ Some at → Due words content (Told (heavy_outcome at)) (name ∷ [])
-  passed : (name : List ℕ) (p : Program) → AreCheck words name → HasPassing content name p → Due words content (Told Passed) (name ∷ [])
+      → first_heavy (program_of p).decls ≡ Some at → Due words content (Answered (heavy_outcome at)) (name ∷ [])
+  passed : (name : List ℕ) (p : Program) → AreCheck words name → HasPassing content name p → Due words content (Answered Passed) (name ∷ [])
   compiled : (name : List ℕ) (p : Program) (classes : RawClasses) → AreCompile words name → HasPassing content name p → Has (program_of p) (raw_of classes)
-      → Due words content (Told (Compiled classes)) (name ∷ [])
+      → Due words content (Answered (Compiled classes)) (name ∷ [])
   -- the world is refused
   no_world : (name world : List ℕ) (frames : Bool) (p : Program) (fault : WorldFault) → AreRun words name world frames → HasPassing content name p
-      → HasWorld content world (Err fault) → Due words content (Told (NoWorld fault)) (name ∷ (world ∷ []))
+      → HasWorld content world (Err fault) → Due words content (Answered (NoWorld fault)) (name ∷ (world ∷ []))
   -- the program is run in the world, by its classes
   run : (name file : List ℕ) (r : ProgramRun) → AreRun words name file r.frames → HasPassing content name r.program.value
       → Has (program_of r.program.value) (raw_of r.classes) → HasWorld content file (Ok r.world) → Due words content (Run r) (name ∷ (file ∷ []))
@@ -199,13 +199,13 @@ pub data Decided (words : List (List ℕ)) (before after : FilesSeen) : Outcome 
   due : (outcome : Outcome) (names : List (List ℕ)) → Due words before.content outcome names → AsksNames before after names
       → after.faults ≡ before.faults → Decided words before after outcome
   read_fault : (names : List (List ℕ)) → AskedSome words before.content names → AsksNames before after names
-      → after.faults ≡ next_count before.faults → Decided words before after (Told ReadFault)
+      → after.faults ≡ next_count before.faults → Decided words before after (Answered ReadFault)
   no_memory : (names : List (List ℕ)) → AskedSome words before.content names → AsksNames before after names
-      → after.faults ≡ before.faults → Decided words before after (Told OutOfMemory)
+      → after.faults ≡ before.faults → Decided words before after (Answered OutOfMemory)
 
 -- What was told of an outcome that is no run: its whole text, which was handed on, with its status; or a first part of it, with
 -- status 6 where the sink failed, which its count then shows, or 7 where there was no memory.
-pub data ReportedTold (outcome : told.Told) (before after : SinkSeen) : ℕ → Type 0 where
+pub data ReportedTold (outcome : told.Answered) (before after : SinkSeen) : ℕ → Type 0 where
   whole : Appends before.written after.written (text_of outcome) → after.handed ≡ after.written
       → ReportedTold outcome before after (status_of outcome)
   write_fault : AppendsPart before.written after.written (text_of outcome) → Rose before.faults after.faults
@@ -228,7 +228,7 @@ pub data ReportedRun (r : ProgramRun) (before after : SinkSeen) : ℕ → Type 0
   run_no_memory : Grows before.written after.written → ReportedRun r before after 7
 
 abbrev pub Reported : Outcome → SinkSeen → SinkSeen → ℕ → Type 0
-Reported (Told outcome) before after status = ReportedTold outcome before after status
+Reported (Answered outcome) before after status = ReportedTold outcome before after status
 Reported (Run r) before after status = ReportedRun r before after status
 
 -- The answer to a command line over files and a sink: an outcome was decided, and it was told.

@@ -25,7 +25,7 @@ use Rattle.flow_top.specs.declared.outcome.Answered.TheVariants.{ReadFault, OutO
 use Rattle.flow_top.specs.Run.{IsText, HasSound, HasLost, AsksNames, heavy_outcome}
 
 -- What reading the file of this name came to: a call of the files failed exactly where it is unread.
-pub data FileRead (name : List ℕ) (before after : FilesSeen) : Result (Vec ℕ Global) told.Told → Type 0 where
+pub data FileRead (name : List ℕ) (before after : FilesSeen) : Result (Vec ℕ Global) told.Answered → Type 0 where
   is_read : (v : Vec ℕ Global) → IsText before.content name v.items → AsksNames before after (name ∷ []) → after.faults ≡ before.faults
       → FileRead name before after (Ok v)
   is_unread : AsksNames before after (name ∷ []) → after.faults ≡ next_count before.faults → FileRead name before after (Err ReadFault)
@@ -33,7 +33,7 @@ pub data FileRead (name : List ℕ) (before after : FilesSeen) : Result (Vec ℕ
   starved : AsksNames before after (name ∷ []) → after.faults ≡ before.faults → FileRead name before after (Err OutOfMemory)
 
 -- What reading and judging the program of this name came to.
-pub data Loaded (name : List ℕ) (before after : FilesSeen) : Result Sound told.Told → Type 0 where
+pub data Loaded (name : List ℕ) (before after : FilesSeen) : Result Sound told.Answered → Type 0 where
   is_loaded : (s : Sound) → HasSound before.content name s.typed.program → AsksNames before after (name ∷ []) → after.faults ≡ before.faults
       → Loaded name before after (Ok s)
   is_refused : (text : List ℕ) (rule : Rule) (at : Place) → IsText before.content name text → IsRefused text rule at
@@ -46,13 +46,13 @@ pub data Loaded (name : List ℕ) (before after : FilesSeen) : Result Sound told
       → Loaded name before after (Err OutOfMemory)
 
 -- the classes of a program, or that an actor weighs too much
-pub data ClassesOf (p : ProgramTree) : Result RawClasses told.Told → Type 0 where
+pub data ClassesOf (p : ProgramTree) : Result RawClasses told.Answered → Type 0 where
   are_classes : (c : RawClasses) → Has p (raw_of c) → first_heavy p.decls ≡ None → ClassesOf p (Ok c)
   is_heavy : (at : Place) → first_heavy p.decls ≡ Some at → ClassesOf p (Err (heavy_outcome at))
   no_classes : ClassesOf p (Err OutOfMemory)
 
 -- the world of a text, or its refusal
-pub data WorldOf (text : List ℕ) : Result World0 told.Told → Type 0 where
+pub data WorldOf (text : List ℕ) : Result World0 told.Answered → Type 0 where
   is_world : (w : World0) → reading.ReadsWorld text (Ok w) → WorldOf text (Ok w)
   is_none : (fault : WorldFault) → reading.ReadsWorld text (Err fault) → WorldOf text (Err (NoWorld fault))
   no_room_for_it : WorldOf text (Err OutOfMemory)

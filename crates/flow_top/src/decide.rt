@@ -11,7 +11,7 @@ ghost use Rattle.flow_top.specs.Run.{Decided, MayTell, outcome_of, refusal_outco
 ghost use Rattle.flow_top.specs.Steps.{FileRead, Loaded, ClassesOf, WorldOf};
 
 use crate::command::{Command, command_of};
-use crate::outcome::{Outcome, ProgramRun, Answered};
+use crate::outcome::{Answered, Outcome, ProgramRun};
 use flow_base::fault::OutFault;
 use flow_base::files::Files;
 use flow_base::input::read_file;
@@ -79,7 +79,7 @@ fn load<F: Files>(alloc: Global, name: &str, files: &mut F) -> Result<Sound, Ans
 // What `format` on this program comes to.
 fn format<F: Files>(alloc: Global, name: &str, files: &mut F) -> Answered
     ensures { (words : List (List ℕ)) → AreFormat words name.now
-        → Decided words (F.seen files.old) (F.seen files.new) (Outcome.Told result) }
+        → Decided words (F.seen files.old) (F.seen files.new) (Outcome.Answered result) }
 {
     let bytes = match bytes_of(alloc, name, files) {
         Ok(bytes) => bytes,
@@ -116,7 +116,7 @@ fn classes_of(alloc: Global, sound: &Sound) -> Result<ClassProgram, Answered>
 // What `check` on this program comes to.
 fn check<F: Files>(alloc: Global, name: &str, files: &mut F) -> Answered
     ensures { (words : List (List ℕ)) → AreCheck words name.now
-        → Decided words (F.seen files.old) (F.seen files.new) (Outcome.Told result) }
+        → Decided words (F.seen files.old) (F.seen files.new) (Outcome.Answered result) }
 {
     let sound = match load(alloc, name, files) {
         Ok(sound) => sound,
@@ -131,7 +131,7 @@ fn check<F: Files>(alloc: Global, name: &str, files: &mut F) -> Answered
 // What `compile` on this program comes to.
 fn compiled<F: Files>(alloc: Global, name: &str, files: &mut F) -> Answered
     ensures { (words : List (List ℕ)) → AreCompile words name.now
-        → Decided words (F.seen files.old) (F.seen files.new) (Outcome.Told result) }
+        → Decided words (F.seen files.old) (F.seen files.new) (Outcome.Answered result) }
 {
     let sound = match load(alloc, name, files) {
         Ok(sound) => sound,

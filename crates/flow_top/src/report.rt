@@ -9,16 +9,16 @@ ghost use Rattle.flow_machine.specs.declared.host.RunFault.TheVariants.{Stuck};
 ghost use Rattle.flow_machine.specs.Cause.{fault_of};
 ghost use Rattle.flow_top.specs.Run.{text_of, status_of, world_status, ending_status, fault_status_of, MayRun, MayTell, ReportedTold, ReportedRun, Reported};
 
-use crate::outcome::{Outcome, ProgramRun, Answered};
+use crate::outcome::{Answered, Outcome, ProgramRun};
 use flow_base::fault::OutFault;
 use flow_base::output::write_whole;
 use flow_base::sink::Sink;
 use flow_classprint::write_classes;
 use flow_machine::host::RunFault;
 use flow_refusal::{refusal_line, refusal_status, world_line};
-use flow_world{Ending, write_trace};
 use flow_show::show::show_lines;
 use flow_tree::fault::SourceFault;
+use flow_world::{Ending, write_trace};
 use flow_worldfile::WorldFault;
 use std::alloc::Global;
 

@@ -89,7 +89,7 @@ locals_last from (u ∷ ts) t =
     (locals_last (suc from) ts t ∙ ap (λ n. local_rows (suc from) ts ++ (place_name (Local n), t) ∷ []) (omega arith))
 
 -- what is put in under a new name comes last
-row_put : (k : Bor (List ℕ)) (v : code.Found) (es : List (Bor (List ℕ) × code.Found)) → named (map (bound found_of) es) k.now ≡ None
+row_put : (k : Bor (List ℕ)) (v : code.TypeView) (es : List (Bor (List ℕ) × code.TypeView)) → named (map (bound found_of) es) k.now ≡ None
     → map (bound found_of) (insert_entry (λ (x y : Bor (List ℕ)). bytes_eq x.now y.now) es k v) ≡ map (bound found_of) es ++ (k.now, found_of v) ∷ []
 row_put k v [] h = refl
 row_put k v (e ∷ es) h = by (row_put k v es) (bytes_eq k.now e.0.now) refl
@@ -103,10 +103,10 @@ row_put k v (e ∷ es) h = by (row_put k v es) (bytes_eq k.now e.0.now) refl
         ap (λ b. map (bound found_of) (if b then (e.0, v) ∷ es else e ∷ insert_entry (λ (x y : Bor (List ℕ)). bytes_eq x.now y.now) es k v)) is
         ∙ ap (λ l. bound found_of e ∷ l) (more (sym (ap (λ b. if b then Some (found_of e.1) else named (map (bound found_of) es) k.now) is) ∙ h))
 
-abbrev rows : List (Bor (List ℕ) × code.Found) → List (List ℕ × TypeTree)
+abbrev rows : List (Bor (List ℕ) × code.TypeView) → List (List ℕ × TypeTree)
 rows es = map (bound found_of) es
 
-pub slot_put : (k : Bor (List ℕ)) (v : code.Found) (es new : List (Bor (List ℕ) × code.Found)) (ss : List SlotTree) (s : SlotTree)
+pub slot_put : (k : Bor (List ℕ)) (v : code.TypeView) (es new : List (Bor (List ℕ) × code.TypeView)) (ss : List SlotTree) (s : SlotTree)
     → length ss < 2 ^ 32 → rows es ≡ slot_rows 0 ss → k.now ≡ place_name (Slot (length ss)) → found_of v ≡ s.ty
     → new ≡ insert_entry (λ (x y : Bor (List ℕ)). bytes_eq x.now y.now) es k v → rows new ≡ slot_rows 0 (ss ++ s ∷ [])
 slot_put k v es new ss s few before name type put =
@@ -115,7 +115,7 @@ slot_put k v es new ss s few before name type put =
     ∙ ap (λ t. slot_rows 0 ss ++ (place_name (Slot (length ss)), t) ∷ []) type
     ∙ ap (λ n. slot_rows 0 ss ++ (place_name (Slot n), s.ty) ∷ []) (omega arith) ∙ sym (slots_last 0 ss s)
 
-pub local_put : (k : Bor (List ℕ)) (v : code.Found) (es new : List (Bor (List ℕ) × code.Found)) (ss : List SlotTree) (ts : List TypeTree) (t : TypeTree)
+pub local_put : (k : Bor (List ℕ)) (v : code.TypeView) (es new : List (Bor (List ℕ) × code.TypeView)) (ss : List SlotTree) (ts : List TypeTree) (t : TypeTree)
     → length ts < 2 ^ 32 → rows es ≡ slot_rows 0 ss ++ local_rows 0 ts → k.now ≡ place_name (Local (length ts)) → found_of v ≡ t
     → new ≡ insert_entry (λ (x y : Bor (List ℕ)). bytes_eq x.now y.now) es k v → rows new ≡ slot_rows 0 ss ++ local_rows 0 (ts ++ t ∷ [])
 local_put k v es new ss ts t few before name type put =
@@ -134,7 +134,7 @@ so_many f xs n lt = length-map (take n xs) f ∙ length-take-le n xs (omega arit
 last_of : {A B : Type 0} (f : A → B) (xs : List A) (n : ℕ) (x : A) → n < length xs → x ≡ get_or xs n x → map f (take n xs) ++ f x ∷ [] ≡ map f (take (n + 1) xs)
 last_of f xs n x lt at = ap (λ y. map f (take n xs) ++ f y ∷ []) at ∙ sym (map_more f xs n x lt)
 
-pub slot_step : (slots : List code_slot) (names : List (List ℕ)) (n : ℕ) (slot : code_slot) (k : Bor (List ℕ)) (v : code.Found) (es new : List (Bor (List ℕ) × code.Found))
+pub slot_step : (slots : List code_slot) (names : List (List ℕ)) (n : ℕ) (slot : code_slot) (k : Bor (List ℕ)) (v : code.TypeView) (es new : List (Bor (List ℕ) × code.TypeView))
     → length slots < 2 ^ 32 → n < length slots → n < length names → AreNames false names → slot ≡ get_or slots n slot → k.now ≡ get_or names n k.now
     → found_of v ≡ type_of slot.ty → new ≡ insert_entry (λ (x y : Bor (List ℕ)). bytes_eq x.now y.now) es k v
     → rows es ≡ slot_rows 0 (map slot_of (take n slots)) → rows new ≡ slot_rows 0 (map slot_of (take (n + 1) slots))
@@ -144,7 +144,7 @@ slot_step slots names n slot k v es new few lt has named at name type put before
     slot_put k v es new (map slot_of (take n slots)) (slot_of slot) (omega (arith, many)) before called type put
     ∙ ap (slot_rows 0) (last_of slot_of slots n slot lt at)
 
-pub local_step : (locals : List Ty) (names : List (List ℕ)) (n : ℕ) (ty : Ty) (k : Bor (List ℕ)) (v : code.Found) (first es new : List (Bor (List ℕ) × code.Found))
+pub local_step : (locals : List Ty) (names : List (List ℕ)) (n : ℕ) (ty : Ty) (k : Bor (List ℕ)) (v : code.TypeView) (first es new : List (Bor (List ℕ) × code.TypeView))
     → AreSlotRows (rows first) → length locals < 2 ^ 32 → n < length locals → n < length names → AreNames true names → ty ≡ get_or locals n ty → k.now ≡ get_or names n k.now
     → found_of v ≡ type_of ty → new ≡ insert_entry (λ (x y : Bor (List ℕ)). bytes_eq x.now y.now) es k v
     → rows es ≡ rows first ++ local_rows 0 (map type_of (take n locals)) → rows new ≡ rows first ++ local_rows 0 (map type_of (take (n + 1) locals))
