@@ -24,7 +24,7 @@ use Rattle.flow_rules.specs.declared.callee.Callee as callees
 use Rattle.flow_rules.specs.Known.{Meaning, RecordOf, FunctionOf, ActorOf, field_row}
 use Rattle.flow_rules.specs.Judged.{Need, Exactly, Traced, Kind, Value, OfFunction, Clock, Effect, Statement, Callee}
 
-abbrev pub inner_of : inners.Inner → TypeTree
+abbrev pub inner_of : inners.ElementView → TypeTree
 inner_of (inner.Written t) = type_of t.now
 inner_of inner.Void = VoidType
 inner_of inner.Int = IntType
