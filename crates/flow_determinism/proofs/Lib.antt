@@ -3,3 +3,4 @@ pub mod Grouped
 pub mod Paths
 pub mod Whole
 pub mod Written
+pub mod Referred
