@@ -4,3 +4,4 @@ pub mod Paths
 pub mod Whole
 pub mod Written
 pub mod Referred
+pub mod Ended

@@ -12,6 +12,7 @@ use Rattle.flow_meaning.specs.Items.{Actor}
 use Rattle.flow_meaning.specs.Runs.{SourceStates, SourceTrace, ClassTrace}
 use Rattle.flow_meaning.specs.Source.{source}
 use Rattle.flow_meaning.specs.World.{World}
+use Rattle.flow_invariants.specs.Ended.{UnreferredEnd}
 use Rattle.flow_invariants.specs.Fitting.Laws.{AreValid, OneTrace}
 use Rattle.flow_invariants.specs.Unmarked.{AreWhole, StatesRest, StepsKeep}
 
@@ -52,3 +53,11 @@ SourcesReferred =
     (text : List ℕ) (program : Program) (w : file.World) (states : List (World Actor)) → IsSound text program
     → file.IsInRange w → SourceStates (program_of program) w states
     → AllByRecursion (ReferredIn (source (program_of program))) states
+
+-- In each event of such a run, unless it is spent, an actor to whose result no future refers any more has ended at
+-- the end of the event.
+abbrev pub SourcesEnd : Type 0
+SourcesEnd =
+    (text : List ℕ) (program : Program) (w : file.World) (states : List (World Actor)) → IsSound text program
+    → file.IsInRange w → SourceStates (program_of program) w states
+    → AllByRecursion (UnreferredEnd (source (program_of program))) states
