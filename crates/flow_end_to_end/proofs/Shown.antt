@@ -5,7 +5,7 @@ use Rattle.flow_base.specs.declared.fault.OutFault.{OutFault}
 use Rattle.flow_tree.specs.DeclView.{program_of}
 use Rattle.flow_trace.specs.declared.line.Line.{Line}
 use Rattle.flow_trace.specs.declared.line.Line.TheVariants as line
-use Rattle.flow_worldfile.specs.Worlds.{seen}
+use Rattle.flow_worldfile.specs.Worlds.{IsInRange, seen}
 use Rattle.flow_worldfile.specs.declared.world.World0.{World0}
 use Rattle.flow_class.specs.Classes.{RawTree}
 use Rattle.flow_class.specs.View.{raw_of}
@@ -36,6 +36,7 @@ use Rattle.flow_world_refinement.proofs.Invariants.Lasting.{lasting_starts, last
 use Rattle.flow_world_refinement.specs.Effects.Quiescence.{Quiescent}
 use Rattle.flow_world_refinement.proofs.Effects.Settling.{settled_first}
 use Rattle.flow_world_refinement.proofs.Events.Whole.{happening, spent_happening}
+use Rattle.flow_world_refinement.specs.Traces.Traced.{BoundaryBegins}
 use Rattle.flow_world_refinement.proofs.Views.Traced.{frames_traced, beginning_traced}
 use Rattle.flow_determinism.proofs.Whole.{compiles_whole}
 use Rattle.flow_class_text_laws.proofs.Compiled.{compiled_few}
@@ -48,6 +49,13 @@ code_first c file whole few w s = record {
   coded = record { program = ap raw_of s.program; coded = s.coded };
   few = few;
 }
+
+-- and its run begins as boundaries want it
+begins : (c : RawClasses) (file : World0) → AreWhole (raw_of c) → HaveFewPlaces (raw_of c) → IsInRange (seen file)
+    → BoundaryBegins (Quiescent (raw_of c)) (WorldInvariant (raw_of c)) (IsProgram (raw_of c)) c file
+begins c file whole few range =
+    let r = raw_of c in
+    record { fresh = settled_first r; code = code_first c file whole few; keeps = lasting_starts r (seen file) range; keeps_on = lasting_stays r whole.valid }
 
 -- whoever runs shows something: the lines of the run, with what is seen after each event where it is asked for
 shown_by : {A : Type 0} (e : Engine A) (spot : A → Spot) (with_frames : Bool) (w : World A) (states : List (World A)) (lines : List Line) → Runs e w states lines
@@ -62,8 +70,7 @@ module _ {A : Type 0} (puts : A → Line → Result (Unit {0}) OutFault → A �
   pub classes_shown : ClassesShown puts
   classes_shown c file frames a b e whole few range t =
       let r = raw_of c in
-      frames_traced (Quiescent r) (WorldInvariant r) (IsProgram r) puts frames c file a b e (settled_first r)
-      (code_first c file whole few) (lasting_starts r (seen file) range) (lasting_stays r whole.valid)
+      frames_traced (Quiescent r) (WorldInvariant r) (IsProgram r) puts frames c file a b e (begins c file whole few range)
       (λ m p s. (s.resting.shown.holds.shows, s.resting.sorted)) (λ m k. k.keeps.fits.count)
       (happening puts r) (spent_happening puts r) t
 
@@ -83,8 +90,7 @@ module _ {A : Type 0} (puts : A → Line → Result (Unit {0}) OutFault → A �
       let trace = (run_exists r whole.valid (seen file) range).is.1 in
       let all = shown_by (classes r) frame_spot frames (at_start (seen file)) trace.later trace.rest trace.runs in
       let shown : ClassShown frames r (seen file) (line.Head ∷ all.0) = record { rest = all.0; shows = all.1; with_head = refl } in
-      let x = beginning_traced (Quiescent r) (WorldInvariant r) (IsProgram r) puts frames c file a b (line.Head ∷ all.0) (settled_first r)
-      (code_first c file whole few) (lasting_starts r (seen file) range) (lasting_stays r whole.valid)
+      let x = beginning_traced (Quiescent r) (WorldInvariant r) (IsProgram r) puts frames c file a b (line.Head ∷ all.0) (begins c file whole few range)
       (λ m p s. (s.resting.shown.holds.shows, s.resting.sorted)) (λ m k. k.keeps.fits.count)
       (happening puts r) t shown in
       (x.0, x.1, subst (ClassShown frames r (seen file)) x.2 shown, x.3)

@@ -119,10 +119,11 @@ module _ (Rests : Process → Proc Frame → Type 0) (Keeps : World Frame → Ty
 pub trace_follows :
     (Rests : Process → Proc Frame → Type 0) (Keeps : World Frame → Type 0) (IsCode : Code → Type 0) {A : Type 0} (puts : A → Line → Result (Unit {0}) OutFault → A → Type 0)
     → TraceFollows Rests Keeps IsCode puts
-trace_follows Rests Keeps IsCode {A} puts with_frames c file a b e fresh code keeps on seen_law events spent_law t =
+trace_follows Rests Keeps IsCode {A} puts with_frames c file a b e begins seen_law events spent_law t =
     let r = raw_of c in
-    let first = start_shown Rests c file t.first fresh t.starts in
-    let so_far = went Rests Keeps IsCode puts r with_frames events on seen_law t.first t.goes.last (at_start (seen file)) t.headed t.goes.before (code t.first t.starts) (ap raw_of t.starts.program) first keeps t.goes.goes in
+    let first = start_shown Rests c file t.first begins.fresh t.starts in
+    let so_far = went Rests Keeps IsCode puts r with_frames events begins.keeps_on seen_law t.first t.goes.last (at_start (seen file)) t.headed t.goes.before (begins.code t.first t.starts)
+        (ap raw_of t.starts.program) first begins.keeps t.goes.goes in
     let over = ended Rests Keeps IsCode puts r with_frames spent_law t.goes.last t.left so_far.last t.goes.before t.before e so_far.code so_far.shows so_far.keeps t.goes.ends in
     let rest = so_far.lines ++ (over.own ++ end_line e ∷ []) in
     let put_rest : Puts puts t.headed rest b =
@@ -138,9 +139,10 @@ trace_follows Rests Keeps IsCode {A} puts with_frames c file a b e fresh code ke
 pub beginning_follows :
     (Rests : Process → Proc Frame → Type 0) (Keeps : World Frame → Type 0) (IsCode : Code → Type 0) {A : Type 0} (puts : A → Line → Result (Unit {0}) OutFault → A → Type 0)
     → BeginningFollows Rests Keeps IsCode puts
-beginning_follows Rests Keeps IsCode {A} puts with_frames c file a b lines fresh code keeps on seen_law events t shown =
+beginning_follows Rests Keeps IsCode {A} puts with_frames c file a b lines begins seen_law events t shown =
     let r = raw_of c in
-    let first = start_shown Rests c file t.first fresh t.starts in
-    let so_far = went Rests Keeps IsCode puts r with_frames events on seen_law t.first t.last (at_start (seen file)) t.headed b (code t.first t.starts) (ap raw_of t.starts.program) first keeps t.goes in
+    let first = start_shown Rests c file t.first begins.fresh t.starts in
+    let so_far = went Rests Keeps IsCode puts r with_frames events begins.keeps_on seen_law t.first t.last (at_start (seen file)) t.headed b (begins.code t.first t.starts)
+        (ap raw_of t.starts.program) first begins.keeps t.goes in
     let x = so_far.onwards shown.rest shown.shows in
     (line.Head ∷ so_far.lines, x.0, shown.with_head ∙ ap (λ ls. line.Head ∷ ls) x.1, more_lines t.head so_far.put)

@@ -5,13 +5,15 @@ use Rattle.flow_base.specs.declared.fault.OutFault.{OutFault}
 use Rattle.flow_trace.specs.declared.line.Line.{Line}
 use Rattle.flow_class.specs.Classes.{RawTree}
 use Rattle.flow_class.specs.View.{raw_of}
+use Rattle.flow_class.specs.declared.class.RawClasses.{RawClasses}
 use Rattle.flow_code.specs.declared.program.Code.{Code}
 use Rattle.flow_worldfile.specs.Worlds.{seen}
+use Rattle.flow_worldfile.specs.declared.world.World0.{World0}
 use Rattle.flow_meaning.specs.Frame.{Frame}
 use Rattle.flow_meaning.specs.Process.{Proc}
 use Rattle.flow_meaning.specs.World.{World}
 use Rattle.flow_steps.specs.declared.process.Process.{Process}
-use Rattle.flow_world_refinement.specs.Traces.Traced.{EventBegan, EventsFollow, SpentFollows, KeepsOn, FramesShown}
+use Rattle.flow_world_refinement.specs.Traces.Traced.{EventBegan, EventsFollow, SpentFollows, KeepsOn, BoundaryBegins, FramesShown}
 use Rattle.flow_world_refinement.proofs.Traces.Whole.{trace_follows, beginning_follows}
 use Rattle.flow_world_refinement.specs.Views.Waiting.{WorldWaits}
 use Rattle.flow_world_refinement.specs.Views.FrameLines.{RestingRepresents, KeepsCount, FramesTraced, BeginningTraced}
@@ -40,18 +42,21 @@ module _ (Rests : Process → Proc Frame → Type 0) (Keeps : World Frame → Ty
   pub keeps_on : (r : RawTree) → KeepsOn Rests Keeps IsCode r → KeepsOn Rests Waits IsCode r
   keeps_on r on m b l k begins follows rests = (on m b l k.0 begins follows rests, event_waits r m b l k.1 begins follows rests)
 
+  waiting : (c : RawClasses) (file : World0) → BoundaryBegins Rests Keeps IsCode c file → BoundaryBegins Rests Waits IsCode c file
+  waiting c file b = record { fresh = b.fresh; code = b.code; keeps = (b.keeps, start_waits (seen file)); keeps_on = keeps_on (raw_of c) b.keeps_on }
+
   pub frames : (with_frames : Bool) (r : RawTree) → RestingRepresents Rests Keeps IsCode r → KeepsCount Rests Keeps IsCode → FramesShown Rests Waits IsCode with_frames r
   frames true r shows count = frames_follow Rests Waits IsCode r shows (λ m k. count m k.0) (λ m k. k.1)
   frames false r shows count = λ w m text s k. refl
 
   pub frames_traced : {A : Type 0} (puts : A → Line → Result (Unit {0}) OutFault → A → Type 0) → FramesTraced Rests Keeps IsCode puts
-  frames_traced puts with_frames c file a b e fresh code keeps on shows count event_law spent_law t =
+  frames_traced puts with_frames c file a b e begins shows count event_law spent_law t =
       let r = raw_of c in
-      trace_follows Rests Waits IsCode puts with_frames c file a b e fresh code (keeps, start_waits (seen file)) (keeps_on r on) (frames with_frames r shows count)
+      trace_follows Rests Waits IsCode puts with_frames c file a b e (waiting c file begins) (frames with_frames r shows count)
       (events puts r event_law) (spent puts r spent_law) t
 
   pub beginning_traced : {A : Type 0} (puts : A → Line → Result (Unit {0}) OutFault → A → Type 0) → BeginningTraced Rests Keeps IsCode puts
-  beginning_traced puts with_frames c file a b lines fresh code keeps on shows count event_law t shown =
+  beginning_traced puts with_frames c file a b lines begins shows count event_law t shown =
       let r = raw_of c in
-      beginning_follows Rests Waits IsCode puts with_frames c file a b lines fresh code (keeps, start_waits (seen file)) (keeps_on r on) (frames with_frames r shows count)
+      beginning_follows Rests Waits IsCode puts with_frames c file a b lines (waiting c file begins) (frames with_frames r shows count)
       (events puts r event_law) t shown

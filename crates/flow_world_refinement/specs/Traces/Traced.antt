@@ -73,6 +73,14 @@ module _ (Rests : Process → Proc Frame → Type 0) (Keeps : World Frame → Ty
       (m : World Frame) (b : Begun Frame) (l : Live Outside Frame) → Keeps m → begun_by (classes r) m (next_of m.out) ≡ Some b
       → Burst (classes r) host (before b) l → l.proc.core.halted ≡ None → Keeps (after m b l)
 
+  -- A process that never ran rests, the code of these classes runs them, and the world at its start keeps what worlds keep, which each
+  -- event keeps.
+  pub record BoundaryBegins (c : RawClasses) (file : World0) : Type 0 where
+    pub fresh : (memory : Global) → Rests (never_ran memory) idle
+    pub code : (w : Seen) → Starts c file w → IsCode w.code
+    pub keeps : Keeps (at_start (seen file))
+    pub keeps_on : KeepsOn (raw_of c)
+
   -- Where frames are asked for, those of a world in memory that runs classes of this text are those that are
   -- seen of the world that it shows.
   abbrev pub FramesShown : (with_frames : Bool) → RawTree → Type 0
@@ -85,9 +93,8 @@ module _ (Rests : Process → Proc Frame → Type 0) (Keeps : World Frame → Ty
   abbrev pub TraceFollows : {A : Type 0} (puts : A → Line → Result (Unit {0}) OutFault → A → Type 0) → Type 0
   TraceFollows {A} puts =
       (with_frames : Bool) (c : RawClasses) (file : World0) (a b : A) (e : Ending)
-      → ((memory : Global) → Rests (never_ran memory) idle) → ((w : Seen) → Starts c file w → IsCode w.code)
-      → Keeps (at_start (seen file)) → KeepsOn (raw_of c) → FramesShown with_frames (raw_of c)
-      → EventsFollow puts (raw_of c) → SpentFollows puts (raw_of c) → Traces puts with_frames c file a e b
+      → BoundaryBegins c file → FramesShown with_frames (raw_of c) → EventsFollow puts (raw_of c)
+      → SpentFollows puts (raw_of c) → Traces puts with_frames c file a e b
       → (lines : List Line) × ClassShown with_frames (raw_of c) (seen file) lines
       × Puts puts a lines b × LastIs (end_line e) lines
 
@@ -95,8 +102,7 @@ module _ (Rests : Process → Proc Frame → Type 0) (Keeps : World Frame → Ty
   abbrev pub BeginningFollows : {A : Type 0} (puts : A → Line → Result (Unit {0}) OutFault → A → Type 0) → Type 0
   BeginningFollows {A} puts =
       (with_frames : Bool) (c : RawClasses) (file : World0) (a b : A) (lines : List Line)
-      → ((memory : Global) → Rests (never_ran memory) idle) → ((w : Seen) → Starts c file w → IsCode w.code)
-      → Keeps (at_start (seen file)) → KeepsOn (raw_of c) → FramesShown with_frames (raw_of c)
+      → BoundaryBegins c file → FramesShown with_frames (raw_of c)
       → EventsFollow puts (raw_of c) → Begins puts with_frames c file a b
       → ClassShown with_frames (raw_of c) (seen file) lines
       → (part rest : List Line) × (lines ≡ part ++ rest) × Puts puts a part b

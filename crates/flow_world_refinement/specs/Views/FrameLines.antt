@@ -1,6 +1,5 @@
 -- The lines of frames and callbacks that a world in memory puts are what is seen of the world that it shows.
 use Rattle.std.specs.Prelude.{◌≡◌, Bool, true, List, ◌++◌, Result, length}
-use Rattle.std.specs.declared.alloc.Global.{Global}
 use Rattle.flow_base.specs.declared.fault.OutFault.{OutFault}
 use Rattle.flow_trace.specs.declared.line.Line.{Line}
 use Rattle.flow_class.specs.Classes.{RawTree}
@@ -9,22 +8,18 @@ use Rattle.flow_class.specs.declared.class.RawClasses.{RawClasses}
 use Rattle.flow_code.specs.declared.program.Code.{Code}
 use Rattle.flow_worldfile.specs.declared.world.World0.{World0}
 use Rattle.flow_worldfile.specs.Worlds.{seen}
-use Rattle.flow_meaning.specs.Deliver.{idle}
 use Rattle.flow_meaning.specs.Frame.{Frame}
 use Rattle.flow_meaning.specs.Process.{Proc}
-use Rattle.flow_meaning.specs.World.{World, at_start}
+use Rattle.flow_meaning.specs.World.{World}
 use Rattle.flow_steps.specs.declared.process.Process.{Process}
-use Rattle.flow_steps.specs.Doing.{never_ran}
 use Rattle.flow_world.specs.Around.{Puts}
-use Rattle.flow_world.specs.Ending.{Seen}
-use Rattle.flow_world.specs.Starting.{Starts}
 use Rattle.flow_world.specs.declared.ending.Ending.{Ending}
 use Rattle.flow_world.specs.Ends.{end_line, LastIs}
 use Rattle.flow_world.specs.Tracing.{Traces, Begins}
 use Rattle.flow_heap_refinement.specs.Representing.{Represents}
 use Rattle.flow_heap_refinement.specs.Rested.{Sorted}
 use Rattle.flow_compile_laws.specs.Frames.Framed.{ClassShown}
-use Rattle.flow_world_refinement.specs.Traces.Traced.{KeepsOn, FramesShown, EventsFollow, SpentFollows}
+use Rattle.flow_world_refinement.specs.Traces.Traced.{BoundaryBegins, FramesShown, EventsFollow, SpentFollows}
 use Rattle.flow_world_refinement.specs.Views.Waiting.{WorldWaits}
 
 module _ (Rests : Process → Proc Frame → Type 0) (Keeps : World Frame → Type 0)
@@ -49,9 +44,8 @@ module _ (Rests : Process → Proc Frame → Type 0) (Keeps : World Frame → Ty
       → Type 0
   FramesTraced {A} puts =
       (with_frames : Bool) (c : RawClasses) (file : World0) (a b : A) (e : Ending)
-      → ((memory : Global) → Rests (never_ran memory) idle) → ((w : Seen) → Starts c file w → IsCode w.code)
-      → Keeps (at_start (seen file)) → KeepsOn Rests Keeps IsCode (raw_of c)
-      → RestingRepresents (raw_of c) → KeepsCount → EventsFollow Rests Keeps IsCode puts (raw_of c)
+      → BoundaryBegins Rests Keeps IsCode c file → RestingRepresents (raw_of c) → KeepsCount
+      → EventsFollow Rests Keeps IsCode puts (raw_of c)
       → SpentFollows Rests Keeps IsCode puts (raw_of c) → Traces puts with_frames c file a e b
       → (lines : List Line) × ClassShown with_frames (raw_of c) (seen file) lines
       × Puts puts a lines b × LastIs (end_line e) lines
@@ -61,8 +55,7 @@ module _ (Rests : Process → Proc Frame → Type 0) (Keeps : World Frame → Ty
       → Type 0
   BeginningTraced {A} puts =
       (with_frames : Bool) (c : RawClasses) (file : World0) (a b : A) (lines : List Line)
-      → ((memory : Global) → Rests (never_ran memory) idle) → ((w : Seen) → Starts c file w → IsCode w.code)
-      → Keeps (at_start (seen file)) → KeepsOn Rests Keeps IsCode (raw_of c)
-      → RestingRepresents (raw_of c) → KeepsCount → EventsFollow Rests Keeps IsCode puts (raw_of c)
+      → BoundaryBegins Rests Keeps IsCode c file → RestingRepresents (raw_of c) → KeepsCount
+      → EventsFollow Rests Keeps IsCode puts (raw_of c)
       → Begins puts with_frames c file a b → ClassShown with_frames (raw_of c) (seen file) lines
       → (part rest : List Line) × (lines ≡ part ++ rest) × Puts puts a part b
