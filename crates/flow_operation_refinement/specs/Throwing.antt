@@ -40,15 +40,18 @@ pub record CatcherFits (f : Frame) (t : CatcherTree) : Type 0 where
       → (n < length f.mem.locals) × ((s : Side) (j : ℕ) → held s j (read (emptied t.drops f.mem) (Local n)) ≡ 0)
 
 -- An actor that may be thrown an error: its block's catch part is coded, and fits.
-pub record MayThrow (code : Code) (m : Process) (p : Proc Frame) (i : ActorId) (e : Entry) (f : Frame) : Type 0 where
-  pub go : MayGo i.0 e p.core
-  pub stands : (s : ControlPoint) → IsAtPoint code.classes.items i m s
-      → PointMatches s i.0 f × SameCatcher (length f.code.slots) s.block.now.catcher (catcher_at f.code f.block)
-  pub fits : (t : CatcherTree) → catcher_at f.code f.block ≡ Some t → CatcherFits f t
+pub record MayThrow (code : Code) (memory : Process) (process : Proc Frame) (actor : ActorId) (entry : Entry) (frame : Frame)
+    : Type 0 where
+  pub go : MayGo actor.0 entry process.core
+  pub stands : (point : ControlPoint) → IsAtPoint code.classes.items actor memory point
+      → PointMatches point actor.0 frame
+      × SameCatcher (length frame.code.slots) point.block.now.catcher (catcher_at frame.code frame.block)
+  pub fits : (catcher : CatcherTree) → catcher_at frame.code frame.block ≡ Some catcher → CatcherFits frame catcher
 
 -- The line; then its operands are dropped, and the values that leave its variables; then the handler begins, or it ends.
 abbrev pub ThrowDone : RawTree → List Line → Process → Proc Frame → Type 0
-ThrowDone r ls m p =
-    (x : Scan) (code : Code) (i : ActorId) (err : ErrorCode) (e : Entry) (f : Frame) (n : Process)
-    → RepresentsActor r ls x m p i.0 e f → m.asked ≡ None → MayThrow code m p i e f → Raised code i err m n
-    → ProcessRepresents r ls x n (throw_with i.0 err.0 (raise err.0 f) p).0
+ThrowDone r lines memory process =
+    (in_hand : Scan) (code : Code) (actor : ActorId) (error : ErrorCode) (entry : Entry) (frame : Frame) (after : Process)
+    → RepresentsActor r lines in_hand memory process actor.0 entry frame → memory.asked ≡ None
+    → MayThrow code memory process actor entry frame → Raised code actor error memory after
+    → ProcessRepresents r lines in_hand after (throw_with actor.0 error.0 (raise error.0 frame) process).0
