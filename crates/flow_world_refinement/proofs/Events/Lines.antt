@@ -124,11 +124,16 @@ module _ (r : RawTree) {A : Type 0} (puts : A → Line → Result (Unit {0}) Out
               f (act.Stop p) own q d named k g = k (stop_follows r puts m u out p (begun p (ap (λ z. process_of (order_of z)) (sym q))) a b e h.left g d)
               f (act.Kill p) own q d named k g = k (loss m u h.left out p a b e going (ap (λ z. process_of (order_of z)) (sym q)) d)
               f (act.Cut p j) own q d named k g =
-                  rested d.1 (cut_follows (Quiescent r) (WorldInvariant r) (IsProgram r) r puts w v m a b h.time l ls p j (quiet_stays still) s few (within p.0 named.0) named.0 named.1 next_is are own)
+                  rested d.1 (λ done. cut_follows (Quiescent r) (WorldInvariant r) (IsProgram r) r puts w v m a b p j (quiet_stays still)
+                  (record { few = few; stands = within p.0 named.0; first = named.0; second = named.1 })
+                  (record { represents = s; time = h.time; line = l; rest = ls; next_is = next_is; script = are; orders = own; happens = done }))
               f (act.Heal p j) own q d named k g =
-                  rested d.1 (heal_follows (Quiescent r) (WorldInvariant r) (IsProgram r) r puts w v m a b h.time l ls p j (quiet_stays still) s few (within p.0 named.0) named.0 named.1 next_is are own)
+                  rested d.1 (λ done. heal_follows (Quiescent r) (WorldInvariant r) (IsProgram r) r puts w v m a b p j (quiet_stays still)
+                  (record { few = few; stands = within p.0 named.0; first = named.0; second = named.1 })
+                  (record { represents = s; time = h.time; line = l; rest = ls; next_is = next_is; script = are; orders = own; happens = done }))
               f (act.DiskFail p i) own q d named k g =
-                  rested d.1 (failure_follows (Quiescent r) (WorldInvariant r) (IsProgram r) r puts w v m a b h.time l ls p i (quiet_stays still) s (within p.0 named) next_is are own)
+                  rested d.1 (λ done. failure_follows (Quiescent r) (WorldInvariant r) (IsProgram r) r puts w v m a b p i (quiet_stays still) (within p.0 named)
+                  (record { represents = s; time = h.time; line = l; rest = ls; next_is = next_is; script = are; orders = own; happens = done }))
 
     -- the line that comes
     pub line_event : (t : ℕ) (k : Order) (left : List (ℕ × Order)) (n : LineNext h.time w.script t k left) → next_of m.out ≡ Script t k left → next w ≡ Some (h.time, true)

@@ -177,48 +177,56 @@ module _ (Rests : Process → Proc Frame → Type 0) (Keeps : World Frame → Ty
           (shows left).1 (subst (λ zs. ScriptRepresents ls zs) (sym own.script) (subst (λ zs. ScriptRepresents zs left) (tail both) n.shows)) (counts ∙ sym own.ran) refl refl refl)
 
   pub cut_follows : CutFollows Rests Keeps IsCode r puts
-  cut_follows w v m a b t l ls p q still s few there pl ql next_is script cuts h =
-      let start : Seen = record (begins t w) { script = ls } in
-      let done = subst (λ x. Ordered puts x start a Rested h.left b) cuts (line_of w a b t l ls v next_is script h) in
-      let counts : w.ran + 1 ≡ suc m.out.ran = omega (arith, s.ran) in
+  cut_follows w v m a b p q still here c =
+      let start : Seen = record (begins c.time w) { script = c.rest } in
+      let done = subst (λ x. Ordered puts x start a Rested c.happens.left b) c.orders (line_of w a b c.time c.line c.rest v c.next_is c.script c.happens) in
+      let counts : w.ran + 1 ≡ suc m.out.ran = omega (arith, c.represents.ran) in
       let sur : Surroundings = record start.outside { net = record start.outside.net { cuts = cut start.outside.net.cuts p.0 q.0 } } in
-      quiet_line w v m a b t l ls (order.Cut p.0 q.0) (line.Cut (suc m.out.ran) t p q) sur (λ o. record o { cuts = (p.0, q.0) ∷ o.cuts }) still s there next_is script (ap order_of cuts)
+      quiet_line w v m a b c.time c.line c.rest (order.Cut p.0 q.0) (line.Cut (suc m.out.ran) c.time p q) sur
+      (λ o. record o { cuts = (p.0, q.0) ∷ o.cuts })
+      still c.represents here.stands c.next_is c.script (ap order_of c.orders)
       (λ left. (
         record { does = λ at. refl; active = refl; file = refl; script = refl; ran = refl },
-        link_cut (record w.outside { time = t }) (counted t p.0 (record m.out { script = left })) p.0 q.0 (on_time w.outside m.out t t p.0 left refl s.outside) few pl ql,
+        link_cut (record w.outside { time = c.time }) (counted c.time p.0 (record m.out { script = left })) p.0 q.0
+        (on_time w.outside m.out c.time c.time p.0 left refl c.represents.outside) here.few here.first here.second,
       ))
-      (subst (λ k. puts a (line.Cut k t p q) (Ok tt) b) counts done.0)
-      (h.after ∙ ap {A = Seen} (λ z. record z { ended = false }) done.2)
+      (subst (λ k. puts a (line.Cut k c.time p q) (Ok tt) b) counts done.0)
+      (c.happens.after ∙ ap {A = Seen} (λ z. record z { ended = false }) done.2)
 
   pub heal_follows : HealFollows Rests Keeps IsCode r puts
-  heal_follows w v m a b t l ls p q still s few there pl ql next_is script heals h =
-      let start : Seen = record (begins t w) { script = ls } in
-      let done = subst (λ x. Ordered puts x start a Rested h.left b) heals (line_of w a b t l ls v next_is script h) in
-      let counts : w.ran + 1 ≡ suc m.out.ran = omega (arith, s.ran) in
+  heal_follows w v m a b p q still here c =
+      let start : Seen = record (begins c.time w) { script = c.rest } in
+      let done = subst (λ x. Ordered puts x start a Rested c.happens.left b) c.orders (line_of w a b c.time c.line c.rest v c.next_is c.script c.happens) in
+      let counts : w.ran + 1 ≡ suc m.out.ran = omega (arith, c.represents.ran) in
       let sur : Surroundings = record start.outside { net = record start.outside.net { cuts = table.healed start.outside.net.cuts p.0 q.0 } } in
-      quiet_line w v m a b t l ls (order.Heal p.0 q.0) (line.Heal (suc m.out.ran) t p q) sur (λ o. record o { cuts = healed o.cuts p.0 q.0 }) still s there next_is script (ap order_of heals)
+      quiet_line w v m a b c.time c.line c.rest (order.Heal p.0 q.0) (line.Heal (suc m.out.ran) c.time p q) sur
+      (λ o. record o { cuts = healed o.cuts p.0 q.0 })
+      still c.represents here.stands c.next_is c.script (ap order_of c.orders)
       (λ left. (
         record { does = λ at. refl; active = refl; file = refl; script = refl; ran = refl },
-        link_healed (record w.outside { time = t }) (counted t p.0 (record m.out { script = left })) p.0 q.0 (on_time w.outside m.out t t p.0 left refl s.outside) few pl ql,
+        link_healed (record w.outside { time = c.time }) (counted c.time p.0 (record m.out { script = left })) p.0 q.0
+        (on_time w.outside m.out c.time c.time p.0 left refl c.represents.outside) here.few here.first here.second,
       ))
-      (subst (λ k. puts a (line.Heal k t p q) (Ok tt) b) counts done.0)
-      (h.after ∙ ap {A = Seen} (λ z. record z { ended = false }) done.2)
+      (subst (λ k. puts a (line.Heal k c.time p q) (Ok tt) b) counts done.0)
+      (c.happens.after ∙ ap {A = Seen} (λ z. record z { ended = false }) done.2)
 
   pub failure_follows : FailureFollows Rests Keeps IsCode r puts
-  failure_follows w v m a b t l ls p n still s there next_is script fails h =
-      let start : Seen = record (begins t w) { script = ls } in
-      let done = subst (λ x. Ordered puts x start a Rested h.left b) fails (line_of w a b t l ls v next_is script h) in
+  failure_follows w v m a b p n still there c =
+      let start : Seen = record (begins c.time w) { script = c.rest } in
+      let done = subst (λ x. Ordered puts x start a Rested c.happens.left b) c.orders (line_of w a b c.time c.line c.rest v c.next_is c.script c.happens) in
       let failing = done.2 in
-      let counts : w.ran + 1 ≡ suc m.out.ran = omega (arith, s.ran) in
+      let counts : w.ran + 1 ≡ suc m.out.ran = omega (arith, c.represents.ran) in
       let failed : Disk = record { fails = n; files = failing.disk.files } in
       let sur : Surroundings = memory_disk.with_disk p.0 failed start.outside in
-      let at_disk : disk_of m.out p.0 ≡ failing.disk = ap (λ ds. slice_index_or ds p.0 (record { fails = 0; files = [] })) (sym s.outside.disks) ∙ found w.outside.disks p.0 failing.disk _ failing.there in
+      let at_disk : disk_of m.out p.0 ≡ failing.disk = ap (λ ds. slice_index_or ds p.0 (record { fails = 0; files = [] })) (sym c.represents.outside.disks)
+      ∙ found w.outside.disks p.0 failing.disk _ failing.there in
       let same : failed ≡ record { fails = n; files = (disk_of m.out p.0).files } = ap {A = Disk} (λ d. record { fails = n; files = d.files }) (sym at_disk) in
-      quiet_line w v m a b t l ls (order.DiskFail p.0 n) (line.DiskFail (suc m.out.ran) t p n) sur
-      (λ o. with_disk o p.0 (record { fails = n; files = (disk_of o p.0).files })) still s there next_is script (ap order_of fails)
+      quiet_line w v m a b c.time c.line c.rest (order.DiskFail p.0 n) (line.DiskFail (suc m.out.ran) c.time p n) sur
+      (λ o. with_disk o p.0 (record { fails = n; files = (disk_of o p.0).files })) still c.represents there c.next_is c.script (ap order_of c.orders)
       (λ left. (
         record { does = λ at. refl; active = refl; file = refl; script = refl; ran = refl },
-        disk_put (record w.outside { time = t }) (counted t p.0 (record m.out { script = left })) p.0 failed _ (on_time w.outside m.out t t p.0 left refl s.outside) same,
+        disk_put (record w.outside { time = c.time }) (counted c.time p.0 (record m.out { script = left })) p.0 failed _
+        (on_time w.outside m.out c.time c.time p.0 left refl c.represents.outside) same,
       ))
-      (subst (λ k. puts a (line.DiskFail k t p n) (Ok tt) b) counts done.0)
-      (h.after ∙ ap {A = Seen} (λ z. record z { ended = false }) failing.left)
+      (subst (λ k. puts a (line.DiskFail k c.time p n) (Ok tt) b) counts done.0)
+      (c.happens.after ∙ ap {A = Seen} (λ z. record z { ended = false }) failing.left)

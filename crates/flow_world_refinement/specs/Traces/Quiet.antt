@@ -6,6 +6,7 @@ use Rattle.flow_base.specs.declared.fault.OutFault.{OutFault}
 use Rattle.flow_trace.specs.declared.line.Line.{Line}
 use Rattle.flow_class.specs.Classes.{RawTree}
 use Rattle.flow_code.specs.declared.program.Code.{Code}
+use Rattle.flow_worldfile.specs.declared.world.Act.{Act}
 use Rattle.flow_worldfile.specs.declared.world.Act.TheVariants as act
 use Rattle.flow_worldfile.specs.declared.world.At.{At}
 use Rattle.flow_meaning.specs.Burst.{advance, live}
@@ -33,23 +34,39 @@ module _ (Rests : Process → Proc Frame → Type 0) (Keeps : World Frame → Ty
       (turns : ℕ) (p : Process) (x : Proc Frame) (out : Outside) → Rests p x
       → (advance (classes r) host (live (begun_proc turns x) out) ≡ None) × Rests p (begun_proc turns x)
 
+  -- The next line of the script comes in a world in memory that represents this one, and does what it orders.
+  pub record LineComes {A : Type 0} (puts : A → Line → Result (Unit {0}) OutFault → A → Type 0) (before after : Seen) (world : World Frame)
+      (out told : A) (does : Act) : Type 0 where
+    pub represents : WorldRepresents Rests before world
+    pub time : ℕ
+    pub line : At
+    pub rest : List At
+    pub next_is : next before ≡ Some (time, true)
+    pub script : before.script ≡ line ∷ rest
+    pub orders : line.act ≡ does
+    pub happens : Happens puts before out Rested after told
+
+  -- two processes of a world
+  pub record AreLinked (world : World Frame) (one other : ProcId) : Type 0 where
+    pub few : world.out.file.processes ≤ 64
+    pub stands : one.0 < length world.places
+    pub first : one.0 < world.out.file.processes
+    pub second : other.0 < world.out.file.processes
+
   -- a link of two processes of the world is cut
   abbrev pub CutFollows : {A : Type 0} (puts : A → Line → Result (Unit {0}) OutFault → A → Type 0) → Type 0
   CutFollows {A} puts =
-      (w v : Seen) (m : World Frame) (a b : A) (t : ℕ) (line : At) (rest : List At) (p q : ProcId) → StaysQuiet → WorldRepresents Rests w m
-      → m.out.file.processes ≤ 64 → p.0 < length m.places → p.0 < m.out.file.processes → q.0 < m.out.file.processes → next w ≡ Some (t, true) → w.script ≡ line ∷ rest
-      → line.act ≡ act.Cut p q → Happens puts w a Rested v b → EventShown Rests Keeps IsCode puts r m a v b
+      (before after : Seen) (world : World Frame) (out told : A) (one other : ProcId) → StaysQuiet → AreLinked world one other
+      → LineComes puts before after world out told (act.Cut one other) → EventShown Rests Keeps IsCode puts r world out after told
 
   -- a link of two processes of the world heals
   abbrev pub HealFollows : {A : Type 0} (puts : A → Line → Result (Unit {0}) OutFault → A → Type 0) → Type 0
   HealFollows {A} puts =
-      (w v : Seen) (m : World Frame) (a b : A) (t : ℕ) (line : At) (rest : List At) (p q : ProcId) → StaysQuiet → WorldRepresents Rests w m
-      → m.out.file.processes ≤ 64 → p.0 < length m.places → p.0 < m.out.file.processes → q.0 < m.out.file.processes → next w ≡ Some (t, true) → w.script ≡ line ∷ rest
-      → line.act ≡ act.Heal p q → Happens puts w a Rested v b → EventShown Rests Keeps IsCode puts r m a v b
+      (before after : Seen) (world : World Frame) (out told : A) (one other : ProcId) → StaysQuiet → AreLinked world one other
+      → LineComes puts before after world out told (act.Heal one other) → EventShown Rests Keeps IsCode puts r world out after told
 
   -- a disk of a process of the world is to fail so many of the next requests
   abbrev pub FailureFollows : {A : Type 0} (puts : A → Line → Result (Unit {0}) OutFault → A → Type 0) → Type 0
   FailureFollows {A} puts =
-      (w v : Seen) (m : World Frame) (a b : A) (t : ℕ) (line : At) (rest : List At) (p : ProcId) (n : ℕ) → StaysQuiet → WorldRepresents Rests w m
-      → p.0 < length m.places → next w ≡ Some (t, true) → w.script ≡ line ∷ rest → line.act ≡ act.DiskFail p n → Happens puts w a Rested v b
-      → EventShown Rests Keeps IsCode puts r m a v b
+      (before after : Seen) (world : World Frame) (out told : A) (one : ProcId) (count : ℕ) → StaysQuiet → one.0 < length world.places
+      → LineComes puts before after world out told (act.DiskFail one count) → EventShown Rests Keeps IsCode puts r world out after told
