@@ -20,9 +20,9 @@ use Rattle.flow_progress.proofs.Ending.{stopped}
 use Rattle.flow_progress.proofs.Valid.{leads_on}
 use Rattle.flow_invariants.specs.Ended.{Unreferred, UnreferredEnd, StatesEnd}
 use Rattle.flow_invariants.specs.Fitting.Among.{FitsAmong, WorldFits}
-use Rattle.flow_invariants.specs.Invariant.{KeptBySteps, InPlaces}
+use Rattle.flow_invariants.specs.Invariant.{KeptBySteps, HoldsInPlaces}
 use Rattle.flow_invariants.specs.Unmarked.{AreWhole, EventInvariant}
-use Rattle.flow_invariants.specs.Writes.{Things, Holds, KeptByWrites, Becomes}
+use Rattle.flow_invariants.specs.Writes.{Things, HoldsOfThings, KeptByWrites, EntryBecomes}
 use Rattle.flow_invariants.proofs.Fitting.Living.{Meant}
 use Rattle.flow_invariants.proofs.Invariant.{Going, reached_going, burst_going, begun_going, of_worlds}
 use Rattle.flow_invariants.proofs.Unmarked.Resting.{keeps}
@@ -39,7 +39,7 @@ module _ (i : ℕ) where
   abbrev Marked : Things → Type 0
   Marked t = (i < suc t.started) × IsMarked (thing t.entries i)
 
-  put_marked : (es : Numbered Entry) (j : ℕ) (old new : Entry) → thing es j ≡ Some old → Becomes old new → IsMarked (thing es i) → IsMarked (thing (put es j new) i)
+  put_marked : (es : Numbered Entry) (j : ℕ) (old new : Entry) → thing es j ≡ Some old → EntryBecomes old new → IsMarked (thing es i) → IsMarked (thing (put es j new) i)
   put_marked es j old new at be h =
       by_number j i (IsMarked (thing (put es j new) i))
       (λ q. subst (λ n. IsMarked (thing (put es j new) n)) q (subst IsMarked (sym (thing_put es j old new at)) (be.marked (subst IsMarked at (subst (λ n. IsMarked (thing es n)) (sym q) h)))))
@@ -73,7 +73,7 @@ module _ (i : ℕ) where
   }
 
   abbrev MarkedIn : Proc Frame → Type 0
-  MarkedIn p = Holds Marked p.core
+  MarkedIn p = HoldsOfThings Marked p.core
 
   marked_kept : (r : RawTree) → KeptBySteps r MarkedIn
   marked_kept r = by_writes r Marked writes_marked
@@ -109,7 +109,7 @@ module _ (r : RawTree) (v : AreWhole r) where
       by_entry None at m = refl
       by_entry (Some e) at m = absurd (no_both (rest.suspended i e at) (keep.cared.awake i e at m))
 
-  event_ends : (w : World Frame) → WorldFits r w → InPlaces WholeAtRest w.places → UnreferredEnd (classes r) w
+  event_ends : (w : World Frame) → WorldFits r w → HoldsInPlaces WholeAtRest w.places → UnreferredEnd (classes r) w
   event_ends w f h b m l i g reach u burst go =
       let start = begun_going r v.valid WholeWithin WholeAtRest (keeps_all r v) w b f h g in
       let mid = reached_going r v.valid WholeWithin (keeps_all r v).keeps w.places w.out.file.processes start.0 (before b) m reach start.1 in

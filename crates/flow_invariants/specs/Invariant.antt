@@ -15,10 +15,10 @@ use Rattle.flow_value.specs.Values.{ValueTree, OutcomeTree}
 use Rattle.flow_class.specs.Classes.{RawTree}
 use Rattle.flow_numbered.specs.Numbered.{thing}
 use Rattle.flow_meaning.specs.Requests.{Supply}
-use Rattle.flow_meaning.specs.Process.{Core, Proc}
+use Rattle.flow_meaning.specs.Process.{Proc}
 use Rattle.flow_meaning.specs.Orderly.{UnlessStopped}
 use Rattle.flow_meaning.specs.Law.{AtRest}
-use Rattle.flow_meaning.specs.Step.{Stepped, proc, step}
+use Rattle.flow_meaning.specs.Step.{Stepped, on_core, step}
 use Rattle.flow_meaning.specs.Burst.{Live, Burst, add_lines}
 use Rattle.flow_meaning.specs.Deliver.{idle, vanish, begin, boot, stop, deliver, arrive}
 use Rattle.flow_meaning.specs.Outside.{What, Outside, host}
@@ -31,18 +31,14 @@ use Rattle.flow_heap_refinement.specs.Rested.{has}
 use Rattle.flow_invariants.specs.Fitting.Among.{FitsAmong}
 
 -- it holds of a process, unless its event was stopped
-abbrev pub Unless : (Proc Frame → Type 0) → Proc Frame → Type 0
-Unless Holds p = UnlessStopped p.core.halted (Holds p)
-
--- a process with this done to its core
-abbrev pub with_core : Proc Frame → (Core → Core) → Proc Frame
-with_core p f = proc (f p.core) p.actors
+abbrev pub ProcessUnlessStopped : (Proc Frame → Type 0) → Proc Frame → Type 0
+ProcessUnlessStopped Holds p = UnlessStopped p.core.halted (Holds p)
 
 -- each step keeps it, and the lines that the world adds for a step
 pub record KeptBySteps (r : RawTree) (Within : Proc Frame → Type 0) : Type 0 where
   pub steps : (n : ℕ) (events : List (Pending What)) (s : Supply) (p : Proc Frame) (q : Stepped Frame) → FitsAmong r n events p
-      → Within p → step (classes r) s p ≡ Some q → Unless Within q.0
-  pub lines : (p : Proc Frame) (ls : List Line) → Within p → Within (with_core p (add_lines ls))
+      → Within p → step (classes r) s p ≡ Some q → ProcessUnlessStopped Within q.0
+  pub lines : (p : Proc Frame) (ls : List Line) → Within p → Within (on_core (add_lines ls) p)
 
 -- What the rule asks of what is to hold within an event and of what is to hold at rest.
 pub record Invariant (r : RawTree) (Within AtRests : Proc Frame → Type 0) : Type 0 where
@@ -50,27 +46,27 @@ pub record Invariant (r : RawTree) (Within AtRests : Proc Frame → Type 0) : Ty
   pub idle : AtRests idle
   pub killed : (p : Proc Frame) → Within (vanish p)
   -- an event begins, with its turns; what holds at rest does then, too
-  pub begins : (p : Proc Frame) (turns : ℕ) → AtRests p → AtRests (with_core p (begin turns))
+  pub begins : (p : Proc Frame) (turns : ℕ) → AtRests p → AtRests (on_core (begin turns) p)
   pub wakes : (p : Proc Frame) → AtRests p → Within p
   -- each kind of event: a boot, a stop, an answer of a timer or a disk, a packet at the stream of its port
   pub boots : (n : ℕ) (events : List (Pending What)) (p : Proc Frame) → FitsAmong r n events p → p.core.main ≡ None → AtRests p
-      → Unless Within (boot (classes r) n p)
-  pub stops : (p : Proc Frame) → AtRests p → Within (with_core p stop)
+      → ProcessUnlessStopped Within (boot (classes r) n p)
+  pub stops : (p : Proc Frame) → AtRests p → Within (on_core stop p)
   pub answers : (n : ℕ) (events : List (Pending What)) (p : Proc Frame) (cell : ℕ) (o : OutcomeTree) → FitsAmong r n events p
-      → has cell p.core.requests ≡ true → AtRests p → Unless Within (with_core p (deliver cell o))
+      → has cell p.core.requests ≡ true → AtRests p → ProcessUnlessStopped Within (on_core (deliver cell o) p)
   pub arrives : (n : ℕ) (events : List (Pending What)) (p : Proc Frame) (port cell : ℕ) (v : ValueTree) → FitsAmong r n events p
-      → thing p.core.ports port ≡ Some cell → AtRests p → Unless Within (with_core p (arrive cell v))
+      → thing p.core.ports port ≡ Some cell → AtRests p → ProcessUnlessStopped Within (on_core (arrive cell v) p)
   -- each step
   pub keeps : KeptBySteps r Within
   -- where nothing is left to do, what holds at rest holds again
   pub rests : (n : ℕ) (events : List (Pending What)) (p : Proc Frame) → AtRest p.core → FitsAmong r n events p → Within p → AtRests p
 
 -- it holds of each process of a world
-abbrev pub InPlaces : (Proc Frame → Type 0) → List (Place Frame) → Type 0
-InPlaces Holds ps = AllByRecursion (λ (a : Place Frame). Holds a.proc) ps
+abbrev pub HoldsInPlaces : (Proc Frame → Type 0) → List (Place Frame) → Type 0
+HoldsInPlaces Holds ps = AllByRecursion (λ (a : Place Frame). Holds a.proc) ps
 
-abbrev pub InWorld : (Proc Frame → Type 0) → World Frame → Type 0
-InWorld Holds w = InPlaces Holds w.places
+abbrev pub HoldsInWorld : (Proc Frame → Type 0) → World Frame → Type 0
+HoldsInWorld Holds w = HoldsInPlaces Holds w.places
 
 -- what a run comes to from a world: after some steps of its next event, or of a later one
 pub data Comes (r : RawTree) : World Frame → Live Outside Frame → Type 0 where

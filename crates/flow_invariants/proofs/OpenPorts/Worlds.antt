@@ -17,7 +17,7 @@ use Rattle.flow_heap_refinement.specs.Alone.{owners_of}
 use Rattle.flow_heap_refinement.specs.CellsTied.{CellsTied}
 use Rattle.flow_heap_refinement.proofs.OwnersOnce.{ports_added, ports_removed}
 use Rattle.flow_invariants.specs.Fitting.Laws.{AreValid}
-use Rattle.flow_invariants.specs.Invariant.{Invariant, InPlaces}
+use Rattle.flow_invariants.specs.Invariant.{Invariant, HoldsInPlaces}
 use Rattle.flow_invariants.specs.OpenPorts.{IsOpen, Open, StepsOpen, StartOpen, EventOpen}
 use Rattle.flow_invariants.specs.Writes.{Things, KeptByWrites}
 use Rattle.flow_invariants.proofs.Invariant.{in_place, none_ran, after_event}
@@ -93,7 +93,7 @@ keeps_open r = of_writes r PortsOpen writes_open (λ made started k w. absurd (o
 pub steps_open : StepsOpen
 steps_open r s p q o t alone h e = step_kept PortsOpen writes_open r s p q o t alone h e
 
-pub open_at : (ps : List (Place Frame)) (k : ℕ) → InPlaces OpenIn ps → Open (slice_index_or ps k (record { up = false; proc = idle })).proc.core
+pub open_at : (ps : List (Place Frame)) (k : ℕ) → HoldsInPlaces OpenIn ps → Open (slice_index_or ps k (record { up = false; proc = idle })).proc.core
 open_at ps k h = in_place OpenIn ps k (λ k w. absurd (omega (arith, w))) h
 
 pub start_open : StartOpen

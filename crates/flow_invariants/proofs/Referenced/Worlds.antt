@@ -8,6 +8,7 @@ use Rattle.flow_numbered.specs.Numbered.{Numbered, thing}
 use Rattle.flow_meaning.specs.Cells.{Cell, Single, Stream}
 use Rattle.flow_meaning.specs.Process.{Core, Proc}
 use Rattle.flow_meaning.specs.Deliver.{idle, boot, vanish, deliver, arrive}
+use Rattle.flow_meaning.specs.Step.{on_core}
 use Rattle.flow_meaning.specs.Frame.{Frame}
 use Rattle.flow_meaning.specs.Class.{classes}
 use Rattle.flow_meaning.proofs.Posture as posture
@@ -18,7 +19,7 @@ use Rattle.flow_progress.specs.Written.{heads}
 use Rattle.flow_progress.proofs.CellStates.{cell_there}
 use Rattle.flow_heap_refinement.specs.Rested.{IsStream, Referenced}
 use Rattle.flow_invariants.specs.Fitting.Laws.{AreValid}
-use Rattle.flow_invariants.specs.Invariant.{Unless, with_core, Invariant}
+use Rattle.flow_invariants.specs.Invariant.{ProcessUnlessStopped, Invariant}
 use Rattle.flow_invariants.specs.Referenced.{Wanted, StatesReferred}
 use Rattle.flow_invariants.proofs.Fitting.Owned.{results_alone}
 use Rattle.flow_invariants.proofs.Fitting.Runs.{rules_of}
@@ -47,7 +48,7 @@ Referred p = (k : ℕ) → Refers k p.core p.actors
 abbrev pub OwnsAndRefers : Proc Frame → Type 0
 OwnsAndRefers p = CellsUnset p × Referred p
 
-all_now : (p : Proc Frame) → ((k : ℕ) → posture.Unless (λ d. Refers k d p.actors) p.core) → Unless Referred p
+all_now : (p : Proc Frame) → ((k : ℕ) → posture.Unless (λ d. Refers k d p.actors) p.core) → ProcessUnlessStopped Referred p
 all_now p h = unless_all (λ k. Refers k p.core p.actors) p.core.halted h
 
 idle_referred : Referred idle
@@ -69,10 +70,10 @@ module _ (r : RawTree) (v : AreValid r) where
     boots = λ n events p f none h. let b = boot (classes r) n p in
         unless_both _ _ b.core.halted (own.boots n events p f none h.0) (all_now b (λ k. boot_refers k r n p none f.in_place.orderly.numbered (h.1 k)));
     stops = λ p h. (own.stops p h.0, λ k. stop_refers k p.core p.actors (h.1 k));
-    answers = λ n events p cell o f there h. let d = with_core p (deliver cell o) in
+    answers = λ n events p cell o f there h. let d = on_core (deliver cell o) p in
         let unset = ((owns r n events p f h.0).request cell there).0 in
         unless_both _ _ d.core.halted (own.answers n events p cell o f there h.0) (all_now d (λ k. deliver_refers k cell o p.core p.actors there unset (h.1 k)));
-    arrives = λ n events p port cell value f at h. let d = with_core p (arrive cell value) in
+    arrives = λ n events p port cell value f at h. let d = on_core (arrive cell value) p in
         let stream = stream_at r p.core p.actors f.types f.fits port cell at in
         unless_both _ _ d.core.halted (own.arrives n events p port cell value f at h.0) (all_now d (λ k. arrive_refers k cell value p.core p.actors stream (h.1 k)));
     keeps = record {

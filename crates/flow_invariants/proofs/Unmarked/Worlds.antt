@@ -6,10 +6,11 @@ use Rattle.flow_class.specs.Classes.{ClassTree, RawTree}
 use Rattle.flow_meaning.specs.Process.{Core, Proc}
 use Rattle.flow_meaning.specs.Burst.{add_lines}
 use Rattle.flow_meaning.specs.Deliver.{boot, deliver, arrive}
+use Rattle.flow_meaning.specs.Step.{on_core}
 use Rattle.flow_meaning.specs.Frame.{Frame}
 use Rattle.flow_meaning.specs.Class.{classes}
 use Rattle.flow_progress.specs.Written.{heads}
-use Rattle.flow_invariants.specs.Invariant.{with_core, Invariant}
+use Rattle.flow_invariants.specs.Invariant.{Invariant}
 use Rattle.flow_invariants.specs.Unmarked.{AreWhole, EventInvariant, BoundaryInvariant, StatesRest, StepsKeep}
 use Rattle.flow_invariants.proofs.Fitting.Runs.{rules_of}
 use Rattle.flow_invariants.proofs.Invariant.{both, at_boundaries, between_steps}
@@ -41,7 +42,7 @@ at_rest c none h j = by_fine (h j)
     by_fine (inl x) = x
     by_fine (inr x) = absurd (let q = sym none ∙ x.next in cc)
 
-with_lines : (j : ℕ) (p : Proc Frame) (ls : List _) → Fine j p.core → Fine j (with_core p (add_lines ls)).core
+with_lines : (j : ℕ) (p : Proc Frame) (ls : List _) → Fine j p.core → Fine j (on_core (add_lines ls) p).core
 with_lines j p ls (inl x) = inl x
 with_lines j p ls (inr x) = inr (record { entry = x.entry; rest = x.rest; at = x.at; unmarked = x.unmarked; next = x.next })
 

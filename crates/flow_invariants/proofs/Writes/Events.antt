@@ -18,14 +18,14 @@ use Rattle.flow_meaning.proofs.Posture.{Unless, unless, after_turn}
 use Rattle.flow_heap_refinement.specs.CellsTied.{CellsTied}
 use Rattle.flow_heap_refinement.specs.Rested.{has}
 use Rattle.flow_invariants.specs.Invariant.{KeptBySteps, Invariant}
-use Rattle.flow_invariants.specs.Writes.{Things, Holds, KeptByWrites}
+use Rattle.flow_invariants.specs.Writes.{Things, HoldsOfThings, KeptByWrites}
 use Rattle.flow_invariants.proofs.Writes.Owners.{without_request}
 use Rattle.flow_invariants.proofs.Writes.Works.{fill_kept}
 use Rattle.flow_invariants.proofs.Writes.Steps.{enrolled_kept, step_kept}
 
 module _ (P : Things → Type 0) (by : KeptByWrites P) where
   abbrev K : Core → Type 0
-  K c = Holds P c
+  K c = HoldsOfThings P c
 
   pub deliver_kept : (k : ℕ) (o : OutcomeTree) (c : Core) → has k c.requests ≡ true → CellsTied c → K c → Unless K (deliver k o c)
   deliver_kept k o c there t h =
@@ -56,12 +56,12 @@ module _ (P : Things → Type 0) (by : KeptByWrites P) where
       by_main None = h
       by_main (Some k) = h
 
-pub by_writes : (r : RawTree) (P : Things → Type 0) → KeptByWrites P → KeptBySteps r (λ p. Holds P p.core)
+pub by_writes : (r : RawTree) (P : Things → Type 0) → KeptByWrites P → KeptBySteps r (λ p. HoldsOfThings P p.core)
 by_writes r P by = record { steps = λ n events s p q f h e. step_kept P by r s p q f.in_place.orderly f.tied f.alone h e; lines = λ p ls h. h }
 
 -- So it holds at each boundary and between two steps, where it holds of a process in which nothing stands.
 pub of_writes : (r : RawTree) (P : Things → Type 0) → KeptByWrites P → ((made started : ℕ) → P (record { cells = []; made = made; entries = []; started = started; ports = []; requests = [] }))
-    → Invariant r (λ p. Holds P p.core) (λ p. Holds P p.core)
+    → Invariant r (λ p. HoldsOfThings P p.core) (λ p. HoldsOfThings P p.core)
 of_writes r P by nothing = record {
   idle = nothing 0 0;
   killed = λ p. nothing p.core.made p.core.started;

@@ -31,7 +31,7 @@ use Rattle.flow_heap_refinement.specs.Alone.{owners_of, OwnedOnce}
 use Rattle.flow_heap_refinement.specs.Rested.{PortsRise}
 use Rattle.flow_heap_refinement.specs.CellsTied.{CellsTied}
 use Rattle.flow_heap_refinement.specs.Lonely.{OwnedAlone}
-use Rattle.flow_invariants.specs.Writes.{Things, Holds, KeptByWrites}
+use Rattle.flow_invariants.specs.Writes.{Things, HoldsOfThings, KeptByWrites}
 use Rattle.flow_invariants.proofs.Writes.Owners.{without_promise, without_port, without_actor, NotOwn, AskNotOwn, asks_not_own}
 use Rattle.flow_invariants.proofs.Writes.Works as work
 
@@ -40,7 +40,7 @@ tied_with c ts left t = let n = t.numbers in record { agree = t.agree; numbers =
 
 module _ (P : Things → Type 0) (by : KeptByWrites P) where
   abbrev K : Core → Type 0
-  K c = Holds P c
+  K c = HoldsOfThings P c
 
   -- a lost reference
   suffer_kept : (scan : Scan) (s : Side) (k m n : ℕ) (cell : Cell) (c : Core) → reference_count scan PromiseSide k c ≡ m → Rising 0 c.started c.entries → PortsRise 0 c.made c.ports → OwnedOnce c → K c

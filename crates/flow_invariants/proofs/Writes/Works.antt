@@ -14,11 +14,11 @@ use Rattle.flow_meaning.specs.Work.{writes, fill_cell, fill, free_cell, free, ru
 use Rattle.flow_meaning.proofs.Posture.{Unless, unless, after_turn}
 use Rattle.flow_meaning.proofs.Shifts.{Owned}
 use Rattle.flow_heap_refinement.specs.Alone.{owners_of}
-use Rattle.flow_invariants.specs.Writes.{Things, Holds, Becomes, KeptByWrites}
+use Rattle.flow_invariants.specs.Writes.{Things, HoldsOfThings, EntryBecomes, KeptByWrites}
 
 module _ (P : Things → Type 0) (by : KeptByWrites P) where
   abbrev pub K : Core → Type 0
-  K c = Holds P c
+  K c = HoldsOfThings P c
 
   -- a cell that the process didn't make for itself is set, or goes
   pub fill_kept : (k : ℕ) (o : OutcomeTree) (c : Core) → owners_of k c ≡ 0 → K c → Unless K (fill k o c)
@@ -36,11 +36,11 @@ module _ (P : Things → Type 0) (by : KeptByWrites P) where
       by_cell (Some cell) = unless c.halted (by.goes c k own h)
 
   -- an actor leaves its wait, or takes a branch
-  pub leave_kept : (i : ℕ) (old new : Entry) (vs : List ValueTree) (t : Task) (c : Core) → thing c.entries i ≡ Some old → Becomes old new → K c → K (leave_for i new vs t c)
+  pub leave_kept : (i : ℕ) (old new : Entry) (vs : List ValueTree) (t : Task) (c : Core) → thing c.entries i ≡ Some old → EntryBecomes old new → K c → K (leave_for i new vs t c)
   leave_kept i old new vs t c at be h =
       by.left (record c { entries = put c.entries i (running new) }) i (by.entry c i old (running new) at (record { result = be.result; marked = be.marked }) h)
 
-  pub branch_kept : (i b k : ℕ) (old new : Entry) (vs : List ValueTree) (c : Core) → thing c.entries i ≡ Some old → Becomes old new → K c → Unless K (take_branch i b k new vs (thing c.cells k) c)
+  pub branch_kept : (i b k : ℕ) (old new : Entry) (vs : List ValueTree) (c : Core) → thing c.entries i ≡ Some old → EntryBecomes old new → K c → Unless K (take_branch i b k new vs (thing c.cells k) c)
   branch_kept i b k old new vs c at be h = by_cell (thing c.cells k) refl
     where
       by_cell : (x : Option Cell) → thing c.cells k ≡ x → Unless K (take_branch i b k new vs x c)
@@ -78,14 +78,14 @@ module _ (P : Things → Type 0) (by : KeptByWrites P) where
   all_kept c i b [] x h = h
   all_kept c i b (q ∷ qs) x h = let w : Waiter = record { actor = i; branch = b } in all_kept c i (suc b) qs (register_one w q.1 x) (one_kept c w q.1 x h)
 
-  suspend_kept : (i : ℕ) (spot : Spot) (old new : Entry) (vs : List ValueTree) (x : Registration) (c : Core) → thing c.entries i ≡ Some old → Becomes old new → After c x → K c
+  suspend_kept : (i : ℕ) (spot : Spot) (old new : Entry) (vs : List ValueTree) (x : Registration) (c : Core) → thing c.entries i ≡ Some old → EntryBecomes old new → After c x → K c
       → Unless K (suspend i spot new vs x c)
   suspend_kept i spot old new vs Missing c at be f h = tt
   suspend_kept i spot old new vs Refused c at be f h = unless c.halted (leave_kept i old new vs (Throw i second_waiter) c at be h)
   suspend_kept i spot old new vs (Registered cells) c at be f h =
       unless c.halted (by.entry (record c { cells = cells }) i old (record new { suspended = true }) at (record { result = be.result; marked = be.marked }) f)
 
-  wait_by_kept : (i : ℕ) (spot : Spot) (old new : Entry) (vs : List ValueTree) (x : Option (ℕ × ℕ)) (c : Core) → thing c.entries i ≡ Some old → Becomes old new → K c
+  wait_by_kept : (i : ℕ) (spot : Spot) (old new : Entry) (vs : List ValueTree) (x : Option (ℕ × ℕ)) (c : Core) → thing c.entries i ≡ Some old → EntryBecomes old new → K c
       → Unless K (wait_by i spot new vs x c)
   wait_by_kept i spot old new vs (Some b) c at be h = branch_kept i b.0 b.1 old new vs c at be h
   wait_by_kept i spot old new vs None c at be h =

@@ -35,7 +35,7 @@ module _ (Rests : Process → Proc Frame → Type 0) (Keeps : World Frame → Ty
       → (advance (classes r) host (live (begun_proc turns x) out) ≡ None) × Rests p (begun_proc turns x)
 
   -- The next line of the script comes in a world in memory that represents this one, and does what it orders.
-  pub record LineComes {A : Type 0} (puts : A → Line → Result (Unit {0}) OutFault → A → Type 0) (before after : Seen) (world : World Frame)
+  pub record OrderComes {A : Type 0} (puts : A → Line → Result (Unit {0}) OutFault → A → Type 0) (before after : Seen) (world : World Frame)
       (out told : A) (does : Act) : Type 0 where
     pub represents : WorldRepresents Rests before world
     pub time : ℕ
@@ -57,16 +57,16 @@ module _ (Rests : Process → Proc Frame → Type 0) (Keeps : World Frame → Ty
   abbrev pub CutFollows : {A : Type 0} (puts : A → Line → Result (Unit {0}) OutFault → A → Type 0) → Type 0
   CutFollows {A} puts =
       (before after : Seen) (world : World Frame) (out told : A) (one other : ProcId) → StaysQuiet → AreLinked world one other
-      → LineComes puts before after world out told (act.Cut one other) → EventShown Rests Keeps IsCode puts r world out after told
+      → OrderComes puts before after world out told (act.Cut one other) → EventShown Rests Keeps IsCode puts r world out after told
 
   -- a link of two processes of the world heals
   abbrev pub HealFollows : {A : Type 0} (puts : A → Line → Result (Unit {0}) OutFault → A → Type 0) → Type 0
   HealFollows {A} puts =
       (before after : Seen) (world : World Frame) (out told : A) (one other : ProcId) → StaysQuiet → AreLinked world one other
-      → LineComes puts before after world out told (act.Heal one other) → EventShown Rests Keeps IsCode puts r world out after told
+      → OrderComes puts before after world out told (act.Heal one other) → EventShown Rests Keeps IsCode puts r world out after told
 
   -- a disk of a process of the world is to fail so many of the next requests
   abbrev pub FailureFollows : {A : Type 0} (puts : A → Line → Result (Unit {0}) OutFault → A → Type 0) → Type 0
   FailureFollows {A} puts =
       (before after : Seen) (world : World Frame) (out told : A) (one : ProcId) (count : ℕ) → StaysQuiet → one.0 < length world.places
-      → LineComes puts before after world out told (act.DiskFail one count) → EventShown Rests Keeps IsCode puts r world out after told
+      → OrderComes puts before after world out told (act.DiskFail one count) → EventShown Rests Keeps IsCode puts r world out after told
