@@ -85,7 +85,7 @@ into_said None h = tt
 into_said (Some i) h = local_said i h
 
 errors_said : TypesSaid (ErrorType ∷ [])
-errors_said = (record { tokens = _; rule = error_type p; are = ((word_spelled word.Error, (omega arith, tt)), tt) }, tt)
+errors_said = (record { tokens = _; rule = error_type p; are = ((word_spelled word.Error, ((λ j. omega arith), tt)), tt) }, tt)
 
 mutual
   pub locals_said : (b : Body) → BodySaid b → TypesSaid (body_locals b)
