@@ -1,2 +1,4 @@
 pub mod Views
 pub mod GrammarLists
+pub mod Folds
+pub mod Formed
