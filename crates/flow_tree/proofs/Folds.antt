@@ -101,3 +101,11 @@ module _ (P : Body → Type 0) (f : (s : Body) → P s) where
     pub branches_hold : (bs : Branches) → EachBranch P bs
     branches_hold NoBranches = tt
     branches_hold (MoreBranches at w b bs) = (f (WaitStmt at w b), each_holds b, branches_hold bs)
+
+-- two folds that agree whatever the statements are
+module _ {R S : Type 0} (Rel : R → S → Type 0) (f : Fold R) (g : Fold S) (m : Agree Rel (λ s. Unit {0}) f g) where
+  pub folds_alike : (b : Body) → Rel (folded f b) (folded g b)
+  folds_alike b = folds_agree Rel (λ s. Unit {0}) f g m b (each_holds (λ s. Unit {0}) (λ s. tt) b)
+
+  pub branches_alike : (bs : Branches) → Rel (folded_branches f bs) (folded_branches g bs)
+  branches_alike bs = branches_agree Rel (λ s. Unit {0}) f g m bs (branches_hold (λ s. Unit {0}) (λ s. tt) bs)
