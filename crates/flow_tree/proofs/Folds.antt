@@ -1,8 +1,10 @@
--- Walks over a body: from one thing that holds of each statement to another, and from one fold to another.
+-- Walks over a body and over an expression: from one thing that holds of each statement to another, and from one fold to another.
+use Rattle.std.proofs.Common.{List, [], ◌++◌}
 use Rattle.flow_base.specs.declared.place.Place.{Place}
 use Rattle.flow_tree.specs.declared.ty.Ident.{Ident}
+use Rattle.flow_tree.specs.Tree.{ExprTree, ExprTrees, IntExpr, TextExpr, BoolExpr, VoidExpr, VarExpr, CallExpr, FieldExpr, MethodExpr, NotExpr, NegExpr, BinaryExpr, ParenExpr, NoExprs, MoreExprs}
 use Rattle.flow_tree.specs.Body.{WaitTree, Body, End, BlockStmt, IfStmt, IfElseStmt, WhileStmt, ForStmt, LoopStmt, BreakStmt, ContinueStmt, ReturnStmt, ThrowStmt, TryStmt, ChooseStmt, DeclareStmt, AssignStmt, ModifyStmt, CallStmt, WaitStmt, Branches, NoBranches, MoreBranches}
-use Rattle.flow_tree.specs.Folds.{EachStmt, EachBranch, Fold, folded, folded_branches}
+use Rattle.flow_tree.specs.Folds.{EachStmt, EachBranch, Fold, folded, folded_branches, names_listed, all_names_listed}
 
 -- what holds of a statement wherever P does holds of each statement where P holds of each
 module _ (P Q : Body → Type 0) (f : (s : Body) → P s → Q s) where
@@ -109,3 +111,25 @@ module _ {R S : Type 0} (Rel : R → S → Type 0) (f : Fold R) (g : Fold S) (m 
 
   pub branches_alike : (bs : Branches) → Rel (folded_branches f bs) (folded_branches g bs)
   branches_alike bs = branches_agree Rel (λ s. Unit {0}) f g m bs (branches_hold (λ s. Unit {0}) (λ s. tt) bs)
+
+-- what names give by f and by g in an expression agrees where it does of each name
+module _ {A B : Type 0} (Rel : List A → List B → Type 0) (f : Ident → List A) (g : Ident → List B) (nothing : Rel [] []) (one : (x : Ident) → Rel (f x) (g x))
+    (both : (us vs : List A) (ws xs : List B) → Rel us ws → Rel vs xs → Rel (us ++ vs) (ws ++ xs)) where
+  mutual
+    pub names_agree : (e : ExprTree) → Rel (names_listed f e) (names_listed g e)
+    names_agree (IntExpr n) = nothing
+    names_agree (TextExpr t) = nothing
+    names_agree (BoolExpr b) = nothing
+    names_agree VoidExpr = nothing
+    names_agree (VarExpr x) = one x
+    names_agree (CallExpr h es) = all_names_agree es
+    names_agree (FieldExpr e x) = names_agree e
+    names_agree (MethodExpr e m es) = both _ _ _ _ (names_agree e) (all_names_agree es)
+    names_agree (NotExpr e) = names_agree e
+    names_agree (NegExpr e) = names_agree e
+    names_agree (BinaryExpr op a b) = both _ _ _ _ (names_agree a) (names_agree b)
+    names_agree (ParenExpr e) = names_agree e
+
+    pub all_names_agree : (es : ExprTrees) → Rel (all_names_listed f es) (all_names_listed g es)
+    all_names_agree NoExprs = nothing
+    all_names_agree (MoreExprs e es) = both _ _ _ _ (names_agree e) (all_names_agree es)

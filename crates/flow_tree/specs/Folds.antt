@@ -1,6 +1,8 @@
--- Walks over a body: what holds of each statement, and what statements give one after another, in the order of the text.
+-- Walks over a body: what holds of each statement, and what statements give one after another, in the order of the text;
+-- and over an expression: what its names give.
 use Rattle.std.specs.Prelude.{ℕ, ◌+◌, List, [], ◌++◌}
 use Rattle.flow_tree.specs.declared.ty.Ident.{Ident}
+use Rattle.flow_tree.specs.Tree.{ExprTree, ExprTrees, IntExpr, TextExpr, BoolExpr, VoidExpr, VarExpr, CallExpr, FieldExpr, MethodExpr, NotExpr, NegExpr, BinaryExpr, ParenExpr, NoExprs, MoreExprs}
 use Rattle.flow_tree.specs.Body.{WaitTree, Body, End, BlockStmt, IfStmt, IfElseStmt, WhileStmt, ForStmt, LoopStmt, BreakStmt, ContinueStmt, ReturnStmt, ThrowStmt, TryStmt, ChooseStmt, DeclareStmt, AssignStmt, ModifyStmt, CallStmt, WaitStmt, Branches, NoBranches, MoreBranches}
 
 -- P holds of each statement of a body and inside of its statements; it is said of the body that begins with the statement.
@@ -80,3 +82,24 @@ counting s c w = record { nothing = 0; both = λ m n. m + n; of_stmt = s; of_cat
 -- a statement, a variable or a wait that gives nothing
 abbrev pub no_items : {A X : Type 0} → X → List A
 no_items x = []
+
+-- what the names in an expression give, in the order of the text; what is called, a field and a method give nothing
+module _ {A : Type 0} (of_name : Ident → List A) where
+  abbrev mutual
+    pub names_listed : ExprTree → List A
+    names_listed (IntExpr n) = []
+    names_listed (TextExpr t) = []
+    names_listed (BoolExpr b) = []
+    names_listed VoidExpr = []
+    names_listed (VarExpr x) = of_name x
+    names_listed (CallExpr f es) = all_names_listed es
+    names_listed (FieldExpr e x) = names_listed e
+    names_listed (MethodExpr e m es) = names_listed e ++ all_names_listed es
+    names_listed (NotExpr e) = names_listed e
+    names_listed (NegExpr e) = names_listed e
+    names_listed (BinaryExpr op a b) = names_listed a ++ names_listed b
+    names_listed (ParenExpr e) = names_listed e
+
+    pub all_names_listed : ExprTrees → List A
+    all_names_listed NoExprs = []
+    all_names_listed (MoreExprs e es) = names_listed e ++ all_names_listed es
