@@ -37,45 +37,41 @@ module _ (P Q : Body → Type 0) (f : (s : Body) → P s → Q s) where
 pub record Agree {R S : Type 0} (Rel : R → S → Type 0) (P : Body → Type 0) (f : Fold R) (g : Fold S) : Type 0 where
   pub nothing : Rel f.nothing g.nothing
   pub both : (a b : R) (c d : S) → Rel a c → Rel b d → Rel (f.both a b) (g.both c d)
-  pub of_stmt : (s : Body) → P s → Rel (f.of_stmt s) (g.of_stmt s)
-  pub of_catch : (x : Ident) → Rel (f.of_catch x) (g.of_catch x)
-  pub of_wait : (at : Place) (w : WaitTree) (b : Body) → P (WaitStmt at w b) → Rel (f.of_wait w) (g.of_wait w)
+  pub of_stmt : (s : Body) (a : R) (b : S) → P s → Rel a b → Rel (f.of_stmt s a) (g.of_stmt s b)
+  pub of_catch : (x : Ident) (a : R) (b : S) → Rel a b → Rel (f.of_catch x a) (g.of_catch x b)
+  pub of_wait : (at : Place) (w : WaitTree) (k : Body) (a : R) (b : S) → P (WaitStmt at w k) → Rel a b → Rel (f.of_wait w a) (g.of_wait w b)
 
 module _ {R S : Type 0} (Rel : R → S → Type 0) (P : Body → Type 0) (f : Fold R) (g : Fold S) (m : Agree Rel P f g) where
-  -- a statement with what is inside of it and behind it
-  first : (s : Body) (a : R) (b : S) → P s → Rel a b → Rel (f.both (f.of_stmt s) a) (g.both (g.of_stmt s) b)
-  first s a b p h = m.both _ _ _ _ (m.of_stmt s p) h
-
   mutual
     pub folds_agree : (b : Body) → EachStmt P b → Rel (folded f b) (folded g b)
     folds_agree End h = m.nothing
-    folds_agree (BlockStmt at b k) h = first (BlockStmt at b k) _ _ h.0 (m.both _ _ _ _ (folds_agree b h.1) (folds_agree k h.2))
-    folds_agree (IfStmt at e b k) h = first (IfStmt at e b k) _ _ h.0 (m.both _ _ _ _ (folds_agree b h.1) (folds_agree k h.2))
+    folds_agree (BlockStmt at b k) h = m.of_stmt (BlockStmt at b k) _ _ h.0 (m.both _ _ _ _ (folds_agree b h.1) (folds_agree k h.2))
+    folds_agree (IfStmt at e b k) h = m.of_stmt (IfStmt at e b k) _ _ h.0 (m.both _ _ _ _ (folds_agree b h.1) (folds_agree k h.2))
     folds_agree (IfElseStmt at e b c k) h =
-        first (IfElseStmt at e b c k) _ _ h.0 (m.both _ _ _ _ (m.both _ _ _ _ (folds_agree b h.1) (folds_agree c h.2)) (folds_agree k h.3))
-    folds_agree (WhileStmt at e b k) h = first (WhileStmt at e b k) _ _ h.0 (m.both _ _ _ _ (folds_agree b h.1) (folds_agree k h.2))
+        m.of_stmt (IfElseStmt at e b c k) _ _ h.0 (m.both _ _ _ _ (m.both _ _ _ _ (folds_agree b h.1) (folds_agree c h.2)) (folds_agree k h.3))
+    folds_agree (WhileStmt at e b k) h = m.of_stmt (WhileStmt at e b k) _ _ h.0 (m.both _ _ _ _ (folds_agree b h.1) (folds_agree k h.2))
     folds_agree (ForStmt at i e t b k) h =
-        first (ForStmt at i e t b k) _ _ h.0
+        m.of_stmt (ForStmt at i e t b k) _ _ h.0
         (m.both _ _ _ _ (m.both _ _ _ _ (m.both _ _ _ _ (folds_agree i h.1) (folds_agree t h.2)) (folds_agree b h.3)) (folds_agree k h.4))
-    folds_agree (LoopStmt at b k) h = first (LoopStmt at b k) _ _ h.0 (m.both _ _ _ _ (folds_agree b h.1) (folds_agree k h.2))
-    folds_agree (BreakStmt at k) h = first (BreakStmt at k) _ _ h.0 (folds_agree k h.1)
-    folds_agree (ContinueStmt at k) h = first (ContinueStmt at k) _ _ h.0 (folds_agree k h.1)
-    folds_agree (ReturnStmt at e k) h = first (ReturnStmt at e k) _ _ h.0 (folds_agree k h.1)
-    folds_agree (ThrowStmt at e k) h = first (ThrowStmt at e k) _ _ h.0 (folds_agree k h.1)
+    folds_agree (LoopStmt at b k) h = m.of_stmt (LoopStmt at b k) _ _ h.0 (m.both _ _ _ _ (folds_agree b h.1) (folds_agree k h.2))
+    folds_agree (BreakStmt at k) h = m.of_stmt (BreakStmt at k) _ _ h.0 (folds_agree k h.1)
+    folds_agree (ContinueStmt at k) h = m.of_stmt (ContinueStmt at k) _ _ h.0 (folds_agree k h.1)
+    folds_agree (ReturnStmt at e k) h = m.of_stmt (ReturnStmt at e k) _ _ h.0 (folds_agree k h.1)
+    folds_agree (ThrowStmt at e k) h = m.of_stmt (ThrowStmt at e k) _ _ h.0 (folds_agree k h.1)
     folds_agree (TryStmt at b q x c k) h =
-        first (TryStmt at b q x c k) _ _ h.0
-        (m.both _ _ _ _ (m.both _ _ _ _ (folds_agree b h.1) (m.both _ _ _ _ (m.of_catch x) (folds_agree c h.2))) (folds_agree k h.3))
-    folds_agree (ChooseStmt at bs k) h = first (ChooseStmt at bs k) _ _ h.0 (m.both _ _ _ _ (branches_agree bs h.1) (folds_agree k h.2))
-    folds_agree (DeclareStmt at i e k) h = first (DeclareStmt at i e k) _ _ h.0 (folds_agree k h.1)
-    folds_agree (AssignStmt at xs e k) h = first (AssignStmt at xs e k) _ _ h.0 (folds_agree k h.1)
-    folds_agree (ModifyStmt at xs c k) h = first (ModifyStmt at xs c k) _ _ h.0 (folds_agree k h.1)
-    folds_agree (CallStmt at xs es k) h = first (CallStmt at xs es k) _ _ h.0 (folds_agree k h.1)
-    folds_agree (WaitStmt at w k) h = first (WaitStmt at w k) _ _ h.0 (folds_agree k h.1)
+        m.of_stmt (TryStmt at b q x c k) _ _ h.0
+        (m.both _ _ _ _ (m.both _ _ _ _ (folds_agree b h.1) (m.of_catch x _ _ (folds_agree c h.2))) (folds_agree k h.3))
+    folds_agree (ChooseStmt at bs k) h = m.of_stmt (ChooseStmt at bs k) _ _ h.0 (m.both _ _ _ _ (branches_agree bs h.1) (folds_agree k h.2))
+    folds_agree (DeclareStmt at i e k) h = m.of_stmt (DeclareStmt at i e k) _ _ h.0 (folds_agree k h.1)
+    folds_agree (AssignStmt at xs e k) h = m.of_stmt (AssignStmt at xs e k) _ _ h.0 (folds_agree k h.1)
+    folds_agree (ModifyStmt at xs c k) h = m.of_stmt (ModifyStmt at xs c k) _ _ h.0 (folds_agree k h.1)
+    folds_agree (CallStmt at xs es k) h = m.of_stmt (CallStmt at xs es k) _ _ h.0 (folds_agree k h.1)
+    folds_agree (WaitStmt at w k) h = m.of_stmt (WaitStmt at w k) _ _ h.0 (folds_agree k h.1)
 
     pub branches_agree : (bs : Branches) → EachBranch P bs → Rel (folded_branches f bs) (folded_branches g bs)
     branches_agree NoBranches h = m.nothing
     branches_agree (MoreBranches at w b bs) h =
-        m.both _ _ _ _ (m.both _ _ _ _ (m.of_wait at w b h.0) (folds_agree b h.1)) (branches_agree bs h.2)
+        m.both _ _ _ _ (m.of_wait at w b _ _ h.0 (folds_agree b h.1)) (branches_agree bs h.2)
 
 -- what holds of any statement holds of each
 module _ (P : Body → Type 0) (f : (s : Body) → P s) where

@@ -33,53 +33,53 @@ module _ (P : Body → Type 0) where
     EachBranch NoBranches = Unit {0}
     EachBranch (MoreBranches at w b bs) = P (WaitStmt at w b) × EachStmt b × EachBranch bs
 
--- What is put together: what nothing gives, how two parts give one, and what a statement gives by itself, without what is inside
--- of it and behind it; besides the variable of a `catch`, and the wait of a branch.
+-- What is put together: what nothing gives, how two parts give one, and what a statement puts before what is inside of it and behind
+-- it; besides what the variable of a `catch` puts before its handler, and the wait of a branch before its body.
 pub record Fold (R : Type 0) : Type 0 where
   pub nothing : R
   pub both : R → R → R
-  pub of_stmt : Body → R
-  pub of_catch : Ident → R
-  pub of_wait : WaitTree → R
+  pub of_stmt : Body → R → R
+  pub of_catch : Ident → R → R
+  pub of_wait : WaitTree → R → R
 
 -- what a body gives: each statement first, then what is inside of it, then what is behind it
 module _ {R : Type 0} (f : Fold R) where
   abbrev mutual
     pub folded : Body → R
     folded End = f.nothing
-    folded (BlockStmt at b k) = f.both (f.of_stmt (BlockStmt at b k)) (f.both (folded b) (folded k))
-    folded (IfStmt at e b k) = f.both (f.of_stmt (IfStmt at e b k)) (f.both (folded b) (folded k))
-    folded (IfElseStmt at e b c k) = f.both (f.of_stmt (IfElseStmt at e b c k)) (f.both (f.both (folded b) (folded c)) (folded k))
-    folded (WhileStmt at e b k) = f.both (f.of_stmt (WhileStmt at e b k)) (f.both (folded b) (folded k))
+    folded (BlockStmt at b k) = f.of_stmt (BlockStmt at b k) (f.both (folded b) (folded k))
+    folded (IfStmt at e b k) = f.of_stmt (IfStmt at e b k) (f.both (folded b) (folded k))
+    folded (IfElseStmt at e b c k) = f.of_stmt (IfElseStmt at e b c k) (f.both (f.both (folded b) (folded c)) (folded k))
+    folded (WhileStmt at e b k) = f.of_stmt (WhileStmt at e b k) (f.both (folded b) (folded k))
     folded (ForStmt at i e t b k) =
-        f.both (f.of_stmt (ForStmt at i e t b k)) (f.both (f.both (f.both (folded i) (folded t)) (folded b)) (folded k))
-    folded (LoopStmt at b k) = f.both (f.of_stmt (LoopStmt at b k)) (f.both (folded b) (folded k))
-    folded (BreakStmt at k) = f.both (f.of_stmt (BreakStmt at k)) (folded k)
-    folded (ContinueStmt at k) = f.both (f.of_stmt (ContinueStmt at k)) (folded k)
-    folded (ReturnStmt at e k) = f.both (f.of_stmt (ReturnStmt at e k)) (folded k)
-    folded (ThrowStmt at e k) = f.both (f.of_stmt (ThrowStmt at e k)) (folded k)
+        f.of_stmt (ForStmt at i e t b k) (f.both (f.both (f.both (folded i) (folded t)) (folded b)) (folded k))
+    folded (LoopStmt at b k) = f.of_stmt (LoopStmt at b k) (f.both (folded b) (folded k))
+    folded (BreakStmt at k) = f.of_stmt (BreakStmt at k) (folded k)
+    folded (ContinueStmt at k) = f.of_stmt (ContinueStmt at k) (folded k)
+    folded (ReturnStmt at e k) = f.of_stmt (ReturnStmt at e k) (folded k)
+    folded (ThrowStmt at e k) = f.of_stmt (ThrowStmt at e k) (folded k)
     folded (TryStmt at b q x h k) =
-        f.both (f.of_stmt (TryStmt at b q x h k)) (f.both (f.both (folded b) (f.both (f.of_catch x) (folded h))) (folded k))
-    folded (ChooseStmt at bs k) = f.both (f.of_stmt (ChooseStmt at bs k)) (f.both (folded_branches bs) (folded k))
-    folded (DeclareStmt at i e k) = f.both (f.of_stmt (DeclareStmt at i e k)) (folded k)
-    folded (AssignStmt at xs e k) = f.both (f.of_stmt (AssignStmt at xs e k)) (folded k)
-    folded (ModifyStmt at xs c k) = f.both (f.of_stmt (ModifyStmt at xs c k)) (folded k)
-    folded (CallStmt at xs es k) = f.both (f.of_stmt (CallStmt at xs es k)) (folded k)
-    folded (WaitStmt at w k) = f.both (f.of_stmt (WaitStmt at w k)) (folded k)
+        f.of_stmt (TryStmt at b q x h k) (f.both (f.both (folded b) (f.of_catch x (folded h))) (folded k))
+    folded (ChooseStmt at bs k) = f.of_stmt (ChooseStmt at bs k) (f.both (folded_branches bs) (folded k))
+    folded (DeclareStmt at i e k) = f.of_stmt (DeclareStmt at i e k) (folded k)
+    folded (AssignStmt at xs e k) = f.of_stmt (AssignStmt at xs e k) (folded k)
+    folded (ModifyStmt at xs c k) = f.of_stmt (ModifyStmt at xs c k) (folded k)
+    folded (CallStmt at xs es k) = f.of_stmt (CallStmt at xs es k) (folded k)
+    folded (WaitStmt at w k) = f.of_stmt (WaitStmt at w k) (folded k)
 
     pub folded_branches : Branches → R
     folded_branches NoBranches = f.nothing
-    folded_branches (MoreBranches at w b bs) = f.both (f.both (f.of_wait w) (folded b)) (folded_branches bs)
+    folded_branches (MoreBranches at w b bs) = f.both (f.of_wait w (folded b)) (folded_branches bs)
 
 -- lists one after another, in the order of the text
 abbrev pub listing : {A : Type 0} → (Body → List A) → (Ident → List A) → (WaitTree → List A) → Fold (List A)
-listing s c w = record { nothing = []; both = λ xs ys. xs ++ ys; of_stmt = s; of_catch = c; of_wait = w }
+listing s c w = record { nothing = []; both = λ xs ys. xs ++ ys; of_stmt = λ b xs. s b ++ xs; of_catch = λ x xs. c x ++ xs; of_wait = λ t xs. w t ++ xs }
 
--- a sum
-abbrev pub counting : (Body → ℕ) → (Ident → ℕ) → (WaitTree → ℕ) → Fold ℕ
+-- sums; a statement, a variable and a wait say what they make of the sum that they stand before
+abbrev pub counting : (Body → ℕ → ℕ) → (Ident → ℕ → ℕ) → (WaitTree → ℕ → ℕ) → Fold ℕ
 counting s c w = record { nothing = 0; both = λ m n. m + n; of_stmt = s; of_catch = c; of_wait = w }
 
--- a statement, a variable or a wait that gives nothing
+-- what gives nothing
 abbrev pub no_items : {A X : Type 0} → X → List A
 no_items x = []
 
