@@ -1,4 +1,6 @@
 pub mod Fitting
+pub mod Invariant
+pub mod Writes
 pub mod Owned
 pub mod Referenced
 pub mod Unmarked

@@ -237,14 +237,14 @@ module _ (r : RawTree) (code : Code) (w : Supply) (ls : List Line) (x : Scan) (s
         ∙ ap (λ k. values_at (sight_in code i told) k told.left) of.resolved
         ∙ args_follow r ls x told p i e f code w at.stood inp.program st.clock inp.few of.exprs in
         by_called of.called (subst (λ z. SameEffect z of.called) drawn.is_world of.same)
-        (subst (λ z. Fits (evaluated f z (λ vs left. given f (effect_of of.called vs) (λ a. asking_for left (Effects (asks.ProcessInvariant (spot_of f.code number)) a) f)))) (sym same ∙ drawn.done) fits)
+        (subst (λ z. Fits (evaluated f z (λ vs left. given f (effect_of of.called vs) (λ a. asking_for left (Effects (asks.Kept (spot_of f.code number)) a) f)))) (sym same ∙ drawn.done) fits)
       where
         by_called : (called : Effectful) → SameEffect (effect.World drawn.called) called
-            → Fits (given f (effect_of called (args_of drawn.arguments)) (λ a. asking_for drawn.left (Effects (asks.ProcessInvariant (spot_of f.code number)) a) f)) → ⊥
+            → Fits (given f (effect_of called (args_of drawn.arguments)) (λ a. asking_for drawn.left (Effects (asks.Kept (spot_of f.code number)) a) f)) → ⊥
         by_called (Actor k) same fits = same
         by_called (World q) same fits =
             let draws : world_effect q (args_of drawn.arguments) ≡ Some (Draw drawn.lo drawn.hi) = ap (λ z. world_effect z (args_of drawn.arguments)) (sym same) ∙ drawn.draws in
-            let one = subst (λ z. Fits (given f z (λ a. asking_for drawn.left (Effects (asks.ProcessInvariant (spot_of f.code number)) a) f))) draws fits in
+            let one = subst (λ z. Fits (given f z (λ a. asking_for drawn.left (Effects (asks.Kept (spot_of f.code number)) a) f))) draws fits in
             let wanted = one.0.1 in no_number wanted.1.callback.next wanted.1.takes (sym wanted.2 ∙ wanted.1.type)
 
   asks_drawn : (n : Process) → MayStep r ls x s m p i e f → Asks code s m Off n → ServingStuck n.asked → ⊥
