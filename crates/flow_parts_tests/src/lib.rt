@@ -7,6 +7,8 @@
 #[cfg(test)]
 mod cells;
 #[cfg(test)]
+mod constants;
+#[cfg(test)]
 mod disks;
 #[cfg(test)]
 mod draws;
