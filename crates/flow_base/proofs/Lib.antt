@@ -1,4 +1,5 @@
 pub mod Bools
 pub mod Growing
 pub mod MemoryFiles
+pub mod OverOpener
 pub mod Reading

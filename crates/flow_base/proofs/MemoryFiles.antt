@@ -2,7 +2,7 @@
 use Rattle.std.proofs.Common.{◌≡◌, ℕ, ◌+◌, ◌<◌, ◌≤◌, List, [], ◌∷◌, ◌++◌, Bool, not, cond, length, map, take, drop, get_or, set, sym, ap, ◌∙◌, refl, subst, Some, Result, Ok, Err, arith, string_bytes, take-append-drop, length-append, length-drop, take-add, drop-drop, take_at, length-take-le, get_or-set_same}
 use Rattle.std.specs.declared.string.String.{String}
 use Rattle.std.specs.declared.vec.Vec.{Vec}
-use Rattle.std.specs.Prelude.{IfOk}
+use Rattle.std.specs.Prelude.{IfOk, OnErr}
 use Rattle.std.specs.Option.{option_map_or}
 use Rattle.std.specs.List.{position, position_or_len}
 use Rattle.std.specs.Str.{bytes_eq}
@@ -12,6 +12,7 @@ use Rattle.std.proofs.lemmas.List.Quantifiers.{position-Some}
 use Rattle.std.proofs.lemmas.Slice.Eq.{bytes_eq-Decides}
 use Rattle.flow_base.specs.MemoryFiles.{FilesState, named_bytes, place_of, file_at, content_of, opening_of, position_at, seen_of, OpensFile, Copies, moved_by, ReadsFile}
 use Rattle.flow_base.specs.Seen.{Missing, Bytes, Opening, just_opened, read_on, opening_at, Opens, ReadsOn}
+use Rattle.flow_base.proofs.Reading.{reads_none}
 use Rattle.flow_base.specs.declared.fault.OutFault.{OutFault}
 use Rattle.flow_base.specs.declared.fault.OutFault.TheVariants.{Failed, OutOfMemory}
 use Rattle.flow_base.specs.declared.ids.FileNo.{FileNo}
@@ -133,3 +134,10 @@ pub ends_seen : (s t : FilesState) (k : ℕ) (buffer filled : List ℕ) (answer 
     → IfOk answer (λ n. n ≡ 0 → 0 < length filled → IsAtEnd (opening_at (seen_of t).openings k).left)
 ends_seen s t k buffer filled (Ok n) lt does = at_end s t k n buffer filled lt does
 ends_seen s t k buffer filled (Err fault) lt does = tt
+
+pub unread_seen : (s t : FilesState) (k : ℕ) (buffer filled : List ℕ) (answer : Result ℕ OutFault) → ReadsFile s k buffer answer filled t
+    → OnErr answer (ReadsOn (seen_of s).openings (seen_of t).openings k [])
+unread_seen s t k buffer filled (Ok n) does = tt
+unread_seen s t k buffer filled (Err Failed) does =
+    subst (λ (v : FilesState). ReadsOn (seen_of s).openings (seen_of v).openings k []) (sym does.2) (reads_none (seen_of s).openings k)
+unread_seen s t k buffer filled (Err OutOfMemory) does = absurd does

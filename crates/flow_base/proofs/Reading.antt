@@ -7,25 +7,25 @@ use Rattle.flow_base.specs.Bytes.{AreFirst}
 use Rattle.flow_base.specs.Seen.{Missing, Opening, FilesSeen, just_opened, read_on, opening_at, Opens, ReadsOn, ReadsFrom}
 use Rattle.flow_base.specs.declared.ids.FileNo.{FileNo}
 
-none_opened : Opening
-none_opened = just_opened [] Missing
+no_opening : Opening
+no_opening = just_opened [] Missing
 
 -- an opening of which nothing was read
 pub reads_none : (openings : List Opening) (k : ℕ) → ReadsOn openings openings k []
-unfolding none_opened
+unfolding no_opening
 reads_none openings k =
     let o = opening_at openings k in
     record {
       left = o.left;
       consumes = Consumes-nil o.left;
-      openings = sym (ap (λ (bytes : List ℕ). set openings k (record { name = o.name; read = bytes; left = o.left })) (append-nil o.read) ∙ set-get_or openings k none_opened);
+      openings = sym (ap (λ (bytes : List ℕ). set openings k (record { name = o.name; read = bytes; left = o.left })) (append-nil o.read) ∙ set-get_or openings k no_opening);
     }
 
 -- the opening after a read
 pub opening_after : (a b : List Opening) (k : ℕ) (bytes : List ℕ) (reads : ReadsOn a b k bytes) → k < length a
     → opening_at b k ≡ read_on (opening_at a k) bytes reads.left
-unfolding none_opened
-opening_after a b k bytes reads lt = ap (λ l. opening_at l k) reads.openings ∙ get_or-set_same a k (read_on (opening_at a k) bytes reads.left) none_opened lt
+unfolding no_opening
+opening_after a b k bytes reads lt = ap (λ l. opening_at l k) reads.openings ∙ get_or-set_same a k (read_on (opening_at a k) bytes reads.left) no_opening lt
 
 -- one read and then another
 pub reads_more : (a b c : List Opening) (k : ℕ) (bytes more : List ℕ) → k < length a → ReadsOn a b k bytes → ReadsOn b c k more
@@ -74,12 +74,12 @@ end_reached a b k n bytes lt short reads end =
 -- the last opening is the one that was made
 pub opened_last : (before after : FilesSeen) (name : List ℕ) (file : FileNo) → Opens before name (Ok file) after
     → opening_at after.openings file.0 ≡ just_opened name (before.content name)
-unfolding none_opened
+unfolding no_opening
 opened_last before after name file opens =
     let o = just_opened name (before.content name) in
     ap (λ l. opening_at l file.0) opens.openings
     ∙ ap (opening_at (before.openings ++ o ∷ [])) opens.number
-    ∙ get_or-append_seam before.openings o [] none_opened
+    ∙ get_or-append_seam before.openings o [] no_opening
 
 -- a file that was opened, and then read
 pub reads_from : (before middle after : FilesSeen) (name bytes : List ℕ) (file : FileNo) → Opens before name (Ok file) middle

@@ -1,6 +1,6 @@
 // Files that are read by name.
 
-ghost use Rattle.std.specs.Prelude.{◌≡◌, ℕ, ◌<◌, ◌≤◌, length, take, IfOk, OnErr};
+ghost use Rattle.std.specs.Prelude.{◌≡◌, ◌<◌, ◌≤◌, [], length, take, IfOk, OnErr};
 ghost use Rattle.std.specs.Io.KnownBytes.{IsAtEnd};
 ghost use Rattle.flow_base.specs.Asked.{AsksFor};
 ghost use Rattle.flow_base.specs.Faults.{Counts};
@@ -37,7 +37,8 @@ pub trait Files {
             (seen self.new).openings file.0 (take n buf.new)) }
         ensures end { IfOk result (λ n. n ≡ 0 → 0 < length buf.new
             → IsAtEnd (opening_at (seen self.new).openings file.0).left) }
-        ensures unread { OnErr result ((seen self.new).openings ≡ (seen self.old).openings) }
+        ensures unread { OnErr result (ReadsOn (seen self.old).openings (seen self.new).openings
+            file.0 []) }
         ensures content { (seen self.new).content ≡ (seen self.old).content }
         ensures asked { (seen self.new).asked ≡ (seen self.old).asked }
         ensures counted { Counts (seen self.old).faults (seen self.new).faults result };

@@ -1,6 +1,6 @@
 // Files in memory.
 
-ghost use Rattle.std.specs.Prelude.{position, bytes_eq, ◌≡◌, ◌+◌, ◌<◌, ◌^◌, [], length, map, take, drop, string_bytes, IsTrue, IfOk};
+ghost use Rattle.std.specs.Prelude.{position, bytes_eq, ◌≡◌, ◌+◌, ◌<◌, ◌^◌, [], length, map, take, drop, string_bytes, IsTrue, IfOk, OnErr};
 ghost use Rattle.std.specs.Io.KnownBytes.{IsAtEnd};
 ghost use Rattle.flow_base.specs.Calls.{no_calls};
 ghost use Rattle.flow_base.specs.MemoryFiles.{OpensFile, ReadsFile, Copies, are_distinct, place_of, file_at, named_bytes, seen_of};
@@ -165,6 +165,8 @@ impl Files for MemFiles {
             (seen_of self.new).openings file.0 (take n buf.new)) }
         ensures end { IfOk result (λ n. n ≡ 0 → 0 < length buf.new
             → IsAtEnd (opening_at (seen_of self.new).openings file.0).left) }
+        ensures unread { OnErr result (ReadsOn (seen_of self.old).openings
+            (seen_of self.new).openings file.0 []) }
     {
         self.read_next(file, buf)
     }

@@ -1,5 +1,5 @@
 -- One read more, the end of the file, and the limit.
-use Rattle.std.proofs.Common.{rules, true, ap, ◌∙◌, drop, ◌≡◌, ◌+◌, ◌≤◌, ◌<◌, List, ℕ, ◌++◌, length, take, subst, sym, arith, length-append}
+use Rattle.std.proofs.Common.{rules, true, ap, ◌∙◌, drop, ◌≡◌, ◌+◌, ◌≤◌, ◌<◌, List, ℕ, ◌++◌, length, take, subst, sym, arith, length-append, [], append-nil}
 use Rattle.std.specs.Prelude.{is_ok, if◌then◌else◌}
 use lib.Seq.{take-append-le}
 use Rattle.flow_base.specs.Seen.{ReadsOn}
@@ -34,6 +34,12 @@ returns-then-count-eq0-clause-within g c = (
   c.loop-file.invariant.within,
   reads_no_more _ _ _ _ _ _ _ c.if-count-eq0.true c.requires c.loop-file.invariant.read c.in_ok-count.ensures.reads,
 )
+
+pub returns-in_err-count-clause-within : goal.returns-in_err-count-clause-within
+returns-in_err-count-clause-within g c =
+    let old = c.loop-file.bytes.items in
+    let short = subst (λ l. length l ≤ c.args.limit + 1) (sym (append-nil old)) c.loop-file.invariant.within in
+    (old ++ [], short, reads_more _ _ _ _ old [] c.requires c.loop-file.invariant.read c.in_err-count.ensures.unread)
 
 pub returns-then-is_err-clause-within : goal.returns-then-is_err-clause-within
 returns-then-is_err-clause-within g c =
