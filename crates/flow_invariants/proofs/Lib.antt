@@ -4,5 +4,6 @@ pub mod Writes
 pub mod Owned
 pub mod Referenced
 pub mod Unmarked
+pub mod Ended
 pub mod OpenPorts
 pub mod Fires
