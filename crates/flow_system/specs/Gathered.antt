@@ -3,7 +3,7 @@ use Rattle.std.specs.Prelude.{ℕ, List}
 use Rattle.std.specs.declared.option.Option.{Option}
 use Rattle.std.specs.Io.KnownBytes.{append_known}
 use Rattle.flow_base.specs.Seen.{SinkSeen}
-use Rattle.flow_base.specs.declared.gathering.Gathering.{Gathering}
+use Rattle.flow_system.specs.declared.gathering.Gathering.{Gathering}
 
 -- the bytes that the writer holds were handed on, and written were these and those that are gathered
 abbrev pub gathered_seen : {W : Type 0} → (W → Option (List ℕ)) → Gathering W → SinkSeen

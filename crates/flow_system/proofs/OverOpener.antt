@@ -4,7 +4,7 @@ use Rattle.std.proofs.lemmas.List.{length-map, get_or-map, map-set}
 use Rattle.std.specs.Io.KnownBytes.{Consumes, Keeps}
 use Rattle.std.proofs.KnownBytes.{Consumes-nil, Consumes-kept}
 use Rattle.std.specs.Prelude.{OnErr}
-use Rattle.flow_base.specs.Opened.{Advances}
+use Rattle.flow_system.specs.Opened.{Advances}
 use Rattle.flow_base.specs.Seen.{Missing, Opening, just_opened, read_on, opening_at, ReadsOn}
 
 no_opening : Opening

@@ -3,8 +3,8 @@ use Rattle.std.specs.Prelude.{◌≡◌, ℕ, List, [], map, string_bytes}
 use Rattle.std.specs.declared.option.Option.{Option}
 use Rattle.std.specs.Io.KnownBytes.{Consumes}
 use Rattle.flow_base.specs.Seen.{Content, Opening, FilesSeen, read_on}
-use Rattle.flow_base.specs.declared.opened.Opened.{Opened}
-use Rattle.flow_base.specs.declared.opened.OpenedFiles.{OpenedFiles}
+use Rattle.flow_system.specs.declared.opened.Opened.{Opened}
+use Rattle.flow_system.specs.declared.opened.OpenedFiles.{OpenedFiles}
 
 -- what is known of one file that was opened
 abbrev pub opened_seen : {R : Type 0} → (R → Option (List ℕ)) → Opened R → Opening

@@ -1,6 +1,6 @@
 use Rattle.std.proofs.Common.{◌-◌, ◌≤◌, length, take}
 use Rattle.std.specs.Io.KnownBytes.{Appends}
-use Rattle.flow_base.proofs.gathering.send_all.Given as goal
+use Rattle.flow_system.proofs.gathering.send_all.Given as goal
 
 -- the first bytes were written
 abbrev pub invariant-loop-sent : goal.invariant-loop-sent

@@ -6,10 +6,10 @@ ghost use Rattle.std.specs.Io.KnownBytes.{Appends, Keeps, append_known};
 ghost use Rattle.flow_base.specs.Bytes.{Grows};
 ghost use Rattle.flow_base.specs.Faults.{HasCause};
 ghost use Rattle.std.proofs.Common.{ap, take_at, refl, Option, None, Some, List, ℕ};
-ghost use Rattle.flow_base.specs.Gathered.{gathered_seen, start_of};
+ghost use Rattle.flow_system.specs.Gathered.{gathered_seen, start_of};
 
-use crate::fault::{OutFault, is_interrupted};
-use crate::sink::Sink;
+use flow_base::fault::{OutFault, is_interrupted};
+use flow_base::sink::Sink;
 use std::alloc::Global;
 use std::io;
 

@@ -3,12 +3,12 @@
 ghost use Rattle.std.specs.Prelude.{◌≡◌, ◌+◌, ◌<◌, ◌≤◌, ◌≢◌, ℕ, List, [], ◌++◌, length, take, get_or, vec_len, vec_capacity, IfOk, OnOk, OnErr};
 ghost use Rattle.std.specs.Io.KnownBytes.{IsAtEnd, ReadConsumes};
 ghost use Rattle.flow_base.specs.Faults.{CountsFault};
-ghost use Rattle.flow_base.specs.Opened.{opened_seen, files_seen, none_opened, Advances};
+ghost use Rattle.flow_system.specs.Opened.{opened_seen, files_seen, none_opened, Advances};
 ghost use Rattle.flow_base.specs.Seen.{Content, Missing, told_bytes, opening_at};
 
-use crate::fault::{OutFault, is_interrupted};
-use crate::files::Files;
-use crate::ids::FileNo;
+use flow_base::fault::{OutFault, is_interrupted};
+use flow_base::files::Files;
+use flow_base::ids::FileNo;
 use std::alloc::Global;
 use std::io;
 

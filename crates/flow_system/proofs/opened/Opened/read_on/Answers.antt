@@ -1,7 +1,7 @@
 use Rattle.std.specs.Io.KnownBytes.{Keeps}
 use Rattle.std.proofs.KnownBytes.{Keeps-refl}
-use Rattle.flow_base.proofs.OverOpener.{advances_none, on_err}
-use Rattle.flow_base.proofs.opened.Opened.read_on.Goals as goal
+use Rattle.flow_system.proofs.OverOpener.{advances_none, on_err}
+use Rattle.flow_system.proofs.opened.Opened.read_on.Goals as goal
 
 pub returns-in_err-reserve-clause-unread : goal.returns-in_err-reserve-clause-unread
 returns-in_err-reserve-clause-unread g c =

@@ -1,9 +1,9 @@
 use Rattle.std.proofs.Common.{[], take, subst, sym}
 use Rattle.std.specs.Io.KnownBytes.{IsAtEnd}
-use Rattle.flow_base.specs.Opened.{opened_seen}
+use Rattle.flow_system.specs.Opened.{opened_seen}
 use Rattle.flow_base.specs.Seen.{Opening}
-use Rattle.flow_base.proofs.OverOpener.{advances_at, opened_then}
-use Rattle.flow_base.proofs.opened.OpenedFilesFiles.read.Goals as goal
+use Rattle.flow_system.proofs.OverOpener.{advances_at, opened_then}
+use Rattle.flow_system.proofs.opened.OpenedFilesFiles.read.Goals as goal
 
 pub returns-in-Ok-clause-reads : goal.returns-in-Ok-clause-reads
 returns-in-Ok-clause-reads g c =
