@@ -8,7 +8,8 @@ ghost use Rattle.flow_base.specs.Faults.{HasCause};
 ghost use Rattle.std.proofs.Common.{ap, take_at, refl, Option, None, Some, List, ℕ};
 ghost use Rattle.flow_system.specs.Gathered.{gathered_seen, start_of};
 
-use flow_base::fault::{OutFault, is_interrupted};
+use crate::interrupted::is_interrupted;
+use flow_base::fault::OutFault;
 use flow_base::sink::Sink;
 use std::alloc::Global;
 use std::io;

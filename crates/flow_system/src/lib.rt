@@ -3,4 +3,5 @@
 #![tactic(auto)]
 
 pub mod gathering;
+mod interrupted;
 pub mod opened;

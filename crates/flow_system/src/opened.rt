@@ -6,7 +6,8 @@ ghost use Rattle.flow_base.specs.Faults.{CountsFault};
 ghost use Rattle.flow_system.specs.Opened.{opened_seen, files_seen, none_opened, Advances};
 ghost use Rattle.flow_base.specs.Seen.{Content, Missing, told_bytes, opening_at};
 
-use flow_base::fault::{OutFault, is_interrupted};
+use crate::interrupted::is_interrupted;
+use flow_base::fault::OutFault;
 use flow_base::files::Files;
 use flow_base::ids::FileNo;
 use std::alloc::Global;
