@@ -83,11 +83,13 @@ opened_last before after name file opens =
 
 -- a file that was opened, and then read
 pub reads_from : (before middle after : FilesSeen) (name bytes : List ℕ) (file : FileNo) → Opens before name (Ok file) middle
-    → ReadsOn middle.openings after.openings file.0 bytes → ReadsFrom before after name bytes
-reads_from before middle after name bytes file opens reads =
+    → middle.asked ≡ before.asked ++ name ∷ [] → after.asked ≡ middle.asked → ReadsOn middle.openings after.openings file.0 bytes
+    → ReadsFrom before after name bytes
+reads_from before middle after name bytes file opens asked no_more reads =
     let o = just_opened name (before.content name) in
     let was = opened_last before middle name file opens in
     record {
+      asked = no_more ∙ asked;
       there = opens.there;
       left = reads.left;
       consumes = subst (λ (p : Opening). Consumes p.left reads.left bytes) was reads.consumes;

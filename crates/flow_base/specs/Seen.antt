@@ -70,8 +70,9 @@ pub record ReadsOn (before after : List Opening) (k : ℕ) (bytes : List ℕ) : 
 abbrev pub ReadsSome : ℕ → List Opening → List Opening → ℕ → Type 0
 ReadsSome n before after k = (bytes : List ℕ) × (length bytes ≤ n) × ReadsOn before after k bytes
 
--- A file of this name was opened, and these bytes of it were read from its start.
+-- A file of this name was asked for and opened, and these bytes of it were read from its start.
 pub record ReadsFrom (before after : FilesSeen) (name bytes : List ℕ) : Type 0 where
+  pub asked : after.asked ≡ before.asked ++ name ∷ []
   pub there : before.content name ≢ Missing
   pub left : Option (List ℕ)
   pub consumes : Consumes (told_bytes (before.content name)) left bytes
