@@ -1,7 +1,7 @@
 -- Bytes told that grow.
 use Rattle.std.proofs.Common.{◌≡◌, ℕ, ◌+◌, List, ◌++◌, length, take, refl, sym, ap, ◌∙◌, Option, None, Some, take_all, take_at, le_refl, append_assoc, take-append-drop}
 use Rattle.std.specs.Prelude.{drop}
-use Rattle.std.specs.Io.KnownBytes.{Appends}
+use Rattle.std.specs.Io.KnownBytes.{Appends, Keeps}
 use Rattle.flow_base.specs.Bytes.{Grows}
 
 pub grows_same : (a : Option (List ℕ)) → Grows a a
@@ -29,3 +29,9 @@ grows_trans (Some xs) (Some ys) (Some zs) p q =
     let then : zs ≡ ys ++ drop (length ys) zs = appended ys zs (unwrapped q) in
     let both = then ∙ ap (λ l. l ++ drop (length ys) zs) first ∙ append_assoc xs (drop (length xs) ys) (drop (length ys) zs) in
     ap Some (ap (take (length xs)) both ∙ take_at xs (drop (length xs) ys ++ drop (length ys) zs) (length xs) refl)
+
+pub grows_kept : (a b c : Option (List ℕ)) → Grows a b → Keeps b c → Grows a c
+grows_kept None b c p kept = tt
+grows_kept (Some xs) None c p kept = cc
+grows_kept (Some xs) (Some ys) None p kept = elim kept [ ]
+grows_kept (Some xs) (Some ys) (Some zs) p kept = ap (λ l. Some (take (length xs) l)) kept ∙ p
