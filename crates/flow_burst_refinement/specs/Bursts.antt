@@ -107,5 +107,5 @@ module _ {A W : Type 0} (serves : Host W) (shows : A → Numbered ℕ → W → 
   abbrev pub BurstFollows : Type 0
   BurstFollows =
       (run : IsValidCode r code) → Branched code.classes.items → HostKeepsTime serves → TasksGo
-          → (ls : List Line) (m n : Process) (a b : A) (p : Proc Frame) (w : W) (e : Burst)
+      → (ls : List Line) (m n : Process) (a b : A) (p : Proc Frame) (w : W) (e : Burst)
       → RepresentsInWorld ls m a p w → Bursts serves shows wrote code processes m a e n b → SimulatesBurst ls a p w e n b

@@ -245,7 +245,7 @@ decls_sized all before (StructDecl r ∷ ds) ns e f h =
     let kept = no_item r.at (record_fault (known before) r) (neither_first (decl_refusal all (known before) (StructDecl r)) _ e) in
     behind_more before ds (StructDecl r)
     (decls_sized all (before ++ StructDecl r ∷ []) ds (with_size ns r) (neither_second (decl_refusal all (known before) (StructDecl r)) _ e)
-        (neither_second (large_record (too_large (record_size ns r)) r) _ f)
+    (neither_second (large_record (too_large (record_size ns r)) r) _ f)
     (sized_record before r ns kept (neither_first (large_record (too_large (record_size ns r)) r) _ f) h))
 decls_sized all before (FunctionDecl g ∷ ds) ns e f h =
     behind_more before ds (FunctionDecl g)

@@ -329,7 +329,7 @@ module _ (r : RawTree) {A : Type 0} (puts : A → Line → Result (Unit {0}) Out
               let there = heard_there r (ready m p.0).proc l.port k.0 g.held port in
               let sends = open_sends (was p).proc k.0 (thing (was p).proc.core.cells k.0) refl (open_at m.places p.0 up.heard k.0 (port_counts l.port k.0 (was p).proc.core.ports port)) in
               let kept : KeptWith p (arrive k.0 (packet l.from.0 l.port l.text)) =
-                      subst (λ y. GoesOn r puts (meaning_world.arrived n l.from.0 l.port l.text (ready m p.0) (now arrives) y)) (sym hears) (kept_as arrives c) in
+              subst (λ y. GoesOn r puts (meaning_world.arrived n l.from.0 l.port l.text (ready m p.0) (now arrives) y)) (sym hears) (kept_as arrives c) in
               does_sure (arrived n u) (now arrives) p arrived_begins (within arrives c) (Brings k stuck.0) b sends (subst (λ y. KeptWith p (arrive k.0 y)) (sym stuck.1) kept)
               (record { cell = there.cell; at = there.at; right = there.right }, subst (AllThere (was p).proc) (ap (λ y. refs_in (value_in (GoodOutcome y))) (sym stuck.1)) tt) stuck.2
 
@@ -339,7 +339,7 @@ module _ (r : RawTree) {A : Type 0} (puts : A → Line → Result (Unit {0}) Out
               let same : other ≡ l = same_of (sym on_way ∙ there) in
               taken b heard
               (doing.heard_is r puts m u (now arrives) p g a a Rested u l.port heard (here u (now arrives) p g (within arrives c))
-                  (subst (λ (y : Letter). HeardIn (slice_get u.places p.0) y.port heard) same hears))
+              (subst (λ (y : Letter). HeardIn (slice_get u.places p.0) y.port heard) same hears))
               (subst (λ y. TakenStuck puts heard p (numbered n y) (arrived n u) b) same stuck)
 
     -- the line that comes

@@ -75,5 +75,5 @@ countdown_typed rs fs vs e m cells now r f v is =
     (subst (λ (l : Locals). WellTyped (setting_with rs fs cells now) (named l) (call_f n)) (sym v)
     (subst (λ (fs : List RoutineTree). WellTyped (record { records = map record_of rs; functions = fs; cells = cells; now = pos now }) (named ((codes "n", IntValue m) ∷ [])) (call_f n)) (sym f)
     (subst (λ (rs : List RecordDecl). WellTyped (record { records = map record_of rs; functions = countdown ∷ []; cells = cells; now = pos now }) (named ((codes "n", IntValue m) ∷ [])) (call_f n))
-        (sym r)
+    (sym r)
     (example_typed cells (pos now) m))))

@@ -126,7 +126,7 @@ module _ (k : ℕ) (s : Setting) (run : Runner) (runs : RunsMore k run) where
         (λ v l m h. at_once_later k (field_answer (field s.records v x.name)) l m h)
     eval_later look (MethodExpr e m xs) left sum q =
         then_later k (λ v left. then (eval_all s run look xs left) (λ vs left. at_once (method_called s.cells (named method_names m.name) v vs) left)) (eval s run look e left) (eval s run look e sum)
-            (eval_later look e left sum q)
+        (eval_later look e left sum q)
         (λ v l n h. then_later k (λ vs left. at_once (method_called s.cells (named method_names m.name) v vs) left) (eval_all s run look xs l) (eval_all s run look xs n) (eval_all_later look xs l n h)
         (λ vs i j g. at_once_later k (method_called s.cells (named method_names m.name) v vs) i j g))
     eval_later look (NotExpr e) left sum q =
@@ -250,7 +250,7 @@ module _ (k : ℕ) (s : Setting) (run : Runner) (runs : RunsMore k run) where
   if_later : (e : ExprTree) (main other : Locals → ℕ → Run) → Runs k main → Runs k other → Runs k (if_run s run e main other)
   if_later e main other f g vars left sum q =
       valued_later vars (λ v left. chosen (bool_of v) main other vars left) (λ v l m h. chosen_later (bool_of v) main other f g vars l m h) (evaluated s run e vars left) (evaluated s run e vars sum)
-          (evaluated_later e vars left sum q)
+      (evaluated_later e vars left sum q)
 
   skip_later : Runs k skip
   skip_later vars left sum e = goes_later vars left sum e
@@ -273,18 +273,18 @@ module _ (k : ℕ) (s : Setting) (run : Runner) (runs : RunsMore k run) where
   throw_later None caught vars left sum q = rethrown_later caught vars left sum q
   throw_later (Some e) caught vars left sum q =
       valued_later vars (λ v left. thrown (error_of v) vars left) (λ v l m h. thrown_later (error_of v) vars l m h) (evaluated s run e vars left) (evaluated s run e vars sum)
-          (evaluated_later e vars left sum q)
+      (evaluated_later e vars left sum q)
 
   declare_later : (i : IntoTree) (e : Option ExprTree) → Runs k (declare_run s run i e)
   declare_later i None vars left sum q = declared_run_later (default_value i.ty) i.name.name vars left sum q
   declare_later i (Some e) vars left sum q =
       valued_later vars (λ v left. declared (Some v) i.name.name vars left) (λ v l m h. declared_run_later (Some v) i.name.name vars l m h) (evaluated s run e vars left) (evaluated s run e vars sum)
-          (evaluated_later e vars left sum q)
+      (evaluated_later e vars left sum q)
 
   assign_later : (xs : List Ident) (e : ExprTree) → Runs k (assign_run s run xs e)
   assign_later xs e vars left sum q =
       valued_later vars (λ v left. assigned (put_path s.records vars xs v) left) (λ v l m h. assigned_later (put_path s.records vars xs v) l m h) (evaluated s run e vars left)
-          (evaluated s run e vars sum) (evaluated_later e vars left sum q)
+      (evaluated s run e vars sum) (evaluated_later e vars left sum q)
 
   operand_later : (c : ChangeTree) (vars : Locals) (left sum : ℕ) → sum ≡ left + k → Later k (change_operand s run c vars left) (change_operand s run c vars sum)
   operand_later (PlusChange e) vars left sum q = evaluated_later e vars left sum q
@@ -330,13 +330,13 @@ module _ (k : ℕ) (s : Setting) (run : Runner) (runs : RunsMore k run) where
   exec_later (IfElseStmt at e b c n) caught =
       follow_later n caught (if_run s run e (scope (exec s run b caught)) (scope (exec s run c caught)))
       (if_later e (scope (exec s run b caught)) (scope (exec s run c caught)) (scope_later (exec s run b caught) (exec_later b caught)) (scope_later (exec s run c caught) (exec_later c caught)))
-          (exec_later n caught)
+      (exec_later n caught)
   exec_later (WhileStmt at e b n) caught = follow_later n caught (loop_run s run (Some e) skip (exec s run b caught)) (loop_later (Some e) skip (exec s run b caught) skip_later (exec_later b caught))
       (exec_later n caught)
   exec_later (ForStmt at i e t b n) caught =
       follow_later n caught (scope (for_run s run (exec s run i caught) e (exec s run t caught) (exec s run b caught)))
       (scope_later (for_run s run (exec s run i caught) e (exec s run t caught) (exec s run b caught))
-          (for_later (exec s run i caught) e (exec s run t caught) (exec s run b caught) (exec_later i caught) (exec_later t caught) (exec_later b caught))) (exec_later n caught)
+      (for_later (exec s run i caught) e (exec s run t caught) (exec s run b caught) (exec_later i caught) (exec_later t caught) (exec_later b caught))) (exec_later n caught)
   exec_later (LoopStmt at b n) caught = follow_later n caught (loop_run s run None skip (exec s run b caught)) (loop_later None skip (exec s run b caught) skip_later (exec_later b caught))
       (exec_later n caught)
   exec_later (BreakStmt at n) caught = λ vars left sum q. inl (ap (Breaks vars) q)
@@ -345,7 +345,7 @@ module _ (k : ℕ) (s : Setting) (run : Runner) (runs : RunsMore k run) where
   exec_later (ThrowStmt at e n) caught = follow_later n caught (throw_run s run e caught) (throw_later e caught) (exec_later n caught)
   exec_later (TryStmt at b q x h n) caught =
       follow_later n caught (try_run (exec s run b caught) x.name (exec s run h (Some x.name)))
-          (try_later (exec s run b caught) x.name (exec s run h (Some x.name)) (exec_later b caught) (exec_later h (Some x.name))) (exec_later n caught)
+      (try_later (exec s run b caught) x.name (exec s run h (Some x.name)) (exec_later b caught) (exec_later h (Some x.name))) (exec_later n caught)
   exec_later (ChooseStmt at bs n) caught = λ vars left sum q. inl refl
   exec_later (DeclareStmt at i e n) caught = follow_later n caught (declare_run s run i e) (declare_later i e) (exec_later n caught)
   exec_later (AssignStmt at xs e n) caught = follow_later n caught (assign_run s run xs e) (assign_later xs e) (exec_later n caught)

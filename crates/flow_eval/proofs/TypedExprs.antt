@@ -212,7 +212,7 @@ module _ (s : Setting) (typed : ℕ → TypeTree → Type 0) (actors : List Rout
             then_good (Are p.0) (Is t) (eval_all s run look xs left) (λ vs left. called s run (named call_names f.name) f.name vs left)
             (all_good xs p.0 left p.1 (and_right (not (effect_call scope f.name)) (all_without_effects scope xs) w))
             (λ vs left h. called_good (named call_names f.name) f.name vs p.0 t left runs
-                (not_true (effect_call scope f.name) (and_left (not (effect_call scope f.name)) (all_without_effects scope xs) w)) p.2 h)
+            (not_true (effect_call scope f.name) (and_left (not (effect_call scope f.name)) (all_without_effects scope xs) w)) p.2 h)
         eval_good (FieldExpr a x) t left e w =
             let p = with_typed (type_in scope a) (λ u. field_type s.records u x.name) t e in
             then_good (Is p.0) (Is t) (eval s run look a left) (λ v left. at_once (field_answer (field s.records v x.name)) left) (eval_good a p.0 left p.1 w)

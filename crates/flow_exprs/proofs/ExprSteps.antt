@@ -93,7 +93,7 @@ module _ (spots : List Spot) where
   go i S T k h t a f =
       let r = one_kind i S k h in
       r.2 ∙ ap (λ Q. turn i S Q (run (i + 1) Q (drop (i + 1) spots))) (t r.0 r.1) ∙ turn_alive i S T (run (i + 1) T (drop (i + 1) spots)) a
-          ∙ ap (λ b. cond b (run (i + 1) T (drop (i + 1) spots)) (DeepAt i)) f
+      ∙ ap (λ b. cond b (run (i + 1) T (drop (i + 1) spots)) (DeepAt i)) f
 
   deep : (i : ℕ) (S : State) (k : Kind) → kind_at spots i ≡ Some k → ((x : Spot) → Alive (step_kind S k x) × (fits (step_kind S k x) ≡ false)) → run i S (drop i spots) ≡ DeepAt i
   deep i S k h t =
@@ -437,7 +437,7 @@ module _ (spots : List Spot) where
     fits_in = omega (arith, r.fits_in);
     comes = λ K f. bracket_comes i d K h le f.depth_is f.fits_is ∙ r.comes (InParen K) (paren_fit d K le f.depth_is f.fits_is)
         ∙ go to (Have t (InParen K)) (Have (ParenExpr t) K) kind.Close c (λ x e. refl) tt
-            (and_true (hole K + suc (height t)) 65 (fits_stack K) (omega (arith, r.high_is, r.fits_in, f.depth_is)) f.fits_is);
+        (and_true (hole K + suc (height t)) 65 (fits_stack K) (omega (arith, r.high_is, r.fits_in, f.depth_is)) f.fits_is);
     stops = stops_eight (ParenExpr t) (kind_at spots (to + 1)) (λ e. tt);
   }
 
@@ -535,7 +535,7 @@ module _ (spots : List Spot) where
       let e1 : j + 1 + 1 ≡ j + 2 = omega arith in
       dot_comes j d t K h le hd fs
       ∙ go (j + 1) (WantName t K) (Have (FieldExpr t v) K) kind.Name (name_kind (j + 1) v n) (λ x e. ap (λ w. Have (FieldExpr t w) K) (ident_is (j + 1) v x n e)) tt
-          (and_true (hole K + suc (height t)) 65 (fits_stack K) (omega arith) fs)
+      (and_true (hole K + suc (height t)) 65 (fits_stack K) (omega arith) fs)
       ∙ ap (λ m. run m (Have (FieldExpr t v) K) (drop m spots)) e1
 
   pub field_goes : (j d : ℕ) (t : ExprTree) (high : ℕ) (v : Ident) → kind_at spots j ≡ Some kind.Dot → high ≡ height t → d + high ≤ 64 → ident_at spots (j + 1) ≡ Some v
@@ -692,8 +692,11 @@ module _ (spots : List Spot) where
   }
 
   args_fit : (d : ℕ) (h : Head) (ts : ExprTrees) (high : ℕ) (K : Stack) → high ≡ heights ts → d + 1 + high ≤ 65 → d + head_height h ≤ 64 → Fit 7 d K → Fit 0 (d + 1) (InArgs h ts K)
-  args_fit d h ts high K hi le b f = record { below = tt; depth_is = omega (arith, f.depth_is);
-      fits_is = and_true (hole K + max (head_height h) (heights ts)) 64 (fits_stack K) (omega (arith, f.depth_is)) f.fits_is }
+  args_fit d h ts high K hi le b f = record {
+    below = tt;
+    depth_is = omega (arith, f.depth_is);
+    fits_is = and_true (hole K + max (head_height h) (heights ts)) 64 (fits_stack K) (omega (arith, f.depth_is)) f.fits_is;
+  }
 
   pub args_refused : (i d : ℕ) (ts : ExprTrees) (high at : ℕ) (s : Stop) → Args i d ts high at → Refuses spots at 0 (d + 1) s → RefusesArgs spots i d s
   args_refused i d ts high at s a r h K f b = ends_is (run i (WantArgs h K) (drop i spots)) (run at (Want (InArgs h ts K)) (drop at spots)) s (a.comes h K f b)
@@ -723,7 +726,7 @@ module _ (spots : List Spot) where
         a.comes h K f b ∙ r.comes (InArgs h ts K) (args_fit d h ts high K a.high_is a.fits_in b f)
         ∙ go to (Have t (InArgs h ts K)) (Have (called h (push ts t)) K) kind.Close c (λ x e. refl) tt
         (and_true (hole K + height (called h (push ts t))) 65 (fits_stack K) (omega (arith, f.depth_is, a.high_is, a.fits_in, r.high_is, r.fits_in, heights_push ts t, called_height h (push ts t)))
-            f.fits_is);
+        f.fits_is);
   }
 
   args_stuck : (h : Head) (ts : ExprTrees) (t : ExprTree) (K : Stack) (k : Kind) (x : Spot) → KindStops 0 t k → (k ≡ kind.Close → ⊥) → (k ≡ kind.Comma → ⊥)

@@ -132,20 +132,20 @@ mutual
       let k1 = keep_first j (sign_at sign.OpenRound p) (args ++ sign_at sign.CloseRound q ∷ []) k.1 in
       let k2 = keep_append (j - 1) args (sign_at sign.CloseRound q ∷ []) k1.1 in
       let flat : spots_of args ++ (s ∷ rest) ≡ spots_of (args ++ sign_at sign.CloseRound q ∷ []) ++ rest =
-              sym (ap (λ z. z ++ rest) (spots_append args (sign_at sign.CloseRound q ∷ [])) ∙ append_assoc (spots_of args) (s ∷ []) rest) in
+      sym (ap (λ z. z ++ rest) (spots_append args (sign_at sign.CloseRound q ∷ [])) ∙ append_assoc (spots_of args) (s ∷ []) rest) in
       let i : suc j - suc (suc (length (args ++ sign_at sign.CloseRound q ∷ []))) ≡ j - 1 - length args - 1 = omega (arith, length-append args (sign_at sign.CloseRound q ∷ [])) in (
         and_true (hole K + 1) 65 (fits_stack K) (omega arith) fs,
         along_step j (Have (VarExpr h) K) (sign_spot sign.OpenRound p) (spots_of (args ++ sign_at sign.CloseRound q ∷ []) ++ rest) (λ z. and_true (hole K + 0) 64 (fits_stack K) (omega arith) fs)
             (subst (Along (j - 1) (WantArgs (Function h) K)) flat
             (fit_args r (Function h) K q rest (omega arith) fs (omega arith) (omega arith) (j - 1) k2.0
-                (λ m. along_is (suc j - suc (suc (length (args ++ sign_at sign.CloseRound q ∷ [])))) (j - 1 - length args - 1) (Have (CallExpr h ts) K) rest i (c (omega arith))))),
+            (λ m. along_is (suc j - suc (suc (length (args ++ sign_at sign.CloseRound q ∷ [])))) (j - 1 - length args - 1) (Have (CallExpr h ts) K) rest i (c (omega arith))))),
       ))
   fit {n} {d} {xs} (paren {t = t} p q of r e) K b hd fs j rest f = goal_is d (ParenExpr t) K j rest xs (node_sign d sign.OpenRound p ∷ (of ++ sign_at sign.CloseRound q ∷ [])) e (λ k c.
       let s = sign_spot sign.CloseRound q in
       let k1 = keep_first j (node_sign d sign.OpenRound p) (of ++ sign_at sign.CloseRound q ∷ []) k in
       let k2 = keep_append (j - 1) of (sign_at sign.CloseRound q ∷ []) k1.1 in
       let flat : spots_of of ++ (s ∷ rest) ≡ spots_of (of ++ sign_at sign.CloseRound q ∷ []) ++ rest =
-              sym (ap (λ z. z ++ rest) (spots_append of (sign_at sign.CloseRound q ∷ [])) ∙ append_assoc (spots_of of) (s ∷ []) rest) in
+      sym (ap (λ z. z ++ rest) (spots_append of (sign_at sign.CloseRound q ∷ [])) ∙ append_assoc (spots_of of) (s ∷ []) rest) in
       let i : j - suc (length (of ++ sign_at sign.CloseRound q ∷ [])) ≡ j - 1 - length of - 1 = omega (arith, length-append of (sign_at sign.CloseRound q ∷ [])) in
       let in_limit : 0 < j → hole K ≤ 64 = λ z. let w : d ≤ 64 = (k1.0 z).0 (omega arith) in omega arith in
       let fs' : 0 < j → nat_le (hole K) 64 && fits_stack K ≡ true = λ z. and_true (hole K) 64 (fits_stack K) (in_limit z) fs in
@@ -160,7 +160,7 @@ mutual
       let l = sign_at sign.Dot p ∷ name_at x ∷ [] in
       goal_is d (FieldExpr t x) K j rest xs (begin (Node d) of ++ l) e (λ k c.
       let flat : spots_of of ++ (spots_of l ++ rest) ≡ spots_of (begin (Node d) of ++ l) ++ rest =
-              sym (ap (λ z. z ++ rest) (spots_append (begin (Node d) of) l ∙ ap (λ z. z ++ spots_of l) (spots_begin (Node d) of)) ∙ append_assoc (spots_of of) (spots_of l) rest) in
+      sym (ap (λ z. z ++ rest) (spots_append (begin (Node d) of) l ∙ ap (λ z. z ++ spots_of l) (spots_begin (Node d) of)) ∙ append_assoc (spots_of of) (spots_of l) rest) in
       let k1 = keep_append j (begin (Node d) of) l k in
       let i : j - length (begin (Node d) of ++ l) ≡ j - length of - 1 - 1 = omega (arith, length-append (begin (Node d) of) l, length_begin (Node d) of) in
       subst (Along j (Want K)) flat
@@ -173,9 +173,9 @@ mutual
       let l = sign_at sign.Dot p ∷ name_at h ∷ sign_at sign.OpenRound q ∷ (args ++ cl) in
       goal_is d (MethodExpr t h ts) K j rest xs (begin (Node d) of ++ l) e (λ k c.
       let flat : spots_of of ++ (spots_of l ++ rest) ≡ spots_of (begin (Node d) of ++ l) ++ rest =
-              sym (ap (λ z. z ++ rest) (spots_append (begin (Node d) of) l ∙ ap (λ z. z ++ spots_of l) (spots_begin (Node d) of)) ∙ append_assoc (spots_of of) (spots_of l) rest) in
+      sym (ap (λ z. z ++ rest) (spots_append (begin (Node d) of) l ∙ ap (λ z. z ++ spots_of l) (spots_begin (Node d) of)) ∙ append_assoc (spots_of of) (spots_of l) rest) in
       let flat2 : spots_of args ++ (sign_spot sign.CloseRound s ∷ rest) ≡ spots_of (args ++ cl) ++ rest =
-              sym (ap (λ z. z ++ rest) (spots_append args cl) ∙ append_assoc (spots_of args) (sign_spot sign.CloseRound s ∷ []) rest) in
+      sym (ap (λ z. z ++ rest) (spots_append args cl) ∙ append_assoc (spots_of args) (sign_spot sign.CloseRound s ∷ []) rest) in
       let k1 = keep_append j (begin (Node d) of) l k in
       let w = j - length (begin (Node d) of) in
       let k2 = keep_first w (sign_at sign.Dot p) (name_at h ∷ sign_at sign.OpenRound q ∷ (args ++ cl)) k1.1 in
@@ -188,7 +188,7 @@ mutual
       (fit r K (below_seven K) (omega arith) fs j (spots_of l ++ rest) (tt, omega arith) (keep_begin j (Node d) of k1.0) (λ m.
       along_is w (j - length of) (Have t K) (spots_of l ++ rest) i0
       (along_step w (Have t K) (sign_spot sign.Dot p) (name_spot h ∷ (sign_spot sign.OpenRound q ∷ (spots_of (args ++ cl) ++ rest)))
-          (λ y. and_true (hole K + height t) 64 (fits_stack K) (omega arith) fs)
+      (λ y. and_true (hole K + height t) 64 (fits_stack K) (omega arith) fs)
       (along_step (w - 1) (WantName t K) (name_spot h) (sign_spot sign.OpenRound q ∷ (spots_of (args ++ cl) ++ rest)) (λ y. and_true (hole K + suc (height t)) 65 (fits_stack K) (omega arith) fs)
       (along_step (w - 1 - 1) (Have (FieldExpr t h) K) (sign_spot sign.OpenRound q) (spots_of (args ++ cl) ++ rest) (λ y. and_true (hole K + height t) 64 (fits_stack K) (omega arith) fs)
       (subst (Along (w - 1 - 1 - 1) (WantArgs (Method t h) K)) flat2
@@ -220,7 +220,7 @@ mutual
       let l = sign_at (op_sign op) p ∷ right in
       goal_is d (BinaryExpr op x y) K j rest xs (begin (Node d) left ++ l) e (λ k c.
       let flat : spots_of left ++ (spots_of l ++ rest) ≡ spots_of (begin (Node d) left ++ l) ++ rest =
-              sym (ap (λ z. z ++ rest) (spots_append (begin (Node d) left) l ∙ ap (λ z. z ++ spots_of l) (spots_begin (Node d) left)) ∙ append_assoc (spots_of left) (spots_of l) rest) in
+      sym (ap (λ z. z ++ rest) (spots_append (begin (Node d) left) l ∙ ap (λ z. z ++ spots_of l) (spots_begin (Node d) left)) ∙ append_assoc (spots_of left) (spots_of l) rest) in
       let b' = below_more n (level op) K b le in
       let k1 = keep_append j (begin (Node d) left) l k in
       let w = j - length (begin (Node d) left) in
@@ -246,7 +246,7 @@ mutual
   fit_args {d} {xs} (some_args {t = t} {ts = ts} first more r m e) h K q rest hd fs low hh j k c =
       let s = sign_spot sign.CloseRound q ∷ rest in
       let flat : spots_of first ++ (spots_of more ++ s) ≡ spots_of xs ++ s =
-              sym (ap (λ z. spots_of z ++ s) e ∙ ap (λ z. z ++ s) (spots_append first more) ∙ append_assoc (spots_of first) (spots_of more) s) in
+      sym (ap (λ z. spots_of z ++ s) e ∙ ap (λ z. z ++ s) (spots_append first more) ∙ append_assoc (spots_of first) (spots_of more) s) in
       let k1 = keep_append j first more (subst (FirstKeep j) e k) in
       let i : j - length xs - 1 ≡ j - length first - length more - 1 = omega (arith, ap length e, length-append first more) in
       let fs' : nat_le (hole K + max (head_height h) 0) 64 && fits_stack K ≡ true = and_true (hole K + max (head_height h) 0) 64 (fits_stack K) (omega arith) fs in
@@ -263,14 +263,14 @@ mutual
   fit_more {d} end_args h ts t K q rest hd fs hh hs j k c =
       let e = join_none (push ts t) in
       along_step j (Have t (InArgs h ts K)) (sign_spot sign.CloseRound q) rest
-          (λ y. and_true (hole K + height (called h (push ts t))) 65 (fits_stack K) (omega (arith, called_height h (push ts t))) fs)
+      (λ y. and_true (hole K + height (called h (push ts t))) 65 (fits_stack K) (omega (arith, called_height h (push ts t))) fs)
       (let i : j - 0 - 1 ≡ j - 1 = omega arith in along_is (j - 0 - 1) (j - 1) (Have (called h (push ts t)) K) rest i
       (subst (λ vs. Along (j - 0 - 1) (Have (called h vs) K) rest) e (c (subst (λ vs. d + heights vs ≤ 65) (sym e) hs))))
   fit_more {d} {xs} (more_args {t = u} {ts = us} p next more r m e) h ts t K q rest hd fs hh hs j k c =
       let s = sign_spot sign.CloseRound q ∷ rest in
       let flat : sign_spot sign.Comma p ∷ (spots_of next ++ (spots_of more ++ s)) ≡ spots_of xs ++ s =
-              sym (ap (λ z. spots_of z ++ s) e ∙ ap (λ z. sign_spot sign.Comma p ∷ (z ++ s)) (spots_append next more)
-              ∙ ap (λ z. sign_spot sign.Comma p ∷ z) (append_assoc (spots_of next) (spots_of more) s)) in
+      sym (ap (λ z. spots_of z ++ s) e ∙ ap (λ z. sign_spot sign.Comma p ∷ (z ++ s)) (spots_append next more)
+      ∙ ap (λ z. sign_spot sign.Comma p ∷ z) (append_assoc (spots_of next) (spots_of more) s)) in
       let k0 = keep_first j (sign_at sign.Comma p) (next ++ more) (subst (FirstKeep j) e k) in
       let k1 = keep_append (j - 1) next more k0.1 in
       let i : j - length xs - 1 ≡ j - 1 - length next - length more - 1 = omega (arith, ap length e, length-append next more) in

@@ -180,8 +180,14 @@ name_step base t K _ toks x p e f = tt
 
 round_step : (base : ℕ) (K : Stack) (k : Kind) (toks : List Spot) (x : Token) (p : Place) → KindSpot k x p → HasRead base (WantOpen K) toks
     → HasRead base (step_kind (WantOpen K) k (spot x p)) (toks ++ spot x p ∷ [])
-round_step base K kind.Open toks x p e f = (f.0, f.1, p, f.2, ap (λ y. toks ++ spot y p ∷ []) e ∙ ap (λ z. z ++ sign_spot sign.OpenRound p ∷ []) f.3
-    ∙ append_assoc f.0 (spot (token.Word word.Void) f.1 ∷ []) (sign_spot sign.OpenRound p ∷ []))
+round_step base K kind.Open toks x p e f = (
+  f.0,
+  f.1,
+  p,
+  f.2,
+  ap (λ y. toks ++ spot y p ∷ []) e ∙ ap (λ z. z ++ sign_spot sign.OpenRound p ∷ []) f.3
+      ∙ append_assoc f.0 (spot (token.Word word.Void) f.1 ∷ []) (sign_spot sign.OpenRound p ∷ []),
+)
 round_step base K _ toks x p e f = tt
 
 shut_step : (base : ℕ) (K : Stack) (k : Kind) (toks : List Spot) (x : Token) (p : Place) → KindSpot k x p → HasRead base (WantClose K) toks
@@ -266,8 +272,8 @@ plug n base (InArgs c ts K) front f h t read rest r k =
     let shut = sign_at sign.CloseRound (record { line = 0; column = 0; byte = 0 }) ∷ [] in
     let args = y.rule (read ++ rest) [] t NoExprs r end_args in
     let args' : ArgsRule (suc (hole K)) (y.marked ++ (read ++ rest)) (push ts t) =
-            subst (λ z. ArgsRule (suc (hole K)) (y.marked ++ z) (push ts t)) (append-nil (read ++ rest))
-            (subst (λ z. ArgsRule (suc (hole K)) (y.marked ++ ((read ++ rest) ++ [])) z) (join_none (push ts t)) args) in
+    subst (λ z. ArgsRule (suc (hole K)) (y.marked ++ z) (push ts t)) (append-nil (read ++ rest))
+    (subst (λ z. ArgsRule (suc (hole K)) (y.marked ++ ((read ++ rest) ++ [])) z) (join_none (push ts t)) args) in
     let flat : x.marked ++ ((y.marked ++ (read ++ rest)) ++ shut) ≡ (x.marked ++ (y.marked ++ read)) ++ (rest ++ shut) = simp append_assoc in
     let g = plug n base K a f.3 (λ i. and_right (nat_le bound 64) (fits_stack K) (h i)) (called c (push ts t)) (x.marked ++ (y.marked ++ read)) (rest ++ shut)
     (subst (λ z. ExprRule (need K) (hole K) z (called c (push ts t))) flat (x.rule (need K) (record { line = 0; column = 0; byte = 0 }) (y.marked ++ (read ++ rest)) (push ts t) args'))

@@ -121,7 +121,7 @@ pub call_some : (m d : ℕ) (h : Head) (ts : ExprTrees) (t : ExprTree) (a b c : 
 call_some m d h ts t a b c p x y o =
     let r = y.rule o.marked [] t NoExprs o.rule end_args in
     let r' : ArgsRule (suc d) (y.marked ++ o.marked) (push ts t) =
-            subst (λ z. ArgsRule (suc d) (y.marked ++ z) (push ts t)) (append-nil o.marked) (subst (λ z. ArgsRule (suc d) (y.marked ++ (o.marked ++ [])) z) (join_none (push ts t)) r) in
+    subst (λ z. ArgsRule (suc d) (y.marked ++ z) (push ts t)) (append-nil o.marked) (subst (λ z. ArgsRule (suc d) (y.marked ++ (o.marked ++ [])) z) (join_none (push ts t)) r) in
     record {
       marked = x.marked ++ ((y.marked ++ o.marked) ++ sign_at sign.CloseRound p ∷ []);
       rule = x.rule m p (y.marked ++ o.marked) (push ts t) r';
@@ -133,7 +133,7 @@ call_some m d h ts t a b c p x y o =
       keeps = λ n e. keeps_append n x.marked ((y.marked ++ o.marked) ++ sign_at sign.CloseRound p ∷ []) (x.keeps n (λ i. omega (arith, e i, called_height h (push ts t))))
           (keeps_append n (y.marked ++ o.marked) (sign_at sign.CloseRound p ∷ [])
           (keeps_append n y.marked o.marked (y.keeps n (λ i. omega (arith, e i, called_height h (push ts t), heights_push ts t)))
-              (o.keeps n (λ i. omega (arith, e i, called_height h (push ts t), heights_push ts t)))) (tt, tt));
+          (o.keeps n (λ i. omega (arith, e i, called_height h (push ts t), heights_push ts t)))) (tt, tt));
     }
 
 -- what is called

@@ -95,8 +95,12 @@ sign_type_spot sign.Greater p = refl
 sign_type_spot _ p = tt
 
 type_spot : (x : Token) (p : Place) → TypeSpot (type_kind_of x) x p
-type_spot (token.Name n) p = λ d. record { marked = node_name d (record { name = n; at = p }) ∷ []; rule = named_type (record { name = n; at = p }); is = refl;
-    keeps = λ i h. (((λ l. omega (arith, h l)), tt), tt) }
+type_spot (token.Name n) p = λ d. record {
+  marked = node_name d (record { name = n; at = p }) ∷ [];
+  rule = named_type (record { name = n; at = p });
+  is = refl;
+  keeps = λ i h. (((λ l. omega (arith, h l)), tt), tt);
+}
 type_spot (token.Word w) p = word_type_spot w p
 type_spot (token.Sign s) p = sign_type_spot s p
 type_spot (token.Number n) p = tt
@@ -123,8 +127,14 @@ type_kind_step base (WantType K) FutureStream toks x p e f = (toks, p, f, ap (λ
 type_kind_step base (WantType K) Promise toks x p e f = (toks, p, f, ap (λ y. toks ++ spot y p ∷ []) e)
 type_kind_step base (WantType K) PromiseStream toks x p e f = (toks, p, f, ap (λ y. toks ++ spot y p ∷ []) e)
 type_kind_step base (WantType K) _ toks x p e f = tt
-type_kind_step base (WantLess w K) Less toks x p e f = (f.0, f.1, p, f.2, ap (λ y. toks ++ spot y p ∷ []) e ∙ ap (λ z. z ++ sign_spot sign.Less p ∷ []) f.3
-    ∙ append_assoc f.0 (word_spot (wrapper_word w) f.1 ∷ []) (sign_spot sign.Less p ∷ []))
+type_kind_step base (WantLess w K) Less toks x p e f = (
+  f.0,
+  f.1,
+  p,
+  f.2,
+  ap (λ y. toks ++ spot y p ∷ []) e ∙ ap (λ z. z ++ sign_spot sign.Less p ∷ []) f.3
+      ∙ append_assoc f.0 (word_spot (wrapper_word w) f.1 ∷ []) (sign_spot sign.Less p ∷ []),
+)
 type_kind_step base (WantLess w K) _ toks x p e f = tt
 type_kind_step base (HaveType t K) Greater toks x p e f = greater_step base t K toks x p e f
 type_kind_step base (HaveType t K) _ toks x p e f = tt
@@ -163,7 +173,7 @@ plug_type n base (Inside w K) front f h t read rest r k =
     (wrapped_type w p q nowhere (read ++ rest) r (ap (λ z. head ++ z) (sym (append_assoc read rest (sign_at sign.Greater nowhere ∷ [])))))
     (((λ l. le_true (type_hole K) 64 (and_left (nat_le (type_hole K) 64) (around_fits K) (h l))), tt), (tt, k)) in
     let e : a ++ (word_spot (wrapper_word w) p ∷ sign_spot sign.Less q ∷ spots_of read) ≡ front ++ spots_of read =
-            sym (ap (λ z. z ++ spots_of read) f.4 ∙ append_assoc a (word_spot (wrapper_word w) p ∷ sign_spot sign.Less q ∷ []) (spots_of read)) in
+    sym (ap (λ z. z ++ spots_of read) f.4 ∙ append_assoc a (word_spot (wrapper_word w) p ∷ sign_spot sign.Less q ∷ []) (spots_of read)) in
     subst (Good (TypeRule base) n) e g
 
 good_type : (n base : ℕ) (S : TypeState) (toks : List Spot) → HasReadType base S toks → AliveType S → (5 ≤ n → type_fits S ≡ true) → Good (TypeRule base) n toks
@@ -174,7 +184,7 @@ good_type n base (WantLess w K) toks f a h =
     let d = type_hole K in
     let head = node_word d (wrapper_word w) f.1 ∷ [] in
     let g = plug_type n base K f.0 f.2 (λ l. and_right (nat_le d 64) (around_fits K) (h l)) (wrapped w IntType) head
-            (sign_at sign.Less nowhere ∷ node_word (suc d) word.Int nowhere ∷ sign_at sign.Greater nowhere ∷ [])
+    (sign_at sign.Less nowhere ∷ node_word (suc d) word.Int nowhere ∷ sign_at sign.Greater nowhere ∷ [])
     (wrapped_type w f.1 nowhere nowhere (node_word (suc d) word.Int nowhere ∷ []) (int_type nowhere) refl)
     (((λ l. le_true d 64 (and_left (nat_le d 64) (around_fits K) (h l))), tt), tt) in
     subst (Good (TypeRule base) n) (sym f.3) g
@@ -182,7 +192,7 @@ good_type n base (HaveType t K) toks f a h =
     let o = f.rule (type_hole K) in
     let b : 5 ≤ n → type_hole K + type_height t ≤ 65 = λ i. le_true (type_hole K + type_height t) 65 (and_left (nat_le (type_hole K + type_height t) 65) (around_fits K) (h i)) in
     let g = plug_type n base K f.front f.around (λ i. and_right (nat_le (type_hole K + type_height t) 65) (around_fits K) (h i)) t o.marked []
-            (subst (λ z. TypeRule (type_hole K) z t) (sym (append-nil o.marked)) o.rule) (o.keeps n b) in
+    (subst (λ z. TypeRule (type_hole K) z t) (sym (append-nil o.marked)) o.rule) (o.keeps n b) in
     subst (Good (TypeRule base) n) (ap (λ z. f.front ++ z) o.is ∙ sym f.is) g
 good_type n base DeadType toks f a h = absurd a
 
@@ -247,7 +257,7 @@ fit_type {d} {xs} (wrapped_type {t = t} w p q r of rule e) K hd fs j rest k c =
     let tail = of ++ sign_at sign.Greater r ∷ [] in
     let whole = node_word d (wrapper_word w) p ∷ sign_at sign.Less q ∷ tail in
     let flat : word_spot (wrapper_word w) p ∷ sign_spot sign.Less q ∷ (spots_of of ++ (sign_spot sign.Greater r ∷ rest)) ≡ spots_of xs ++ rest =
-            sym (ap (λ z. spots_of z ++ rest) e ∙ inner_flat w d p q r of rest) in
+    sym (ap (λ z. spots_of z ++ rest) e ∙ inner_flat w d p q r of rest) in
     let k1 = keep_first j (node_word d (wrapper_word w) p) (sign_at sign.Less q ∷ tail) (subst (FirstKeep j) e k) in
     let k2 = keep_first (j - 1) (sign_at sign.Less q) tail k1.1 in
     let k3 = keep_append (j - 1 - 1) of (sign_at sign.Greater r ∷ []) k2.1 in
@@ -331,7 +341,7 @@ runs_type (x ∷ xs) S k a f =
         })
         | inl okay ↦
             let same : type_run k S (x ∷ xs) ≡ type_run (suc k) (type_step S x) xs =
-                    type_turn_alive k S (type_step S x) (type_run (suc k) (type_step S x) xs) l ∙ ap (λ b. cond b (type_run (suc k) (type_step S x) xs) (TypeDeep k)) okay in
+            type_turn_alive k S (type_step S x) (type_run (suc k) (type_step S x) xs) l ∙ ap (λ b. cond b (type_run (suc k) (type_step S x) xs) (TypeDeep k)) okay in
             elim (runs_type xs (type_step S x) (suc k) l okay) [
               | inl h ↦ inl (record {
                 count = suc h.count;
@@ -364,7 +374,7 @@ dead_bad_type : (d n : ℕ) (toks : List Spot) → feed_type (WantType (Bottom d
 dead_bad_type d n toks e g =
     let flat : spots_of (g.read ++ g.rest) ≡ toks ++ spots_of g.rest = spots_append g.read g.rest ∙ ap (λ z. z ++ spots_of g.rest) g.is in
     let dead : feed_type (WantType (Bottom d)) (toks ++ spots_of g.rest) ≡ DeadType =
-            feed_append_type toks (spots_of g.rest) (WantType (Bottom d)) ∙ ap (λ S. feed_type S (spots_of g.rest)) e ∙ feed_dead_type (spots_of g.rest) in
+    feed_append_type toks (spots_of g.rest) (WantType (Bottom d)) ∙ ap (λ S. feed_type S (spots_of g.rest)) e ∙ feed_dead_type (spots_of g.rest) in
     dead_have g.tree (Bottom d) (sym (ap (feed_type (WantType (Bottom d))) flat ∙ dead) ∙ type_settles g.rule)
 
 along_feed : (ys zs : List Spot) (S : TypeState) → type_fits S ≡ true → AlongType (length ys) S (ys ++ zs) → type_fits (feed_type S ys) ≡ true

@@ -58,7 +58,7 @@ module _ (spots : List Spot) where
   go i S T k h t a f =
       let r = one_kind i S k h in
       r.2 ∙ ap (λ Q. type_turn i S Q (type_run (i + 1) Q (drop (i + 1) spots))) (t r.0 r.1) ∙ type_turn_alive i S T (type_run (i + 1) T (drop (i + 1) spots)) a
-          ∙ ap (λ b. cond b (type_run (i + 1) T (drop (i + 1) spots)) (TypeDeep i)) f
+      ∙ ap (λ b. cond b (type_run (i + 1) T (drop (i + 1) spots)) (TypeDeep i)) f
 
   deep : (i : ℕ) (S : TypeState) (k : TypeKind) → type_kind_at spots i ≡ Some k → ((x : Spot) → AliveType (type_step_kind S k x) × (type_fits (type_step_kind S k x) ≡ false))
       → type_run i S (drop i spots) ≡ TypeDeep i
@@ -225,7 +225,7 @@ module _ (spots : List Spot) where
     comes = λ K f.
         inside_comes i d k K h w le l f ∙ r.comes (Inside (wrapper_of k) K) (inside_fit d (wrapper_of k) K le f)
         ∙ go to (HaveType t (Inside (wrapper_of k) K)) (HaveType (wrapped_by k t) K) kind.Greater n (λ x e. refl) tt
-            (and_true (type_hole K + type_height (wrapped_by k t)) 65 (around_fits K) (omega (arith, r.fits_in, f.depth_is, wrapped_height (wrapper_of k) t)) f.fits_is);
+        (and_true (type_hole K + type_height (wrapped_by k t)) 65 (around_fits K) (omega (arith, r.fits_in, f.depth_is, wrapped_height (wrapper_of k) t)) f.fits_is);
   })
 
   -- the whole

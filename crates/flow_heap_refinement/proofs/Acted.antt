@@ -154,7 +154,7 @@ module _ (r : RawTree) (h : HeapTree) (p : Proc Frame) where
         actors = subst (λ x. ActorsRepresent r (stored.added h.actors.things x (new_note (Some (cell_id k)))) (stored.added h.frames.things x (fresh class places)) (added p.core.entries i g)
             (added p.actors i f)) (sym s.started)
             (actor_added r h.actors.things h.frames.things p.core.entries p.actors s.actors i (none_above p.core.entries 0 p.core.started i rising (omega arith)) (new_note (Some (cell_id k)))
-                (fresh class places) g f
+            (fresh class places) g f
             (new_actor class places k c e n));
         tasks = tasks_aside spots (spot_of_actor (added p.actors i f)) kept (λ j. kept_by (thing (added p.core.entries i g) j)) i (other_new g f) h.tasks p.core.tasks free.keeps s.tasks;
         made = same_made k (stored.thing h.cells.things k) ∙ s.made;

@@ -41,7 +41,7 @@ module _ (r : RawTree) (h : HeapTree) (p : Proc Frame) where
   pub alive_shown : law.AliveShown r h p
   alive_shown s counted alive k c at =
       let a = counted_there (stored.thing h.cells.things k) (stored.thing h.streams.things k) (spot_of_actor p.actors) c
-              (subst (CellRepresents (spot_of_actor p.actors) (stored.thing h.cells.things k) (stored.thing h.streams.things k)) at (s.cells k)) (alive k) in
+      (subst (CellRepresents (spot_of_actor p.actors) (stored.thing h.cells.things k) (stored.thing h.streams.things k)) at (s.cells k)) (alive k) in
       let b = counted PromiseSide k in
       let d = counted FutureSide k in omega (arith, a, b, d)
 

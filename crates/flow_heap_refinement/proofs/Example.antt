@@ -29,11 +29,11 @@ shown : Represents waiting_classes waiting_heap waiting_process
 shown = record {
   cells =
       one_two (λ k. CellRepresents (spot_of_actor waiting_process.actors) (stored.thing waiting_heap.cells.things k) (stored.thing waiting_heap.streams.things k) (thing waiting_process.core.cells k))
-          (refl, refl) (refl, refl)
+      (refl, refl) (refl, refl)
       (λ k a b. rw (a, b) tt);
   actors =
       one_two (λ i. ActorRepresents waiting_classes (stored.thing waiting_heap.actors.things i) (stored.thing waiting_heap.frames.things i) (thing waiting_process.core.entries i)
-          (thing waiting_process.actors i))
+      (thing waiting_process.actors i))
       (somebody (record {
         note = _;
         memory = _;
@@ -71,7 +71,7 @@ agree i =
     (one_two (λ k. branches_of 1 (waiters_at (thing waiting_process.core.cells k)) ≡ branches_at k 0 (waiting_of (thing waiting_process.core.entries 1))) refl refl (λ k a b. rw (a, b) (not_two k b)))
     (one_two (λ k. branches_of 2 (waiters_at (thing waiting_process.core.cells k)) ≡ branches_at k 0 (waiting_of (thing waiting_process.core.entries 2))) refl refl (λ k a b. rw (a, b) refl))
     (λ i c d. one_two (λ k. branches_of i (waiters_at (thing waiting_process.core.cells k)) ≡ branches_at k 0 (waiting_of (thing waiting_process.core.entries i))) (rw c refl) (rw (c, turned i c) refl)
-        (λ k a b. rw (a, b, c) refl)) i
+    (λ k a b. rw (a, b, c) refl)) i
   where
     turned : (i : ℕ) → nat_eq i 1 ≡ false → nat_eq 1 i ≡ false
     turned i e = grind (arith, nat_tests)

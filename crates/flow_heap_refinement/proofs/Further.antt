@@ -131,7 +131,7 @@ cancel_references p s j i e at w = by_flag e.suspended
     marked_agree =
         agree_by p.core q.core (λ k. refl)
         (each_number i (λ j. waiting_of (thing (put p.core.entries i (marked e)) j) ≡ waiting_of (thing p.core.entries j))
-            (ap waiting_of (thing_put p.core.entries i e (marked e) at) ∙ sym (ap waiting_of at))
+        (ap waiting_of (thing_put p.core.entries i e (marked e) at) ∙ sym (ap waiting_of at))
         (λ j n. ap waiting_of (thing_put_other p.core.entries i j (marked e) n))) w.agree
 
     by_flag : (b : Bool) → references s j (on_core (λ c. cancel_by b i e (writes (cancel_line i) c)) p) ≡ references s j p
@@ -141,7 +141,7 @@ cancel_references p s j i e at w = by_flag e.suspended
         let t = on_core (pushed (Throw i operation_cancelled)) q in
         let b = of_left t s j i (marked e) (thing_put p.core.entries i e (marked e) at) marked_agree (w.kinds i e at) w.cells in
         let c = ap (λ es. references s j (proc (record p.core { cells = left_cells i p.core.cells; entries = es; tasks = drops e.operands (Throw i operation_cancelled ∷ p.core.tasks) }) p.actors))
-                (put_twice p.core.entries i (marked e) (running (marked e))) in
+        (put_twice p.core.entries i (marked e) (running (marked e))) in
         omega (arith, a, b, c)
 
 module _ (r : RawTree) (h : HeapTree) (p : Proc Frame) where
@@ -186,7 +186,7 @@ module _ (r : RawTree) (h : HeapTree) (p : Proc Frame) where
       → Same r (filled_in kd k (outcome.Error (record { 0 = broken_promise })) g) (on_core (suffer k Broken) p)
   broken_done g kd k n c s at t open_ left =
       subst (λ m. Same r (filled_in kd k (outcome.Error (record { 0 = broken_promise })) g) (on_core (λ d. turn_of m d (λ d. fill k (BadOutcome broken_promise) (writes (broken_line k) d))) p))
-          (sym left)
+      (sym left)
       (same_of (filled_in kd k (outcome.Error (record { 0 = broken_promise })) g) (on_core (fill k (BadOutcome broken_promise)) q)
       (filled_holds r g q nothing_in_hand kd k c (outcome.Error (record { 0 = broken_promise }))
       (as_many r g q nothing_in_hand (with_refs [] nothing_in_hand) (λ s j. omega arith) (record { shows = aside r g p (writes (broken_line k) p.core).lines n s.0; counted = s.1 })) at t open_))

@@ -125,7 +125,7 @@ module _ (h : HeapTree) (s : Side) where
   new_stream_keeps j a b =
       each_number (next_cell h) (λ j. kept_count s j (with_stream (next_cell h) h) ≡ kept_count s j h)
       (ap (λ o. count_at s o (stored.thing (stored.added h.streams.things (next_cell h) empty) (next_cell h))) a ∙ ap (count_at s None) (stored_new h.streams.things (next_cell h) empty b) ∙ zero_of s
-          ∙ sym (none_kept (next_cell h) a b))
+      ∙ sym (none_kept (next_cell h) a b))
       (λ j d. ap (count_at s (stored.thing h.cells.things j)) (stored_added h.streams.things (next_cell h) j empty d)) j
     where
       none_kept : (k : ℕ) → stored.thing h.cells.things k ≡ None → stored.thing h.streams.things k ≡ None → kept_count s k h ≡ 0
@@ -135,14 +135,14 @@ module _ (h : HeapTree) (s : Side) where
   cell_freed j k m e f c r =
       each_number k (λ j. kept_count s j (record h { cells = without h.cells k }) ≡ kept_count s j h)
       (ap (λ o. count_at s o (stored.thing h.streams.things k)) (stored_gone h.cells.things h.cells.greatest k r) ∙ ap (count_at s None) f
-          ∙ sym (cell_is k m e ∙ ap (count_of (memory_side s)) c ∙ zero_of s))
+      ∙ sym (cell_is k m e ∙ ap (count_of (memory_side s)) c ∙ zero_of s))
       (λ j d. ap (λ o. count_at s o (stored.thing h.streams.things j)) (stored_removed h.cells.things k j d)) j
 
   pub stream_freed : (j : ℕ) → of.StreamFreed h s j
   stream_freed j k m f e c r =
       each_number k (λ j. kept_count s j (record h { streams = without h.streams k }) ≡ kept_count s j h)
       (ap (λ o. count_at s o (stored.thing (stored.removed h.streams.things k) k)) f ∙ ap (count_at s None) (stored_gone h.streams.things h.streams.greatest k r)
-          ∙ sym (stream_is k m f e ∙ ap (count_of (memory_side s)) c ∙ zero_of s))
+      ∙ sym (stream_is k m f e ∙ ap (count_of (memory_side s)) c ∙ zero_of s))
       (λ j d. ap (count_at s (stored.thing h.cells.things j)) (stored_removed h.streams.things k j d)) j
 
 -- a reference to one cell is none to another

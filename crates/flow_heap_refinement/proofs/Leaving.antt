@@ -183,7 +183,7 @@ module _ (spots : ℕ → Spot) (i b : ℕ) where
       by_actor true g =
           let same : w.actor ≡ i = grind (arith, nat_tests) in
           let e : nat_eq ((spots w.actor).first + w.branch) ((spots i).first + b) ≡ nat_eq w.branch b =
-                  ap (λ a. nat_eq ((spots a).first + w.branch) ((spots i).first + b)) same ∙ shifted (spots i).first w.branch b in
+          ap (λ a. nat_eq ((spots a).first + w.branch) ((spots i).first + b)) same ∙ shifted (spots i).first w.branch b in
           ap (λ x. nat_eq w.actor i && x) e
         where
           shifted : (n x y : ℕ) → nat_eq (n + x) (n + y) ≡ nat_eq x y
@@ -198,9 +198,9 @@ module _ (spots : ℕ → Spot) (i b : ℕ) where
   without_as [] = refl
   without_as (w ∷ ws) =
       ap (λ x. if x then waiter_in spots w ∷ without_newest (map (waiter_in spots) ws) (waiter_in spots gone) else if same_waiter (waiter_in spots w) (waiter_in spots gone) then map
-          (waiter_in spots) ws else waiter_in spots w ∷ map (waiter_in spots) ws) (has_as ws)
+      (waiter_in spots) ws else waiter_in spots w ∷ map (waiter_in spots) ws) (has_as ws)
       ∙ ap (λ x. if has_branch ws i b then waiter_in spots w ∷ without_newest (map (waiter_in spots) ws) (waiter_in spots gone) else if x then map (waiter_in spots) ws else waiter_in spots w
-          ∷ map (waiter_in spots) ws) (same_as w)
+      ∷ map (waiter_in spots) ws) (same_as w)
       ∙ by_tests (has_branch ws i b) (is_branch i b w) (without_as ws)
     where
       by_tests : (q t : Bool) → without_newest (map (waiter_in spots) ws) (waiter_in spots gone) ≡ map (waiter_in spots) (without_branch ws i b)

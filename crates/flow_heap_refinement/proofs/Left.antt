@@ -180,7 +180,7 @@ module _ (r : RawTree) (h : HeapTree) (p : Proc Frame) where
             (cell_left i k may.many at.entry.operands (thing p.core.cells k) (may.waits k) ∙ sym (found_left i p.core.cells k)) (l.cells k);
         actors = λ j. rw (l.beside.actors, l.beside.frames)
             (entry_put r h.actors.things h.frames.things p.core.entries p.actors s.actors i at (record at.memory { callbacks = [] }) (running at.entry)
-                (runs r at.note at.memory at.entry at.frame at.same) j);
+            (runs r at.note at.memory at.entry at.frame at.same) j);
         tasks = l.tasks;
         made = rw (l.beside.made, l.beside.cells, l.beside.streams) s.made;
         started = rw (l.beside.actors, l.beside.frames) s.started;

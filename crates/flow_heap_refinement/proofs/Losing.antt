@@ -231,7 +231,7 @@ module _ (r : RawTree) (h : HeapTree) (p : Proc Frame) (kd : Kind) (k : ℕ) (o 
   single_follows =
       subst (λ x. LossMatches r p k (drop_cell (memory_side sd) k h x) (loss sd P F (Single o ws) (owner k p.core.entries) (port_of k p.core.ports))) (sym at)
       (subst (λ c. LossMatches r p k (cell_lost k (cell_less (memory_side sd) m) h (counts.loss (memory_side sd) c)) (loss sd P F (Single o ws) (owner k p.core.entries) (port_of k p.core.ports)))
-          (sym less_is)
+      (sym less_is)
       (by_counts sd refl P F refl refl))
 
   -- and it may be dropped

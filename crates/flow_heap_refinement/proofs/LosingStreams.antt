@@ -158,7 +158,7 @@ module _ (r : RawTree) (h : HeapTree) (p : Proc Frame) (kd : Kind) (k : ℕ) (q 
     unheard = subst (Same r (gone_heap (without_port k h))) (gone_is unported l.cell) (
       values_shown r (record (without_port k h) { streams = without h.streams k }) (on_core (without_cell k) unported) m.queue
           (stream_is_gone r (without_port k h) unported k m (port_gone r h p port k l.shows mine (one_each p.core.ports 0 p.core.made l.numbers.ports) (l.sorted.ports k)) at l.sorted.streams
-              l.numbers.cells),
+          l.numbers.cells),
       λ s j. let a = by_number s j in let b = same_references unported l.cell fz s j in omega (arith, a, b),
     )
       where
@@ -184,7 +184,7 @@ module _ (r : RawTree) (h : HeapTree) (p : Proc Frame) (kd : Kind) (k : ℕ) (q 
   orphan fz =
       subst (λ y. LossMatches r p k (lost.unheard k (stream_less (memory_side sd) m) h (has_number h.ports k)) (futures_gone y (port_of k p.core.ports))) (sym (no_owner (owner k p.core.entries) refl))
       (subst (λ b. LossMatches r p k (lost.unheard k (stream_less (memory_side sd) m) h b) (futures_gone None (port_of k p.core.ports))) (sym (l.shows.ports k))
-          (by_port (port_of k p.core.ports) refl))
+      (by_port (port_of k p.core.ports) refl))
     where
       by_port : (y : Option ℕ) → port_of k p.core.ports ≡ y → LossMatches r p k (lost.unheard k (stream_less (memory_side sd) m) h (is_some y)) (futures_gone None y)
       by_port None e = stays
@@ -207,7 +207,7 @@ module _ (r : RawTree) (h : HeapTree) (p : Proc Frame) (kd : Kind) (k : ℕ) (q 
   stream_follows =
       subst (λ y. LossMatches r p k (drop_stream (memory_side sd) k h y) (loss sd P F cell (owner k p.core.entries) (port_of k p.core.ports))) (sym at)
       (subst (λ c. LossMatches r p k (stream_lost k (stream_less (memory_side sd) m) h (counts.loss (memory_side sd) c)) (loss sd P F cell (owner k p.core.entries) (port_of k p.core.ports)))
-          (sym less_is)
+      (sym less_is)
       (by_counts sd refl P F refl refl))
 
   -- and it may be dropped

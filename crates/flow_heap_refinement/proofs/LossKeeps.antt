@@ -71,7 +71,7 @@ module _ (r : RawTree) (h : HeapTree) (p : Proc Frame) (kd : Kind) (k : ℕ) (o 
   gone_alive a =
       each_number k (λ j. AliveAt (stored.thing (stored.removed h.cells.things k) j) (stored.thing h.streams.things j))
       (subst (λ x. AliveAt x (stored.thing h.streams.things k)) (sym (stored_gone h.cells.things h.cells.greatest k l.sorted.cells))
-          (subst (AliveAt None) (sym (one_cell.single r h p kd k o ws l m at).no_stream) tt))
+      (subst (AliveAt None) (sym (one_cell.single r h p kd k o ws l m at).no_stream) tt))
       (λ j d. subst (λ x. AliveAt x (stored.thing h.streams.things j)) (sym (stored_removed h.cells.things k j d)) (a j))
 
   alive_by : (side : Side) (a b : ℕ) → P ≡ a → F ≡ b → Alive h → Alive (cell_lost k less h (counts.loss (memory_side side) (record { promises = a; futures = b }))).0
@@ -177,7 +177,7 @@ module _ (r : RawTree) (h : HeapTree) (p : Proc Frame) (kd : Kind) (k : ℕ) (o 
           let few : in_entries PromiseSide k p.core.entries ≤ 1 = let z = a.one_promise in omega (arith, z) in
           let id : i ≡ y = one_owner k i y a.entry b.entry p.core.entries few a.there b.there a.result b.result in
           subst (λ z. cancel_if_not z (stored.thing h.actors.things z) ≡ dropped.Cancel (actor_id i)) id
-              (ap (cancel_if_not i) e ∙ ap (λ t. if t then dropped.Nothing else dropped.Cancel (actor_id i)) u)
+          (ap (cancel_if_not i) e ∙ ap (λ t. if t then dropped.Nothing else dropped.Cancel (actor_id i)) u)
         where
           its_result_by : (i : ℕ) (n : Note) → stored.thing h.actors.things i ≡ Some n → option_map cell_number n.result ≡ Some k → Result i n
           its_result_by i n e q = from (n.result) refl q

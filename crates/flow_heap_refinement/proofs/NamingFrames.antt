@@ -195,7 +195,7 @@ module _ (p : Rule) where
     call_named (x ∷ y ∷ ys) es =
         act_then (values ns v (look f.mem) es) _ (values_of es)
         (λ us left n. based_named (read_in ns.records (look f.mem x.name) (before_last y ys)) (named method_names (last_of y ys).name) us left
-            (read_in_named p ns.records (look f.mem x.name) (before_last y ys) (look_named p f.mem h x.name)) n)
+        (read_in_named p ns.records (look f.mem x.name) (before_last y ys) (look_named p f.mem h x.name)) n)
 
     act_named : (r : Res Act) → ActRes r → StepNamed (evaluated f r (λ act left. asks left act (next_instr f.mem f)))
     act_named (Done act left) n = (n, h)
@@ -211,7 +211,7 @@ module _ (p : Rule) where
     instruction_named : (x : InstrTree) → StepNamed (class.instruction ns v f x)
     instruction_named (SetInstr path e) =
         value_named (value ns v (look f.mem) e) (λ u left. given f (assign ns.records f.mem path u) (class.placed ns v f left)) (value_of e)
-            (λ u left n. placed_named (assign ns.records f.mem path u) left (assign_named p ns.records f.mem path u h n))
+        (λ u left n. placed_named (assign ns.records f.mem path u) left (assign_named p ns.records f.mem path u h n))
     instruction_named (EffectInstr path e) = given_named (effect_in ns e) (class.effects ns v f Stored) (λ x q. effects_named Stored x)
     instruction_named (NewInstr q) = given_named (bind (type_at f.code q) class.promise_kind) (λ k. asks v.left (Effects Stored (Make k)) f) (λ k e. (tt, h))
     instruction_named (ActInstr path es) = act_named (call_act ns v (look f.mem) path es) (call_named path es)

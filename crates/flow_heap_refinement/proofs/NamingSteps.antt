@@ -135,7 +135,7 @@ module _ (p : Rule) where
   start_named i goal class name c above n =
       turn_named p c.left c (λ d. enrol class name (push_result i (result_task i goal (RefValue kind.Future (suc d.made))) d)) n
       (λ m. enrol_named class name (push_result i (result_task i goal (RefValue kind.Future (suc c.made))) (record c { left = m }))
-          (result_named i goal (RefValue kind.Future (suc c.made)) (record c { left = m }) above n))
+      (result_named i goal (RefValue kind.Future (suc c.made)) (record c { left = m }) above n))
 
   thrown_named : (i err : ℕ) (x : Raised) (o : Option Entry) (c : Core) → thing c.entries i ≡ o → AllNamed p x.values → CoreNamed p c → CoreNamed p (throw_core i err x o c)
   thrown_named i err x None c at h n = n
@@ -207,7 +207,7 @@ module _ (p : Rule) where
     keep_keeps i spot q (Some f) None c xs at en h n m = (n, m)
     keep_keeps i spot q (Some f) (Some e) c xs at en h n m =
         keep_by_keeps i (length e.operands) (verdict e.marked (is_ready_at (thing c.cells q.1))) q (with_operand spot q e) f c xs (operands_more e.operands q (operands_named p i e c en n) h)
-            (frame_at xs i f at m) n m
+        (frame_at xs i f at m) n m
 
     close_keeps : (i : ℕ) (o : OutcomeTree) (en : Option Entry) (c : Core) (xs : Numbered Frame) → OutcomeNamed p o → CoreNamed p c → FramesNamed p xs
         → ProcNamed p (close_actor (classes r) i o en (proc c xs)).0

@@ -147,9 +147,12 @@ module _ (p : Rule) where
 
   -- an actor leaves its wait
   pub leave_named : (i : ℕ) (e : Entry) (vs : List ValueTree) (t : Task) (c : Core) → RefsNamed p e.operands → AllNamed p vs → TaskNamed p t → CoreNamed p c → CoreNamed p (leave_for i e vs t c)
-  leave_named i e vs t c h k m n =
-      (all_left i c.cells n.0, each_put (λ e. RefsNamed p e.operands) c.entries i (running e) n.1 tt, drops_named e.operands (drops (refs_in vs) (t ∷ c.tasks)) h
-          (drops_named (refs_in vs) (t ∷ c.tasks) (all_refs vs k) (m, n.2)))
+  leave_named i e vs t c h k m n = (
+    all_left i c.cells n.0,
+    each_put (λ e. RefsNamed p e.operands) c.entries i (running e) n.1 tt,
+    drops_named e.operands (drops (refs_in vs) (t ∷ c.tasks)) h
+        (drops_named (refs_in vs) (t ∷ c.tasks) (all_refs vs k) (m, n.2)),
+  )
 
   give_named : (i b : ℕ) (e : Entry) (vs : List ValueTree) (o : Option OutcomeTree) (c : Core) → RefsNamed p e.operands → AllNamed p vs → ContentNamed p o → CoreNamed p c
       → CoreNamed p (give i b e vs o c)

@@ -194,7 +194,7 @@ leave_tidy z i e e0 vs u c at same t = (
   each_number i (λ j. (k : ℕ) → branches_of j (waiters_at (thing (left_cells i c.cells) k)) ≡ branches_at k 0 (waiting_of (thing (put c.entries i (running e)) j)))
       (λ k. ap (branches_of i) (left_waiters i k c.cells) ∙ none_left i (waiters_at (thing c.cells k)) ∙ sym (ap (λ o. branches_at k 0 (waiting_of o)) (thing_put c.entries i e0 (running e) at)))
       (λ j n k. ap (branches_of j) (left_waiters i k c.cells) ∙ others_left i j (waiters_at (thing c.cells k)) n ∙ t.0 j k
-          ∙ ap (λ o. branches_at k 0 (waiting_of o)) (sym (thing_put_other c.entries i j (running e) n))),
+      ∙ ap (λ o. branches_at k 0 (waiting_of o)) (sym (thing_put_other c.entries i j (running e) n))),
   rising_left i 0 c.made c.cells t.1,
   t.2,
   t.3,

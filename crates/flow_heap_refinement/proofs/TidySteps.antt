@@ -53,16 +53,26 @@ made_tidy z i goal k cell c w t = push_tidy z i (result_task i goal (RefValue k 
 
 opened_tidy : (z : Since) → (i : ℕ) (goal : Goal) (c : Core) → Tidy z c → Unless (Tidy z) (gives_open i goal c)
 opened_tidy z i goal c t =
-    push_tidy z i (result_task i goal (RefValue kind.Future (suc c.made))) (new_cell (Single None []) (record c { requests = c.requests ++ suc c.made ∷ [] }))
-    (new_agrees z (Single None []) c refl t, rising_added c.cells 0 c.made (Single None []) (omega arith) t.1, number_added 0 c.made c.requests
-        (omega arith) t.2, ports_more 0 c.made c.ports t.3, request_made z c t.4)
+    push_tidy z i (result_task i goal (RefValue kind.Future (suc c.made))) (new_cell (Single None []) (record c { requests = c.requests ++ suc c.made ∷ [] })) (
+      new_agrees z (Single None []) c refl t,
+      rising_added c.cells 0 c.made (Single None []) (omega arith) t.1,
+      number_added 0 c.made c.requests
+          (omega arith) t.2,
+      ports_more 0 c.made c.ports t.3,
+      request_made z c t.4,
+    )
 
 port_tidy : (z : Since) → (i : ℕ) (goal : Goal) (port : ℕ) (o : Option ℕ) (c : Core) → thing c.ports port ≡ o → Tidy z c → Unless (Tidy z) (open_port i goal port o c).0
 port_tidy z i goal port (Some cell) c e t = unless c.halted t
 port_tidy z i goal port None c e t =
-    push_tidy z i (result_task i goal (RefValue kind.FutureStream (suc c.made))) (new_cell (Stream [] None None) (record c { ports = added c.ports port (suc c.made) }))
-    (new_agrees z (Stream [] None None) c refl t, rising_added c.cells 0 c.made (Stream [] None None) (omega arith) t.1, numbers_more 0 c.made c.requests t.2, port_added 0 c.made port c.ports
-        (omega arith) e t.3, port_made z c port t.4)
+    push_tidy z i (result_task i goal (RefValue kind.FutureStream (suc c.made))) (new_cell (Stream [] None None) (record c { ports = added c.ports port (suc c.made) })) (
+      new_agrees z (Stream [] None None) c refl t,
+      rising_added c.cells 0 c.made (Stream [] None None) (omega arith) t.1,
+      numbers_more 0 c.made c.requests t.2,
+      port_added 0 c.made port c.ports
+          (omega arith) e t.3,
+      port_made z c port t.4,
+    )
 
 disk_tidy : (z : Since) → (i : ℕ) (goal : Goal) (call : Option (DiskCall ℕ)) (c : Core) → Tidy z c → Unless (Tidy z) (ask_disk i goal call c).0
 disk_tidy z i goal None c t = unless c.halted t

@@ -102,7 +102,7 @@ module _ (i above made : ℕ) (cs : Numbered Cell) where
   all_registered own b [] q h = by_same own (λ k. own k ++ []) q (λ k. sym (no_more (own k))) h
   all_registered own b (r ∷ rs) q h =
       by_same (λ k. (own k ++ branches_at k b (r ∷ [])) ++ branches_at k (suc b) rs) (λ k. own k ++ branches_at k b (r ∷ rs))
-          (register i (suc b) rs (register_one (record { actor = i; branch = b }) r.1 q))
+      (register i (suc b) rs (register_one (record { actor = i; branch = b }) r.1 q))
       (λ k. by_test k (nat_eq r.1 k))
       (all_registered (λ k. own k ++ branches_at k b (r ∷ [])) (suc b) rs (register_one (record { actor = i; branch = b }) r.1 q) (one_registered own b r q h))
     where

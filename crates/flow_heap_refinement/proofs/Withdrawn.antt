@@ -241,13 +241,16 @@ module _ (spots : ℕ → Spot) (i : ℕ) where
             (subst (λ z. CellRepresents spots (stored.thing d.cells.things r.1) (stored.thing d.streams.things r.1) z) here_less
             (subst (λ m. CellRepresents spots (stored.thing (leave_cell_at r.1 (record { actor = record { 0 = i }; callback = m }) o g).cells.things r.1)
             (stored.thing (leave_cell_at r.1 (record { actor = record { 0 = i }; callback = m }) o g).streams.things r.1) (one_cell b (cell_less i (branches_at r.1 (suc b) rs) (thing cs r.1))))
-                (sym e)
+            (sym e)
             (there b r.1 g o (stored.thing g.streams.things r.1) (cell_less i (branches_at r.1 (suc b) rs) (thing cs r.1)) refl refl (l.cells r.1))))
             (λ j differ. let x = elsewhere r.1 j (record { actor = record { 0 = i }; callback = n }) g o differ in
             subst (λ z. CellRepresents spots (stored.thing d.cells.things j) (stored.thing d.streams.things j) z) (other_less j differ) (rw (x.0, x.1) (l.cells j)));
-        tasks = (ap (λ z. Drop z r.1) (kinds.0 ∙ sym (less_kind (branches_at r.1 (suc b) rs) (thing cs r.1))
-            ∙ sym (kind_as o (stored.thing g.streams.things r.1) (cell_less i (branches_at r.1 (suc b) rs) (thing cs r.1)) (l.cells r.1))), rw
-            (tasks_left r.1 (record { actor = record { 0 = i }; callback = n }) g o) l.tasks);
+        tasks = (
+          ap (λ z. Drop z r.1) (kinds.0 ∙ sym (less_kind (branches_at r.1 (suc b) rs) (thing cs r.1))
+              ∙ sym (kind_as o (stored.thing g.streams.things r.1) (cell_less i (branches_at r.1 (suc b) rs) (thing cs r.1)) (l.cells r.1))),
+          rw
+              (tasks_left r.1 (record { actor = record { 0 = i }; callback = n }) g o) l.tasks,
+        );
         beside = both d g h (leave_one i (record { callback = n; cell = record { 0 = r.1 } }) g).tasks
             (same_left r.1 (record { actor = record { 0 = i }; callback = n }) g o (stored.thing g.streams.things r.1) refl) l.beside;
       }

@@ -71,7 +71,7 @@ module _ (part : ActorState) (h one two : HeapTree) (actor places : ℕ) (above 
   begins frames size stands =
       let now = then_new one.frames two.frames frames actor begun_frame _ rising below framed (stands begun_frame stands_there) in
       let as_part : stood part.state part.callbacks.items begun_frame ≡ frame_of part =
-              ap (λ n. stood part.state part.callbacks.items (holding part.class n part.places.items)) size ∙ stands_as part in
+      ap (λ n. stood part.state part.callbacks.items (holding part.class n part.places.items)) size ∙ stands_as part in
       let kept : with_new one.frames actor (stood part.state part.callbacks.items begun_frame) ≡ with_new h.frames part.actor.0 (frame_of part) =
       ap₂ (λ i f. with_new one.frames i f) same_number as_part ∙ ap (λ (x : HeapTree). with_new x.frames part.actor.0 (frame_of part)) skips in
       ap (λ (x : HeapTree). record x { frames = frames }) starts

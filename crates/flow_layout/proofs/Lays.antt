@@ -173,7 +173,7 @@ pub after_for : (s : Stmt) (i : Option (Box Stmt Global)) (t : Option Expr) (u :
     → s.kind ≡ kind.For i t u b → items ≡ b.items → m ≡ with_body l (simple_of i) → n ≡ with_body m (simple_of u) → o ≡ with_body n (body_of items) → LaysBefore (stmt_of s) l o
 after_for s i t u b items l m n o e d h g f =
     lays s (ForStmt s.at (simple_of i) (option_map expr_of t) (simple_of u) (body_of b.items)) l o (with_body (with_body (with_body l (simple_of i)) (simple_of u)) (body_of b.items))
-        (λ k. is_for s i t u b k e)
+    (λ k. is_for s i t u b k e)
     (f ∙ ap (λ x. with_body n (body_of x)) d ∙ ap (λ x. with_body x (body_of b.items)) (g ∙ ap (λ x. with_body x (simple_of u)) h)) (three_bodies l (simple_of i) (simple_of u) (body_of b.items))
 
 pub after_try : (s : Stmt) (b : Vec Stmt Global) (p : Place) (x : Ident) (h : Vec Stmt Global) (items hands : List Stmt) (l m n o : LayoutTree)

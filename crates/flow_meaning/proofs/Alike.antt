@@ -221,7 +221,7 @@ module _ {A B : Type 0} (e : Engine A) (d : Engine B) (R : Phase → A → B →
         unless_map m.halted
             (λ s. let both = shifts_after i Due c k m h.pop.others s.0 in
             related_new e d R sim n m m (put xs i a) (put ys i b) x y (related_shifts e d R sim i Due c m xs ys h.first.0 a h.second.0 b h.first.1 h.second.1 h.rs both h.after)
-                (λ j. omega arith) s.1 r)
+            (λ j. omega arith) s.1 r)
             (start_shifts i goal class (e.label class) k h.pop.awake h.pop.rises),
       )
 

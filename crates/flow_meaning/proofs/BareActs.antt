@@ -111,6 +111,6 @@ module _ (ns : Names) where
     call_act_bare (x ∷ y ∷ ys) es =
         then_same
         (λ vs left. based_act (placeless_names ns) v look (read_in (map placeless_record ns.records) (look x.name) (before_last (placeless_ident y) (map placeless_ident ys)))
-            (named method_names (last_of (placeless_ident y) (map placeless_ident ys)).name) vs left)
+        (named method_names (last_of (placeless_ident y) (map placeless_ident ys)).name) vs left)
         (λ vs left. based_act ns v look (read_in ns.records (look x.name) (before_last y ys)) (named method_names (last_of y ys).name) vs left)
         (values (placeless_names ns) v look (placeless_exprs es)) (values ns v look es) (values_bare es) (path_act_bare x y ys)

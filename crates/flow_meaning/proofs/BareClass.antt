@@ -128,11 +128,11 @@ module _ (ns : Names) (v : View) (f : Frame) where
       (λ u left. given (placeless_frame f) (assign b.records f.mem (map placeless_ident path) u) (class.placed b v (placeless_frame f) left)) e (placed_through path)
   instr_through (EffectInstr path e) =
       given_through placeless_frame f (class.effects ns v f Stored) (class.effects b v (placeless_frame f) Stored) placeless_effect (effect_in ns e) (effect_in b (placeless_expr e))
-          (effect_in_bare ns e) (effects_through Stored)
+      (effect_in_bare ns e) (effects_through Stored)
   instr_through (NewInstr p) =
       ap (λ o. given (placeless_frame f) (bind o class.promise_kind) (λ k. asks v.left (Effects Stored (Make k)) (placeless_frame f))) (type_bare f.code p)
       ∙ given_same placeless_frame f (λ k. asks v.left (Effects Stored (Make k)) f) (λ k. asks v.left (Effects Stored (Make k)) (placeless_frame f)) (bind (type_at f.code p) class.promise_kind)
-          (λ k. refl)
+      (λ k. refl)
   instr_through (ActInstr path es) =
       evaluated_through placeless_frame f (λ act left. asks left act (next_instr f.mem f)) (λ act left. asks left act (next_instr f.mem (placeless_frame f)))
       (call_act ns v (look f.mem) path es) (call_act b v (look f.mem) (map placeless_ident path) (placeless_exprs es)) (call_act_bare ns v (look f.mem) path es) (λ act left. refl)

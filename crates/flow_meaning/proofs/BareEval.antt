@@ -210,9 +210,9 @@ module _ (s : Setting) (run other : Runner) (runs : (f : RoutineTree) (vs : List
       ∙ ap (λ (l : Go). after (l vars left) (exec s run k c)) (loop_bare (Some e) skip (exec s run x c))
   exec_bare (ForStmt at i e t x k) c vars left =
       ap₂ (λ (g h : Go). after (scope (for_run b other g (option_map placeless_expr e) (exec b other (placeless_body t) c) h) vars left) (exec b other (placeless_body k) c))
-          (exec_same i c (exec_bare i c)) (exec_same x c (exec_bare x c))
+      (exec_same i c (exec_bare i c)) (exec_same x c (exec_bare x c))
       ∙ ap₂ (λ (g h : Go). after (scope (for_run b other (exec s run i c) (option_map placeless_expr e) g (exec s run x c)) vars left) h) (exec_same t c (exec_bare t c))
-          (exec_same k c (exec_bare k c))
+      (exec_same k c (exec_bare k c))
       ∙ ap (λ (l : Go). after (scope l vars left) (exec s run k c)) (for_bare (exec s run i c) e (exec s run t c) (exec s run x c))
   exec_bare (LoopStmt at x k) c vars left =
       ap₂ (λ (g h : Go). after (loop_run b other None skip g vars left) h) (exec_same x c (exec_bare x c)) (exec_same k c (exec_bare k c))

@@ -197,7 +197,7 @@ module _ (ns : Names) (v : View) where
       ≡ through placeless_actor (step.test ns v a e main other)
   test_through a e main other =
       evaluated_through placeless_actor a (λ u left. step.choose left a (bool_of u) main other)
-          (λ u left. step.choose left (placeless_actor a) (bool_of u) (placeless_actor main) (placeless_actor other))
+      (λ u left. step.choose left (placeless_actor a) (bool_of u) (placeless_actor main) (placeless_actor other))
       (value ns v (look a.vars) e) (value b v (look a.vars) (placeless_expr e)) (value_bare ns v (look a.vars) e)
       (λ u left. choose_through left a (bool_of u) main other)
 
@@ -233,7 +233,7 @@ module _ (ns : Names) (v : View) where
   new_through a i r (PromiseStreamType t) = refl
   new_through a i r t =
       given_same placeless_actor a (λ u. step.place ns v v.left a (Declared i) u r) (λ u. step.place b v v.left (placeless_actor a) (Declared (placeless_into i)) u (map placeless_item r))
-          (default_value t)
+      (default_value t)
       (λ u. place_through v.left a (Declared i) u r)
 
   declares_through : (a : Actor) (i : IntoTree) (e : Option ExprTree) (r : List Item)
@@ -282,26 +282,26 @@ module _ (ns : Names) (v : View) where
   body_through a s (BlockStmt at x k) r = ap (λ z. quietly (step.in_scope a.vars s (placeless_body x) (Do z (placeless_body k) ∷ map placeless_item r))) (site_bare x s)
   body_through a s (IfStmt at e x k) r =
       ap (λ z. step.test b v (placeless_actor a) (placeless_expr e) (step.in_scope a.vars s (placeless_body x) (Do z (placeless_body k) ∷ map placeless_item r))
-          (actor a.vars (Do z (placeless_body k) ∷ map placeless_item r))) (site_bare x s)
+      (actor a.vars (Do z (placeless_body k) ∷ map placeless_item r))) (site_bare x s)
       ∙ test_through a e (step.in_scope a.vars s x (Do (site_past x s) k ∷ r)) (actor a.vars (Do (site_past x s) k ∷ r))
   body_through a s (IfElseStmt at e x y k) r =
       ap (λ z. step.test b v (placeless_actor a) (placeless_expr e) (step.in_scope a.vars s (placeless_body x) (Do (site_past (placeless_body y) z) (placeless_body k) ∷ map placeless_item r))
-          (step.in_scope a.vars z (placeless_body y) (Do (site_past (placeless_body y) z) (placeless_body k) ∷ map placeless_item r))) (site_bare x s)
+      (step.in_scope a.vars z (placeless_body y) (Do (site_past (placeless_body y) z) (placeless_body k) ∷ map placeless_item r))) (site_bare x s)
       ∙ ap (λ z. step.test b v (placeless_actor a) (placeless_expr e) (step.in_scope a.vars s (placeless_body x) (Do z (placeless_body k) ∷ map placeless_item r))
-          (step.in_scope a.vars (site_past x s) (placeless_body y) (Do z (placeless_body k) ∷ map placeless_item r))) (site_bare y (site_past x s))
+      (step.in_scope a.vars (site_past x s) (placeless_body y) (Do z (placeless_body k) ∷ map placeless_item r))) (site_bare y (site_past x s))
       ∙ test_through a e (step.in_scope a.vars s x (Do (site_past y (site_past x s)) k ∷ r)) (step.in_scope a.vars (site_past x s) y (Do (site_past y (site_past x s)) k ∷ r))
   body_through a s (WhileStmt at e x k) r =
       ap (λ z. quietly (actor a.vars (Round (record { site = s; condition = Some (placeless_expr e); step = End; inner = placeless_body x }) ∷ Do z (placeless_body k) ∷ map placeless_item r)))
-          (site_bare x s)
+      (site_bare x s)
   body_through a s (LoopStmt at x k) r =
       ap (λ z. quietly (actor a.vars (Round (record { site = s; condition = None; step = End; inner = placeless_body x }) ∷ Do z (placeless_body k) ∷ map placeless_item r))) (site_bare x s)
   body_through a s (ForStmt at i e t x k) r =
       ap (λ z. in_for a s (placeless_body i) (option_map placeless_expr e) (placeless_body t) (placeless_body x) (placeless_body k) (map placeless_item r) (site_past (placeless_body t) z)
-          (site_past (placeless_body x) (site_past (placeless_body t) z))) (site_bare i s)
+      (site_past (placeless_body x) (site_past (placeless_body t) z))) (site_bare i s)
       ∙ ap (λ z. in_for a s (placeless_body i) (option_map placeless_expr e) (placeless_body t) (placeless_body x) (placeless_body k) (map placeless_item r) z (site_past (placeless_body x) z))
-          (site_bare t (site_past i s))
+      (site_bare t (site_past i s))
       ∙ ap (in_for a s (placeless_body i) (option_map placeless_expr e) (placeless_body t) (placeless_body x) (placeless_body k) (map placeless_item r) (site_past t (site_past i s)))
-          (site_bare x (site_past t (site_past i s)))
+      (site_bare x (site_past t (site_past i s)))
   body_through a s (BreakStmt at k) r = exit_through v.left step.Breaks (Do s (BreakStmt at k)) a r
   body_through a s (ContinueStmt at k) r = exit_through v.left step.Continues (Do s (ContinueStmt at k)) a r
   body_through a s (ReturnStmt at e k) r =
@@ -316,7 +316,7 @@ module _ (ns : Names) (v : View) where
   body_through a s (AssignStmt at xs e k) r = store_through a (Path xs) e (Do s k ∷ r)
   body_through a s (ModifyStmt at xs c k) r =
       given_through placeless_actor a (λ e. step.store ns v a (Path xs) e (Do s k ∷ r))
-          (λ e. step.store b v (placeless_actor a) (Path (map placeless_ident xs)) e (Do s (placeless_body k) ∷ map placeless_item r)) placeless_expr
+      (λ e. step.store b v (placeless_actor a) (Path (map placeless_ident xs)) e (Do s (placeless_body k) ∷ map placeless_item r)) placeless_expr
       (change xs c) (change (map placeless_ident xs) (placeless_change c)) (change_bare xs c) (λ e. store_through a (Path xs) e (Do s k ∷ r))
   body_through a s (CallStmt at xs es k) r =
       evaluated_through placeless_actor a (λ act left. asks left act (actor a.vars (Do s k ∷ r))) (λ act left. asks left act (actor a.vars (Do s (placeless_body k) ∷ map placeless_item r)))
@@ -380,9 +380,9 @@ branch_through : (n : ℕ) (u : ValueTree) (a : Actor) (s : Site) (bs : Branches
     ≡ through placeless_actor (whole.take_case bs n (site_at (next_spot (branch_count bs) s.spot) s) u a (Do (site_at (past_branches bs (next_spot (branch_count bs) s.spot)) s) k ∷ r))
 branch_through n u a s bs k r =
     ap (λ m. whole.take_case (placeless_branches bs) n (site_at (next_spot m s.spot) s) u (placeless_actor a)
-        (Do (site_at (past_branches (placeless_branches bs) (next_spot m s.spot)) s) (placeless_body k) ∷ map placeless_item r)) (branch_count_bare bs)
+    (Do (site_at (past_branches (placeless_branches bs) (next_spot m s.spot)) s) (placeless_body k) ∷ map placeless_item r)) (branch_count_bare bs)
     ∙ ap (λ z. whole.take_case (placeless_branches bs) n (site_at (next_spot (branch_count bs) s.spot) s) u (placeless_actor a) (Do (site_at z s) (placeless_body k) ∷ map placeless_item r))
-        (branches_bare bs (next_spot (branch_count bs) s.spot))
+    (branches_bare bs (next_spot (branch_count bs) s.spot))
     ∙ case_through bs n (site_at (next_spot (branch_count bs) s.spot) s) u a (Do (site_at (past_branches bs (next_spot (branch_count bs) s.spot)) s) k ∷ r)
 
 take_through : (n : ℕ) (u : ValueTree) (a : Actor) (r : List Item) → whole.take_at n u (placeless_actor a) (map placeless_item r) ≡ through placeless_actor (whole.take_at n u a r)
@@ -458,7 +458,7 @@ names_bare : (p : ProgramTree) → whole.names_of (bare p) ≡ placeless_names (
 names_bare p =
     ap₂ (λ x y. named_so x y (map whole.routine_name (whole.actors_in (map placeless_decl p.decls)))) (records_bare p.decls) (functions_bare p.decls)
     ∙ ap (named_so (map placeless_record (whole.records_in p.decls)) (map placeless_routine (whole.functions_in p.decls)))
-        (ap (map whole.routine_name) (actors_bare p.decls) ∙ routine_names (whole.actors_in p.decls))
+    (ap (map whole.routine_name) (actors_bare p.decls) ∙ routine_names (whole.actors_in p.decls))
 
 pub source_mirrors : (p : ProgramTree) → Mirrors (whole.source p) (whole.source (bare p)) placeless_actor
 source_mirrors p = record {

@@ -137,7 +137,7 @@ module _ {W A : Type 0} (e : Engine A) (h : Host W) where
   pub advance_in_order : (s l : Live W A) → OrderlyUnlessStopped s.proc.core → advance e h s ≡ Some l → OrderlyUnlessStopped l.proc.core
   advance_in_order s l o a =
       let k = advanced_keeps s.out (step e (h.supply s.out) s.proc) (if_keeps e (h.supply s.out) s.proc.core.halted s.proc.core s.proc.actors (unless_map s.proc.core.halted (ordered s.proc.core) o))
-              in
+      in
       unless_map l.proc.core.halted (orderly l.proc.core) (subst KeepsLive a k)
 
 -- what is delivered at the begin of an event

@@ -177,8 +177,11 @@ module _ {W A B : Type 0} (e : Engine A) (d : Engine B) (h : Host W) (R : Phase 
       → thing xs i ≡ x → thing ys i ≡ y → BothOrNone (R Free) x y → Does_at c xs ys w (advanced h w (Some (run e (h.supply w) i ts x (proc c xs))))
   run_does w c xs ys i ts None None o eh et rs ex en k = (
     live (run d (h.supply w) i ts None (proc c ys)).0 w,
-    inl (_, ap (advanced h w) (ap (λ k. step_if d (h.supply w) k (proc c ys)) eh ∙ ap (λ k. step_tasks d (h.supply w) k (proc c ys)) et ∙ ap (λ o. Some (run d (h.supply w) i ts o (proc c ys))) en),
-        here),
+    inl (
+      _,
+      ap (advanced h w) (ap (λ k. step_if d (h.supply w) k (proc c ys)) eh ∙ ap (λ k. step_tasks d (h.supply w) k (proc c ys)) et ∙ ap (λ o. Some (run d (h.supply w) i ts o (proc c ys))) en),
+      here,
+    ),
     (refl, refl, tt),
   )
   run_does w c xs ys i ts None (Some b) o eh et rs ex en k = absurd k

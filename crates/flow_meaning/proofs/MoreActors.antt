@@ -115,7 +115,7 @@ module _ (k : ℕ) (ns : Names) (v : View) (sum : ℕ) (e : sum ≡ v.left + k) 
       (λ vs l m h. plain_act_later lk (named call_names f.name) f.name vs l m h)
   call_act_later lk (x ∷ y ∷ ys) es =
       then_later k (λ vs left. based_act ns v lk (read_in ns.records (lk x.name) (before_last y ys)) (named method_names (last_of y ys).name) vs left) (values ns v lk es)
-          (values ns (with_left v sum) lk es) (values_later lk es)
+      (values ns (with_left v sum) lk es) (values_later lk es)
       (λ vs l m h. based_act_later lk (read_in ns.records (lk x.name) (before_last y ys)) (named method_names (last_of y ys).name) vs l m h)
 
   -- the source

@@ -90,7 +90,7 @@ send_in_ordered (Some cell) i k o c h a = send_by_ordered (is_complete cell) i k
 send_to_ordered : (s : Supply) (i : ℕ) (q port : ℤ) (text : List ℕ) (c : Core) → InHand i c → Awake i c → Unless Ordered (send_to s i q port text c).0
 send_to_ordered s i q port text c h a =
     either Ordered (int_le (pos 0) q && nat_lt (natural q) s.processes && is_port port) _ (throws i bad_argument c) (unless c.halted (run_ordered i c h a))
-        (unless c.halted (throw_ordered i bad_argument c h a))
+    (unless c.halted (throw_ordered i bad_argument c h a))
 
 -- waits
 wait_by_ordered : (i : ℕ) (spot : Spot) (e e0 : Entry) (vs : List ValueTree) (b : Option (ℕ × ℕ)) (c : Core) → InHand i c → Awake i c → thing c.entries i ≡ Some e0

@@ -133,7 +133,7 @@ send_in_shifts (Some cell) i k o c a = send_by_shifts (is_complete cell) i k o c
 send_to_shifts : (s : Supply) (i : ℕ) (q port : ℤ) (text : List ℕ) (c : Core) → Awake i c → Unless (Shifts i Risky c) (send_to s i q port text c).0
 send_to_shifts s i q port text c a =
     either (Shifts i Risky c) (int_le (pos 0) q && nat_lt (natural q) s.processes && is_port port) _ (throws i bad_argument c) (unless c.halted (run_shifts i Risky c a))
-        (unless c.halted (throw_shifts i bad_argument c a))
+    (unless c.halted (throw_shifts i bad_argument c a))
 
 -- waits
 suspended_shifts : (i : ℕ) (spot : Spot) (e : Entry) (vs : List ValueTree) (cells : Numbered Cell) (c : Core) → Shifts i Waiting c (suspend i spot e vs (Registered cells) c)
@@ -225,7 +225,7 @@ react_shifts s i (SendsTo q port text) c a h = send_to_shifts s i q port text c 
 react_shifts s i (Returns v vs) c a h =
     let d = pushed (Close i (GoodOutcome v)) c in
     unless c.halted (shifts_on i Free c d (dropping_values vs d) (pushed_shifts i Free (Close i (GoodOutcome v)) c (close_of i (GoodOutcome v)) a (λ ts. omega arith))
-        (unmoved_eases d (dropping_values vs d) (dropping_unmoved vs d)))
+    (unmoved_eases d (dropping_values vs d) (dropping_unmoved vs d)))
 react_shifts s i (Throws e) c a h = unless c.halted (throw_shifts i e c a)
 react_shifts s i RunsOut c a h = tt
 react_shifts s i Stuck c a h = tt

@@ -93,7 +93,7 @@ judged (ReadCall file offset count) =
     if_ok (is_file file && between offset 0 FILE_BYTES && between count 0 65535) (ReadCall file (natural offset) (natural count))
 judged (WriteCall file offset text) =
     if_ok (is_file file && between offset 0 FILE_BYTES && nat_le (natural offset + length text) FILE_BYTES)
-        (WriteCall file (natural offset) text)
+    (WriteCall file (natural offset) text)
 judged (SyncCall file) = if_ok (is_file file) (SyncCall file)
 judged (SizeCall file) = if_ok (is_file file) (SizeCall file)
 

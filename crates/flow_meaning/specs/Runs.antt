@@ -61,4 +61,4 @@ ClassTrace c w lines = (states : List (World Frame)) × IsRun (classes c) w stat
 abbrev pub RunsOnce : {A : Type 0} → Engine A → Type 0
 RunsOnce {A} e =
     (w : World A) (states others : List (World A)) (lines more : List Line) → Runs e w states lines → Runs e w others more
-        → (states ≡ others) × (lines ≡ more)
+    → (states ≡ others) × (lines ≡ more)

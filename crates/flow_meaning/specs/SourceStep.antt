@@ -123,7 +123,7 @@ module _ (ns : Names) (v : View) where
       let s_t = site_past i s in
       let s_b = site_past t s_t in
       quietly (actor (entered a.vars) (Do s i ∷ Round (record { site = s_b; condition = e; step = t; inner = b }) ∷ Leave
-          ∷ Do (site_past b s_b) k ∷ r))
+      ∷ Do (site_past b s_b) k ∷ r))
   do_body a s (BreakStmt at k) r = exit v.left Breaks (Do s (BreakStmt at k)) a r
   do_body a s (ContinueStmt at k) r = exit v.left Continues (Do s (ContinueStmt at k)) a r
   do_body a s (ReturnStmt at e k) r = evaluated a (value ns v (look a.vars) e) (λ u left. asks left (Returns u (everything a.vars)) over)

@@ -45,4 +45,4 @@ IsHalted c = (h : Halt) × (c.halted ≡ Some h)
 abbrev pub WritesFirst : {W A : Type 0} → Engine A → Host W → Type 0
 WritesFirst {W} {A} e h =
     (k : ℕ) (s t u : Live W A) → Burst e h s t → IsHalted t.proc.core → Burst e h (more_live k s) u
-        → Starts t.proc.core.lines u.proc.core.lines
+    → Starts t.proc.core.lines u.proc.core.lines

@@ -41,8 +41,11 @@ outside_at_start w = record {
   ran = 0;
   sent = 0;
   drawn = 0;
-  events = record { made = w.processes; pending = map (λ p. record { time = 0; number = suc p; what = Boots p })
-      (range_with_len 0 w.processes) };
+  events = record {
+    made = w.processes;
+    pending = map (λ p. record { time = 0; number = suc p; what = Boots p })
+        (range_with_len 0 w.processes);
+  };
   script = w.script;
   cuts = [];
   disks = replicate w.processes (record { fails = 0; files = [] });

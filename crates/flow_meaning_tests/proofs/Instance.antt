@@ -244,10 +244,10 @@ module _ (cells : ℕ → Option OutcomeTree) (now left : ℕ) where
   next_at (ChosenLeaves t) kept x y err st = (_, inr (still, shorter (source_at (ChosenDone t) x y err).rest), (ChosenDone t, x, y, err, st, tt, refl, refl))
   next_at (ChosenDone true) kept x y err st =
       answered (seen kept) (source_at (ChosenDone true) x y err) (framed x y None 7 0 0) (frame_at (ChosenDone true) x y err st) (quiet (framed x y None 7 0 0) refl still)
-          (returns kept true x y err 0)
+      (returns kept true x y err 0)
   next_at (ChosenDone false) kept x y err st =
       answered (seen kept) (source_at (ChosenDone false) x y err) (framed x y None 7 0 0) (frame_at (ChosenDone false) x y err st) (quiet (framed x y None 7 0 0) refl still)
-          (returns kept false x y err 0)
+      (returns kept false x y err 0)
   next_at Ended kept x y err st = (_, _, still, refl, (Ended, x, y, err, st, tt, refl, refl))
 
 -- what is handed to an actor that asked

@@ -130,7 +130,7 @@ module _ (r : RawTree) (ls : List Line) (x : Scan) (m : Process) (p : Proc Frame
   single_complete k o ws s at =
       let f = found_single r m.heap p k o ws s.holds.shows at in
       let a = as_single (spot_of_actor p.actors) f.0 (stored.thing m.heap.streams.things k) (thing p.core.cells k)
-              (subst (λ c. CellRepresents (spot_of_actor p.actors) c (stored.thing m.heap.streams.things k) (thing p.core.cells k)) f.1 (s.holds.shows.cells k)) in
+      (subst (λ c. CellRepresents (spot_of_actor p.actors) c (stored.thing m.heap.streams.things k) (thing p.core.cells k)) f.1 (s.holds.shows.cells k)) in
       let same : (Single (option_map outcome_of f.0.content) a.waiters) ≡ Single o ws = let b = a.cell in cc (b, at) in
       ap is_set f.1 ∙ set_same f.0.content ∙ ap cells.is_some (cc (same))
 
@@ -139,7 +139,7 @@ module _ (r : RawTree) (ls : List Line) (x : Scan) (m : Process) (p : Proc Frame
   stream_complete k q d w s at =
       let f = found_stream r m.heap p k q d w s.holds.shows at in
       let a = as_stream (spot_of_actor p.actors) f.0 (stored.thing m.heap.cells.things k) (thing p.core.cells k)
-              (subst (λ c. CellRepresents (spot_of_actor p.actors) (stored.thing m.heap.cells.things k) c (thing p.core.cells k)) f.1 (s.holds.shows.cells k)) in
+      (subst (λ c. CellRepresents (spot_of_actor p.actors) (stored.thing m.heap.cells.things k) c (thing p.core.cells k)) f.1 (s.holds.shows.cells k)) in
       let same : (Stream (map value_of f.0.queue) (option_map error_number f.0.end) a.waiter) ≡ Stream q d w = let b = a.cell in cc (b, at) in
       ap is_ended f.1 ∙ ended_same f.0.end ∙ ap cells.is_some (cc (same))
 
@@ -179,11 +179,11 @@ module _ (r : RawTree) (ls : List Line) (x : Scan) (m : Process) (p : Proc Frame
           (on_core (send_by b i.0 k (outcome_of o)) p)
       by_complete true e f =
           subst (λ b. Matches r ls x (if b then doing (task.Throw i (record { 0 = already_set })) m else if nat_lt 0 m.left then on_heap (sent_into i kd k o) (turned m) else turned m)
-              (on_core (send_by true i.0 k (outcome_of o)) p)) (sym e)
+          (on_core (send_by true i.0 k (outcome_of o)) p)) (sym e)
           (shows (task_done r ls x m p (task.Throw i (record { 0 = already_set })) (Throw i.0 already_set) (nothing_held r ls x m p (Throw i.0 already_set) (λ z j. refl) s) refl))
       by_complete false e f =
           subst (λ b. Matches r ls x (if b then doing (task.Throw i (record { 0 = already_set })) m else if nat_lt 0 m.left then on_heap (sent_into i kd k o) (turned m) else turned m)
-              (on_core (send_by false i.0 k (outcome_of o)) p)) (sym e)
+          (on_core (send_by false i.0 k (outcome_of o)) p)) (sym e)
           (turn_taken r ls x m p x (on_heap (sent_into i kd k o)) (λ d. fill k (outcome_of o) (pushed (Run i.0) d)) s (λ n e s.
           let q : Proc Frame = on_core (λ c. record c { left = n }) p in
           shows (sent_at_once r ls x (turned m) q i kd k o s (all_there_by p q (outcome_refs o) refl t) (record { cell = to.cell; at = to.at; right = to.right; incomplete = f }))))

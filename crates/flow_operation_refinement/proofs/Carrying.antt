@@ -107,7 +107,7 @@ module _ (r : RawTree) (ls : List Line) (m : Process) (p : Proc Frame) (i : ℕ)
       let g : Frame = next_instr (emptied ns f.mem) f in
       let out : Proc Frame = proc (work.dropping (refs_in (held_in f.mem ns)) (pushed (Run i) p.core)) (put p.actors i g) in
       let dropped = locals_dropped r ls m (put_frame i (stale st.block st.instr st.state f) p) i e (stale st.block st.instr st.state f) x s ns f.state pace n st.stood
-              (may r ls m p i e f x s st) has after in
+      (may r ls m p i e f x s st) has after in
       let here : record f { mem = emptied ns f.mem; block = s.place; instr = suc s.instruction; state = f.state } ≡ g =
       ap (λ b. record f { mem = emptied ns f.mem; block = b; instr = suc s.instruction }) st.standing.place ∙ ap (λ k. record f { mem = emptied ns f.mem; instr = suc k }) st.instruction in
       record {
@@ -115,7 +115,7 @@ module _ (r : RawTree) (ls : List Line) (m : Process) (p : Proc Frame) (i : ℕ)
         steps = stepped r ls m p i e f x s st w (Body (DropInstr ns)) there;
         carries = subst (λ k. Carries r ls x i e pace n (proc (work.dropping (refs_in (held_in f.mem ns)) (pushed (Run i) p.core)) (put p.actors i k))) here
             (after_values r ls m p i e f x s st (next_stand s) (refs_in (held_in f.mem ns)) (record f { mem = emptied ns f.mem; block = s.place; instr = suc s.instruction; state = f.state }) pace n
-                dropped);
+            dropped);
       }
 
   pub goto_step : law.GotoStep r ls m p i e f

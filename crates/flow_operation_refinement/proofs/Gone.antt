@@ -119,13 +119,13 @@ module _ (r : RawTree) (ls : List Line) (m : Process) (p : Proc Frame) (i : ℕ)
       let q1 : Proc Frame = put_frame i g p in
       let actor : t.actor ≡ actor_id i = to.actor ∙ may.actor in
       let ran = task_done r ls (with_refs rs x) m1 q1 (task.Run (actor_id i)) (Run i) (as_many_shown r ls (with_refs rs x) (with_task (Run i) (with_refs rs x)) m1 q1 (λ z y. omega arith) went.shown)
-              refl in
+      refl in
       let dropped = refs_dropped_shown r ls x (doing (task.Run (actor_id i)) m1) (on_core (pushed (Run i)) q1) rs ran in
       subst (λ q. law.AfterValues r ls m p i e f x t rs g q n) (sym after.0)
       (subst (λ q. ProcessRepresents r ls x q (proc (work.dropping rs (pushed (Run i) p.core)) (put p.actors i g))) (sym after.1)
       (subst (λ (a : ActorId). ProcessRepresents r ls x (on_heap (dropping.dropping (v ∷ vs)) (doing (task.Run a) m1)) (proc (work.dropping rs (pushed (Run i) p.core)) (put p.actors i g))) (sym actor)
       (subst (λ us. ProcessRepresents r ls x (on_heap (refs_dropped us) (doing (task.Run (actor_id i)) m1)) (proc (work.dropping rs (pushed (Run i) p.core)) (put p.actors i g)))
-          (sym (refs_same (v ∷ vs))) dropped)))
+      (sym (refs_same (v ∷ vs))) dropped)))
 
   pub values_left : law.ValuesLeft r ls m p i e f
   values_left x s t b j k vs pace n st may to after = left_over x s t b j k vs pace n st may (goes_stands s b j t to) after
@@ -219,7 +219,7 @@ module _ (r : RawTree) (ls : List Line) (m : Process) (p : Proc Frame) (i : ℕ)
           let rs = referring_refs (Some v) in
           let hand : (z : Side) (j : ℕ) → with_refs (value_refs v) x z j ≡ with_refs (refs_in (value_of v ∷ [])) x z j = λ z j. ap (λ k. k + x z j) (appended z j (value_refs v)) in
           let st1 = subst (λ us. RepresentsActor r ls (with_refs us x) m p i e f) (sym rs) (as_many_stood r ls (with_refs (value_refs v) x) (with_refs (refs_in (value_of v ∷ [])) x) m p i e f hand st)
-                  in
+          in
           same_refs r ls m p i e f (go b f.mem f) x t (refs_in (map value_of (referring (Some v)))) (refs_in (value_of v ∷ [])) pace n rs
           (left_over r ls m p i e f x s t b 0 0 (referring (Some v)) pace n st1 may goes after)
       by_place (Some k) (Some q) same after =

@@ -206,10 +206,10 @@ module _ (r : RawTree) (ls : List Line) (m : Process) (p : Proc Frame) (i : ℕ)
       let three = actor_withdrawn r ls n2 q2 i e (lose f).1 x two go2 in
       let four = frame_told r ls (on_heap (withdrawn i) n2) (on_core (left_wait i e) q2) i (running e) (lose f).1 x three refl refl in
       subst (λ a. RepresentsActor r ls x (on_heap (λ h. gone a.0 s.place (length s.block.now.body.items) (withdrawn a.0 (lost_from a.0 s.class.now.slots (pushed t h)))) m)
-          (on_core (left_wait i e) q2) i (running e) (lose f).1) (sym standing.actor)
+      (on_core (left_wait i e) q2) i (running e) (lose f).1) (sym standing.actor)
       (subst (λ n. RepresentsActor r ls x (on_heap (λ h. gone i s.place (length s.block.now.body.items) (withdrawn i (lost_from i n (pushed t h)))) m) (on_core (left_wait i e) q2) i (running e)
-          (lose f).1) (sym standing.slots)
+      (lose f).1) (sym standing.slots)
       (subst (λ b. RepresentsActor r ls x (on_heap (λ h. gone i b (length s.block.now.body.items) (withdrawn i (lost_from i (length f.code.slots) (pushed t h)))) m) (on_core (left_wait i e) q2) i
-          (running e) (lose f).1) (sym standing.place)
+      (running e) (lose f).1) (sym standing.place)
       (subst (λ n. RepresentsActor r ls x (on_heap (λ h. gone i f.block n (withdrawn i (lost_from i (length f.code.slots) (pushed t h)))) m) (on_core (left_wait i e) q2) i (running e) (lose f).1)
-          (sym end) four)))
+      (sym end) four)))

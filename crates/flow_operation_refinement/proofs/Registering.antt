@@ -70,7 +70,7 @@ module _ (r : RawTree) (h : HeapTree) (p : Proc Frame) (i : ℕ) where
   abbrev pub OneWaits : HeapTree → Numbered Cell → List Ref → Ref → (branch : ℕ) → Cell → Type 0
   OneWaits g ds done q b c =
       (is_busy c ≡ false) × ((k : HeapTree) × (waiting.register i (record { callback = first + b; cell = cell_id q.1 }) g ≡ (true, k))
-          × Waited r h p k (put ds q.1 (with_waiter c (waiter b))) (done ++ q ∷ []))
+      × Waited r h p k (put ds q.1 (with_waiter c (waiter b))) (done ++ q ∷ []))
 
   abbrev pub OneRefused : HeapTree → Ref → (branch : ℕ) → Cell → Type 0
   OneRefused g q b c = (is_busy c ≡ true) × (waiting.register i (record { callback = first + b; cell = cell_id q.1 }) g ≡ (false, g))
@@ -151,8 +151,11 @@ module _ (r : RawTree) (h : HeapTree) (p : Proc Frame) (i : ℕ) where
       )
   stream_waits g ds done q b u d (Some v) w at right =
       let f = found g ds done q b u d (Some v) w at right in
-      inr (refl, registers g ds done q b u d (Some v) w at right ∙ ap (λ x. waiting.stream_awaited q.1 (leaving.waiter_of i (record { callback = first + b; cell = cell_id q.1 })) f.0 x g)
-          (same_waiter g ds done q b u d (Some v) w at right))
+      inr (
+        refl,
+        registers g ds done q b u d (Some v) w at right ∙ ap (λ x. waiting.stream_awaited q.1 (leaving.waiter_of i (record { callback = first + b; cell = cell_id q.1 })) f.0 x g)
+            (same_waiter g ds done q b u d (Some v) w at right),
+      )
 
   pub one_waits : (g : HeapTree) (ds : Numbered Cell) (done : List Ref) (q : Ref) (b : ℕ) (c : Cell) → Waited r h p g ds done → thing ds q.1 ≡ Some c → q.0 ≡ wait_kind (Some c)
       → OneWaits g ds done q b c ⊎ OneRefused g q b c

@@ -83,13 +83,13 @@ module _ (r : RawTree) (ls : List Line) (x : Scan) (m : Process) (p : Proc Frame
   copy_taken k o c ws n s t seen is =
       let f = found_single r m.heap p k c ws s.holds.shows t.at in
       let a = as_single (spot_of_actor p.actors) f.0 (stored.thing m.heap.streams.things k) (thing p.core.cells k)
-              (subst (λ y. CellRepresents (spot_of_actor p.actors) y (stored.thing m.heap.streams.things k) (thing p.core.cells k)) f.1 (s.holds.shows.cells k)) in
+      (subst (λ y. CellRepresents (spot_of_actor p.actors) y (stored.thing m.heap.streams.things k) (thing p.core.cells k)) f.1 (s.holds.shows.cells k)) in
       let same : (Single (option_map outcome_of f.0.content) a.waiters) ≡ Single c ws = let b = a.cell in let d = t.at in cc (b, d) in
       let content : c ≡ Some (outcome_of o) = sym (let z : option_map outcome_of f.0.content ≡ c = cc (same) in z) ∙ sym (ap content_of f.1) ∙ seen in (
         content,
         subst (λ q. ProcessRepresents r ls (with_refs (outcome_refs o) x) q (on_core (put_cell k (Single c ws)) p)) (sym is)
             (subst (λ cs. ProcessRepresents r ls (with_refs (outcome_refs o) x) (on_heap (hold_all (outcome_refs o)) m) (proc (record p.core { cells = cs }) p.actors))
-                (sym (same_put p.core.cells k (Single c ws) t.at))
+            (sym (same_put p.core.cells k (Single c ws) t.at))
             (refs_held r ls x m p (outcome_refs o) s (t.there (outcome_of o) content))),
       )
 
@@ -109,7 +109,7 @@ module _ (r : RawTree) (ls : List Line) (x : Scan) (m : Process) (p : Proc Frame
     element_goes o v vs e is =
         let a = element_taken r m.heap p k y v vs (Stream q d w) s.holds.shows at e t.at in
         subst (λ z. (taken (Stream q d w) ≡ Some (outcome_of z)) × ProcessRepresents r ls (with_refs (outcome_refs z) x) (on_heap (stream_put k (record y { queue = vs })) m)
-            (on_core (put_cell k (after_taking (Stream q d w))) p)) (sym is) (
+        (on_core (put_cell k (after_taking (Stream q d w))) p)) (sym is) (
           a.0,
           changed r ls x (with_refs (outcome_refs (outcome.Value v)) x) m p (on_core (put_cell k (after_taking (Stream q d w))) p) (stream_put k (record y { queue = vs }) m.heap) s (record {
             shows = a.1;
@@ -133,9 +133,8 @@ module _ (r : RawTree) (ls : List Line) (x : Scan) (m : Process) (p : Proc Frame
         ap (λ vs. stream_put k (record y { queue = vs }) m.heap) (sym e)
         ∙ ap (λ ss. record m.heap { streams = record m.heap.streams { things = ss } }) (put_same m.heap.streams.things k y at) in
         subst (λ u. (taken (Stream q d w) ≡ Some (outcome_of u)) × ProcessRepresents r ls (with_refs (outcome_refs u) x) (on_heap (stream_put k (record y { queue = [] })) m)
-            (on_core (put_cell k (after_taking (Stream q d w))) p)) (sym is)
-        (subst (λ u. (taken u ≡ Some (BadOutcome z.0)) × ProcessRepresents r ls (with_refs [] x) (on_heap (stream_put k (record y { queue = [] })) m) (on_core (put_cell k (after_taking u)) p)) cell_is
-            (
+        (on_core (put_cell k (after_taking (Stream q d w))) p)) (sym is)
+        (subst (λ u. (taken u ≡ Some (BadOutcome z.0)) × ProcessRepresents r ls (with_refs [] x) (on_heap (stream_put k (record y { queue = [] })) m) (on_core (put_cell k (after_taking u)) p)) cell_is (
           refl,
           subst (λ h. ProcessRepresents r ls (with_refs [] x) (record m { heap = h }) (on_core (put_cell k c) p)) (sym same_stream)
               (subst (λ cs. ProcessRepresents r ls (with_refs [] x) m (proc (record p.core { cells = cs }) p.actors)) (sym (same_put p.core.cells k c (t.at ∙ ap Some (sym cell_is))))
@@ -162,7 +161,7 @@ module _ (r : RawTree) (ls : List Line) (x : Scan) (m : Process) (p : Proc Frame
       by_cell (Stream q d w) t (copied seen is) =
           let f = found_stream r m.heap p k q d w s.holds.shows t.at in
           let a = as_stream (spot_of_actor p.actors) f.0 (stored.thing m.heap.cells.things k) (thing p.core.cells k)
-                  (subst (λ y. CellRepresents (spot_of_actor p.actors) (stored.thing m.heap.cells.things k) y (thing p.core.cells k)) f.1 (s.holds.shows.cells k)) in
+          (subst (λ y. CellRepresents (spot_of_actor p.actors) (stored.thing m.heap.cells.things k) y (thing p.core.cells k)) f.1 (s.holds.shows.cells k)) in
           let none = ap content_of a.no_single in absurd (cc (none, seen))
 
 -- a cell from which something was taken has the waiters and the kind that it had
@@ -281,10 +280,10 @@ module _ (r : RawTree) (ls : List Line) (m : Process) (p : Proc Frame) (i : ℕ)
       (subst (λ g. RepresentsActor r ls x (telling (line.Take s.actor bt.group b) after) (gives_there es left g b k c (taken c)) i (running e) (lose f).1) (sym spot)
       (subst (λ o. RepresentsActor r ls x (telling (line.Take s.actor bt.group b) after) (gives_there es left group b k c o) i (running e) (lose f).1) (sym ct.0)
       (subst (λ xs. RepresentsActor r ls x (telling (line.Take s.actor bt.group b) after) (proc (record (leave_for i e (lose f).0 u q2.core) { entries = xs }) (put p.actors i (lose f).1)) i
-          (running e) (lose f).1) (sym over)
+      (running e) (lose f).1) (sym over)
       (subst (λ g. RepresentsActor r ls x (telling (line.Take s.actor g b) after) (proc (leave_for i e (lose f).0 u q2.core) (put p.actors i (lose f).1)) i (running e) (lose f).1) (sym number)
       (subst (λ a. RepresentsActor r ls x (telling (line.Take a group b) after) (proc (leave_for i e (lose f).0 u q2.core) (put p.actors i (lose f).1)) i (running e) (lose f).1)
-          (sym standing.actor) done)))))
+      (sym standing.actor) done)))))
 
   pub branch_follows : law.BranchFollows r ls m p i e f
   branch_follows x s group b k c n es st over none standing wait spot go t takes = by_case takes

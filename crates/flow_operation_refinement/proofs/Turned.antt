@@ -119,8 +119,8 @@ module _ (r : RawTree) (ls : List Line) (m : Process) (p : Proc Frame) (i : ℕ)
       let km : Process = with_heap k m in
       let out : Proc Frame = on_core (left_wait i e) q2 in
       subst (λ a. RepresentsActor r ls x (on_heap (λ h. gone a.0 s.place (length s.block.now.body.items) (withdrawn a.0 (lost_from a.0 s.class.now.slots (pushed t h)))) km) out i (running e) g)
-          (sym standing.actor)
+      (sym standing.actor)
       (subst (λ n. RepresentsActor r ls x (on_heap (λ h. gone i s.place (length s.block.now.body.items) (withdrawn i (lost_from i n (pushed t h)))) km) out i (running e) g) (sym standing.slots)
       (subst (λ b. RepresentsActor r ls x (on_heap (λ h. gone i b (length s.block.now.body.items) (withdrawn i (lost_from i (length f.code.slots) (pushed t h)))) km) out i (running e) g)
-          (sym standing.place)
+      (sym standing.place)
       (subst (λ n. RepresentsActor r ls x (on_heap (λ h. gone i f.block n (withdrawn i (lost_from i (length f.code.slots) (pushed t h)))) km) out i (running e) g) (sym end) four)))

@@ -156,7 +156,7 @@ module _ (r : RawTree) (ls : List Line) (m : Process) (p : Proc Frame) (x : Scan
   there : RepresentsActor r ls x m (put_actor i spotted waiting_frame p) i spotted waiting_frame
   there =
       let same : frame_put i st.acts.memory m.heap ≡ m.heap = ap (λ ms. record m.heap { frames = record m.heap.frames { things = ms } }) (put_same m.heap.frames.things i st.acts.memory st.acts.framed)
-              in record {
+      in record {
         shown = record {
           holds = record {
             shows = subst (λ h. Represents r h (put_actor i spotted waiting_frame p)) same
@@ -250,7 +250,7 @@ module _ (r : RawTree) (ls : List Line) (m : Process) (p : Proc Frame) (x : Scan
         let sh = restated_shows r k told_proc i e asleep f waiting_frame n told_shows told_acts stands_asleep refl refl refl refl refl refl in
         let line_told = telling_shown r ls x said m p st.shown none in
         subst (λ o. RepresentsActor r ls x (telling said (with_heap (reframed (in_state (suc group)) i o k) m)) (put_actor i asleep waiting_frame told_proc) i asleep waiting_frame)
-            (sym told_acts.framed) (record {
+        (sym told_acts.framed) (record {
           shown = record {
             holds = record {
               shows = sh;
@@ -275,14 +275,14 @@ module _ (r : RawTree) (ls : List Line) (m : Process) (p : Proc Frame) (x : Scan
         let lost = locals_lost r ls (telling said (with_heap (suspended_at i (suc group) k) m)) (put_actor i asleep waiting_frame told_proc) i asleep waiting_frame x fallen in
         let ended : Frame = record (lose f).1 { state = suc group } in
         subst (λ q. ProcessRepresents r ls x (telling said (on_heap (λ g. suspended_at i (suc group) (lost_from i (length f.code.slots) g)) (with_heap k m)))
-            (proc (suspend i (wait_spot f) spotted (lose f).0 q p.core) (put p.actors i ended))) (sym reg)
+        (proc (suspend i (wait_spot f) spotted (lose f).0 q p.core) (put p.actors i ended))) (sym reg)
         (subst (λ g. ProcessRepresents r ls x (telling said (on_heap (λ g. suspended_at i (suc group) (lost_from i (length f.code.slots) g)) (with_heap k m)))
         (proc (dropping_values (lose f).0 (record (writes (wait_line i g) p.core) { cells = es; entries = put p.core.entries i asleep })) (put p.actors i ended))) (sym spot_group)
         (subst (λ h. ProcessRepresents r ls x (telling said (with_heap h m))
-            (proc (dropping_values (lose f).0 (record (writes said p.core) { cells = es; entries = put p.core.entries i asleep })) (put p.actors i ended)))
-            (sym (suspended_first i group (length f.code.slots) k))
+        (proc (dropping_values (lose f).0 (record (writes said p.core) { cells = es; entries = put p.core.entries i asleep })) (put p.actors i ended)))
+        (sym (suspended_first i group (length f.code.slots) k))
         (subst (λ xs. ProcessRepresents r ls x (telling said (with_heap (lost_from i (length f.code.slots) (suspended_at i (suc group) k)) m))
-            (proc (dropping_values (lose f).0 (record (writes said p.core) { cells = es; entries = put p.core.entries i asleep })) xs))
+        (proc (dropping_values (lose f).0 (record (writes said p.core) { cells = es; entries = put p.core.entries i asleep })) xs))
         (put_over p.actors i waiting_frame ended) lost.shown)))
 
   by_registration : (n : Process) (h : HeapTree) → waiting.register_all i (held_from (first + 0) e.operands) m.heap ≡ (true, h)
@@ -323,9 +323,9 @@ module _ (r : RawTree) (ls : List Line) (m : Process) (p : Proc Frame) (x : Scan
       subst (λ y. Matches r ls x n (proc (suspend i (wait_spot f) spotted (lose f).0 y p.core) (put p.actors i (record (lose f).1 { state = suc group })))) (sym (refused_there h reg registration))
       (subst (λ z. Matches r ls x z (proc (leave_for i spotted (lose f).0 u p.core) (put p.actors i (record (lose f).1 { state = suc group })))) (sym is)
       (subst (λ xs. Matches r ls x (on_heap (left_for s (task.Throw s.actor (record { 0 = second_waiter }))) (with_heap h m))
-          (proc (record (leave_for i spotted (lose f).0 u p.core) { entries = xs }) (put p.actors i (record (lose f).1 { state = suc group })))) (put_over p.core.entries i spotted (running spotted))
+      (proc (record (leave_for i spotted (lose f).0 u p.core) { entries = xs }) (put p.actors i (record (lose f).1 { state = suc group })))) (put_over p.core.entries i spotted (running spotted))
       (subst (λ xs. Matches r ls x (on_heap (left_for s (task.Throw s.actor (record { 0 = second_waiter }))) (with_heap h m)) (proc (leave_for i spotted (lose f).0 u q.core) xs))
-          (put_over p.actors i waiting_frame (record (lose f).1 { state = suc group }))
+      (put_over p.actors i waiting_frame (record (lose f).1 { state = suc group }))
       (shows left.shown))))
 
   -- each way

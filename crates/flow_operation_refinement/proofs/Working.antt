@@ -154,7 +154,7 @@ module _ (r : RawTree) (ls : List Line) (x : Scan) (m : Process) (p : Proc Frame
   cell_broken kd k s none t =
       turn_taken r ls x m p x (filled_broken kd k) (λ d. fill k (BadOutcome broken_promise) (writes (broken_line k) d)) s
       (λ n e s. shows (broken_filled r ls x (turned m) (on_core (λ c. record c { left = n }) p) kd k s (still m none)
-          (record { cell = t.cell; at = t.at; right = t.right; incomplete = t.incomplete })))
+      (record { cell = t.cell; at = t.at; right = t.right; incomplete = t.incomplete })))
     where
       still : (m : Process) → m.asked ≡ None → (turned m).asked ≡ None
       still m none = by_test (nat_lt 0 m.left)

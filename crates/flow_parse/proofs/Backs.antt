@@ -44,7 +44,7 @@ pub record Formed {A B : Type 0} (U : List Marked → B → Type 0) (h : B → A
 abbrev pub Form : Option Word → Bool → ℕ → Counts → List Marked → Out → Type 0
 Form (Some word.If) actor d c w o =
     Formed (Then (Tok (token.Word word.If)) (λ p. Then (Test (suc d)) (λ e. BodyPart actor (suc d) c))) (λ x. record { body = IfStmt x.0 x.1.0 x.1.1.body End; counts = x.1.1.counts; ends_if = true })
-        w o
+    w o
     ⊎ Formed (Then (Tok (token.Word word.If)) (λ p. Then (Test (suc d)) (λ e. Then (ClosedBody actor (suc d) c) (λ o. Then (Tok (token.Word word.Else)) (λ q. BodyPart actor (suc d) o.counts)))))
     (λ x. with (IfElseStmt x.0 x.1.0 x.1.1.0.body x.1.1.1.1.body End) x.1.1.1.1) w o
 Form (Some word.While) actor d c w o = Formed (Then (Tok (token.Word word.While)) (λ p. Then (Test (suc d)) (λ e. BodyPart actor (suc d) c))) (λ x. with (WhileStmt x.0 x.1.0 x.1.1.body End) x.1.1) w o
@@ -91,7 +91,7 @@ form {actor = actor} {d = d} {c = c} {c' = c'} {b = b} (if_else_stmt {c1 = c1} {
   rule = tok_front (token.Word word.If) at _ _ f (front (Test (suc d)) t _ (sign_at sign.OpenRound p ∷ (test ++ sign_at sign.CloseRound q ∷ [])) (body ++ (word_at word.Else r ∷ other))
       (regroup (sign_at sign.OpenRound p) (sign_at sign.CloseRound q) test (body ++ (word_at word.Else r ∷ other))) (p, q, test, e, refl)
       (front (ClosedBody actor (suc d) c) (record { body = inner; counts = c1; ends_if = false }) _ body (word_at word.Else r ∷ other) refl (o, refl)
-          (tok_front (token.Word word.Else) r _ other refl u)));
+      (tok_front (token.Word word.Else) r _ other refl u)));
   is = refl;
 })
 form {d = d} {c' = c'} {b = b} (while_stmt {inner = inner} {e = t} at p q test body e o f) = record {
@@ -106,16 +106,22 @@ form {actor = actor} {d = d} {c = c} {c' = c'} {b = b} (for_stmt {c1 = c1} {c2 =
       (front (StartPart actor (suc d) c) (start, c1) _ (init ++ sign_at sign.Semicolon q ∷ []) (test ++ (sign_at sign.Semicolon r ∷ (step ++ (sign_at sign.CloseRound s ∷ body))))
       (sym (append_assoc init (sign_at sign.Semicolon q ∷ []) (test ++ (sign_at sign.Semicolon r ∷ (step ++ (sign_at sign.CloseRound s ∷ body)))))) (q, init, i, refl)
       (front (MaybeExpr (suc d)) t _ (test ++ sign_at sign.Semicolon r ∷ []) (step ++ (sign_at sign.CloseRound s ∷ body))
-          (sym (append_assoc test (sign_at sign.Semicolon r ∷ []) (step ++ (sign_at sign.CloseRound s ∷ body)))) (r, test, e, refl)
+      (sym (append_assoc test (sign_at sign.Semicolon r ∷ []) (step ++ (sign_at sign.CloseRound s ∷ body)))) (r, test, e, refl)
       (front (NextPart (suc d) c1) (next, c2) _ (step ++ sign_at sign.CloseRound s ∷ []) body (sym (append_assoc step (sign_at sign.CloseRound s ∷ []) body)) (s, step, n, refl) o))));
   is = refl;
 }
-form {c' = c'} {b = b} (loop_stmt {inner = inner} at body o f) = record { tree = (at, record { body = inner; counts = c'; ends_if = b }); rule = tok_front (token.Word word.Loop) at _ body f o;
-    is = refl }
+form {c' = c'} {b = b} (loop_stmt {inner = inner} at body o f) = record {
+  tree = (at, record { body = inner; counts = c'; ends_if = b });
+  rule = tok_front (token.Word word.Loop) at _ body f o;
+  is = refl;
+}
 form (break_stmt at p) = record { tree = (at, p); rule = tok_front (token.Word word.Break) at p _ refl refl; is = refl }
 form (continue_stmt at p) = record { tree = (at, p); rule = tok_front (token.Word word.Continue) at p _ refl refl; is = refl }
-form {d = d} (return_stmt {e = t} at p value e f) = record { tree = (at, (t, p));
-    rule = tok_front (token.Word word.Return) at _ _ f (front (ExprRule 0 (suc d)) t p value (sign_at sign.Semicolon p ∷ []) refl e refl); is = refl }
+form {d = d} (return_stmt {e = t} at p value e f) = record {
+  tree = (at, (t, p));
+  rule = tok_front (token.Word word.Return) at _ _ f (front (ExprRule 0 (suc d)) t p value (sign_at sign.Semicolon p ∷ []) refl e refl);
+  is = refl;
+}
 form {d = d} (throw_stmt {e = t} at p value e f) = record { tree = (at, t); rule = tok_front (token.Word word.Throw) at t _ f (p, value, e, refl); is = refl }
 form {actor = actor} {d = d} {c = c} {c' = c'} (try_stmt {c1 = c1} {inner = inner} {handler = handler} at p q r s u x body caught o h f) =
     let a = block_of o in
@@ -125,7 +131,7 @@ form {actor = actor} {d = d} {c = c} {c' = c'} (try_stmt {c1 = c1} {inner = inne
       rule = tok_front (token.Word word.Try) at _ _ f (front (Block actor (suc d) c) (record { body = inner; counts = c1; close = a.0 }) _ body
           (word_at word.Catch p ∷ sign_at sign.OpenRound q ∷ word_at word.Error r ∷ sign_at sign.Amp s ∷ name_at x ∷ sign_at sign.CloseRound u ∷ caught) refl a.1
           (front Catch (p, x) _ (word_at word.Catch p ∷ sign_at sign.OpenRound q ∷ word_at word.Error r ∷ sign_at sign.Amp s ∷ name_at x ∷ sign_at sign.CloseRound u ∷ []) caught refl
-              (q, r, s, u, refl) b.1));
+          (q, r, s, u, refl) b.1));
       is = refl;
     }
 form {actor = actor} {d = d} {c = c} {c' = c'} (choose_stmt {c1 = c1} {b = br} {bs = bs} at p q first more w ws f) = record {

@@ -53,8 +53,13 @@ params_back z o n r l = by_rule z o n r.0 r.1 r.2 r.3 l
         → w ≡ of ++ sign_at sign.CloseRound q ∷ [] → Looks o (w ++ z) → Back Params Any (Then (ParamRule 1) (λ f. MoreParams 2)) Any (λ x. x.0 ∷ x.1) w z fs
     by_rule z o n q of no_params e l = absurd (n (looks_is o (sign_at sign.CloseRound q) [] z e l))
     by_rule z o n q of (some_params {f = g} {fs = gs} first more p m f) e l =
-        record { tree = (g, gs); rule = front (ParamRule 1) g gs first (more ++ sign_at sign.CloseRound q ∷ []) (e ∙ ap (λ k. k ++ sign_at sign.CloseRound q ∷ []) f ∙ append_assoc first more _) p
-        (q, more, m, refl); is = refl; follows = tt }
+        record {
+          tree = (g, gs);
+          rule = front (ParamRule 1) g gs first (more ++ sign_at sign.CloseRound q ∷ []) (e ∙ ap (λ k. k ++ sign_at sign.CloseRound q ∷ []) f ∙ append_assoc first more _) p
+              (q, more, m, refl);
+          is = refl;
+          follows = tt;
+        }
 
 pub more_params_back : {n : ℕ} {w : List Marked} {fs : List ParamTree} (z : List Marked) → MoreParams n w fs → Looks (Some (token.Sign sign.Comma)) (w ++ z)
     → Back (MoreParams n) Any (Then (Tok (token.Sign sign.Comma)) (λ p. Then (ParamRule n) (λ f. MoreParams (suc n)))) Any (λ x. x.1.0 ∷ x.1.1) w z fs
@@ -141,8 +146,8 @@ record_form (fields {f = f} {fs = fs} at p q r x xs g e) = record {
   rule = tok_front (token.Word word.Struct) at (x, (p, (f ∷ fs, r))) (name_at x ∷ sign_at sign.OpenCurly p ∷ (xs ++ (sign_at sign.CloseCurly q ∷ sign_at sign.Semicolon r ∷ []))) e
       (front Named x (p, (f ∷ fs, r)) (name_at x ∷ []) (sign_at sign.OpenCurly p ∷ (xs ++ (sign_at sign.CloseCurly q ∷ sign_at sign.Semicolon r ∷ []))) refl refl
       (tok_front (token.Sign sign.OpenCurly) p (f ∷ fs, r) (xs ++ (sign_at sign.CloseCurly q ∷ sign_at sign.Semicolon r ∷ [])) refl
-          (front AllFields (f ∷ fs) r (xs ++ sign_at sign.CloseCurly q ∷ []) (sign_at sign.Semicolon r ∷ []) (sym (append_assoc xs (sign_at sign.CloseCurly q ∷ []) (sign_at sign.Semicolon r ∷ [])))
-          ((q, xs, g, refl), some_field f fs) refl)));
+      (front AllFields (f ∷ fs) r (xs ++ sign_at sign.CloseCurly q ∷ []) (sign_at sign.Semicolon r ∷ []) (sym (append_assoc xs (sign_at sign.CloseCurly q ∷ []) (sign_at sign.Semicolon r ∷ [])))
+      ((q, xs, g, refl), some_field f fs) refl)));
   is = refl;
 }
 
@@ -161,7 +166,7 @@ routine_form {actor = actor} (routine {c = c} {ps = ps} {body = body} p q r clos
       rule = front Named x (p, (ps, b)) (name_at x ∷ []) (sign_at sign.OpenRound p ∷ (params ++ (sign_at sign.CloseRound q ∷ sign_at sign.OpenCurly r ∷ (xs ++ sign_at sign.CloseCurly close ∷ [])))) e
           refl (tok_front (token.Sign sign.OpenRound) p (ps, b) (params ++ (sign_at sign.CloseRound q ∷ sign_at sign.OpenCurly r ∷ (xs ++ sign_at sign.CloseCurly close ∷ []))) refl
           (front Params ps b (params ++ sign_at sign.CloseRound q ∷ []) (sign_at sign.OpenCurly r ∷ (xs ++ sign_at sign.CloseCurly close ∷ []))
-              (sym (append_assoc params (sign_at sign.CloseRound q ∷ []) (sign_at sign.OpenCurly r ∷ (xs ++ sign_at sign.CloseCurly close ∷ [])))) (q, params, g, refl) (r, xs, ss, refl)));
+          (sym (append_assoc params (sign_at sign.CloseRound q ∷ []) (sign_at sign.OpenCurly r ∷ (xs ++ sign_at sign.CloseCurly close ∷ [])))) (q, params, g, refl) (r, xs, ss, refl)));
       is = refl;
     }
 
@@ -216,7 +221,7 @@ actor_back z (actor_decl {t = y} {f = f} at p q r of xs t u e) l = record {
   rule = tok_front (token.Word word.Actor) at (p, (q, (y, (r, out_of f)))) (word_at word.Future p ∷ sign_at sign.Less q ∷ (of ++ (sign_at sign.Greater r ∷ xs))) e
       (tok_front (token.Word word.Future) p (q, (y, (r, out_of f))) (sign_at sign.Less q ∷ (of ++ (sign_at sign.Greater r ∷ xs))) refl
       (tok_front (token.Sign sign.Less) q (y, (r, out_of f)) (of ++ (sign_at sign.Greater r ∷ xs)) refl
-          (front (TypeRule 2) y (r, out_of f) of (sign_at sign.Greater r ∷ xs) refl t (tok_front (token.Sign sign.Greater) r (out_of f) xs refl (routine_any u)))));
+      (front (TypeRule 2) y (r, out_of f) of (sign_at sign.Greater r ∷ xs) refl t (tok_front (token.Sign sign.Greater) r (out_of f) xs refl (routine_any u)))));
   is = ap ActorDecl (routine_same u);
   follows = tt;
 }
@@ -253,7 +258,7 @@ actor_part_back z (actor_decl {t = y} {f = f} at p q r of xs t u e) = record {
   rule = tok_front (token.Word word.Actor) at (p, (q, (y, (r, out_of f)))) (word_at word.Future p ∷ sign_at sign.Less q ∷ (of ++ (sign_at sign.Greater r ∷ xs))) e
       (tok_front (token.Word word.Future) p (q, (y, (r, out_of f))) (sign_at sign.Less q ∷ (of ++ (sign_at sign.Greater r ∷ xs))) refl
       (tok_front (token.Sign sign.Less) q (y, (r, out_of f)) (of ++ (sign_at sign.Greater r ∷ xs)) refl
-          (front (TypeRule 2) y (r, out_of f) of (sign_at sign.Greater r ∷ xs) refl t (tok_front (token.Sign sign.Greater) r (out_of f) xs refl (routine_any u)))));
+      (front (TypeRule 2) y (r, out_of f) of (sign_at sign.Greater r ∷ xs) refl t (tok_front (token.Sign sign.Greater) r (out_of f) xs refl (routine_any u)))));
   is = routine_same u;
   follows = tt;
 }

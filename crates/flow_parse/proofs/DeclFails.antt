@@ -59,7 +59,7 @@ module _ (limits : Limits) (t : Tokens) (at n : ℕ) (h : at ≤ length t.spots.
   pub param_beyond : limits.variables < n → at < length t.spots.items → AsFirst TypeToken (token_at t.spots.items at) → Fails limits (ParamRule n) Any t at (Refused (rule.L 6) (place_at t at))
   param_beyond g lt b = fails limits t (param_left limits t at h n) (Refused (rule.L 6) (place_at t at))
       (beyond_fails limits TypeName Any (Variable n) 6 t at (omega arith) (omega arith) lt (λ k. let x = k (omega arith) in omega arith)
-          (λ m l k. absurd (omega arith)) TypeToken type_name_begins some_type_name (λ m l. param_opens limits m (drop at t.spots.items) (next_first TypeToken t.spots.items at b)))
+      (λ m l k. absurd (omega arith)) TypeToken type_name_begins some_type_name (λ m l. param_opens limits m (drop at t.spots.items) (next_first TypeToken t.spots.items at b)))
 
   pub no_param : (AsFirst TypeToken (token_at t.spots.items at) → ⊥) → Fails limits (ParamRule n) Any t at (Refused (rule.S 5) (place_at t at))
   no_param b = none_fails limits (ParamRule n) Any t at (some_param n) (λ w z x r f l. b (starts_looks TypeToken w z (token_at t.spots.items at) (param_starts r) l))
@@ -155,14 +155,14 @@ module _ (t : Tokens) (few : length t.spots.items ≤ 200000) {at n : ℕ} {g : 
   decl_beyond k lt b = program_refused t few (Refused (rule.L 3) (place_at t at))
       (first_fails OF_PROGRAMS t (decls_link n) (decl_left OF_PROGRAMS t.spots.items x e l) (Refused (rule.L 3) (place_at t at))
       (beyond_fails OF_PROGRAMS (Marks (Node 1) DeclRule) Any (Declaration n) 3 t at (omega arith) (omega arith) lt (λ h. let y = h (omega arith) in omega arith)
-          (λ m i h. absurd (omega arith)) DeclToken node_begins (some_marks DeclRule (Node 1) (some_decl OF_PROGRAMS))
-          (λ m i. node_opens OF_PROGRAMS m (drop at t.spots.items) (next_first DeclToken t.spots.items at b))))
+      (λ m i h. absurd (omega arith)) DeclToken node_begins (some_marks DeclRule (Node 1) (some_decl OF_PROGRAMS))
+      (λ m i. node_opens OF_PROGRAMS m (drop at t.spots.items) (next_first DeclToken t.spots.items at b))))
 
   -- no declaration begins here
   pub no_decl : (AsFirst DeclToken (token_at t.spots.items at) → ⊥) → ParseAnswer t (Err (Refused (rule.S 5) (place_at t at)))
   no_decl b = program_refused t few (Refused (rule.S 5) (place_at t at)) (first_fails OF_PROGRAMS t (decls_link n) (decl_left OF_PROGRAMS t.spots.items x e l) (Refused (rule.S 5) (place_at t at))
       (none_fails OF_PROGRAMS (DeclMarks n) Any t at (some_marks (Marks (Node 1) DeclRule) (Declaration n) (some_marks DeclRule (Node 1) (some_decl OF_PROGRAMS)))
-          (λ w z y r f k. b (starts_looks DeclToken w z (token_at t.spots.items at) (decl_marks_starts r) k))))
+      (λ w z y r f k. b (starts_looks DeclToken w z (token_at t.spots.items at) (decl_marks_starts r) k))))
 
   -- the declaration that begins here is refused
   pub decl_fails : n ≤ 4096 → (f : SourceFault) → Fails OF_PROGRAMS DeclRule Any t at f → ParseAnswer t (Err f)

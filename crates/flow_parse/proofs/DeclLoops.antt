@@ -39,7 +39,7 @@ pub params_step : (limits : Limits) (spots : List Spot) (from at to n m : ℕ) (
 params_step limits spots from at to n m k ps qs p q e x l s r =
     subst (λ i. Leaves limits Params Any (MoreParams i) Any (params_before qs) spots from to) (sym e)
     (means limits spots (params_before qs) (λ ts. params_push ps p ts ∙ ap (λ z. params_before z ts) (sym q))
-        (then_reads limits spots (next_param_link n) (then_reads limits spots (more_params_link n) (more_params_left limits spots x l) s) r))
+    (then_reads limits spots (next_param_link n) (then_reads limits spots (more_params_link n) (more_params_left limits spots x l) s) r))
 
 pub params_done : (limits : Limits) (spots : List Spot) (from at to n : ℕ) (k : Place) (ps : List Param) → (token_at spots at ≡ Some (token.Sign sign.Comma) → ⊥)
     → Leaves limits Params Any (MoreParams n) Any (params_before ps) spots from at → Reads limits (Tok (token.Sign sign.CloseRound)) Any spots at k to
@@ -59,7 +59,7 @@ pub fields_step : (limits : Limits) (spots : List Spot) (from at mid to n m : �
 fields_step limits spots from at mid to n m k ps qs p q e x l r s =
     subst (λ i. Leaves limits AllFields Any (FieldsPart i) Any (params_before qs) spots from to) (sym e)
     (means limits spots (params_before qs) (λ ts. params_push ps p ts ∙ ap (λ z. params_before z ts) (sym q))
-        (then_reads limits spots (semicolon_link (suc n)) (then_reads limits spots (field_link n) (more_fields_left limits spots x l) r) s))
+    (then_reads limits spots (semicolon_link (suc n)) (then_reads limits spots (field_link n) (more_fields_left limits spots x l) r) s))
 
 pub fields_done : (limits : Limits) (spots : List Spot) (from at to n : ℕ) (k : Place) (ps : List Param) → token_at spots at ≡ Some (token.Sign sign.CloseCurly)
     → Leaves limits AllFields Any (FieldsPart n) Any (params_before ps) spots from at → Reads limits (Tok (token.Sign sign.CloseCurly)) Any spots at k to

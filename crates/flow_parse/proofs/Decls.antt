@@ -122,24 +122,35 @@ decls_link n = free (λ x. some_decls (suc n))
 
 module _ (limits : Limits) (t : Tokens) (at : ℕ) (h : at ≤ length t.spots.items) where
   pub param_left : (n : ℕ) → Leaves limits (ParamRule n) Any (Marks (Variable n) TypeName) Any (λ x. record { ty = x.0; name = x.1 }) t.spots.items at at
-  param_left n = narrow limits t.spots.items refl (record { back = λ w z b r f l. param_back z r;
-      forth = λ u x r. param x.1 r.1.first r.1.front (r.2 ∙ ap (begin (Variable n)) (glue _ r.1.is r.1.back)) }) (nothing limits t.spots.items (ParamRule n) Any at h)
+  param_left n = narrow limits t.spots.items refl (record {
+    back = λ w z b r f l. param_back z r;
+    forth = λ u x r. param x.1 r.1.first r.1.front (r.2 ∙ ap (begin (Variable n)) (glue _ r.1.is r.1.back));
+  }) (nothing limits t.spots.items (ParamRule n) Any at h)
 
   pub no_params_left : token_at t.spots.items at ≡ Some (token.Sign sign.CloseRound) → Leaves limits Params Any (Tok (token.Sign sign.CloseRound)) Any (λ p. []) t.spots.items at at
   no_params_left e = narrow limits t.spots.items e (record { back = λ w z b r f l. no_params_back z r l; forth = λ u p r. (p, [], no_params, r) }) (nothing limits t.spots.items Params Any at h)
 
   pub params_left : (token_at t.spots.items at ≡ Some (token.Sign sign.CloseRound) → ⊥) → Leaves limits Params Any (Then (ParamRule 1) (λ f. MoreParams 2)) Any (λ x. x.0 ∷ x.1) t.spots.items at at
-  params_left n = narrow limits t.spots.items refl (record { back = λ w z b r f l. params_back z (token_at t.spots.items at) n r l;
-      forth = λ u x r. (r.back.0, r.first ++ r.back.1, some_params r.first r.back.1 r.front r.back.2 refl, glue _ r.is r.back.3 ∙ sym (append_assoc r.first r.back.1 _)) })
+  params_left n = narrow limits t.spots.items refl (record {
+    back = λ w z b r f l. params_back z (token_at t.spots.items at) n r l;
+    forth = λ u x r. (r.back.0, r.first ++ r.back.1, some_params r.first r.back.1 r.front r.back.2 refl, glue _ r.is r.back.3 ∙ sym (append_assoc r.first r.back.1 _));
+  })
       (nothing limits t.spots.items Params Any at h)
 
   pub fields_left : Leaves limits AllFields Any (Then (ParamRule 1) (λ f. Then (Tok (token.Sign sign.Semicolon)) (λ p. FieldsPart 2))) Any (λ x. x.0 ∷ x.1.1) t.spots.items at at
   fields_left = narrow limits t.spots.items refl (record {
     back = λ w z b r f l. all_fields_back z r;
     forth = λ u x r.
-        let k = r.back.back in
-        ((k.0, r.first ++ (sign_at sign.Semicolon x.1.0 ∷ k.1), more_fields x.1.0 r.first k.1 r.front k.2 refl, glue _ r.is (behind r.back.is r.back.front k.3)
-            ∙ sym (append_assoc r.first (sign_at sign.Semicolon x.1.0 ∷ k.1) _)), some_more x.0 x.1.1);
+        let k = r.back.back in (
+          (
+            k.0,
+            r.first ++ (sign_at sign.Semicolon x.1.0 ∷ k.1),
+            more_fields x.1.0 r.first k.1 r.front k.2 refl,
+            glue _ r.is (behind r.back.is r.back.front k.3)
+                ∙ sym (append_assoc r.first (sign_at sign.Semicolon x.1.0 ∷ k.1) _),
+          ),
+          some_more x.0 x.1.1,
+        );
   }) (nothing limits t.spots.items AllFields Any at h)
 
   pub record_left : Leaves limits Record Any (Then (Tok (token.Word word.Struct))
@@ -149,7 +160,7 @@ module _ (limits : Limits) (t : Tokens) (at : ℕ) (h : at ≤ length t.spots.it
     forth = λ u x r.
         let k = r.back.back.back in
         record_decl (record_rule x.0 x.1.1.0 k.front.0.0 x.1.1.1.1 x.1.0 k.front.0.1 u x.1.1.1.0 k.front.0.2 k.front.1
-            (behind r.is r.front (behind r.back.is r.back.front (behind r.back.back.is r.back.back.front (closed_by _ _ k.is k.front.0.3 k.back)))));
+        (behind r.is r.front (behind r.back.is r.back.front (behind r.back.back.is r.back.back.front (closed_by _ _ k.is k.front.0.3 k.back)))));
   }) (nothing limits t.spots.items Record Any at h)
 
   pub routine_left : (actor : Bool) → Leaves limits (Routine actor) Any
@@ -176,7 +187,7 @@ module _ (limits : Limits) (t : Tokens) (at : ℕ) (h : at ≤ length t.spots.it
     forth = λ u x r.
         let k = r.back.back.back in
         actor_decl x.0 x.1.0 x.1.1.0 x.1.1.1.1.0 k.first k.back.rest k.front (k.back.back x.0 x.1.1.1.0)
-            (behind r.is r.front (behind r.back.is r.back.front (behind r.back.back.is r.back.back.front (glue _ k.is (behind k.back.is k.back.front refl)))));
+        (behind r.is r.front (behind r.back.is r.back.front (behind r.back.back.is r.back.back.front (glue _ k.is (behind k.back.is k.back.front refl)))));
   }) (nothing limits t.spots.items Actor Any at h)
 
   -- behind the word that begins it
@@ -204,9 +215,16 @@ module _ (limits : Limits) (spots : List Spot) where
   pub more_params_left : {A : Type 0} {W : List Marked → A → Type 0} {FW : A → List Marked → Type 0} {g : List ParamTree → A} {from at n : ℕ} → token_at spots at ≡ Some (token.Sign sign.Comma)
       → Leaves limits W FW (MoreParams n) Any g spots from at
       → Leaves limits W FW (Then (Tok (token.Sign sign.Comma)) (λ p. Then (ParamRule n) (λ f. MoreParams (suc n)))) Any (λ x. g (x.1.0 ∷ x.1.1)) spots from at
-  more_params_left e l = narrow limits spots e (record { back = λ w z b r f k. more_params_back z r k;
-      forth = λ u x r. (r.back.back.0, _, more_params x.0 r.back.first r.back.back.1 r.back.front r.back.back.2 refl, behind r.is r.front
-      (glue r.back.first r.back.is r.back.back.3 ∙ sym (append_assoc r.back.first r.back.back.1 _))) }) l
+  more_params_left e l = narrow limits spots e (record {
+    back = λ w z b r f k. more_params_back z r k;
+    forth = λ u x r. (
+      r.back.back.0,
+      _,
+      more_params x.0 r.back.first r.back.back.1 r.back.front r.back.back.2 refl,
+      behind r.is r.front
+          (glue r.back.first r.back.is r.back.back.3 ∙ sym (append_assoc r.back.first r.back.back.1 _)),
+    );
+  }) l
 
   pub end_params_left : {A : Type 0} {W : List Marked → A → Type 0} {FW : A → List Marked → Type 0} {g : List ParamTree → A} {from at n : ℕ} → (token_at spots at ≡ Some (token.Sign sign.Comma) → ⊥)
       → Leaves limits W FW (MoreParams n) Any g spots from at
@@ -219,9 +237,13 @@ module _ (limits : Limits) (spots : List Spot) where
   more_fields_left {at = at} n l = narrow limits spots refl (record {
     back = λ w z b r f k. more_fields_back z (token_at spots at) n r k;
     forth = λ u x r.
-        let k = r.back.back in
-        (k.0, r.first ++ (sign_at sign.Semicolon x.1.0 ∷ k.1), more_fields x.1.0 r.first k.1 r.front k.2 refl, glue _ r.is (behind r.back.is r.back.front k.3)
-            ∙ sym (append_assoc r.first (sign_at sign.Semicolon x.1.0 ∷ k.1) _));
+        let k = r.back.back in (
+          k.0,
+          r.first ++ (sign_at sign.Semicolon x.1.0 ∷ k.1),
+          more_fields x.1.0 r.first k.1 r.front k.2 refl,
+          glue _ r.is (behind r.back.is r.back.front k.3)
+              ∙ sym (append_assoc r.first (sign_at sign.Semicolon x.1.0 ∷ k.1) _),
+        );
   }) l
 
   pub end_fields_left : {A : Type 0} {W : List Marked → A → Type 0} {FW : A → List Marked → Type 0} {g : List ParamTree → A} {from at n : ℕ} → token_at spots at ≡ Some (token.Sign sign.CloseCurly)
@@ -233,8 +255,10 @@ module _ (limits : Limits) (spots : List Spot) where
   pub decl_left : {A : Type 0} {W : List Marked → A → Type 0} {FW : A → List Marked → Type 0} {g : List DeclTree → A} {from at n : ℕ} (x : Token) → token_at spots at ≡ Some x
       → Leaves limits W FW (DeclsRule n) AtEnd g spots from at
       → Leaves limits W FW (Then (DeclMarks n) (λ x. DeclsRule (suc n))) (λ x. AtEnd x.1) (λ x. g (x.0 ∷ x.1)) spots from at
-  decl_left x e l = narrow limits spots e (record { back = λ w z b r f k. decls_back z x r f k;
-      forth = λ u y r. more_decls r.front.1.0 r.rest r.front.1.1 r.back (r.is ∙ ap (λ z. z ++ r.rest) (r.front.2 ∙ ap (begin (Declaration _)) r.front.1.2)) }) l
+  decl_left x e l = narrow limits spots e (record {
+    back = λ w z b r f k. decls_back z x r f k;
+    forth = λ u y r. more_decls r.front.1.0 r.rest r.front.1.1 r.back (r.is ∙ ap (λ z. z ++ r.rest) (r.front.2 ∙ ap (begin (Declaration _)) r.front.1.2));
+  }) l
 
   -- and here there is none
   pub no_decl_reads : (at n : ℕ) → at ≤ length spots → token_at spots at ≡ None → Reads limits (DeclsRule n) AtEnd spots at [] at

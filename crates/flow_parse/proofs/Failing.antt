@@ -38,13 +38,25 @@ module _ (limits : Limits) {A B : Type 0} (R : List Marked → A → Type 0) (FR
   pub good_first : (n : ℕ) (ts : List Spot) → ((a : A) → Inhabited (S a)) → GoodOf limits R n ts → GoodOf limits (Then R S) n ts
   good_first n ts more g =
       let x = more g.tree in
-      record { read = g.read; rest = g.rest ++ x.marked; tree = (g.tree, x.tree);
-          rule = record { first = g.read ++ g.rest; rest = x.marked; is = sym (append_assoc g.read g.rest x.marked); front = g.rule; back = x.rule }; is = g.is; keeps = g.keeps }
+      record {
+        read = g.read;
+        rest = g.rest ++ x.marked;
+        tree = (g.tree, x.tree);
+        rule = record { first = g.read ++ g.rest; rest = x.marked; is = sym (append_assoc g.read g.rest x.marked); front = g.rule; back = x.rule };
+        is = g.is;
+        keeps = g.keeps;
+      }
 
   pub good_then : (n : ℕ) (w : List Marked) (a : A) (ts : List Spot) → R w a → KeepsOf limits n w → GoodOf limits (S a) n ts → GoodOf limits (Then R S) n (spots_of w ++ ts)
   good_then n w a ts r k g =
-      record { read = w ++ g.read; rest = g.rest; tree = (a, g.tree); rule = record { first = w; rest = g.read ++ g.rest; is = append_assoc w g.read g.rest; front = r; back = g.rule };
-          is = spots_append w g.read ∙ ap (λ y. spots_of w ++ y) g.is; keeps = keeps_append_of limits n w g.read k g.keeps }
+      record {
+        read = w ++ g.read;
+        rest = g.rest;
+        tree = (a, g.tree);
+        rule = record { first = w; rest = g.read ++ g.rest; is = append_assoc w g.read g.rest; front = r; back = g.rule };
+        is = spots_append w g.read ∙ ap (λ y. spots_of w ++ y) g.is;
+        keeps = keeps_append_of limits n w g.read k g.keeps;
+      }
 
   -- the first part stops
   pub stops_first : (n k : ℕ) (ts : List Spot) → ((a : A) → Inhabited (S a)) → Stops limits R FR n ts k → Stops limits (Then R S) F n ts k

@@ -74,9 +74,16 @@ pub opening_reads : (limits : Limits) (t : Tokens) (at : ℕ) (ps : List Part) (
 opening_reads limits t at ps x e k =
     let h = here t at x e in
     let i : 1 ≡ at + 1 - at = omega arith in
-    record { after = omega arith; within = omega (arith, h.within); marked = opens ps x (place_at t at) ∷ []; rule = refl; is = h.is; keeps = (k, tt);
-        only = subst (λ j. Only limits (Opening ps x) Any (place_at t at) j (drop at t.spots.items)) i
-        (subst (Only limits (Opening ps x) Any (place_at t at) 1) (sym h.is) (opening_only limits ps x (place_at t at) (drop (at + 1) t.spots.items))) }
+    record {
+      after = omega arith;
+      within = omega (arith, h.within);
+      marked = opens ps x (place_at t at) ∷ [];
+      rule = refl;
+      is = h.is;
+      keeps = (k, tt);
+      only = subst (λ j. Only limits (Opening ps x) Any (place_at t at) j (drop at t.spots.items)) i
+          (subst (Only limits (Opening ps x) Any (place_at t at) 1) (sym h.is) (opening_only limits ps x (place_at t at) (drop (at + 1) t.spots.items)));
+    }
 
 pub tok_reads : (limits : Limits) (t : Tokens) (at : ℕ) (x : Token) → token_at t.spots.items at ≡ Some x → Reads limits (Tok x) Any t.spots.items at (place_at t at) (at + 1)
 tok_reads limits t at x e = opening_reads limits t at [] x e tt
@@ -145,11 +152,20 @@ module _ (limits : Limits) (spots : List Spot) where
       {FV : B × C → List Marked → Type 0} {g : B × C → A} {from at to : ℕ} {b : B}
       → Link R FR S FV → Leaves limits W FW (Then R S) FV g spots from at → Reads limits R FR spots at b to → Leaves limits W FW (S b) (λ c. FV (b, c)) (λ c. g (b, c)) spots from to
   then_reads {W = W} {FW = FW} {R = R} {FR = FR} {S = S} {FV = FV} {g = g} {from = from} {at = at} {to = to} {b = b} k l r =
-      let m : length r.marked ≡ to - at = omega (arith, r.after, r.within, ap length r.is, length-append (spots_of r.marked)
-              (drop to spots), length-drop at spots, length-drop to spots, length_spots r.marked) in
+      let m : length r.marked ≡ to - at = omega (
+        arith,
+        r.after,
+        r.within,
+        ap length r.is,
+        length-append (spots_of r.marked)
+            (drop to spots),
+        length-drop at spots,
+        length-drop to spots,
+        length_spots r.marked,
+      ) in
       let d : drop (to - at) (drop at spots) ≡ drop to spots = drop_drop (to - at) at spots ∙ (let e : at + (to - at) ≡ to = omega (arith, r.after) in ap (λ n. drop n spots) e) in
       let o2 : Only limits R FR b (length r.marked) (spots_of r.marked ++ drop to spots) =
-              subst (λ ts. Only limits R FR b (length r.marked) ts) r.is (subst (λ i. Only limits R FR b i (drop at spots)) (sym m) r.only) in
+      subst (λ ts. Only limits R FR b (length r.marked) ts) r.is (subst (λ i. Only limits R FR b i (drop at spots)) (sym m) r.only) in
       record {
         after = omega (arith, l.after, r.after);
         within = r.within;
@@ -217,8 +233,15 @@ module _ (limits : Limits) (spots : List Spot) where
       → ((w z : List Marked) (b : A) → W w b → FW b z → Looks o (w ++ z) → (b ≡ a) × (w ≡ [])) → Reads limits W FW spots at a at
   empty W FW at a o h e r f =
       let i : 0 ≡ at - at = omega arith in
-      record { after = omega arith; within = h; marked = []; rule = r; is = refl; keeps = tt;
-          only = subst (λ j. Only limits W FW a j (drop at spots)) i (nil_only limits W FW a o (drop at spots) (next_is spots at ∙ e) f) }
+      record {
+        after = omega arith;
+        within = h;
+        marked = [];
+        rule = r;
+        is = refl;
+        keeps = tt;
+        only = subst (λ j. Only limits W FW a j (drop at spots)) i (nil_only limits W FW a o (drop at spots) (next_is spots at ∙ e) f);
+      }
 
 -- What is refused of what is left is refused of the whole.
 module _ (limits : Limits) {A B : Type 0} {W : List Marked → A → Type 0} {FW : A → List Marked → Type 0} {V : List Marked → B → Type 0} {FV : B → List Marked → Type 0} {g : B → A} (t : Tokens)
@@ -319,8 +342,10 @@ node_reads limits spots d from to x h r = become limits spots refl (node_turns d
 -- a part that is a statement
 pub begun_turns : {A : Type 0} (R : List Marked → A → Type 0) (F : A → List Marked → Type 0) (c : Counts) (d : ℕ) (o : Option Token)
     → Turns (Begun c d R) F (Marks (Statement (suc c.statements)) (Marks (Node d) R)) F (λ x. x) o
-begun_turns R F c d o = record { back = λ w z b r f l. record { tree = b; rule = (begin (Node d) r.0, (r.0, r.1, refl), r.2); is = refl; follows = f };
-    forth = λ w x r. (r.1.0, r.1.1, r.2 ∙ ap (begin (Statement (suc c.statements))) r.1.2) }
+begun_turns R F c d o = record {
+  back = λ w z b r f l. record { tree = b; rule = (begin (Node d) r.0, (r.0, r.1, refl), r.2); is = refl; follows = f };
+  forth = λ w x r. (r.1.0, r.1.1, r.2 ∙ ap (begin (Statement (suc c.statements))) r.1.2);
+}
 
 -- an answer for one part is one for another, which the next token says
 pub answer_become : (limits : Limits) → {A B X : Type 0} {W : List Marked → A → Type 0} {FW : A → List Marked → Type 0} {R : List Marked → B → Type 0} {FR : B → List Marked → Type 0} {h : B → A}
@@ -396,7 +421,7 @@ name_of : (limits : Limits) (t : Tokens) (at : ℕ) (s : Spot) (x : Ident) → s
     → Reads limits Named Any t.spots.items at x (at + 1)
 name_of limits t at s x g e f =
     let d : drop at t.spots.items ≡ record { token = token.Name x.name; at = x.at } ∷ drop (at + 1) t.spots.items =
-            drop_one t.spots.items at s g ∙ ap (λ y. y ∷ drop (at + 1) t.spots.items) (spot_is s (token.Name x.name) x.at e f) in
+    drop_one t.spots.items at s g ∙ ap (λ y. y ∷ drop (at + 1) t.spots.items) (spot_is s (token.Name x.name) x.at e f) in
     let i : 1 ≡ at + 1 - at = omega arith in
     record {
       after = omega arith;

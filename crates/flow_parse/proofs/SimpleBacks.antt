@@ -66,15 +66,23 @@ sign_clash k s o e f = cc
 
 pub wait_back : {d : ℕ} {w : List Marked} {b : Bool} {e : ExprTree} (z : List Marked) → OperandRule d w b e → Looks (Some (token.Word word.Wait)) (w ++ z)
     → Back (OperandPart d) Any (Then (Tok (token.Word word.Wait)) (λ p. Test (suc d))) Any (λ x. (false, x.1)) w z (b, e)
-wait_back {e = t} z (wait p q r of x e) l = record { tree = (p, t);
-    rule = tok_front (token.Word word.Wait) p t (sign_at sign.OpenRound q ∷ (of ++ sign_at sign.CloseRound r ∷ [])) e (q, r, of, x, refl); is = refl; follows = tt }
+wait_back {e = t} z (wait p q r of x e) l = record {
+  tree = (p, t);
+  rule = tok_front (token.Word word.Wait) p t (sign_at sign.OpenRound q ∷ (of ++ sign_at sign.CloseRound r ∷ [])) e (q, r, of, x, refl);
+  is = refl;
+  follows = tt;
+}
 wait_back z (wait_next p q r of x e) l = let k = looks_is (Some (token.Word word.Wait)) (word_at word.WaitNext p) (sign_at sign.OpenRound q ∷ (of ++ sign_at sign.CloseRound r ∷ [])) z e l in absurd
     (cc)
 
 pub wait_next_back : {d : ℕ} {w : List Marked} {b : Bool} {e : ExprTree} (z : List Marked) → OperandRule d w b e → Looks (Some (token.Word word.WaitNext)) (w ++ z)
     → Back (OperandPart d) Any (Then (Tok (token.Word word.WaitNext)) (λ p. Test (suc d))) Any (λ x. (true, x.1)) w z (b, e)
-wait_next_back {e = t} z (wait_next p q r of x e) l = record { tree = (p, t);
-    rule = tok_front (token.Word word.WaitNext) p t (sign_at sign.OpenRound q ∷ (of ++ sign_at sign.CloseRound r ∷ [])) e (q, r, of, x, refl); is = refl; follows = tt }
+wait_next_back {e = t} z (wait_next p q r of x e) l = record {
+  tree = (p, t);
+  rule = tok_front (token.Word word.WaitNext) p t (sign_at sign.OpenRound q ∷ (of ++ sign_at sign.CloseRound r ∷ [])) e (q, r, of, x, refl);
+  is = refl;
+  follows = tt;
+}
 wait_next_back z (wait p q r of x e) l = let k = looks_is (Some (token.Word word.WaitNext)) (word_at word.Wait p) (sign_at sign.OpenRound q ∷ (of ++ sign_at sign.CloseRound r ∷ [])) z e l in absurd
     (cc)
 
@@ -290,10 +298,18 @@ pub given_back : {d : ℕ} {at : Place} {i : IntoTree} {w : List Marked} {b : Bo
     → Looks (Some (token.Sign sign.Assign)) (w ++ z)
     → Back (ValuedRule d at i) (Before (token.Sign sign.Semicolon)) (Then (Tok (token.Sign sign.Assign)) (λ q. Given d at i)) (λ x. Before (token.Sign sign.Semicolon) x.1) (λ x. x.1) w z b
 given_back {b = b} z (declares no_value) f l = absurd (not_before_semicolon b sign.Assign z assign_semicolon f l)
-given_back {b = b} z (declares (value {e = t} p of x e)) f l = record { tree = (p, b); rule = tok_front (token.Sign sign.Assign) p b of e (inl (record { tree = t; rule = x; is = refl })); is = refl;
-    follows = f }
-given_back {b = b} z (waits {next = n} {e = t} p of x e) f l = record { tree = (p, b); rule = tok_front (token.Sign sign.Assign) p b of e (inr (record { tree = (n, t); rule = x; is = refl }));
-    is = refl; follows = f }
+given_back {b = b} z (declares (value {e = t} p of x e)) f l = record {
+  tree = (p, b);
+  rule = tok_front (token.Sign sign.Assign) p b of e (inl (record { tree = t; rule = x; is = refl }));
+  is = refl;
+  follows = f;
+}
+given_back {b = b} z (waits {next = n} {e = t} p of x e) f l = record {
+  tree = (p, b);
+  rule = tok_front (token.Sign sign.Assign) p b of e (inr (record { tree = (n, t); rule = x; is = refl }));
+  is = refl;
+  follows = f;
+}
 
 pub not_given_back : {d : ℕ} {at : Place} {i : IntoTree} {w : List Marked} {b : Body} (z : List Marked) (o : Option Token) → (o ≡ Some (token.Sign sign.Assign) → ⊥) → ValuedRule d at i w b
     → Looks o (w ++ z) → (b ≡ DeclareStmt at i None End) × (w ≡ [])

@@ -273,8 +273,12 @@ start_back z o n r l = by_rule z o n r.0 r.1 r.2 r.3 l
         → Back (StartPart actor d c) Any (Then (Begun c d (Init actor d (one_statement c))) (λ o. Tok (token.Sign sign.Semicolon))) Any (λ x. (x.0.body, x.0.counts)) w z (b, c')
     by_rule z o n q of no_init f l = absurd (n (looks_is o (sign_at sign.Semicolon q) [] z f l))
     by_rule {actor = actor} {d = d} {c = c} {c' = c'} {b = b} z o n q of (some_init at xs i e) f l =
-        record { tree = (closed b c', q); rule = front (Begun c d (Init actor d (one_statement c))) (closed b c') q of (sign_at sign.Semicolon q ∷ []) f (xs, (at, i, refl), e) refl; is = refl;
-        follows = tt }
+        record {
+          tree = (closed b c', q);
+          rule = front (Begun c d (Init actor d (one_statement c))) (closed b c') q of (sign_at sign.Semicolon q ∷ []) f (xs, (at, i, refl), e) refl;
+          is = refl;
+          follows = tt;
+        }
 
 pub no_next_back : {d : ℕ} {c : Counts} {w : List Marked} {u : Body × Counts} (z : List Marked) → NextPart d c w u → Looks (Some (token.Sign sign.CloseRound)) (w ++ z)
     → Back (NextPart d c) Any (Tok (token.Sign sign.CloseRound)) Any (λ p. (End, c)) w z u
@@ -455,7 +459,7 @@ branching {actor = actor} {d = d} {n = n} {c = c} {c' = c'} (branch {c1 = c1} {w
       rule = front (Opening (Branch n ∷ Node d ∷ []) (token.Word word.When)) at (p, ((y, c1), (q, u))) (opens (Branch n ∷ Node d ∷ []) (token.Word word.When) at ∷ [])
           (sign_at sign.OpenRound p ∷ (xs ++ (sign_at sign.CloseRound q ∷ body))) e refl
           (tok_front (token.Sign sign.OpenRound) p ((y, c1), (q, u)) (xs ++ (sign_at sign.CloseRound q ∷ body)) refl
-              (front (WaitingPart actor d c) (y, c1) (q, u) xs (sign_at sign.CloseRound q ∷ body) refl r (tok_front (token.Sign sign.CloseRound) q u body refl o)));
+          (front (WaitingPart actor d c) (y, c1) (q, u) xs (sign_at sign.CloseRound q ∷ body) refl r (tok_front (token.Sign sign.CloseRound) q u body refl o)));
       counts = refl;
       is = refl;
       part = λ bs. branch at p q xs body r o e;

@@ -32,7 +32,7 @@ pub stmts_step : (limits : Limits) (spots : List Spot) (actor : Bool) (d : ℕ) 
     → Leaves limits (Closing actor d c0) Any (Closing actor d c') Any (closing_before fs) spots from to
 stmts_step limits spots actor d c0 from at to c s c' b ss fs q st n l r =
     (means limits) spots (closing_before fs) (λ o. ap (λ z. record { body = z; counts = o.counts; close = o.close })
-        (ap (stmts_before ss) (sym (st o.body)) ∙ stmts_push ss s o.body ∙ ap (λ z. stmts_before z o.body) (sym q))) (then_reads limits spots (stmt_more actor d c) (stmt_left limits spots n l) r)
+    (ap (stmts_before ss) (sym (st o.body)) ∙ stmts_push ss s o.body ∙ ap (λ z. stmts_before z o.body) (sym q))) (then_reads limits spots (stmt_more actor d c) (stmt_left limits spots n l) r)
 
 pub stmts_done : (limits : Limits) (spots : List Spot) (actor : Bool) (d : ℕ) (c0 : Counts) (from at to : ℕ) (p : Place) (c : Counts) (ss : List Stmt)
     → token_at spots at ≡ Some (token.Sign sign.CloseCurly) → Leaves limits (Closing actor d c0) Any (Closing actor d c) Any (closing_before ss) spots from at
@@ -60,7 +60,7 @@ pub whens_step : (limits : Limits) (spots : List Spot) (actor : Bool) (d : ℕ) 
 whens_step limits spots actor d c0 from at to n m c o w ws vs q b e f l r =
     subst (λ k. Leaves limits (AllWhens actor d c0) Any (WhensPart actor d k o.counts) Any (whens_before vs) spots from to) (sym e)
     (means limits spots (whens_before vs) (λ x. ap (λ z. (z, x.1)) (ap (branches_before ws) (sym (b x.0)) ∙ branches_push ws w x.0 ∙ ap (λ z. branches_before z x.0) (sym q)))
-        (then_reads limits spots (when_more actor d c n) (more_left limits spots f l) r))
+    (then_reads limits spots (when_more actor d c n) (more_left limits spots f l) r))
 
 pub whens_done : (limits : Limits) (spots : List Spot) (actor : Bool) (d : ℕ) (c0 : Counts) (from at to n : ℕ) (p : Place) (c : Counts) (ws : List When)
     → (token_at spots at ≡ Some (token.Word word.When) → ⊥) → Leaves limits (AllWhens actor d c0) Any (WhensPart actor d n c) Any (whens_before ws) spots from at

@@ -106,8 +106,14 @@ module _ (limits : Limits) (m : ℕ) (low : m < 5) (actor : Bool) (d : ℕ) (c :
       let e : w ≡ (g.read ++ g.rest) ++ name_at a_name ∷ [] = sym (append_assoc g.read g.rest (name_at a_name ∷ [])) in
       let s = place_of TypeToken w (starts_is TypeToken (g.read ++ g.rest) _ e (type_starts g.rule)) in
       let i : IntoTree = record { state = false; ty = g.tree; name = a_name } in
-      record { read = g.read; rest = g.rest ++ name_at a_name ∷ []; tree = record { body = DeclareStmt s.0 i None End; counts = c; ends_if = false };
-          rule = (s.0, declare s.0 (declared a_name [] (g.read ++ g.rest) no_state g.rule e) s.1, refl); is = g.is; keeps = g.keeps }
+      record {
+        read = g.read;
+        rest = g.rest ++ name_at a_name ∷ [];
+        tree = record { body = DeclareStmt s.0 i None End; counts = c; ends_if = false };
+        rule = (s.0, declare s.0 (declared a_name [] (g.read ++ g.rest) no_state g.rule e) s.1, refl);
+        is = g.is;
+        keeps = g.keeps;
+      }
 
   init_name : (n : List ℕ) (p : Place) (ts : List Spot) → GoodOf limits (Init actor d c) m (take 1 (record { token = token.Name n; at = p } ∷ ts))
   init_name n p ts =
@@ -161,11 +167,11 @@ module _ (limits : Limits) (m : ℕ) (low : m < 5) (actor : Bool) (d : ℕ) (c :
       let e = some_expr (suc d) in
       let b = some_body actor (suc d) c in
       word_with word.While p ts _ (record { body = WhileStmt p e.tree b.tree.body End; counts = b.tree.counts; ends_if = b.tree.ends_if })
-          (p, while_stmt p nowhere nowhere e.marked b.marked e.rule b.rule refl)
+      (p, while_stmt p nowhere nowhere e.marked b.marked e.rule b.rule refl)
   plain_word word.For p ts h =
       let b = some_body actor (suc d) c in
       word_with word.For p ts _ (record { body = ForStmt p End None End b.tree.body End; counts = b.tree.counts; ends_if = b.tree.ends_if })
-          (p, for_stmt p nowhere nowhere nowhere nowhere [] [] [] b.marked no_init no_expr no_step b.rule refl)
+      (p, for_stmt p nowhere nowhere nowhere nowhere [] [] [] b.marked no_init no_expr no_step b.rule refl)
   plain_word word.Loop p ts h =
       let b = some_body actor (suc d) c in
       word_with word.Loop p ts b.marked (record { body = LoopStmt p b.tree.body End; counts = b.tree.counts; ends_if = b.tree.ends_if }) (p, loop_stmt p b.marked b.rule refl)
@@ -178,18 +184,18 @@ module _ (limits : Limits) (m : ℕ) (low : m < 5) (actor : Bool) (d : ℕ) (c :
   plain_word word.Try p ts h =
       let b = sign_at sign.OpenCurly nowhere ∷ sign_at sign.CloseCurly nowhere ∷ [] in
       word_with word.Try p ts _ (record { body = TryStmt p End nowhere a_name End End; counts = c; ends_if = false })
-          (p, try_stmt p nowhere nowhere nowhere nowhere nowhere a_name b b (braces nowhere nowhere [] no_stmts refl) (braces nowhere nowhere [] no_stmts refl) refl)
+      (p, try_stmt p nowhere nowhere nowhere nowhere nowhere a_name b b (braces nowhere nowhere [] no_stmts refl) (braces nowhere nowhere [] no_stmts refl) refl)
   plain_word word.Choose p ts h =
       let x = some_when actor (suc d) 1 c in
       word_with word.Choose p ts _ _ (p, choose_stmt p nowhere nowhere x.marked [] (x.rule NoBranches) no_whens refl)
   plain_word word.Wait p ts h =
       let e = some_expr (suc d) in
       word_with word.Wait p ts _ (record { body = WaitStmt p (record { into = None; next = false; operand = e.tree }) End; counts = c; ends_if = false })
-          (p, wait_stmt p nowhere _ (plain_wait (wait p nowhere nowhere e.marked e.rule refl)) refl refl)
+      (p, wait_stmt p nowhere _ (plain_wait (wait p nowhere nowhere e.marked e.rule refl)) refl refl)
   plain_word word.WaitNext p ts h =
       let e = some_expr (suc d) in
       word_with word.WaitNext p ts _ (record { body = WaitStmt p (record { into = None; next = true; operand = e.tree }) End; counts = c; ends_if = false })
-          (p, wait_stmt p nowhere _ (plain_wait (wait_next p nowhere nowhere e.marked e.rule refl)) refl refl)
+      (p, wait_stmt p nowhere _ (plain_wait (wait_next p nowhere nowhere e.marked e.rule refl)) refl refl)
   plain_word word.State p ts h = init_plain _ (init_word word.State p ts tt)
   plain_word word.Int p ts h = init_plain _ (init_word word.Int p ts tt)
   plain_word word.Bool p ts h = init_plain _ (init_word word.Bool p ts tt)
@@ -276,8 +282,11 @@ module _ (limits : Limits) (t : Tokens) (at : ℕ) (actor : Bool) (d : ℕ) (c :
       → Fails limits (Begun c d (Placed (Block actor (suc d) (one_statement c)))) Any t at e
   block_beyond lt f e h =
       (begun_beyond limits) (Placed (Block actor (suc d) (one_statement c))) Any StmtToken (λ w b r. subst (Starts StmtToken) (sym r.1.3) tt)
-          (record { marked = sign_at sign.OpenCurly nowhere ∷ sign_at sign.CloseCurly nowhere ∷ []; tree = (nowhere, record { body = End; counts = one_statement c; close = nowhere });
-          rule = (refl, (nowhere, [], no_stmts, refl)) }) t at c d lt (λ m l. block_opens limits m l actor (suc d) (one_statement c) (drop at t.spots.items) (next_is t.spots.items at ∙ f)) e h
+      (record {
+        marked = sign_at sign.OpenCurly nowhere ∷ sign_at sign.CloseCurly nowhere ∷ [];
+        tree = (nowhere, record { body = End; counts = one_statement c; close = nowhere });
+        rule = (refl, (nowhere, [], no_stmts, refl));
+      }) t at c d lt (λ m l. block_opens limits m l actor (suc d) (one_statement c) (drop at t.spots.items) (next_is t.spots.items at ∙ f)) e h
 
   pub one_beyond : at < length t.spots.items → AsFirst StmtToken (token_at t.spots.items at) → (e : SourceFault) → Beyond limits c d (place_at t at) e → Fails limits (One actor d c) NoElse t at e
   one_beyond lt f e h =
@@ -293,7 +302,7 @@ module _ (limits : Limits) (t : Tokens) (at : ℕ) (actor : Bool) (d : ℕ) (c :
   body_beyond lt f n e h =
       let k : at ≤ length t.spots.items = omega (arith, lt) in
       (fails limits) t (narrow limits t.spots.items refl (body_plain actor d c (token_at t.spots.items at) n) (nothing limits t.spots.items (BodyPart actor d c) NoElse at k)) e
-          (plain_beyond lt (no_brace (token_at t.spots.items at) f n) e h)
+      (plain_beyond lt (no_brace (token_at t.spots.items at) f n) e h)
 
   -- where none begins
   pub one_none : (AsFirst StmtToken (token_at t.spots.items at) → ⊥) → Fails limits (One actor d c) NoElse t at (Refused (rule.S 5) (place_at t at))

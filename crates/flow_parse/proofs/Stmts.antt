@@ -198,9 +198,11 @@ module _ (limits : Limits) (t : Tokens) (at : ℕ) (actor : Bool) (d : ℕ) (c :
         let a = r.back.back.front in
         let e = r.back.back.back.front in
         let b = r.back.back.back.back.front in
-        let o = r.back.back.back.back in
-        (x.0, for_stmt x.0 x.1.0 a.0 e.0 b.0 a.1 e.1 b.1 o.rest a.2 e.2 b.2 o.back
-            (behind r.is r.front (behind r.back.is r.back.front (closed_by _ _ r.back.back.is a.3 (closed_by _ _ r.back.back.back.is e.3 (closed_by _ _ o.is b.3 refl))))));
+        let o = r.back.back.back.back in (
+          x.0,
+          for_stmt x.0 x.1.0 a.0 e.0 b.0 a.1 e.1 b.1 o.rest a.2 e.2 b.2 o.back
+              (behind r.is r.front (behind r.back.is r.back.front (closed_by _ _ r.back.back.is a.3 (closed_by _ _ r.back.back.back.is e.3 (closed_by _ _ o.is b.3 refl))))),
+        );
   }) (nothing limits t.spots.items (Plain actor d c) NoElse at h)
 
   pub break_left : token_at t.spots.items at ≡ Some (token.Word word.Break)
@@ -238,9 +240,11 @@ module _ (limits : Limits) (t : Tokens) (at : ℕ) (actor : Bool) (d : ℕ) (c :
   try_left e = narrow limits t.spots.items e (record {
     back = λ w z b r f l. let q = keyword_back z word.Try (λ h. h) r.1 l in record { tree = q.tree; rule = q.rule; is = q.is; follows = tt };
     forth = λ u x r.
-        let k = r.back.back.front in
-        (x.0, try_stmt x.0 x.1.1.0.0 k.0 k.1 k.2 k.3 x.1.1.0.1 r.back.first r.back.back.rest (block_rule r.back.front) (block_rule r.back.back.back)
-            (behind r.is r.front (glue _ r.back.is (r.back.back.is ∙ ap (λ z. z ++ r.back.back.rest) k.4))));
+        let k = r.back.back.front in (
+          x.0,
+          try_stmt x.0 x.1.1.0.0 k.0 k.1 k.2 k.3 x.1.1.0.1 r.back.first r.back.back.rest (block_rule r.back.front) (block_rule r.back.back.back)
+              (behind r.is r.front (glue _ r.back.is (r.back.back.is ∙ ap (λ z. z ++ r.back.back.rest) k.4))),
+        );
   }) (nothing limits t.spots.items (Plain actor d c) NoElse at h)
 
   pub choose_left : token_at t.spots.items at ≡ Some (token.Word word.Choose)
@@ -274,8 +278,10 @@ module _ (limits : Limits) (t : Tokens) (at : ℕ) (actor : Bool) (d : ℕ) (c :
 
   pub start_left : (token_at t.spots.items at ≡ Some (token.Sign sign.Semicolon) → ⊥)
       → Leaves limits (StartPart actor d c) Any (Then (Begun c d (Init actor d (one_statement c))) (λ o. Tok (token.Sign sign.Semicolon))) Any (λ x. (x.0.body, x.0.counts)) t.spots.items at at
-  start_left n = narrow limits t.spots.items refl (record { back = λ w z b r f l. start_back z (token_at t.spots.items at) n r l;
-      forth = λ u x r. (x.1, r.first, some_init r.front.1.0 r.front.0 r.front.1.1 r.front.2, glue _ r.is r.back) }) (nothing limits t.spots.items (StartPart actor d c) Any at h)
+  start_left n = narrow limits t.spots.items refl (record {
+    back = λ w z b r f l. start_back z (token_at t.spots.items at) n r l;
+    forth = λ u x r. (x.1, r.first, some_init r.front.1.0 r.front.0 r.front.1.1 r.front.2, glue _ r.is r.back);
+  }) (nothing limits t.spots.items (StartPart actor d c) Any at h)
 
 -- a statement in a list, and a body
 module _ (actor : Bool) (d : ℕ) (c : Counts) where
@@ -300,8 +306,10 @@ module _ (limits : Limits) (t : Tokens) (at d : ℕ) (c : Counts) (h : at ≤ le
 
   pub next_left : (token_at t.spots.items at ≡ Some (token.Sign sign.CloseRound) → ⊥)
       → Leaves limits (NextPart d c) Any (Then (Begun c d (Assignment d)) (λ b. Tok (token.Sign sign.CloseRound))) Any (λ x. (x.0, one_statement c)) t.spots.items at at
-  next_left n = narrow limits t.spots.items refl (record { back = λ w z b r f l. next_back z (token_at t.spots.items at) n r l;
-      forth = λ u x r. (x.1, r.first, some_step r.front.1.0 r.front.0 r.front.1.1 r.front.2, glue _ r.is r.back) }) (nothing limits t.spots.items (NextPart d c) Any at h)
+  next_left n = narrow limits t.spots.items refl (record {
+    back = λ w z b r f l. next_back z (token_at t.spots.items at) n r l;
+    forth = λ u x r. (x.1, r.first, some_step r.front.1.0 r.front.0 r.front.1.1 r.front.2, glue _ r.is r.back);
+  }) (nothing limits t.spots.items (NextPart d c) Any at h)
 
 module _ (limits : Limits) (t : Tokens) (at d : ℕ) (h : at ≤ length t.spots.items) where
   pub no_expr_left : token_at t.spots.items at ≡ Some (token.Sign sign.Semicolon) → Leaves limits (MaybeExpr d) Any (Tok (token.Sign sign.Semicolon)) Any (λ p. None) t.spots.items at at
@@ -309,15 +317,23 @@ module _ (limits : Limits) (t : Tokens) (at d : ℕ) (h : at ≤ length t.spots.
 
   pub some_expr_left : (token_at t.spots.items at ≡ Some (token.Sign sign.Semicolon) → ⊥)
       → Leaves limits (MaybeExpr d) Any (Then (ExprRule 0 d) (λ e. Tok (token.Sign sign.Semicolon))) Any (λ x. Some x.0) t.spots.items at at
-  some_expr_left n = narrow limits t.spots.items refl (record { back = λ w z b r f l. some_expr_back z (token_at t.spots.items at) n r l;
-      forth = λ u x r. (x.1, r.first, some_expr r.front, glue _ r.is r.back) }) (nothing limits t.spots.items (MaybeExpr d) Any at h)
+  some_expr_left n = narrow limits t.spots.items refl (record {
+    back = λ w z b r f l. some_expr_back z (token_at t.spots.items at) n r l;
+    forth = λ u x r. (x.1, r.first, some_expr r.front, glue _ r.is r.back);
+  }) (nothing limits t.spots.items (MaybeExpr d) Any at h)
 
 pub catch_left : (limits : Limits) (t : Tokens) (at : ℕ) → at ≤ length t.spots.items → Leaves limits Catch Any CatchSeq Any (λ x. (x.0, x.1.1.1.1.0)) t.spots.items at at
 catch_left limits t at h = narrow limits t.spots.items refl (record {
   back = λ w z b r f l. catch_back z r;
-  forth = λ u x r. (x.1.0, x.1.1.0, x.1.1.1.0, x.1.1.1.1.1, behind r.is r.front
-      (behind r.back.is r.back.front (behind r.back.back.is r.back.back.front
-      (behind r.back.back.back.is r.back.back.back.front (behind r.back.back.back.back.is r.back.back.back.back.front r.back.back.back.back.back)))));
+  forth = λ u x r. (
+    x.1.0,
+    x.1.1.0,
+    x.1.1.1.0,
+    x.1.1.1.1.1,
+    behind r.is r.front
+        (behind r.back.is r.back.front (behind r.back.back.is r.back.back.front
+        (behind r.back.back.back.is r.back.back.back.front (behind r.back.back.back.back.is r.back.back.back.back.front r.back.back.back.back.back)))),
+  );
 }) (nothing limits t.spots.items Catch Any at h)
 
 -- behind the body of an `if`

@@ -39,8 +39,12 @@ expr_some (variable x) = omega arith
 expr_some (call f p q args r e) = omega (arith, ap length e)
 expr_some (paren p q of r e) = omega (arith, ap length e)
 expr_some {k} {d} (field p x of r e) = omega (arith, ap length e, length-append (begin (Node d) of) (sign_at sign.Dot p ∷ name_at x ∷ []))
-expr_some {k} {d} (method p q s f of args r a e) = omega (arith, ap length e, length-append (begin (Node d) of)
-    (sign_at sign.Dot p ∷ name_at f ∷ sign_at sign.OpenRound q ∷ (args ++ sign_at sign.CloseRound s ∷ [])))
+expr_some {k} {d} (method p q s f of args r a e) = omega (
+  arith,
+  ap length e,
+  length-append (begin (Node d) of)
+      (sign_at sign.Dot p ∷ name_at f ∷ sign_at sign.OpenRound q ∷ (args ++ sign_at sign.CloseRound s ∷ [])),
+)
 expr_some (negation p of le r e) = omega (arith, ap length e)
 expr_some (minus p of le r e) = omega (arith, ap length e)
 expr_some {k} {d} (binary op p left right le r s e) = omega (arith, ap length e, length-append (begin (Node d) left) (sign_at (op_sign op) p ∷ right))
@@ -73,8 +77,18 @@ part_of limits R F t from tree to w r n o =
 
 longer : (limits : Limits) → {A : Type 0} {F : A → List Marked → Type 0} (R : List Marked → A → Type 0) (spots : List Spot) (a b : ℕ) (tree : A) → a ≤ length spots
     → ((xs : List Marked) → R xs tree → 0 < length xs) → Reads limits R F spots a tree b → a < b
-longer limits R spots a b tree w f r = omega (arith, f r.marked r.rule, ap length r.is, length-append (spots_of r.marked)
-    (drop b spots), length-drop a spots, length-drop b spots, length_spots r.marked, r.within, r.after)
+longer limits R spots a b tree w f r = omega (
+  arith,
+  f r.marked r.rule,
+  ap length r.is,
+  length-append (spots_of r.marked)
+      (drop b spots),
+  length-drop a spots,
+  length-drop b spots,
+  length_spots r.marked,
+  r.within,
+  r.after,
+)
 
 fifth : (limits : Limits) → {A : Type 0} {R : List Marked → A → Type 0} {F : A → List Marked → Type 0} {t : Tokens} {from : ℕ} {p : Place} (n : ℕ) → n ≡ 5 → StopsAt limits R F 5 t from p
     → Fails limits R F t from (Refused (rule.L n) p)

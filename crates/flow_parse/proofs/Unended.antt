@@ -62,7 +62,7 @@ unended_plain {of} q (changing {x} left right r (calls p args a f) e) g =
     let whole = g ∙ ap (λ z. z ++ sign_at sign.Semicolon q ∷ []) (glue (name_at x ∷ left) e (f ∙ ap (λ z. sign_at sign.OpenRound p ∷ z) a.3)) in
     let tail = a.1 ++ sign_at sign.CloseRound a.0 ∷ [] in
     let e2 = whole ∙ append_assoc (name_at x ∷ left) (sign_at sign.OpenRound p ∷ tail) (sign_at sign.Semicolon q ∷ [])
-            ∙ ap (λ z. (name_at x ∷ left) ++ (sign_at sign.OpenRound p ∷ z)) (append_assoc a.1 (sign_at sign.CloseRound a.0 ∷ []) (sign_at sign.Semicolon q ∷ [])) in
+    ∙ ap (λ z. (name_at x ∷ left) ++ (sign_at sign.OpenRound p ∷ z)) (append_assoc a.1 (sign_at sign.CloseRound a.0 ∷ []) (sign_at sign.Semicolon q ∷ [])) in
     (x.at, call_stmt x.at p a.0 q (name_at x ∷ left) a.1 r a.2 e2 (subst (λ z. StartsAt z x.at) (sym e2) refl))
 unended_plain {of} q (waiting at o s) g = (at, wait_stmt at q of (plain_wait o) g (starts_is _ _ at g s))
 
@@ -193,7 +193,7 @@ module _ (limits : Limits) (t : Tokens) (at : ℕ) (actor : Bool) (d : ℕ) (c :
     init_named n k e = behind_first limits (node_name d x) (Some (token.Name n))
         (λ v b s. (x.at, init_of (named_into actor d c x b.0) s.back (ap (λ z. node_name d x ∷ z) (behind s.is s.front refl)) refl, refl))
         (λ w z a s f l. split_name d c x (node_name d x) refl (Some (token.Name n)) (Then Named (λ y. DeclaredRule d x.at (of_name x y))) (λ v. Before (token.Sign sign.Semicolon) v.1) (λ v. v.1)
-            (AfterInit d) (λ w z b u f l. named_declared_back z n u f l) w z a (init_name z x.name s.1 l) s.2 f)
+        (AfterInit d) (λ w z b u f l. named_declared_back z n u f l) w z a (init_name z x.name s.1 l) s.2 f)
         t.spots.items at some_here ((λ i. k), tt) spot_here e
 
     pub init_change : ((m : List ℕ) → token_at t.spots.items (at + 1) ≡ Some (token.Name m) → ⊥)
@@ -201,7 +201,7 @@ module _ (limits : Limits) (t : Tokens) (at : ℕ) (actor : Bool) (d : ℕ) (c :
     init_change n = behind_first limits (name_at x) (token_at t.spots.items (at + 1))
         (λ v b s. (x.at, change x.at (assign_of s.front s.back (ap (λ z. name_at x ∷ z) s.is) refl), refl))
         (λ w z a s f l. split_name d c x (name_at x) refl (token_at t.spots.items (at + 1)) (Then (MoreNames x) (λ xs. ChangeRule d x.at xs)) (λ v. ExprEnds v.1) (λ v. v.1) (AfterInit d)
-            (λ w z b u f l. change_init_back z (token_at t.spots.items (at + 1)) n u f l) w z a (init_name z x.name s.1 l) s.2 f)
+        (λ w z b u f l. change_init_back z (token_at t.spots.items (at + 1)) n u f l) w z a (init_name z x.name s.1 l) s.2 f)
         t.spots.items at some_here tt spot_here refl
 
     pub unended_named : (n : List ℕ) → d ≤ 64 → token_at t.spots.items (at + 1) ≡ Some (token.Name n)
@@ -210,7 +210,7 @@ module _ (limits : Limits) (t : Tokens) (at : ℕ) (actor : Bool) (d : ℕ) (c :
     unended_named n k e = behind_first limits (node_name d x) (Some (token.Name n))
         (λ v b s. (declaring x.at (node_name d x ∷ name_at b.0 ∷ []) s.rest (named_into actor d c x b.0) s.back (ap (λ z. node_name d x ∷ z) (behind s.is s.front refl)) refl, refl))
         (λ w z a s f l. split_name d c x (node_name d x) refl (Some (token.Name n)) (Then Named (λ y. ValuedRule d x.at (of_name x y))) (λ v. Before (token.Sign sign.Semicolon) v.1) (λ v. v.1)
-            (AfterName d) (λ w z b u f l. named_value_back z n u f l) w z a (unended_name z x.name s.0 l) s.1 f)
+        (AfterName d) (λ w z b u f l. named_value_back z n u f l) w z a (unended_name z x.name s.0 l) s.1 f)
         t.spots.items at some_here ((λ i. k), tt) spot_here e
 
     pub unended_change : ((m : List ℕ) → token_at t.spots.items (at + 1) ≡ Some (token.Name m) → ⊥)
@@ -218,7 +218,7 @@ module _ (limits : Limits) (t : Tokens) (at : ℕ) (actor : Bool) (d : ℕ) (c :
     unended_change n = behind_first limits (name_at x) (token_at t.spots.items (at + 1))
         (λ v b s. (changing s.first s.rest s.front s.back (ap (λ z. name_at x ∷ z) s.is), refl))
         (λ w z a s f l. split_name d c x (name_at x) refl (token_at t.spots.items (at + 1)) (Then (MoreNames x) (λ xs. ChangedRule d x.at xs)) (λ v. ExprEnds v.1) (λ v. v.1) (AfterName d)
-            (λ w z b u f l. changed_back z (token_at t.spots.items (at + 1)) n u f l) w z a (unended_name z x.name s.0 l) s.1 f)
+        (λ w z b u f l. changed_back z (token_at t.spots.items (at + 1)) n u f l) w z a (unended_name z x.name s.0 l) s.1 f)
         t.spots.items at some_here tt spot_here refl
 
 module _ (limits : Limits) (t : Tokens) (at : ℕ) (actor : Bool) (d : ℕ) (c : Counts) (h : at ≤ length t.spots.items) where
@@ -234,8 +234,10 @@ module _ (limits : Limits) (t : Tokens) (at : ℕ) (actor : Bool) (d : ℕ) (c :
   pub into_waiting : (AsFirst WaitToken (token_at t.spots.items at) → ⊥)
       → Leaves limits (WaitingPart actor d c) Any (Then (IntoPart actor d c) (λ y. Then (Tok (token.Sign sign.Assign)) (λ q. OperandPart d))) Any
       (λ x. (record { into = Some x.0.0; next = x.1.1.0; operand = x.1.1.1 }, x.0.1)) t.spots.items at at
-  into_waiting v = narrow limits t.spots.items refl (record { back = λ w z b r f l. into_wait_back z (token_at t.spots.items at) v r l;
-      forth = λ u x r. into_wait x.1.0 r.first r.back.rest r.front r.back.back (glue _ r.is (behind r.back.is r.back.front refl)) }) (nothing limits t.spots.items (WaitingPart actor d c) Any at h)
+  into_waiting v = narrow limits t.spots.items refl (record {
+    back = λ w z b r f l. into_wait_back z (token_at t.spots.items at) v r l;
+    forth = λ u x r. into_wait x.1.0 r.first r.back.rest r.front r.back.back (glue _ r.is (behind r.back.is r.back.front refl));
+  }) (nothing limits t.spots.items (WaitingPart actor d c) Any at h)
 
 module _ (limits : Limits) (t : Tokens) (at d : ℕ) (h : at ≤ length t.spots.items) where
   pub assignment_left : Leaves limits (Assignment d) ExprEnds (Then Named (λ x. Then (MoreNames x) (λ xs. ChangeRule d x.at xs))) (λ v. ExprEnds v.1.1) (λ x. x.1.1) t.spots.items at at

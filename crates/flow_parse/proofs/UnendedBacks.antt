@@ -305,9 +305,16 @@ plain_simple (wait_stmt at p xs w f s) n = (p, xs, (waiting_unended p w f s, ref
 plain_simple (call_stmt at p q r path args x a f s) n =
     let of = path ++ (sign_at sign.OpenRound p ∷ (args ++ sign_at sign.CloseRound q ∷ [])) in
     let e = f ∙ ap (λ k. path ++ (sign_at sign.OpenRound p ∷ k)) (sym (append_assoc args (sign_at sign.CloseRound q ∷ []) (sign_at sign.Semicolon r ∷ [])))
-            ∙ sym (append_assoc path (sign_at sign.OpenRound p ∷ (args ++ sign_at sign.CloseRound q ∷ [])) (sign_at sign.Semicolon r ∷ [])) in
-    (r, of, (call_unended x (calls p (args ++ sign_at sign.CloseRound q ∷ []) (q, args, a, refl) refl) refl
-        (call_starts (sign_at sign.OpenRound p ∷ (args ++ sign_at sign.CloseRound q ∷ [])) at r path x e s), refl), e)
+    ∙ sym (append_assoc path (sign_at sign.OpenRound p ∷ (args ++ sign_at sign.CloseRound q ∷ [])) (sign_at sign.Semicolon r ∷ [])) in (
+      r,
+      of,
+      (
+        call_unended x (calls p (args ++ sign_at sign.CloseRound q ∷ []) (q, args, a, refl) refl) refl
+            (call_starts (sign_at sign.OpenRound p ∷ (args ++ sign_at sign.CloseRound q ∷ [])) at r path x e s),
+        refl,
+      ),
+      e,
+    )
   where
     call_starts : {w : List Marked} {xs : List Ident} (rest : List Marked) (at p : Place) (path : List Marked) → PathRule path xs → w ≡ (path ++ rest) ++ sign_at sign.Semicolon p ∷ [] → StartsAt w at
         → StartsAt (path ++ rest) at

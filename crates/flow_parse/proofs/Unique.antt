@@ -84,9 +84,11 @@ module _ {A B : Type 0} (R : List Marked → A → Type 0) (FR : A → List Mark
       let a = f r.first (r.rest ++ z) s.first (s.rest ++ u) x.0 y.0 (omega (arith, n)) r.front (fol x.0 x.1 r.rest z r.back p) s.front (fol y.0 y.1 s.rest u s.back q) e2 in
       let back : S x.0 s.rest y.1 = subst (λ c. S c s.rest y.1) (sym a.0) s.back in
       let q2 : F (x.0, y.1) u = subst (λ c. F (c, y.1) u) (sym a.0) q in
-      let b = g x.0 r.rest z s.rest u x.1 y.1 (omega (arith, n, long r.first x.0 r.front)) r.back p back q2 (rest_spots r.first (r.rest ++ z) s.first (s.rest ++ u) a.1 e2) in
-      (same_pair x y a.0 b.0, ap length r.is ∙ length-append r.first r.rest ∙ (let i : length r.first + length r.rest ≡ length s.first + length s.rest = omega (arith, a.1, b.1) in i)
-          ∙ sym (ap length s.is ∙ length-append s.first s.rest))
+      let b = g x.0 r.rest z s.rest u x.1 y.1 (omega (arith, n, long r.first x.0 r.front)) r.back p back q2 (rest_spots r.first (r.rest ++ z) s.first (s.rest ++ u) a.1 e2) in (
+        same_pair x y a.0 b.0,
+        ap length r.is ∙ length-append r.first r.rest ∙ (let i : length r.first + length r.rest ≡ length s.first + length s.rest = omega (arith, a.1, b.1) in i)
+            ∙ sym (ap length s.is ∙ length-append s.first s.rest),
+      )
     where
       same_pair : (x y : A × B) → x.0 ≡ y.0 → x.1 ≡ y.1 → x ≡ y
       same_pair x y e f = ap (λ c. (c, x.1)) e ∙ ap (λ c. (y.0, c)) f

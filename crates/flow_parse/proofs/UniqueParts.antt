@@ -33,8 +33,8 @@ use Rattle.flow_parse.proofs.Unique.{Uniq, UniqAt, uniq_by, at_nil, at_none, at_
 pub uniq_test : (d k : ℕ) → Uniq k (Test d) Any
 uniq_test d k = narrowed (Test d) Any (Then (Tok (token.Sign sign.OpenRound)) (λ p. Then (ExprRule 0 d) (λ e. Tok (token.Sign sign.CloseRound)))) Any (λ x. x.1.0) k (λ w z b r f. test_back z r)
     (same_tok [] (token.Sign sign.OpenRound) (λ p. Then (ExprRule 0 d) (λ e. Tok (token.Sign sign.CloseRound))) Any k
-        (λ p. seq (ExprRule 0 d) ExprEnds (λ e. Tok (token.Sign sign.CloseRound)) Any k (λ a b v z r f. ends_is a (sign_at sign.CloseRound b) v [] z r tt) (uniq_expr d k)
-        (λ e. uniq_opening [] (token.Sign sign.CloseRound) k)))
+    (λ p. seq (ExprRule 0 d) ExprEnds (λ e. Tok (token.Sign sign.CloseRound)) Any k (λ a b v z r f. ends_is a (sign_at sign.CloseRound b) v [] z r tt) (uniq_expr d k)
+    (λ e. uniq_opening [] (token.Sign sign.CloseRound) k)))
 
 pub uniq_state : (actor : Bool) (c : Counts) (k : ℕ) → Uniq k (StatePart actor c) (NotBefore (token.Word word.State))
 uniq_state actor c k = uniq_by (StatePart actor c) (NotBefore (token.Word word.State)) k (λ o. elim (at_state o) [
@@ -48,8 +48,8 @@ pub uniq_into : (actor : Bool) (d : ℕ) (c : Counts) (k : ℕ) → Uniq k (Into
 uniq_into actor d c k = narrowed (IntoPart actor d c) Any (Then (StatePart actor c) (λ s. Then (TypeRule d) (λ y. Named))) Any (λ x. (record { state = x.0.0; ty = x.1.0; name = x.1.1 }, x.0.1)) k
     (λ w z b r f. into_back z r)
     (seq (StatePart actor c) (NotBefore (token.Word word.State)) (λ s. Then (TypeRule d) (λ y. Named)) Any k
-        (λ a b v z r f. starts_not a TypeToken (token.Word word.State) (λ h. h) v z (type_name_starts r)) (uniq_state actor c k)
-        (λ s. seq (TypeRule d) Any (λ y. Named) Any k (λ a b v z r f. tt) (uniq_type k d) (λ y. uniq_name k)))
+    (λ a b v z r f. starts_not a TypeToken (token.Word word.State) (λ h. h) v z (type_name_starts r)) (uniq_state actor c k)
+    (λ s. seq (TypeRule d) Any (λ y. Named) Any k (λ a b v z r f. tt) (uniq_type k d) (λ y. uniq_name k)))
 
 pub which_wait : (o : Option Token) → AsFirst WaitToken o → (o ≡ Some (token.Word word.Wait)) ⊎ (o ≡ Some (token.Word word.WaitNext))
 which_wait (Some (token.Word word.Wait)) h = inl refl
@@ -73,7 +73,7 @@ uniq_waiting actor d c k = uniq_by (WaitingPart actor d c) Any k (λ o. elim (at
   | inr n ↦ at_narrow (WaitingPart actor d c) Any (Then (IntoPart actor d c) (λ i. Then (Tok (token.Sign sign.Assign)) (λ p. OperandPart d))) Any
       (λ y. (record { into = Some y.0.0; next = y.1.1.0; operand = y.1.1.1 }, y.0.1)) k o (λ w z b r f l. into_wait_back z o n r l)
       (seq (IntoPart actor d c) Any (λ i. Then (Tok (token.Sign sign.Assign)) (λ p. OperandPart d)) Any k (λ a b v z r f. tt) (uniq_into actor d c k)
-          (λ i. same_tok [] (token.Sign sign.Assign) (λ p. OperandPart d) Any k (λ p. uniq_operand d k)))
+      (λ i. same_tok [] (token.Sign sign.Assign) (λ p. OperandPart d) Any k (λ p. uniq_operand d k)))
 ])
 
 -- names
@@ -84,7 +84,7 @@ uniq_names (suc k) x = uniq_by (MoreNames x) (NotBefore (token.Sign sign.Dot)) (
       (at_narrow (MoreNames x) (NotBefore (token.Sign sign.Dot)) (Then (Tok (token.Sign sign.Dot)) (λ p. Then Named MoreNames)) (λ y. NotBefore (token.Sign sign.Dot) y.1.1) (λ y. x ∷ y.1.1) (suc k)
       (Some (token.Sign sign.Dot)) (λ w z b r f l. dot_back z r f l)
       (seq_tok [] (token.Sign sign.Dot) (λ p. Then Named MoreNames) (λ y. NotBefore (token.Sign sign.Dot) y.1.1) k
-          (λ p. seq Named Any MoreNames (λ y. NotBefore (token.Sign sign.Dot) y.1) k (λ a b v z r f. tt) (uniq_name k) (λ y. uniq_names k y))))
+      (λ p. seq Named Any MoreNames (λ y. NotBefore (token.Sign sign.Dot) y.1) k (λ a b v z r f. tt) (uniq_name k) (λ y. uniq_names k y))))
   | inr n ↦ at_nil (MoreNames x) (NotBefore (token.Sign sign.Dot)) (suc k) o (x ∷ []) (λ w z b r f l. no_dot_back z o n r l)
 ])
 
@@ -104,7 +104,7 @@ uniq_more_args (suc k) d = uniq_by (MoreArgs d) Any (suc k) (λ o. elim (at_comm
       (at_narrow (MoreArgs d) Any (Then (Tok (token.Sign sign.Comma)) (λ p. Then (ExprRule 0 d) (λ e. MoreArgs d))) Any (λ x. MoreExprs x.1.0 x.1.1) (suc k) (Some (token.Sign sign.Comma))
       (λ w z b r f l. next_arg z r l)
       (seq_tok [] (token.Sign sign.Comma) (λ p. Then (ExprRule 0 d) (λ e. MoreArgs d)) Any k
-          (λ p. seq (ExprRule 0 d) ExprEnds (λ e. MoreArgs d) Any k (λ a b v z r f. more_args_ends a v z r) (uniq_expr d k) (λ e. uniq_more_args k d))))
+      (λ p. seq (ExprRule 0 d) ExprEnds (λ e. MoreArgs d) Any k (λ a b v z r f. more_args_ends a v z r) (uniq_expr d k) (λ e. uniq_more_args k d))))
   | inr n ↦ at_narrow (MoreArgs d) Any (Tok (token.Sign sign.CloseRound)) Any (λ p. NoExprs) (suc k) o (λ w z b r f l. no_more_args z o n r l) (uniq_opening [] (token.Sign sign.CloseRound) (suc k))
 ])
 
@@ -206,7 +206,7 @@ module _ (d : ℕ) (x : Ident) (k : ℕ) where
     | inr n ↦ at_narrow (AfterName d x) (Before (token.Sign sign.Semicolon)) (Then (MoreNames x) (λ xs. ChangedRule d x.at xs)) (λ v. ExprEnds v.1) (λ v. v.1) k o
         (λ w z b r f l. changed_back z o n r f l)
         (seq (MoreNames x) (NotBefore (token.Sign sign.Dot)) (λ xs. ChangedRule d x.at xs) (λ v. ExprEnds v.1) k (λ a b v z r f. changed_no_dot a v z r) (uniq_names k x)
-            (λ xs. uniq_changed d x.at xs k))
+        (λ xs. uniq_changed d x.at xs k))
   ])
 
   uniq_after_init : Uniq k (AfterInit d x) (Before (token.Sign sign.Semicolon))
@@ -250,21 +250,33 @@ module _ (actor : Bool) (d : ℕ) (c : Counts) (k : ℕ) where
   uniq_unended = uniq_by (Unended actor d c) (Before (token.Sign sign.Semicolon)) k (λ o. elim (at_wait o) [
     | inl h ↦ at_narrow (Unended actor d c) (Before (token.Sign sign.Semicolon)) (Placed (OperandPart d)) Any (λ x. closed (WaitStmt x.0 (record { into = None; next = x.1.0; operand = x.1.1 }) End) c)
         k o
-        (λ w z b r f l. let q = unended_wait z o h r.0 l in record { tree = q.tree; rule = q.rule;
-            is = out_is b (WaitStmt q.tree.0 (record { into = None; next = q.tree.1.0; operand = q.tree.1.1 }) End, c) q.is r.1; follows = tt }) (uniq_placed (OperandPart d) Any k (uniq_operand d k))
+        (λ w z b r f l. let q = unended_wait z o h r.0 l in record {
+          tree = q.tree;
+          rule = q.rule;
+          is = out_is b (WaitStmt q.tree.0 (record { into = None; next = q.tree.1.0; operand = q.tree.1.1 }) End, c) q.is r.1;
+          follows = tt;
+        }) (uniq_placed (OperandPart d) Any k (uniq_operand d k))
     | inr n ↦ elim (at_name o) [
       | inl p ↦ subst (λ y. UniqAt y k (Unended actor d c) (Before (token.Sign sign.Semicolon))) (sym p.1)
           (at_narrow (Unended actor d c) (Before (token.Sign sign.Semicolon)) (Then (AnyName d) (AfterName d)) (λ x. Before (token.Sign sign.Semicolon) x.1) (λ x. closed x.1 c) k
           (Some (token.Name p.0))
-          (λ w z b r f l. let q = unended_name z p.0 r.0 l in record { tree = q.tree; rule = q.rule; is = out_is b (q.tree.1, c) q.is r.1;
-              follows = before_same (token.Sign sign.Semicolon) b q.tree.1 z f })
+          (λ w z b r f l. let q = unended_name z p.0 r.0 l in record {
+            tree = q.tree;
+            rule = q.rule;
+            is = out_is b (q.tree.1, c) q.is r.1;
+            follows = before_same (token.Sign sign.Semicolon) b q.tree.1 z f;
+          })
           (seq (AnyName d) Any (AfterName d) (λ x. Before (token.Sign sign.Semicolon) x.1) k (λ a b v z r f. tt) (uniq_any_name d k) (λ x. uniq_after_name d x k)))
       | inr m ↦ at_narrow (Unended actor d c) (Before (token.Sign sign.Semicolon)) (Then (Placed (IntoPart actor d c)) (λ x. ValuedRule d x.0 x.1.0)) (λ x. Before (token.Sign sign.Semicolon) x.1)
           (λ x. closed x.1 x.0.1.1) k o
-          (λ w z b r f l. let q = unended_into z o n m r.0 l in record { tree = q.tree; rule = q.rule; is = out_is b (q.tree.1, q.tree.0.1.1) q.is r.1;
-              follows = before_same (token.Sign sign.Semicolon) b q.tree.1 z f })
+          (λ w z b r f l. let q = unended_into z o n m r.0 l in record {
+            tree = q.tree;
+            rule = q.rule;
+            is = out_is b (q.tree.1, q.tree.0.1.1) q.is r.1;
+            follows = before_same (token.Sign sign.Semicolon) b q.tree.1 z f;
+          })
           (seq (Placed (IntoPart actor d c)) Any (λ x. ValuedRule d x.0 x.1.0) (λ x. Before (token.Sign sign.Semicolon) x.1) k (λ a b v z r f. tt)
-              (uniq_placed (IntoPart actor d c) Any k (uniq_into actor d c k)) (λ x. uniq_valued d x.0 x.1.0 k))
+          (uniq_placed (IntoPart actor d c) Any k (uniq_into actor d c k)) (λ x. uniq_valued d x.0 x.1.0 k))
     ]
   ])
 
@@ -272,18 +284,26 @@ module _ (actor : Bool) (d : ℕ) (c : Counts) (k : ℕ) where
   uniq_init = uniq_by (Init actor d c) (Before (token.Sign sign.Semicolon)) k (λ o. elim (at_name o) [
     | inl p ↦ subst (λ y. UniqAt y k (Init actor d c) (Before (token.Sign sign.Semicolon))) (sym p.1)
         (at_narrow (Init actor d c) (Before (token.Sign sign.Semicolon)) (Then (AnyName d) (AfterInit d)) (λ x. Before (token.Sign sign.Semicolon) x.1) (λ x. closed x.1 c) k (Some (token.Name p.0))
-        (λ w z b r f l. let q = init_name z p.0 r.1 l in record { tree = q.tree; rule = q.rule; is = out_is b (q.tree.1, c) q.is r.2;
-            follows = before_same (token.Sign sign.Semicolon) b q.tree.1 z f })
+        (λ w z b r f l. let q = init_name z p.0 r.1 l in record {
+          tree = q.tree;
+          rule = q.rule;
+          is = out_is b (q.tree.1, c) q.is r.2;
+          follows = before_same (token.Sign sign.Semicolon) b q.tree.1 z f;
+        })
         (seq (AnyName d) Any (AfterInit d) (λ x. Before (token.Sign sign.Semicolon) x.1) k (λ a b v z r f. tt) (uniq_any_name d k) (λ x. uniq_after_init d x k)))
     | inr m ↦ at_narrow (Init actor d c) (Before (token.Sign sign.Semicolon)) (Then (Placed (IntoPart actor d c)) (λ x. DeclaredRule d x.0 x.1.0)) (λ x. Before (token.Sign sign.Semicolon) x.1)
         (λ x. closed x.1 x.0.1.1) k o
-        (λ w z b r f l. let q = init_into z o m r.1 l in record { tree = q.tree; rule = q.rule; is = out_is b (q.tree.1, q.tree.0.1.1) q.is r.2;
-            follows = before_same (token.Sign sign.Semicolon) b q.tree.1 z f })
+        (λ w z b r f l. let q = init_into z o m r.1 l in record {
+          tree = q.tree;
+          rule = q.rule;
+          is = out_is b (q.tree.1, q.tree.0.1.1) q.is r.2;
+          follows = before_same (token.Sign sign.Semicolon) b q.tree.1 z f;
+        })
         (seq (Placed (IntoPart actor d c)) Any (λ x. DeclaredRule d x.0 x.1.0) (λ x. Before (token.Sign sign.Semicolon) x.1) k (λ a b v z r f. tt)
-            (uniq_placed (IntoPart actor d c) Any k (uniq_into actor d c k)) (λ x. uniq_declared d x.0 x.1.0 k))
+        (uniq_placed (IntoPart actor d c) Any k (uniq_into actor d c k)) (λ x. uniq_declared d x.0 x.1.0 k))
   ])
 
   pub uniq_simple : Uniq k (Simple actor d c) Any
   uniq_simple = narrowed (Simple actor d c) Any (Then (Unended actor d c) (λ o. Tok (token.Sign sign.Semicolon))) Any (λ x. x.0) k (λ w z b r f. simple_back z r)
       (seq (Unended actor d c) (Before (token.Sign sign.Semicolon)) (λ o. Tok (token.Sign sign.Semicolon)) Any k (λ a b v z r f. before_is a (sign_at sign.Semicolon b) v [] z r) uniq_unended
-          (λ o. uniq_opening [] (token.Sign sign.Semicolon) k))
+      (λ o. uniq_opening [] (token.Sign sign.Semicolon) k))

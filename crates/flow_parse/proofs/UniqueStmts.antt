@@ -33,7 +33,7 @@ uniq_maybe d k = uniq_by (MaybeExpr d) Any k (λ o. elim (at_semicolon o) [
       (λ w z b r f l. no_expr_back z r l) (uniq_opening [] (token.Sign sign.Semicolon) k))
   | inr n ↦ at_narrow (MaybeExpr d) Any (Then (ExprRule 0 d) (λ e. Tok (token.Sign sign.Semicolon))) Any (λ x. Some x.0) k o (λ w z b r f l. some_expr_back z o n r l)
       (seq (ExprRule 0 d) ExprEnds (λ e. Tok (token.Sign sign.Semicolon)) Any k (λ a b v z r f. ends_is a (sign_at sign.Semicolon b) v [] z r tt) (uniq_expr d k)
-          (λ e. uniq_opening [] (token.Sign sign.Semicolon) k))
+      (λ e. uniq_opening [] (token.Sign sign.Semicolon) k))
 ])
 
 uniq_start : (actor : Bool) (d : ℕ) (c : Counts) (k : ℕ) → Uniq k (StartPart actor d c) Any
@@ -44,8 +44,8 @@ uniq_start actor d c k = uniq_by (StartPart actor d c) Any k (λ o. elim (at_sem
   | inr n ↦ at_narrow (StartPart actor d c) Any (Then (Begun c d (Init actor d (one_statement c))) (λ o. Tok (token.Sign sign.Semicolon))) Any (λ x. (x.0.body, x.0.counts)) k o
       (λ w z b r f l. start_back z o n r l)
       (seq (Begun c d (Init actor d (one_statement c))) (Before (token.Sign sign.Semicolon)) (λ o. Tok (token.Sign sign.Semicolon)) Any k
-          (λ a b v z r f. before_is a (sign_at sign.Semicolon b) v [] z r)
-          (uniq_begun (Init actor d (one_statement c)) (Before (token.Sign sign.Semicolon)) c d k (uniq_init actor d (one_statement c) k)) (λ o. uniq_opening [] (token.Sign sign.Semicolon) k))
+      (λ a b v z r f. before_is a (sign_at sign.Semicolon b) v [] z r)
+      (uniq_begun (Init actor d (one_statement c)) (Before (token.Sign sign.Semicolon)) c d k (uniq_init actor d (one_statement c) k)) (λ o. uniq_opening [] (token.Sign sign.Semicolon) k))
 ])
 
 uniq_next : (d : ℕ) (c : Counts) (k : ℕ) → Uniq k (NextPart d c) Any
@@ -54,7 +54,7 @@ uniq_next d c k = uniq_by (NextPart d c) Any k (λ o. elim (at_close o) [
       (λ w z b r f l. no_next_back z r l) (uniq_opening [] (token.Sign sign.CloseRound) k))
   | inr n ↦ at_narrow (NextPart d c) Any (Then (Begun c d (Assignment d)) (λ b. Tok (token.Sign sign.CloseRound))) Any (λ x. (x.0, one_statement c)) k o (λ w z b r f l. next_back z o n r l)
       (seq (Begun c d (Assignment d)) ExprEnds (λ o. Tok (token.Sign sign.CloseRound)) Any k (λ a b v z r f. ends_is a (sign_at sign.CloseRound b) v [] z r tt)
-          (uniq_begun (Assignment d) ExprEnds c d k (uniq_assignment d k)) (λ o. uniq_opening [] (token.Sign sign.CloseRound) k))
+      (uniq_begun (Assignment d) ExprEnds c d k (uniq_assignment d k)) (λ o. uniq_opening [] (token.Sign sign.CloseRound) k))
 ])
 
 abbrev pub CatchSeq : List Marked → Place × (Place × (Place × (Place × (Ident × Place)))) → Type 0
@@ -69,7 +69,7 @@ catch_back {x = x} z r = record {
       (tok_front (token.Sign sign.OpenRound) r.0 (r.1, (r.2, (x.1, r.3))) (word_at word.Error r.1 ∷ sign_at sign.Amp r.2 ∷ name_at x.1 ∷ sign_at sign.CloseRound r.3 ∷ []) refl
       (tok_front (token.Word word.Error) r.1 (r.2, (x.1, r.3)) (sign_at sign.Amp r.2 ∷ name_at x.1 ∷ sign_at sign.CloseRound r.3 ∷ []) refl
       (tok_front (token.Sign sign.Amp) r.2 (x.1, r.3) (name_at x.1 ∷ sign_at sign.CloseRound r.3 ∷ []) refl
-          (front Named x.1 r.3 (name_at x.1 ∷ []) (sign_at sign.CloseRound r.3 ∷ []) refl refl refl))));
+      (front Named x.1 r.3 (name_at x.1 ∷ []) (sign_at sign.CloseRound r.3 ∷ []) refl refl refl))));
   is = refl;
   follows = tt;
 }
@@ -77,7 +77,7 @@ catch_back {x = x} z r = record {
 uniq_catch : (k : ℕ) → Uniq k Catch Any
 uniq_catch k = narrowed Catch Any CatchSeq Any (λ y. (y.0, y.1.1.1.1.0)) k (λ w z b r f. catch_back z r)
     (same_tok [] (token.Word word.Catch) (λ p. Then (Tok (token.Sign sign.OpenRound))
-        (λ q. Then (Tok (token.Word word.Error)) (λ r. Then (Tok (token.Sign sign.Amp)) (λ s. Then Named (λ x. Tok (token.Sign sign.CloseRound)))))) Any k (λ p.
+    (λ q. Then (Tok (token.Word word.Error)) (λ r. Then (Tok (token.Sign sign.Amp)) (λ s. Then Named (λ x. Tok (token.Sign sign.CloseRound)))))) Any k (λ p.
     same_tok [] (token.Sign sign.OpenRound) (λ q. Then (Tok (token.Word word.Error)) (λ r. Then (Tok (token.Sign sign.Amp)) (λ s. Then Named (λ x. Tok (token.Sign sign.CloseRound))))) Any k (λ q.
     same_tok [] (token.Word word.Error) (λ r. Then (Tok (token.Sign sign.Amp)) (λ s. Then Named (λ x. Tok (token.Sign sign.CloseRound)))) Any k (λ r.
     same_tok [] (token.Sign sign.Amp) (λ s. Then Named (λ x. Tok (token.Sign sign.CloseRound))) Any k (λ s.
@@ -118,17 +118,17 @@ module _ (k : ℕ) (all : AllUniq k) (actor : Bool) (d : ℕ) (c : Counts) where
       (λ x. with (WhileStmt x.0 x.1.0 x.1.1.body End) x.1.1) (suc k) (Some (token.Word word.While))
       (λ w z b r f l. let q = keyword_back z word.While (λ h. h) r.1 l in record { tree = q.tree; rule = q.rule; is = q.is; follows = else_as b q.tree.1.1 z (ap (λ v. v.ends_if) q.is) f })
       (seq_tok [] (token.Word word.While) (λ p. Then (Test (suc d)) (λ e. BodyPart actor (suc d) c)) (λ x. NoElse x.1.1) k
-          (λ p. seq (Test (suc d)) Any (λ e. BodyPart actor (suc d) c) (λ x. NoElse x.1) k (λ a b v z r f. tt) (uniq_test (suc d) k) (λ e. all.body actor (suc d) c)))
+      (λ p. seq (Test (suc d)) Any (λ e. BodyPart actor (suc d) c) (λ x. NoElse x.1) k (λ a b v z r f. tt) (uniq_test (suc d) k) (λ e. all.body actor (suc d) c)))
   by_word word.For h = at_narrow (Plain actor d c) NoElse (Then (Tok (token.Word word.For))
       (λ p. Then (Tok (token.Sign sign.OpenRound)) (λ q. Then (StartPart actor (suc d) c) (λ a. Then (MaybeExpr (suc d)) (λ e. Then (NextPart (suc d) a.1) (λ b. BodyPart actor (suc d) b.1))))))
       (λ x. NoElse x.1.1.1.1.1) (λ x. with (ForStmt x.0 x.1.1.0.0 x.1.1.1.0 x.1.1.1.1.0.0 x.1.1.1.1.1.body End) x.1.1.1.1.1) (suc k) (Some (token.Word word.For))
       (λ w z b r f l. let q = keyword_back z word.For (λ h. h) r.1 l in record { tree = q.tree; rule = q.rule; is = q.is; follows = else_as b q.tree.1.1.1.1.1 z (ap (λ v. v.ends_if) q.is) f })
       (seq_tok [] (token.Word word.For) (λ p. Then (Tok (token.Sign sign.OpenRound))
-          (λ q. Then (StartPart actor (suc d) c) (λ a. Then (MaybeExpr (suc d)) (λ e. Then (NextPart (suc d) a.1) (λ b. BodyPart actor (suc d) b.1))))) (λ x. NoElse x.1.1.1.1.1) k (λ p.
+      (λ q. Then (StartPart actor (suc d) c) (λ a. Then (MaybeExpr (suc d)) (λ e. Then (NextPart (suc d) a.1) (λ b. BodyPart actor (suc d) b.1))))) (λ x. NoElse x.1.1.1.1.1) k (λ p.
       same_tok [] (token.Sign sign.OpenRound) (λ q. Then (StartPart actor (suc d) c) (λ a. Then (MaybeExpr (suc d)) (λ e. Then (NextPart (suc d) a.1) (λ b. BodyPart actor (suc d) b.1))))
-          (λ x. NoElse x.1.1.1.1) k (λ q.
+      (λ x. NoElse x.1.1.1.1) k (λ q.
       seq (StartPart actor (suc d) c) Any (λ a. Then (MaybeExpr (suc d)) (λ e. Then (NextPart (suc d) a.1) (λ b. BodyPart actor (suc d) b.1))) (λ x. NoElse x.1.1.1) k (λ a b v z r f. tt)
-          (uniq_start actor (suc d) c k) (λ a.
+      (uniq_start actor (suc d) c k) (λ a.
       seq (MaybeExpr (suc d)) Any (λ e. Then (NextPart (suc d) a.1) (λ b. BodyPart actor (suc d) b.1)) (λ x. NoElse x.1.1) k (λ a b v z r f. tt) (uniq_maybe (suc d) k) (λ e.
       seq (NextPart (suc d) a.1) Any (λ b. BodyPart actor (suc d) b.1) (λ x. NoElse x.1) k (λ a b v z r f. tt) (uniq_next (suc d) a.1 k) (λ b. all.body actor (suc d) b.1))))))
   by_word word.Loop h = at_narrow (Plain actor d c) NoElse (Then (Tok (token.Word word.Loop)) (λ p. BodyPart actor (suc d) c)) (λ x. NoElse x.1) (λ x. with (LoopStmt x.0 x.1.body End) x.1) (suc k)
@@ -138,32 +138,32 @@ module _ (k : ℕ) (all : AllUniq k) (actor : Bool) (d : ℕ) (c : Counts) where
   by_word word.Break h = at_narrow (Plain actor d c) NoElse (Then (Tok (token.Word word.Break)) (λ p. Tok (token.Sign sign.Semicolon))) Any (λ x. closed (BreakStmt x.0 End) c) (suc k)
       (Some (token.Word word.Break))
       (λ w z b r f l. let q = keyword_back z word.Break (λ h. h) r.1 l in record { tree = q.tree; rule = q.rule; is = q.is; follows = tt })
-          (seq_tok [] (token.Word word.Break) (λ p. Tok (token.Sign sign.Semicolon)) Any k (λ p. uniq_opening [] (token.Sign sign.Semicolon) k))
+      (seq_tok [] (token.Word word.Break) (λ p. Tok (token.Sign sign.Semicolon)) Any k (λ p. uniq_opening [] (token.Sign sign.Semicolon) k))
   by_word word.Continue h = at_narrow (Plain actor d c) NoElse (Then (Tok (token.Word word.Continue)) (λ p. Tok (token.Sign sign.Semicolon))) Any (λ x. closed (ContinueStmt x.0 End) c) (suc k)
       (Some (token.Word word.Continue))
       (λ w z b r f l. let q = keyword_back z word.Continue (λ h. h) r.1 l in record { tree = q.tree; rule = q.rule; is = q.is; follows = tt })
-          (seq_tok [] (token.Word word.Continue) (λ p. Tok (token.Sign sign.Semicolon)) Any k (λ p. uniq_opening [] (token.Sign sign.Semicolon) k))
+      (seq_tok [] (token.Word word.Continue) (λ p. Tok (token.Sign sign.Semicolon)) Any k (λ p. uniq_opening [] (token.Sign sign.Semicolon) k))
   by_word word.Return h = at_narrow (Plain actor d c) NoElse (Then (Tok (token.Word word.Return)) (λ p. Then (ExprRule 0 (suc d)) (λ e. Tok (token.Sign sign.Semicolon)))) Any
       (λ x. closed (ReturnStmt x.0 x.1.0 End) c) (suc k) (Some (token.Word word.Return))
       (λ w z b r f l. let q = keyword_back z word.Return (λ h. h) r.1 l in record { tree = q.tree; rule = q.rule; is = q.is; follows = tt })
       (seq_tok [] (token.Word word.Return) (λ p. Then (ExprRule 0 (suc d)) (λ e. Tok (token.Sign sign.Semicolon))) Any k
-          (λ p. seq (ExprRule 0 (suc d)) ExprEnds (λ e. Tok (token.Sign sign.Semicolon)) Any k (λ a b v z r f. ends_is a (sign_at sign.Semicolon b) v [] z r tt) (uniq_expr (suc d) k)
-          (λ e. uniq_opening [] (token.Sign sign.Semicolon) k)))
+      (λ p. seq (ExprRule 0 (suc d)) ExprEnds (λ e. Tok (token.Sign sign.Semicolon)) Any k (λ a b v z r f. ends_is a (sign_at sign.Semicolon b) v [] z r tt) (uniq_expr (suc d) k)
+      (λ e. uniq_opening [] (token.Sign sign.Semicolon) k)))
   by_word word.Throw h = at_narrow (Plain actor d c) NoElse (Then (Tok (token.Word word.Throw)) (λ p. MaybeExpr (suc d))) Any (λ x. closed (ThrowStmt x.0 x.1 End) c) (suc k)
       (Some (token.Word word.Throw))
       (λ w z b r f l. let q = keyword_back z word.Throw (λ h. h) r.1 l in record { tree = q.tree; rule = q.rule; is = q.is; follows = tt })
-          (seq_tok [] (token.Word word.Throw) (λ p. MaybeExpr (suc d)) Any k (λ p. uniq_maybe (suc d) k))
+      (seq_tok [] (token.Word word.Throw) (λ p. MaybeExpr (suc d)) Any k (λ p. uniq_maybe (suc d) k))
   by_word word.Try h = at_narrow (Plain actor d c) NoElse (Then (Tok (token.Word word.Try)) (λ p. Then (Block actor (suc d) c) (λ o. Then Catch (λ x. Block actor (suc d) o.counts)))) Any
       (λ x. closed (TryStmt x.0 x.1.0.body x.1.1.0.0 x.1.1.0.1 x.1.1.1.body End) x.1.1.1.counts) (suc k) (Some (token.Word word.Try))
       (λ w z b r f l. let q = keyword_back z word.Try (λ h. h) r.1 l in record { tree = q.tree; rule = q.rule; is = q.is; follows = tt })
       (seq_tok [] (token.Word word.Try) (λ p. Then (Block actor (suc d) c) (λ o. Then Catch (λ x. Block actor (suc d) o.counts))) Any k
-          (λ p. seq (Block actor (suc d) c) Any (λ o. Then Catch (λ x. Block actor (suc d) o.counts)) Any k (λ a b v z r f. tt) (all.block actor (suc d) c)
-          (λ o. seq Catch Any (λ x. Block actor (suc d) o.counts) Any k (λ a b v z r f. tt) (uniq_catch k) (λ x. all.block actor (suc d) o.counts))))
+      (λ p. seq (Block actor (suc d) c) Any (λ o. Then Catch (λ x. Block actor (suc d) o.counts)) Any k (λ a b v z r f. tt) (all.block actor (suc d) c)
+      (λ o. seq Catch Any (λ x. Block actor (suc d) o.counts) Any k (λ a b v z r f. tt) (uniq_catch k) (λ x. all.block actor (suc d) o.counts))))
   by_word word.Choose h = at_narrow (Plain actor d c) NoElse (Then (Tok (token.Word word.Choose)) (λ p. Then (Tok (token.Sign sign.OpenCurly)) (λ q. AllWhens actor (suc d) c))) Any
       (λ x. closed (ChooseStmt x.0 x.1.1.0 End) x.1.1.1) (suc k) (Some (token.Word word.Choose))
       (λ w z b r f l. let q = keyword_back z word.Choose (λ h. h) r.1 l in record { tree = q.tree; rule = q.rule; is = q.is; follows = tt })
       (seq_tok [] (token.Word word.Choose) (λ p. Then (Tok (token.Sign sign.OpenCurly)) (λ q. AllWhens actor (suc d) c)) Any k
-          (λ p. same_tok [] (token.Sign sign.OpenCurly) (λ q. AllWhens actor (suc d) c) Any k (λ q. all.all_whens actor (suc d) c)))
+      (λ p. same_tok [] (token.Sign sign.OpenCurly) (λ q. AllWhens actor (suc d) c) Any k (λ q. all.all_whens actor (suc d) c)))
   by_word _ h = absurd h
 
   uniq_plain : Uniq (suc k) (Plain actor d c) NoElse
@@ -205,13 +205,13 @@ module _ (k : ℕ) (all : AllUniq k) where
     | inr n ↦ at_narrow (Closing actor d c) Any (Then (One actor d c) (λ o. Closing actor d o.counts)) Any (λ x. record { body = put_before x.0.body x.1.body; counts = x.1.counts; close = x.1.close })
         (suc k) o (λ w z b r f l. more_back z o n r l)
         (seq_less (One actor d c) NoElse (λ o. Closing actor d o.counts) Any k (λ a b v z r f. closing_no_else a z r) (new_one actor d c) (λ o. all.closing actor d o.counts) StmtToken
-            (λ w a r. stmt_starts r))
+        (λ w a r. stmt_starts r))
   ])
 
   new_when : (actor : Bool) (d n : ℕ) (c : Counts) → Uniq (suc k) (WhenPart actor d n c) (NotBefore (token.Word word.Else))
   new_when actor d n c = narrowed (WhenPart actor d n c) (NotBefore (token.Word word.Else)) (WhenSeq actor d n c) (λ x. NoElse x.1.1.1.1) when_of (suc k) (λ w z b r f. when_back z r f)
       (seq_tok (Branch n ∷ Node d ∷ []) (token.Word word.When) (λ p. Then (Tok (token.Sign sign.OpenRound))
-          (λ q. Then (WaitingPart actor d c) (λ y. Then (Tok (token.Sign sign.CloseRound)) (λ s. BodyPart actor (suc d) y.1)))) (λ x. NoElse x.1.1.1.1) k (λ p.
+      (λ q. Then (WaitingPart actor d c) (λ y. Then (Tok (token.Sign sign.CloseRound)) (λ s. BodyPart actor (suc d) y.1)))) (λ x. NoElse x.1.1.1.1) k (λ p.
       same_tok [] (token.Sign sign.OpenRound) (λ q. Then (WaitingPart actor d c) (λ y. Then (Tok (token.Sign sign.CloseRound)) (λ s. BodyPart actor (suc d) y.1))) (λ x. NoElse x.1.1.1) k (λ q.
       seq (WaitingPart actor d c) Any (λ y. Then (Tok (token.Sign sign.CloseRound)) (λ s. BodyPart actor (suc d) y.1)) (λ x. NoElse x.1.1) k (λ a b v z r f. tt) (uniq_waiting actor d c k) (λ y.
       same_tok [] (token.Sign sign.CloseRound) (λ s. BodyPart actor (suc d) y.1) (λ x. NoElse x.1) k (λ s. all.body actor (suc d) y.1)))))
@@ -237,8 +237,13 @@ nothing_shorter : {A : Type 0} (R : List Marked → A → Type 0) (F : A → Lis
 nothing_shorter R F = λ w z v u a b lt r g s h e. absurd (omega arith)
 
 all_uniq : (k : ℕ) → AllUniq k
-all_uniq zero = record { body = λ a d c. nothing_shorter (BodyPart a d c) NoElse; block = λ a d c. nothing_shorter (Block a d c) Any; closing = λ a d c. nothing_shorter (Closing a d c) Any;
-    whens = λ a d n c. nothing_shorter (WhensPart a d n c) Any; all_whens = λ a d c. nothing_shorter (AllWhens a d c) Any }
+all_uniq zero = record {
+  body = λ a d c. nothing_shorter (BodyPart a d c) NoElse;
+  block = λ a d c. nothing_shorter (Block a d c) Any;
+  closing = λ a d c. nothing_shorter (Closing a d c) Any;
+  whens = λ a d n c. nothing_shorter (WhensPart a d n c) Any;
+  all_whens = λ a d c. nothing_shorter (AllWhens a d c) Any;
+}
 all_uniq (suc k) =
     let all = all_uniq k in
     record { body = new_body k all; block = new_block k all; closing = new_closing k all; whens = new_whens k all; all_whens = new_all_whens k all }

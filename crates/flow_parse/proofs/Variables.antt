@@ -38,8 +38,10 @@ pub expr_link : (d : ℕ) → Link (ExprRule 0 d) ExprEnds (λ e. Tok (token.Sig
 expr_link d = record { follows = λ a b v z r f. ends_is a (sign_at sign.CloseRound b) v [] z r tt; more = λ e. some_opening [] (token.Sign sign.CloseRound) }
 
 pub state_link : (actor : Bool) (d : ℕ) (c : Counts) → Link (StatePart actor c) (NotBefore (token.Word word.State)) (λ s. Then (TypeRule d) (λ y. Named)) Any
-state_link actor d c = record { follows = λ a b v z r f. starts_not a TypeToken (token.Word word.State) (λ h. h) v z (type_name_starts r);
-    more = λ s. some_then (TypeRule d) (λ y. Named) (some_type d) (λ y. some_named) }
+state_link actor d c = record {
+  follows = λ a b v z r f. starts_not a TypeToken (token.Word word.State) (λ h. h) v z (type_name_starts r);
+  more = λ s. some_then (TypeRule d) (λ y. Named) (some_type d) (λ y. some_named);
+}
 
 pub type_link : (d : ℕ) → Link (TypeRule d) Any (λ y. Named) Any
 type_link d = free (λ y. some_named)
@@ -69,8 +71,10 @@ module _ (limits : Limits) (t : Tokens) (at : ℕ) where
   -- "(" expr ")"
   pub test_left : (d : ℕ) → at ≤ length t.spots.items
       → Leaves limits (Test d) Any (Then (Tok (token.Sign sign.OpenRound)) (λ p. Then (ExprRule 0 d) (λ e. Tok (token.Sign sign.CloseRound)))) Any (λ x. x.1.0) t.spots.items at at
-  test_left d h = narrow limits t.spots.items refl (record { back = λ w z b r f l. test_back z r;
-      forth = λ u x r. (x.0, x.1.1, r.back.first, r.back.front, behind r.is r.front (glue _ r.back.is r.back.back)) }) (nothing limits t.spots.items (Test d) Any at h)
+  test_left d h = narrow limits t.spots.items refl (record {
+    back = λ w z b r f l. test_back z r;
+    forth = λ u x r. (x.0, x.1.1, r.back.first, r.back.front, behind r.is r.front (glue _ r.back.is r.back.back));
+  }) (nothing limits t.spots.items (Test d) Any at h)
 
   pub no_state_reads : (actor : Bool) (c : Counts) → at ≤ length t.spots.items → (token_at t.spots.items at ≡ Some (token.Word word.State) → ⊥)
       → Reads limits (StatePart actor c) (NotBefore (token.Word word.State)) t.spots.items at (false, c) at
@@ -108,8 +112,10 @@ module _ (limits : Limits) (t : Tokens) (at : ℕ) where
 
   pub wait_next_left : (d : ℕ) → at ≤ length t.spots.items → token_at t.spots.items at ≡ Some (token.Word word.WaitNext)
       → Leaves limits (OperandPart d) Any (Then (Tok (token.Word word.WaitNext)) (λ p. Test (suc d))) Any (λ x. (true, x.1)) t.spots.items at at
-  wait_next_left d h e = narrow limits t.spots.items e (record { back = λ w z b r f l. wait_next_back z r l;
-      forth = λ u x r. wait_next x.0 r.back.0 r.back.1 r.back.2 r.back.3 (behind r.is r.front r.back.4) }) (nothing limits t.spots.items (OperandPart d) Any at h)
+  wait_next_left d h e = narrow limits t.spots.items e (record {
+    back = λ w z b r f l. wait_next_back z r l;
+    forth = λ u x r. wait_next x.0 r.back.0 r.back.1 r.back.2 r.back.3 (behind r.is r.front r.back.4);
+  }) (nothing limits t.spots.items (OperandPart d) Any at h)
 
   -- arguments
   pub no_args_left : (d : ℕ) → at ≤ length t.spots.items → token_at t.spots.items at ≡ Some (token.Sign sign.CloseRound)
@@ -118,17 +124,26 @@ module _ (limits : Limits) (t : Tokens) (at : ℕ) where
 
   pub args_left : (d : ℕ) → at ≤ length t.spots.items → (token_at t.spots.items at ≡ Some (token.Sign sign.CloseRound) → ⊥)
       → Leaves limits (Args d) Any (Then (ExprRule 0 d) (λ e. MoreArgs d)) Any (λ x. MoreExprs x.0 x.1) t.spots.items at at
-  args_left d h n = narrow limits t.spots.items refl (record { back = λ w z b r f l. first_arg z (token_at t.spots.items at) n r l;
-      forth = λ u x r. (r.back.0, r.first ++ r.back.1, some_args r.first r.back.1 r.front r.back.2 refl, glue _ r.is r.back.3 ∙ sym (append_assoc r.first r.back.1 _)) })
+  args_left d h n = narrow limits t.spots.items refl (record {
+    back = λ w z b r f l. first_arg z (token_at t.spots.items at) n r l;
+    forth = λ u x r. (r.back.0, r.first ++ r.back.1, some_args r.first r.back.1 r.front r.back.2 refl, glue _ r.is r.back.3 ∙ sym (append_assoc r.first r.back.1 _));
+  })
       (nothing limits t.spots.items (Args d) Any at h)
 
 module _ (limits : Limits) (spots : List Spot) where
   pub more_args_left : {A : Type 0} {W : List Marked → A → Type 0} {FW : A → List Marked → Type 0} {g : ExprTrees → A} {from at d : ℕ} → token_at spots at ≡ Some (token.Sign sign.Comma)
       → Leaves limits W FW (MoreArgs d) Any g spots from at
       → Leaves limits W FW (Then (Tok (token.Sign sign.Comma)) (λ p. Then (ExprRule 0 d) (λ e. MoreArgs d))) Any (λ x. g (MoreExprs x.1.0 x.1.1)) spots from at
-  more_args_left e l = narrow limits spots e (record { back = λ w z b r f k. next_arg z r k;
-      forth = λ u x r. (r.back.back.0, _, more_args x.0 r.back.first r.back.back.1 r.back.front r.back.back.2 refl, behind r.is r.front
-      (glue _ r.back.is r.back.back.3 ∙ sym (append_assoc r.back.first r.back.back.1 _))) }) l
+  more_args_left e l = narrow limits spots e (record {
+    back = λ w z b r f k. next_arg z r k;
+    forth = λ u x r. (
+      r.back.back.0,
+      _,
+      more_args x.0 r.back.first r.back.back.1 r.back.front r.back.back.2 refl,
+      behind r.is r.front
+          (glue _ r.back.is r.back.back.3 ∙ sym (append_assoc r.back.first r.back.back.1 _)),
+    );
+  }) l
 
   pub end_args_left : {A : Type 0} {W : List Marked → A → Type 0} {FW : A → List Marked → Type 0} {g : ExprTrees → A} {from at d : ℕ} → (token_at spots at ≡ Some (token.Sign sign.Comma) → ⊥)
       → Leaves limits W FW (MoreArgs d) Any g spots from at
@@ -139,9 +154,11 @@ module _ (limits : Limits) (spots : List Spot) where
   pub dot_left : {A : Type 0} {W : List Marked → A → Type 0} {FW : A → List Marked → Type 0} {g : List Ident → A} {from at : ℕ} {x : Ident} → token_at spots at ≡ Some (token.Sign sign.Dot)
       → Leaves limits W FW (MoreNames x) (NotBefore (token.Sign sign.Dot)) g spots from at
       → Leaves limits W FW (Then (Tok (token.Sign sign.Dot)) (λ p. Then Named MoreNames)) (λ y. NotBefore (token.Sign sign.Dot) y.1.1) (λ y. g (x ∷ y.1.1)) spots from at
-  dot_left {x = x} e l = narrow limits spots e (record { back = λ w z b r f k. dot_back z r f k;
-      forth = λ u y r. more_names x y.0 (r.back.first ++ r.back.rest) (subst (λ z. PathRule (z ++ r.back.rest) y.1.1) (sym r.back.front) r.back.back)
-      (ap (λ z. name_at x ∷ z) (behind r.is r.front r.back.is)) }) l
+  dot_left {x = x} e l = narrow limits spots e (record {
+    back = λ w z b r f k. dot_back z r f k;
+    forth = λ u y r. more_names x y.0 (r.back.first ++ r.back.rest) (subst (λ z. PathRule (z ++ r.back.rest) y.1.1) (sym r.back.front) r.back.back)
+        (ap (λ z. name_at x ∷ z) (behind r.is r.front r.back.is));
+  }) l
 
   pub no_dot_reads : (at : ℕ) (x : Ident) → at ≤ length spots → (token_at spots at ≡ Some (token.Sign sign.Dot) → ⊥) → Reads limits (MoreNames x) (NotBefore (token.Sign sign.Dot)) spots at (x ∷ []) at
   no_dot_reads at x h n = empty limits spots (MoreNames x) _ at (x ∷ []) (token_at spots at) h refl (last_name x) (λ w z b r f l. no_dot_back z (token_at spots at) n r l)
@@ -161,32 +178,44 @@ module _ (limits : Limits) (t : Tokens) (at d : ℕ) (p : Place) (xs : List Iden
   pub assign_left : (token_at t.spots.items at ≡ Some (token.Sign sign.PlusPlus) → ⊥) → (token_at t.spots.items at ≡ Some (token.Sign sign.MinusMinus) → ⊥)
       → (token_at t.spots.items at ≡ Some (token.Sign sign.PlusAssign) → ⊥) → (token_at t.spots.items at ≡ Some (token.Sign sign.MinusAssign) → ⊥)
       → Leaves limits (ChangeRule d p xs) ExprEnds (Then (Tok (token.Sign sign.Assign)) (λ q. ExprRule 0 (suc d))) (λ x. ExprEnds x.1) (λ x. AssignStmt p xs x.1 End) t.spots.items at at
-  assign_left u v m n = narrow limits t.spots.items refl (record { back = λ w z b r f l. plain_back z (token_at t.spots.items at) u v m n r f l;
-      forth = λ u x r. assigns x.0 r.rest r.back (behind r.is r.front refl) }) (nothing limits t.spots.items (ChangeRule d p xs) ExprEnds at h)
+  assign_left u v m n = narrow limits t.spots.items refl (record {
+    back = λ w z b r f l. plain_back z (token_at t.spots.items at) u v m n r f l;
+    forth = λ u x r. assigns x.0 r.rest r.back (behind r.is r.front refl);
+  }) (nothing limits t.spots.items (ChangeRule d p xs) ExprEnds at h)
 
   pub plus_left : token_at t.spots.items at ≡ Some (token.Sign sign.PlusAssign)
       → Leaves limits (ChangeRule d p xs) ExprEnds (Then (Tok (token.Sign sign.PlusAssign)) (λ q. ExprRule 0 (suc d))) (λ x. ExprEnds x.1)
       (λ x. ModifyStmt p xs (PlusChange x.1) End) t.spots.items at at
-  plus_left e = narrow limits t.spots.items e (record { back = λ w z b r f l. let q = change_back z sign.PlusAssign r l
-      in record { tree = q.tree; rule = q.rule; is = q.is; follows = ends_same b q.tree.1 z f }; forth = λ u x r. adds x.0 r.rest r.back (behind r.is r.front refl) })
+  plus_left e = narrow limits t.spots.items e (record {
+    back = λ w z b r f l. let q = change_back z sign.PlusAssign r l
+        in record { tree = q.tree; rule = q.rule; is = q.is; follows = ends_same b q.tree.1 z f };
+    forth = λ u x r. adds x.0 r.rest r.back (behind r.is r.front refl);
+  })
       (nothing limits t.spots.items (ChangeRule d p xs) ExprEnds at h)
 
   pub minus_left : token_at t.spots.items at ≡ Some (token.Sign sign.MinusAssign)
       → Leaves limits (ChangeRule d p xs) ExprEnds (Then (Tok (token.Sign sign.MinusAssign)) (λ q. ExprRule 0 (suc d))) (λ x. ExprEnds x.1)
       (λ x. ModifyStmt p xs (MinusChange x.1) End) t.spots.items at at
-  minus_left e = narrow limits t.spots.items e (record { back = λ w z b r f l. let q = change_back z sign.MinusAssign r l
-      in record { tree = q.tree; rule = q.rule; is = q.is; follows = ends_same b q.tree.1 z f }; forth = λ u x r. takes x.0 r.rest r.back (behind r.is r.front refl) })
+  minus_left e = narrow limits t.spots.items e (record {
+    back = λ w z b r f l. let q = change_back z sign.MinusAssign r l
+        in record { tree = q.tree; rule = q.rule; is = q.is; follows = ends_same b q.tree.1 z f };
+    forth = λ u x r. takes x.0 r.rest r.back (behind r.is r.front refl);
+  })
       (nothing limits t.spots.items (ChangeRule d p xs) ExprEnds at h)
 
   pub up_reads : token_at t.spots.items at ≡ Some (token.Sign sign.PlusPlus) → Reads limits (ChangeRule d p xs) ExprEnds t.spots.items at (ModifyStmt p xs UpChange End) (at + 1)
   up_reads e = become limits t.spots.items {h = λ q. ModifyStmt p xs UpChange End} e
-      (record { back = λ w z b r f l. let q = change_back z sign.PlusPlus r l in record { tree = q.tree; rule = q.rule; is = q.is; follows = tt };
-      forth = λ w q r. subst (λ z. ChangeRule d p xs z (ModifyStmt p xs UpChange End)) (sym r) (goes_up q) }) (tok_reads limits t at (token.Sign sign.PlusPlus) e)
+      (record {
+        back = λ w z b r f l. let q = change_back z sign.PlusPlus r l in record { tree = q.tree; rule = q.rule; is = q.is; follows = tt };
+        forth = λ w q r. subst (λ z. ChangeRule d p xs z (ModifyStmt p xs UpChange End)) (sym r) (goes_up q);
+      }) (tok_reads limits t at (token.Sign sign.PlusPlus) e)
 
   pub down_reads : token_at t.spots.items at ≡ Some (token.Sign sign.MinusMinus) → Reads limits (ChangeRule d p xs) ExprEnds t.spots.items at (ModifyStmt p xs DownChange End) (at + 1)
   down_reads e = become limits t.spots.items {h = λ q. ModifyStmt p xs DownChange End} e
-      (record { back = λ w z b r f l. let q = change_back z sign.MinusMinus r l in record { tree = q.tree; rule = q.rule; is = q.is; follows = tt };
-      forth = λ w q r. subst (λ z. ChangeRule d p xs z (ModifyStmt p xs DownChange End)) (sym r) (goes_down q) }) (tok_reads limits t at (token.Sign sign.MinusMinus) e)
+      (record {
+        back = λ w z b r f l. let q = change_back z sign.MinusMinus r l in record { tree = q.tree; rule = q.rule; is = q.is; follows = tt };
+        forth = λ w q r. subst (λ z. ChangeRule d p xs z (ModifyStmt p xs DownChange End)) (sym r) (goes_down q);
+      }) (tok_reads limits t at (token.Sign sign.MinusMinus) e)
 
   pub call_left : token_at t.spots.items at ≡ Some (token.Sign sign.OpenRound)
       → Leaves limits (ChangedRule d p xs) ExprEnds (Then (Tok (token.Sign sign.OpenRound)) (λ q. Args (suc d))) Any (λ x. CallStmt p xs x.1 End) t.spots.items at at

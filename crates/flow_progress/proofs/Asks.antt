@@ -96,7 +96,7 @@ module _ (rs : List RecordTree) (typed : ℕ → TypeTree → Type 0) where
   dropped_some c [] m h = tt
   dropped_some c (n ∷ ns) m h =
       some_both (filled (read m (Local n) ∷ [])) (held_in (write m (Local n) None) ns) (one (read m (Local n)) refl)
-          (dropped_some c ns (write m (Local n) None) (emptied_holds rs typed c (n ∷ []) m h))
+      (dropped_some c ns (write m (Local n) None) (emptied_holds rs typed c (n ∷ []) m h))
     where
       one : (o : Option ValueTree) → read m (Local n) ≡ o → HaveSome rs typed (filled (o ∷ []))
       one None e = tt
@@ -244,7 +244,7 @@ module _ (r : RawTree) (actors : List RoutineTree) (vars : List ParamTree) (type
   call_fits [] es ts n full y h = absurd h
   call_fits (x ∷ []) es ts n full y h =
       then_good (λ us. HaveTypes r.records typed (values_of_list us) ts) CallFit (values (class_names r) v (look f.mem) es)
-          (λ vs left. plain_act (class_names r) v (look f.mem) (named call_names x.name) x.name vs left)
+      (λ vs left. plain_act (class_names r) v (look f.mem) (named call_names x.name) x.name vs left)
       (values_fit es ts full y) (λ us left a. plain_fits (named call_names x.name) x ts us left n h a)
   call_fits (x ∷ (z ∷ zs)) es ts n full y h =
       let base = listed (place_named x.name) in

@@ -45,7 +45,7 @@ module _ (r : RawTree) where
   eased c d xs k h =
       let going = frames_going r in
       placed_of (classes r) (Going r) going d xs (related_eased (classes r) (classes r) (Itself (classes r) (Going r) going) (itself (classes r) (Going r) going) c d xs xs
-          (related_of (classes r) (Going r) going c xs k) h)
+      (related_of (classes r) (Going r) going c xs k) h)
 
   delivered : (c d : Core) (xs : Numbered Frame) → OrderlyUnlessStopped d → Unless (Eases c) d → Known c xs → Stays d xs
   delivered c d xs o h k = both d xs o (unless_map d.halted (eased c d xs k) h)
@@ -64,7 +64,7 @@ module _ (r : RawTree) where
       let ys = Rattle.flow_numbered.specs.Numbered.added xs (suc c.started) f in
       both d ys (boot_in_order e.main (e.label e.main) c o)
       (unless_map d.halted (λ n. placed_of e (Going r) going d ys (related_new e e R (itself e (Going r) going) (suc c.started) c d xs xs f f (related_of e (Going r) going c xs k) n.0 n.1
-          (refl, h f refl)))
+      (refl, h f refl)))
       (booted_enrolled e.main (e.label e.main) c o.numbered))
 
   -- an event begins

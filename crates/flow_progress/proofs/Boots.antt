@@ -92,8 +92,18 @@ module _ (r : RawTree) (valid : IsValid r) (actors : List RoutineTree) (rules : 
       let none = beyond_none c.entries 0 c.started n up (omega arith) in
       put_back r more n (new_cell (Single None []) k) xs
       (new_but r types (FutureType t) k xs n
-      (record { cells = b.cells; waiting = b.waiting; actors = b.actors; work = b.work; ports = b.ports; main = b.main; requests = b.requests; numbered = b.numbered; framed = b.framed;
-          registered = b.registered })
+      (record {
+        cells = b.cells;
+        waiting = b.waiting;
+        actors = b.actors;
+        work = b.work;
+        ports = b.ports;
+        main = b.main;
+        requests = b.requests;
+        numbered = b.numbered;
+        framed = b.framed;
+        registered = b.registered;
+      })
       (Single None []) (t, refl, tt) refl)
       (subst (λ o. ActorAt r more o (thing xs n) (tasks_of n c.tasks)) (sym none) tt)
       (λ e at s. absurd (no_entry (thing c.entries n) e none at))

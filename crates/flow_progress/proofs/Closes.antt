@@ -101,8 +101,18 @@ module _ (r : RawTree) (types : CellTypes) (k : ℕ) (o : OutcomeTree) (t : Type
       )
 
   lined : (n : ℕ) → ProcessFits r types (record d { left = n }) ys
-  lined n = record { cells = p.cells; waiting = p.waiting; actors = p.actors; work = p.work; ports = p.ports; main = p.main; requests = p.requests; numbered = p.numbered; framed = p.framed;
-      registered = p.registered }
+  lined n = record {
+    cells = p.cells;
+    waiting = p.waiting;
+    actors = p.actors;
+    work = p.work;
+    ports = p.ports;
+    main = p.main;
+    requests = p.requests;
+    numbered = p.numbered;
+    framed = p.framed;
+    registered = p.registered;
+  }
 
   result_set : (n : ℕ) → reference_count (frames_scan ys) FutureSide k d ≡ n → reference_count (frames_scan ys) PromiseSide k d ≡ 0 → count PromiseSide k (refs_in (value_in o)) ≡ 0
       → count FutureSide k (refs_in (value_in o)) ≡ 0
@@ -141,5 +151,5 @@ module _ (r : RawTree) (types : CellTypes) (i : ℕ) (o : OutcomeTree) (ts : Lis
           let ma = count_maybe PromiseSide result FutureSide c.main in
           subst (λ x. Fine r types (give_result (frames_scan ys) x o d).halted (give_result (frames_scan ys) x o d) ys) (sym a.owner.owns)
           (result_set r types result o a.class.returns d ys state go a.owner.gives a.doing.0 (reference_count (frames_scan ys) FutureSide result d) refl (other_tasks q ca ea va ta pa ra ma all_zero)
-              (first_task q ca ea va ta pa ra ma all_zero)
+          (first_task q ca ea va ta pa ra ma all_zero)
           (alone.apart i result a.entry o ts top a.at a.owner.owns))

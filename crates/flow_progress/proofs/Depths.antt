@@ -87,7 +87,7 @@ fields_known done more taken (f ∷ fs) h =
     let a = lesser (unless (type_known (known (map StructDecl done)) f.ty) UNKNOWN_NAME) (unless (not (taken f.name.name)) TWICE) in
     let b = no_first a (fields_fault (known (map StructDecl done)) (with_name f.name.name taken) fs) h in
     let k = holds (type_known (known (map StructDecl done)) f.ty) UNKNOWN_NAME
-            (no_first (unless (type_known (known (map StructDecl done)) f.ty) UNKNOWN_NAME) (unless (not (taken f.name.name)) TWICE) b) in
+    (no_first (unless (type_known (known (map StructDecl done)) f.ty) UNKNOWN_NAME) (unless (not (taken f.name.name)) TWICE) b) in
     (level_known done more f.ty k, fields_known done more (with_name f.name.name taken) fs (no_second a (fields_fault (known (map StructDecl done)) (with_name f.name.name taken) fs) h))
 
 snoc : {A : Type 0} (xs : List A) (y : A) (ys : List A) → (xs ++ y ∷ []) ++ ys ≡ xs ++ y ∷ ys
@@ -110,7 +110,7 @@ fields_before all done [] rest x r h e = absurd (none_some e)
 fields_before all done (m ∷ more) rest x r h e =
     let i = decl_refusal all (known (map StructDecl done)) (StructDecl m) in
     let f = no_second (name_fault (known (map StructDecl done)) m.name.name) (fields_fault (known (map StructDecl done)) (λ x. false) m.fields)
-            (no_item m.at (record_fault (known (map StructDecl done)) m) (neither_first i _ h)) in
+    (no_item m.at (record_fault (known (map StructDecl done)) m) (neither_first i _ h)) in
     let next = subst (λ ds. decls_refusal all ds (map StructDecl more ++ rest) ≡ None) (map_snoc done m) (neither_second i _ h) in
     by_test (bytes_eq m.name.name x) e (fields_known done (m ∷ more) (λ x. false) m.fields f)
     (λ e. subst (λ l. AllBelow l (place (suc (2 + length done)) more x) (param_types r.fields)) (snoc done m more)
@@ -171,7 +171,7 @@ module _ (r : RawTree) (valid : IsValid r) (types : CellTypes) where
       rows (Some d) q e =
           subst (AllBelow r.records (place 2 r.records x)) (some_params s (param_types d.fields) (NamedType x) e)
           (fields_before (setting_of (all_decls r)) [] r.records (map FunctionDecl r.functions) x d
-              (neither_first (decls_refusal (setting_of (all_decls r)) [] (plain_decls r)) _ (none_is _ valid.declarations)) q)
+          (neither_first (decls_refusal (setting_of (all_decls r)) [] (plain_decls r)) _ (none_is _ valid.declarations)) q)
 
       by_test : (b : Bool) → (if b then Some (record { params = map (λ (f : List ℕ × TypeTree). f.1) packet_fields; gives = NamedType x }) else option_map
           (λ (q : RecordTree). record { params = param_types q.fields; gives = NamedType x }) (record_named r.records x)) ≡ Some s

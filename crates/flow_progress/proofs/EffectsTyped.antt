@@ -88,7 +88,7 @@ module _ (r : RawTree) (valid : IsValid r) (c : ClassTree) (vars : List ParamTre
   pub have_types : (ns : List Need) (ts : List TypeTree) (es : ExprTrees) → ns ≡ map Exactly ts → as_many es ns ≡ true → faults here 0 ns es ≡ None → AllTyped r (heads r) c vars es ts
   have_types ns ts es n m h =
       let k = all_typed here (scope_in (all_decls r) vars) (agrees (all_decls r) vars (all_distinct r valid) false) 0 ns ts es (from_start ns (map Exactly ts) n)
-              (subst (λ l. as_many es l ≡ true) n m) h in
+      (subst (λ l. as_many es l ≡ true) n m) h in
       let same = types_same ts k.types k.same in
       subst (λ s. (types_in s es ≡ Some ts) × (all_without_effects s es ≡ true)) (scope_same r vars)
       (subst (λ l. types_in (scope_in (all_decls r) vars) es ≡ Some l) (sym same) k.in_scope, k.quiet)

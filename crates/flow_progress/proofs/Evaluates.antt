@@ -83,8 +83,11 @@ mutual
   readable_by m (VarExpr x) h = λ q e. h q (ap (λ o. among (listed o) q) e ∙ ap (λ b. b || false) (same_self q))
   readable_by m (CallExpr f es) h = all_readable_by m es h
   readable_by m (FieldExpr e x) h = readable_by m e h
-  readable_by m (MethodExpr e k es) h = (readable_by m e (λ q a. h q (among_left (expr_places e) (exprs_places es) q a)), all_readable_by m es
-      (λ q a. h q (among_right (expr_places e) (exprs_places es) q a)))
+  readable_by m (MethodExpr e k es) h = (
+    readable_by m e (λ q a. h q (among_left (expr_places e) (exprs_places es) q a)),
+    all_readable_by m es
+        (λ q a. h q (among_right (expr_places e) (exprs_places es) q a)),
+  )
   readable_by m (NotExpr e) h = readable_by m e h
   readable_by m (NegExpr e) h = readable_by m e h
   readable_by m (BinaryExpr op a b) h = (readable_by m a (λ q k. h q (among_left (expr_places a) (expr_places b) q k)), readable_by m b (λ q k. h q (among_right (expr_places a) (expr_places b) q k)))
@@ -92,8 +95,11 @@ mutual
 
   pub all_readable_by : (m : Memory) (es : ExprTrees) → AllFilled m (exprs_places es) → AllReadable m es
   all_readable_by m NoExprs h = tt
-  all_readable_by m (MoreExprs e es) h = (readable_by m e (λ q k. h q (among_left (expr_places e) (exprs_places es) q k)), all_readable_by m es
-      (λ q k. h q (among_right (expr_places e) (exprs_places es) q k)))
+  all_readable_by m (MoreExprs e es) h = (
+    readable_by m e (λ q k. h q (among_left (expr_places e) (exprs_places es) q k)),
+    all_readable_by m es
+        (λ q k. h q (among_right (expr_places e) (exprs_places es) q k)),
+  )
 
 -- the variables that have a value
 abbrev filled_vars : Memory → List ParamTree → List ParamTree

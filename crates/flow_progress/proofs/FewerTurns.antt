@@ -245,7 +245,7 @@ module _ (n : ℕ) (s : Setting) (run : Runner) (runs : RunnerFewer n run) where
   assign_fewer : (xs : List Ident) (e : ExprTree) → FewerRuns n (assign_run s run xs e)
   assign_fewer xs e vars left le =
       valued_fewer (evaluated s run e vars left) vars (λ v left. assigned (put_path s.records vars xs v) left) (evaluated_fewer e vars left le)
-          (λ v l m. assigned_fewer (put_path s.records vars xs v) l m)
+      (λ v l m. assigned_fewer (put_path s.records vars xs v) l m)
 
   operand_fewer : (c : ChangeTree) → Fewer n (change_operand s run c)
   operand_fewer (PlusChange e) vars left le = evaluated_fewer e vars left le

@@ -31,7 +31,7 @@ popped_alone : (c : Core) (xs : Numbered Frame) (t : Task) (ts : List Task) (n :
 popped_alone c xs t ts n top h = record {
   alone = λ port k q. let ps = removed c.ports port in
       fewer_tasks (frames_scan xs PromiseSide k) (in_cells PromiseSide k c.cells) (in_entries PromiseSide k c.entries) (in_task PromiseSide k t) (in_tasks PromiseSide k ts) (in_ports PromiseSide k ps)
-          (in_requests PromiseSide k c.requests)
+      (in_requests PromiseSide k c.requests)
       (count_maybe PromiseSide k FutureSide c.main) (subst (λ us. reference_count (frames_scan xs) PromiseSide k (record c { ports = ps; tasks = us }) ≡ 0) top (h.alone port k q));
   once = h.once;
 }
@@ -66,7 +66,7 @@ module _ (r : RawTree) (types : CellTypes) (c : Core) (xs : Numbered Frame) (p :
   drop_fits kind k ts top =
       fine_turn r types (λ d. lose_ref (frames_scan xs) (side_of kind) k d) (record c { tasks = ts }) xs
       (λ n. lose_fits r types xs (record c { tasks = ts; left = n }) (drop_popped kind k ts n top) go o.numbered (popped_alone c xs (Drop kind k) ts n top alone) (side_of kind) k
-          (let x = (subst (TasksFit r types) top p.work).0 in (future_side kind x.0, x.1)))
+      (let x = (subst (TasksFit r types) top p.work).0 in (future_side kind x.0, x.1)))
 
   -- a fire
   fire_popped : (k : ℕ) (ts : List Task) → c.tasks ≡ Fire k ∷ ts → ProcessFits r types (record c { tasks = ts }) xs

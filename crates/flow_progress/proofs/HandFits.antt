@@ -178,8 +178,18 @@ module _ (r : RawTree) (types : CellTypes) where
   pub cancel_state : (i : ℕ) (e : Entry) (c : Core) (xs : Numbered Frame) → thing c.entries i ≡ Some e → ProcessFits r types c xs → ProcessFits r types (cancel i e c) xs
   cancel_state i e c xs at p =
       cancelled_state e.suspended i e (writes (cancel_line i) c) xs (thing xs i) at refl refl
-      (record { cells = p.cells; waiting = p.waiting; actors = p.actors; work = p.work; ports = p.ports; main = p.main; requests = p.requests; numbered = p.numbered; framed = p.framed;
-          registered = p.registered })
+      (record {
+        cells = p.cells;
+        waiting = p.waiting;
+        actors = p.actors;
+        work = p.work;
+        ports = p.ports;
+        main = p.main;
+        requests = p.requests;
+        numbered = p.numbered;
+        framed = p.framed;
+        registered = p.registered;
+      })
 
   -- a branch is taken from a cell that is ready
   pub branch_fits : (i b n : ℕ) (en e0 : Entry) (vs : List ValueTree) (c : Core) (xs : Numbered Frame) (f : Frame) (cls : ClassTree) (t : TypeTree) (cell : Cell) → thing c.cells n ≡ Some cell
@@ -221,9 +231,19 @@ module _ (r : RawTree) (types : CellTypes) where
       by_turns m =
           let d = record (writes (take_line i en.spot.group b) (record c { left = m })) { cells = put c.cells n (after_taking cell) } in
           let p = taking_state r types n cell t i c xs at has cell_fits rest in
-          let q : FitsBut r types i d xs = record { cells = p.cells; waiting = p.waiting; actors = p.actors; work = p.work; ports = p.ports; main = p.main; requests = p.requests;
-                  numbered = p.numbered; framed = p.framed; registered = p.registered } in
+          let q : FitsBut r types i d xs = record {
+            cells = p.cells;
+            waiting = p.waiting;
+            actors = p.actors;
+            work = p.work;
+            ports = p.ports;
+            main = p.main;
+            requests = p.requests;
+            numbered = p.numbered;
+            framed = p.framed;
+            registered = p.registered;
+          } in
           subst (λ o. Fine r types (give i b en vs o d).halted (give i b en vs o d) xs) (sym got.1)
           (fine_same r types c.halted (leave_for i en vs (Give i b got.0) d) xs go
-              (leave_state r types i en e0 vs (Give i b got.0) d xs f q entry fr (give_of i b got.0) (operands_exist r types f 0 en.operands ops) some
+          (leave_state r types i en e0 vs (Give i b got.0) d xs f q entry fr (give_of i b got.0) (operands_exist r types f 0 en.operands ops) some
           (λ ts. doing_actor (running en) f cls (Give i b got.0 ∷ ts) owner refl (code, given, refl))))

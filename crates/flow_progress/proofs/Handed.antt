@@ -156,7 +156,7 @@ module _ (r : RawTree) (actors : List RoutineTree) (vars : List ParamTree) (type
           let z = emptied_holds r.records typed f.code k.drops f.mem holds in
           let same : Local n ≡ p = place_eq (Local n) p e in
           let here : read (write cleared (Local n) (Some (ErrorValue err))) (Local n) ≡ Some (ErrorValue err) =
-                  write_same cleared (Local n) (Some (ErrorValue err)) (within_of f.code cleared (Local n) ErrorType z.slots z.locals (h n refl)) in
+          write_same cleared (Local n) (Some (ErrorValue err)) (within_of f.code cleared (Local n) ErrorType z.slots z.locals (h n refl)) in
           subst (Filled (write cleared (Local n) (Some (ErrorValue err)))) same (ErrorValue err, here)
 
       caught_kept : (o : Option ℕ) → (p : Slotted) → is_error f.code p o p ≡ false → dropped k.drops p ≡ false → Filled f.mem p → Filled (with_error o err cleared) p
@@ -189,7 +189,7 @@ module _ (r : RawTree) (actors : List RoutineTree) (vars : List ParamTree) (type
       caught_waiting s =
           let z = rules.catchers f.block k at in
           caught_onward s.reached (full_wait_failed f.code f.mem caught f.block f.instr k at s.reached (λ p t e x. caught_filled k.error z.1 p x)
-              (λ p e d x. caught_kept k.error p e d x) s.group s.there s.full)
+          (λ p e d x. caught_kept k.error p e d x) s.group s.there s.full)
 
   -- a frame that begins: the first slots hold the arguments
   arg_filled : (vs : List ValueTree) (rest : List (Option ValueTree)) (n : ℕ) → n < length vs → (v : ValueTree) × (flat (slice_get (map Some vs ++ rest) n) ≡ Some v)

@@ -86,9 +86,12 @@ module _ (r : RawTree) (valid : IsValid r) (c : ClassTree) where
       let l = lesser (target_fault here path) (fault here whole e) in
       let a = no_first l (assigned (form here e) (target_form here path)) h in
       let t = target (all_decls r) apart false vars path p (no_first (target_fault here path) (fault here whole e) a) in
-      let w = ap (assigned (form here e)) (sym t.by_form) ∙ no_second l (assigned (form here e) (target_form here path)) h in
-      (t.type, ap (λ rs. path_type rs vars path) (sym (all_records r))
-          ∙ t.in_scope, none_both (fault here whole e) (wants (form here e) t.type) (no_second (target_fault here path) (fault here whole e) a) w)
+      let w = ap (assigned (form here e)) (sym t.by_form) ∙ no_second l (assigned (form here e) (target_form here path)) h in (
+        t.type,
+        ap (λ rs. path_type rs vars path) (sym (all_records r))
+            ∙ t.in_scope,
+        none_both (fault here whole e) (wants (form here e) t.type) (no_second (target_fault here path) (fault here whole e) a) w,
+      )
 
   -- a call by a name
   name_says : (x : Ident) (es : ExprTrees) (p : Option Predefined) → NameFits (all_decls r) vars x.name es p
@@ -186,9 +189,12 @@ module _ (r : RawTree) (valid : IsValid r) (c : ClassTree) where
   last_typed (GotoLast b) f h k = block_there b (first_true (has_block c b) true (blocks_of (GotoLast b) h))
   last_typed (PassLast b) f h k = block_there b (first_true (has_block c b) true (blocks_of (PassLast b) h))
   last_typed (TestLast e a b) f h k =
-      let bs = blocks_of (TestLast e a b) h in
-      (to_yields e BoolType (none_is (wanted here false e BoolType) f), block_there a (first_true (has_block c a) (has_block c b && true) bs), block_there b
-          (first_true (has_block c b) true (second_true (has_block c a) (has_block c b && true) bs)))
+      let bs = blocks_of (TestLast e a b) h in (
+        to_yields e BoolType (none_is (wanted here false e BoolType) f),
+        block_there a (first_true (has_block c a) (has_block c b && true) bs),
+        block_there b
+            (first_true (has_block c b) true (second_true (has_block c a) (has_block c b && true) bs)),
+      )
   last_typed (ChooseLast g) f h k = k g
   last_typed (ReturnLast e) f h k = to_yields e c.returns (none_is (wanted here false e c.returns) f)
   last_typed (ThrowLast e) f h k = to_yields e ErrorType (none_is (wanted here false e ErrorType) f)

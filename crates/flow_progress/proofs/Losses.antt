@@ -50,8 +50,18 @@ module _ (r : RawTree) (types : CellTypes) (xs : Numbered Frame) where
   is_of_type (Stream q end w) t h = (h.0, inr h.1)
 
   lined : (c : Core) (n : ℕ) (ls : List Line) → ProcessFits r types c xs → ProcessFits r types (record c { left = n; lines = ls }) xs
-  lined c n ls p = record { cells = p.cells; waiting = p.waiting; actors = p.actors; work = p.work; ports = p.ports; main = p.main; requests = p.requests; numbered = p.numbered; framed = p.framed;
-      registered = p.registered }
+  lined c n ls p = record {
+    cells = p.cells;
+    waiting = p.waiting;
+    actors = p.actors;
+    work = p.work;
+    ports = p.ports;
+    main = p.main;
+    requests = p.requests;
+    numbered = p.numbered;
+    framed = p.framed;
+    registered = p.registered;
+  }
 
   broken_fits : (k : ℕ) (c : Core) (cell : Cell) (t : TypeTree) → c.halted ≡ None → types k ≡ Some t → CellFits r types cell t → ProcessFits r types c xs
       → Fine r types (break_cell k c).halted (break_cell k c) xs
@@ -76,10 +86,10 @@ module _ (r : RawTree) (types : CellTypes) (xs : Numbered Frame) where
     unheard port k cell t q at h b =
         let d = record c { ports = removed c.ports port } in
         let z = ports_of_zero (frames_scan xs FutureSide k) (in_cells FutureSide k c.cells) (in_entries FutureSide k c.entries) (in_tasks FutureSide k c.tasks) (in_ports FutureSide k c.ports)
-                (in_requests FutureSide k c.requests)
+        (in_requests FutureSide k c.requests)
         (count_maybe FutureSide k FutureSide c.main) b in
         let b2 = fewer_ports (frames_scan xs FutureSide k) (in_cells FutureSide k c.cells) (in_entries FutureSide k c.entries) (in_tasks FutureSide k c.tasks) (in_ports FutureSide k c.ports)
-                (in_ports FutureSide k d.ports)
+        (in_ports FutureSide k d.ports)
         (in_requests FutureSide k c.requests) (count_maybe FutureSide k FutureSide c.main) b (ports_less FutureSide k c.ports port z) in
         let pd : ProcessFits r types d xs = record {
           cells = p.cells;
@@ -104,7 +114,7 @@ module _ (r : RawTree) (types : CellTypes) (xs : Numbered Frame) where
         → Fine r types (suffer k (futures_gone o port) c).halted (suffer k (futures_gone o port) c) xs
     gone_fits k cell t (Some o) port own q at h b =
         fine_same r types (cancel o.0 o.1 c).halted (cancel o.0 o.1 c) xs (cancel_goes o.1.suspended o.0 o.1 (writes (cancel_line o.0) c) go)
-            (cancel_state r types o.0 o.1 c xs (owned k c (Some o) up own) p)
+        (cancel_state r types o.0 o.1 c xs (owned k c (Some o) up own) p)
     gone_fits k cell t None (Some port) own q at h b = unheard port k cell t q at h b
     gone_fits k cell t None None own q at h b = fine_same r types c.halted c xs go (p)
 

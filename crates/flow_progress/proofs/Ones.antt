@@ -108,7 +108,7 @@ pub results_gone : (c : Core) (xs : Numbered Frame) → ResultsAlone c xs
 results_gone c xs h apart = record {
   alone = λ i k e at own. let s = scan_removed PromiseSide k xs i in let d = entry_removed k c.entries i e at own in
       less_entry (frames_scan xs PromiseSide k) (frames_scan (removed xs i) PromiseSide k) s.0 d.0 (in_cells PromiseSide k c.cells) (in_entries PromiseSide k c.entries)
-          (in_entries PromiseSide k (removed c.entries i)) (in_tasks PromiseSide k c.tasks)
+      (in_entries PromiseSide k (removed c.entries i)) (in_tasks PromiseSide k c.tasks)
       (in_ports PromiseSide k c.ports) (in_requests PromiseSide k c.requests) (count_maybe PromiseSide k FutureSide c.main) (h i k e at own) s.1 d.1;
   apart = apart;
 }

@@ -222,15 +222,15 @@ module _ (r : RawTree) (i : ℕ) (xs : Numbered Frame) (e : Entry) (g : Frame) (
   effect_fits types s k goal (Start class args) t go h st o none w y n = absurd (n class args refl)
   effect_fits types s k goal (Draw lo hi) t go h st o none w y n =
       either_fits types (between (hi -ℤ lo) 1 (2 ^ 32)) _ (throws i bad_argument k)
-          (gives_task r types (Some Drew) i goal (IntValue (scaled lo (natural (hi -ℤ lo)) s.word)) t k xs e g c h go code st o none w y tt) (throws_fit types bad_argument k go h st o)
+      (gives_task r types (Some Drew) i goal (IntValue (scaled lo (natural (hi -ℤ lo)) s.word)) t k xs e g c h go code st o none w y tt) (throws_fit types bad_argument k go h st o)
   effect_fits types s k goal (Delay ticks) t go h st o none w y n =
       either_fits types (nat_le (s.now + natural ticks) (2 ^ 62)) _ (throws i out_of_range k)
-          (open_fits (Some (Timer (suc k.made) (s.now + natural ticks))) types k goal VoidType t go h st o none w y (new_type types (suc k.made) (FutureType VoidType)))
-          (throws_fit types out_of_range k go h st o)
+      (open_fits (Some (Timer (suc k.made) (s.now + natural ticks))) types k goal VoidType t go h st o none w y (new_type types (suc k.made) (FutureType VoidType)))
+      (throws_fit types out_of_range k go h st o)
   effect_fits types s k goal Never t go h st o none w y n = new_fits types k goal kind.Future (Single None []) VoidType t go h st o none w y (VoidType, refl, tt) refl
   effect_fits types s k goal (Listen port) t go h st o none w y n =
       either_fits types (is_port port) _ (throws i bad_argument k) (port_fits types k goal (natural port) (thing k.ports (natural port)) t refl go h st o none w y)
-          (throws_fit types bad_argument k go h st o)
+      (throws_fit types bad_argument k go h st o)
   effect_fits types s k goal (Disk call) t go h st o none w y n = disk_fits types k goal (judged call) (reply_type call) t go h st o none w y (judged_reply call)
 
   -- sends
@@ -242,8 +242,18 @@ module _ (r : RawTree) (i : ℕ) (xs : Numbered Frame) (e : Entry) (g : Frame) (
       fine_turn r types (λ d. fill n v (pushed (Run i) d)) k xs
       (λ m. let d = record k { left = m } in
       let p = h.rest in
-      let rest : FitsBut r types i d xs = record { cells = p.cells; waiting = p.waiting; actors = p.actors; work = p.work; ports = p.ports; main = p.main; requests = p.requests; numbered = p.numbered;
-              framed = p.framed; registered = p.registered } in
+      let rest : FitsBut r types i d xs = record {
+        cells = p.cells;
+        waiting = p.waiting;
+        actors = p.actors;
+        work = p.work;
+        ports = p.ports;
+        main = p.main;
+        requests = p.requests;
+        numbered = p.numbered;
+        framed = p.framed;
+        registered = p.registered;
+      } in
       fill_fits r types n v (pushed (Run i) d) xs t u go at is f (runs types d (rehand types k d h.entry rest h) s o))
 
   pub send_in_fits : (types : CellTypes) (n : ℕ) (v : OutcomeTree) (k : Core) → k.halted ≡ None → Hand types k → Standing r types g → OperandsFit r types g 0 e.operands
@@ -275,6 +285,16 @@ module _ (r : RawTree) (i : ℕ) (xs : Numbered Frame) (e : Entry) (g : Frame) (
   print_fits types l k x go h s o =
       let d = writes x.0 k in
       let p = h.rest in
-      let rest : FitsBut r types i d xs = record { cells = p.cells; waiting = p.waiting; actors = p.actors; work = p.work; ports = p.ports; main = p.main; requests = p.requests; numbered = p.numbered;
-              framed = p.framed; registered = p.registered } in
+      let rest : FitsBut r types i d xs = record {
+        cells = p.cells;
+        waiting = p.waiting;
+        actors = p.actors;
+        work = p.work;
+        ports = p.ports;
+        main = p.main;
+        requests = p.requests;
+        numbered = p.numbered;
+        framed = p.framed;
+        registered = p.registered;
+      } in
       subst (λ z. Ok types (print i z k)) (sym x.1) (fine_same r types k.halted (pushed (Run i) d) xs go (runs types d (rehand types k d h.entry rest h) s o))

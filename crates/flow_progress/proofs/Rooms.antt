@@ -130,7 +130,7 @@ module _ (v : View) (f : Frame) where
         given_leaves (bind (type_at f.code p) promise_kind) (λ k. asks v.left (Effects Stored (Make k)) f) (λ k. (omega arith, (result_room (NewInstr p) q a, omega (arith, b))))
     instruction_leaves (ActInstr path es) q b a =
         evaluated_leaves IsCalled (call_act ns v (look f.mem) path es) (λ act left. asks left act (next_instr f.mem f)) b (act_fewer ns v (look f.mem) path es)
-            (act_called ns v (look f.mem) path es) asked
+        (act_called ns v (look f.mem) path es) asked
       where
         asked : (act : Act) (left : ℕ) → left ≤ v.left → IsCalled act → Leaves (asks left act (next_instr f.mem f))
         asked act left le h = act_leaves left act le h b (omega (arith, a))

@@ -57,8 +57,18 @@ module _ (r : RawTree) (actors : List RoutineTree) (rules : ClassRules r actors)
           awake = h.awake;
           frame = h.frame;
           owner = h.owner;
-          rest = record { cells = p.cells; waiting = p.waiting; actors = p.actors; work = p.work; ports = p.ports; main = p.main; requests = p.requests; numbered = p.numbered; framed = p.framed;
-              registered = p.registered };
+          rest = record {
+            cells = p.cells;
+            waiting = p.waiting;
+            actors = p.actors;
+            work = p.work;
+            ports = p.ports;
+            main = p.main;
+            requests = p.requests;
+            numbered = p.numbered;
+            framed = p.framed;
+            registered = p.registered;
+          };
         } in
         let future = FutureType d.returns in
         let ts = with_type types (suc k.made) future in
@@ -66,7 +76,7 @@ module _ (r : RawTree) (actors : List RoutineTree) (rules : ClassRules r actors)
         let k3 = new_cell (Single None []) k2 in
         let h3 = hand_more r i xs e g c code types k2 h2 st o future (Single None []) (d.returns, refl, tt) refl in
         let x = gives_state r ts i goal (RefValue kind.Future (suc k.made)) t k3 xs e g c h3 code (stands_more r i xs e g c code types k2 h2 st o future)
-                (keeps_more r i xs e g c code types k2 h2 st o future) none
+        (keeps_more r i xs e g c code types k2 h2 st o future) none
         (wants_more r i xs e g c code types ts goal t w) (d.returns, q, new_type types (suc k.made) future) in
         let k4 = writes (start_line (suc k.started) name) (pushed x.0 (pushed (Run i) k3)) in
         let p4 : ProcessFits r ts k4 xs = record {
@@ -109,7 +119,7 @@ module _ (r : RawTree) (actors : List RoutineTree) (rules : ClassRules r actors)
     end_fits v vs f some ended none =
         let t = Close i (GoodOutcome v) in
         fine_same r types k.halted (dropping_values vs (pushed t k)) xs go
-            (dropping_fits r types vs (pushed t k) xs some (goes_by r types i t k xs e g c h (close_of i (GoodOutcome v)) (λ ts. (f, ended, none))))
+        (dropping_fits r types vs (pushed t k) xs some (goes_by r types i t k xs e g c h (close_of i (GoodOutcome v)) (λ ts. (f, ended, none))))
 
     effect_asked : (goal : Goal) (eff : Effect) → g.code ≡ c → ActFits r (class_vars g.code) (typed_by types) c (length e.operands) (Effects goal eff) g → OperandsFit r types g 0 e.operands
         → ((OfWait (Effects goal eff) → ⊥) → e.operands ≡ [])
@@ -170,8 +180,18 @@ module _ (r : RawTree) (actors : List RoutineTree) (rules : ClassRules r actors)
         let o2 = still_kept r types (class_names r) v f ops ask g a.doing.2 e in
         let none : ((OfWait ask.act → ⊥) → ops ≡ []) = (λ n. none_kept r types (class_names r) v f ops a.doing.2 (λ w. n (subst (AsksOfWaitAt f) e w).0)) in
         let b = a.rest in
-        let rest : FitsBut r types i k xs = record { cells = b.cells; waiting = b.waiting; actors = b.actors; work = b.work; ports = b.ports; main = b.main; requests = b.requests;
-                numbered = b.numbered; framed = b.framed; registered = b.registered } in
+        let rest : FitsBut r types i k xs = record {
+          cells = b.cells;
+          waiting = b.waiting;
+          actors = b.actors;
+          work = b.work;
+          ports = b.ports;
+          main = b.main;
+          requests = b.requests;
+          numbered = b.numbered;
+          framed = b.framed;
+          registered = b.registered;
+        } in
         let rest2 = frame_but r types i k xs g a.running o.waiting rest in
         asked_fits types i k (put xs i g) a.entry g a.class go
         (record { entry = a.at; awake = a.awake; frame = thing_put xs i f g a.stands; owner = a.owner; rest = rest2 })
@@ -183,5 +203,5 @@ module _ (r : RawTree) (actors : List RoutineTree) (rules : ClassRules r actors)
         let f = a.frame in
         let v = view s i c in
         let fit = next_fits r actors (class_vars f.code) (typed_by types) v f (frame_rules r actors rules s types a.entry a.class f a.owner a.doing.0) rules.functions
-                (cells_seen r types s i c xs p) a.doing.1 in
+        (cells_seen r types s i c xs p) a.doing.1 in
         subst (λ x. After r actors rules s types (run (classes r) s i ts x (proc c xs))) (sym a.stands) (answered_fits a (next_step (class_names r) v f) refl fit)

@@ -99,8 +99,18 @@ module _ (r : RawTree) (types : CellTypes) where
   }
 
   pub all_but : (i : ℕ) (c : Core) (xs : Numbered Frame) → ProcessFits r types c xs → FitsBut i c xs
-  all_but i c xs h = record { cells = h.cells; waiting = h.waiting; actors = λ j k. h.actors j; work = h.work; ports = h.ports; main = h.main; requests = h.requests; numbered = h.numbered;
-      framed = h.framed; registered = λ j n. h.registered j }
+  all_but i c xs h = record {
+    cells = h.cells;
+    waiting = h.waiting;
+    actors = λ j k. h.actors j;
+    work = h.work;
+    ports = h.ports;
+    main = h.main;
+    requests = h.requests;
+    numbered = h.numbered;
+    framed = h.framed;
+    registered = λ j n. h.registered j;
+  }
 
   -- what is left of the tasks
   rest_fits : (t : Task) (ts : List Task) → TasksFit r types (t ∷ ts) → TasksFit r types ts

@@ -36,7 +36,7 @@ module _ (r : RawTree) (valid : IsValid r) (actors : List RoutineTree) (rules : 
   all_tasks (Close i v ∷ ts) e =
       let a = actor_here r types i (Close i v) ts c xs o e (close_of i v) p in
       subst (λ x. IsFine r types (Some (close_actor (classes r) i v x (proc (record c { tasks = ts }) xs)))) (sym a.at)
-          (close_fits r types i v ts c xs o go e p (results_gone c xs results (ends_apart r valid types c xs p o)) a)
+      (close_fits r types i v ts c xs o go e p (results_gone c xs results (ends_apart r valid types c xs p o)) a)
   all_tasks (Fire k ∷ ts) e = fire_fits r types c xs p o go (ports_gone c xs ports) k ts e
   all_tasks (Drop kind k ∷ ts) e = drop_fits r types c xs p o go (ports_gone c xs ports) kind k ts e
 

@@ -134,7 +134,7 @@ module _ (r : RawTree) (leads : LeadOn r) (s : Supply) where
       let h = off_by i (Give i b (BadOutcome err)) ts c xs o top (give_of i b (BadOutcome err)) in
       shrinks_same i (Give i b (BadOutcome err)) ts c xs h.0 f (pushed (Throw i err) k) h.1 fr
       (unless c.halted (push_falls i (5 + whole f.code) (Throw i err) k xs h.0 f (record { entry = h.1.entry; awake = h.1.awake; frame = fr }) (throw_of i err)
-          (λ us. omega (arith, behind_whole f.code f.block))))
+      (λ us. omega (arith, behind_whole f.code f.block))))
   give_less i b (GoodOutcome v) ts c xs (Some f) o top fr =
       let k = record c { tasks = ts } in
       let h = off_by i (Give i b (GoodOutcome v)) ts c xs o top (give_of i b (GoodOutcome v)) in
@@ -145,7 +145,7 @@ module _ (r : RawTree) (leads : LeadOn r) (s : Supply) where
       (unless c.halted (falls_on i (5 + whole f.code) k d (dropping_values out.0 d) (put xs i out.1)
       (push_falls i (5 + whole f.code) (Run i) k (put xs i out.1) h.0 out.1 (put_hand i (Give i b (GoodOutcome v)) ts c k xs h.0 f out.1 h.1 h.1.entry fr) (run_of i)
       (λ us. let w : ahead out.1.code out.1.block out.1.instr (length h.0.operands) ≤ whole f.code = subst (λ z. ahead out.1.code out.1.block out.1.instr (length h.0.operands) ≤ whole z) same
-          (ahead_whole out.1.code out.1.block out.1.instr (length h.0.operands)) in omega (arith, w)))
+      (ahead_whole out.1.code out.1.block out.1.instr (length h.0.operands)) in omega (arith, w)))
       (inr (dropping_lighter out.0 d (put xs i out.1)))))
 
   -- an error is thrown
@@ -156,13 +156,13 @@ module _ (r : RawTree) (leads : LeadOn r) (s : Supply) where
       let g = (raised err f None).1 in
       shrinks i (Throw i err) ts c xs e f g c.left (throw_core i err (raised err f None).0 (Some e) (record c { tasks = ts })) h fr (omega arith)
       (unless c.halted (leave_falls i (3 + behind f.code f.block) e e (raised err f None).0.values (Close i (BadOutcome err)) (writes (throw_line i err) (record c { tasks = ts }))
-          (put xs i g) g h.entry (thing_put xs i f g fr)
+      (put xs i g) g h.entry (thing_put xs i f g fr)
       (close_of i (BadOutcome err)) (λ us. omega arith)))
   thrown_less i err ts c xs e f (Some k) h fr q kept =
       let g = (raised err f (Some k)).1 in
       shrinks i (Throw i err) ts c xs e f g c.left (throw_core i err (raised err f (Some k)).0 (Some e) (record c { tasks = ts })) h fr (omega arith)
       (unless c.halted (leave_falls i (3 + behind f.code f.block) e e (raised err f (Some k)).0.values (Catch i err) (writes (throw_line i err) (record c { tasks = ts })) (put xs i g) g h.entry
-          (thing_put xs i f g fr)
+      (thing_put xs i f g fr)
       (catch_of i err) (λ us. omega (arith, ahead_jump f.code f.block k.block 0 (catches_at f.code f.block k kept q)))))
 
   throw_less : (i err : ℕ) (ts : List Task) (c : Core) (xs : Numbered Frame) (x : Option Frame) → Orderly c → Placed (Going r) c xs → c.tasks ≡ Throw i err ∷ ts → thing xs i ≡ x
@@ -189,7 +189,7 @@ module _ (r : RawTree) (leads : LeadOn r) (s : Supply) where
       let h = off_by i (Catch i err) ts c xs o top (catch_of i err) in
       shrinks_same i (Catch i err) ts c xs h.0 f (handle i err k) h.1 fr
       (unless c.halted (push_falls i (1 + ahead f.code f.block f.instr (length h.0.operands)) (Run i) (writes (catch_line i err) k) xs h.0 f
-          (record { entry = h.1.entry; awake = h.1.awake; frame = fr }) (run_of i) (λ us. omega arith)))
+      (record { entry = h.1.entry; awake = h.1.awake; frame = fr }) (run_of i) (λ us. omega arith)))
 
   -- the result of an effect
   module _ (i : ℕ) (v : ValueTree) (ts : List Task) (c : Core) (xs : Numbered Frame) (f : Frame) (o : Orderly c) (top : c.tasks ≡ Store i v ∷ ts) (fr : thing xs i ≡ Some f) where
@@ -279,9 +279,9 @@ module _ (r : RawTree) (leads : LeadOn r) (s : Supply) where
         let next = next_below i spot q c.tasks ts top o.paired in
         let few = below_fires ts in
         let there : behind f.code f.block + 6 ≤ ahead f.code f.block f.instr (suc (length e.operands)) =
-                ahead_behind f.code f.block f.instr (suc (length e.operands)) (asks_there (fetch f.code f.block f.instr) due) in
+        ahead_behind f.code f.block f.instr (suc (length e.operands)) (asks_there (fetch f.code f.block f.instr) due) in
         let left = leave_falls i n more_kept e (lose f).0 (Throw i operation_cancelled) stepless (put xs i g) g h.entry (thing_put xs i f g fr) (throw_of i operation_cancelled)
-                (λ us. omega (arith, there)) in
+        (λ us. omega (arith, there)) in
         shrinks i (Keep i spot q) ts c xs e f g c.left d h fr (omega arith)
         (unless c.halted (falls_after i n unkept stepless d (put xs i g) (omega arith) few refl (λ j k. still_weight j unkept stepless (put xs i g) (below_unmoved i unkept next j k, refl)) left))
 
@@ -321,9 +321,13 @@ module _ (r : RawTree) (leads : LeadOn r) (s : Supply) where
       let d = fire scan n k in
       let few : fires ts < fires c.tasks = subst (λ us. fires ts < fires us) (sym top) (omega arith) in
       unless_map d.halted (eased_less c k d xs (omega arith) few refl
-          (λ j. ap (λ us. weigh (is_suspended (thing c.entries j)) (kept_by (thing c.entries j)) us (thing xs j)) (sym (ap (tasks_of j) top))))
-      (fire_cell_easy xs scan n (thing c.cells n) k (record { actors = λ j. subst (λ us. Stands j (is_suspended (thing c.entries j)) (tasks_of j us)) top (o.actors j);
-          paired = subst Paired top o.paired; waiting = o.waiting; numbered = o.numbered }))
+      (λ j. ap (λ us. weigh (is_suspended (thing c.entries j)) (kept_by (thing c.entries j)) us (thing xs j)) (sym (ap (tasks_of j) top))))
+      (fire_cell_easy xs scan n (thing c.cells n) k (record {
+        actors = λ j. subst (λ us. Stands j (is_suspended (thing c.entries j)) (tasks_of j us)) top (o.actors j);
+        paired = subst Paired top o.paired;
+        waiting = o.waiting;
+        numbered = o.numbered;
+      }))
 
   -- each step
   abbrev pub Comes_to : Core → Numbered Frame → Option (Stepped Frame) → Type 0

@@ -248,8 +248,14 @@ class_in (c ∷ cs) x ts t e = by_test (bytes_eq x c.name) refl e (class_in cs x
         → (named (map row_of (map head_of cs)) x ≡ Some (ActorOf ts t) → IsClass cs x ts t) → IsClass (c ∷ cs) x ts t
     by_test true q e f =
         let h = actor_types (param_types (map slot_param (take c.params c.slots))) ts c.returns t e in
-        record { place = 0; class = c; found = position_step (bytes_eq x) c.name (map class_name cs) ∙ ap (λ b. if b then Some 0 else option_map suc (position (bytes_eq x) (map class_name cs))) q;
-            is = refl; takes = taken_types c.params c.slots ∙ h.0; gives = h.1 }
+        record {
+          place = 0;
+          class = c;
+          found = position_step (bytes_eq x) c.name (map class_name cs) ∙ ap (λ b. if b then Some 0 else option_map suc (position (bytes_eq x) (map class_name cs))) q;
+          is = refl;
+          takes = taken_types c.params c.slots ∙ h.0;
+          gives = h.1;
+        }
     by_test false q e f =
         let k = f e in
         record {

@@ -154,8 +154,11 @@ module _ (k : ℕ) where
 
   pub requests_off : (ns : List ℕ) → in_requests PromiseSide k ns ≡ 0 → AllSeen (Off k) ns
   requests_off [] a = tt
-  requests_off (n ∷ ns) a = (side_off k n (zero_first (one PromiseSide k PromiseSide n) (in_requests PromiseSide k ns) a), requests_off ns
-      (zero_second (one PromiseSide k PromiseSide n) (in_requests PromiseSide k ns) a))
+  requests_off (n ∷ ns) a = (
+    side_off k n (zero_first (one PromiseSide k PromiseSide n) (in_requests PromiseSide k ns) a),
+    requests_off ns
+        (zero_second (one PromiseSide k PromiseSide n) (in_requests PromiseSide k ns) a),
+  )
 
   pub maybe_off : (o : Option ℕ) (n : ℕ) → count_maybe PromiseSide k PromiseSide o ≡ 0 → o ≡ Some n → Off k n
   maybe_off None n a e = absurd cc
@@ -194,9 +197,11 @@ module _ (k : ℕ) where
           → (thing xs i ≡ Some e → (count_maybe s k PromiseSide e.result ≡ 0) × (count_kept s k e.suspended e.operands ≡ 0))
           → (count_maybe s k PromiseSide e.result ≡ 0) × (count_kept s k e.suspended e.operands ≡ 0)
       by_test true h z f =
-          subst (λ (e : Entry). (count_maybe s k PromiseSide e.result ≡ 0) × (count_kept s k e.suspended e.operands ≡ 0)) (same_thing x.1 e h)
-          (zero_first (count_maybe s k PromiseSide x.1.result) (count_kept s k x.1.suspended x.1.operands) z, zero_second (count_maybe s k PromiseSide x.1.result)
-              (count_kept s k x.1.suspended x.1.operands) z)
+          subst (λ (e : Entry). (count_maybe s k PromiseSide e.result ≡ 0) × (count_kept s k e.suspended e.operands ≡ 0)) (same_thing x.1 e h) (
+            zero_first (count_maybe s k PromiseSide x.1.result) (count_kept s k x.1.suspended x.1.operands) z,
+            zero_second (count_maybe s k PromiseSide x.1.result)
+                (count_kept s k x.1.suspended x.1.operands) z,
+          )
       by_test false h z f = f h
 
   pub cell_zero : (s : Side) (cells : Numbered Cell) (n : ℕ) (cell : Cell) → in_cells s k cells ≡ 0 → thing cells n ≡ Some cell
@@ -211,9 +216,11 @@ module _ (k : ℕ) where
           → (count_waiters s k n (waiters cell) ≡ 0) × (count s k (refs_in (held cell)) ≡ 0)
       by_test true q h z f =
           let m : x.0 ≡ n = grind (arith, q) in
-          subst (λ (c : Cell). (count_waiters s k n (waiters c) ≡ 0) × (count s k (refs_in (held c)) ≡ 0)) (same_thing x.1 cell h)
-          (subst (λ j. count_waiters s k j (waiters x.1) ≡ 0) m (zero_first (count_waiters s k x.0 (waiters x.1)) (count s k (refs_in (held x.1))) z), zero_second (count_waiters s k x.0 (waiters x.1))
-              (count s k (refs_in (held x.1))) z)
+          subst (λ (c : Cell). (count_waiters s k n (waiters c) ≡ 0) × (count s k (refs_in (held c)) ≡ 0)) (same_thing x.1 cell h) (
+            subst (λ j. count_waiters s k j (waiters x.1) ≡ 0) m (zero_first (count_waiters s k x.0 (waiters x.1)) (count s k (refs_in (held x.1))) z),
+            zero_second (count_waiters s k x.0 (waiters x.1))
+                (count s k (refs_in (held x.1))) z,
+          )
       by_test false q h z f = f h
 
   pub none_wait : (ws : List Waiter) → count_waiters FutureSide k k ws ≡ 0 → ws ≡ []

@@ -125,9 +125,9 @@ module _ (r : RawTree) (i : ℕ) (xs : Numbered Frame) (e : Entry) (g : Frame) (
   suspend_fits spot vs Missing k go h s o some ok keep now = absurd ok
   suspend_fits spot vs Refused k go h s o some ok keep now =
       fine_same r types k.halted (leave_for i (at_spot spot e) vs (Throw i second_waiter) k) xs go
-          (leave_state r types i (at_spot spot e) e vs (Throw i second_waiter) k xs g h.rest h.entry h.frame (throw_of i second_waiter) (operands_exist r types g 0 e.operands o) some
+      (leave_state r types i (at_spot spot e) e vs (Throw i second_waiter) k xs g h.rest h.entry h.frame (throw_of i second_waiter) (operands_exist r types g 0 e.operands o) some
       (λ ts. doing_actor r types (running (at_spot spot e)) g c (Throw i second_waiter ∷ ts) (record { is = h.owner.is; result = h.owner.result; owns = h.owner.owns; gives = h.owner.gives }) refl
-          (code, inr s, tt)))
+      (code, inr s, tt)))
   suspend_fits spot vs (Registered cells) k go h s o some ok keep now =
       let asleep = record (at_spot spot e) { suspended = true } in
       let d = record (writes (wait_line i spot.group) k) { cells = cells; entries = put k.entries i asleep } in
@@ -154,7 +154,7 @@ module _ (r : RawTree) (i : ℕ) (xs : Numbered Frame) (e : Entry) (g : Frame) (
   wait_by_fits spot vs (Some x) k go h s o some q =
       let f = first_ready_fits r types g k.cells 0 e.operands x o q in
       branch_fits r types i x.0 x.1 (at_spot spot e) e vs k xs g c f.type f.cell f.at f.ready go h.entry h.frame h.rest
-          (record { is = h.owner.is; result = h.owner.result; owns = h.owner.owns; gives = h.owner.gives }) code s f.next f.has o some
+      (record { is = h.owner.is; result = h.owner.result; owns = h.owner.owns; gives = h.owner.gives }) code s f.next f.has o some
   wait_by_fits spot vs None k go h s o some q =
       suspend_fits spot vs (register i 0 e.operands (Registered k.cells)) k go h s o some
       (all_ok r types g i k.made xs h.frame k 0 e.operands (Registered k.cells) o (h.rest.cells, h.rest.waiting, h.rest.numbered))
@@ -175,8 +175,18 @@ module _ (r : RawTree) (i : ℕ) (xs : Numbered Frame) (e : Entry) (g : Frame) (
       fine_turn r types (pushed (Run i)) k xs
       (λ m. let d = record k { left = m } in
       let p = h.rest in
-      let rest : FitsBut r types i d xs = record { cells = p.cells; waiting = p.waiting; actors = p.actors; work = p.work; ports = p.ports; main = p.main; requests = p.requests; numbered = p.numbered;
-              framed = p.framed; registered = p.registered } in
+      let rest : FitsBut r types i d xs = record {
+        cells = p.cells;
+        waiting = p.waiting;
+        actors = p.actors;
+        work = p.work;
+        ports = p.ports;
+        main = p.main;
+        requests = p.requests;
+        numbered = p.numbered;
+        framed = p.framed;
+        registered = p.registered;
+      } in
       fine_same r types k.halted (pushed (Run i) d) xs go (runs r i xs e g c code types d (rehand r i xs e g c code types k d h.entry rest h) f o))
   react_fits s (Drops vs) k go h up f o none no_start no_end =
       fine_same r types k.halted (dropping_values vs (pushed (Run i) k)) xs go (dropping_fits r types vs (pushed (Run i) k) xs f.1 (runs r i xs e g c code types k h f.0 o))
@@ -199,7 +209,7 @@ module _ (r : RawTree) (i : ℕ) (xs : Numbered Frame) (e : Entry) (g : Frame) (
   react_fits s (SendsTo q port text) k go h up f o none no_start no_end =
       either_fits r i xs e g c code types (int_le (pos 0) q && nat_lt (natural q) s.processes && is_port port) _ (throws i bad_argument k)
       (fine_asking r types (Some (Packet (natural q) (natural port) text)) k.halted (pushed (Run i) k) xs (λ z. tt)
-          (fine_same r types k.halted (pushed (Run i) k) xs go (runs r i xs e g c code types k h f o)))
+      (fine_same r types k.halted (pushed (Run i) k) xs go (runs r i xs e g c code types k h f o)))
       (throws_fit r i xs e g c code types bad_argument k go h f o)
   react_fits s (Returns v vs) k go h up f o none no_start no_end = absurd (no_end v vs refl)
   react_fits s (Throws err) k go h up f o none no_start no_end = throws_fit r i xs e g c code types err k go h f o

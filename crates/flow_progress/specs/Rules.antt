@@ -52,7 +52,7 @@ module _ (r : RawTree) (actors : List RoutineTree) (c : ClassTree) (vars : List 
   abbrev pub AllTyped : ExprTrees → List TypeTree → Type 0
   AllTyped es ts =
       (types_in (scope_over r.records r.functions actors vars) es ≡ Some ts)
-          × (all_without_effects (scope_over r.records r.functions actors vars) es ≡ true)
+      × (all_without_effects (scope_over r.records r.functions actors vars) es ≡ true)
 
   -- an effect gives a value of this type from arguments of these types
   abbrev pub EffectGives : Effectful → List TypeTree → TypeTree → Type 0

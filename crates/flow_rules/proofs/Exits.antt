@@ -178,7 +178,7 @@ pub declare_item : (e new : Env) (at : Place) (i : IntoTree) (v : Option ExprTre
     → StmtAnswer e new (DeclareStmt at i v) (Err x)
 declare_item e new at i v x h =
     stmt_fails e new (DeclareStmt at i v) (item at (declare_fault e.setting e.states i v)) None x (λ k. (body_refusal (declared e i) k, refl))
-        (says_fails (item at (declare_fault e.setting e.states i v)) x h)
+    (says_fails (item at (declare_fault e.setting e.states i v)) x h)
 
 pub declare_ok : (e new : Env) (at : Place) (i : IntoTree) (v : Option ExprTree) (u w : Unit {0}) → Says (item at (declare_fault e.setting e.states i v)) (Ok u) → new ≡ declared e i
     → StmtAnswer e new (DeclareStmt at i v) (Ok w)

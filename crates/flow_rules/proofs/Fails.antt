@@ -157,7 +157,7 @@ state_name i = elim i.state as (λ b. slot_names (if b then record { ty = i.ty; 
 declared_states : (e : Env) (i : IntoTree) (ss : List SlotTree) → (declared e i).states ++ slot_names ss ≡ e.states ++ slot_names (declared_slots i ++ ss)
 declared_states e i ss =
     append_assoc e.states (if_state i.state i.name.name) (slot_names ss) ∙ ap (λ l. e.states ++ (l ++ slot_names ss)) (sym (state_name i))
-        ∙ ap (λ l. e.states ++ l) (sym (names_both (declared_slots i) ss))
+    ∙ ap (λ l. e.states ++ l) (sym (names_both (declared_slots i) ss))
 
 waited_states : (e : Env) (i : Option IntoTree) (ss : List SlotTree) → (waited e i).states ++ slot_names ss ≡ e.states ++ slot_names (into_slots i ++ ss)
 waited_states e None ss = refl

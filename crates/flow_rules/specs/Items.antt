@@ -208,7 +208,7 @@ abbrev mutual
   body_refusal e (IfStmt at t b k) = or_else (item at (test_fault e.setting t)) (or_else (body_refusal e b) (body_refusal (behind e b) k))
   body_refusal e (IfElseStmt at t b c k) =
       or_else (item at (test_fault e.setting t))
-          (or_else (body_refusal e b) (or_else (body_refusal (behind e b) c) (body_refusal (behind (behind e b) c) k)))
+      (or_else (body_refusal e b) (or_else (body_refusal (behind e b) c) (body_refusal (behind (behind e b) c) k)))
   body_refusal e (WhileStmt at t b k) = or_else (item at (test_fault e.setting t))
       (or_else (body_refusal (in_loop e) b) (body_refusal (behind e b) k))
   body_refusal e (ForStmt at i t n b k) =
@@ -227,7 +227,7 @@ abbrev mutual
       (or_else (body_refusal (in_catch (with_var (behind e b) x.name ErrorType)) h) (body_refusal (behind (behind e b) h) k)))
   body_refusal e (ChooseStmt at bs k) =
       or_else (item at (unless (not e.setting.plain) WAIT_OUTSIDE))
-          (or_else (branch_refusal e bs) (body_refusal (with_states e (slot_names (branch_slots bs))) k))
+      (or_else (branch_refusal e bs) (body_refusal (with_states e (slot_names (branch_slots bs))) k))
   body_refusal e (DeclareStmt at i v k) = or_else (item at (declare_fault e.setting e.states i v)) (body_refusal (declared e i) k)
   body_refusal e (AssignStmt at xs v k) = or_else (item at (assign_fault e.setting xs v)) (body_refusal e k)
   body_refusal e (ModifyStmt at xs c k) = or_else (item at (modify_fault e.setting xs c)) (body_refusal e k)

@@ -145,4 +145,4 @@ abbrev pub refusal_of : ProgramTree → Option Refusal
 refusal_of p =
     or_else (decls_refusal (setting_of p.decls) [] p.decls)
     (or_else (item p.end (unless (is_main (known p.decls (codes "main"))) NO_MAIN))
-        (first_large ((codes "Packet", packet_size) ∷ []) p.decls))
+    (first_large ((codes "Packet", packet_size) ∷ []) p.decls))

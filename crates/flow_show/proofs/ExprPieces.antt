@@ -249,7 +249,7 @@ expr_opens {k} {d} (field {t = t} p x of r e) v =
 expr_opens {k} {d} (method {t = t} {ts = ts} p q r f of args a b e) v =
     subst (Opening k (MethodExpr t f ts)) (sym (method_text (expr_text t) f.name (args_text ts)))
     (more_opens k (MethodExpr t f ts) t (expr_text t) (46 ∷ (f.name ++ (40 ∷ (args_text ts ++ 41 ∷ []))))
-        (expr_opens a (valid_begun (Node d) of (valid_left (begin (Node d) of) _ (subst AllValid e v)))))
+    (expr_opens a (valid_begun (Node d) of (valid_left (begin (Node d) of) _ (subst AllValid e v)))))
 expr_opens {k} (negation p of le r e) v = byte_opens k (NotExpr _) 33 _ refl (λ e. omega (arith, e))
 expr_opens {k} (minus {t = t} p of le r e) v = record {
   first = 45;
@@ -350,7 +350,7 @@ mutual
       (both (name_piece [] f.name f.at (valid_head (valid_tail tail)))
       (both (sign_piece [] sign.OpenRound q)
       (both (args_piece c (valid_left args _ (valid_tail (valid_tail (valid_tail tail))))) (shut r) (λ rest g. closing rest)) (λ rest g. open_round_ends _)) (λ rest g. refl)) (λ rest g. dot_ends _))
-          (λ rest g. refl))
+      (λ rest g. refl))
       (λ y. record {
         marked = _;
         tree = _;
@@ -393,6 +393,6 @@ mutual
       let a = valid_tail (subst AllValid e v) in
       as_rule
       (both (sign_piece [] sign.Comma p) (spaced (both (expr_piece r (valid_left next more a)) (more_args_piece s (valid_right next more a)) (λ rest g. closing_apart ts rest g)))
-          (λ rest g. comma_ends _))
+      (λ rest g. comma_ends _))
       (λ x. record { marked = _; trees = _; rule = more_args x.0 x.1.0.marked x.1.1.marked x.1.0.rule x.1.1.rule refl; like = ap₂ MoreExprs x.1.0.like x.1.1.like })
       (λ x. refl) e refl

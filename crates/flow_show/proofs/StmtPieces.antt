@@ -172,8 +172,8 @@ mutual
         text = refl;
         piece = as_rule
             (lined k (both (word_piece [] word.If at) (spaced (both (sign_open p)
-                (both (expr_piece r (valid_left test _ a)) (both (sign_shut q) (spaced (body_piece k b (valid_tail (valid_right test _ a)))) (λ rest g. tt)) (λ rest g. refl)) (λ rest g. tt)))
-                (λ rest g. refl)) (λ rest. tt))
+            (both (expr_piece r (valid_left test _ a)) (both (sign_shut q) (spaced (body_piece k b (valid_tail (valid_right test _ a)))) (λ rest g. tt)) (λ rest g. refl)) (λ rest g. tt)))
+            (λ rest g. refl)) (λ rest. tt))
             (λ y. record {
               marked = _;
               at = y.0;
@@ -193,9 +193,9 @@ mutual
         text = refl;
         piece = as_rule
             (lined k (both (word_piece [] word.If at) (spaced (both (sign_open p)
-                (both (expr_piece r (valid_left test _ a)) (both (sign_shut q) (spaced (both (body_piece k b (valid_left body _ bodies))
+            (both (expr_piece r (valid_left test _ a)) (both (sign_shut q) (spaced (both (body_piece k b (valid_left body _ bodies))
             (spaced (both (word_piece [] word.Else s) (spaced (body_piece k o (valid_tail (valid_right body _ bodies)))) (λ rest g. refl))) (λ rest g. tt))) (λ rest g. tt)) (λ rest g. refl))
-                (λ rest g. tt))) (λ rest g. refl)) (λ rest. tt))
+            (λ rest g. tt))) (λ rest g. refl)) (λ rest. tt))
             (λ y. record {
               marked = _;
               at = y.0;
@@ -215,8 +215,8 @@ mutual
         text = refl;
         piece = as_rule
             (lined k (both (word_piece [] word.While at) (spaced (both (sign_open p)
-                (both (expr_piece r (valid_left test _ a)) (both (sign_shut q) (spaced (body_piece k b (valid_tail (valid_right test _ a)))) (λ rest g. tt)) (λ rest g. refl)) (λ rest g. tt)))
-                (λ rest g. refl)) (λ rest. tt))
+            (both (expr_piece r (valid_left test _ a)) (both (sign_shut q) (spaced (body_piece k b (valid_tail (valid_right test _ a)))) (λ rest g. tt)) (λ rest g. refl)) (λ rest g. tt)))
+            (λ rest g. refl)) (λ rest. tt))
             (λ y. record {
               marked = _;
               at = y.0;
@@ -237,9 +237,9 @@ mutual
         text = refl;
         piece = as_rule
             (lined k (both (word_piece [] word.For at) (spaced (both (sign_open p)
-                (both (init_part_piece i (valid_left init _ a)) (both (sign_end q) (spaced (both (maybe_piece no_gap u (valid_left test _ second))
+            (both (init_part_piece i (valid_left init _ a)) (both (sign_end q) (spaced (both (maybe_piece no_gap u (valid_left test _ second))
             (both (sign_end r) (spaced (both (step_part_piece w (valid_left step _ third)) (both (sign_shut s) (spaced (body_piece k b (valid_tail (valid_right step _ third)))) (λ rest g. tt))
-                (λ rest g. refl))) (λ rest g. tt)) (λ rest g. refl))) (λ rest g. tt)) (λ rest g. refl)) (λ rest g. tt))) (λ rest g. refl)) (λ rest. tt))
+            (λ rest g. refl))) (λ rest g. tt)) (λ rest g. refl))) (λ rest g. tt)) (λ rest g. refl)) (λ rest g. tt))) (λ rest g. refl)) (λ rest. tt))
             (λ y. record {
               marked = _;
               at = y.0;
@@ -291,7 +291,7 @@ mutual
         text = refl;
         piece = as_rule
             (lined k (both (word_piece [] word.Return at) (spaced (both (expr_piece r (valid_left value _ (valid_tail (subst AllValid e v)))) (sign_end p) (λ rest g. refl))) (λ rest g. refl))
-                (λ rest. tt))
+            (λ rest. tt))
             (λ y. record {
               marked = _;
               at = y.0;
@@ -309,7 +309,7 @@ mutual
         text = refl;
         piece = as_rule
             (lined k (both (word_piece [] word.Throw at) (both (maybe_piece (blank 32 refl) r (valid_left value _ (valid_tail (subst AllValid e v)))) (sign_end p) (λ rest g. refl))
-                (λ rest g. subst Apart (sym (append_assoc (maybe_text (codes " ") t) (59 ∷ []) rest)) (throw_apart t rest))) (λ rest. tt))
+            (λ rest g. subst Apart (sym (append_assoc (maybe_text (codes " ") t) (59 ∷ []) rest)) (throw_apart t rest))) (λ rest. tt))
             (λ y. record {
               marked = _;
               at = y.0;
@@ -330,9 +330,9 @@ mutual
         text = refl;
         piece = as_rule
             (lined k (both (word_piece [] word.Try at) (spaced (both (block_piece k b (valid_left body _ a))
-                (spaced (both (word_piece [] word.Catch p) (spaced (both (sign_open q) (both (word_piece [] word.Error r)
+            (spaced (both (word_piece [] word.Catch p) (spaced (both (sign_open q) (both (word_piece [] word.Error r)
             (both (sign_piece [] sign.Amp s) (spaced (both (name_piece [] x.name x.at (valid_head named)) (both (sign_shut u) (spaced (block_piece k h (valid_tail (valid_tail named)))) (λ rest g. tt))
-                (λ rest g. refl))) (λ rest g. space_ends sign.Amp _)) (λ rest g. refl)) (λ rest g. tt))) (λ rest g. refl))) (λ rest g. tt))) (λ rest g. refl)) (λ rest. tt))
+            (λ rest g. refl))) (λ rest g. space_ends sign.Amp _)) (λ rest g. refl)) (λ rest g. tt))) (λ rest g. refl))) (λ rest g. tt))) (λ rest g. refl)) (λ rest. tt))
             (λ y. record {
               marked = _;
               at = y.0;
@@ -354,7 +354,7 @@ mutual
         piece = as_rule
             (lined k (both (word_piece [] word.Choose at) (spaced (both (curly_open p) (behind (blank 10 refl) (both one.piece
             (both (whens_piece (suc k) ws (valid_left more _ (valid_right first _ a))) (behind (indent_gap k) (curly_close q)) (λ rest g. tt)) (λ rest g. tt))) (λ rest g. tt))) (λ rest g. refl))
-                (λ rest. tt))
+            (λ rest. tt))
             (λ y. record {
               marked = _;
               at = y.0;
@@ -407,8 +407,8 @@ mutual
         text = refl;
         piece = as_rule
             (lined k (both (path_piece a (valid_left path _ w)) (both (sign_open p)
-                (both (args_piece b (valid_left args _ (valid_tail (valid_right path _ w)))) (both (sign_shut q) (sign_end r) (λ rest g. tt)) (λ rest g. closing _)) (λ rest g. tt)) (λ rest g. refl))
-                (λ rest. tt))
+            (both (args_piece b (valid_left args _ (valid_tail (valid_right path _ w)))) (both (sign_shut q) (sign_end r) (λ rest g. tt)) (λ rest g. closing _)) (λ rest g. tt)) (λ rest g. refl))
+            (λ rest. tt))
             (λ y. record {
               marked = _;
               at = first_at y.0.marked;
@@ -458,7 +458,7 @@ mutual
   body_piece {actor} {d} {c} {c'} k (one_body at xs r e) v =
       let a = plain_piece (suc k) r (valid_stated c d xs (subst AllValid e v)) in
       as_rule (reparted (begin_statement c d xs) (one_body_parts (begin_statement c d xs) first_place first_place)
-          (in_braces k first_place first_place (stated c d (λ y. y.some) (plain_some r) a.piece)))
+      (in_braces k first_place first_place (stated c d (λ y. y.some) (plain_some r) a.piece)))
       (λ y. record {
         marked = _;
         tree = y.1.0.make End;
@@ -494,8 +494,8 @@ mutual
         text = refl;
         piece = as_rule
             (lined k (both (word_piece (Branch n ∷ Node d ∷ []) word.When at)
-                (spaced (both (sign_open p) (both (waiting_piece r (valid_left xs _ a)) (both (sign_shut q) (spaced (body_piece k b (valid_tail (valid_right xs _ a)))) (λ rest g. tt))
-                (λ rest g. refl)) (λ rest g. tt))) (λ rest g. refl)) (λ rest. tt))
+            (spaced (both (sign_open p) (both (waiting_piece r (valid_left xs _ a)) (both (sign_shut q) (spaced (body_piece k b (valid_tail (valid_right xs _ a)))) (λ rest g. tt))
+            (λ rest g. refl)) (λ rest g. tt))) (λ rest g. refl)) (λ rest. tt))
             (λ y. record {
               marked = _;
               make = λ r. MoreBranches y.0 y.1.1.0.tree y.1.1.1.1.tree r;

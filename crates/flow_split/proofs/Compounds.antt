@@ -25,7 +25,7 @@ module _ (ns : Names) (slots : List SlotTree) (w v : Around) where
       → EmitsScope ns slots v b e f → new ≡ opened f → Emits ns slots w (BlockStmt at b) e new
   block_emits e f new at b q o qe ve h nw =
       let g : EmitsScope ns slots (inner w (Scoped (GotoLast (past w.looped.tried b (going e)).block))) b e f =
-              subst (λ x. EmitsScope ns slots x b e f) (ve ∙ ap (λ x. inner w (Scoped (GotoLast x))) qe) h in
+      subst (λ x. EmitsScope ns slots x b e f) (ve ∙ ap (λ x. inner w (Scoped (GotoLast x))) qe) h in
       let s = scope_goes_on ns slots _ b e f g in
       finish ns slots w e f new _ _ (BlockStmt at b) o nw s.at s.stands (λ k. refl) (λ k. three_sums e.next (locals_in b) (locals_in k)) refl
 
@@ -37,7 +37,7 @@ module _ (ns : Names) (slots : List SlotTree) (w v : Around) where
       let h : EmitsScope ns slots v b (opened e1) f = subst (λ z. EmitsScope ns slots v b z f) be hs in
       let m = past w.looped.tried b (begun (going e)) in
       let one = ended_acting w [] (TestLast (over slots e.scopes t) (going e).block m.block) e e1
-              (h1 ∙ ap (λ x. closed w (TestLast (over slots e.scopes t) x q) (acted [] e)) ye ∙ ap (λ x. closed w (TestLast (over slots e.scopes t) (going e).block x) (acted [] e)) qe) in
+      (h1 ∙ ap (λ x. closed w (TestLast (over slots e.scopes t) x q) (acted [] e)) ye ∙ ap (λ x. closed w (TestLast (over slots e.scopes t) (going e).block x) (acted [] e)) qe) in
       let g : EmitsScope ns slots (inner w (Scoped (GotoLast m.block))) b (opened e1) f = subst (λ x. EmitsScope ns slots x b (opened e1) f) (ve ∙ ap (λ x. inner w (Scoped (GotoLast x))) qe) h in
       let s = scope_begins ns slots _ e.scopes (going e) b e1 f one.stands g in
       finish ns slots w e f new _ _ (IfStmt at t b) o nw (and_then w.hand w.hand e e1 f _ _ one.at s.at) s.stands (λ k. refl) (λ k. three_sums e.next (locals_in b) (locals_in k)) refl
@@ -56,7 +56,7 @@ module _ (ns : Names) (slots : List SlotTree) (w v : Around) where
       let j = past w.looped.tried c (begun n) in
       let to : v ≡ inner w (Scoped (GotoLast j.block)) = ve ∙ ap (λ x. inner w (Scoped (GotoLast x))) qe in
       let one = ended_acting w [] (TestLast (over slots e.scopes t) (going e).block n.block) e e1
-              (h1 ∙ ap (λ x. closed w (TestLast (over slots e.scopes t) x m) (acted [] e)) ye ∙ ap (λ x. closed w (TestLast (over slots e.scopes t) (going e).block x) (acted [] e)) me) in
+      (h1 ∙ ap (λ x. closed w (TestLast (over slots e.scopes t) x m) (acted [] e)) ye ∙ ap (λ x. closed w (TestLast (over slots e.scopes t) (going e).block x) (acted [] e)) me) in
       let s = scope_begins ns slots (inner w (Scoped (GotoLast j.block))) e.scopes (going e) b e1 f one.stands (subst (λ x. EmitsScope ns slots x b (opened e1) f) to h) in
       let r = scope_begins ns slots (inner w (Scoped (GotoLast j.block))) e.scopes n c f g s.stands (subst (λ x. EmitsScope ns slots x c (opened f) g) to h2) in
       finish ns slots w e g new _ _ (IfElseStmt at t b c) o nw (and_then w.hand w.hand e f g _ _ (and_then w.hand w.hand e e1 f _ _ one.at s.at) r.at) r.stands (λ k. refl)
@@ -69,7 +69,7 @@ module _ (ns : Names) (slots : List SlotTree) (w v : Around) where
       let m = past false b (begun (going e)) in
       let one = ended_plain w (PassLast (going e).block) e e1 (h1 ∙ ap (λ x. closed w (PassLast x) e) ye) in
       let g : EmitsScope ns slots (pass w 1 (PassLast (going e).block) m.block) b (opened e1) f =
-              subst (λ x. EmitsScope ns slots x b (opened e1) f) (ve ∙ ap (λ x. pass w 1 (PassLast x) q) ye ∙ ap (λ x. pass w 1 (PassLast (going e).block) x) qe) h in
+      subst (λ x. EmitsScope ns slots x b (opened e1) f) (ve ∙ ap (λ x. pass w 1 (PassLast x) q) ye ∙ ap (λ x. pass w 1 (PassLast (going e).block) x) qe) h in
       let s = scope_begins ns slots _ e.scopes (going e) b e1 f one.stands g in
       finish ns slots w e f new _ _ (LoopStmt at b) o nw (and_then w.hand w.hand e e1 f _ _ one.at s.at) s.stands (λ k. refl) (λ k. three_sums e.next (locals_in b) (locals_in k)) refl
 

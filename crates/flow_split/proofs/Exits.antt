@@ -70,8 +70,14 @@ waits w cs e f h =
     subst (Waits w cs e) (sym h)
     (record {
       at = record { all = refl; fresh = record { body = refl; acts = refl } };
-      stands = record { scopes = refl; coming = λ i. record { block = blocks_push e.blocks (closed_block w (ChooseLast (suc (length e.groups))) (acted [] e)) i; local = e.next;
-          group = suc (group_push e.groups cs i) } };
+      stands = record {
+        scopes = refl;
+        coming = λ i. record {
+          block = blocks_push e.blocks (closed_block w (ChooseLast (suc (length e.groups))) (acted [] e)) i;
+          local = e.next;
+          group = suc (group_push e.groups cs i);
+        };
+      };
     })
 
 module _ (ns : Names) (slots : List SlotTree) (w : Around) where
@@ -121,7 +127,7 @@ module _ (ns : Names) (slots : List SlotTree) (w : Around) where
       let g : EmitsBranches ns slots u bs e1 f = subst (λ x. EmitsBranches ns slots x bs e1 f) (ve ∙ ap (λ x. inner w (Scoped (GotoLast x))) qe) hb in
       let c0 : Chunk = record (ends w e.scopes true [] (ChooseLast n.group)) { groups = cs ∷ [] } in
       let a = subst (λ s. At w.hand e (branches ns slots c0 s u (grouped n) bs) f) r.stands.scopes
-              (subst (λ m. At w.hand e (branches ns slots c0 e1.scopes u m bs) f) r.stands.coming (g.all e c0 r.at)) in
+      (subst (λ m. At w.hand e (branches ns slots c0 e1.scopes u m bs) f) r.stands.coming (g.all e c0 r.at)) in
       let st : Stands f e.scopes j = record {
         scopes = g.scopes ∙ r.stands.scopes;
         coming =

@@ -157,8 +157,11 @@ module _ (ns : Names) (slots : List SlotTree) (w : Around) where
       → new ≡ record e2 { scopes = outside e2.scopes } → EmitsHandler ns slots w x b e new
   in_handler_scope x b e e1 e2 new h a nw =
       let r = subst (λ y. EmitsAll ns slots w b y e2) h a in
-      subst (EmitsHandler ns slots w x b e) (sym nw) (record { all = record { all = r.all.all; fresh = record { body = r.all.fresh.body; acts = r.all.fresh.acts } }; next = r.next;
-          scopes = r.scopes })
+      subst (EmitsHandler ns slots w x b e) (sym nw) (record {
+        all = record { all = r.all.all; fresh = record { body = r.all.fresh.body; acts = r.all.fresh.acts } };
+        next = r.next;
+        scopes = r.scopes;
+      })
 
   -- a part of a `for`
   pub no_part : (e new : Emitted) → e.is_open ≡ true → new ≡ ended_by w e → EmitsPart ns slots w End e new

@@ -181,7 +181,7 @@ after_call f f1 g h s t es items is d us vs us2 vs2 =
     let inner = base_uses force h.point t.path.items ++ exprs_uses force h.point (exprs_of es.items) in
     after f g h s (CallStmt s.at t.path.items (exprs_of es.items)) force inner (λ k. is_call s t es k is)
     (two f.uses.items f1.uses.items g.uses.items _ _ us (us2 ∙ ap₂ (λ l i. f1.uses.items ++ exprs_uses (declared_after [] l) h.point (exprs_of i)) vs d))
-        (same_force f.variables g.variables (vs2 ∙ vs))
+    (same_force f.variables g.variables (vs2 ∙ vs))
     (λ k. ap (λ l. inner ++ l) (simple h force force _ k)) refl
 
 pub after_wait : (f f1 g : Finder) (h : Here) (s : Stmt) (w : Waiting) → s.kind ≡ kind.Wait w → f1.uses.items ≡ f.uses.items ++ expr_uses (in_force f.variables) h.point (expr_of w.operand)
@@ -189,7 +189,7 @@ pub after_wait : (f f1 g : Finder) (h : Here) (s : Stmt) (w : Waiting) → s.kin
     → g.uses.items ≡ f1.uses.items → in_force g.variables ≡ with_into (in_force f1.variables) (waiting_of w).into → Finds f g h (stmt_of s)
 after_wait f f1 g h s w is us vs us2 vs2 =
     after f g h s (WaitStmt s.at (waiting_of w)) (with_into (in_force f.variables) (waiting_of w).into) (expr_uses (in_force f.variables) h.point (expr_of w.operand)) (λ k. is_wait s w k is)
-        (us2 ∙ us)
+    (us2 ∙ us)
     (vs2 ∙ ap (λ l. with_into (declared_after [] l) (waiting_of w).into) vs) (λ k. refl) refl
 
 pub after_choose : (f g : Finder) (h : Here) (s : Stmt) (bs : Vec When Global) (items : List When) → s.kind ≡ kind.Choose bs → items ≡ bs.items

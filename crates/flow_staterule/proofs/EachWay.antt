@@ -91,7 +91,7 @@ ways_for s i e t b items w v u z n m l o is d we me ve le ue oe ze k =
     let ob : o ≡ behind (behind (behind n (simple_of i)) (simple_of t)) (body_of b.items) = oe ∙ ap₂ (λ x y. behind x (body_of y)) lb d in
     ap (ways n) (is_for s i e t b k is)
     ∙ sym (ap₂ (λ x y. sequence x (ways y k)) (ze ∙ ap (λ x. sequence x (looped (is_there (option_map expr_of e)) (with_step u v))) we
-        ∙ ap₂ (λ x y. sequence (ways n (simple_of i)) (looped (is_there (option_map expr_of e)) (with_step x y))) ub vb) ob)
+    ∙ ap₂ (λ x y. sequence (ways n (simple_of i)) (looped (is_there (option_map expr_of e)) (with_step x y))) ub vb) ob)
 
 pub ways_choose : (s : Stmt) (bs : Vec When Global) (items : List When) (w v : Ways) (n m l : ℕ) → s.kind ≡ kind.Choose bs → items ≡ bs.items → m ≡ n - 1 → w ≡ branch_ways m (branches_of items)
     → l ≡ m - length (branch_groups (branches_of items)) → v ≡ follow (waited_at n) (both (node at_once) w) → (k : Body) → ways n (stmt_of s k) ≡ sequence v (ways l k)

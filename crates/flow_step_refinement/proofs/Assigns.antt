@@ -273,7 +273,7 @@ module _ (r : RawTree) (ls : List Line) (m : Process) (p : Proc Frame) (i : ℕ)
       let core : Core = work.dropping_values us (pushed (Run i) (new_cell (empty_cell kd) p.core)) in
       let g : Frame = next_instr (write f.mem q (Some (RefValue kd (suc p.core.made)))) f in
       let after = subst (λ (a : ActorId). OnAfter (next_stand s) (referring (place_held a.0 number (hold kd is.cell.0 (made kd m.heap))))
-              (on_heap (λ h. place_put a.0 number (Some (Ref kd is.cell)) (hold kd is.cell.0 (made kd h))) m) pace n) st.standing.actor is.after in
+      (on_heap (λ h. place_put a.0 number (Some (Ref kd is.cell)) (hold kd is.cell.0 (made kd h))) m) pace n) st.standing.actor is.after in
       let carries = new_carries r ls m p i e f x s q kd st rising is.cell is.number has pace n after in
       let there_then = subst (λ y. Carries r ls x i e pace n (proc core (put p.actors i (next_instr y f)))) (written_is r ls m p i e f x s q kd st rising is.cell is.number) carries in record {
         after = storing r ls m p i e f w q kd;

@@ -86,11 +86,11 @@ module _ (r : RawTree) (ls : List Line) (m : Process) (p : Proc Frame) (i : ℕ)
         let v = value_now t res node in
         let fits = subst (MayDoNext r w p i e f) there may in
         one (λ t on. end_later code s inp.standing.block t (last.Return res) m n pace on does)
-            (return_step r ls m p i e f x s w t (value_for code s.actor.0 res m) pace n st there v (λ u left done. fits u left (sym v ∙ done)) does)
+        (return_step r ls m p i e f x s w t (value_for code s.actor.0 res m) pace n st there v (λ u left done. fits u left (sym v ∙ done)) does)
     by_end (last.Throw res) (ThrowLast t) is there same does =
         let node : node_of res ≡ resolved (coding_now r ls m p i e f x s w code st inp time).names t = cc (same) in
         one (λ t on. end_later code s inp.standing.block t (last.Throw res) m n pace on does)
-            (throw_step r ls m p i e f x s w t (value_for code s.actor.0 res m) pace n st there (value_now t res node) does)
+        (throw_step r ls m p i e f x s w t (value_for code s.actor.0 res m) pace n st there (value_now t res node) does)
     by_end (last.Goto b) (PassLast d) is there same does = absurd (cc (same))
     by_end (last.Goto b) (TestLast t d k) is there same does = absurd (cc (same))
     by_end (last.Goto b) (ChooseLast d) is there same does = absurd (cc (same))

@@ -165,7 +165,7 @@ module _ (r : RawTree) (ls : List Line) (m : Process) (p : Proc Frame) (i : ℕ)
   by_put : (vs : List ValueTree) (mem : Memory) → put_at r.records f.mem at_place_of aims.fields (value_of v) ≡ Some (vs, mem) → law.Assigned r ls m p i e f x path v old n
   by_put vs mem g =
       let w = puts r.records aims.field (places_in code.fields) aims.numbering f.mem at_place_of aims.fields aim.path.items aims.numbers (value_of v) (option_map value_of old)
-              (option_map value_of is.root) parts vs mem g in
+      (option_map value_of is.root) parts vs mem g in
       let k : Frame = with_memory (write f.mem at_place_of (option_map value_of is.root)) f in
       let same : with_memory mem f ≡ k = ap (λ y. with_memory y f) w.memory in
       let h = with_place st.acts.memory number is.root in

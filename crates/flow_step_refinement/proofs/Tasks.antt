@@ -93,7 +93,7 @@ module _ (r : RawTree) (ls : List Line) (p : Proc Frame) (code : Code) (w : Supp
         acts = may.1.1;
       } in
       from_step u below h (subst (λ z. TaskSteps r ls nothing_in_hand w (on_core (pushed u) q) z) (sym is) (give_throws r ls start q i.0 may.0 may.1.0 nothing_in_hand w b err st))
-          (quiet n (ap (λ (y : Process). y.asked) is ∙ none))
+      (quiet n (ap (λ (y : Process). y.asked) is ∙ none))
 
   -- an operand is kept
   keep_follows : (i : ActorId) (m k : ℕ) (kd : Kind) (below : List Task) (u : Task) → p.core.tasks ≡ u ∷ below → (may : MayKeepOne code r start (popped below p) i.0 k u)
@@ -157,15 +157,15 @@ module _ (r : RawTree) (ls : List Line) (m : Process) (p : Proc Frame) where
       by_task (task.Run i) taken o may done =
           let tasks = o.tasks ∙ ap (λ y. y ∷ o.below) o.same in
           run_follows r ls p code w start n i o.below tasks (subst (λ y. ProcessRepresents r ls (with_task y nothing_in_hand) start (popped o.below p)) o.same o.shown)
-              (may o.below o.top o.tasks).may done
+          (may o.below o.top o.tasks).may done
       by_task (task.Give i b v) taken o may done =
           let tasks = o.tasks ∙ ap (λ y. y ∷ o.below) o.same in
           give_follows r ls p code w start n i b v.value o.below tasks (subst (λ y. ProcessRepresents r ls (with_task y nothing_in_hand) start (popped o.below p)) o.same o.shown)
-              (may o.below o.top o.tasks).may (asks_none (task.Give i b v) taken) done
+          (may o.below o.top o.tasks).may (asks_none (task.Give i b v) taken) done
       by_task (task.Store i v) taken o may done =
           let tasks = o.tasks ∙ ap (λ y. y ∷ o.below) o.same in
           store_follows r ls p code w start n i v.value o.below tasks (subst (λ y. ProcessRepresents r ls (with_task y nothing_in_hand) start (popped o.below p)) o.same o.shown)
-              (may o.below o.top o.tasks).may (asks_none (task.Store i v) taken) done
+          (may o.below o.top o.tasks).may (asks_none (task.Store i v) taken) done
       by_task (task.Keep i b k) taken o may done =
           keep_task r ls p code w start n i b k o.below o.top o.tasks o.same (may o.below o.top o.tasks).may o.shown (asks_none (task.Keep i b k) taken) done
       by_task (task.Throw i err) taken o may done =

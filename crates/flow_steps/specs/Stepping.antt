@@ -89,7 +89,7 @@ GoesNext s a p pace q = (pace ≡ On (next_stand s)) × (q ≡ p)
 abbrev pub function_result : Code → (function : ℕ) → Values → Process → Res ValueTree
 function_result code f args p =
     function_called (setting_in code p) (run_function (setting_in code p) CALL_DEPTH) (slice_get (setting_in code p).functions f)
-        (args_of args) p.left
+    (args_of args) p.left
 
 abbrev pub FunctionCalled : Code → ControlPoint → (function : ℕ) → Values → Process → Pace → Process → Type 0
 FunctionCalled code s f args p pace q = Evaluates s value_of (function_result code f args p) p (GoesNext s) pace q

@@ -97,9 +97,9 @@ at_its_time {A} t n (m ∷ ms) old sorted found = by (at_its_time t n ms old sor
         let later = subst (λ s. AllByRecursion (λ k. nat_cmp s k ≡ Less) (keys_of ms)) (sym is) sorted.0 in
         let rest = elsewhere t n ms (not_later t ms later) in
         rw e (subst (λ s. (event_at t n (map (at_time s) m.1 ++ events_of ms) ≡ event_numbered n old)
-            × (without_event t n (map (at_time s) m.1 ++ events_of ms) ≡ map (at_time s) (without_numbered n old) ++ events_of ms)) is
+        × (without_event t n (map (at_time s) m.1 ++ events_of ms) ≡ map (at_time s) (without_numbered n old) ++ events_of ms)) is
         (subst (λ ys. (event_at t n (map (at_time t) ys ++ events_of ms) ≡ event_numbered n old)
-            × (without_event t n (map (at_time t) ys ++ events_of ms) ≡ map (at_time t) (without_numbered n old) ++ events_of ms)) (sym old_is)
+        × (without_event t n (map (at_time t) ys ++ events_of ms) ≡ map (at_time t) (without_numbered n old) ++ events_of ms)) (sym old_is)
         (own_time t n old (events_of ms) rest.0 rest.1)))
     by go Greater e =
         let above = more t m.0 e in

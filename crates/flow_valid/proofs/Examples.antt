@@ -33,14 +33,27 @@ abbrev plain : List InstrTree → LastTree → BlockTree
 plain is l = record { catcher = None; body = is; last = l }
 
 abbrev main_class : ClassTree
-main_class = record { name = codes "main"; returns = VoidType; params = 1; slots = record { ty = IntType; name = codes "p" } ∷ []; locals = []; blocks = plain [] (ReturnLast VoidExpr) ∷ [];
-    groups = [] }
+main_class = record {
+  name = codes "main";
+  returns = VoidType;
+  params = 1;
+  slots = record { ty = IntType; name = codes "p" } ∷ [];
+  locals = [];
+  blocks = plain [] (ReturnLast VoidExpr) ∷ [];
+  groups = [];
+}
 
 abbrev around : List SlotTree → List TypeTree → List BlockTree → List (List CallbackTree) → RawTree
 around slots locals blocks groups = record {
   records = record { at = first_place; name = ident (codes "R"); fields = record { ty = IntType; name = ident (codes "n") } ∷ [] } ∷ [];
-  functions = record { at = first_place; returns = IntType; name = ident (codes "f"); params = record { ty = IntType; name = ident (codes "n") } ∷ [];
-      body = ReturnStmt first_place (VarExpr (ident (codes "n"))) End; close = first_place } ∷ [];
+  functions = record {
+    at = first_place;
+    returns = IntType;
+    name = ident (codes "f");
+    params = record { ty = IntType; name = ident (codes "n") } ∷ [];
+    body = ReturnStmt first_place (VarExpr (ident (codes "n"))) End;
+    close = first_place;
+  } ∷ [];
   classes = record { name = codes "c"; returns = IntType; params = 1; slots = record { ty = IntType; name = codes "v" } ∷ slots; locals = locals; blocks = blocks; groups = groups } ∷ main_class ∷ [];
 }
 
@@ -92,17 +105,20 @@ unfolding digits
 case_6 = refl
 
 -- none: 64 deep
-case_7 : tested (around ((record { ty = (FutureType (FutureType (FutureType
-    (FutureType (FutureType (FutureType (FutureType (FutureType (FutureType
-    (FutureType (FutureType (FutureType (FutureType (FutureType (FutureType
-    (FutureType (FutureType (FutureType (FutureType (FutureType (FutureType
-    (FutureType (FutureType (FutureType (FutureType (FutureType (FutureType
-    (FutureType (FutureType (FutureType (FutureType (FutureType (FutureType
-    (FutureType (FutureType (FutureType (FutureType (FutureType (FutureType
-    (FutureType (FutureType (FutureType (FutureType (FutureType (FutureType
-    (FutureType (FutureType (FutureType (FutureType (FutureType (FutureType
-    (FutureType (FutureType (FutureType (FutureType (FutureType (FutureType
-    (FutureType (FutureType (FutureType (FutureType (FutureType (FutureType IntType))))))))))))))))))))))))))))))))))))))))))))))))))))))))))))))); name = (codes "x") }) ∷ []) ([])
+case_7 : tested (around ((record {
+  ty = (FutureType (FutureType (FutureType
+      (FutureType (FutureType (FutureType (FutureType (FutureType (FutureType
+      (FutureType (FutureType (FutureType (FutureType (FutureType (FutureType
+      (FutureType (FutureType (FutureType (FutureType (FutureType (FutureType
+      (FutureType (FutureType (FutureType (FutureType (FutureType (FutureType
+      (FutureType (FutureType (FutureType (FutureType (FutureType (FutureType
+      (FutureType (FutureType (FutureType (FutureType (FutureType (FutureType
+      (FutureType (FutureType (FutureType (FutureType (FutureType (FutureType
+      (FutureType (FutureType (FutureType (FutureType (FutureType (FutureType
+      (FutureType (FutureType (FutureType (FutureType (FutureType (FutureType
+      (FutureType (FutureType (FutureType (FutureType (FutureType (FutureType IntType)))))))))))))))))))))))))))))))))))))))))))))))))))))))))))))));
+  name = (codes "x");
+}) ∷ []) ([])
     ((plain ([]) (ReturnLast (VarExpr (ident (codes "s0"))))) ∷ []) ([])) ≡ None
 unfolding digits
 case_7 = refl
@@ -305,8 +321,11 @@ unfolding digits
 case_31 = refl
 
 -- none: the error's local may stand in the list
-case_32 : tested (around ([]) (ErrorType ∷ []) ((record { catcher = (Some (record { block = 1; error = (Some 0); drops = (0 ∷ []) })); body = ([]);
-    last = (ReturnLast (VarExpr (ident (codes "s0")))) }) ∷ (plain ([]) (ThrowLast (VarExpr (ident (codes "l0"))))) ∷ []) ([])) ≡ None
+case_32 : tested (around ([]) (ErrorType ∷ []) ((record {
+  catcher = (Some (record { block = 1; error = (Some 0); drops = (0 ∷ []) }));
+  body = ([]);
+  last = (ReturnLast (VarExpr (ident (codes "s0"))));
+}) ∷ (plain ([]) (ThrowLast (VarExpr (ident (codes "l0"))))) ∷ []) ([])) ≡ None
 unfolding digits
 case_32 = refl
 
@@ -551,8 +570,11 @@ unfolding digits
 case_73 = refl
 
 -- none: an error edge before the instruction
-case_74 : tested (around ([]) (IntType ∷ ErrorType ∷ []) ((record { catcher = (Some (record { block = 1; error = (Some 1); drops = ([]) }));
-    body = ((SetInstr ((ident (codes "l0")) ∷ []) (IntExpr (pos 1))) ∷ []); last = (ReturnLast (VarExpr (ident (codes "s0")))) }) ∷ (plain ([]) (ReturnLast (VarExpr (ident (codes "l0"))))) ∷ []) ([]))
+case_74 : tested (around ([]) (IntType ∷ ErrorType ∷ []) ((record {
+  catcher = (Some (record { block = 1; error = (Some 1); drops = ([]) }));
+  body = ((SetInstr ((ident (codes "l0")) ∷ []) (IntExpr (pos 1))) ∷ []);
+  last = (ReturnLast (VarExpr (ident (codes "s0"))));
+}) ∷ (plain ([]) (ReturnLast (VarExpr (ident (codes "l0"))))) ∷ []) ([]))
     ≡ None
 unfolding digits
 case_74 = refl
@@ -608,149 +630,355 @@ unfolding digits
 case_81 = refl
 
 -- none: `class` is a name, and may be a type
-case_82 : tested (record { records = ((record { at = first_place; name = (ident (codes "class")); fields = ((record { ty = IntType; name = (ident (codes "n")) }) ∷ []) }) ∷ []);
-    functions = ((record { at = first_place; returns = (NamedType (codes "class")); name = (ident (codes "f"));
-    params = ((record { ty = (NamedType (codes "class")); name = (ident (codes "c")) }) ∷ []); body = (ReturnStmt first_place (VarExpr (ident (codes "c"))) End); close = first_place }) ∷ []);
-    classes = ((record { name = (codes "main"); returns = VoidType; params = 1; slots = ((record { ty = IntType; name = (codes "p") }) ∷ []); locals = ([]);
-    blocks = ((plain ([]) (ReturnLast VoidExpr)) ∷ []); groups = ([]) }) ∷ []) }) ≡ None
+case_82 : tested (record {
+  records = ((record { at = first_place; name = (ident (codes "class")); fields = ((record { ty = IntType; name = (ident (codes "n")) }) ∷ []) }) ∷ []);
+  functions = ((record {
+    at = first_place;
+    returns = (NamedType (codes "class"));
+    name = (ident (codes "f"));
+    params = ((record { ty = (NamedType (codes "class")); name = (ident (codes "c")) }) ∷ []);
+    body = (ReturnStmt first_place (VarExpr (ident (codes "c"))) End);
+    close = first_place;
+  }) ∷ []);
+  classes = ((record {
+    name = (codes "main");
+    returns = VoidType;
+    params = 1;
+    slots = ((record { ty = IntType; name = (codes "p") }) ∷ []);
+    locals = ([]);
+    blocks = ((plain ([]) (ReturnLast VoidExpr)) ∷ []);
+    groups = ([]);
+  }) ∷ []);
+}) ≡ None
 unfolding digits
 case_82 = refl
 
 -- Some (1, None): K2
-case_83 : tested (record { records = ((record { at = first_place; name = (ident (codes "A"));
-    fields = ((record { ty = IntType; name = (ident (codes "x")) }) ∷ (record { ty = IntType; name = (ident (codes "x")) }) ∷ []) }) ∷ []); functions = ([]);
-    classes = ((record { name = (codes "main"); returns = VoidType; params = 1; slots = ((record { ty = IntType; name = (codes "p") }) ∷ []); locals = ([]);
-    blocks = ((plain ([]) (ReturnLast VoidExpr)) ∷ []); groups = ([]) }) ∷ []) }) ≡ Some (1, None)
+case_83 : tested (record {
+  records = ((record {
+    at = first_place;
+    name = (ident (codes "A"));
+    fields = ((record { ty = IntType; name = (ident (codes "x")) }) ∷ (record { ty = IntType; name = (ident (codes "x")) }) ∷ []);
+  }) ∷ []);
+  functions = ([]);
+  classes = ((record {
+    name = (codes "main");
+    returns = VoidType;
+    params = 1;
+    slots = ((record { ty = IntType; name = (codes "p") }) ∷ []);
+    locals = ([]);
+    blocks = ((plain ([]) (ReturnLast VoidExpr)) ∷ []);
+    groups = ([]);
+  }) ∷ []);
+}) ≡ Some (1, None)
 unfolding digits
 case_83 = refl
 
 -- Some (1, None): a class name counts for parameters
-case_84 : tested (record { records = ([]); functions = ((record { at = first_place; returns = IntType; name = (ident (codes "f"));
-    params = ((record { ty = IntType; name = (ident (codes "main")) }) ∷ []); body = (ReturnStmt first_place (IntExpr (pos 0)) End); close = first_place }) ∷ []);
-    classes = ((record { name = (codes "main"); returns = VoidType; params = 1; slots = ((record { ty = IntType; name = (codes "p") }) ∷ []); locals = ([]);
-    blocks = ((plain ([]) (ReturnLast VoidExpr)) ∷ []); groups = ([]) }) ∷ []) }) ≡ Some (1, None)
+case_84 : tested (record {
+  records = ([]);
+  functions = ((record {
+    at = first_place;
+    returns = IntType;
+    name = (ident (codes "f"));
+    params = ((record { ty = IntType; name = (ident (codes "main")) }) ∷ []);
+    body = (ReturnStmt first_place (IntExpr (pos 0)) End);
+    close = first_place;
+  }) ∷ []);
+  classes = ((record {
+    name = (codes "main");
+    returns = VoidType;
+    params = 1;
+    slots = ((record { ty = IntType; name = (codes "p") }) ∷ []);
+    locals = ([]);
+    blocks = ((plain ([]) (ReturnLast VoidExpr)) ∷ []);
+    groups = ([]);
+  }) ∷ []);
+}) ≡ Some (1, None)
 unfolding digits
 case_84 = refl
 
 -- Some (1, None): K8
-case_85 : tested (record { records = ([]); functions = ((record { at = first_place; returns = IntType; name = (ident (codes "f"));
-    params = ((record { ty = IntType; name = (ident (codes "n")) }) ∷ []); body = End; close = first_place }) ∷ []);
-    classes = ((record { name = (codes "main"); returns = VoidType; params = 1; slots = ((record { ty = IntType; name = (codes "p") }) ∷ []); locals = ([]);
-    blocks = ((plain ([]) (ReturnLast VoidExpr)) ∷ []); groups = ([]) }) ∷ []) }) ≡ Some (1, None)
+case_85 : tested (record {
+  records = ([]);
+  functions = ((record {
+    at = first_place;
+    returns = IntType;
+    name = (ident (codes "f"));
+    params = ((record { ty = IntType; name = (ident (codes "n")) }) ∷ []);
+    body = End;
+    close = first_place;
+  }) ∷ []);
+  classes = ((record {
+    name = (codes "main");
+    returns = VoidType;
+    params = 1;
+    slots = ((record { ty = IntType; name = (codes "p") }) ∷ []);
+    locals = ([]);
+    blocks = ((plain ([]) (ReturnLast VoidExpr)) ∷ []);
+    groups = ([]);
+  }) ∷ []);
+}) ≡ Some (1, None)
 unfolding digits
 case_85 = refl
 
 -- Some (2, None): K11 is no part of V1; main is missing
-case_86 : tested (record { records = ([]); functions = ((record { at = first_place; returns = IntType; name = (ident (codes "f"));
-    params = ((record { ty = IntType; name = (ident (codes "n")) }) ∷ []); body = (ReturnStmt first_place (VarExpr (ident (codes "n"))) End); close = first_place }) ∷ []); classes = ([]) })
+case_86 : tested (record {
+  records = ([]);
+  functions = ((record {
+    at = first_place;
+    returns = IntType;
+    name = (ident (codes "f"));
+    params = ((record { ty = IntType; name = (ident (codes "n")) }) ∷ []);
+    body = (ReturnStmt first_place (VarExpr (ident (codes "n"))) End);
+    close = first_place;
+  }) ∷ []);
+  classes = ([]);
+})
     ≡ Some (2, None)
 unfolding digits
 case_86 = refl
 
 -- Some (1, None): L8
-case_87 : tested (record { records = ((record { at = first_place; name = (ident (codes "Level1")); fields = ((record { ty = IntType; name = (ident (codes "a")) }) ∷ []) })
-    ∷ (record { at = first_place; name = (ident (codes "Level2")); fields = ((record { ty = (NamedType (codes "Level1")); name = (ident (codes "a")) }) ∷ []) })
-    ∷ (record { at = first_place; name = (ident (codes "Level3")); fields = ((record { ty = (NamedType (codes "Level2")); name = (ident (codes "a")) }) ∷ []) })
-    ∷ (record { at = first_place; name = (ident (codes "Level4")); fields = ((record { ty = (NamedType (codes "Level3")); name = (ident (codes "a")) }) ∷ []) })
-    ∷ (record { at = first_place; name = (ident (codes "Level5")); fields = ((record { ty = (NamedType (codes "Level4")); name = (ident (codes "a")) }) ∷ []) })
-    ∷ (record { at = first_place; name = (ident (codes "Level6")); fields = ((record { ty = (NamedType (codes "Level5")); name = (ident (codes "a")) }) ∷ []) })
-    ∷ (record { at = first_place; name = (ident (codes "Level7")); fields = ((record { ty = (NamedType (codes "Level6")); name = (ident (codes "a")) }) ∷ []) })
-    ∷ (record { at = first_place; name = (ident (codes "Level8")); fields = ((record { ty = (NamedType (codes "Level7")); name = (ident (codes "a")) }) ∷ []) })
-    ∷ (record { at = first_place; name = (ident (codes "Level9")); fields = ((record { ty = (NamedType (codes "Level8")); name = (ident (codes "a")) }) ∷ []) })
-    ∷ (record { at = first_place; name = (ident (codes "Level10")); fields = ((record { ty = (NamedType (codes "Level9")); name = (ident (codes "a")) }) ∷ []) })
-    ∷ (record { at = first_place; name = (ident (codes "Level11")); fields = ((record { ty = (NamedType (codes "Level10")); name = (ident (codes "a")) }) ∷ []) })
-    ∷ (record { at = first_place; name = (ident (codes "Level12")); fields = ((record { ty = (NamedType (codes "Level11")); name = (ident (codes "a")) }) ∷ []) })
-    ∷ (record { at = first_place; name = (ident (codes "Level13")); fields = ((record { ty = (NamedType (codes "Level12")); name = (ident (codes "a")) }) ∷ []) })
-    ∷ (record { at = first_place; name = (ident (codes "Level14")); fields = ((record { ty = (NamedType (codes "Level13")); name = (ident (codes "a")) }) ∷ []) })
-    ∷ (record { at = first_place; name = (ident (codes "Level15")); fields = ((record { ty = (NamedType (codes "Level14")); name = (ident (codes "a")) }) ∷ []) })
-    ∷ (record { at = first_place; name = (ident (codes "Level16")); fields = ((record { ty = (NamedType (codes "Level15")); name = (ident (codes "a")) }) ∷ []) })
-    ∷ (record { at = first_place; name = (ident (codes "Level17")); fields = ((record { ty = (NamedType (codes "Level16")); name = (ident (codes "a")) }) ∷ []) }) ∷ []); functions = ([]);
-    classes = ((record { name = (codes "main"); returns = VoidType; params = 1; slots = ((record { ty = IntType; name = (codes "p") }) ∷ []); locals = ([]);
-    blocks = ((plain ([]) (ReturnLast VoidExpr)) ∷ []); groups = ([]) }) ∷ []) }) ≡ Some (1, None)
+case_87 : tested (record {
+  records = ((record { at = first_place; name = (ident (codes "Level1")); fields = ((record { ty = IntType; name = (ident (codes "a")) }) ∷ []) })
+      ∷ (record { at = first_place; name = (ident (codes "Level2")); fields = ((record { ty = (NamedType (codes "Level1")); name = (ident (codes "a")) }) ∷ []) })
+      ∷ (record { at = first_place; name = (ident (codes "Level3")); fields = ((record { ty = (NamedType (codes "Level2")); name = (ident (codes "a")) }) ∷ []) })
+      ∷ (record { at = first_place; name = (ident (codes "Level4")); fields = ((record { ty = (NamedType (codes "Level3")); name = (ident (codes "a")) }) ∷ []) })
+      ∷ (record { at = first_place; name = (ident (codes "Level5")); fields = ((record { ty = (NamedType (codes "Level4")); name = (ident (codes "a")) }) ∷ []) })
+      ∷ (record { at = first_place; name = (ident (codes "Level6")); fields = ((record { ty = (NamedType (codes "Level5")); name = (ident (codes "a")) }) ∷ []) })
+      ∷ (record { at = first_place; name = (ident (codes "Level7")); fields = ((record { ty = (NamedType (codes "Level6")); name = (ident (codes "a")) }) ∷ []) })
+      ∷ (record { at = first_place; name = (ident (codes "Level8")); fields = ((record { ty = (NamedType (codes "Level7")); name = (ident (codes "a")) }) ∷ []) })
+      ∷ (record { at = first_place; name = (ident (codes "Level9")); fields = ((record { ty = (NamedType (codes "Level8")); name = (ident (codes "a")) }) ∷ []) })
+      ∷ (record { at = first_place; name = (ident (codes "Level10")); fields = ((record { ty = (NamedType (codes "Level9")); name = (ident (codes "a")) }) ∷ []) })
+      ∷ (record { at = first_place; name = (ident (codes "Level11")); fields = ((record { ty = (NamedType (codes "Level10")); name = (ident (codes "a")) }) ∷ []) })
+      ∷ (record { at = first_place; name = (ident (codes "Level12")); fields = ((record { ty = (NamedType (codes "Level11")); name = (ident (codes "a")) }) ∷ []) })
+      ∷ (record { at = first_place; name = (ident (codes "Level13")); fields = ((record { ty = (NamedType (codes "Level12")); name = (ident (codes "a")) }) ∷ []) })
+      ∷ (record { at = first_place; name = (ident (codes "Level14")); fields = ((record { ty = (NamedType (codes "Level13")); name = (ident (codes "a")) }) ∷ []) })
+      ∷ (record { at = first_place; name = (ident (codes "Level15")); fields = ((record { ty = (NamedType (codes "Level14")); name = (ident (codes "a")) }) ∷ []) })
+      ∷ (record { at = first_place; name = (ident (codes "Level16")); fields = ((record { ty = (NamedType (codes "Level15")); name = (ident (codes "a")) }) ∷ []) })
+      ∷ (record { at = first_place; name = (ident (codes "Level17")); fields = ((record { ty = (NamedType (codes "Level16")); name = (ident (codes "a")) }) ∷ []) }) ∷ []);
+  functions = ([]);
+  classes = ((record {
+    name = (codes "main");
+    returns = VoidType;
+    params = 1;
+    slots = ((record { ty = IntType; name = (codes "p") }) ∷ []);
+    locals = ([]);
+    blocks = ((plain ([]) (ReturnLast VoidExpr)) ∷ []);
+    groups = ([]);
+  }) ∷ []);
+}) ≡ Some (1, None)
 unfolding digits
 case_87 = refl
 
 -- Some (1, None): V1 first
-case_88 : tested (record { records = ([]); functions = ((record { at = first_place; returns = IntType; name = (ident (codes "f"));
-    params = ((record { ty = IntType; name = (ident (codes "n")) }) ∷ []); body = (ReturnStmt first_place (VarExpr (ident (codes "q"))) End); close = first_place }) ∷ []);
-    classes = ((record { name = (codes "x"); returns = IntType; params = 9; slots = ([]); locals = ([]); blocks = ((plain ([]) (GotoLast 9)) ∷ []); groups = ([]) }) ∷ []) }) ≡ Some (1, None)
+case_88 : tested (record {
+  records = ([]);
+  functions = ((record {
+    at = first_place;
+    returns = IntType;
+    name = (ident (codes "f"));
+    params = ((record { ty = IntType; name = (ident (codes "n")) }) ∷ []);
+    body = (ReturnStmt first_place (VarExpr (ident (codes "q"))) End);
+    close = first_place;
+  }) ∷ []);
+  classes = ((record { name = (codes "x"); returns = IntType; params = 9; slots = ([]); locals = ([]); blocks = ((plain ([]) (GotoLast 9)) ∷ []); groups = ([]) }) ∷ []);
+}) ≡ Some (1, None)
 unfolding digits
 case_88 = refl
 
 -- Some (2, Some 1): distinct
-case_89 : tested (record { records = ([]); functions = ([]); classes = ((record
-    { name = (codes "main"); returns = VoidType; params = 1; slots = ((record { ty = IntType; name = (codes "p") }) ∷ []); locals = ([]); blocks = ((plain ([]) (ReturnLast VoidExpr)) ∷ []);
-    groups = ([]) }) ∷ (record { name = (codes "main"); returns = VoidType; params = 1; slots = ((record { ty = IntType; name = (codes "p") }) ∷ []); locals = ([]);
-    blocks = ((plain ([]) (ReturnLast VoidExpr)) ∷ []); groups = ([]) }) ∷ []) }) ≡ Some (2, Some 1)
+case_89 : tested (record {
+  records = ([]);
+  functions = ([]);
+  classes = ((record {
+    name = (codes "main");
+    returns = VoidType;
+    params = 1;
+    slots = ((record { ty = IntType; name = (codes "p") }) ∷ []);
+    locals = ([]);
+    blocks = ((plain ([]) (ReturnLast VoidExpr)) ∷ []);
+    groups = ([]);
+  }) ∷ (record {
+    name = (codes "main");
+    returns = VoidType;
+    params = 1;
+    slots = ((record { ty = IntType; name = (codes "p") }) ∷ []);
+    locals = ([]);
+    blocks = ((plain ([]) (ReturnLast VoidExpr)) ∷ []);
+    groups = ([]);
+  }) ∷ []);
+}) ≡ Some (2, Some 1)
 unfolding digits
 case_89 = refl
 
 -- Some (2, Some 0): free
-case_90 : tested (record { records = ([]); functions = ((record { at = first_place; returns = IntType; name = (ident (codes "f"));
-    params = ((record { ty = IntType; name = (ident (codes "n")) }) ∷ []); body = (ReturnStmt first_place (VarExpr (ident (codes "n"))) End); close = first_place }) ∷ []);
-    classes = ((record { name = (codes "f"); returns = IntType; params = 0; slots = ([]); locals = ([]); blocks = ((plain ([]) (ReturnLast (IntExpr (pos 1)))) ∷ []); groups = ([]) })
-    ∷ (record { name = (codes "main"); returns = VoidType; params = 1; slots = ((record { ty = IntType; name = (codes "p") }) ∷ []); locals = ([]); blocks = ((plain ([]) (ReturnLast VoidExpr)) ∷ []);
-    groups = ([]) }) ∷ []) }) ≡ Some (2, Some 0)
+case_90 : tested (record {
+  records = ([]);
+  functions = ((record {
+    at = first_place;
+    returns = IntType;
+    name = (ident (codes "f"));
+    params = ((record { ty = IntType; name = (ident (codes "n")) }) ∷ []);
+    body = (ReturnStmt first_place (VarExpr (ident (codes "n"))) End);
+    close = first_place;
+  }) ∷ []);
+  classes = ((record { name = (codes "f"); returns = IntType; params = 0; slots = ([]); locals = ([]); blocks = ((plain ([]) (ReturnLast (IntExpr (pos 1)))) ∷ []); groups = ([]) })
+      ∷ (record {
+        name = (codes "main");
+        returns = VoidType;
+        params = 1;
+        slots = ((record { ty = IntType; name = (codes "p") }) ∷ []);
+        locals = ([]);
+        blocks = ((plain ([]) (ReturnLast VoidExpr)) ∷ []);
+        groups = ([]);
+      }) ∷ []);
+}) ≡ Some (2, Some 0)
 unfolding digits
 case_90 = refl
 
 -- Some (2, Some 0): free
-case_91 : tested (record { records = ([]); functions = ([]); classes = ((record
-    { name = (codes "trace"); returns = IntType; params = 0; slots = ([]); locals = ([]); blocks = ((plain ([]) (ReturnLast (IntExpr (pos 1)))) ∷ []); groups = ([]) })
-    ∷ (record { name = (codes "main"); returns = VoidType; params = 1; slots = ((record { ty = IntType; name = (codes "p") }) ∷ []); locals = ([]); blocks = ((plain ([]) (ReturnLast VoidExpr)) ∷ []);
-    groups = ([]) }) ∷ []) }) ≡ Some (2, Some 0)
+case_91 : tested (record {
+  records = ([]);
+  functions = ([]);
+  classes = ((record
+      { name = (codes "trace"); returns = IntType; params = 0; slots = ([]); locals = ([]); blocks = ((plain ([]) (ReturnLast (IntExpr (pos 1)))) ∷ []); groups = ([]) })
+      ∷ (record {
+        name = (codes "main");
+        returns = VoidType;
+        params = 1;
+        slots = ((record { ty = IntType; name = (codes "p") }) ∷ []);
+        locals = ([]);
+        blocks = ((plain ([]) (ReturnLast VoidExpr)) ∷ []);
+        groups = ([]);
+      }) ∷ []);
+}) ≡ Some (2, Some 0)
 unfolding digits
 case_91 = refl
 
 -- Some (2, Some 1): V2 of all classes before V3
-case_92 : tested (record { records = ([]); functions = ([]); classes = ((record
-    { name = (codes "a"); returns = IntType; params = 0; slots = ([]); locals = ([]); blocks = ((plain ([]) (GotoLast 0)) ∷ []); groups = ([]) })
-    ∷ (record { name = (codes "a"); returns = IntType; params = 0; slots = ([]); locals = ([]); blocks = ((plain ([]) (ReturnLast (IntExpr (pos 1)))) ∷ []); groups = ([]) })
-    ∷ (record { name = (codes "main"); returns = VoidType; params = 1; slots = ((record { ty = IntType; name = (codes "p") }) ∷ []); locals = ([]); blocks = ((plain ([]) (ReturnLast VoidExpr)) ∷ []);
-    groups = ([]) }) ∷ []) }) ≡ Some (2, Some 1)
+case_92 : tested (record {
+  records = ([]);
+  functions = ([]);
+  classes = ((record
+      { name = (codes "a"); returns = IntType; params = 0; slots = ([]); locals = ([]); blocks = ((plain ([]) (GotoLast 0)) ∷ []); groups = ([]) })
+      ∷ (record { name = (codes "a"); returns = IntType; params = 0; slots = ([]); locals = ([]); blocks = ((plain ([]) (ReturnLast (IntExpr (pos 1)))) ∷ []); groups = ([]) })
+      ∷ (record {
+        name = (codes "main");
+        returns = VoidType;
+        params = 1;
+        slots = ((record { ty = IntType; name = (codes "p") }) ∷ []);
+        locals = ([]);
+        blocks = ((plain ([]) (ReturnLast VoidExpr)) ∷ []);
+        groups = ([]);
+      }) ∷ []);
+}) ≡ Some (2, Some 1)
 unfolding digits
 case_92 = refl
 
 -- Some (2, None): a missing main last
-case_93 : tested (record { records = ([]); functions = ([]); classes = ((record
-    { name = (codes "a"); returns = IntType; params = 0; slots = ([]); locals = ([]); blocks = ((plain ([]) (GotoLast 0)) ∷ []); groups = ([]) }) ∷ []) }) ≡ Some (2, None)
+case_93 : tested (record {
+  records = ([]);
+  functions = ([]);
+  classes = ((record
+      { name = (codes "a"); returns = IntType; params = 0; slots = ([]); locals = ([]); blocks = ((plain ([]) (GotoLast 0)) ∷ []); groups = ([]) }) ∷ []);
+}) ≡ Some (2, None)
 unfolding digits
 case_93 = refl
 
 -- Some (2, None): a main as in K11
-case_94 : tested (record { records = ([]); functions = ([]); classes = ((record
-    { name = (codes "main"); returns = IntType; params = 1; slots = ((record { ty = IntType; name = (codes "p") }) ∷ []); locals = ([]); blocks = ((plain ([]) (ReturnLast (IntExpr (pos 1)))) ∷ []);
-    groups = ([]) }) ∷ []) }) ≡ Some (2, None)
+case_94 : tested (record {
+  records = ([]);
+  functions = ([]);
+  classes = ((record {
+    name = (codes "main");
+    returns = IntType;
+    params = 1;
+    slots = ((record { ty = IntType; name = (codes "p") }) ∷ []);
+    locals = ([]);
+    blocks = ((plain ([]) (ReturnLast (IntExpr (pos 1)))) ∷ []);
+    groups = ([]);
+  }) ∷ []);
+}) ≡ Some (2, None)
 unfolding digits
 case_94 = refl
 
 -- Some (2, None): one parameter
-case_95 : tested (record { records = ([]); functions = ([]); classes = ((record
-    { name = (codes "main"); returns = VoidType; params = 0; slots = ((record { ty = IntType; name = (codes "p") }) ∷ []); locals = ([]); blocks = ((plain ([]) (ReturnLast VoidExpr)) ∷ []);
-    groups = ([]) }) ∷ []) }) ≡ Some (2, None)
+case_95 : tested (record {
+  records = ([]);
+  functions = ([]);
+  classes = ((record {
+    name = (codes "main");
+    returns = VoidType;
+    params = 0;
+    slots = ((record { ty = IntType; name = (codes "p") }) ∷ []);
+    locals = ([]);
+    blocks = ((plain ([]) (ReturnLast VoidExpr)) ∷ []);
+    groups = ([]);
+  }) ∷ []);
+}) ≡ Some (2, None)
 unfolding digits
 case_95 = refl
 
 -- none: slot names are not asked to be distinct
-case_96 : tested (record { records = ([]); functions = ([]); classes = ((record
-    { name = (codes "main"); returns = VoidType; params = 1; slots = ((record { ty = IntType; name = (codes "p") }) ∷ (record { ty = IntType; name = (codes "p") }) ∷ []); locals = ([]);
-    blocks = ((plain ([]) (ReturnLast VoidExpr)) ∷ []); groups = ([]) }) ∷ []) }) ≡ None
+case_96 : tested (record {
+  records = ([]);
+  functions = ([]);
+  classes = ((record {
+    name = (codes "main");
+    returns = VoidType;
+    params = 1;
+    slots = ((record { ty = IntType; name = (codes "p") }) ∷ (record { ty = IntType; name = (codes "p") }) ∷ []);
+    locals = ([]);
+    blocks = ((plain ([]) (ReturnLast VoidExpr)) ∷ []);
+    groups = ([]);
+  }) ∷ []);
+}) ≡ None
 unfolding digits
 case_96 = refl
 
 -- none: a result's type is not asked to exist
-case_97 : tested (record { records = ([]); functions = ([]); classes = ((record
-    { name = (codes "a"); returns = (NamedType (codes "Foo")); params = 0; slots = ([]); locals = ([]); blocks = ((plain ([]) (ThrowLast (CallExpr (ident (codes "timed_out")) NoExprs))) ∷ []);
-    groups = ([]) }) ∷ (record { name = (codes "main"); returns = VoidType; params = 1; slots = ((record { ty = IntType; name = (codes "p") }) ∷ []); locals = ([]);
-    blocks = ((plain ([]) (ReturnLast VoidExpr)) ∷ []); groups = ([]) }) ∷ []) }) ≡ None
+case_97 : tested (record {
+  records = ([]);
+  functions = ([]);
+  classes = ((record {
+    name = (codes "a");
+    returns = (NamedType (codes "Foo"));
+    params = 0;
+    slots = ([]);
+    locals = ([]);
+    blocks = ((plain ([]) (ThrowLast (CallExpr (ident (codes "timed_out")) NoExprs))) ∷ []);
+    groups = ([]);
+  }) ∷ (record {
+    name = (codes "main");
+    returns = VoidType;
+    params = 1;
+    slots = ((record { ty = IntType; name = (codes "p") }) ∷ []);
+    locals = ([]);
+    blocks = ((plain ([]) (ReturnLast VoidExpr)) ∷ []);
+    groups = ([]);
+  }) ∷ []);
+}) ≡ None
 unfolding digits
 case_97 = refl
 
 -- Some (4, Some 0): class by class
-case_98 : tested (record { records = ([]); functions = ([]); classes = ((record
-    { name = (codes "a"); returns = IntType; params = 0; slots = ([]); locals = ([]); blocks = ((plain ([]) (GotoLast 0)) ∷ []); groups = ([]) })
-    ∷ (record { name = (codes "b"); returns = IntType; params = 0; slots = ([]); locals = ([]); blocks = ((plain ([]) (GotoLast 7)) ∷ []); groups = ([]) })
-    ∷ (record { name = (codes "main"); returns = VoidType; params = 1; slots = ((record { ty = IntType; name = (codes "p") }) ∷ []); locals = ([]); blocks = ((plain ([]) (ReturnLast VoidExpr)) ∷ []);
-    groups = ([]) }) ∷ []) }) ≡ Some (4, Some 0)
+case_98 : tested (record {
+  records = ([]);
+  functions = ([]);
+  classes = ((record
+      { name = (codes "a"); returns = IntType; params = 0; slots = ([]); locals = ([]); blocks = ((plain ([]) (GotoLast 0)) ∷ []); groups = ([]) })
+      ∷ (record { name = (codes "b"); returns = IntType; params = 0; slots = ([]); locals = ([]); blocks = ((plain ([]) (GotoLast 7)) ∷ []); groups = ([]) })
+      ∷ (record {
+        name = (codes "main");
+        returns = VoidType;
+        params = 1;
+        slots = ((record { ty = IntType; name = (codes "p") }) ∷ []);
+        locals = ([]);
+        blocks = ((plain ([]) (ReturnLast VoidExpr)) ∷ []);
+        groups = ([]);
+      }) ∷ []);
+}) ≡ Some (4, Some 0)
 unfolding digits
 case_98 = refl

@@ -126,7 +126,7 @@ module _ (s : WalkState) (empty b : ℕ) (e : Option ℕ) (all : ℕ) (is : slic
       let room_less = widened_room e empty all h small in
       let longer : length (s.todo ++ b ∷ []) ≡ length s.todo + 1 = length_push s.todo b in
       numbers (sum_by room (set s.entries b (Some all))) (sum_by room s.entries) (room (get_or s.entries b e)) (room e) (room (Some all)) (length (s.todo ++ b ∷ []))
-          (length s.todo) sums here room_less longer
+      (length s.todo) sums here room_less longer
     where
       numbers : (new old at_b before now l m : ℕ) → new + at_b ≡ old + now → at_b ≡ before → now + 1 ≤ before → l ≡ m + 1 → 2 * new + l ≤ 2 * old + m
       numbers new old at_b before now l m a c d f = omega arith

@@ -141,11 +141,11 @@ module _ (base : Setting) (ns : Names) (c : ClassTree) (few_slots : length c.slo
       let r = behind (length vs) p u.ends in
       let v = ways k x in
       rest_of base ns c few_slots few_locals w.hand a.hand (Outer l w a r v) (Outer l w a p (sequence u v)) gs (length vs) p u j.block (suc j.block + blocks_in w.looped.tried x) j.group
-          (j.group + groups_in x) (lowered ns c.slots s w (begun j) x)
+      (j.group + groups_in x) (lowered ns c.slots s w (begun j) x)
       (ap (λ m. suc j.block + m) (lowered_more ns c.slots s w (begun j) x)) (ap (λ m. j.group + m) (lowered_groups ns c.slots s w (begun j) x))
       (λ h en o. (end_onward c en w.exit a.end (length vs) p u.ends v.ends h o.0, sides_second c en l w a (length vs) p u v h o.1))
       (λ h. lives l t e rows vs gs s w (begun j) r a cu k said (ground_past base ns c few_slots few_locals w s n.local j.local rows vs gs p r a le
-          ((behind_is (length vs) p u.ends h).from ∙ g.start) g) th
+      ((behind_is (length vs) p u.ends h).from ∙ g.start) g) th
       (subst (λ m. AllFresh (uses m vs r cu x)) ez (subst (λ m. AllFresh (uses z vs m cu x)) eq fresh)) many)
 
   abbrev EndNear : Bool → Around → Aims → Point → Exit → Entries c → Type 0
@@ -155,7 +155,7 @@ module _ (base : Setting) (ns : Names) (c : ClassTree) (few_slots : length c.slo
   pub end_lives : Lives End
   end_lives l t e rows vs gs s w n p a cu k said g th fresh many =
       live_to base ns c few_slots few_locals w.hand a.hand gs p.stale (Outer l w a p (ways k End)) n.block n.block (n.block + 0) n.group n.group (n.group + 0) (finished w s w.exit) (omega arith)
-          (omega arith) (by_exit w.exit)
+      (omega arith) (by_exit w.exit)
     where
       by_exit : (x : Exit) → Live c w.hand a.hand gs p.stale (EndNear l w a p x) n.block n.block n.group n.group (finished w s x)
       by_exit (Text close) =
@@ -164,7 +164,7 @@ module _ (base : Setting) (ns : Names) (c : ClassTree) (few_slots : length c.slo
       by_exit (Scoped last) =
           leaf base ns c few_slots few_locals w s gs p a (EndNear l w a p (Scoped last)) n.block n.group false (drop_of (scope s)) last g.hand.from (λ z en o. absurd (false≢true z))
           (λ en o kc z cover guard. drop_kept c en w.hand a.hand kc (scope s) last a.end p at_once z refl o.0 g.end.below g.hand.below g.end.from g.scoped
-              (covers_sub z gs a.end.places p.stale g.end.sub cover) (covers_sub z gs a.hand.places p.stale g.hand.sub cover) guard)
+          (covers_sub z gs a.end.places p.stale g.end.sub cover) (covers_sub z gs a.hand.places p.stale g.hand.sub cover) guard)
       by_exit (Part last) =
           leaf base ns c few_slots few_locals w s gs p a (EndNear l w a p (Part last)) n.block n.group false [] last g.hand.from (λ z en o. absurd o.0) (λ en o kc z cover guard. absurd o.0)
 
@@ -269,9 +269,9 @@ module _ (base : Setting) (ns : Names) (c : ClassTree) (few_slots : length c.slo
         judged = neither_second f _ said.judged;
       })
       (ground_into base ns c few_slots few_locals w s n.local rows vs gs p a i pl new g) (thrown_into rows gs s n.local i pl cu w.caught e.caught new th)
-          (fresh_right us (uses k (declared i ∷ vs) p cu x) fresh) many in
+      (fresh_right us (uses k (declared i ∷ vs) p cu x) fresh) many in
       subst (λ is. Live c w.hand a.hand gs p.stale (Outer l w a p (sequence (plain at_once) (ways k x))) n.block (n.block + blocks_in w.looped.tried x) n.group (n.group + groups_in x)
-          (acting is (lowered ns c.slots s2 w z x))) (sym d.is)
+      (acting is (lowered ns c.slots s2 w z x))) (sym d.is)
       (then_lives l rows vs gs s w n p a (n.block + blocks_in w.looped.tried x) (n.group + groups_in x) (ways k x) hs d.instr (lowered ns c.slots s2 w z x) g rest
       (λ y cover. d.reads y (λ v is. value_in rows vs gs s n.local p st.sees g.line g.start y cover i q v is value (fresh_left us (uses k (declared i ∷ vs) p cu x) fresh)))
       (λ y cover. covers_new d.instr y gs p.stale pl.to d.keeps d.fills cover))

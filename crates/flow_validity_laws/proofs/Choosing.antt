@@ -206,7 +206,7 @@ module _ (ns : Names) (slots : List SlotTree) where
         let a = lowered ns slots (Mark ∷ s) v (begun h) b in
         let d = lowered ns slots s w (begun m) k in
         let x = joined_once n.group n.group n.group w.hand c0 c1 (quiet_ends n.group w s false [] (PassLast n.block) (λ g. refl))
-                (quiet_ends n.group w s true [] (TestLast (over slots s e) h.block m.block) (λ g. refl)) in
+        (quiet_ends n.group w s true [] (TestLast (over slots s e) h.block m.block) (λ g. refl)) in
         let y = joined_once n.group n.group m.group w.hand (joined w.hand c0 c1) a x (lowered_once (Mark ∷ s) v (begun h) b (record { exit = λ g. refl; again = λ g. refl })) in
         once_to n.group (m.group + groups_in k) (n.group + (groups_in b + groups_in k)) (named_in (joined w.hand (joined w.hand (joined w.hand c0 c1) a) d)) (omega arith)
         (joined_once n.group m.group (m.group + groups_in k) w.hand (joined w.hand (joined w.hand c0 c1) a) d y (lowered_once s w (begun m) k q))
@@ -231,7 +231,7 @@ module _ (ns : Names) (slots : List SlotTree) where
         let x3 = joined_once n.group m.group o.group w.hand (joined w.hand c1 c2) c3 x2 (lowered_once r v (begun m) p qv) in
         let x4 = joined_once n.group o.group (o.group + groups_in k) w.hand (joined w.hand (joined w.hand c1 c2) c3) (dropping ds c4) x3 (lowered_once s w (begun o) k q) in
         once_to n.group (o.group + groups_in k) (n.group + (groups_in i + groups_in b + groups_in p + groups_in k)) (named_in (joined w.hand (joined w.hand (joined w.hand c1 c2) c3) (dropping ds c4)))
-            (omega (arith, test_group e h)) x4
+        (omega (arith, test_group e h)) x4
     lowered_once s w n (LoopStmt at b k) q =
         let m = past false b (begun n) in
         let v = pass w 1 (PassLast n.block) m.block in
@@ -239,7 +239,7 @@ module _ (ns : Names) (slots : List SlotTree) where
         let a = lowered ns slots (Mark ∷ s) v (begun n) b in
         let d = lowered ns slots s w (begun m) k in
         let y = joined_once n.group n.group m.group w.hand c0 a (quiet_ends n.group w s false [] (PassLast n.block) (λ g. refl))
-                (lowered_once (Mark ∷ s) v (begun n) b (record { exit = λ g. refl; again = λ g. refl })) in
+        (lowered_once (Mark ∷ s) v (begun n) b (record { exit = λ g. refl; again = λ g. refl })) in
         once_to n.group (m.group + groups_in k) (n.group + (groups_in b + groups_in k)) (named_in (joined w.hand (joined w.hand c0 a) d)) (omega arith)
         (joined_once n.group m.group (m.group + groups_in k) w.hand (joined w.hand c0 a) d y (lowered_once s w (begun m) k q))
     lowered_once s w n (BreakStmt at k) q =
@@ -254,10 +254,10 @@ module _ (ns : Names) (slots : List SlotTree) where
         (subst (λ z. Once z (z + groups_in k) (named_in d)) (exited_group w.looped.tried n) (lowered_once s w (begun m) k q))
     lowered_once s w n (ReturnStmt at e k) q =
         rest_named k n.group w.hand (ends w s true [] (ReturnLast (over slots s e))) (lowered ns slots s w (begun n) k) (quiet_ends n.group w s true [] (ReturnLast (over slots s e)) (λ g. refl))
-            (lowered_once s w (begun n) k q)
+        (lowered_once s w (begun n) k q)
     lowered_once s w n (ThrowStmt at e k) q =
         rest_named k n.group w.hand (ends w s true [] (ThrowLast (thrown ns slots s at e w.caught))) (lowered ns slots s w (begun n) k)
-            (quiet_ends n.group w s true [] (ThrowLast (thrown ns slots s at e w.caught)) (λ g. refl))
+        (quiet_ends n.group w s true [] (ThrowLast (thrown ns slots s at e w.caught)) (λ g. refl))
         (lowered_once s w (begun n) k q)
     lowered_once s w n (TryStmt at b p x o k) q =
         let t = w.looped.tried in
@@ -273,7 +273,7 @@ module _ (ns : Names) (slots : List SlotTree) where
         let u = lowered ns slots (Var x.name m.local ∷ Mark ∷ s) f g o in
         let d = lowered ns slots s w (begun j) k in
         let x1 = joined_once n.group n.group m.group (Some h) c0 a (quiet_ends n.group w s false [] (GotoLast n.block) (λ g. refl))
-                (lowered_once (Mark ∷ s) v (begun n) b (record { exit = λ g. refl; again = q.again })) in
+        (lowered_once (Mark ∷ s) v (begun n) b (record { exit = λ g. refl; again = q.again })) in
         let x2 = joined_once n.group m.group j.group w.hand (joined (Some h) c0 a) u x1 (lowered_once (Var x.name m.local ∷ Mark ∷ s) f g o (record { exit = λ g. refl; again = q.again })) in
         once_to n.group (j.group + groups_in k) (n.group + (groups_in b + groups_in o + groups_in k)) (named_in (joined w.hand (joined w.hand (joined (Some h) c0 a) u) d)) (omega arith)
         (joined_once n.group j.group (j.group + groups_in k) w.hand (joined w.hand (joined (Some h) c0 a) u) d x2 (lowered_once s w (begun j) k q))

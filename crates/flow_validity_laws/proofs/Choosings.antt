@@ -99,12 +99,20 @@ module _ (base : Setting) (ns : Names) (c : ClassTree) (few_slots : length c.slo
       → IsJump y l → Live c w.hand a.hand gs p.stale near n n g g (ends w s false [] l)
   jump_leaf gs s w m p a near n g y st (GotoLast t) lies iy meets j =
       leaf base ns c few_slots few_locals w s gs p a near n g false [] (GotoLast t) lies.from (λ t e o. absurd (false≢true t))
-      (λ e o kc x cover guard. (in_none x, catches c e w.hand a.hand kc p.stale x lies.below guard (covers_sub x gs a.hand.places p.stale lies.sub cover), subst (Enters c e x) (sym j)
-          (enters c e x y gs gs p.stale st cover (iy e o) (λ i r k. k) meets)))
+      (λ e o kc x cover guard. (
+        in_none x,
+        catches c e w.hand a.hand kc p.stale x lies.below guard (covers_sub x gs a.hand.places p.stale lies.sub cover),
+        subst (Enters c e x) (sym j)
+            (enters c e x y gs gs p.stale st cover (iy e o) (λ i r k. k) meets),
+      ))
   jump_leaf gs s w m p a near n g y st (PassLast t) lies iy meets j =
       leaf base ns c few_slots few_locals w s gs p a near n g false [] (PassLast t) lies.from (λ t e o. absurd (false≢true t))
-      (λ e o kc x cover guard. (in_none x, catches c e w.hand a.hand kc p.stale x lies.below guard (covers_sub x gs a.hand.places p.stale lies.sub cover), subst (Enters c e x) (sym j)
-          (enters c e x y gs gs p.stale st cover (iy e o) (λ i r k. k) meets)))
+      (λ e o kc x cover guard. (
+        in_none x,
+        catches c e w.hand a.hand kc p.stale x lies.below guard (covers_sub x gs a.hand.places p.stale lies.sub cover),
+        subst (Enters c e x) (sym j)
+            (enters c e x y gs gs p.stale st cover (iy e o) (λ i r k. k) meets),
+      ))
   jump_leaf gs s w m p a near n g y st _ lies iy meets j = absurd j
 
   pub if_lives : (at : Place) (q : ExprTree) (b x : Body) → Alives b → Alives x → Alives (IfStmt at q b x)
@@ -142,7 +150,7 @@ module _ (base : Setting) (ns : Names) (c : ClassTree) (few_slots : length c.slo
         judged = neither_first (body_refusal e b) _ h2;
       })
       (ground_inner base ns c few_slots few_locals w (Scoped (GotoLast j.block)) s n.local n.local rows vs gs p p a st (omega arith) g.start g)
-          (thrown_marked base ns c few_slots few_locals agree rows gs s cu w.caught e.caught th) (fresh_right es us fresh12)
+      (thrown_marked base ns c few_slots few_locals agree rows gs s cu w.caught e.caught th) (fresh_right es us fresh12)
       (omega (arith, many, sum)) in
       let r2 = rest_lives base ns c few_slots few_locals agree x rest l t (rule_behind e b) rows vs gs s w n j p point a cu k1 k2 u
       (record {
@@ -160,15 +168,15 @@ module _ (base : Setting) (ns : Names) (c : ClassTree) (few_slots : length c.slo
       let entry = later_entry c w.hand a.hand gs p.stale owed1 n.block j.block n.group j.group c1 live in
       let near0 : Entries c → Type 0 = λ en. outer en × (en n.block ≡ Some (filled gs p.stale)) × (en j.block ≡ r2.later.entry) in
       let one = test_leaf rows vs gs gs s w n.local p a near0 n.block n.group q n.block j.block st said.stands.sees g.line g.start g.hand
-              (no_first (fault names false q) (wants (form names q) BoolType) test) (fresh_left es us fresh12) (λ en o. o.1)
+      (no_first (fault names false q) (wants (form names q) BoolType) test) (fresh_left es us fresh12) (λ en o. o.1)
       (λ en o. o.2 ∙ r2.entry_is refl) (λ j m k. k) (ex.fresh refl) (λ en o. hand_fact c en w.hand a.hand p u.throws refl (sides_first c en l w a p u v o.0.1).hand) in
       live_to base ns c few_slots few_locals w.hand a.hand gs p.stale outer n.block (suc j.block + blocks_in w.looped.tried x)
-          (n.block + (suc (blocks_in w.looped.tried b) + suc (blocks_in w.looped.tried x))) n.group (j.group + groups_in x) (n.group + (groups_in b + groups_in x))
+      (n.block + (suc (blocks_in w.looped.tried b) + suc (blocks_in w.looped.tried x))) n.group (j.group + groups_in x) (n.group + (groups_in b + groups_in x))
       (joined w.hand (joined w.hand c0 c1) c2) (omega arith) (omega arith)
       (join_two c w.hand w.hand w.hand a.hand gs p.stale outer near0 owed1 outer n.block n.block j.block (suc j.block + blocks_in w.looped.tried x) n.group n.group j.group
-          (j.group + groups_in x) c0 c1 c2 one later r2.later (λ en o i1 i2. (o, i1 ∙ entry, i2))
+      (j.group + groups_in x) c0 c1 c2 one later r2.later (λ en o i1 i2. (o, i1 ∙ entry, i2))
       (λ en o i1 i2. inner_owed base ns c few_slots few_locals agree en l w j.block n.local a gs p st r (λ h. i2 ∙ r2.entry_is refl) (exits_right st (length gs) p.stale at_once r.ends ex)
-          (sides_right c en l w a p (plain at_once) r (sides_first c en l w a p u v o.1)))
+      (sides_right c en l w a p (plain at_once) r (sides_first c en l w a p u v o.1)))
       (λ en o i1 i2. o))
 
   pub if_else_lives : (at : Place) (q : ExprTree) (b d x : Body) → Alives b → Alives d → Alives x → Alives (IfElseStmt at q b d x)
@@ -218,7 +226,7 @@ module _ (base : Setting) (ns : Names) (c : ClassTree) (few_slots : length c.slo
         judged = neither_first (body_refusal e b) _ h2;
       })
       (ground_inner base ns c few_slots few_locals w (Scoped (GotoLast j.block)) s n.local n.local rows vs gs p p a st (omega arith) g.start g)
-          (thrown_marked base ns c few_slots few_locals agree rows gs s cu w.caught e.caught th) (fresh_right es us fresh12)
+      (thrown_marked base ns c few_slots few_locals agree rows gs s cu w.caught e.caught th) (fresh_right es us fresh12)
       (omega (arith, many, sum1, sum2)) in
       let live2 = other l t eb rows vs gs (Mark ∷ s) (scoped w j.block) (begun i) p (ended a gs st i.local) cu kb
       (record {
@@ -231,7 +239,7 @@ module _ (base : Setting) (ns : Names) (c : ClassTree) (few_slots : length c.slo
         judged = neither_first (body_refusal eb d) _ h3;
       })
       (ground_inner base ns c few_slots few_locals w (Scoped (GotoLast j.block)) s n.local i.local rows vs gs p p a st (omega arith) g.start g)
-          (thrown_marked base ns c few_slots few_locals agree rows gs s cu w.caught e.caught th)
+      (thrown_marked base ns c few_slots few_locals agree rows gs s cu w.caught e.caught th)
       (fresh_right (es ++ us) os fresh123) (omega (arith, many, sum1, sum2)) in
       let r2 = rest_lives base ns c few_slots few_locals agree x rest l t (rule_behind eb d) rows vs gs s w n j p point a cu k1 k2 u
       (record {
@@ -255,21 +263,21 @@ module _ (base : Setting) (ns : Names) (c : ClassTree) (few_slots : length c.slo
       let near1 : Entries c → Type 0 = λ en. outer en × (en j.block ≡ r2.later.entry) in
       let near0 : Entries c → Type 0 = λ en. outer en × (en n.block ≡ Some (filled gs p.stale)) × (en i.block ≡ Some (filled gs p.stale)) in
       let one = test_leaf rows vs gs gs s w n.local p a near0 n.block n.group q n.block i.block p.stale said.stands.sees g.line g.start g.hand
-              (no_first (fault names false q) (wants (form names q) BoolType) test) (fresh_left es us fresh12) (λ en o. o.1)
+      (no_first (fault names false q) (wants (form names q) BoolType) test) (fresh_left es us fresh12) (λ en o. o.1)
       (λ en o. o.2) (λ j m k. k) (inr (omega arith)) (λ en o. hand_fact c en w.hand a.hand p u.throws refl (sides_first c en l w a p u v o.0.1).hand) in
       let three = join_two c w.hand w.hand w.hand a.hand gs p.stale near1 near0 owed1 owed2 n.block n.block i.block j.block n.group n.group i.group j.group c0 c1 c2 one later1 later2
-              (λ en o i1 i2. (o.0, i1 ∙ entry1, i2 ∙ entry2))
+      (λ en o i1 i2. (o.0, i1 ∙ entry1, i2 ∙ entry2))
       (λ en o i1 i2. inner_owed base ns c few_slots few_locals agree en l w j.block n.local a gs p st r (λ h. o.1 ∙ r2.entry_is (reached_left r.ends r'.ends h))
-          (exits_left st (length gs) p.stale r.ends r'.ends ex)
+      (exits_left st (length gs) p.stale r.ends r'.ends ex)
       (sides_left c en l w a p r r' (sides_right c en l w a p (node at_once) (both r r') (sides_first c en l w a p u v o.0.1))))
       (λ en o i1 i2. inner_owed base ns c few_slots few_locals agree en l w j.block i.local a gs p st r' (λ h. o.1 ∙ r2.entry_is (reached_right r.ends r'.ends h))
-          (exits_right st (length gs) p.stale r.ends r'.ends ex)
+      (exits_right st (length gs) p.stale r.ends r'.ends ex)
       (sides_right c en l w a p r r' (sides_right c en l w a p (node at_once) (both r r') (sides_first c en l w a p u v o.0.1)))) in
       live_to base ns c few_slots few_locals w.hand a.hand gs p.stale outer n.block (suc j.block + blocks_in w.looped.tried x)
-          (n.block + (suc (blocks_in w.looped.tried b) + suc (blocks_in w.looped.tried d) + suc (blocks_in w.looped.tried x))) n.group (j.group + groups_in x)
+      (n.block + (suc (blocks_in w.looped.tried b) + suc (blocks_in w.looped.tried d) + suc (blocks_in w.looped.tried x))) n.group (j.group + groups_in x)
       (n.group + (groups_in b + groups_in d + groups_in x)) (joined w.hand (joined w.hand (joined w.hand c0 c1) c2) c3) (omega arith) (omega arith)
       (join c w.hand w.hand a.hand gs p.stale outer near1 outer n.block j.block (suc j.block + blocks_in w.looped.tried x) n.group j.group (j.group + groups_in x)
-          (joined w.hand (joined w.hand c0 c1) c2) c3 three r2.later (λ en o is. (o, is)) (λ en o is. o))
+      (joined w.hand (joined w.hand c0 c1) c2) c3 three r2.later (λ en o is. (o, is)) (λ en o is. o))
 
   -- the body of a loop: its head, and what is lost behind it
   pub head_meets : (vs : List Variable) (gs : List Slotted) (p : Point) (r : Ways) → length vs ≡ length gs → Meets p.stale (behind (length vs) p (head r)).stale (length gs)
@@ -287,7 +295,7 @@ module _ (base : Setting) (ns : Names) (c : ClassTree) (few_slots : length c.slo
   out_breaks tested vs gs p r e =
       let lost = (behind (length vs) p (looped tested r).ends).stale in
       exits_onward lost (length gs) (length vs) p (head r) r.breaks refl
-          (exits_right lost (length gs) p.stale (past_of tested (head r)) (onward (head r) r.breaks) (exits_here base ns c few_slots few_locals vs gs p (looped tested r).ends e))
+      (exits_right lost (length gs) p.stale (past_of tested (head r)) (onward (head r) r.breaks) (exits_here base ns c few_slots few_locals vs gs p (looped tested r).ends e))
 
   pub out_test : (vs : List Variable) (gs : List Slotted) (p : Point) (r : Ways) → length vs ≡ length gs
       → Meets (behind (length vs) p (head r)).stale (behind (length vs) p (looped true r).ends).stale (length gs)
@@ -295,8 +303,8 @@ module _ (base : Setting) (ns : Names) (c : ClassTree) (few_slots : length c.slo
       let lost = (behind (length vs) p (looped true r).ends).stale in
       at_once_meets lost (length gs) (behind (length vs) p (head r)).stale
       (exits_onward lost (length gs) (length vs) p (head r) at_once refl
-          (subst (Exits lost (length gs) p.stale) (sym (onward_once (head r)))
-          (exits_left lost (length gs) p.stale (head r) (onward (head r) r.breaks) (exits_here base ns c few_slots few_locals vs gs p (looped true r).ends e))))
+      (subst (Exits lost (length gs) p.stale) (sym (onward_once (head r)))
+      (exits_left lost (length gs) p.stale (head r) (onward (head r) r.breaks) (exits_here base ns c few_slots few_locals vs gs p (looped true r).ends e))))
 
   pub head_hand : (en : Entries c) (h : Option Hand) (a : Aim) (d : ℕ) (p : Point) (r : Ways) → HandWay c en h a p (either (head r) (onward (head r) r.throws))
       → HandWay c en h a (behind d p (head r)) at_once
@@ -341,7 +349,7 @@ module _ (base : Setting) (ns : Names) (c : ClassTree) (few_slots : length c.slo
       → AllFresh (uses k vs (behind (length vs) p (head (ways k b))) cu b) → length (body_groups b) ≤ k
       → Live c w.hand a.hand gs (behind (length vs) p (head (ways k b))).stale
       (Owed true (looping w h out) (loop_aims a gs (behind (length vs) p (head (ways k b))).stale (behind (length vs) p (looped tested (ways k b)).ends).stale g'.local)
-          (behind (length vs) p (head (ways k b))) (ways k b)) g'.block (g'.block + blocks_in false b) g'.group
+      (behind (length vs) p (head (ways k b))) (ways k b)) g'.block (g'.block + blocks_in false b) g'.group
       (g'.group + groups_in b) (lowered ns c.slots (Mark ∷ s) (looping w h out) g' b)
   loop_body b body tested l t e rows vs gs s w n g' p a cu k h out said g th le fresh many =
       let r = ways k b in
@@ -349,7 +357,7 @@ module _ (base : Setting) (ns : Names) (c : ClassTree) (few_slots : length c.slo
       let lost = (behind (length vs) p (looped tested r).ends).stale in
       body true t (in_loop e) rows vs gs (Mark ∷ s) (looping w h out) g' hp (loop_aims a gs hp.stale lost g'.local) cu k said
       (ground_pass base ns c few_slots few_locals w s w.depth 1 n.local g'.local (PassLast h) out rows vs gs hp a.hand hp.stale lost le
-          ((behind_is (length vs) p (head r) refl).from ∙ g.start) g.line g.hand (omega arith))
+      ((behind_is (length vs) p (head r) refl).from ∙ g.start) g.line g.hand (omega arith))
       (thrown_marked base ns c few_slots few_locals agree rows gs s cu w.caught e.caught th) fresh many
 
   pub while_lives : (at : Place) (q : ExprTree) (b x : Body) → Alives b → Alives x → Alives (WhileStmt at q b x)
@@ -396,9 +404,9 @@ module _ (base : Setting) (ns : Names) (c : ClassTree) (few_slots : length c.slo
       let nearT : Entries c → Type 0 = λ en. outer en × (en g'.block ≡ Some (filled gs hp.stale)) × (en j.block ≡ r2.later.entry) in
       let one = jump_leaf gs s w n.local p a near0 n.block n.group n.block hp.stale (PassLast n.block) g.hand (λ en o. o) (head_meets vs gs p r size) refl in
       let two = test_leaf rows vs gs gs s w n.local hp a nearT (suc n.block) n.group q g'.block j.block lost said.stands.sees g.line hstart g.hand
-              (no_first (fault names false q) (wants (form names q) BoolType) test) (fresh_left es us fresh12) (λ en o. o.1)
+      (no_first (fault names false q) (wants (form names q) BoolType) test) (fresh_left es us fresh12) (λ en o. o.1)
       (λ en o. o.2 ∙ r2.entry_is refl) (λ j m k. k) (out_test vs gs p r size)
-          (λ en o. hand_fact c en w.hand a.hand hp at_once refl (head_hand en w.hand a.hand (length vs) p r (sides_first c en l w a p u v o.0.1).hand)) in
+      (λ en o. hand_fact c en w.hand a.hand hp at_once refl (head_hand en w.hand a.hand (length vs) p r (sides_first c en l w a p u v o.0.1).hand)) in
       let three = loop_body b body true l t e rows vs gs s w n (begun g') p a cu k n.block j.block
       (record {
         stands = stands_marked base ns c few_slots few_locals agree (in_loop e) rows s w.caught (stands_loop base ns c few_slots few_locals agree e rows s w.caught said.stands);
@@ -416,13 +424,13 @@ module _ (base : Setting) (ns : Names) (c : ClassTree) (few_slots : length c.slo
       let later2 = later_live c w.hand a.hand gs hp.stale owed2 g'.block j.block n.group j.group c2 three in
       let entry2 = later_entry c w.hand a.hand gs hp.stale owed2 g'.block j.block n.group j.group c2 three in
       let all = join_two c w.hand w.hand w.hand a.hand gs p.stale near1 near0 nearT owed2 n.block n.block g'.block j.block n.group n.group n.group j.group c0 c1 c2 one later1 later2
-              (λ en o i1 i2. i1 ∙ entry1) (λ en o i1 i2. (o.0, i2 ∙ entry2, o.1))
+      (λ en o i1 i2. i1 ∙ entry1) (λ en o i1 i2. (o.0, i2 ∙ entry2, o.1))
       (λ en o i1 i2. loop_owed true en w n.block j.block n.local a vs gs p r size (i1 ∙ entry1) (λ h. o.1 ∙ r2.entry_is refl) (sides_first c en l w a p u v o.0.1).hand) in
       live_to base ns c few_slots few_locals w.hand a.hand gs p.stale outer n.block (suc j.block + blocks_in w.looped.tried x)
-          (n.block + (1 + suc (blocks_in false b) + suc (blocks_in w.looped.tried x))) n.group (j.group + groups_in x) (n.group + (groups_in b + groups_in x))
+      (n.block + (1 + suc (blocks_in false b) + suc (blocks_in w.looped.tried x))) n.group (j.group + groups_in x) (n.group + (groups_in b + groups_in x))
       (joined w.hand (joined w.hand (joined w.hand c0 c1) c2) c3) (omega arith) (omega arith)
       (join c w.hand w.hand a.hand gs p.stale outer near1 outer n.block j.block (suc j.block + blocks_in w.looped.tried x) n.group j.group (j.group + groups_in x)
-          (joined w.hand (joined w.hand c0 c1) c2) c3 all r2.later (λ en o is. (o, is)) (λ en o is. o))
+      (joined w.hand (joined w.hand c0 c1) c2) c3 all r2.later (λ en o is. (o, is)) (λ en o is. o))
 
   pub loop_lives : (at : Place) (b x : Body) → Alives b → Alives x → Alives (LoopStmt at b x)
   loop_lives at b x body rest l t e rows vs gs s w n p a cu k said g th fresh many =
@@ -471,9 +479,9 @@ module _ (base : Setting) (ns : Names) (c : ClassTree) (few_slots : length c.slo
       let later1 = later_live c w.hand a.hand gs hp.stale owed1 n.block j.block n.group j.group c1 two in
       let entry1 = later_entry c w.hand a.hand gs hp.stale owed1 n.block j.block n.group j.group c1 two in
       live_to base ns c few_slots few_locals w.hand a.hand gs p.stale outer n.block (suc j.block + blocks_in w.looped.tried x)
-          (n.block + (suc (blocks_in false b) + suc (blocks_in w.looped.tried x))) n.group (j.group + groups_in x) (n.group + (groups_in b + groups_in x))
+      (n.block + (suc (blocks_in false b) + suc (blocks_in w.looped.tried x))) n.group (j.group + groups_in x) (n.group + (groups_in b + groups_in x))
       (joined w.hand (joined w.hand c0 c1) c3) (omega arith) (omega arith)
       (join_two c w.hand w.hand w.hand a.hand gs p.stale outer near0 owed1 outer n.block n.block j.block (suc j.block + blocks_in w.looped.tried x) n.group n.group j.group
-          (j.group + groups_in x) c0 c1 c3 one later1 r2.later (λ en o i1 i2. i1 ∙ entry1)
+      (j.group + groups_in x) c0 c1 c3 one later1 r2.later (λ en o i1 i2. i1 ∙ entry1)
       (λ en o i1 i2. loop_owed false en w n.block j.block n.local a vs gs p r size (i1 ∙ entry1) (λ h. i2 ∙ r2.entry_is (reached_onward (head r) r.breaks refl h))
-          (sides_first c en l w a p u v o.1).hand) (λ en o i1 i2. o))
+      (sides_first c en l w a p u v o.1).hand) (λ en o i1 i2. o))

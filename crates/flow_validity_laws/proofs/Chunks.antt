@@ -163,7 +163,7 @@ module _ (c : ClassTree) (few_slots : length c.slots < 2 ^ 64) (few_locals : len
       → Good m n.block (n.block + exit_blocks t) (exits t w s n l)
   exits_good e m false w s n l f lt le lb h =
       let g = ends_good m n.block w s false (map DropInstr (left_lists w.looped.depth s)) l f (left_named c few_slots few_locals w.looped.depth (length c.locals) s (omega arith) f)
-              (leads_good e m l (omega arith) h) in
+      (leads_good e m l (omega arith) h) in
       good_up_to m n.block n.block (n.block + 0) (exits false w s n l) (omega arith) g
   exits_good e m true w s n l f lt le lb h =
       let g = ends_good m n.block w s false [] (GotoLast n.block) f refl (goto_good m n.block lt (omega arith)) in

@@ -113,8 +113,12 @@ module _ (c : ClassTree) where
 
   pub catches : (e : Entries) (h : Option Hand) (a : Aim) (kc : Option CatcherTree) (st : ℕ) (s : Places) → IsBelow a → Guard e h a kc st → Covers s a.places st → Catches c e kc s
   catches e h a None st s below g cover = tt
-  catches e h a (Some kc) st s below g cover = (filled (place.Local g.hand.error ∷ a.places) a.stale, ap e g.block
-      ∙ g.fact.0, λ q k. within q (filled_holds (place.Local g.hand.error ∷ a.places) a.stale q k))
+  catches e h a (Some kc) st s below g cover = (
+    filled (place.Local g.hand.error ∷ a.places) a.stale,
+    ap e g.block
+        ∙ g.fact.0,
+    λ q k. within q (filled_holds (place.Local g.hand.error ∷ a.places) a.stale q k),
+  )
     where
       kept : (j : ℕ) → j < length a.places → Meets st a.stale (length a.places) → a.stale ≤ j → st ≤ j
       kept j lt (inl m) le = absurd (omega arith)

@@ -223,7 +223,7 @@ class_filled p h a k paths unlost =
     let os = later.entry ∷ later.entries in
     let e = at_number os in
     let all = later.kept e refl (entries_at c (later.entry ∷ []) later.entries) (tt, record { out = λ t. absurd (false≢true t); again = λ t. absurd (false≢true t); hand = tt })
-            (located_from c [] c.groups refl) in
+    (located_from c [] c.groups refl) in
     reads_filled c e (λ b ps is. let r = kept_at c e os c.blocks all b ps is in record { block = r.block; is = r.is; kept = r.kept })
     (λ q. (filled gs 0, first, λ z m. parameter_in c q (length a.params) refl z (filled_holds gs 0 z m)))
   where

@@ -103,7 +103,7 @@ module _ (base : Setting) (ns : Names) (c : ClassTree) (few_slots : length c.slo
       → Lined base c (declared i ∷ vs) (pl.to ∷ gs) (rows ++ (i.name.name, i.ty) ∷ []) (with_into i l s) (local_count i + l)
   line_into vs gs rows s l i pl h new =
       lined_more base c ns few_slots few_locals vs gs rows s (with_into i l s) l (local_count i + l) (declared i) i.ty pl.to h new
-          (grows_declared base ns c few_slots few_locals s (with_into i l s) i pl.to pl.declared) pl.named
+      (grows_declared base ns c few_slots few_locals s (with_into i l s) i pl.to pl.declared) pl.named
       (kind_of pl.to pl.declared) (omega arith) (λ k e. small pl.to pl.declared k e)
     where
       kind_of : (to : Slotted) → DeclaredAs ns c s i to (with_into i l s) → is_local to ≡ is_there (declared i).local
@@ -240,8 +240,10 @@ module _ (base : Setting) (ns : Names) (c : ClassTree) (few_slots : length c.slo
   rest_of h a outer near gs d p u n m g i ch size gsize f live = by_way (is_reached u.ends) refl
     where
       by_way : (b : Bool) → is_reached u.ends ≡ b → Rest h near gs d p u n m g i ch
-      by_way true e = record { later = later_map h outer near n m g i ch (f e) (later_live c h a gs (behind d p u.ends).stale outer n m g i ch (live e));
-          entry_is = λ t. later_entry c h a gs (behind d p u.ends).stale outer n m g i ch (live e) }
+      by_way true e = record {
+        later = later_map h outer near n m g i ch (f e) (later_live c h a gs (behind d p u.ends).stale outer n m g i ch (live e));
+        entry_is = λ t. later_entry c h a gs (behind d p u.ends).stale outer n m g i ch (live e);
+      }
       by_way false e = record { later = later_dead c h near n m g i ch size gsize; entry_is = λ t. absurd (false≢true (sym e ∙ t)) }
 
   -- what a point behind asks of the one before

@@ -84,7 +84,7 @@ slot_found : (n k : ℕ) (ss : List SlotTree) (t : SlotTree) (rest : List (List 
 slot_found n k [] t rest le lt e = absurd (none_some e)
 slot_found n zero (s ∷ ss) t rest le lt e =
     if_same (bytes_eq (place_name (place.Slot (n + 0))) (place_name (place.Slot n))) (Some s.ty) _
-        (ap (λ m. bytes_eq (place_name (place.Slot m)) (place_name (place.Slot n))) plus_zero ∙ bytes_self (place_name (place.Slot n)))
+    (ap (λ m. bytes_eq (place_name (place.Slot m)) (place_name (place.Slot n))) plus_zero ∙ bytes_self (place_name (place.Slot n)))
     ∙ ap (λ (u : SlotTree). Some u.ty) (some_same s t e)
   where
     plus_zero : n + 0 ≡ n
@@ -106,7 +106,7 @@ local_found : (n k : ℕ) (ts : List TypeTree) (t : TypeTree) → n + length ts 
 local_found n k [] t le lt e = absurd (none_some e)
 local_found n zero (s ∷ ts) t le lt e =
     if_same (bytes_eq (place_name (place.Local (n + 0))) (place_name (place.Local n))) (Some s) _
-        (ap (λ m. bytes_eq (place_name (place.Local m)) (place_name (place.Local n))) plus_zero ∙ bytes_self (place_name (place.Local n))) ∙ e
+    (ap (λ m. bytes_eq (place_name (place.Local m)) (place_name (place.Local n))) plus_zero ∙ bytes_self (place_name (place.Local n))) ∙ e
   where
     plus_zero : n + 0 ≡ n
     plus_zero = omega arith
@@ -268,12 +268,21 @@ module _ (base : Setting) (ns : Names) (c : ClassTree) (few_slots : length c.slo
       by_name : (b : Bool) → bytes_eq x p.name.name ≡ b → (if b then Some p.ty else named (map field_row ps) x) ≡ Some t
           → (named (map field_row ps) x ≡ Some t → FirstSlot x t (k + 1) (length ps) (map param_slot ps ++ ss))
           → FirstSlot x t k (suc (length ps)) (param_slot p ∷ (map param_slot ps ++ ss))
-      by_name true h q f = record { at = 0; low = omega arith; is = ap (λ b. cond b (Some k) (position_from (λ (s : SlotTree). bytes_eq x s.name) (k + 1) (map param_slot ps ++ ss))) h
-          ∙ ap Some plus_zero; typed = q }
+      by_name true h q f = record {
+        at = 0;
+        low = omega arith;
+        is = ap (λ b. cond b (Some k) (position_from (λ (s : SlotTree). bytes_eq x s.name) (k + 1) (map param_slot ps ++ ss))) h
+            ∙ ap Some plus_zero;
+        typed = q;
+      }
       by_name false h q f =
           let r = f q in
-          record { at = suc r.at; low = (let l = r.low in omega (arith, l));
-              is = ap (λ b. cond b (Some k) (position_from (λ (s : SlotTree). bytes_eq x s.name) (k + 1) (map param_slot ps ++ ss))) h ∙ r.is ∙ ap Some (plus_suc r.at); typed = r.typed }
+          record {
+            at = suc r.at;
+            low = (let l = r.low in omega (arith, l));
+            is = ap (λ b. cond b (Some k) (position_from (λ (s : SlotTree). bytes_eq x s.name) (k + 1) (map param_slot ps ++ ss))) h ∙ r.is ∙ ap Some (plus_suc r.at);
+            typed = r.typed;
+          }
 
   params_plain : (s : Setting) (taken : List ℕ → Bool) (ps : List ParamTree) (x : List ℕ) (t : TypeTree) → params_fault s taken ps ≡ None → named (map field_row ps) x ≡ Some t
       → named constant_names x ≡ None
@@ -300,7 +309,7 @@ module _ (base : Setting) (ns : Names) (c : ClassTree) (few_slots : length c.slo
       let typed : type_at c to ≡ Some t = ap (λ l. option_map (λ (u : SlotTree). u.ty) (slice_get l f.at)) same ∙ f.typed in
       let within = there_within c.slots f.at (typed_there (λ (u : SlotTree). u.ty) (slice_get c.slots f.at) t typed) in
       let at : position (λ (u : SlotTree). bytes_eq x u.name) c.slots ≡ Some f.at =
-              ap (position (λ (u : SlotTree). bytes_eq x u.name)) same ∙ position_from-zero (λ (u : SlotTree). bytes_eq x u.name) (map param_slot ps ++ ss) ∙ f.is ∙ ap Some zero_plus in
+      ap (position (λ (u : SlotTree). bytes_eq x u.name)) same ∙ position_from-zero (λ (u : SlotTree). bytes_eq x u.name) (map param_slot ps ++ ss) ∙ f.is ∙ ap Some zero_plus in
       record {
         to = to;
         is = ap slot_place at;
@@ -324,5 +333,5 @@ module _ (base : Setting) (ns : Names) (c : ClassTree) (few_slots : length c.slo
       let typed : type_at c to ≡ Some t = ap (λ l. option_map (λ (u : SlotTree). u.ty) (slice_get l f.at)) same ∙ f.typed in
       let within = there_within c.slots f.at (typed_there (λ (u : SlotTree). u.ty) (slice_get c.slots f.at) t typed) in
       let at : position (λ (u : SlotTree). bytes_eq x u.name) c.slots ≡ Some f.at =
-              ap (position (λ (u : SlotTree). bytes_eq x u.name)) same ∙ position_from-zero (λ (u : SlotTree). bytes_eq x u.name) (map param_slot ps ++ ss) ∙ f.is ∙ ap Some zero_plus in
+      ap (position (λ (u : SlotTree). bytes_eq x u.name)) same ∙ position_from-zero (λ (u : SlotTree). bytes_eq x u.name) (map param_slot ps ++ ss) ∙ f.is ∙ ap Some zero_plus in
       record { at = f.at; low = f.low; is = ap slot_place at; read = slot_named f.at (omega (arith, within, few_slots)) }

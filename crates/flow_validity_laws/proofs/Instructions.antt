@@ -292,7 +292,7 @@ module _ (base : Setting) (ns : Names) (c : ClassTree) (agree : (f : List ℕ) �
       let q = k.known (holds caught _ h) in
       let p = sees q.0 ErrorType q.2 in
       let e : variable_form places (var_over (option_and_then (place_of c.slots s) o)) ≡ Some ErrorType =
-              ap (λ z. variable_form places (var_over (option_and_then (place_of c.slots s) z))) q.1 ∙ place_form base c vs s sees q.0 ErrorType p in
+      ap (λ z. variable_form places (var_over (option_and_then (place_of c.slots s) z))) q.1 ∙ place_form base c vs s sees q.0 ErrorType p in
       none_is (wanted places false (thrown ns c.slots s at None o) ErrorType) (ap (λ z. lesser (unless (is_there z) UNKNOWN_NAME) (wants z ErrorType)) e)
 
   -- a callback

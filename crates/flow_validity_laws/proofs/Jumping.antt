@@ -64,7 +64,7 @@ module _ (base : Setting) (ns : Names) (c : ClassTree) (few_slots : length c.slo
   dead_live true x h a gs st outer n m z g one d e v size gsize =
       live_to base ns c few_slots few_locals h a gs st outer n (suc m + z) (m + suc z) g (g + groups_in x) (g + groups_in x) (joined h one d) (omega arith) refl
       (join c h h a gs st outer outer outer n m (suc m + z) g g (g + groups_in x) one d v (later_dead c h outer m (suc m + z) g (g + groups_in x) d (ap (λ k. suc m + k) size) (ap (λ k. g + k) gsize))
-          (λ en o is. o) (λ en o is. o))
+      (λ en o is. o) (λ en o is. o))
   dead_live false x h a gs st outer n m z g one d e v size gsize =
       live_to base ns c few_slots few_locals h a gs st outer n m (m + 0) g g (g + groups_in x) one (omega arith) (omega (arith, none_behind x e)) v
 
@@ -84,7 +84,7 @@ module _ (base : Setting) (ns : Names) (c : ClassTree) (few_slots : length c.slo
         tt,
       )) in
       dead_live (has_statement x) x w.hand a.hand gs p.stale near n.block n.block (blocks_in w.looped.tried x) n.group (ends w s true [] (ReturnLast (over c.slots s q))) d refl one
-          (lowered_more ns c.slots s w (begun n) x) (lowered_groups ns c.slots s w (begun n) x)
+      (lowered_more ns c.slots s w (begun n) x) (lowered_groups ns c.slots s w (begun n) x)
 
   -- the error that is thrown
   thrown_in : (rows : Rows base ns c few_slots few_locals agree) (vs : List Variable) (gs : List Slotted) (s : Scope) (m : ℕ) (p : Point) (o : Option (List ℕ)) (cu : Option Caught) (caught : Bool)
@@ -116,7 +116,7 @@ module _ (base : Setting) (ns : Names) (c : ClassTree) (few_slots : length c.slo
         tt,
       )) in
       dead_live (has_statement x) x w.hand a.hand gs p.stale near n.block n.block (blocks_in w.looped.tried x) n.group (ends w s true [] last) d refl one (lowered_more ns c.slots s w (begun n) x)
-          (lowered_groups ns c.slots s w (begun n) x)
+      (lowered_groups ns c.slots s w (begun n) x)
 
   -- a break or a continue
   exits_live : (b : Bool) (l : Bool) (rows : Rows base ns c few_slots few_locals agree) (vs : List Variable) (gs : List Slotted) (s : Scope) (w : Around) (n : Next) (p : Point) (a : Aims) (aim : Aim)
@@ -127,7 +127,7 @@ module _ (base : Setting) (ns : Names) (c : ClassTree) (few_slots : length c.slo
       live_to base ns c few_slots few_locals w.hand a.hand gs p.stale near n.block n.block (n.block + 0) n.group n.group n.group (exits false w s n last) (omega arith) refl
       (leaf base ns c few_slots few_locals w s gs p a near n.block n.group false (map DropInstr (left_lists w.looped.depth s)) last g.hand.from (λ z en o. absurd (false≢true z))
       (λ en o kc z cover guard. lists_kept c en w.hand a.hand kc (left_lists w.looped.depth s) last aim p at_once z refl (way en o) lies.below g.hand.below
-          (lists_from aim.from w.looped.depth s lies.from) (lists_from a.hand.from w.looped.depth s (g.looped e))
+      (lists_from aim.from w.looped.depth s lies.from) (lists_from a.hand.from w.looped.depth s (g.looped e))
       (covers_sub z gs aim.places p.stale lies.sub cover) (covers_sub z gs a.hand.places p.stale g.hand.sub cover) guard))
   exits_live true l rows vs gs s w n p a aim last near e g lies way =
       let nowhere = lies_nowhere gs (inner_locals w.looped.depth s) n.local in
@@ -167,9 +167,9 @@ module _ (base : Setting) (ns : Names) (c : ClassTree) (few_slots : length c.slo
       let d = lowered ns c.slots s w (begun j) x in
       let z = blocks_in t x in
       live_to base ns c few_slots few_locals w.hand a.hand gs p.stale near n.block (n.block + exit_blocks t + count_behind x z) (n.block + (exit_blocks t + count_behind x z)) n.group
-          (n.group + groups_in x) (n.group + groups_in x) (before_rest w.hand (exits t w s n last) x d) (omega arith) refl
+      (n.group + groups_in x) (n.group + groups_in x) (before_rest w.hand (exits t w s n last) x d) (omega arith) refl
       (dead_live (has_statement x) x w.hand a.hand gs p.stale near n.block (n.block + exit_blocks t) z n.group (exits t w s n last) d refl
-          (exits_live t l rows vs gs s w n p a aim last near refl g lies way)
+      (exits_live t l rows vs gs s w n p a aim last near refl g lies way)
       (lowered_more ns c.slots s w (begun j) x) (lowered_groups ns c.slots s w (begun j) x))
 
   pub break_lives : (at : Place) (x : Body) → Alives (BreakStmt at x)
@@ -221,7 +221,7 @@ module _ (base : Setting) (ns : Names) (c : ClassTree) (few_slots : length c.slo
         judged = neither_first (body_refusal e b) _ said.judged;
       })
       (ground_inner base ns c few_slots few_locals w (Scoped (GotoLast j.block)) s n.local n.local rows vs gs p p a st (omega arith) g.start g)
-          (thrown_marked base ns c few_slots few_locals agree rows gs s cu w.caught e.caught th) (fresh_left us ws fresh)
+      (thrown_marked base ns c few_slots few_locals agree rows gs s cu w.caught e.caught th) (fresh_left us ws fresh)
       (omega (arith, many, sum)) in
       let r2 = rest_lives base ns c few_slots few_locals agree x rest l t (rule_behind e b) rows vs gs s w n j p q a cu k1 k2 u
       (record {
@@ -235,10 +235,10 @@ module _ (base : Setting) (ns : Names) (c : ClassTree) (few_slots : length c.slo
       })
       g (omega arith) th (behind_once (length vs) p u) (waits_alone k b) (fresh_right us ws fresh) (omega (arith, many, sum)) in
       live_to base ns c few_slots few_locals w.hand a.hand gs p.stale (Owed l w a p (sequence u v)) n.block (suc j.block + blocks_in w.looped.tried x)
-          (n.block + (blocks_in w.looped.tried b + suc (blocks_in w.looped.tried x))) n.group (j.group + groups_in x)
+      (n.block + (blocks_in w.looped.tried b + suc (blocks_in w.looped.tried x))) n.group (j.group + groups_in x)
       (n.group + (groups_in b + groups_in x)) (joined w.hand c1 (lowered ns c.slots s w (begun j) x)) (omega arith) (omega arith)
       (join c w.hand w.hand a.hand gs p.stale (Owed l w a p (sequence u v)) (Owed l (scoped w j.block) (ended a gs st n.local) p r) (Owed l w a p (sequence u v)) n.block j.block
-          (suc j.block + blocks_in w.looped.tried x) n.group j.group (j.group + groups_in x) c1
+      (suc j.block + blocks_in w.looped.tried x) n.group j.group (j.group + groups_in x) c1
       (lowered ns c.slots s w (begun j) x) live r2.later
       (λ en o is. inner_owed en l w j.block n.local a gs p st r (λ h. is ∙ r2.entry_is h) (exits_here base ns c few_slots few_locals vs gs p r.ends g.line.size)
-          (sides_right c en l w a p (node at_once) r (sides_first c en l w a p u v o.1))) (λ en o is. o))
+      (sides_right c en l w a p (node at_once) r (sides_first c en l w a p u v o.1))) (λ en o is. o))

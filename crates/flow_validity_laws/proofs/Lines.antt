@@ -320,7 +320,7 @@ module _ (base : Setting) (c : ClassTree) where
             let us = expr_uses vs p a in
             let ws = expr_uses vs p b in
             in_both set (expr_places (over c.slots s a)) (expr_places (over c.slots s b)) (expr_in false a (no_first (fault n false a) (fault n false b) r) (fresh_left us ws h))
-                (expr_in false b (no_second (fault n false a) (fault n false b) r) (fresh_right us ws h))
+            (expr_in false b (no_second (fault n false a) (fault n false b) r) (fresh_right us ws h))
         expr_in whole (ParenExpr e) f h = expr_in false e f h
 
         pub exprs_in : (k : ℕ) (needs : List Need) (es : ExprTrees) → faults (over_names base c rows) k needs es ≡ None → AllFresh (exprs_uses vs p es)

@@ -147,12 +147,12 @@ module _ (base : Setting) (c : ClassTree) where
           let args = all_same 0 (needs_of (called_on t m.name)) es (no_first l k r) in
           let call = calls_on_same t es m.name (no_second l k r) in
           let rest = no_lesser (faults over_class 0 (needs_of (called_on t m.name)) (over_all c.slots s es)) (calls_on t (over_all c.slots s es) (called_on t m.name) (placed over_class false)) args
-                  call in
+          call in
           record {
             by_form = ap (λ o. gives_of (called_on o m.name)) i.by_form;
             sound = no_lesser (fault over_class false (over c.slots s e)) _ i.sound
                 (subst (λ o. lesser (faults over_class 0 (needs_of (called_on o m.name)) (over_all c.slots s es)) (calls_on o (over_all c.slots s es) (called_on o m.name) (placed over_class false))
-                    ≡ None) (sym i.by_form) rest);
+                ≡ None) (sym i.by_form) rest);
           }
       same whole (NotExpr e) h =
           let f = wants (form (over_names vs) e) BoolType in
@@ -235,7 +235,7 @@ module _ (base : Setting) (c : ClassTree) where
     abbrev judged : Setting → List Ident → List ℕ → Option TypeTree → ExprTrees → Option ℕ
     judged st zs m t es =
         lesser (lesser (unless (is_there t) UNKNOWN_NAME) (path_fault st t zs))
-            (lesser (faults st 0 (needs_of (called_on (path_form st t zs) m)) es) (calls es (called_on (path_form st t zs) m) (said st)))
+        (lesser (faults st 0 (needs_of (called_on (path_form st t zs) m)) es) (calls es (called_on (path_form st t zs) m) (said st)))
 
     rest_same : (m : List ℕ) (es : ExprTrees) (t : Option TypeTree) → lesser (faults (over_names vs) 0 (needs_of (called_on t m)) es) (calls es (called_on t m) (said (over_names vs))) ≡ None
         → lesser (faults over_class 0 (needs_of (called_on t m)) (over_all c.slots s es)) (calls (over_all c.slots s es) (called_on t m) (said over_class)) ≡ None
@@ -243,7 +243,7 @@ module _ (base : Setting) (c : ClassTree) where
         let l = faults (over_names vs) 0 (needs_of (called_on t m)) es in
         let q = calls es (called_on t m) (said (over_names vs)) in
         no_lesser (faults over_class 0 (needs_of (called_on t m)) (over_all c.slots s es)) _ (all_same 0 (needs_of (called_on t m)) es (no_first l q k))
-            (calls_same es (called_on t m) (said (over_names vs)) (said over_class) (said_same vs) (no_second l q k))
+        (calls_same es (called_on t m) (said (over_names vs)) (said over_class) (said_same vs) (no_second l q k))
 
     judged_same : (zs : List Ident) (m : List ℕ) (es : ExprTrees) (t : Option TypeTree) → judged (over_names vs) zs m t es ≡ None → judged over_class zs m t (over_all c.slots s es) ≡ None
     judged_same zs m es t k =
@@ -252,7 +252,7 @@ module _ (base : Setting) (c : ClassTree) where
         let r = lesser (faults (over_names vs) 0 (needs_of (called_on u m)) es) (calls es (called_on u m) (said (over_names vs))) in
         no_lesser (lesser (unless (is_there t) UNKNOWN_NAME) (path_fault over_class t zs)) _ (ap (λ q. lesser (unless (is_there t) UNKNOWN_NAME) q) (path_fault_same vs zs t) ∙ no_first l r k)
         (ap (λ q. lesser (faults over_class 0 (needs_of (called_on q m)) (over_all c.slots s es)) (calls (over_all c.slots s es) (called_on q m) (said over_class))) (path_form_same vs zs t)
-            ∙ rest_same m es u (no_second l r k))
+        ∙ rest_same m es u (no_second l r k))
 
     by_base : (zs : List Ident) (y : Ident) (m : List ℕ) (es : ExprTrees) (o : Option ℕ) → named constant_names y.name ≡ o
         → judged (over_names vs) zs m (variable_form (over_names vs) y.name) es ≡ None
@@ -262,7 +262,7 @@ module _ (base : Setting) (c : ClassTree) where
         let k = subst (λ q. judged (over_names vs) zs m (variable_as (over_names vs) y.name q) es ≡ None) e h in
         let known = unless (is_there (named vs y.name)) UNKNOWN_NAME in
         let f = there (named vs y.name) (holds (is_there (named vs y.name)) UNKNOWN_NAME
-                (no_first known (path_fault (over_names vs) (named vs y.name) zs) (no_first (lesser known (path_fault (over_names vs) (named vs y.name) zs)) _ k))) in
+        (no_first known (path_fault (over_names vs) (named vs y.name) zs) (no_first (lesser known (path_fault (over_names vs) (named vs y.name) zs)) _ k))) in
         subst (λ q. judged over_class zs m q (over_all c.slots s es) ≡ None) (sym (place_form y.name f.value (sees y.name f.value f.is) ∙ sym f.is)) (judged_same zs m es (named vs y.name) k)
 
     pub call_same : (xs : List Ident) (es : ExprTrees) → call_fault (over_names vs) xs es ≡ None → call_fault over_class (act_over c.slots s xs) (over_all c.slots s es) ≡ None
@@ -272,7 +272,7 @@ module _ (base : Setting) (c : ClassTree) where
         let l = faults (over_names vs) 0 (needs_of o) es in
         let k = calls es o (said (over_names vs)) in
         no_lesser (faults over_class 0 (needs_of o) (over_all c.slots s es)) _ (all_same 0 (needs_of o) es (no_first l k h))
-            (calls_same es o (said (over_names vs)) (said over_class) (said_same vs) (no_second l k h))
+        (calls_same es o (said (over_names vs)) (said over_class) (said_same vs) (no_second l k h))
     call_same (x ∷ (y ∷ ys)) es h = by_base (ends_of y ys).0 x (ends_of y ys).1.name es (named constant_names x.name) refl h
 
     -- a statement call is on a variable in force
@@ -286,7 +286,7 @@ module _ (base : Setting) (c : ClassTree) where
             let k = subst (λ q. judged (over_names vs) (ends_of y ys).0 (ends_of y ys).1.name (variable_as (over_names vs) x.name q) es ≡ None) e h in
             let known = unless (is_there (named vs x.name)) UNKNOWN_NAME in
             holds (is_there (named vs x.name)) UNKNOWN_NAME (no_first known (path_fault (over_names vs) (named vs x.name) (ends_of y ys).0)
-                (no_first (lesser known (path_fault (over_names vs) (named vs x.name) (ends_of y ys).0)) _ k))
+            (no_first (lesser known (path_fault (over_names vs) (named vs x.name) (ends_of y ys).0)) _ k))
 
     -- what is no effect may stand where none may
     quiet_kind : (k : Kind) → is_effect_kind k ≡ false → placed (over_names vs) true k ≡ None → placed (over_names vs) false k ≡ None
@@ -307,7 +307,7 @@ module _ (base : Setting) (c : ClassTree) where
         let o = called (over_names vs) f.name in
         let l = faults (over_names vs) 0 (needs_of o) es in
         no_lesser l (calls es o (placed (over_names vs) false)) (no_first l (calls es o (placed (over_names vs) true)) h)
-            (quiet_calls es o q (no_second l (calls es o (placed (over_names vs) true)) h))
+        (quiet_calls es o q (no_second l (calls es o (placed (over_names vs) true)) h))
     quiet (IntExpr n) q h = h
     quiet (TextExpr t) q h = h
     quiet (BoolExpr b) q h = h

@@ -133,7 +133,7 @@ module _ (base : Setting) (ns : Names) (c : ClassTree) (few_slots : length c.slo
   part_acts gs hs s s2 w m p a u n g y st last i near lies once reads grows e jump meets =
       let into = Into w.hand a.hand p hs y st u in
       acting_live base ns c few_slots few_locals w.hand a.hand gs hs p.stale into into n n g g i (finished w s2 w.exit) (part_leaf hs s2 w m p a u n g y st last lies e jump meets)
-          (λ en o. o) reads grows near.sub near.below
+      (λ en o. o) reads grows near.sub near.below
       (λ en o. hand_fact c en w.hand a.hand p u.throws (ap is_reached once) o.1)
 
   pub opens : (i : Body) (l t : Bool) (e : Env) (rows : RowsHere) (vs : List Variable) (gs : List Slotted) (s : Scope) (w : Around) (n : Next) (p : Point) (a : Aims) (cu : Option Caught) (k : ℕ)
@@ -240,7 +240,7 @@ module _ (base : Setting) (ns : Names) (c : ClassTree) (few_slots : length c.slo
       at_once_meets hp.stale (length gs) (behind (length vs) hp (round r)).stale
       (exits_onward hp.stale (length gs) (length vs) hp (round r) at_once reach
       (subst (Exits hp.stale (length gs) hp.stale) (sym (onward_once (round r)))
-          (round_exits base ns c few_slots few_locals agree vs gs p big (round r) size (λ z. waited_on (round r) step.ends once z))))
+      (round_exits base ns c few_slots few_locals agree vs gs p big (round r) size (λ z. waited_on (round r) step.ends once z))))
 
   -- the drop of the variable of a `for`
   pub dropping_live : (h : Option Hand) (a : Aim) (gs : List Slotted) (st low : ℕ) (outer : Entries c → Type 0) (n m g j : ℕ) (ds : List ℕ) (ch : Chunk) → Sub a.places gs → IsBelow a
@@ -258,8 +258,12 @@ module _ (base : Setting) (ns : Names) (c : ClassTree) (few_slots : length c.slo
         kept = λ e at o gr.
             let k = v.kept e at o gr in
             record {
-              first = λ kc z cover guard. (in_none z, catches c e h a kc st z below guard (covers_sub z gs a.places st sub cover), k.first kc (after (DropInstr (d ∷ ds)) z)
-                  (covers_dropped own (d ∷ ds) st z small from cover) guard);
+              first = λ kc z cover guard. (
+                in_none z,
+                catches c e h a kc st z below guard (covers_sub z gs a.places st sub cover),
+                k.first kc (after (DropInstr (d ∷ ds)) z)
+                    (covers_dropped own (d ∷ ds) st z small from cover) guard,
+              );
               more = k.more;
             };
       }
@@ -279,7 +283,7 @@ module _ (base : Setting) (ns : Names) (c : ClassTree) (few_slots : length c.slo
       let y = later_live c w.hand a hs sh near2 hd.block m hd.group j c2 three in
       let i = later_entry c w.hand a hs sh near2 hd.block m hd.group j c2 three in
       join_two c w.hand w.hand w.hand a gs st outer near0 near2 near3 n hd.block m o g hd.group j r c0 c2 c3 one y z (λ e q i1 i2. f0 e q (i1 ∙ i) (i1 ∙ i) i2)
-          (λ e q i1 i2. f2 e q (i1 ∙ i) (i1 ∙ i) i2) (λ e q i1 i2. f3 e q (i1 ∙ i) (i1 ∙ i) i2)
+      (λ e q i1 i2. f2 e q (i1 ∙ i) (i1 ∙ i) i2) (λ e q i1 i2. f3 e q (i1 ∙ i) (i1 ∙ i) i2)
   ring (Some t) w sc a gs hs st sh outer near0 near1 near2 near3 hd n m o g j r out c0 c2 c3 one two three z f0 f1 f2 f3 =
       let c1 = ends w sc true [] (TestLast (over c.slots sc t) (suc hd.block) out) in
       let l1 = two t refl in
@@ -288,5 +292,5 @@ module _ (base : Setting) (ns : Names) (c : ClassTree) (few_slots : length c.slo
       let y2 = later_live c w.hand a hs sh near2 (suc hd.block) m hd.group j c2 three in
       let e2 = later_entry c w.hand a hs sh near2 (suc hd.block) m hd.group j c2 three in
       join_three c w.hand w.hand w.hand w.hand a gs st outer near0 near1 near2 near3 n hd.block (suc hd.block) m o g hd.group hd.group j r c0 c1 c2 c3 one y1 y2 z
-          (λ e q i1 i2 i3. f0 e q (i1 ∙ e1) (i2 ∙ e2) i3) (λ e q i1 i2 i3. f1 e q (i1 ∙ e1) (i2 ∙ e2) i3)
+      (λ e q i1 i2 i3. f0 e q (i1 ∙ e1) (i2 ∙ e2) i3) (λ e q i1 i2 i3. f1 e q (i1 ∙ e1) (i2 ∙ e2) i3)
       (λ e q i1 i2 i3. f2 e q (i1 ∙ e1) (i2 ∙ e2) i3) (λ e q i1 i2 i3. f3 e q (i1 ∙ e1) (i2 ∙ e2) i3)

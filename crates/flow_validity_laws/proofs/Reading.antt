@@ -95,7 +95,7 @@ module _ (base : Setting) (ns : Names) (c : ClassTree) where
         let r = no_first (lesser t (fault names true e)) (fits_target (form names e) (target_form names xs)) f in
         let us = target_uses vs p xs in
         reads_assigned s (path_over c.slots s xs) e z (target_in xs (no_first t (fault names true e) r) (fresh_left us (expr_uses vs p e) h))
-            (whole_in true e (no_second t (fault names true e) r) (fresh_right us (expr_uses vs p e) h))
+        (whole_in true e (no_second t (fault names true e) r) (fresh_right us (expr_uses vs p e) h))
 
     from_path : (xs : List Ident) (e : ExprTree) → AllIn (expr_places (over c.slots s e)) z → AllIn (expr_places (over c.slots s (path_from e xs))) z
     from_path [] e h = h
@@ -143,7 +143,7 @@ module _ (base : Setting) (ns : Names) (c : ClassTree) where
         let r = calls es o (said names) in
         let us = named_use vs p x in
         in_both z (listed (place_named (var_over (place_of c.slots s x.name)))) (exprs_places (over_all c.slots s es))
-            (root_in x (base_known base c rows s sees x y ys es f) (fresh_left us (exprs_uses vs p es) h))
+        (root_in x (base_known base c rows s sees x y ys es f) (fresh_left us (exprs_uses vs p es) h))
         (args_in 0 (needs_of o) es (no_first a r (no_second (base_fault names b) (lesser a r) f)) (fresh_right us (exprs_uses vs p es) h))
 
   -- a declared variable is filled

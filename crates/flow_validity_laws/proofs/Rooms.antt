@@ -117,8 +117,13 @@ module _ (ns : Names) (c : ClassTree) (few_slots : length c.slots < 2 ^ 64) (few
       let enough : has_statement k ≡ true → j.block + suc x ≤ e = λ h. subst (λ z. j.block + z ≤ e) (behind_if (has_statement k) x h) blocks in
       dead_if (has_statement k) e m n.block j.block x w.hand a (lowered ns c.slots s w (begun j) k) fits.hand g (λ h. omega (arith, enough h))
       (λ h. kept l t xs s w (begun j) j.block e fits
-      (record { blocks = omega (arith, enough h); locals = omega (arith, locals, el); groups = omega (arith, groups, eg); first = omega (arith, first, eg);
-          types = subst (λ z. LocalsAt ns c z (body_locals k)) (sym el) types })
+      (record {
+        blocks = omega (arith, enough h);
+        locals = omega (arith, locals, el);
+        groups = omega (arith, groups, eg);
+        first = omega (arith, first, eg);
+        types = subst (λ z. LocalsAt ns c z (body_locals k)) (sym el) types;
+      })
       (subst (λ z. Falling z s) (sym el) fall) (omega arith) parts ok)
 
   -- with a declared variable

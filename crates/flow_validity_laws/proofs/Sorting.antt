@@ -109,7 +109,7 @@ sorted_same (ActorDecl f ∷ ds) x d =
     let g = rows (functions ds) in
     let r = row_of (ActorDecl f) in
     ap (λ l. named l x) (sym (append_assoc s g (r ∷ rows (actors ds))))
-        ∙ moved_front (s ++ g) (rows (actors ds)) r x (apart_both f.name.name s g (structs_apart f.name.name ds d.0) (functions_apart f.name.name ds d.0))
+    ∙ moved_front (s ++ g) (rows (actors ds)) r x (apart_both f.name.name s g (structs_apart f.name.name ds d.0) (functions_apart f.name.name ds d.0))
     ∙ ap (λ l. if bytes_eq x f.name.name then Some r.1 else named l x) (append_assoc s g (rows (actors ds))) ∙ ap (λ o. if bytes_eq x f.name.name then Some r.1 else o) (sorted_same ds x d.1)
 
 -- the heads of the classes are those of the actors

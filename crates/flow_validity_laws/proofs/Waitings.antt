@@ -228,9 +228,9 @@ module _ (base : Setting) (ns : Names) (c : ClassTree) (few_slots : length c.slo
         judged = neither_second f _ said.judged;
       })
       (ground_taken u.into e w s n.local rows vs gs q a said.stands.setting into said.above mine said.placed.0
-          (ground_past base ns c few_slots few_locals w s n.local n.local rows vs gs p q a (omega arith) (is_behind.from ∙ g.start) g))
+      (ground_past base ns c few_slots few_locals w s n.local n.local rows vs gs p q a (omega arith) (is_behind.from ∙ g.start) g))
       (subst (λ y. Thrown base ns c few_slots few_locals agree (after_wait rows u.into) gs2 s2 cu w.caught y) (sym (waited_caught e u.into))
-          (thrown_taken u.into e s n.local rows gs cu w.caught e.caught said.stands.setting into said.above mine said.placed.0 th))
+      (thrown_taken u.into e s n.local rows gs cu w.caught e.caught said.stands.setting into said.above mine said.placed.0 th))
       (subst (λ y. AllFresh (uses (k - 1) (with_variable vs u.into) y cu x)) (behind_once (length vs) p way) (fresh_right es ws fresh)) (omega (arith, many)) in
       let owed = Owed l w a q v in
       let later = later_live c w.hand a.hand gs2 q.stale owed n.block (suc n.block + blocks_in w.looped.tried x) z.group (z.group + groups_in x) c1 live in
@@ -238,12 +238,12 @@ module _ (base : Setting) (ns : Names) (c : ClassTree) (few_slots : length c.slo
       let near0 : Entries c → Type 0 = λ en. outer en × (en n.block ≡ Some (filled gs2 q.stale)) in
       let one = choose_leaf rows vs gs s w n.local p a near0 n.block n.group (cb ∷ []) r wt g.hand
       (λ y cover. in_both y (expr_places (over c.slots s u.operand)) []
-          (whole_in base ns c rows s said.stands.sees vs gs n.local g.line p g.start y cover true u.operand (no_first (fault names' true u.operand) _ operand) (fresh_left es ws fresh)) (in_none y))
+      (whole_in base ns c rows s said.stands.sees vs gs n.local g.line p g.start y cover true u.operand (no_first (fault names' true u.operand) _ operand) (fresh_left es ws fresh)) (in_none y))
       (λ en o. (sides_first c en l w a p way v o.0.1).hand) (λ en o y cover i b is. one_edge en y gs cb p.stale q.stale i b cover (omega (arith, lost, g.line.size)) o.1 is) in
       live_to base ns c few_slots few_locals w.hand a.hand gs p.stale outer n.block (suc n.block + blocks_in w.looped.tried x) (n.block + suc (blocks_in w.looped.tried x)) n.group
-          (z.group + groups_in x) (n.group + suc (groups_in x)) (joined w.hand c0 c1) (omega arith) (omega arith)
+      (z.group + groups_in x) (n.group + suc (groups_in x)) (joined w.hand c0 c1) (omega arith) (omega arith)
       (join c w.hand w.hand a.hand gs p.stale outer near0 owed n.block n.block (suc n.block + blocks_in w.looped.tried x) n.group z.group (z.group + groups_in x) c0 c1 one later
-          (λ en o is. (o, is ∙ entry))
+      (λ en o is. (o, is ∙ entry))
       (λ en o is. (end_onward c en w.exit a.end (length vs) p r v.ends (or_second r.fresh r.waited wt) o.0, sides_second c en l w a (length vs) p way v (or_second r.fresh r.waited wt) o.1)))
     where
       one_edge : (en : Entries c) (y : Places) (gs : List Slotted) (cb : CallbackTree) (st lost i : ℕ) (b : CallbackTree) → Covers y gs st → length gs ≤ lost
@@ -273,7 +273,7 @@ module _ (base : Setting) (ns : Names) (c : ClassTree) (few_slots : length c.slo
       in_both z (expr_places (over c.slots s w.operand)) (operand_places (callbacks ns c.slots s tr j bs))
       (whole_in base ns c rows s sees vs gs m line p start z cover true w.operand (no_first (fault names' true w.operand) _ operand) (fresh_left es us (fresh_left (es ++ us) ws fresh)))
       (operands_in bs (with_states e (slot_names (waited_slots w ++ body_slots b))) rows vs gs s m p q cu (left k b) tr j st sees line start
-          (neither_second (body_refusal (waited e w.into) b) _ (neither_second f _ h)) (fresh_right (es ++ us) ws fresh) z cover)
+      (neither_second (body_refusal (waited e w.into) b) _ (neither_second f _ h)) (fresh_right (es ++ us) ws fresh) z cover)
 
   edges_in : (bs : Branches) (en : Entries c) (s : Scope) (gs : List Slotted) (st lost : ℕ) (tr : Bool) (n : Next) (z : Places) (i : ℕ) (b : CallbackTree) → Covers z gs st → length gs ≤ lost
       → BranchEntries en s gs lost tr n bs → slice_get (callbacks ns c.slots s tr n bs) i ≡ Some b
@@ -306,7 +306,7 @@ module _ (base : Setting) (ns : Names) (c : ClassTree) (few_slots : length c.slo
   abbrev pub BranchesLive : Branches → Type 1
   BranchesLive bs =
       (l t : Bool) (e : Env) (rows : RowsHere) (vs : List Variable) (gs : List Slotted) (s : Scope) (w : Around) (n : Next) (p q : Point) (a : Aims) (cu : Option Caught) (k first g0 : ℕ) (ch : Chunk)
-          (outer : Entries c → Type 0) → Stands base ns c few_slots few_locals agree e rows s w.caught → Above n.local s
+      (outer : Entries c → Type 0) → Stands base ns c few_slots few_locals agree e rows s w.caught → Above n.local s
       → LocalsAt ns c n.local (branch_locals bs) → HaveParts bs → HavePaths bs → AllInPlace c.slots l t (names s) bs → branch_refusal e bs ≡ None
       → Ground base ns c few_slots few_locals w (Mark ∷ s) n.local rows vs gs q a → Thrown base ns c few_slots few_locals agree rows gs s cu w.caught e.caught
       → AllFresh (branch_uses k vs p q cu bs) → length (branch_groups bs) ≤ k → ((en : Entries c) → outer en → Owed l w a q (branch_ways k bs) en)
@@ -364,15 +364,15 @@ module _ (base : Setting) (ns : Names) (c : ClassTree) (few_slots : length c.slo
       let next : Entries c → Type 0 = λ en. outer en × BranchEntries en s gs q.stale tr j bs in
       let both_way = λ (en : Entries c) (o : outer en). owed en o in
       let acc = join c w.hand w.hand a.hand gs p.stale next near owed1 first n.block j.block g0 n.group j.group ch d live later
-              (λ en o is. (o.0, (is ∙ entry ∙ ap (λ y. Some (filled (with_place y gs) q.stale)) (marked_place u.into n.local s), o.1)))
+      (λ en o is. (o.0, (is ∙ entry ∙ ap (λ y. Some (filled (with_place y gs) q.stale)) (marked_place u.into n.local s), o.1)))
       (λ en o is. (end_left en w.exit a.end q rb.ends rbs.ends (owed en o.0).0, sides_left c en l w a q rb rbs (owed en o.0).1)) in
       live_to base ns c few_slots few_locals w.hand a.hand gs p.stale outer first (j.block + branch_blocks tr bs) (n.block + (suc (blocks_in tr b) + branch_blocks tr bs)) g0
-          (j.group + branch_group_count bs) (n.group + (groups_in b + branch_group_count bs))
+      (j.group + branch_group_count bs) (n.group + (groups_in b + branch_group_count bs))
       (branches ns c.slots (joined w.hand ch d) s w j bs) (omega arith) (omega arith)
       (others l t (with_states e xs) rows vs gs s w j p q a cu (k - length (body_groups b)) first g0 (joined w.hand ch d) outer
-          (stands_states base ns c few_slots few_locals agree e xs rows s w.caught st) (above_more ns c n.local j.local s (omega arith) above)
+      (stands_states base ns c few_slots few_locals agree e xs rows s w.caught st) (above_more ns c n.local j.local s (omega arith) above)
       (locals_back ns c n.local j.local (into_locals u.into ++ body_locals b) (branch_locals bs) (omega (arith, n1, n12, locals_count b)) room) parts.1 paths.1 placed.2
-          (neither_second (body_refusal (waited e u.into) b) _ h2)
+      (neither_second (body_refusal (waited e u.into) b) _ h2)
       (ground_past base ns c few_slots few_locals w s1 n.local j.local rows vs gs q q a (omega arith) g.start g) th (fresh_right (es ++ us) ws fresh) (omega (arith, many, sum))
       (λ en o. (end_right en w.exit a.end q rb.ends rbs.ends (owed en o).0, sides_right c en l w a q rb rbs (owed en o).1)) acc)
     where
@@ -433,29 +433,31 @@ module _ (base : Setting) (ns : Names) (c : ClassTree) (few_slots : length c.slo
         judged = neither_second (branch_refusal e bs) _ h2;
       })
       g (omega arith) th (behind_once (length vs) p way) (ap (λ y. k - suc (length y)) (append-nil (branch_groups bs))
-          ∙ monus_twice k 1 (length (branch_groups bs)) (suc (length (branch_groups bs))) (omega arith)) (fresh_right us ws fresh) (omega (arith, many, sum)) in
+      ∙ monus_twice k 1 (length (branch_groups bs)) (suc (length (branch_groups bs))) (omega arith)) (fresh_right us ws fresh) (omega (arith, many, sum)) in
       let near1 : Entries c → Type 0 = λ en. outer en × (en j.block ≡ r2.later.entry) in
       let near0 : Entries c → Type 0 = λ en. near1 en × BranchEntries en s gs q.stale tr g' bs in
       let one = choose_leaf rows vs gs s w n.local p a near0 n.block n.group ks r wt g.hand
-              (operands_in bs e rows vs gs s n.local p q cu (k - 1) tr g' said.stands.setting said.stands.sees g.line g.start hb (fresh_left us ws fresh))
+      (operands_in bs e rows vs gs s n.local p q cu (k - 1) tr g' said.stands.setting said.stands.sees g.line g.start hb (fresh_left us ws fresh))
       (λ en o. hand_waited en w.hand a.hand p r bw.throws (sides_first c en l w a p way v o.0.0.1).hand)
-          (λ en o y cover i b is. edges_in bs en s gs p.stale q.stale tr g' y i b cover (omega (arith, lost, g.line.size)) o.1 is) in
+      (λ en o y cover i b is. edges_in bs en s gs p.stale q.stale tr g' y i b cover (omega (arith, lost, g.line.size)) o.1 is) in
       let two = each l t e rows vs gs s w1 g' p q a1 cu (k - 1) n.block n.group c0 near1 said.stands said.above room_bs said.parts.0 said.paths.0 said.placed.0 hb
       (ground_inner base ns c few_slots few_locals w (Scoped (GotoLast j.block)) s n.local n.local rows vs gs p q a st (omega arith) start g) th (fresh_left us ws fresh) (omega (arith, many, sum))
       (λ en o. inner_owed base ns c few_slots few_locals agree en l w j.block n.local a gs q st bw (λ h. o.1 ∙ r2.entry_is (reached_onward r bw.ends reached h))
-          (exits_onward st (length gs) (length vs) p r bw.ends reached ex)
+      (exits_onward st (length gs) (length vs) p r bw.ends reached ex)
       (sides_right c en l w a q (node at_once) bw (sides_onward c en l w a (length vs) p r (both (node at_once) bw) reached (sides_first c en l w a p way v o.0.1)))) one in
       live_to base ns c few_slots few_locals w.hand a.hand gs p.stale outer n.block (suc j.block + blocks_in tr x) (n.block + (branch_blocks tr bs + suc (blocks_in tr x))) n.group
-          (j.group + groups_in x) (n.group + (suc (branch_group_count bs) + groups_in x)) (joined w.hand c1 c3) (omega arith) (omega arith)
+      (j.group + groups_in x) (n.group + (suc (branch_group_count bs) + groups_in x)) (joined w.hand c1 c3) (omega arith) (omega arith)
       (join c w.hand w.hand a.hand gs p.stale outer near1 outer n.block j.block (suc j.block + blocks_in tr x) n.group j.group (j.group + groups_in x) c1 c3 two r2.later (λ en o is. (o, is))
-          (λ en o is. o))
+      (λ en o is. o))
     where
       hand_waited : (en : Entries c) (h : Option Hand) (m : Aim) (p : Point) (r y : Reached) → HandWay c en h m p (onward r (either at_once y)) → HandWay c en h m p r
       hand_waited en None m p r y w = tt
       hand_waited en (Some k) m p r y w = record {
         reached = λ z. w.reached (reached_onward r (either at_once y) z refl);
-        exits = record { waited = λ z. w.exits.waited (or_first (r.waited && is_reached (either at_once y)) (r.fresh && (either at_once y).waited) (and_true r.waited z));
-            fresh = λ z. w.exits.fresh (and_true r.fresh z) };
+        exits = record {
+          waited = λ z. w.exits.waited (or_first (r.waited && is_reached (either at_once y)) (r.fresh && (either at_once y).waited) (and_true r.waited z));
+          fresh = λ z. w.exits.fresh (and_true r.fresh z);
+        };
       }
         where
           and_true : (x : Bool) → x ≡ true → x && true ≡ true

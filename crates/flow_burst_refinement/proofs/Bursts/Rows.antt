@@ -218,13 +218,13 @@ module _ {A W : Type 0} (serves : Host W) (shown_by : A → Numbered ℕ → W �
           let x = line_written serves shown_by wrote r nothing_in_hand ls n j a b q w processes l s is (subst (λ ps. shown_by a ps w) (sym (ports s.unspent)) now.world) served in
           lives_on (l ∷ []) q w reach (serving.told x.0)
           (told_in (ls ++ l ∷ []) x.1 (served_serves serves shown_by wrote (unasked n) j a b (free s) processes (call.Line l) served)
-              (served_poised serves shown_by wrote (unasked n) j a b processes (call.Line l) served poised))
+          (served_poised serves shown_by wrote (unasked n) j a b processes (call.Line l) served poised))
       told_then some (Some (call.Unlisten k)) is fits ports (shows s) served =
           let x = port_unheard serves shown_by wrote r nothing_in_hand ls n j a b q w processes k o.core.ports s is now.world (sym (ports s.unspent)) served in
           lives_on [] q w reach (serving.told x.0)
           (subst (λ ks. In ks j b q w) (sym (no_more ls))
           (told_in ls x.1 (served_serves serves shown_by wrote (unasked n) j a b (free s) processes (call.Unlisten k) served)
-              (served_poised serves shown_by wrote (unasked n) j a b processes (call.Unlisten k) served poised)))
+          (served_poised serves shown_by wrote (unasked n) j a b processes (call.Unlisten k) served poised)))
       told_then some (Some (call.Line l)) is fits ports (ends s) served =
           is_spent (l ∷ []) q reach (serving.told served.1.0) (ap (λ (z : Process). z.spent) served.0 ∙ s.spent) s.halted (s.lines ∙ ap (λ z. ls ++ told z) is)
       told_then some (Some (call.Unlisten k)) is fits ports (ends s) served =
@@ -280,7 +280,7 @@ module _ {A W : Type 0} (serves : Host W) (shown_by : A → Numbered ℕ → W �
             reached_then ls j a b p o w reach (told_then ls z k j a b o q w last stays poised step some k.asked refl is ports f served)
         by_end (asked_last _ z o q reach last stays poised step world) =
             reached_then ls j a b p o w reach (asked_then ls z k j a b o q w last stays poised step world
-                (subst (λ x. ServedIf serves shown_by wrote processes x (unasked k) a j b) world.asked served))
+            (subst (λ x. ServedIf serves shown_by wrote processes x (unasked k) a j b) world.asked served))
 
     -- a burst after that
     goes_after : (ls : List Line) (j n : Process) (a b d : A) (p : Proc Frame) (w : W) (e : Burst) → ServedThen ls a p w j d → Bursts serves shown_by wrote code processes j d e n b

@@ -161,10 +161,10 @@ module _ (r : RawTree) (w : Supply) (p : Proc Frame) (i : ℕ) (e : Entry) (f : 
   can_assign path t at v left is none =
       let fit = asks_fit (Body (SetInstr path t)) at in
       let one = subst (λ z. AsksFit r (class_vars f.code) (typed_by k.types) f.code (kept_by (thing p.core.entries i))
-              (evaluated f z (λ u left. Rattle.flow_meaning.specs.Evaluating.given f (assign r.records f.mem path u)
-              (Rattle.flow_meaning.specs.Class.placed (class_names r) (view w i p.core) f left)))) is fit in
+      (evaluated f z (λ u left. Rattle.flow_meaning.specs.Evaluating.given f (assign r.records f.mem path u)
+      (Rattle.flow_meaning.specs.Class.placed (class_names r) (view w i p.core) f left)))) is fit in
       let two = subst (λ z. AsksFit r (class_vars f.code) (typed_by k.types) f.code (kept_by (thing p.core.entries i))
-              (Rattle.flow_meaning.specs.Evaluating.given f z (Rattle.flow_meaning.specs.Class.placed (class_names r) (view w i p.core) f left))) none one in two.0
+      (Rattle.flow_meaning.specs.Evaluating.given f z (Rattle.flow_meaning.specs.Class.placed (class_names r) (view w i p.core) f left))) none one in two.0
 
   rooted : (path : List Ident) (t : ExprTree) → fetch f.code f.block f.instr ≡ Body (SetInstr path t) → Rooted f path
   rooted path t at q root =
@@ -179,18 +179,18 @@ module _ (r : RawTree) (w : Supply) (p : Proc Frame) (i : ℕ) (e : Entry) (f : 
       let kept = kept_by (thing p.core.entries i) in
       let fit = asks_fit (Last (ChooseLast g)) at in
       let one = subst (λ z. AsksFit r (class_vars f.code) (typed_by k.types) f.code kept (choose (class_names r) (view w i p.core) f spot z))
-              (ap (λ o. callback_at f.code g (kept_by o)) run.entered ∙ next) fit in
+      (ap (λ o. callback_at f.code g (kept_by o)) run.entered ∙ next) fit in
       let two = subst (λ z. AsksFit r (class_vars f.code) (typed_by k.types) f.code kept (operand_by (class_names r) (view w i p.core) f spot b.operand z)) none one in
       let three = subst (λ z. AsksFit r (class_vars f.code) (typed_by k.types) f.code kept
-              (evaluated f z (λ u left. Rattle.flow_meaning.specs.Class.operand_ref (class_names r) (view w i p.core) f left spot u))) is two in
+      (evaluated f z (λ u left. Rattle.flow_meaning.specs.Class.operand_ref (class_names r) (view w i p.core) f left spot u))) is two in
       let c = there.operand_cell r k.types p k.fits.cells kd n three.0.1.1.callback.next three.0.1.1.takes
-              (subst (Rattle.flow_progress.specs.Fitting.Fits r k.types (RefValue kd n)) three.0.1.1.type three.0.1.2) in
+      (subst (Rattle.flow_progress.specs.Fitting.Fits r k.types (RefValue kd n)) three.0.1.1.type three.0.1.2) in
       record { cell = c.cell; takeable = record { at = c.at; there = there.content_there r k.types p k.fits.cells c.cell c.type c.fits }; kind = c.kind; there = c.there }
 
   contents : (n : ℕ) (c : Cell) (o : OutcomeTree) → thing p.core.cells n ≡ Some c → taken c ≡ Some o → AllThere p (refs_in (value_in o))
   contents n c o at is =
       let t = type_there r k.types n c (k.types n) (subst (Rattle.flow_progress.specs.Fitting.CellAt r k.types (k.types n)) at (k.fits.cells n)) in there.content_there r k.types p k.fits.cells c t.0
-              t.2 o is
+      t.2 o is
 
   all_waitable : (n : ℕ) (qs : List Ref) → OperandsFit r k.types f n qs → Waitable p.core.cells qs
   all_waitable n [] h = tt
@@ -204,7 +204,7 @@ module _ (r : RawTree) (w : Supply) (p : Proc Frame) (i : ℕ) (e : Entry) (f : 
       by_operands : (qs : List Ref) → e.operands ≡ qs → AllKept r w p i e f
       by_operands [] is =
           absurd (group_begins r run.whole.valid.valid e.class f.code class_is (run.whole.groups e.class f.code class_is) f.block f.instr g at
-              (ap (λ qs. callback_at f.code g (length qs)) (sym is) ∙ none))
+          (ap (λ qs. callback_at f.code g (length qs)) (sym is) ∙ none))
       by_operands (q ∷ qs) is = record { first = q; others = qs; operands = is; waitable = all_waitable 0 e.operands operands; contents = contents }
 
   by_fetched : (o : Fetched) → fetch f.code f.block f.instr ≡ o → MayDoNext r w p i e f o

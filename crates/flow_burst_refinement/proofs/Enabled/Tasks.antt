@@ -220,7 +220,7 @@ module _ (r : RawTree) (code : Code) (program : IsProgram r code) (ls : List Lin
                     same = λ s br z w.
                         branch_coded r ls start q i a.entry a.frame code.classes.items s g.waiting.group b g.callback br code_by
                         (begins_in_code r code.classes.items start q i a.entry a.frame s code_by acts z)
-                            (stands_by r code program.whole.valid program.coded start q i a.entry a.frame s acts z).standing g.waiting.there g.there
+                        (stands_by r code program.whole.valid program.coded start q i a.entry a.frame s acts z).standing g.waiting.there g.there
                         g.waiting.holds.slots (few_places a.entry a.frame acts g.waiting.holds.locals) (λ place into. into_there a.frame g.callback g.takes g.into g.waiting.holds place into) w;
                   },
                 ),
@@ -262,7 +262,7 @@ module _ (r : RawTree) (code : Code) (program : IsProgram r code) (ls : List Lin
             stands = λ s z. (by_stand s z, instruction_is i a.entry a.frame s acts state z);
             aims = λ s aim eff args z at.
                 effect_aims r code.classes.items code s i a.frame text.path text.expr aim eff args code_by (begins_in_code r code.classes.items start q i a.entry a.frame s code_by acts z)
-                    (by_stand s z) (instruction_is i a.entry a.frame s acts state z) fetched at
+                (by_stand s z) (instruction_is i a.entry a.frame s acts state z) fetched at
                 program.coded.coded.are_numbers rooted;
           },
         ),
@@ -293,7 +293,7 @@ module _ (r : RawTree) (code : Code) (program : IsProgram r code) (ls : List Lin
         at_text : AtInstruction (coding code_by.names code_by.class (length a.frame.code.slots)) a.frame (instruction.Effect h.aim h.effect h.args)
         at_text =
             instruction_there r code.classes.items h.stand i a.frame (instruction.Effect h.aim h.effect h.args) code_by
-                (begins_in_code r code.classes.items start q i a.entry a.frame h.stand code_by acts h.stands) (by_stand h.stand h.stands)
+            (begins_in_code r code.classes.items start q i a.entry a.frame h.stand code_by acts h.stands) (by_stand h.stand h.stands)
             (instruction_is i a.entry a.frame h.stand acts state h.stands) h.at
 
         text : EffectInstruction r (coding code_by.names code_by.class (length a.frame.code.slots)) at_text.text (aim_of h.aim) h.effect (nodes_of h.args.items)
@@ -310,7 +310,7 @@ module _ (r : RawTree) (code : Code) (program : IsProgram r code) (ls : List Lin
         rooted place root =
             let named = instr_named r program.whole.valid.valid acts.memory.class a.frame.code acts.stands.code a.frame.block a.frame.instr (EffectInstr text.path text.expr) fetched in
             place_there r.records (typed_by k.types) a.frame place a.doing.1.holds
-                (root_listed a.frame.code text.path place root (both_parts (names.has_place a.frame.code) (path_place text.path) (expr_places text.expr) named).0)
+            (root_listed a.frame.code text.path place root (both_parts (names.has_place a.frame.code) (path_place text.path) (expr_places text.expr) named).0)
 
     -- an operand, by an actor whose task is next
     pub keep_allowed : (i n cell : ℕ) → SameTask q (task.Keep (actor_id i) n (record { 0 = cell })) o.top → StateIsNone start.heap i → MayKeepOne code r start q i cell o.top

@@ -53,7 +53,7 @@ module _ (r : RawTree) where
       subst (IsFine r k.types) e
       (steps_keep r v.valid (heads r) rules s k.types p k.orderly go k.fits (ports_alone p.core p.actors k.tied k.alone) (results_alone p.core p.actors k.tied k.alone)) in
       assembled q.0 k.types q.1 q.0.core.halted (step_in_order r s p q k.orderly e) (steps_tied r s p q k.orderly k.tied e) (steps_lonely r s p q k.orderly k.tied k.alone e)
-          (steps_unset r s p q k.orderly k.tied k.alone k.unset e) fine
+      (steps_unset r s p q k.orderly k.tied k.alone k.unset e) fine
 
   pub lines_keep : law.LinesKeep r
   lines_keep ls p k =
@@ -65,8 +65,18 @@ module _ (r : RawTree) where
         alone = k.alone;
         unset = k.unset;
         types = k.types;
-        fits = record { cells = f.cells; waiting = f.waiting; actors = f.actors; work = f.work; ports = f.ports; main = f.main; requests = f.requests; numbered = f.numbered; framed = f.framed;
-            registered = f.registered };
+        fits = record {
+          cells = f.cells;
+          waiting = f.waiting;
+          actors = f.actors;
+          work = f.work;
+          ports = f.ports;
+          main = f.main;
+          requests = f.requests;
+          numbered = f.numbered;
+          framed = f.framed;
+          registered = f.registered;
+        };
       }
 
   pub among_kept : law.AmongKept r

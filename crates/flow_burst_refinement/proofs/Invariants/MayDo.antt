@@ -173,9 +173,11 @@ module _ (r : RawTree) (code : Code) (valid : AreValid r) (coded : IsCodeOf r co
       record {
         drops = locals_there f.code f t.drops holds.locals names.1;
         error = λ n q.
-            let one : HasLocals f (n ∷ []) = locals_there f.code f (n ∷ []) holds.locals (subst (λ o. list_all (has_place f.code) (listed (option_map Local o)) ≡ true) q names.0) in
-            (one.0, error_holds r.records (typed_by k.types) (read (emptied t.drops f.mem) (Local n))
-                (λ v z. (emptied_holds r.records (typed_by k.types) f.code t.drops f.mem holds).types (Local n) ErrorType v ((keeps.catchers f.block t e).1 n q) z));
+            let one : HasLocals f (n ∷ []) = locals_there f.code f (n ∷ []) holds.locals (subst (λ o. list_all (has_place f.code) (listed (option_map Local o)) ≡ true) q names.0) in (
+              one.0,
+              error_holds r.records (typed_by k.types) (read (emptied t.drops f.mem) (Local n))
+                  (λ v z. (emptied_holds r.records (typed_by k.types) f.code t.drops f.mem holds).types (Local n) ErrorType v ((keeps.catchers f.block t e).1 n q) z),
+            );
       }
 
   pub may_throw : (start : Process) (i err : ℕ) → Represents r start.heap q → u ≡ Throw i err → (e : Entry) × ((f : Frame) × (Acts r start.heap q i e f × MayThrow code start q (actor_id i) e f))

@@ -108,8 +108,13 @@ leads_quiet code m n none (goes_on s t _ between _ one rest) =
 pub calm_sorted : (m n : Process) → Calm m n → Sorted m.heap → Sorted n.heap
 calm_sorted m n calm s =
     let r = calm.heap.rise (record { cells = s.cells; streams = s.streams; actors = s.actors; frames = s.frames }) in
-    record { cells = r.cells; streams = r.streams; actors = r.actors; frames = r.frames;
-        ports = subst (λ ps. (k : ℕ) → has_number (Rattle.flow_cancel.specs.Heap.without_number ps k) k ≡ false) (sym calm.heap.ports) s.ports }
+    record {
+      cells = r.cells;
+      streams = r.streams;
+      actors = r.actors;
+      frames = r.frames;
+      ports = subst (λ ps. (k : ℕ) → has_number (Rattle.flow_cancel.specs.Heap.without_number ps k) k ≡ false) (sym calm.heap.ports) s.ports;
+    }
 
 pub leads_sorted : (code : Code) (m n : Process) → Leads code m n → n.asked ≡ None → Sorted m.heap → Sorted n.heap
 leads_sorted code m n leads none sorted = calm_sorted m n (leads_quiet code m n (sym (leads_asked code m n leads) ∙ none) leads).calm sorted
@@ -251,7 +256,7 @@ module _ (r : RawTree) (code : Code) (program : IsProgram r code) where
       asks_last i from sorted x =
           by_answer
           (ask_follows r ls x.memory x.process i x.entry x.frame nothing_in_hand x.stand (serves.supply w) code Off n x.may x.standing
-              (record { sound = sound; sorted = at_ask; asked = x.none }) x.time
+          (record { sound = sound; sorted = at_ask; asked = x.none }) x.time
           (ask_allowed r code (serves.supply w) x.process i x.entry x.frame (running x.process i x.entry x.frame x.held at acts) program.coded) x.asks)
         where
           full : Proc Frame
@@ -297,7 +302,7 @@ module _ (r : RawTree) (code : Code) (program : IsProgram r code) where
           let calm = after_calm g.pace start g.between after in
           by_end i g.between (calm_sorted start g.between calm (calm_sorted m start off.calm now.between.sorted))
           (further_follows r ls nothing_in_hand (serves.supply w) (ProcessInvariant r) code i class p start n program.coded (allows (serves.supply w)) now.between.kept g
-              (after_asked g.pace start g.between none after)
+          (after_asked g.pace start g.between none after)
           (ap program_time (calm.time ∙ off.calm.time) ∙ clock))
         where
           by_end : (i : ℕ) (from : Process) → Sorted from.heap → RanOff r ls nothing_in_hand (serves.supply w) (ProcessInvariant r) code p n
@@ -306,9 +311,9 @@ module _ (r : RawTree) (code : Code) (program : IsProgram r code) where
           by_end i from sorted (inr x) = asks_last i from sorted x
       by_goes (runs i q e f is begins) =
           by_end (subst (λ z. RanOff r ls nothing_in_hand (serves.supply w) (ProcessInvariant r) code z n
-              ⊎ AsksAtLast r ls nothing_in_hand (serves.supply w) (ProcessInvariant r) code program.coded i z start n) (sym is)
+          ⊎ AsksAtLast r ls nothing_in_hand (serves.supply w) (ProcessInvariant r) code program.coded i z start n) (sym is)
           (runs_follow r ls nothing_in_hand (serves.supply w) (ProcessInvariant r) code start q i e f begins.stand n program.coded (allows (serves.supply w))
-              (subst (ProcessInvariant r) is now.between.kept) begins.may begins.stands (off.asked ∙ now.asked)
+          (subst (ProcessInvariant r) is now.between.kept) begins.may begins.stands (off.asked ∙ now.asked)
           (ap program_time off.calm.time ∙ clock) begins.runs))
         where
           by_end : RanOff r ls nothing_in_hand (serves.supply w) (ProcessInvariant r) code p n ⊎ AsksAtLast r ls nothing_in_hand (serves.supply w) (ProcessInvariant r) code program.coded i p start n

@@ -80,7 +80,7 @@ records_step rs i d of ks ls vs ws v lt is m kept one h =
     (subst (λ z. AllNamed ls z (map record_of (take (suc i) rs))) (sym m)
     (subst (λ l. AllNamed ls (vs ++ v ∷ []) l) (sym (take_more record_of rs i d lt))
     (all_last ls vs (map record_of (take i rs)) v (record_of (get_or rs i d)) (all_kept ks ls vs (map record_of (take i rs)) kept h)
-        (subst (λ r. AreNamed param_name ls v.items (map param_of r.fields.items)) is one))))
+    (subst (λ r. AreNamed param_name ls v.items (map param_of r.fields.items)) is one))))
 
 pub records_end : (rs : List RecordDecl) (i : ℕ) (ks : List Key) (vs : List (Vec ℕ Global)) → length rs ≤ i → AllNamed ks vs (map record_of (take i rs)) → AllNamed ks vs (map record_of rs)
 records_end rs i ks vs le h = subst (λ l. AllNamed ks vs (map record_of l)) (take_all rs i le) h

@@ -57,8 +57,18 @@ module _ (d : Engine Frame) (ns : Names) (steps : (v : View) (f : Frame) → d.n
         → Replied d ns steps v (text.do_body ns v (actor (vars_of c m s) (Do x (IfStmt at e b k) ∷ r)) x (IfStmt at e b k) r) (frame_at c m p n)
     if_row at e b k h =
         let w = whole ns c s r ts x (IfStmt at e b k) p tt h in
-        let t : Point ns = record { c = c; m = m; p = p; n = n; s = s; ts = ts; rest = Do x (IfStmt at e b k) ∷ r; held = held; at = h;
-                throws = throws_behind ns c s r ts x (IfStmt at e b k) p w.0.0 w.1 } in
+        let t : Point ns = record {
+          c = c;
+          m = m;
+          p = p;
+          n = n;
+          s = s;
+          ts = ts;
+          rest = Do x (IfStmt at e b k) ∷ r;
+          held = held;
+          at = h;
+          throws = throws_behind ns c s r ts x (IfStmt at e b k) p w.0.0 w.1;
+        } in
         test_row d ns steps t v e w.0.1 w.0.2 _ _ w.0.4
         (free d ns steps c m (Mark ∷ s) (At w.0.3 ∷ ts) (Do x b ∷ Leave ∷ Do (site_past b x) k ∷ r) (entry w.0.1) (entry w.0.1) 0 (held_mark c m s held) (body w.0.5 (w.0.7, w.1)) here)
         (free d ns steps c m s ts (Do (site_past b x) k ∷ r) (entry w.0.2) w.0.3 0 held (body w.0.7 w.1) w.0.6)
@@ -67,8 +77,18 @@ module _ (d : Engine Frame) (ns : Names) (steps : (v : View) (f : Frame) → d.n
         → Replied d ns steps v (text.do_body ns v (actor (vars_of c m s) (Do x (IfElseStmt at e b g k) ∷ r)) x (IfElseStmt at e b g k) r) (frame_at c m p n)
     if_else_row at e b g k h =
         let w = whole ns c s r ts x (IfElseStmt at e b g k) p tt h in
-        let t : Point ns = record { c = c; m = m; p = p; n = n; s = s; ts = ts; rest = Do x (IfElseStmt at e b g k) ∷ r; held = held; at = h;
-                throws = throws_behind ns c s r ts x (IfElseStmt at e b g k) p w.0.0 w.1 } in
+        let t : Point ns = record {
+          c = c;
+          m = m;
+          p = p;
+          n = n;
+          s = s;
+          ts = ts;
+          rest = Do x (IfElseStmt at e b g k) ∷ r;
+          held = held;
+          at = h;
+          throws = throws_behind ns c s r ts x (IfElseStmt at e b g k) p w.0.0 w.1;
+        } in
         let y = site_past b x in
         test_row d ns steps t v e w.0.1 w.0.2 _ _ w.0.4
         (free d ns steps c m (Mark ∷ s) (At w.0.3 ∷ ts) (Do x b ∷ Leave ∷ Do (site_past g y) k ∷ r) (entry w.0.1) (entry w.0.1) 0 (held_mark c m s held) (body w.0.5 (w.0.7, w.1)) here)

@@ -110,7 +110,7 @@ module _ (d : Engine Frame) (ns : Names) (steps : (v : View) (f : Frame) → d.n
   store_there (Do x (DeclareStmt at i (Some e) k) ∷ r) h first stands =
       let w = declares_at ns c s r ts x at i (Some e) k p h in
       effect_alike (actor (vars_of c m s) (Do x (DeclareStmt at i (Some e) k) ∷ r)) w.later (Do x k ∷ r) (Some (declare i u (vars_of c m s))) e (effect_in ns e) (w.puts.0 ∷ [])
-          (over c.slots s e) refl first w.puts.1
+      (over c.slots s e) refl first w.puts.1
       (named_puts ns c m w.later w.puts.0 w.to u (declare i u (vars_of c m s)) w.puts.2 (declare_puts ns c m s held i w.to w.later u w.declared)) w.next stands
   store_there (Do x (DeclareStmt at i None k) ∷ r) h first stands =
       let w = declares_at ns c s r ts x at i None k p h in
@@ -119,7 +119,7 @@ module _ (d : Engine Frame) (ns : Names) (steps : (v : View) (f : Frame) → d.n
   store_there (Do x (AssignStmt at xs e k) ∷ r) h first stands =
       let w = assigns_at ns c s r ts x at xs e k p h in
       effect_alike (actor (vars_of c m s) (Do x (AssignStmt at xs e k) ∷ r)) s (Do x k ∷ r) (item.assign ns.records xs u (vars_of c m s)) e (effect_in ns e) (path_over c.slots s xs)
-          (over c.slots s e) refl first w.stands
+      (over c.slots s e) refl first w.stands
       (assign_puts ns c m s held xs u) w.next stands
   store_there (Do x (WaitStmt at w k) ∷ r) h first stands =
       subst (λ q. Same ([], actor (vars_of c m s) (Do x (WaitStmt at w k) ∷ r)) (class.store_at ns u f q)) (sym (wait_stands ns c s r ts x at w k p h)) (refl, stands)

@@ -36,7 +36,7 @@ module _ (d : Engine Frame) (ns : Names) (steps : (v : View) (f : Frame) → d.n
   drop_row r follows h goes_on =
       subst (λ l. Replied d ns steps v (leave_scope (scope (seen m s)) v.left (actor (record { states = slots_seen c.slots m.slots; locals = l }) r)) (frame_at c m p n)) (sym (seen_leave c m s held))
       (subst (λ o. Replied d ns steps v (leave_scope (scope (seen m s)) v.left (actor (record { states = slots_seen c.slots o; locals = seen (emptied (scope s) m) (outside s) }) r))
-          (frame_at c m p n)) (emptied_slots (scope s) m)
+      (frame_at c m p n)) (emptied_slots (scope s) m)
       (by_scope (scope s) (scope (seen m s)) (seen_scope m s) (scope_values c m s held) (held_leave c m s held) h))
     where
       by_scope : (ks : List ℕ) (os : List (Option ValueTree)) → os ≡ at_numbers m.locals ks → filled os ≡ held_in m ks → Held c (emptied ks m) (outside s) → DropThen ns c ks p follows

@@ -176,5 +176,5 @@ module _ (d : Engine Frame) (ns : Names) (steps : (v : View) (f : Frame) → d.n
   await_agree v spot (Some e) (Some k) h first same =
       subst (λ x. Agree d ns steps (text.operand_by ns v (effect_in ns e) point_actor spot e) (class.operand_by ns v point_frame spot x (effect_in ns x))) (sym h)
       (subst (λ o. Agree d ns steps (text.operand_by ns v (effect_in ns e) point_actor spot e) (class.operand_by ns v point_frame spot (over t.c.slots t.s e) o))
-          (sym (effect_in_over ns t.c.slots t.s e))
+      (sym (effect_in_over ns t.c.slots t.s e))
       (operand_agree v spot e (effect_in ns e) refl first))

@@ -124,7 +124,7 @@ module _ (d : Engine Frame) (ns : Names) (steps : (v : View) (f : Frame) → d.n
   wait_taken at w k i u h stands =
       subst (λ q. Taken (source.take_at i u a (Do x (WaitStmt at w k) ∷ r)) (class.take_at ns i u (frame_at c m p n) q)) (sym group.0)
       (subst (λ o. Taken (source.take_at i u a (Do x (WaitStmt at w k) ∷ r)) (class.take_callback ns u (frame_at c m p n) o)) (sym (group_callbacks c x.spot.group i (g.0.0 ∷ []) group.2))
-          (by_branch i))
+      (by_branch i))
     where
       a : Actor
       a = actor (vars_of c m s) (Do x (WaitStmt at w k) ∷ r)

@@ -126,12 +126,12 @@ invariant-statements::run_loop-loop-turns g l = record {
   fewer : l.turns.left ≤ l.initial.turns.left;
   comes : LoopAt
       (turn_run (setting_of g.C.CellView.content l.setting) (run_function (setting_of g.C.CellView.content l.setting) l.nest) (option_map expr_of (option_copied l.test))
-          (exec (setting_of g.C.CellView.content l.setting) (run_function (setting_of g.C.CellView.content l.setting) l.nest) (simple_of (option_copied l.step)) (option_copied l.caught))
-          (exec (setting_of g.C.CellView.content l.setting) (run_function (setting_of g.C.CellView.content l.setting) l.nest) (body_of l.body.items) (option_copied l.caught)))
+      (exec (setting_of g.C.CellView.content l.setting) (run_function (setting_of g.C.CellView.content l.setting) l.nest) (simple_of (option_copied l.step)) (option_copied l.caught))
+      (exec (setting_of g.C.CellView.content l.setting) (run_function (setting_of g.C.CellView.content l.setting) l.nest) (body_of l.body.items) (option_copied l.caught)))
       (loop_run (setting_of g.C.CellView.content l.setting) (run_function (setting_of g.C.CellView.content l.setting) l.nest) (option_map expr_of (option_copied l.test))
-          (exec (setting_of g.C.CellView.content l.setting) (run_function (setting_of g.C.CellView.content l.setting) l.nest) (simple_of (option_copied l.step)) (option_copied l.caught))
-          (exec (setting_of g.C.CellView.content l.setting) (run_function (setting_of g.C.CellView.content l.setting) l.nest) (body_of l.body.items) (option_copied l.caught))
-          (map var_of l.initial.locals.items) l.initial.turns.left)
+      (exec (setting_of g.C.CellView.content l.setting) (run_function (setting_of g.C.CellView.content l.setting) l.nest) (simple_of (option_copied l.step)) (option_copied l.caught))
+      (exec (setting_of g.C.CellView.content l.setting) (run_function (setting_of g.C.CellView.content l.setting) l.nest) (body_of l.body.items) (option_copied l.caught))
+      (map var_of l.initial.locals.items) l.initial.turns.left)
       (map var_of l.locals.items) l.turns.left;
 }
 

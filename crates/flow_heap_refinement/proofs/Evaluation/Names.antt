@@ -57,7 +57,7 @@ module _ (p : Rule) where
           (λ v l n. once_named p (field_answer (field s.records v x.name)) l (answer_named p (field s.records v x.name) (field_named p s.records v x.name n)))
       eval_named look (MethodExpr e m xs) left h =
           value_then p (eval s run look e left) (λ v left. goes_on (eval_all s run look xs left) (λ vs left. at_once (method_called s.cells (named method_names m.name) v vs) left))
-              (eval_named look e left h)
+          (eval_named look e left h)
           (λ v l n. values_then p (eval_all s run look xs l) (λ vs left. at_once (method_called s.cells (named method_names m.name) v vs) left) (all_named look xs l h)
           (λ vs k a. once_named p (method_called s.cells (named method_names m.name) v vs) k (maybe_method p gives s.cells cells (named method_names m.name) v vs n)))
       eval_named look (NotExpr e) left h = value_then p (eval s run look e left) (λ v left. at_once (inverted v) left) (eval_named look e left h)
@@ -257,7 +257,7 @@ module _ (p : Rule) where
     assign_named : (xs : List Ident) (e : ExprTree) → GoNamed (assign_run s run xs e)
     assign_named xs e vars left h =
         valued_named (evaluated s run e vars left) vars (λ v left. assigned (put_path s.records vars xs v) left) (value_of e vars left h) h
-            (λ v l n. assigned_named (put_path s.records vars xs v) l (put_path_named vars xs v h n))
+        (λ v l n. assigned_named (put_path s.records vars xs v) l (put_path_named vars xs v h n))
 
     operand_named : (c : ChangeTree) (vars : Locals) (left : ℕ) → VarsNamed vars → ResNamed p (change_operand s run c vars left)
     operand_named (PlusChange e) vars left h = value_of e vars left h
@@ -269,9 +269,9 @@ module _ (p : Rule) where
     changed_named None c xs vars left h = tt
     changed_named (Some v) c xs vars left h =
         valued_named (change_operand s run c vars left) vars (λ w left. valued (at_once (operated (change_sign c) v w) left) vars (λ u left. assigned (put_path s.records vars xs u) left))
-            (operand_named c vars left h) h
+        (operand_named c vars left h) h
         (λ w l n. valued_named (at_once (operated (change_sign c) v w) l) vars (λ u left. assigned (put_path s.records vars xs u) left)
-            (once_named p (operated (change_sign c) v w) l (operated_named p (change_sign c) v w)) h
+        (once_named p (operated (change_sign c) v w) l (operated_named p (change_sign c) v w)) h
         (λ u k m. assigned_named (put_path s.records vars xs u) k (put_path_named vars xs u h m)))
 
     call_by_named : (xs : List Ident) (vs : List ValueTree) (left : ℕ) → AllNamed p vs → ResNamed p (call_by s run xs vs left)
@@ -306,18 +306,18 @@ module _ (p : Rule) where
     exec_named (BlockStmt at b k) c vars left h = after_named (scope (exec s run b c) vars left) (exec s run k c) (scope_named (exec s run b c) (exec_named b c) vars left h) (exec_named k c)
     exec_named (IfStmt at e b k) c vars left h =
         after_named (if_run s run e (scope (exec s run b c)) skip vars left) (exec s run k c)
-            (if_named e (scope (exec s run b c)) skip (scope_named (exec s run b c) (exec_named b c)) (λ vars left h. h) vars left h) (exec_named k c)
+        (if_named e (scope (exec s run b c)) skip (scope_named (exec s run b c) (exec_named b c)) (λ vars left h. h) vars left h) (exec_named k c)
     exec_named (IfElseStmt at e b d k) c vars left h =
         after_named (if_run s run e (scope (exec s run b c)) (scope (exec s run d c)) vars left) (exec s run k c)
         (if_named e (scope (exec s run b c)) (scope (exec s run d c)) (scope_named (exec s run b c) (exec_named b c)) (scope_named (exec s run d c) (exec_named d c)) vars left h) (exec_named k c)
     exec_named (WhileStmt at e b k) c vars left h =
         after_named (loop_run s run (Some e) skip (exec s run b c) vars left) (exec s run k c) (loop_named (Some e) skip (exec s run b c) (λ vars left h. h) (exec_named b c) vars left h)
-            (exec_named k c)
+        (exec_named k c)
     exec_named (ForStmt at i e t b k) c vars left h =
         after_named (scope (for_run s run (exec s run i c) e (exec s run t c) (exec s run b c)) vars left) (exec s run k c)
         (scope_named (for_run s run (exec s run i c) e (exec s run t c) (exec s run b c))
         (λ vars left h. after_named (exec s run i c vars left) (loop_run s run e (exec s run t c) (exec s run b c)) (exec_named i c vars left h)
-            (loop_named e (exec s run t c) (exec s run b c) (exec_named t c) (exec_named b c))) vars left h)
+        (loop_named e (exec s run t c) (exec s run b c) (exec_named t c) (exec_named b c))) vars left h)
         (exec_named k c)
     exec_named (LoopStmt at b k) c vars left h =
         after_named (loop_run s run None skip (exec s run b c) vars left) (exec s run k c) (loop_named None skip (exec s run b c) (λ vars left h. h) (exec_named b c) vars left h) (exec_named k c)

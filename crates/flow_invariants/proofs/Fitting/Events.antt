@@ -213,15 +213,19 @@ module _ (r : RawTree) (valid : IsValid r) (actors : List RoutineTree) (rules : 
         record { own = unchanged r valid actors rules to left (ready w to) refl (fits_left w h x left e); around = left_around w h x left e (counted t to (with_left w.out left)) refl refl refl refl }
     packet_begins m from to port text e (Some k) q i =
         let x = pending (Arrives m from to port text) in
-        record { own = arrives r valid actors rules to left (ready w to) refl (fits_left w h x left e) from port k text q i;
-            around = left_around w h x left e (counted t to (with_left w.out left)) refl refl refl refl }
+        record {
+          own = arrives r valid actors rules to left (ready w to) refl (fits_left w h x left e) from port k text q i;
+          around = left_around w h x left e (counted t to (with_left w.out left)) refl refl refl refl;
+        }
 
     by_what : (x : What) → w.out.events.pending ≡ pending x ∷ left → InNow (happens x).place → BeginsGood w (process_in x) (happens x)
     by_what (Boots p) e i =
         let x = pending (Boots p) in
         let a = ready w p in
-        record { own = boots r valid actors rules p left a refl (fits_left w h x left e) a.proc.core.main i;
-            around = left_around w h x left e (counted t p (with_left w.out left)) refl refl refl refl }
+        record {
+          own = boots r valid actors rules p left a refl (fits_left w h x left e) a.proc.core.main i;
+          around = left_around w h x left e (counted t p (with_left w.out left)) refl refl refl refl;
+        }
     by_what (Rings p k) e i =
         let x = pending (Rings p k) in
         let a = ready w p in
@@ -259,12 +263,18 @@ module _ (r : RawTree) (valid : IsValid r) (actors : List RoutineTree) (rules : 
       by_next (Script t o left) e k i =
           let s = k.script t o left refl in
           let q = same_of e in
-          record { process = process_of o; good = subst (BeginsGood w (process_of o)) q
-              (by_order w h t left s.1 o (order_process w.out.file.processes o s.0) (subst (λ (z : Begun Frame). InNow z.place) (sym q) i)) }
+          record {
+            process = process_of o;
+            good = subst (BeginsGood w (process_of o)) q
+                (by_order w h t left s.1 o (order_process w.out.file.processes o s.0) (subst (λ (z : Begun Frame). InNow z.place) (sym q) i));
+          }
       by_next (Event p left) e k i =
           let q = same_of e in
-          record { process = process_in p.what; good = subst (BeginsGood w (process_in p.what)) q
-              (by_what w h p.time p.number left p.what (k.event p left refl) (subst (λ (z : Begun Frame). InNow z.place) (sym q) i)) }
+          record {
+            process = process_in p.what;
+            good = subst (BeginsGood w (process_in p.what)) q
+                (by_what w h p.time p.number left p.what (k.event p left refl) (subst (λ (z : Begun Frame). InNow z.place) (sym q) i));
+          }
 
   -- the world after it
   pub event_kept : (w : World Frame) (b : Begun Frame) (l : Live Outside Frame) → WorldFits r w → begun_by (classes r) w (next_of w.out) ≡ Some b → Burst (classes r) host (before b) l

@@ -49,8 +49,18 @@ tied_lined : (ls : List Line) (c : Core) → CellsTied c → CellsTied (add_line
 tied_lined ls c t = let n = t.numbers in record { agree = t.agree; numbers = record { ports = n.ports; cells = n.cells; requests = n.requests }; once = t.once }
 
 fits_lined : (r : RawTree) (types : CellTypes) (ls : List Line) (c : Core) (xs : Numbered Frame) → ProcessFits r types c xs → ProcessFits r types (add_lines ls c) xs
-fits_lined r types ls c xs p = record { cells = p.cells; waiting = p.waiting; actors = p.actors; work = p.work; ports = p.ports; main = p.main; requests = p.requests; numbered = p.numbered;
-    framed = p.framed; registered = p.registered }
+fits_lined r types ls c xs p = record {
+  cells = p.cells;
+  waiting = p.waiting;
+  actors = p.actors;
+  work = p.work;
+  ports = p.ports;
+  main = p.main;
+  requests = p.requests;
+  numbered = p.numbered;
+  framed = p.framed;
+  registered = p.registered;
+}
 
 module _ (r : RawTree) (n : ℕ) where
   -- put together
@@ -138,8 +148,10 @@ module _ (r : RawTree) (leads : LeadOn r) (steps_fit : StepsKeepFitting r) where
         unlined : (ls : List Line) → UnlessStopped d.halted (InPlace r (add_lines ls d) q.0.actors) → UnlessStopped d.halted (InPlace r d q.0.actors)
         unlined ls i =
             unless_map d.halted (λ (p : InPlace r (add_lines ls d) q.0.actors).
-                record { orderly = record { actors = p.orderly.actors; paired = p.orderly.paired; waiting = p.orderly.waiting; numbered = p.orderly.numbered };
-                frames = record { all = p.frames.all; phases = p.frames.phases } }) i
+            record {
+              orderly = record { actors = p.orderly.actors; paired = p.orderly.paired; waiting = p.orderly.waiting; numbered = p.orderly.numbered };
+              frames = record { all = p.frames.all; phases = p.frames.phases };
+            }) i
 
   same_live : {x y : Live Outside Frame} → Some x ≡ Some y → x ≡ y
   same_live h = cc

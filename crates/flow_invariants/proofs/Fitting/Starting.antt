@@ -66,8 +66,18 @@ ready_fits r n turns es p f =
       tied = record { agree = t.agree; numbers = record { ports = m.ports; cells = m.cells; requests = m.requests }; once = t.once };
       alone = f.alone;
       types = f.types;
-      fits = record { cells = q.cells; waiting = q.waiting; actors = q.actors; work = q.work; ports = q.ports; main = q.main; requests = q.requests; numbered = q.numbered; framed = q.framed;
-          registered = q.registered };
+      fits = record {
+        cells = q.cells;
+        waiting = q.waiting;
+        actors = q.actors;
+        work = q.work;
+        ports = q.ports;
+        main = q.main;
+        requests = q.requests;
+        numbered = q.numbered;
+        framed = q.framed;
+        registered = q.registered;
+      };
       brought = f.brought;
       awaited = f.awaited;
     }

@@ -87,7 +87,7 @@ module _ (k : ℕ) where
         by_test true q =
             let same : suc c.made ≡ k = grind (arith, q) in
             let x : one FutureSide k FutureSide (suc c.made) ≡ 1 = let z : one PromiseSide k FutureSide (suc c.made) ≡ 0 = refl in let y =
-                    one_side k FutureSide (suc c.made) same in omega (arith, y, z) in
+            one_side k FutureSide (suc c.made) same in omega (arith, y, z) in
             let b = more FutureSide in ((λ z. omega (arith, x, b)), (λ w. omega (arith, x, b)))
         by_test false q =
             let other : suc c.made ≡ k → ⊥ = (λ z. let f : ⊥ = grind (arith, q, z) in f) in
@@ -114,5 +114,9 @@ module _ (k : ℕ) where
       by_main : (x : Option ℕ) → c.main ≡ x → Refers k (stop_main x c) ys
       by_main None q = h
       by_main (Some j) q =
-          refers_on k c ys (stop_main (Some j) c) ys ((λ z. z), (λ s. let a = ap (count_maybe s k FutureSide) q in let b : in_task s k (Drop kind.Future j)
-              ≡ one s k FutureSide j = refl in omega (arith, a, b)), (λ w. w)) h
+          refers_on k c ys (stop_main (Some j) c) ys (
+            (λ z. z),
+            (λ s. let a = ap (count_maybe s k FutureSide) q in let b : in_task s k (Drop kind.Future j)
+                ≡ one s k FutureSide j = refl in omega (arith, a, b)),
+            (λ w. w),
+          ) h

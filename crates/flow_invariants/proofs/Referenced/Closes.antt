@@ -133,7 +133,7 @@ module _ (k : ℕ) (r : RawTree) (types : CellTypes) (c : Core) (xs : Numbered F
           by_test false q =
               let other : result ≡ k → ⊥ = (λ z. let f : ⊥ = grind (arith, q, z) in f) in
               let less : (s : Side) → refs k s c xs ≤ refs k s (fill_cell result oc (Some cell) (writes (end_line i oc) (record gone { left = m }))) ys =
-                      (λ s. let y = counted s in let z = no_one s result k PromiseSide other in let n = more s in omega (arith, y, z, n)) in (
+              (λ s. let y = counted s in let z = no_one s result k PromiseSide other in let n = more s in omega (arith, y, z, n)) in (
                 λ z. let n = h.0 ((filling_onward k result cell oc gone ys at tt).0 z) in let u = less PromiseSide in let v = less FutureSide in omega (arith, n, u, v),
                 λ w. let n = h.1 (wanted w) in let v = less FutureSide in omega (arith, n, v),
               )

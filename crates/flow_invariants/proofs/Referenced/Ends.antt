@@ -83,7 +83,7 @@ module _ (k : ℕ) (r : RawTree) (actors : List RoutineTree) (rules : Rattle.flo
   lost_frame : (i : ℕ) (f : Frame) → thing xs i ≡ Some f → (a : Side → ℕ) → Onward k a (λ s. count s k (refs_in (lose f).0) + a s) now xs now (put xs i (lose f).1)
   lost_frame i f at a =
       Rattle.flow_invariants.proofs.Referenced.Onward.frame_onward k a (λ s. count s k (refs_in (lose f).0) + a s) i f (lose f).1 now xs at
-          (λ s. let m = Rattle.flow_heap_refinement.proofs.Holding.of_all_locals s k f.mem in omega (arith, m))
+      (λ s. let m = Rattle.flow_heap_refinement.proofs.Holding.of_all_locals s k f.mem in omega (arith, m))
 
   -- an operand is kept
   kept_holds : (s : Side) (spot : _) (q : Ref) (e : Entry) → e.suspended ≡ false → entry_holds s k e + in_task s k (Keep 0 spot q) ≤ entry_holds s k (with_operand spot q e)
@@ -124,7 +124,7 @@ module _ (k : ℕ) (r : RawTree) (actors : List RoutineTree) (rules : Rattle.flo
         let a : Side → ℕ = λ s. in_task s k (Keep i spot q) in
         let d = record now { entries = put c.entries i (with_operand spot q e) } in
         let m = Rattle.flow_invariants.proofs.Referenced.Onward.entry_onward k a no_refs i e (with_operand spot q e) now xs at (inr (refl, refl))
-                (λ s. let n = kept_holds s spot q e awake in omega (arith, n)) in
+        (λ s. let n = kept_holds s spot q e awake in omega (arith, n)) in
         fine_on d xs (onward_on k no_refs a no_refs c xs now xs d xs popped m)
 
     -- the actor leaves its wait with what its frame lost: by a task that holds nothing, or by a branch that it takes
@@ -178,7 +178,7 @@ module _ (k : ℕ) (r : RawTree) (actors : List RoutineTree) (rules : Rattle.flo
               (taken_agrees (record c { entries = put c.entries i kept }) q.1 cell found agree) (taken_kinds c q.1 cell found kept.operands kinds)
               (Rattle.flow_meaning.proofs.Order.rising_put c.cells 0 c.made q.1 (after_taking cell) p.numbered) in
               fine_on z ys (onward_on k no_refs g no_refs c xs low ys z ys so_far
-                  ((λ w. m.0 (l.0 w)), (λ s. let x = m.1 s in let y = l.1 s in let w : in_task s k (Give i b o) ≡ in_task s k (Give 0 0 o) = refl in omega (arith, x, y, w)), (λ w. m.2 (l.2 w))))
+              ((λ w. m.0 (l.0 w)), (λ s. let x = m.1 s in let y = l.1 s in let w : in_task s k (Give i b o) ≡ in_task s k (Give 0 0 o) = refl in omega (arith, x, y, w)), (λ w. m.2 (l.2 w))))
 
       by_verdict : (b : ℕ) (v : OperandFate) → Fine (keep_by (classes r) i b v q kept f (proc now xs)).0.core (keep_by (classes r) i b v q kept f (proc now xs)).0.actors
       by_verdict b GoesOn = goes_on e at awake
@@ -194,4 +194,4 @@ module _ (k : ℕ) (r : RawTree) (actors : List RoutineTree) (rules : Rattle.flo
         subst (λ x. Kept_on (keep (classes r) i spot q x (thing c.entries i) (proc now xs))) (sym a.stands)
         (subst (λ x. Kept_on (keep (classes r) i spot q (Some a.frame) x (proc now xs))) (sym a.at)
         (by_verdict a.entry a.frame a.at a.awake a.stands (Rattle.flow_invariants.proofs.Referenced.Tasks.right_kinds r types c p.cells a.frame 0 (a.entry.operands ++ q ∷ []) a.doing.2)
-            (length a.entry.operands) (verdict a.entry.marked (is_ready_at (thing c.cells q.1)))))
+        (length a.entry.operands) (verdict a.entry.marked (is_ready_at (thing c.cells q.1)))))

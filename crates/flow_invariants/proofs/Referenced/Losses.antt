@@ -57,7 +57,7 @@ module _ (k : ℕ) (r : RawTree) (types : CellTypes) (c : Core) (xs : Numbered F
   cancel_by_onward false i e at s = entry_onward k no_refs no_refs i e (marked e) (writes (cancel_line i) c) xs at (inl refl) (λ z. omega arith)
   cancel_by_onward true i e at s =
       let m = replaced_onward k no_refs i e (marked e) [] (Throw i operation_cancelled) (writes (cancel_line i) c) xs at (inl refl) (λ z. omega arith)
-              (agree_put c i e (marked e) at refl t.agree) kinds p.numbered in
+      (agree_put c i e (marked e) at refl t.agree) kinds p.numbered in
       (m.0, (λ s. let n = m.1 s in omega (arith, n)), m.2)
     where
       kinds : Rattle.flow_heap_refinement.specs.Leaving.RightKinds c.cells e.operands

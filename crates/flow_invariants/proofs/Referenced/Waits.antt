@@ -98,7 +98,7 @@ module _ (k : ℕ) (ys : Numbered Frame) (i : ℕ) where
   cancel_by_on c agree up false j e at kinds = entry_onward k no_refs no_refs j e (marked e) (writes (cancel_line j) c) ys at (inl refl) (λ z. omega arith)
   cancel_by_on c agree up true j e at kinds =
       let m = replaced_onward k no_refs j e (marked e) [] (Throw j operation_cancelled) (writes (cancel_line j) c) ys at (inl refl) (λ z. omega arith) (agree_put c j e (marked e) at refl agree)
-              (kinds refl) up in
+      (kinds refl) up in
       (m.0, (λ s. let n = m.1 s in omega (arith, n)), m.2)
 
   pub cancel_refers : (c : Core) → Refers k c ys → Agree c → Rising 0 c.made c.cells → Rising 0 c.started c.entries
@@ -149,9 +149,12 @@ module _ (k : ℕ) (ys : Numbered Frame) (i : ℕ) where
               let x = taking_onward k j cell o c ys found got in
               let l = replaced_onward k no_refs i e there vs (Give i m o) d ys at (inr (refl, refl)) (λ s. omega arith)
               (taken_agrees (record c { entries = put c.entries i there }) j cell found agree_there) (taken_kinds c j cell found e.operands kinds)
-                  (rising_put c.cells 0 c.made j (after_taking cell) up) in
-              finish (leave_for i there vs (Give i m o) d) ((λ w. x.0 (l.0 w)),
-                  (λ s. let y = x.1 s in let z = l.1 s in let w : in_task s k (Give i m o) ≡ in_task s k (Give 0 0 o) = refl in omega (arith, y, z, w)), (λ w. x.2 (l.2 w)))
+              (rising_put c.cells 0 c.made j (after_taking cell) up) in
+              finish (leave_for i there vs (Give i m o) d) (
+                (λ w. x.0 (l.0 w)),
+                (λ s. let y = x.1 s in let z = l.1 s in let w : in_task s k (Give i m o) ≡ in_task s k (Give 0 0 o) = refl in omega (arith, y, z, w)),
+                (λ w. x.2 (l.2 w)),
+              )
 
       abbrev asleep : Core
       asleep = record (writes (wait_line i spot.group) c) { entries = put c.entries i (record there { suspended = true }) }
@@ -163,7 +166,7 @@ module _ (k : ℕ) (ys : Numbered Frame) (i : ℕ) where
           finish (leave_for i there vs (Throw i second_waiter) c) (m.0, (λ s. let n = m.1 s in omega (arith, n)), m.2)
       suspends (Registered cells) f =
           let kept : (s : Side) → entry_holds s k e + 0 ≤ entry_holds s k (record there { suspended = true }) + count s k e.operands =
-                  (λ s. let a = ap (λ t. count_kept s k t e.operands) awake in omega (arith, a)) in
+          (λ s. let a = ap (λ t. count_kept s k t e.operands) awake in omega (arith, a)) in
           let x = entry_onward k no_refs (λ s. count s k e.operands) i e (record there { suspended = true }) (writes (wait_line i spot.group) c) ys at (inr (refl, refl)) kept in
           let d = record asleep { cells = cells } in
           let y = drop_onward k vs d ys in

@@ -85,4 +85,4 @@ rests r n events p rest f u h steady = record {
         by_frame None a = absurd a
         by_frame (Some g) a =
             subst (λ o. IsReferred o (λ k. Rattle.flow_meaning.specs.References.reference_count (Rattle.flow_meaning.specs.Step.scanned (classes r) p) Rattle.flow_meaning.specs.Cells.FutureSide k
-                p.core)) (sym a.owns) ((h a.result).1 (i, e, at, unmarked, a.owns))
+            p.core)) (sym a.owns) ((h a.result).1 (i, e, at, unmarked, a.owns))

@@ -184,7 +184,7 @@ module _ (j : ℕ) (r : RawTree) (actors : List RoutineTree) (rules : ClassRules
         let f = a.frame in
         let v = view s i c in
         let fit = next_fits r actors (class_vars f.code) (typed_by types) v f (frame_rules r actors rules s types a.entry a.class f a.owner a.doing.0) rules.functions
-                (cells_seen r types s i c xs p) a.doing.1 in
+        (cells_seen r types s i c xs p) a.doing.1 in
         subst (λ x. Good (run (classes r) s i ts x (proc c xs))) (sym a.stands) (next_good i ts top a (next_step (class_names r) v f) refl fit)
 
     module _ (ts : List Task) where
@@ -216,7 +216,7 @@ module _ (j : ℕ) (r : RawTree) (actors : List RoutineTree) (rules : ClassRules
           by_entry z None = tt
           by_entry z (Some e) =
               unless c.halted (inl (leave_steady j i e z.values (fate i err z.caught) (writes (throw_line i err) after) (fate_of i err z.caught)
-                  (λ diff. other i (Throw i err) ts c.left top (throw_of i err) diff)))
+              (λ diff. other i (Throw i err) ts c.left top (throw_of i err) diff)))
 
       catch_good : (i err : ℕ) → c.tasks ≡ Catch i err ∷ ts → Unless (Fine j) (handle i err after)
       catch_good i err top =
@@ -224,7 +224,7 @@ module _ (j : ℕ) (r : RawTree) (actors : List RoutineTree) (rules : ClassRules
           let none : a.entry.operands ≡ [] = a.doing.2 in
           unless c.halted
           (inl (run_steady j i (writes (catch_line i err) after) (λ q. subst (λ m. NoOperand (thing c.entries m)) q (subst NoOperand (sym a.at) none))
-              (popped i (Catch i err) ts c.left a top (catch_of i err) (λ w. none))))
+          (popped i (Catch i err) ts c.left a top (catch_of i err) (λ w. none))))
 
       keep_good : (i : ℕ) (spot : Spot) (q : Ref) (x : Option Frame) → c.tasks ≡ Keep i spot q ∷ ts → Good (keep (classes r) i spot q x (thing c.entries i) (proc after xs))
       keep_good i spot q x top = by_entry x (thing c.entries i) refl

@@ -206,7 +206,7 @@ module _ (ns : Names) (c : ClassTree) (few_slots : length c.slots < 2 ^ 64) (few
       let own = slice_get_within c.locals m.local ErrorType error.0 in
       let n12 : length (body_locals b ++ (ErrorType ∷ [])) ≡ suc (locals_in b) = omega (arith, length-append (body_locals b) (ErrorType ∷ []), locals_count b) in
       let n123 : length (body_locals b ++ (ErrorType ∷ []) ++ body_locals d) ≡ suc (locals_in b) + locals_in d =
-              omega (arith, length-append (body_locals b ++ (ErrorType ∷ [])) (body_locals d), n12, locals_count d) in
+      omega (arith, length-append (body_locals b ++ (ErrorType ∷ [])) (body_locals d), n12, locals_count d) in
       let inside = here_try ns c l w s n (begun n) x behind there x.spot u.name k d hand j.block r ts (omega arith) h.group h in
       let caught = here_handler ns c l w s n g x behind y u.name k m.local j.block r ts (omega arith) (omega arith) own g1 h in
       let front = first ns c p n.block x.spot w.hand w.hand (joined w.hand (joined (Some hand) c0 c1) c2) (low s w (begun j) k) st in

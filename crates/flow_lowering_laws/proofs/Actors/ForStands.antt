@@ -103,7 +103,7 @@ module _ (ns : Names) (c : ClassTree) (few_slots : length c.slots < 2 ^ 64) (few
       let n12 = length-append (body_locals i) (body_locals p) in
       let n123 = length-append (body_locals i ++ body_locals p) (body_locals b) in
       let r2 : LocalsAt ns c g.local (body_locals b) = locals_back ns c n.local g.local (body_locals i ++ body_locals p) (body_locals b)
-              (omega (arith, tl, n12, locals_count i, locals_count p, none)) r123 in
+      (omega (arith, tl, n12, locals_count i, locals_count p, none)) r123 in
       let r4 : LocalsAt ns c o.local (body_locals k) =
       locals_back ns c n.local o.local (body_locals i ++ body_locals p ++ body_locals b) (body_locals k) (omega (arith, tl, n12, n123, locals_count i, locals_count p, locals_count b)) room in
       let r3 : LocalsAt ns c m.local (body_locals p) = subst (λ ls. LocalsAt ns c m.local ls) (sym (step_locals p parts.1)) tt in
@@ -126,10 +126,10 @@ module _ (ns : Names) (c : ClassTree) (few_slots : length c.slots < 2 ^ 64) (few
       let items = Leave ∷ Do behind k ∷ r in
       let inner_hand = hand_part ns c few_slots few_locals w.hand w.depth behind loop k h.block q r ts here0.hand in
       let begins = init_at ns c few_slots few_locals i v (PassLast h.block) s1 n x.spot (Round loop ∷ items) (Again h.block ∷ At q ∷ ts) pos l
-              (is_there x.caught) parts.0 refl here0.above inner_hand r1 ok.0
+      (is_there x.caught) parts.0 refl here0.above inner_hand r1 ok.0
       (test_first ns c few_slots few_locals v s2 e g.block o.block n.block pos x.spot c0 st1) in
       let steps = init_at ns c few_slots few_locals p v (PassLast h.block) s2 (begun m) y (Round loop ∷ items) (Again h.block ∷ At q ∷ ts) (entry m.block) l (is_there x.caught)
-              (step_is_init p parts.1) refl a3 inner_hand r3
+      (step_is_init p parts.1) refl a3 inner_hand r3
       (subst (λ xs. InPlace c.slots l (is_there x.caught) xs p) (sym open_.named) ok.1) st3 in
       let step = subst (λ z. PartAt ns c few_slots few_locals s2 (Round loop ∷ items) (Again h.block ∷ At q ∷ ts) p (entry m.block) z (PassLast h.block)) (step_later p m.local s2 parts.1) steps in
       let inside = here_for l w s s2 n g x behind u loop k h.block m.block o.block q r ts here0 a2 open_.known g1 step last.drops in

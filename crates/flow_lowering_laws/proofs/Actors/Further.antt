@@ -64,8 +64,16 @@ mutual
       let b1 = locals_count b in
       let h1 = locals_count h in
       let k1 = locals_count k in
-      omega (arith, length-append (body_locals b ++ (ErrorType ∷ []) ++ body_locals h) (body_locals k), length-append (body_locals b ++ (ErrorType ∷ [])) (body_locals h), length-append (body_locals b)
-          (ErrorType ∷ []), b1, h1, k1)
+      omega (
+        arith,
+        length-append (body_locals b ++ (ErrorType ∷ []) ++ body_locals h) (body_locals k),
+        length-append (body_locals b ++ (ErrorType ∷ [])) (body_locals h),
+        length-append (body_locals b)
+            (ErrorType ∷ []),
+        b1,
+        h1,
+        k1,
+      )
   locals_count (ChooseStmt at bs k) = two (branch_locals bs) (body_locals k) _ _ (branch_locals_count bs) (locals_count k)
   locals_count (DeclareStmt at i e k) = two (declared_locals i) (body_locals k) _ _ (declared_count i) (locals_count k)
   locals_count (AssignStmt at xs e k) = locals_count k

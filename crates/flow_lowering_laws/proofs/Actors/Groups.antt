@@ -104,12 +104,12 @@ module _ (ns : Names) (slots : List SlotTree) where
         let m = past w.looped.tried b n in
         let v = inner w (Scoped (GotoLast m.block)) in
         both_kinds (lowered ns slots (Mark ∷ s) v n b).groups (lowered ns slots s w (begun m) k).groups (body_groups b) (body_groups k) (lowered_kinds (Mark ∷ s) v n b h.0)
-            (lowered_kinds s w (begun m) k h.1)
+        (lowered_kinds s w (begun m) k h.1)
     lowered_kinds s w n (IfStmt at e b k) h =
         let m = past w.looped.tried b (begun n) in
         let v = inner w (Scoped (GotoLast m.block)) in
         both_kinds (lowered ns slots (Mark ∷ s) v (begun n) b).groups (lowered ns slots s w (begun m) k).groups (body_groups b) (body_groups k) (lowered_kinds (Mark ∷ s) v (begun n) b h.0)
-            (lowered_kinds s w (begun m) k h.1)
+        (lowered_kinds s w (begun m) k h.1)
     lowered_kinds s w n (IfElseStmt at e b d k) h =
         let t = w.looped.tried in
         let m = past t b (begun n) in
@@ -124,7 +124,7 @@ module _ (ns : Names) (slots : List SlotTree) where
         let m = past false b (begun g) in
         let v = pass w 1 (PassLast n.block) m.block in
         both_kinds (lowered ns slots (Mark ∷ s) v (begun g) b).groups (lowered ns slots s w (begun m) k).groups (body_groups b) (body_groups k) (lowered_kinds (Mark ∷ s) v (begun g) b h.0)
-            (lowered_kinds s w (begun m) k h.1)
+        (lowered_kinds s w (begun m) k h.1)
     lowered_kinds s w n (ForStmt at i e p b k) h =
         let t = w.looped.tried in
         let f = past t i n in
@@ -142,19 +142,19 @@ module _ (ns : Names) (slots : List SlotTree) where
         let k3 : kinds c3.groups ≡ wanted [] = lowered_kinds r v (begun m) p (step_parts p h.1) ∙ ap wanted (step_groups p h.1) in
         both_kinds (c1.groups ++ c2.groups ++ c3.groups) (lowered ns slots s w (begun o) k).groups (body_groups i ++ body_groups b ++ []) (body_groups k)
         (both_kinds (c1.groups ++ c2.groups) c3.groups (body_groups i ++ body_groups b) []
-            (both_kinds c1.groups c2.groups (body_groups i) (body_groups b) k1 (lowered_kinds (Mark ∷ r) u (begun g) b h.2)) k3)
+        (both_kinds c1.groups c2.groups (body_groups i) (body_groups b) k1 (lowered_kinds (Mark ∷ r) u (begun g) b h.2)) k3)
         (lowered_kinds s w (begun o) k h.3)
         ∙ ap (λ gs. wanted (gs ++ body_groups k)) (append-nil (body_groups i ++ body_groups b)
-            ∙ ap (λ gs. gs ++ body_groups b) (sym (append-nil (body_groups i)) ∙ ap (λ gs. body_groups i ++ gs) (sym (step_groups p h.1))))
+        ∙ ap (λ gs. gs ++ body_groups b) (sym (append-nil (body_groups i)) ∙ ap (λ gs. body_groups i ++ gs) (sym (step_groups p h.1))))
     lowered_kinds s w n (LoopStmt at b k) h =
         let m = past false b (begun n) in
         let v = pass w 1 (PassLast n.block) m.block in
         both_kinds (lowered ns slots (Mark ∷ s) v (begun n) b).groups (lowered ns slots s w (begun m) k).groups (body_groups b) (body_groups k) (lowered_kinds (Mark ∷ s) v (begun n) b h.0)
-            (lowered_kinds s w (begun m) k h.1)
+        (lowered_kinds s w (begun m) k h.1)
     lowered_kinds s w n (BreakStmt at k) h =
         let m = exited w.looped.tried n in
         rest_kinds w.hand (exits w.looped.tried w s n (GotoLast w.looped.out)) (lowered ns slots s w (begun m) k) k (exits_still w.looped.tried w s n (GotoLast w.looped.out))
-            (lowered_kinds s w (begun m) k h)
+        (lowered_kinds s w (begun m) k h)
     lowered_kinds s w n (ContinueStmt at k) h =
         let m = exited w.looped.tried n in
         rest_kinds w.hand (exits w.looped.tried w s n w.looped.again) (lowered ns slots s w (begun m) k) k (exits_still w.looped.tried w s n w.looped.again) (lowered_kinds s w (begun m) k h)
@@ -174,7 +174,7 @@ module _ (ns : Names) (slots : List SlotTree) where
         let c2 = lowered ns slots (Var q.name m.local ∷ Mark ∷ s) u g d in
         both_kinds (c1.groups ++ c2.groups) (lowered ns slots s w (begun j) k).groups (body_groups b ++ body_groups d) (body_groups k)
         (both_kinds c1.groups c2.groups (body_groups b) (body_groups d) (lowered_kinds (Mark ∷ s) v (begun n) b h.0) (lowered_kinds (Var q.name m.local ∷ Mark ∷ s) u g d h.1))
-            (lowered_kinds s w (begun j) k h.2)
+        (lowered_kinds s w (begun j) k h.2)
     lowered_kinds s w n (ChooseStmt at bs k) h =
         let t = w.looped.tried in
         let g = grouped n in

@@ -178,7 +178,7 @@ module _ (ns : Names) (c : ClassTree) (few_slots : length c.slots < 2 ^ 64) (few
       let blocks = branches_more ns c.slots c0 s v g bs in
       let group : j.group ≡ z.group =
       after_groups n.group (length whole.groups) (branch_group_count bs) x.spot.group z.group h.group (branches_groups ns c.slots c0 s v g bs)
-          (sym (moved_group whole.groups x.spot) ∙ ap (λ a. a.group) moves) in
+      (sym (moved_group whole.groups x.spot) ∙ ap (λ a. a.group) moves) in
       let front = first ns c p n.block x.spot w.hand w.hand whole (low s w (begun j) k) st in
       let alone = branches_front bs c0 s v g p n.block x.spot front in
       let behind = site_at z x in

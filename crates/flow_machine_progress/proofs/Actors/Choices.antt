@@ -239,7 +239,7 @@ module _ (r : RawTree) (code : Code) (w : Supply) (ls : List Line) (x : Scan) (s
               let node : node_of res ≡ resolved by.names c.operand = cc (same) in
               let pure : effects.effect_in (class_names r) c.operand ≡ None =
               nothing_mapped (λ y. (effect_of_name y.0, _)) (effects.effect_in (class_names r) c.operand)
-                  (sym effect ∙ effect_there r code.classes.items f c.operand (coded_by inp.program) inp.program.coded.are_classes) in
+              (sym effect ∙ effect_there r code.classes.items f c.operand (coded_by inp.program) inp.program.coded.are_classes) in
               by_value c res there pure node stuck
       by_operand b (operand.Effect eff args) is c there coded stuck =
           by_effect c eff args.items there (operand_coded r by c.operand eff (nodes_of args.items) inp.program.coded.are_classes coded) stuck

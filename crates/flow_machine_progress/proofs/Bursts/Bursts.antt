@@ -70,7 +70,7 @@ module _ {A W : Type 0} (serves : Host W) (shown_by : A → Numbered ℕ → W �
   tasks_sure ls m a p w now stores (task_now _ start t un taken stuck) = task_sure r code ls m start p t program now.between now.poised stores now.asked now.clock taken stuck
   tasks_sure ls m a p w now stores (task_later _ start between t un taken done quiet more) =
       done_then ls m start between a p w t now taken done quiet (λ q here_now. tasks_sure ls between a q w here_now (task_stores code t m start between stores taken done) more)
-          (λ s. spent_tasks code between s more)
+      (λ s. spent_tasks code between s more)
 
   -- What the last of the tasks asks is served.
   asks_sure : (ls : List Line) (m n : Process) (e : Next) (a : A) (p : Proc Frame) (w : W) → In ls m a p w → Tasks code m e n → e ≡ next.Asks → ServingStuck n.asked → ⊥
@@ -99,7 +99,7 @@ module _ {A W : Type 0} (serves : Host W) (shown_by : A → Numbered ℕ → W �
   burst_sure steady ls m a b f p w now stores (serving _ q _ _ _ tasks part why) is = asks_sure ls m q next.Asks a p w now tasks refl (why is)
   burst_sure steady ls m a b f p w now stores (further _ q j _ d _ _ tasks served more) is =
       by_served (served_then serves shown_by wrote code processes r run (branches_of r code program) steady (program_goes serves shown_by wrote code processes r program) ls m q j a d p w now tasks
-          served)
+      served)
       (λ ks t u here_now. burst_sure steady ks j d b f t u here_now (served_store q.asked (unasked q) j a d served (tasks_store m q next.Asks stores tasks)) more is)
     where
       by_served : ServedThen serves shown_by wrote code processes r run ls a p w j d → ((ks : List Line) (t : Proc Frame) (u : W) → In ks j d t u → ⊥) → ⊥

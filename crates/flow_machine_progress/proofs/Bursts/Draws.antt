@@ -188,7 +188,7 @@ module _ (code : Code) (s : ControlPoint) (n : Process) where
   method_drawn aim called [] m pace none h stuck = called_drawn s.actor called h.kind h.cell None (noted (next_stand s) m) n none h.calls stuck
   method_drawn aim called (e ∷ []) m pace none h stuck =
       evaluated_drawn value_of (value_for code s.actor.0 e m) m (IsMethodOf code s aim called) pace none
-          (λ v k none h stuck. called_drawn s.actor called h.kind h.cell (Some v) (noted (next_stand s) k) n none h.calls stuck) h stuck
+      (λ v k none h stuck. called_drawn s.actor called h.kind h.cell (Some v) (noted (next_stand s) k) n none h.calls stuck) h stuck
   method_drawn aim called (e ∷ d ∷ es) m pace none h stuck = absurd h
 
   act_drawn : (called : Predefined) (args : List Resolved) (m : Process) (pace : Pace) → m.asked ≡ None
@@ -196,7 +196,7 @@ module _ (code : Code) (s : ControlPoint) (n : Process) where
       → ServingStuck n.asked → ⊥
   act_drawn called args m pace none h stuck =
       evaluated_drawn args_of (values_for code s.actor.0 args m) m (IsAct code s (act.World called)) pace none
-          (λ v k none h stuck. predefined_drawn s.actor called v (noted (next_stand s) k) n h.1 stuck) h stuck
+      (λ v k none h stuck. predefined_drawn s.actor called v (noted (next_stand s) k) n h.1 stuck) h stuck
 
 -- no operand's type is that of a number
 no_number : (next : Bool) (t : TypeTree) → IntType ≡ operand_type next t → ⊥
@@ -260,7 +260,7 @@ module _ (r : RawTree) (code : Code) (w : Supply) (ls : List Line) (x : Scan) (s
       let same : at.group ≡ number = let k = at.wait.last in cc (k, ends_in) in
       let fetched : fetch f.code f.block f.instr ≡ Last (ChooseLast number) = at.wait.fetched ∙ ap (λ k. Last (ChooseLast k)) same in
       drawn_there number fetched ends_in (choices.at_told r code w ls x s m p i e f st at) group of_number b eff args there is
-          (effect_drawn code own (goal.Kept (group.first + kept_by own told)) eff args.items told n Off st.unasked does stuck)
+      (effect_drawn code own (goal.Kept (group.first + kept_by own told)) eff args.items told n Off st.unasked does stuck)
   asks_drawn n (moves stale zero_state) (by_operand number group b eff args end ends_in of_number there is does) stuck =
       let here = the_end r code.classes.items s i f (coded_by inp.program) inp.standing stale.standing stale.instruction end in
       let text : here.text ≡ ChooseLast number = subst (EndOf by here.text) (sym here.coded ∙ ap end_of ends_in) (end_from by here.text) in
@@ -310,12 +310,12 @@ module _ (r : RawTree) (code : Code) (program : IsProgram r code) (ls : List Lin
       let calm = goes.after_calm g.pace start g.between after in
       by_end i p g.between (goes.calm_sorted start g.between calm sorted)
       (further_follows r ls nothing_in_hand supply (ProcessInvariant r) code i class p start n program.coded (goes.allows r code program supply) now.kept g
-          (goes.after_asked g.pace start g.between none_off after)
+      (goes.after_asked g.pace start g.between none_off after)
       (ap program_time (calm.time ∙ off.calm.time) ∙ clock)) stuck
   by_goes (runs i q e f is begins) stuck =
       by_end i (on_core (pushed (Run i)) q) start sorted
       (runs_follow r ls nothing_in_hand supply (ProcessInvariant r) code start q i e f begins.stand n program.coded (goes.allows r code program supply)
-          (subst (ProcessInvariant r) is now.kept) begins.may begins.stands (off.asked ∙ none)
+      (subst (ProcessInvariant r) is now.kept) begins.may begins.stands (off.asked ∙ none)
       (ap program_time off.calm.time ∙ clock) begins.runs) stuck
 
   pub draw_stored : ServingStuck n.asked → ⊥

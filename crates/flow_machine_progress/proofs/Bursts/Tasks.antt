@@ -121,7 +121,7 @@ module _ (r : RawTree) (code : Code) (program : IsProgram r code) (ls : List Lin
         by_step : (e : Entry) (f : Frame) → Acts r start.heap q i.0 e f → MayStep r ls nothing_in_hand s start q i.0 e f → ⊥
         by_step e f acts may =
             runs_sure r code program ls nothing_in_hand supply (step_meant r code supply ls nothing_in_hand) i.0 s start q e f (kept_full (Run i.0) is) may
-                (in_class r ls start q i.0 e f code s acts stands) asks_none time sorted stuck
+            (in_class r ls start q i.0 e f code s acts stands) asks_none time sorted stuck
 
         by_may : MayGo code r ls start q i.0 → ⊥
         by_may (is_free e f acts zero may) =

@@ -98,7 +98,7 @@ module _ (h g : HeapTree) (u : RestsWith (parts_of h) h) (t : RestsWith (parts_o
   actors_alike i =
       alike (as_actor g i) (as_actor h i) (thing g.frames.things i) (thing h.frames.things i)
       (sym (part_at (λ y. y.actor) (actor_part g.actors.things) (λ y. refl) g.frames.things i) ∙ ap (λ q. actor_at q i) t.parts
-          ∙ part_at (λ y. y.actor) (actor_part h.actors.things) (λ y. refl) h.frames.things i)
+      ∙ part_at (λ y. y.actor) (actor_part h.actors.things) (λ y. refl) h.frames.things i)
 
   -- the cells
   single_shown : (spots : ℕ → Spot) (n : ℕ) (m l : CellTree Outcome) (x : Option Cell) → as_cell g n m ≡ as_cell h n l → CellRepresents spots (Some l) None x → CellRepresents spots (Some m) None x

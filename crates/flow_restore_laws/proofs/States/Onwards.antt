@@ -289,7 +289,7 @@ module _ {A : Type 0} (puts : A → Line → Result (Unit {0}) OutFault → A �
   pub programs_rest_alike : ProgramsRestAlike puts
   programs_rest_alike text program c file with_frames first v a b sound light has range starts goes =
       classes_rest_alike c file with_frames first v a b (subst AreWhole (sym has) (compiles_whole text program sound))
-          (subst HaveFewerPlaces (sym has) (compiled_fewer text program sound)) range starts goes
+      (subst HaveFewerPlaces (sym has) (compiled_fewer text program sound)) range starts goes
 
   pub programs_go_on : ProgramsGoOn puts
   programs_go_on text program c file with_frames first v a b y z e sound light has range starts goes rest =

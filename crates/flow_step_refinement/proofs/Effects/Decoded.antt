@@ -194,7 +194,7 @@ effect_coded r c k (NewInstr q) aim eff args names e = absurd (apart (EffectCode
 effect_coded r c k (ActInstr [] es) aim eff args names e = absurd (cc (e))
 effect_coded r c k (ActInstr (x ∷ []) es) aim eff args names e =
     absurd (apart (EffectCode aim eff args) (plain_code (act_named (named call_names x.name) (c.names.function x.name)) (resolved_all c.names es)) Calls e
-        (plain_shape (act_named (named call_names x.name) (c.names.function x.name)) (resolved_all c.names es)) (λ a. cc (a)) (λ a. cc (a)))
+    (plain_shape (act_named (named call_names x.name) (c.names.function x.name)) (resolved_all c.names es)) (λ a. cc (a)) (λ a. cc (a)))
 effect_coded r c k (ActInstr (x ∷ y ∷ ys) es) aim eff args names e =
     absurd (apart (EffectCode aim eff args) (coding.coded_method c (x ∷ coding.before_last y ys) (coding.last_name y ys).name (resolved_all c.names es)) CallsMethod e
     (method_shape (aimed c (x ∷ coding.before_last y ys)) (named method_names (coding.last_name y ys).name) (resolved_all c.names es)) (λ a. cc (a)) (λ a. cc (a)))
@@ -269,7 +269,7 @@ method_coded c k (ActInstr (x ∷ y ∷ ys) es) aim called args e = by_parts (ai
 method_coded c k (ActInstr [] es) aim called args e = absurd (cc (e))
 method_coded c k (ActInstr (x ∷ []) es) aim called args e =
     absurd (apart (MethodCode aim called args) (plain_code (act_named (named call_names x.name) (c.names.function x.name)) (resolved_all c.names es)) Calls e
-        (plain_shape (act_named (named call_names x.name) (c.names.function x.name)) (resolved_all c.names es)) (λ a. cc (a)) (λ a. cc (a)))
+    (plain_shape (act_named (named call_names x.name) (c.names.function x.name)) (resolved_all c.names es)) (λ a. cc (a)) (λ a. cc (a)))
 method_coded c k (SetInstr xs t) aim called args e = absurd (apart (MethodCode aim called args) (set_code (aimed c xs) (resolved c.names t)) Sets e (set_shape (aimed c xs) (resolved c.names t))
     (λ a. cc (a)) (λ a. cc (a)))
 method_coded c k (EffectInstr xs t) aim called args e = absurd (apart (MethodCode aim called args) (effect_code (aimed c xs) (coding.effect_in c t)) Affects e

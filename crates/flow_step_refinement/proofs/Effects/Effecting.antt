@@ -113,19 +113,19 @@ module _ (r : RawTree) (ls : List Line) (m : Process) (p : Proc Frame) (i : ℕ)
     by_effect left (Some (asks.Start class args)) n next rising t = absurd t
     by_effect left (Some (asks.Draw lo hi)) n next rising t =
         by_the_world refl (asks_the_world x s w f left (call.Draw (actor_id i) g lo hi) (asks.Effects h (asks.Draw lo hi)) (noted s (with_left left m)) n
-            (resumed_stood r ls m p i e f x s left st) st.asked
+        (resumed_stood r ls m p i e f x s left st) st.asked
         (draws g h lo hi (goal_then left) refl refl) t (stepped left (asks.Draw lo hi) next))
     by_effect left (Some (asks.Delay ticks)) n next rising t =
         by_the_world refl (asks_the_world x s w f left (call.Delay (actor_id i) g ticks) (asks.Effects h (asks.Delay ticks)) (noted s (with_left left m)) n
-            (resumed_stood r ls m p i e f x s left st) st.asked
+        (resumed_stood r ls m p i e f x s left st) st.asked
         (delays g h ticks (goal_then left) refl refl) t (stepped left (asks.Delay ticks) next))
     by_effect left (Some (asks.Listen port)) n next rising t =
         by_the_world refl (asks_the_world x s w f left (call.Listen (actor_id i) g port) (asks.Effects h (asks.Listen port)) (noted s (with_left left m)) n
-            (resumed_stood r ls m p i e f x s left st) st.asked
+        (resumed_stood r ls m p i e f x s left st) st.asked
         (listens g h port (goal_then left) refl refl) t (stepped left (asks.Listen port) next))
     by_effect left (Some (asks.Disk request)) n next rising t =
         by_the_world refl (asks_the_world x s w f left (call.Disk (actor_id i) g t.asked) (asks.Effects h (asks.Disk request)) (noted s (with_left left m)) n
-            (resumed_stood r ls m p i e f x s left st) st.asked
+        (resumed_stood r ls m p i e f x s left st) st.asked
         (disks g h t.asked (goal_then left) refl (ap (λ d. asks.Effects h (asks.Disk d)) (sym t.same ∙ disk_same t.asked))) t.asks (stepped left (asks.Disk request) next))
     by_effect left (Some asks.Never) n next rising t = by_itself (record {
       after = on_core (gives_new i h kind.Future (empty_cell kind.Future)) (resumed i f left p);

@@ -133,7 +133,7 @@ module _ (r : RawTree) (ls : List Line) (x : Scan) (m : Process) (p : Proc Frame
       let held = refs_held r ls x m1 p2 (refs_in us) one (all_still p may.cells (refs_in us) may.there) in
       let heap_is : hold_all (refs_in us) (made kind.Future m.heap) ≡ with_args vs m.heap = ap (λ qs. hold_all qs (with_result (next_cell m.heap) m.heap)) (sym (refs_same vs)) in
       let two : ProcessRepresents r ls (with_refs (refs_in us) x) (on_heap (with_args vs) m) p2 =
-              subst (λ h. ProcessRepresents r ls (with_refs (refs_in us) x) (record m { heap = h }) p2) heap_is held in
+      subst (λ h. ProcessRepresents r ls (with_refs (refs_in us) x) (record m { heap = h }) p2) heap_is held in
       let same = same_class r code.classes.items may.coded class en.of may.tree en.at may.at in
       let places : en.of.places ≡ length may.tree.slots + length may.tree.locals = ap (λ (c : ClassCode). c.places) same in
       let taken : length vs ≡ may.tree.params = sym (as_many vs) ∙ may.taken in
@@ -179,7 +179,7 @@ module _ (r : RawTree) (ls : List Line) (x : Scan) (m : Process) (p : Proc Frame
       let there : AllThere p3 (value_refs (Ref kind.Future st.cell)) = subst (λ v. AllThere p3 (refs_of v)) (sym (ref_seen kind.Future st.cell)) (future, tt) in
       let q3 = subst (λ v. ProcessRepresents r ls x st.given (on_core (gives i.0 h v) p3)) (ref_seen kind.Future st.cell)
       (result_given r ls x st.enrolled p3 g h i (Ref kind.Future st.cell) st.given en.shown there
-          (same_goal_then (celled p may.cells) class st.cell.0 f i.0 g h other (same_goal_by p (celled p may.cells) i.0 g h refl refl same)) st.gives) in
+      (same_goal_then (celled p may.cells) class st.cell.0 f i.0 g h other (same_goal_by p (celled p may.cells) i.0 g h refl refl same)) st.gives) in
       let p4 = on_core (gives i.0 h (RefValue kind.Future st.cell.0)) p3 in
       let u = Run st.actor.0 in
       let ran = task_done r ls x st.given p4 (task.Run st.actor) u (as_many_shown r ls x (with_task u x) st.given p4 (λ z j. omega arith) q3) refl in
@@ -191,13 +191,13 @@ module _ (r : RawTree) (ls : List Line) (x : Scan) (m : Process) (p : Proc Frame
       st.starts.told ∙ ap (λ l. telling (line.Start st.actor l) (doing (task.Run st.actor) st.given)) named in
       let actor : st.actor ≡ actor_id (suc p.core.started) = ap actor_id en.actor in
       subst (λ z. ProcessRepresents r ls x z (proc (enrol class may.tree.name (push_result i.0 (result_task i.0 h (RefValue kind.Future (suc p.core.made))) p.core))
-          (added p.actors (suc p.core.started) f))) (sym out)
+      (added p.actors (suc p.core.started) f))) (sym out)
       (subst (λ z. ProcessRepresents r ls x (telling (line.Start st.actor may.tree.name) (doing (task.Run st.actor) st.given)) z) (as_enrolled p class f i.0 h may.tree.name)
       (subst (λ k. ProcessRepresents r ls x (telling (line.Start st.actor may.tree.name) (doing (task.Run st.actor) st.given))
-          (on_core (writes (start_line (suc p.core.started) may.tree.name))
-          (on_core (pushed (Run (suc p.core.started))) (on_core (gives i.0 h (RefValue kind.Future k)) (with_actor class k f (on_core (new_cell (Single None [])) p)))))) en.cell
+      (on_core (writes (start_line (suc p.core.started) may.tree.name))
+      (on_core (pushed (Run (suc p.core.started))) (on_core (gives i.0 h (RefValue kind.Future k)) (with_actor class k f (on_core (new_cell (Single None [])) p)))))) en.cell
       (subst (λ (a : ActorId). ProcessRepresents r ls x (telling (line.Start st.actor may.tree.name) (doing (task.Run st.actor) st.given))
-          (on_core (writes (line.Start a may.tree.name)) (on_core (pushed (Run a.0)) p4))) actor told)))
+      (on_core (writes (line.Start a may.tree.name)) (on_core (pushed (Run a.0)) p4))) actor told)))
 
   abbrev pub may_turned : (k : ℕ) (code : Code) (class : ℕ) (us : List ValueTree) → MayStart r p code class us → MayStart r (on_core (λ c. record c { left = k }) p) code class us
   may_turned k code class us may = record {
@@ -224,9 +224,9 @@ module _ (r : RawTree) (ls : List Line) (x : Scan) (m : Process) (p : Proc Frame
   call_starts code i g h class vs e f n s none acts may same called =
       subst (λ o. Matches r ls x n (start (classes r) i.0 h class o p).0) (sym (fresh_actor r class may.tree (map value_of vs) may.at may.taken))
       (subst (λ l. Matches r ls x n (proc (turn p.core (λ d. enrol class l (push_result i.0 (result_task i.0 h (RefValue kind.Future (suc d.made))) d)))
-          (added p.actors (suc p.core.started) (begun may.tree (map value_of vs))))) (sym (label_is r class may.tree may.at))
+      (added p.actors (suc p.core.started) (begun may.tree (map value_of vs))))) (sym (label_is r class may.tree may.at))
       (by_turn r ls x m p x n (λ d. enrol class may.tree.name (push_result i.0 (result_task i.0 h (RefValue kind.Future (suc d.made))) d)) p.core
-          (added p.actors (suc p.core.started) (begun may.tree (map value_of vs))) s refl refl
+      (added p.actors (suc p.core.started) (begun may.tree (map value_of vs))) s refl refl
       (by_none called) (by_some called)))
     where
       other : suc p.core.started ≡ i.0 → ⊥
@@ -246,7 +246,7 @@ module _ (r : RawTree) (ls : List Line) (x : Scan) (m : Process) (p : Proc Frame
       by_some (actor_starts t st) k l now =
           let q : Proc Frame = on_core (λ d. record d { left = k }) p in
           shows (starts_shown r ls x (turned m) q code i g h class vs n now (turned_asked m ∙ none) other (may_turned r ls x m p k code class (map value_of vs) may)
-              (same_goal_by p q i.0 g h refl refl same) st)
+          (same_goal_by p q i.0 g h refl refl same) st)
 
 -- what holds of a process holds when an actor of it has evaluated
 pub may_resumed : (r : RawTree) (p : Proc Frame) (code : Code) (class : ℕ) (us : List ValueTree) (i : ℕ) (f : Frame) (left : ℕ) → MayStart r p code class us

@@ -149,7 +149,7 @@ sending_good i kd k o m p = by_test (complete_at kd k m.heap) (nat_lt 0 m.left)
         let one = hold_all (outcome_refs o) a.heap in
         let two = pushed (task.Run i) one in
         aside_poised a.heap (sent_into i kd k o a.heap) (and_then a.heap one (filled_in kd k o two) (holding_all (outcome_refs o) a.heap)
-            (and_then one two (filled_in kd k o two) (pushing (task.Run i) one) (filling kd k o two))) (turned_good m p)
+        (and_then one two (filled_in kd k o two) (pushing (task.Run i) one) (filling kd k o two))) (turned_good m p)
 
 pub stopped_good : (i : ℕ) (m : Process) → NoStaleWaits m.heap → NoStaleWaits (stopped i m).heap
 stopped_good i m p = cancelled_poised i m.heap p

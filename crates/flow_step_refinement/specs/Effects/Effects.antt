@@ -46,7 +46,7 @@ module _ (r : RawTree) (ls : List Line) (m : Process) (p : Proc Frame) (i : ℕ)
   abbrev pub EffectStep : Type 0
   EffectStep =
       (x : Scan) (s : ControlPoint) (w : Supply) (code : Code) (path : List Ident) (t : ExprTree) (es : ExprTrees) (called : Effectful)
-          (eff : Effect)
+      (eff : Effect)
       (comes_to : Res (List ValueTree)) (pace : Pace) (n : Process)
       → MayAsk r ls x s m p i e f → MayMake r code p called comes_to
       → fetch f.code f.block f.instr ≡ Body (EffectInstr path t) → effect_in (class_names r) t ≡ Some (called, es) → SameEffect eff called
@@ -58,7 +58,7 @@ module _ (r : RawTree) (ls : List Line) (m : Process) (p : Proc Frame) (i : ℕ)
   abbrev pub EffectOperandStep : Type 0
   EffectOperandStep =
       (x : Scan) (s : ControlPoint) (w : Supply) (code : Code) (group k : ℕ) (b : CallbackTree) (es : ExprTrees) (called : Effectful)
-          (eff : Effect)
+      (eff : Effect)
       (comes_to : Res (List ValueTree)) (pace : Pace) (n : Process)
       → MayAsk r ls x s m p i e f → MayMake r code p called comes_to
       → fetch f.code f.block f.instr ≡ Last (ChooseLast group)

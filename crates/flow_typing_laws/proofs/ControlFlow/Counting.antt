@@ -36,7 +36,7 @@ mutual
       let h = suc (m + points i) in
       let l = h + points t in
       joined (waits i m ++ waits t h ++ waits b l) _ _ _ (joined (waits i m ++ waits t h) _ _ _ (joined _ _ _ _ (places_of_waits i m) (places_of_waits t h)) (places_of_waits b l))
-          (places_of_waits k (l + points b))
+      (places_of_waits k (l + points b))
   places_of_waits (LoopStmt at b k) m = joined _ _ _ _ (places_of_waits b (suc m)) (places_of_waits k (suc m + points b))
   places_of_waits (BreakStmt at k) m = places_of_waits k (suc m)
   places_of_waits (ContinueStmt at k) m = places_of_waits k (suc m)
@@ -123,10 +123,10 @@ mutual
   counted n End m vs p = none
   counted n (BlockStmt at b k) m vs p =
       over (note vs p) refl (counted_then (suc m + points b) (left n b) _ _ (counted n b (suc m) vs p) (on_by (suc m) n b vs p) (less_by n (suc m) b)
-          (counted (left n b) k (suc m + points b) vs (behind_all vs p (block_ways n b).ends)))
+      (counted (left n b) k (suc m + points b) vs (behind_all vs p (block_ways n b).ends)))
   counted n (IfStmt at e b k) m vs p =
       over (note vs p) refl (counted_then (suc m + points b) (left n b) _ _ (counted n b (suc m) vs p) (on_by (suc m) n b vs p) (less_by n (suc m) b)
-          (counted (left n b) k (suc m + points b) vs (behind_all vs p (if_ways n b).ends)))
+      (counted (left n b) k (suc m + points b) vs (behind_all vs p (if_ways n b).ends)))
   counted n (IfElseStmt at e b c k) m vs p =
       let l = suc m + points b in
       let r = counted (left (left n b) c) k (l + points c) vs (behind_all vs p (if_else_ways n b c).ends) in
@@ -136,7 +136,7 @@ mutual
   counted n (WhileStmt at e b k) m vs p =
       let h = behind_all vs p (head (ways n b)) in
       over (note vs h) refl (counted_then (suc m + points b) (left n b) _ _ (counted n b (suc m) vs h) (on_by (suc m) n b vs h) (less_by n (suc m) b)
-          (counted (left n b) k (suc m + points b) vs (behind_all vs p (looped true (ways n b)).ends)))
+      (counted (left n b) k (suc m + points b) vs (behind_all vs p (looped true (ways n b)).ends)))
   counted n (ForStmt at i e t b k) m vs p =
       let g = m + points i in
       let l = suc g + points t in
@@ -152,7 +152,7 @@ mutual
   counted n (LoopStmt at b k) m vs p =
       let h = behind_all vs p (head (ways n b)) in
       over (note vs h) refl (counted_then (suc m + points b) (left n b) _ _ (counted n b (suc m) vs h) (on_by (suc m) n b vs h) (less_by n (suc m) b)
-          (counted (left n b) k (suc m + points b) vs (behind_all vs p (looped false (ways n b)).ends)))
+      (counted (left n b) k (suc m + points b) vs (behind_all vs p (looped false (ways n b)).ends)))
   counted n (BreakStmt at k) m vs p = over (note vs p) refl (counted n k (suc m) vs (behind_all vs p never))
   counted n (ContinueStmt at k) m vs p = over (note vs p) refl (counted n k (suc m) vs (behind_all vs p never))
   counted n (ReturnStmt at v k) m vs p = over (note vs p) refl (counted n k (suc m) vs (behind_all vs p never))
@@ -170,7 +170,7 @@ mutual
       let n' = n - 1 - length (branch_groups bs) in
       wait (wait_note n vs p) (record { at = at; point = m }) refl refl
       (counted_then (suc m + branch_points bs) n' _ _ (branch_counted (n - 1) bs (suc m) vs q) (ap (λ z. suc m + z) (branch_notes_many (n - 1) bs (suc m) vs q))
-          (ap (λ z. n - 1 - z) (branch_waits_many bs (suc m)))
+      (ap (λ z. n - 1 - z) (branch_waits_many bs (suc m)))
       (counted n' k (suc m + branch_points bs) vs (behind_all vs p (choose_ways n bs).ends)))
   counted n (DeclareStmt at i v k) m vs p = over (note vs p) refl (counted n k (suc m) (declared m i ∷ vs) p)
   counted n (AssignStmt at xs v k) m vs p = over (note vs p) refl (counted n k (suc m) vs p)
@@ -184,7 +184,7 @@ mutual
       let ws = with_into m w.into vs in
       let e : suc m + points b ≡ suc (m + points b) = omega arith in
       over (note vs q) refl (counted_then (suc (m + points b)) (left n b) _ _ (counted n b (suc m) ws q) (on_by (suc m) n b ws q ∙ e) (less_by n (suc m) b)
-          (branch_counted (left n b) bs (suc (m + points b)) vs q))
+      (branch_counted (left n b) bs (suc (m + points b)) vs q))
 
 abbrev or_wait : Wait → Option Wait → Wait
 or_wait w None = w

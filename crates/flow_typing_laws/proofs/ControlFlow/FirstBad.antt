@@ -306,7 +306,7 @@ module _ (ps : List ParamTree) (b : Body) (s : HasSimpleParts b) where
       let n = r.is_number in
       let mr : m ≡ r.number = omega (arith, n) in
       let same = only q.number x.number x.within (λ l. q.before x.number l
-              (let l' : x.number < 0 + x.number + 1 = omega arith in bad_lost ps b s (0 + x.number + 1) m x.mention x.is_mention x.number x.wait x.is_wait l' x.bad)) in
+      (let l' : x.number < 0 + x.number + 1 = omega arith in bad_lost ps b s (0 + x.number + 1) m x.mention x.is_mention x.number x.wait x.is_wait l' x.bad)) in
       let is_wait = subst (λ k. slice_get (waits b 1) k ≡ Some x.wait) same x.is_wait in
       let p = mention_pair (tells many ps b) (control b) (each many ps b s) m x.mention x.is_mention in
       let same_use : p.found ≡ u = ap (or_use p.found) (sym p.is_use ∙ f) in

@@ -129,7 +129,7 @@ throws_there n (ThrowStmt at v k) s = refl
 throws_there n (TryStmt at b q x h k) s = refl
 throws_there n (ChooseStmt at bs k) s =
     sym (reached_first (onward (waited_at n) (either at_once (branch_ways (n - 1) bs).throws)) _
-        (reached_onward (waited_at n) (either at_once (branch_ways (n - 1) bs).throws) ∙ ap (λ x. x && true) (waited_reached n)))
+    (reached_onward (waited_at n) (either at_once (branch_ways (n - 1) bs).throws) ∙ ap (λ x. x && true) (waited_reached n)))
 throws_there n (DeclareStmt at i v k) s = refl
 throws_there n (AssignStmt at xs v k) s = refl
 throws_there n (ModifyStmt at xs c k) s = refl

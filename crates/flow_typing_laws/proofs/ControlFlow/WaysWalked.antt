@@ -26,8 +26,12 @@ module _ (tell : ℕ → Note) (g : List (Edge ℕ)) where
   past_leads (Some c) m a t f p e = statement_second tell g m a t f [] p
 
   empty_walked : (lo m : ℕ) (a : Around) → Walked tell g empty lo a.follows a
-  empty_walked lo m a = record { ends = record { fresh = λ e. trail_stay tell g lo a.follows; waited = λ e. absurd (false≢true e) }; breaks = λ t e. goes_never tell g lo a.follows t;
-      continues = λ t e. goes_never tell g lo a.follows t; throws = λ t e. goes_never tell g lo a.follows t }
+  empty_walked lo m a = record {
+    ends = record { fresh = λ e. trail_stay tell g lo a.follows; waited = λ e. absurd (false≢true e) };
+    breaks = λ t e. goes_never tell g lo a.follows t;
+    continues = λ t e. goes_never tell g lo a.follows t;
+    throws = λ t e. goes_never tell g lo a.follows t;
+  }
 
   -- Walks from a statement, by those from its parts.
   pub block_walked : (n : ℕ) (c : Body) (m : ℕ) (a : Around) (f : ℕ) → Part tell g (statement m a (first c (suc m) f ∷ [])) → Walked tell g (ways n c) (suc m) (first c (suc m) f) (followed_by a f)
@@ -47,7 +51,7 @@ module _ (tell : ℕ → Note) (g : List (Edge ℕ)) where
       let up : m ≤ suc m = omega arith in
       walked_both tell g (plain at_once) (ways n c) m m (followed_by a f) (walked_plain tell g m m (followed_by a f) (x ∷ f ∷ []) le is (statement_second tell g m a x f [] is))
       (walked_before tell g (ways n c) m m x (followed_by a f) (trail_step tell g m m x le (statement_first tell g m a x (f ∷ []) is))
-          (walked_less tell g (ways n c) m (suc m) x (followed_by a f) up k))
+      (walked_less tell g (ways n c) m (suc m) x (followed_by a f) up k))
 
   pub if_else_walked : (n : ℕ) (c d : Body) (m l : ℕ) (a : Around) (f : ℕ) → m ≤ l → Part tell g (statement m a (first c (suc m) f ∷ first d l f ∷ []))
       → Walked tell g (ways n c) (suc m) (first c (suc m) f) (followed_by a f)
@@ -60,9 +64,9 @@ module _ (tell : ℕ → Note) (g : List (Edge ℕ)) where
       walked_both tell g (node at_once) (both (ways n c) (ways (left n c) d)) m m (followed_by a f) (walked_node tell g m m (followed_by a f) (x ∷ y ∷ []) le is)
       (walked_both tell g (ways n c) (ways (left n c) d) m m (followed_by a f)
       (walked_before tell g (ways n c) m m x (followed_by a f) (trail_step tell g m m x le (statement_first tell g m a x (y ∷ []) is))
-          (walked_less tell g (ways n c) m (suc m) x (followed_by a f) up k))
+      (walked_less tell g (ways n c) m (suc m) x (followed_by a f) up k))
       (walked_before tell g (ways (left n c) d) m m y (followed_by a f) (trail_step tell g m m y le (statement_second tell g m a x y [] is))
-          (walked_less tell g (ways (left n c) d) m l y (followed_by a f) ml j)))
+      (walked_less tell g (ways (left n c) d) m l y (followed_by a f) ml j)))
 
   pub while_walked : (n : ℕ) (c : Body) (m : ℕ) (a : Around) (f : ℕ) → Part tell g (statement m a (first c (suc m) m ∷ f ∷ []))
       → Walked tell g (ways n c) (suc m) (first c (suc m) m) (in_loop (followed_by a f) m) → Walked tell g (looped true (ways n c)) m m (followed_by a f)
@@ -123,7 +127,7 @@ module _ (tell : ℕ → Note) (g : List (Edge ℕ)) where
       let le : m ≤ m = omega arith in
       let up : m ≤ suc m = omega arith in
       walked_then tell g (plain at_once) (ways n k) m m f a (walked_plain tell g m m (followed_by a f) (f ∷ []) le is (statement_first tell g m a f [] is))
-          (walked_less tell g (ways n k) m (suc m) f a up (r (part_right tell g (statement m a (f ∷ [])) (edges k (suc m) a) i)))
+      (walked_less tell g (ways n k) m (suc m) f a up (r (part_right tell g (statement m a (f ∷ [])) (edges k (suc m) a) i)))
 
   mutual
     pub walked : (n : ℕ) (b : Body) (m : ℕ) (vs : List Named) (p : Point) (a : Around) → Tells tell m (notes n b m vs p) → Part tell g (edges b m a)
@@ -252,7 +256,7 @@ module _ (tell : ℕ → Note) (g : List (Edge ℕ)) where
         (walked n j m vs p (followed_by a y) hi (part_left tell g ei es i3))
         (walked_less tell g (looped (is_there e) wr) m y y (followed_by a f) my
         (round_walked n j t c e y m'' z a f up'' is (walked nc c m'' ws q (in_loop (followed_by a f) z) hc (part_right tell g (ei ++ es ++ et) ec i1))
-            (walked nt t (suc y) ws r (in_step a y) ht (part_right tell g (ei ++ es) et i2)))))
+        (walked nt t (suc y) ws r (in_step a y) ht (part_right tell g (ei ++ es) et i2)))))
         (walked_less tell g (ways nk k) m m' f a up' (walked nk k m' vs (behind_all vs p w.ends) a hk (part_right tell g (ei ++ es ++ et ++ ec) ek i)))
     walked n (LoopStmt at c k) m vs p a h i =
         let w = looped false (ways n c) in
@@ -277,14 +281,23 @@ module _ (tell : ℕ → Note) (g : List (Edge ℕ)) where
         let le : m ≤ m = omega arith in
         let is = part_left tell g (statement m a (listed a.breaks)) (edges k (suc m) a) i in
         let nd = walked_node tell g m m a (listed a.breaks) le is in
-        record { ends = nd.ends; breaks = λ t e. goes_trail tell g m m t (trail_step tell g m m t le (statement_to tell g m a (listed a.breaks) t is (contains_listed a.breaks t e)));
-            continues = nd.continues; throws = nd.throws }
+        record {
+          ends = nd.ends;
+          breaks = λ t e. goes_trail tell g m m t (trail_step tell g m m t le (statement_to tell g m a (listed a.breaks) t is (contains_listed a.breaks t e)));
+          continues = nd.continues;
+          throws = nd.throws;
+        }
     walked n (ContinueStmt at k) m vs p a h i =
         let le : m ≤ m = omega arith in
         let is = part_left tell g (statement m a (listed a.continues)) (edges k (suc m) a) i in
         let nd = walked_node tell g m m a (listed a.continues) le is in
-        record { ends = nd.ends; breaks = nd.breaks; continues = λ t e. goes_trail tell g m m t
-            (trail_step tell g m m t le (statement_to tell g m a (listed a.continues) t is (contains_listed a.continues t e))); throws = nd.throws }
+        record {
+          ends = nd.ends;
+          breaks = nd.breaks;
+          continues = λ t e. goes_trail tell g m m t
+              (trail_step tell g m m t le (statement_to tell g m a (listed a.continues) t is (contains_listed a.continues t e)));
+          throws = nd.throws;
+        }
     walked n (ReturnStmt at e k) m vs p a h i = let le : m ≤ m = omega arith in walked_node tell g m m a [] le (part_left tell g (statement m a []) (edges k (suc m) a) i)
     walked n (ThrowStmt at e k) m vs p a h i = let le : m ≤ m = omega arith in walked_node tell g m m a [] le (part_left tell g (statement m a []) (edges k (suc m) a) i)
     walked n (TryStmt at c q z d k) m vs p a h i =
@@ -315,7 +328,7 @@ module _ (tell : ℕ → Note) (g : List (Edge ℕ)) where
         let my' : m ≤ suc y = omega arith in
         walked_then tell g w (ways n' k) m m f a
         (try_walked n c d m y a f my is (part_right tell g (es ++ ec) eh i2) (walked n c (suc m) vs p (in_try (followed_by a f) y) hc (part_right tell g es ec i3))
-            (walked (left n c) d (suc y) us t (followed_by a f) hd (part_right tell g (es ++ ec ++ eh) ed i1)))
+        (walked (left n c) d (suc y) us t (followed_by a f) hd (part_right tell g (es ++ ec ++ eh) ed i1)))
         (walked_less tell g (ways n' k) m m' f a up' (walked n' k m' vs (behind_all vs p w.ends) a hk (part_right tell g (es ++ ec ++ eh ++ ed) ek i)))
     walked n (ChooseStmt at bs k) m vs p a h i =
         let w = choose_ways n bs in
@@ -364,7 +377,7 @@ module _ (tell : ℕ → Note) (g : List (Edge ℕ)) where
         let hc = tells_first tell (suc m) (notes n c (suc m) ws q) _ h.1 in
         let e : suc m + points c ≡ m' = omega arith in
         let hr = subst (λ z. Tells tell z (branch_notes (left n c) bs m' vs q)) e
-                (tells_rest tell (suc m) (points c) (notes n c (suc m) ws q) (branch_notes (left n c) bs m' vs q) (notes_many n c (suc m) ws q) h.1) in
+        (tells_rest tell (suc m) (points c) (notes n c (suc m) ws q) (branch_notes (left n c) bs m' vs q) (notes_many n c (suc m) ws q) h.1) in
         let el = leads m (y ∷ []) in
         let ec = edges c (suc m) a in
         let eb = branch_edges bs m' a in

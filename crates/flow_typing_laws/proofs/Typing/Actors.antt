@@ -85,28 +85,45 @@ module _ (ds : List DeclTree) (apart : Distinct ds) where
   init_stands : (e : Env) (vars : List ParamTree) (r : TypeTree) (c : Option (List ℕ)) (i : Body) → e.setting ≡ at_actor vars → InitKind i → HasPaths i → body_refusal e i ≡ None
       → StandsWell ds r false c vars i
   init_stands e vars r c _ k no_init p h = tt
-  init_stands e vars r c _ k (declares at i v) p h = (value_given vars e.states i v
-      (at_item ds false e vars at (λ s. declare_fault s e.states i v) k (neither_first (item at (declare_fault e.setting e.states i v)) None h)), tt)
-  init_stands e vars r c _ k (assigns at xs v) p h = (assign_gives vars xs v p.0
-      (at_item ds false e vars at (λ s. assign_fault s xs v) k (neither_first (item at (assign_fault e.setting xs v)) None h)), tt)
-  init_stands e vars r c _ k (modifies at xs d) p h = (modify_fits ds apart false vars xs d p.0
-      (at_item ds false e vars at (λ s. modify_fault s xs d) k (neither_first (item at (modify_fault e.setting xs d)) None h)), tt)
+  init_stands e vars r c _ k (declares at i v) p h = (
+    value_given vars e.states i v
+        (at_item ds false e vars at (λ s. declare_fault s e.states i v) k (neither_first (item at (declare_fault e.setting e.states i v)) None h)),
+    tt,
+  )
+  init_stands e vars r c _ k (assigns at xs v) p h = (
+    assign_gives vars xs v p.0
+        (at_item ds false e vars at (λ s. assign_fault s xs v) k (neither_first (item at (assign_fault e.setting xs v)) None h)),
+    tt,
+  )
+  init_stands e vars r c _ k (modifies at xs d) p h = (
+    modify_fits ds apart false vars xs d p.0
+        (at_item ds false e vars at (λ s. modify_fault s xs d) k (neither_first (item at (modify_fault e.setting xs d)) None h)),
+    tt,
+  )
 
   step_stands : (e : Env) (vars : List ParamTree) (r : TypeTree) (c : Option (List ℕ)) (t : Body) → e.setting ≡ at_actor vars → StepKind t → HasPaths t → body_refusal e t ≡ None
       → StandsWell ds r false c vars t
   step_stands e vars r c _ k no_step p h = tt
-  step_stands e vars r c _ k (assigned at xs v) p h = (assign_gives vars xs v p.0
-      (at_item ds false e vars at (λ s. assign_fault s xs v) k (neither_first (item at (assign_fault e.setting xs v)) None h)), tt)
-  step_stands e vars r c _ k (modified at xs d) p h = (modify_fits ds apart false vars xs d p.0
-      (at_item ds false e vars at (λ s. modify_fault s xs d) k (neither_first (item at (modify_fault e.setting xs d)) None h)), tt)
+  step_stands e vars r c _ k (assigned at xs v) p h = (
+    assign_gives vars xs v p.0
+        (at_item ds false e vars at (λ s. assign_fault s xs v) k (neither_first (item at (assign_fault e.setting xs v)) None h)),
+    tt,
+  )
+  step_stands e vars r c _ k (modified at xs d) p h = (
+    modify_fits ds apart false vars xs d p.0
+        (at_item ds false e vars at (λ s. modify_fault s xs d) k (neither_first (item at (modify_fault e.setting xs d)) None h)),
+    tt,
+  )
 
   mutual
     stands_well : (b : Body) (e : Env) (vars : List ParamTree) (r : TypeTree) (loop : Bool) (c : Option (List ℕ)) → Stands ds false e vars r loop c → HasSimpleParts b → HasPaths b
         → body_refusal e b ≡ None → StandsWell ds r loop c vars b
     stands_well End e vars r loop c k s p h = tt
-    stands_well (BlockStmt at b t) e vars r loop c k s p h =
-        (stands_well b e vars r loop c k s.0 p.0 (neither_first (body_refusal e b) _ h), stands_well t (behind e b) vars r loop c (stands_behind ds false e b vars r loop c k) s.1 p.1
-            (neither_second (body_refusal e b) _ h))
+    stands_well (BlockStmt at b t) e vars r loop c k s p h = (
+      stands_well b e vars r loop c k s.0 p.0 (neither_first (body_refusal e b) _ h),
+      stands_well t (behind e b) vars r loop c (stands_behind ds false e b vars r loop c k) s.1 p.1
+          (neither_second (body_refusal e b) _ h),
+    )
     stands_well (IfStmt at q b t) e vars r loop c k s p h =
         let i = item at (test_fault e.setting q) in
         let l = neither_second i _ h in (
@@ -184,9 +201,11 @@ module _ (ds : List DeclTree) (apart : Distinct ds) where
     stands_well (ChooseStmt at bs t) e vars r loop c k s p h =
         let i = item at (unless (not e.setting.plain) WAIT_OUTSIDE) in
         let l = neither_second i _ h in
-        let e' = with_states e (slot_names (branch_slots bs)) in
-        (stand_well bs e vars r loop c k s.0 p.0 (neither_first (branch_refusal e bs) _ l), stands_well t e' vars r loop c (stands_states e (slot_names (branch_slots bs)) vars r loop c k) s.1 p.1
-            (neither_second (branch_refusal e bs) _ l))
+        let e' = with_states e (slot_names (branch_slots bs)) in (
+          stand_well bs e vars r loop c k s.0 p.0 (neither_first (branch_refusal e bs) _ l),
+          stands_well t e' vars r loop c (stands_states e (slot_names (branch_slots bs)) vars r loop c k) s.1 p.1
+              (neither_second (branch_refusal e bs) _ l),
+        )
     stands_well (DeclareStmt at i v t) e vars r loop c k s p h =
         let f = item at (declare_fault e.setting e.states i v) in (
           value_given vars e.states i v (at_item ds false e vars at (λ s. declare_fault s e.states i v) k.setting (neither_first f _ h)),

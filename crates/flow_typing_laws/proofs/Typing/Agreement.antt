@@ -194,7 +194,7 @@ module _ (ds : List DeclTree) (vars : List ParamTree) (apart : Distinct ds) wher
   declared_as x None e f = tt
   declared_as x (Some (RecordOf fs)) e f =
       let r = ap (λ b. if b then takes (map (λ (f : List ℕ × TypeTree). f.1) packet_fields) (NamedType x) else option_map
-              (λ (r : RecordTree). record { params = param_types r.fields; gives = NamedType x }) (record_named (records_in ds) x)) e
+      (λ (r : RecordTree). record { params = param_types r.fields; gives = NamedType x }) (record_named (records_in ds) x)) e
       ∙ ap (option_map (λ (r : RecordTree). record { params = param_types r.fields; gives = NamedType x })) f.1 in
       let t = ap (λ ts. takes ts (NamedType x)) (sym (ap (map (λ (f : List ℕ × TypeTree). f.1)) f.2 ∙ row_types f.0.fields)) in (
         ap (λ o. or_else o (or_else (function_call (functions_in ds) x) (actor_call (actors_in ds) x))) r ∙ t,
@@ -202,7 +202,7 @@ module _ (ds : List DeclTree) (vars : List ParamTree) (apart : Distinct ds) wher
       )
   declared_as x (Some (FunctionOf ts t)) e f =
       let r = ap (λ b. if b then takes (map (λ (f : List ℕ × TypeTree). f.1) packet_fields) (NamedType x) else option_map
-              (λ (r : RecordTree). record { params = param_types r.fields; gives = NamedType x }) (record_named (records_in ds) x)) e
+      (λ (r : RecordTree). record { params = param_types r.fields; gives = NamedType x }) (record_named (records_in ds) x)) e
       ∙ ap (option_map (λ (r : RecordTree). record { params = param_types r.fields; gives = NamedType x })) f.1 in (
         ap (λ o. or_else o (or_else (function_call (functions_in ds) x) (actor_call (actors_in ds) x))) r
             ∙ ap (λ o. or_else (option_map (λ (f : RoutineTree). record { params = param_types f.params; gives = f.returns }) o) (actor_call (actors_in ds) x)) f.2 ∙ ap₂ takes (sym f.3) (sym f.4),
@@ -213,17 +213,17 @@ module _ (ds : List DeclTree) (vars : List ParamTree) (apart : Distinct ds) wher
       )
   declared_as x (Some (ActorOf ts t)) e f =
       let r = ap (λ b. if b then takes (map (λ (f : List ℕ × TypeTree). f.1) packet_fields) (NamedType x) else option_map
-              (λ (r : RecordTree). record { params = param_types r.fields; gives = NamedType x }) (record_named (records_in ds) x)) e
+      (λ (r : RecordTree). record { params = param_types r.fields; gives = NamedType x }) (record_named (records_in ds) x)) e
       ∙ ap (option_map (λ (r : RecordTree). record { params = param_types r.fields; gives = NamedType x })) f.1 in
       ap (λ o. or_else o (or_else (function_call (functions_in ds) x) (actor_call (actors_in ds) x))) r
       ∙ ap₂ (λ o q. or_else (option_map (λ (f : RoutineTree). record { params = param_types f.params; gives = f.returns }) o)
-          (option_map (λ (f : RoutineTree). record { params = param_types f.params; gives = FutureType f.returns }) q)) f.2 f.3
+      (option_map (λ (f : RoutineTree). record { params = param_types f.params; gives = FutureType f.returns }) q)) f.2 f.3
       ∙ ap₂ (λ ts t. takes ts (FutureType t)) (sym f.4) (sym f.5)
 
   packet_as : (x : List ℕ) → is_packet x ≡ true → IsDeclared scope x (Some (RecordOf packet_fields))
   packet_as x e =
       let r = ap (λ b. if b then takes (map (λ (f : List ℕ × TypeTree). f.1) packet_fields) (NamedType x) else option_map
-              (λ (r : RecordTree). record { params = param_types r.fields; gives = NamedType x }) (record_named (records_in ds) x)) e in (
+      (λ (r : RecordTree). record { params = param_types r.fields; gives = NamedType x }) (record_named (records_in ds) x)) e in (
         ap (λ o. or_else o (or_else (function_call (functions_in ds) x) (actor_call (actors_in ds) x))) r,
         ap (λ o. not (is_there o) && not (is_there (routine_named (functions_in ds) x)) && is_there (routine_named (actors_in ds) x)) r,
       )

@@ -321,7 +321,7 @@ module _ (s : Setting) (c : ScopeTree) (a : Agrees s c) where
     typed whole (CallExpr f xs) h =
         of_call whole f xs (name_called s c a whole xs f.name (named call_names f.name) (no_second (faults s 0 (needs_of (called s f.name)) xs) (calls xs (called s f.name) (placed s whole)) h))
         (λ ts n m. all_typed 0 (needs_of (called s f.name)) ts xs (from_start (needs_of (called s f.name)) (map Exactly ts) n) m
-            (no_first (faults s 0 (needs_of (called s f.name)) xs) (calls xs (called s f.name) (placed s whole)) h))
+        (no_first (faults s 0 (needs_of (called s f.name)) xs) (calls xs (called s f.name) (placed s whole)) h))
     typed whole (FieldExpr e x) h = of_field_expr whole e x (typed false e (no_first (fault s false e) (of_field s (form s e) x.name) h)) (no_second (fault s false e) (of_field s (form s e) x.name) h)
     typed whole (MethodExpr e m xs) h =
         let n = needs_of (called_on (form s e) m.name) in
@@ -335,7 +335,7 @@ module _ (s : Setting) (c : ScopeTree) (a : Agrees s c) where
         let l = lesser (fault s false e) (fault s false f) in
         let r = no_first l (operands op (form s e) (form s f)) h in
         of_binary whole op e f (typed false e (no_first (fault s false e) (fault s false f) r)) (typed false f (no_second (fault s false e) (fault s false f) r))
-            (no_second l (operands op (form s e) (form s f)) h)
+        (no_second l (operands op (form s e) (form s f)) h)
     typed whole (ParenExpr e) h = let t = typed false e h in record { type = t.type; by_form = t.by_form; in_scope = t.in_scope; quiet = λ q. t.quiet (inl refl); inside = t.quiet (inl refl) }
 
     pub all_typed : (k : ℕ) (ns : List Need) (ts : List TypeTree) (es : ExprTrees) → ((i : ℕ) → slice_get ns (k + i) ≡ slice_get (map Exactly ts) i) → as_many es (map Exactly ts) ≡ true
@@ -348,5 +348,5 @@ module _ (s : Setting) (c : ScopeTree) (a : Agrees s c) where
         let r = no_first one (faults s (suc k) ns es) h in
         let z : k ≡ k + 0 = omega arith in
         more_typed t ts e es (slice_get ns k) (ap (slice_get ns) z ∙ n 0) (no_second (fault s false e) (fits (form s e) (slice_get ns k)) r)
-            (typed false e (no_first (fault s false e) (fits (form s e) (slice_get ns k)) r))
+        (typed false e (no_first (fault s false e) (fits (form s e) (slice_get ns k)) r))
         (all_typed (suc k) ns ts es (λ i. let y : suc k + i ≡ k + suc i = omega arith in ap (slice_get ns) y ∙ n (suc i)) m (no_second one (faults s (suc k) ns es) h))

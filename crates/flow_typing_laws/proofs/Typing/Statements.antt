@@ -179,7 +179,7 @@ module _ (ds : List DeclTree) (apart : Distinct ds) where
       let a = no_first (into_fault (at_function vars) states i) (value_fault (at_function vars) i.ty None) h in
       let b = no_second (into_fault (at_function vars) states i) (value_fault (at_function vars) i.ty None) h in
       default_fits vars i.ty (no_first (written (at_function vars) i.ty) (lesser (state_here (at_function vars) i.state) (fresh (at_function vars) states i.state i.name.name)) a)
-          (holds (rule.has_default i.ty) NEEDS_VALUE b)
+      (holds (rule.has_default i.ty) NEEDS_VALUE b)
   declare_fits vars states i (Some v) h = whole_yields vars v i.ty (no_second (into_fault (at_function vars) states i) (value_fault (at_function vars) i.ty (Some v)) h)
 
   pub assign_fits : (vars : List ParamTree) (xs : List Ident) (v : ExprTree) → IsPath xs → assign_fault (at_function vars) xs v ≡ None

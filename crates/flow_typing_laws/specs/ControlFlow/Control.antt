@@ -113,7 +113,7 @@ abbrev mutual
       let m = l + points c in
       let f = first k m a.follows in
       statement n a (first b (suc n) f ∷ first c l f ∷ []) ++ edges b (suc n) (followed_by a f) ++ edges c l (followed_by a f)
-          ++ edges k m a
+      ++ edges k m a
   edges (WhileStmt at e b k) n a =
       let m = suc n + points b in
       let f = first k m a.follows in

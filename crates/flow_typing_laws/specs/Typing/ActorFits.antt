@@ -71,7 +71,7 @@ module _ (ds : List DeclTree) where
         ((t : TypeTree) × (path_type (records_in ds) vars xs ≡ Some t) × Gives vars e t) × StandsWell r loop c vars k
     StandsWell r loop c vars (ModifyStmt at xs d k) =
         ((t : TypeTree) × (path_type (records_in ds) vars xs ≡ Some t)
-            × ChangeFits (records_in ds) (functions_in ds) (actors_in ds) vars d t)
+        × ChangeFits (records_in ds) (functions_in ds) (actors_in ds) vars d t)
         × StandsWell r loop c vars k
     StandsWell r loop c vars (CallStmt at xs es k) = CallStands ds vars xs es × StandsWell r loop c vars k
     StandsWell r loop c vars (WaitStmt at w k) =

@@ -72,7 +72,7 @@ main_speaks code me m n none (main_starts t h) =
     let enrols : Quiet a h.between =
     quiet_is a h.between (on_heap f a) h.enrols.made
     (on_heap_quiet f a (and_then a.heap (with_args vs a.heap) _ (and_then a.heap (made kind.Future a.heap) (with_args vs a.heap) made_one held)
-        (started_stays h.class h.enrols.of.places _ (Some h.cell) (with_args vs a.heap)))) in
+    (started_stays h.class h.enrols.of.places _ (Some h.cell) (with_args vs a.heap)))) in
     let all = quiet_then m a h.between (turned_quiet m) enrols in
     let main : HeapTree → HeapTree = λ g. record (hold kind.Future h.cell.0 g) { main = Some h.cell } in
     let one = hold_stays kind.Future h.cell.0 h.between.heap in
@@ -152,8 +152,13 @@ module _ {A W : Type 0} (serves : Host W) (shows : A → Numbered ℕ → W → 
         let x = waits_spent n told b t is follows_it served in
         subst (λ z. Goes [] z booted w e k c) x.2
         (event_follows serves shows wrote code processes r program steady now told k b c booted w e
-        (record { follows = memory.ends x.0; sorted = still_sorted n told calls x.1; poised = still_poised n told calls x.1; asked = ap (λ (z : Process). z.asked) x.1;
-            time = at_time n told calls x.1 })
+        (record {
+          follows = memory.ends x.0;
+          sorted = still_sorted n told calls x.1;
+          poised = still_poised n told calls x.1;
+          asked = ap (λ (z : Process). z.asked) x.1;
+          time = at_time n told calls x.1;
+        })
         kept (record { shown = subst (λ z. shows z booted.core.ports w) (sym x.2) world_after; clock = clock; time = time; among = among }) bursts)
 
     -- a turn is left, and the line of the start is written: a burst begins

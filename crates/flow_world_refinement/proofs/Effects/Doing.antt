@@ -69,7 +69,7 @@ module _ {A : Type 0} (puts : A → Line → Result (Unit {0}) OutFault → A �
           → up_after d x.up ≡ (done_in r turns p.0 d x).up → Goes d burst.Rested left.machine.process (inside puts me left.ports n b) → Done r turns p d x o puts a burst.Rested left n b
       rests_done left n b me up same count stays f =
           let g = event_rests host shows (wrote puts) code at.machine.processes r left.machine.process (inside puts p at.ports m a) (inside puts me left.ports n b)
-                  (done_in r turns p.0 d x).proc o f in record {
+          (done_in r turns p.0 d x).proc o f in record {
             after = live f.after f.out;
             bursts = f.bursts;
             lines = subst (λ ls. Puts puts a ls b) (sym g.lines) (written_puts r code at.machine.processes (inside puts p at.ports m a) (inside puts me left.ports n b) f.lines f.written);
@@ -119,7 +119,7 @@ module _ {A : Type 0} (puts : A → Line → Result (Unit {0}) OutFault → A �
         subst (λ n. UnlessStopped (booted_by n).core.halted (ProcessInvariant r (booted_by n))) (sym ready.shows.me)
         (subst (λ (q : Proc Frame). UnlessStopped q.core.halted (ProcessInvariant r q)) (sym same) ready.kept) in
         let f = boot_goes host shows (wrote puts) code at.machine.processes r program host_steady m.time turns me at.machine.process x.proc o
-                (inside puts p at.ports m a) ready.shows.rests.resting ready.held ready.may kept
+        (inside puts p at.ports m a) ready.shows.rests.resting ready.held ready.may kept
         (record { outside = ready.outside; active = ready.active; ports = ready.shows.ports }) ready.clock ready.outside.time ready.shows.processes_are e q b bursts in
         subst (λ z. bursting.SimulatesBurst host shows (wrote puts) code at.machine.processes r [] (inside puts p at.ports m a) z o e q b) (ap booted_by ready.shows.me ∙ same) f
 

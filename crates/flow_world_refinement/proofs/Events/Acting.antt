@@ -114,13 +114,13 @@ module _ (r : RawTree) where
             subst (λ ats. WorldRepresents (Quiescent r) (record u { places = ats; ended = false }) (record { places = slice_set m.places o.active (ready m p.0); out = o }))
                 (set_same u.places p.0 at there)
                 (shown_after m u o p at u.outside (ready m p.0) o s (record { up = h.up; me = h.me; processes_are = h.processes_are; rests = q.1; ports = h.ports }) s.outside refl refl refl
-                    (sym active)),
+                (sym active)),
           );
         }
 
     module _
         (m : World Frame) (u : Seen) (o : Outside) (p : ProcId) (head : List Line) (c : A) (program : IsProgram r u.code) (deed : ActionRefines puts r u.code) (s : Going m u o)
-            (active : p.0 ≡ o.active)
+        (active : p.0 ≡ o.active)
         (clock : program_time u.outside.time ≡ pos u.outside.time) (held : ProcessInvariant r (ready m p.0).proc) where
       abbrev turns : ℕ
       turns = m.out.file.turns

@@ -140,7 +140,7 @@ module _ (r : RawTree) {A : Type 0} (puts : A → Line → Result (Unit {0}) Out
           let g = begins_well z c p refl in
           let found = place_found (Quiescent r) m.out.file.processes 0 p.0 u.places m.places c.going.places (subst (λ k. p.0 < k) (sym lasting.keeps.fits.count) (within z c)) in
           ended z c (packet_follows r puts m u (counted t p.0 (with_left m.out left)) p g a b e h.left n l there none found (λ k q. still_there k (heard_there r (ready m p.0).proc l.port k g.held q))
-              (kept z c) d)
+          (kept z c) d)
         where
           still_there : (k : ℕ) → There (ready m p.0).proc (kind.PromiseStream, k) → There (place_of m.places p.0).proc (kind.PromiseStream, k)
           still_there k x = record { cell = x.cell; at = x.at; right = x.right }

@@ -53,6 +53,6 @@ module _ (Rests : Process → Proc Frame → Type 0) (Keeps : World Frame → Ty
   abbrev pub FailureFollows : {A : Type 0} (puts : A → Line → Result (Unit {0}) OutFault → A → Type 0) → Type 0
   FailureFollows {A} puts =
       (w v : Seen) (m : World Frame) (a b : A) (t : ℕ) (line : At) (rest : List At) (p : ProcId) (n : ℕ) → StaysQuiet
-          → WorldRepresents Rests w m
+      → WorldRepresents Rests w m
       → p.0 < length m.places → next w ≡ Some (t, true) → w.script ≡ line ∷ rest → line.act ≡ act.DiskFail p n → Happens puts w a Rested v b
       → EventShown Rests Keeps IsCode puts r m a v b

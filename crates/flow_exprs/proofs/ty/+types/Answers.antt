@@ -16,7 +16,7 @@ pub argument-returns-in_err-of : goal.argument-returns-in_err-of
 argument-returns-in_err-of t c =
     let p = err_from_is_err_and c.from_residual.result c.from_residual.ensures.1 in
     rw (p.1, p.2) (argument_refused c.args.spots.now c.args.from c.args.depth c.args.kind c.in_err-of.field-0.0 c.requires.here c.requires.wraps c.if-depth-gt-DEPTH.false
-        (c.if-not-is_at.ensures.kind.0 refl) c.in_err-of.ensures)
+    (c.if-not-is_at.ensures.kind.0 refl) c.in_err-of.ensures)
 
 pub argument-returns-then-not-is_at-2 : goal.argument-returns-then-not-is_at-2
 argument-returns-then-not-is_at-2 t c = argument_unclosed c.args.spots.now c.args.from c.args.depth c.args.kind

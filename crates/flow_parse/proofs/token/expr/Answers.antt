@@ -27,4 +27,4 @@ returns-clause-reads c = λ limits.
     let t = c.args.tokens.now in
     let d = c.args.depth in
     rw c.refused-2.ensures (none_fails limits (ExprRule 0 d) ExprEnds t c.args.at (some_expr d)
-        (λ w z e r f l. not_true (c.if-begins_expr.ensures.begins.1 (starts_looks ExprToken w z (token_at t.spots.items c.args.at) (expr_starts r) l))))
+    (λ w z e r f l. not_true (c.if-begins_expr.ensures.begins.1 (starts_looks ExprToken w z (token_at t.spots.items c.args.at) (expr_starts r) l))))

@@ -104,12 +104,12 @@ list_stmt-returns-in_ok-push-in-Wait t c = added c.args.stmt.now _ c.args.places
 pub list_stmt-returns-in_ok-list_else-in-If : goal.list_stmt-returns-in_ok-list_else-in-If
 list_stmt-returns-in_ok-list_else-in-If t c =
     if_added c.args.stmt.now _ c.in-If.chosen c.in-If.otherwise c.args.places.now.items _ _ c.in-If.is
-        (c.in_ok-list_body-in-If.ensures ∙ ap (λ l. c.args.places.now.items ++ wait_places (body_of l)) c.deref-in-If.ensures.value) c.in_ok-list_else-in-If.ensures
+    (c.in_ok-list_body-in-If.ensures ∙ ap (λ l. c.args.places.now.items ++ wait_places (body_of l)) c.deref-in-If.ensures.value) c.in_ok-list_else-in-If.ensures
 
 pub list_stmt-returns-in_ok-list_body-in-Try-2 : goal.list_stmt-returns-in_ok-list_body-in-Try-2
 list_stmt-returns-in_ok-list_body-in-Try-2 t c =
     two_bodies c.args.stmt.now _ _ _ _ _ _ c.in-Try.body.items c.in-Try.handler.items (λ k. is_try c.args.stmt.now c.in-Try.body _ _ c.in-Try.handler k c.in-Try.is)
-        (λ k. refl) c.in_ok-list_body-in-Try.ensures
+    (λ k. refl) c.in_ok-list_body-in-Try.ensures
     c.deref-in-Try.ensures.value c.in_ok-list_body-in-Try-2.ensures c.deref-in-Try-2.ensures.value
 
 pub list_stmt-returns-in_ok-list_body-in-For : goal.list_stmt-returns-in_ok-list_body-in-For
@@ -132,7 +132,7 @@ list_body-returns t c = body_end c.args.stmts.now c.loop-stmt.stmt-index _ _ (om
 pub list_branches-loop-branch-preserved : goal.list_branches-loop-branch-preserved
 list_branches-loop-branch-preserved t c =
     branches_next c.args.branches.now c.loop-branch.branch-index c.branch-item.result _ _ _ (omega (arith, c.loop-branch-test.true)) c.branch-item.is c.in_ok-list_branch.ensures
-        c.loop-branch.invariant
+    c.loop-branch.invariant
 
 pub list_branches-returns : goal.list_branches-returns
 list_branches-returns t c = branches_end c.args.branches.now c.loop-branch.branch-index _ _ (omega (arith, c.loop-branch-test.false)) c.loop-branch.invariant

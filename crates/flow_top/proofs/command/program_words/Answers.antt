@@ -15,4 +15,4 @@ returns c = record {
 pub returns-then-not-is_command : goal.returns-then-not-is_command
 returns-then-not-is_command c = λ p on.
     another_word (string_bytes {Z = Global}) c.args.words.now c.index-words-0.result c.args.command.now c.as_str.result.now p
-        (sym c.if-not-is_command.ensures) c.as_str.ensures.value c.index-words-0.is on
+    (sym c.if-not-is_command.ensures) c.as_str.ensures.value c.index-words-0.is on

@@ -11,6 +11,6 @@ loop-left-preserved c = (
       (omega (arith, c.loop-left-test.true))
       (c.in_ok-found.ensures ∙ ap (λ l. scope (scope_of (take c.loop-left.at l))) c.deref.ensures.value)
       (ap (λ l. scope_of (take c.outer-at.result l)) (sym c.deref-in-loop-left.ensures.value) ∙ c.outer-at.ensures.outside
-          ∙ ap (λ l. outside (scope_of (take c.loop-left.at l))) c.deref-in-loop-left.ensures.value)
+      ∙ ap (λ l. outside (scope_of (take c.loop-left.at l))) c.deref-in-loop-left.ensures.value)
       c.in_ok-append.ensures.items c.loop-left.invariant.1,
 )

@@ -14,7 +14,7 @@ frame_view-requires c =
     let h = c.args.self.now.heap in
     let rising = subst (λ s. IsRising 0 s.things s.greatest) c.frames.ensures c.in-Some.ensures.rising in
     let next = next_is 0 h.frames.things h.frames.greatest c.loop-actor.last.0 c.in-Some.actor.0 rising (c.in-Some.ensures.value ∙ ap (λ s. next_above s.things c.loop-actor.last.0) c.frames.ensures)
-            in
+    in
     rw next.there refl
 
 pub loop-actor-smaller : goal.loop-actor-smaller
@@ -22,7 +22,7 @@ loop-actor-smaller c =
     let h = c.args.self.now.heap in
     let rising = subst (λ s. IsRising 0 s.things s.greatest) c.frames.ensures c.in-Some.ensures.rising in
     let next = next_is 0 h.frames.things h.frames.greatest c.loop-actor.last.0 c.in-Some.actor.0 rising (c.in-Some.ensures.value ∙ ap (λ s. next_above s.things c.loop-actor.last.0) c.frames.ensures)
-            in
+    in
     omega (arith, ap length next.first)
 
 pub loop-actor-preserved : goal.loop-actor-preserved
@@ -30,10 +30,10 @@ loop-actor-preserved c = λ most rising_all.
     let h = c.args.self.now.heap in
     let rising = subst (λ s. IsRising 0 s.things s.greatest) c.frames.ensures c.in-Some.ensures.rising in
     let next = next_is 0 h.frames.things h.frames.greatest c.loop-actor.last.0 c.in-Some.actor.0 rising (c.in-Some.ensures.value ∙ ap (λ s. next_above s.things c.loop-actor.last.0) c.frames.ensures)
-            in
+    in
     let same = ap (λ v. v ∷ map frame_view (things_above c.in-Some.actor.0 h.frames.things)) (c.frame_view.ensures next.what next.there) in
     let told = told_next (map frame_view) h.frames.things c.loop-actor.views.items (c.frame_view.result ∷ []) c.loop-actor.last.0 c.in-Some.actor.0 next
-            (c.loop-actor.invariant most rising_all) same in
+    (c.loop-actor.invariant most rising_all) same in
     subst (λ ys. IsTold (map frame_view) h.frames.things ys c.in-Some.actor.0) (sym c.in_ok-push.ensures.items) told
 
 pub returns : goal.returns

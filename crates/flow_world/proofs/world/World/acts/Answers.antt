@@ -10,7 +10,7 @@ use Rattle.flow_world.proofs.world.World.acts.Goals as goal
 pub returns-then-p-count-clause-stuck : goal.returns-then-p-count-clause-stuck
 returns-then-p-count-clause-stuck g c = λ stuck.
     not_among c.in-Some.place.now (ap (slice_get c.args.self.now.places.items) (sym c.from.ensures)
-        ∙ at_place c.args.self.now.places.items c.from.result c.in-Some.place.now c.in-Some.place.now c.in-Some.ensures.item.3.0 c.in-Some.ensures.value) (elim c.then-p-count.branch [
+    ∙ at_place c.args.self.now.places.items c.from.result c.in-Some.place.now c.in-Some.place.now c.in-Some.ensures.item.3.0 c.in-Some.ensures.value) (elim c.then-p-count.branch [
       | then-p-count-via-then-p-count w ↦ inl (omega (arith, w.if-p-count.true, c.processes-count.ensures))
       | then-p-count-via-else-p-count+then-processes-count w ↦ inr (λ same. w.if-processes-count.true (w.processes.ensures ∙ same ∙ sym c.processes-count.ensures))
     ])

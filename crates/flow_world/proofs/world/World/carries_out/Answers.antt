@@ -17,7 +17,7 @@ returns-clause-comes g c =
     let t : Telling _ = record { out = last.out.now; fault = last.fault } in
     let told : IfOk c.comes-burst.result (λ e. Comes (tells puts) c.args.scripted first (whole c.args.out.now) e left t) =
     IfOk-weaker c.comes-burst.result _ _ (λ e does. comes_by (λ k. record { out = k.out.now; fault = k.fault }) _ (tells puts) (λ a b l p. p) c.args.scripted first _ e left _ does)
-        c.comes-burst.ensures.comes in
+    c.comes-burst.ensures.comes in
     told_whole (λ e z. Comes (tells puts) c.args.scripted first (whole c.args.out.now) e left z) t _ c.comes-burst.result c.unless_failed.result (search rules) c.unless_failed.ensures told
 
 pub returns-clause-breaks : goal.returns-clause-breaks
@@ -29,9 +29,9 @@ returns-clause-breaks g c =
     let t : Telling _ = record { out = last.out.now; fault = last.fault } in
     let told : IfOk c.comes-burst.result (λ e. Comes (tells puts) c.args.scripted first (whole c.args.out.now) e left t) =
     IfOk-weaker c.comes-burst.result _ _ (λ e does. comes_by (λ k. record { out = k.out.now; fault = k.fault }) _ (tells puts) (λ a b l p. p) c.args.scripted first _ e left _ does)
-        c.comes-burst.ensures.comes in
+    c.comes-burst.ensures.comes in
     told_part (λ e z. Comes (tells puts) c.args.scripted first (whole c.args.out.now) e left z) t _ c.comes-burst.result c.unless_failed.result
-        (search rules) c.unless_failed.ensures c.comes-burst.ensures.cause told
+    (search rules) c.unless_failed.ensures c.comes-burst.ensures.cause told
 
 pub returns-clause-stuck : goal.returns-clause-stuck
 returns-clause-stuck g c = λ stuck.
