@@ -143,5 +143,6 @@ module _ (r : RawTree) {A : Type 0} (puts : A → Line → Result (Unit {0}) Out
         let early = (next_early m.out lasting.times).line t k left comes in
         let go = line_begins r w m s h.time t k left n in
         let x = n.line.act in
-        follows t x left u refl (subst (λ z. next_of m.out ≡ Script t z left) (sym n.orders) comes) (subst (λ z. Going r m u (counted t (process_of z) (record m.out { script = left }))) (sym n.orders) go)
+        follows t x left u refl (subst (λ z. next_of m.out ≡ Script t z left) (sym n.orders) comes)
+        (subst (λ z. Going r m u (counted t (process_of z) (record m.out { script = left }))) (sym n.orders) go)
         (subst (λ z. program_time z ≡ pos z) (sym n.same) (tells t early.0)) does n.line n.rest n.are refl next_is

@@ -33,7 +33,8 @@ use Rattle.flow_world_refinement.specs.Traces.Traced.{EventsFollow, SpentFollows
 use Rattle.flow_world_refinement.proofs.Traces.Codes.{code_stays}
 use Rattle.flow_world_refinement.proofs.Traces.Onwards.{goes_on}
 
-module _ (Rests : Process → Proc Frame → Type 0) (Keeps : World Frame → Type 0) (IsCode : Code → Type 0) {A : Type 0} (puts : A → Line → Result (Unit {0}) OutFault → A → Type 0) (r : RawTree) (with_frames : Bool) where
+module _ (Rests : Process → Proc Frame → Type 0) (Keeps : World Frame → Type 0) (IsCode : Code → Type 0) {A : Type 0} (puts : A → Line → Result (Unit {0}) OutFault → A → Type 0) (r : RawTree)
+    (with_frames : Bool) where
   -- so many events ran: the world of the definitions that is shown then; how what is shown from it on is shown from the first on;
   -- and what is shown from the first on goes on from there
   pub record Went (m : World Frame) (a : A) (u : Seen) (b : A) : Type 0 where
@@ -48,7 +49,8 @@ module _ (Rests : Process → Proc Frame → Type 0) (Keeps : World Frame → Ty
     pub onwards : (all : List Line) → Shows (classes r) frame_spot with_frames m all
         → (rest : List Line) × (all ≡ lines ++ rest) × Shows (classes r) frame_spot with_frames last rest
 
-  pub went : EventsFollow Rests Keeps IsCode puts r → KeepsOn Rests Keeps IsCode r → FramesShown Rests Keeps IsCode with_frames r → (w u : Seen) (m : World Frame) (a b : A) → IsCode w.code → raw_of w.code.program ≡ r → WorldRepresents Rests w m → Keeps m → RunsEvents puts with_frames w a u b → Went m a u b
+  pub went : EventsFollow Rests Keeps IsCode puts r → KeepsOn Rests Keeps IsCode r → FramesShown Rests Keeps IsCode with_frames r → (w u : Seen) (m : World Frame) (a b : A) → IsCode w.code
+      → raw_of w.code.program ≡ r → WorldRepresents Rests w m → Keeps m → RunsEvents puts with_frames w a u b → Went m a u b
   went law on seen_law w _ m a _ code text s k no_event = record {
     last = m;
     shows = s;
@@ -97,7 +99,8 @@ module _ (Rests : Process → Proc Frame → Type 0) (Keeps : World Frame → Ty
     put : Puts puts a own b
     shows : Shows (classes r) frame_spot with_frames m (own ++ end_line e ∷ [])
 
-  ended : SpentFollows Rests Keeps IsCode puts r → (w v : Seen) (m : World Frame) (a b : A) (e : Ending) → IsCode w.code → WorldRepresents Rests w m → Keeps m → EventDoes puts (last_answer e) w a v b → Ended m a e b
+  ended : SpentFollows Rests Keeps IsCode puts r → (w v : Seen) (m : World Frame) (a b : A) (e : Ending) → IsCode w.code → WorldRepresents Rests w m → Keeps m
+      → EventDoes puts (last_answer e) w a v b → Ended m a e b
   ended law w v m a b Idle code s k does = record {
     own = [];
     put = subst (λ z. Puts puts a [] z) (sym does.2) no_line;
