@@ -1,5 +1,4 @@
 pub mod Bools
 pub mod Growing
 pub mod MemoryFiles
-pub mod OverOpener
 pub mod Reading

@@ -3,10 +3,8 @@ pub mod Bytes
 pub mod Calls
 pub mod ErrorNumbers
 pub mod Faults
-pub mod Gathered
 pub mod MemoryFiles
 pub mod MemorySink
 pub mod Names
-pub mod Opened
 pub mod Quote
 pub mod Seen

@@ -1,7 +1,7 @@
 // What a call to the outside answers when it can't do its work.
 
 use std::error::Error;
-use std::{fmt, io};
+use std::fmt;
 
 /// Why a call to files or to a sink did nothing: it failed, which its count of faults then shows, or
 /// there was no memory.
@@ -28,8 +28,3 @@ impl fmt::Debug for OutFault {
 }
 
 impl Error for OutFault {}
-
-// Whether a signal interrupted the call, which may be tried again.
-pub(crate) fn is_interrupted(error: &io::Error) -> bool {
-    error.kind() == io::ErrorKind::Interrupted
-}

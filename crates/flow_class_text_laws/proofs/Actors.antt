@@ -53,7 +53,8 @@ mutual
   slots_said (WhileStmt at e b k) h = all_more SlotWritable (body_slots b) (body_slots k) (slots_said b h.1) (slots_said k h.2)
   slots_said (ForStmt at i e q b k) h =
       all_more SlotWritable (body_slots i ++ body_slots q ++ body_slots b) (body_slots k)
-      (all_more SlotWritable (body_slots i ++ body_slots q) (body_slots b) (all_more SlotWritable (body_slots i) (body_slots q) (slots_said i h.0) (slots_said q h.2)) (slots_said b h.3)) (slots_said k h.4)
+      (all_more SlotWritable (body_slots i ++ body_slots q) (body_slots b) (all_more SlotWritable (body_slots i) (body_slots q) (slots_said i h.0) (slots_said q h.2)) (slots_said b h.3))
+      (slots_said k h.4)
   slots_said (LoopStmt at b k) h = all_more SlotWritable (body_slots b) (body_slots k) (slots_said b h.0) (slots_said k h.1)
   slots_said (BreakStmt at k) h = slots_said k h
   slots_said (ContinueStmt at k) h = slots_said k h
@@ -71,7 +72,8 @@ mutual
   branch_slots_said : (bs : Branches) → BranchesSaid bs → SlotsSaid (branch_slots bs)
   branch_slots_said NoBranches h = tt
   branch_slots_said (MoreBranches at w b bs) h =
-      all_more SlotWritable (into_slots w.into ++ body_slots b) (branch_slots bs) (all_more SlotWritable (into_slots w.into) (body_slots b) (taken_said w.into h.0.0) (slots_said b h.1)) (branch_slots_said bs h.2)
+      all_more SlotWritable (into_slots w.into ++ body_slots b) (branch_slots bs) (all_more SlotWritable (into_slots w.into) (body_slots b) (taken_said w.into h.0.0) (slots_said b h.1))
+      (branch_slots_said bs h.2)
 
 local_said : (i : IntoTree) → IntoSaid i → TypesSaid (declared_locals i)
 local_said i h = by_state i.state
@@ -85,7 +87,7 @@ into_said None h = tt
 into_said (Some i) h = local_said i h
 
 errors_said : TypesSaid (ErrorType ∷ [])
-errors_said = (record { tokens = _; rule = error_type p; are = ((word_spelled word.Error, (omega arith, tt)), tt) }, tt)
+errors_said = (record { tokens = _; rule = error_type p; are = ((word_spelled word.Error, ((λ j. omega arith), tt)), tt) }, tt)
 
 mutual
   pub locals_said : (b : Body) → BodySaid b → TypesSaid (body_locals b)
@@ -97,7 +99,8 @@ mutual
   locals_said (WhileStmt at e b k) h = all_more TypeWritable (body_locals b) (body_locals k) (locals_said b h.1) (locals_said k h.2)
   locals_said (ForStmt at i e q b k) h =
       all_more TypeWritable (body_locals i ++ body_locals q ++ body_locals b) (body_locals k)
-      (all_more TypeWritable (body_locals i ++ body_locals q) (body_locals b) (all_more TypeWritable (body_locals i) (body_locals q) (locals_said i h.0) (locals_said q h.2)) (locals_said b h.3)) (locals_said k h.4)
+      (all_more TypeWritable (body_locals i ++ body_locals q) (body_locals b) (all_more TypeWritable (body_locals i) (body_locals q) (locals_said i h.0) (locals_said q h.2)) (locals_said b h.3))
+      (locals_said k h.4)
   locals_said (LoopStmt at b k) h = all_more TypeWritable (body_locals b) (body_locals k) (locals_said b h.0) (locals_said k h.1)
   locals_said (BreakStmt at k) h = locals_said k h
   locals_said (ContinueStmt at k) h = locals_said k h
@@ -117,7 +120,8 @@ mutual
   branch_locals_said : (bs : Branches) → BranchesSaid bs → TypesSaid (branch_locals bs)
   branch_locals_said NoBranches h = tt
   branch_locals_said (MoreBranches at w b bs) h =
-      all_more TypeWritable (into_locals w.into ++ body_locals b) (branch_locals bs) (all_more TypeWritable (into_locals w.into) (body_locals b) (into_said w.into h.0.0) (locals_said b h.1)) (branch_locals_said bs h.2)
+      all_more TypeWritable (into_locals w.into ++ body_locals b) (branch_locals bs) (all_more TypeWritable (into_locals w.into) (body_locals b) (into_said w.into h.0.0) (locals_said b h.1))
+      (branch_locals_said bs h.2)
 
 -- declarations
 pub record ActorSaid (a : RoutineTree) : Type 0 where
@@ -173,8 +177,11 @@ DeclsSaid ds = AllByRecursion DeclSaid ds
 pub decls_said : {n : ℕ} {all : List Marked} {ds : List DeclTree} → DeclsRule n all ds → Fine all → DeclsSaid ds
 decls_said no_decls h = tt
 decls_said {n = n} (more_decls first more d ds eq) h =
-    let t = subst Fine eq h in
-    (decl_said d (unbegun (Declaration n) (begin (Node 1) first) (fine_front (begin (Declaration n) (begin (Node 1) first)) more t)), decls_said ds (fine_back (begin (Declaration n) (begin (Node 1) first)) more t))
+    let t = subst Fine eq h in (
+      decl_said d (unbegun (Declaration n) (begin (Node 1) first) (fine_front (begin (Declaration n) (begin (Node 1) first)) more t)),
+      decls_said ds
+          (fine_back (begin (Declaration n) (begin (Node 1) first)) more t),
+    )
 
 pub records_written : (ds : List DeclTree) → DeclsSaid ds → AllByRecursion (λ r. Derived (λ ts. RecordRule ts r)) (records_in ds)
 records_written [] h = tt

@@ -33,7 +33,8 @@ branched : {actor : Bool} {d n : ℕ} {c c' : Counts} {all : List Marked} {bs b 
 branched (branch at p q xs body w b eq) = tt
 
 mutual
-  plain : {actor : Bool} {d : ℕ} {c c' : Counts} {all : List Marked} {at : Place} {rest body : Body} {ends_if : Bool} → PlainRule actor d c c' all at rest body ends_if → HasBranches rest → HasBranches body
+  plain : {actor : Bool} {d : ℕ} {c c' : Counts} {all : List Marked} {at : Place} {rest body : Body} {ends_if : Bool} → PlainRule actor d c c' all at rest body ends_if → HasBranches rest
+      → HasBranches body
   plain (if_stmt at p q test body e b eq) h = (of_body b, h)
   plain (if_else_stmt at p q r test body other e b o eq) h = (of_body b, of_body o, h)
   plain (while_stmt at p q test body e b eq) h = (of_body b, h)

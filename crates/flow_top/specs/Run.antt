@@ -133,10 +133,12 @@ pub data Due (words : List (List ℕ)) : Outcome → List FileText → Type 0 wh
   lost : (f : FileText) (p : Program) (l : Lost) → JudgeProgram words f.name → IsLost f.text p l
       → Due words (Answered (Refused (source.AcrossWait l.at l.declared l.wait))) (f ∷ [])
   -- an actor of the program weighs too much
-  heavy : (f : FileText) (p : Program) (at : Place) → JudgeProgram words f.name → IsSound f.text p → first_heavy (program_of p).decls ≡ Some at
+  heavy : (f : FileText) (p : Program) (at : Place) → JudgeProgram words f.name → IsSound f.text p
+      → first_heavy (program_of p).decls ≡ Some at
       → Due words (Answered (heavy_outcome at)) (f ∷ [])
   passed : (f : FileText) (p : Program) → AreCheck words f.name → IsPassing f.text p → Due words (Answered Passed) (f ∷ [])
-  compiled : (f : FileText) (p : Program) (classes : RawClasses) → AreCompile words f.name → IsPassing f.text p → Has (program_of p) (raw_of classes)
+  compiled : (f : FileText) (p : Program) (classes : RawClasses) → AreCompile words f.name → IsPassing f.text p
+      → Has (program_of p) (raw_of classes)
       → Due words (Answered (Compiled classes)) (f ∷ [])
   -- the world is refused, and not for want of memory
   no_world : (f w : FileText) (frames : Bool) (p : Program) (fault : WorldFault) → AreRun words f.name w.name frames → IsPassing f.text p
@@ -194,9 +196,11 @@ names_of files = map (λ (f : FileText). f.name) files
 pub data Decided (words : List (List ℕ)) (before after : FilesSeen) : Outcome → Type 0 where
   due : (outcome : Outcome) (files : List FileText) → Due words outcome files → ReadsFiles before after (names_of files) files
       → AreTexts before.content files → after.faults ≡ before.faults → Decided words before after outcome
-  read_fault : (names : List (List ℕ)) (files : List FileText) → AskedSome words before.content names files → ReadsFiles before after names files
+  read_fault : (names : List (List ℕ)) (files : List FileText) → AskedSome words before.content names files
+      → ReadsFiles before after names files
       → after.faults ≡ next_count before.faults → Decided words before after (Answered ReadFault)
-  no_memory : (names : List (List ℕ)) (files : List FileText) → AskedSome words before.content names files → ReadsFiles before after names files
+  no_memory : (names : List (List ℕ)) (files : List FileText) → AskedSome words before.content names files
+      → ReadsFiles before after names files
       → after.faults ≡ before.faults → Decided words before after (Answered OutOfMemory)
 
 -- A first part of this text was written, and what was handed on of all that was written is a first part of it.

@@ -43,7 +43,8 @@ pub data FileRead (name : List ℕ) (before after : FilesSeen) : Result (Vec ℕ
 pub data Loaded (name : List ℕ) (before after : FilesSeen) : Result Sound told.Answered → Type 0 where
   is_loaded : (s : Sound) (text : List ℕ) → IsSound text s.typed.program → ReadsWell before after (record { name = name; text = text })
       → Loaded name before after (Ok s)
-  is_refused : (text : List ℕ) (rule : Rule) (at : Place) → IsRefused text rule at → ReadsWell before after (record { name = name; text = text })
+  is_refused : (text : List ℕ) (rule : Rule) (at : Place) → IsRefused text rule at
+      → ReadsWell before after (record { name = name; text = text })
       → Loaded name before after (Err (Refused (source.Refused rule at)))
   is_lost : (text : List ℕ) (p : Program) (l : Lost) → IsLost text p l → ReadsWell before after (record { name = name; text = text })
       → Loaded name before after (Err (Refused (source.AcrossWait l.at l.declared l.wait)))

@@ -1,2 +1,5 @@
 pub mod Views
 pub mod GrammarLists
+pub mod Folds
+pub mod Formed
+pub mod ForParts

@@ -1,6 +1,8 @@
 pub mod Tree
 pub mod Body
 pub mod Decls
+pub mod Folds
+pub mod Formed
 pub mod View
 pub mod StmtView
 pub mod DeclView

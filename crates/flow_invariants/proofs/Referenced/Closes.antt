@@ -1,5 +1,5 @@
 -- The end of an actor leaves each cell with a reference, where its result is unset.
-use Rattle.std.proofs.Common.{◌≡◌, ℕ, zero, suc, ◌+◌, ◌<◌, ◌≤◌, nat_eq, Bool, true, false, List, [], ◌∷◌, if◌then◌else◌, refl, sym, ap, subst, ◌∙◌, arith}
+use Rattle.std.proofs.Common.{◌≡◌, ℕ, zero, suc, ◌+◌, ◌≤◌, nat_eq, Bool, true, false, List, [], ◌∷◌, if◌then◌else◌, refl, sym, ap, subst, ◌∙◌, arith}
 use Rattle.std.specs.declared.option.Option.{Option}
 use Rattle.std.specs.declared.option.Option.TheVariants.{None, Some}
 use Rattle.flow_value.specs.Values.{OutcomeTree}
@@ -7,28 +7,27 @@ use Rattle.flow_class.specs.Classes.{RawTree}
 use Rattle.flow_numbered.specs.Numbered.{Numbered, thing, put, removed}
 use Rattle.flow_meaning.specs.Cells.{Side, PromiseSide, FutureSide, Waiter, Cell, Single, Stream, filled}
 use Rattle.flow_meaning.specs.Process.{Task, Close, Fire, Entry, Core}
-use Rattle.flow_meaning.specs.References.{reference_count, refs_in, value_in, one, count, count_maybe, count_kept, in_entries, in_task}
+use Rattle.flow_meaning.specs.References.{reference_count, refs_in, value_in, one, count, count_maybe, count_kept, in_entries}
 use Rattle.flow_meaning.specs.Orderly.{Orderly}
 use Rattle.flow_meaning.specs.Lines.{end_line}
 use Rattle.flow_meaning.specs.Work.{writes, fill_cell, fill, dropping_values}
 use Rattle.flow_meaning.specs.Dropping.{set_result, give_result, close}
-use Rattle.flow_meaning.specs.Step as steps
 use Rattle.flow_meaning.specs.Step.{proc, close_actor}
-use Rattle.flow_meaning.specs.Frame.{Frame, over}
+use Rattle.flow_meaning.specs.Frame.{Frame}
 use Rattle.flow_meaning.specs.Class.{classes}
 use Rattle.flow_meaning.proofs.Posture.{Unless, unless, after_turn, same_number, removed_none, thing_removed_other}
 use Rattle.flow_meaning.proofs.Shifts.{close_of}
 use Rattle.flow_meaning.proofs.InOrder.{no_thing}
 use Rattle.flow_heap_refinement.specs.Counted.{frames_hold}
 use Rattle.flow_heap_refinement.specs.CellsTied.{CellsTied}
-use Rattle.flow_heap_refinement.specs.References.{entry_holds, frame_holds}
+use Rattle.flow_heap_refinement.specs.References.{frame_holds}
 use Rattle.flow_heap_refinement.specs.Rested.{IsUnset}
 use Rattle.flow_heap_refinement.proofs.Keeping.{no_one}
 use Rattle.flow_heap_refinement.proofs.Referring.{of_popped, of_closed}
 use Rattle.flow_progress.specs.Alone.{ResultsAlone}
 use Rattle.flow_progress.specs.Fitting.{CellTypes, ProcessFits}
 use Rattle.flow_progress.proofs.StepFits.{Actor, actor_here}
-use Rattle.flow_invariants.proofs.Referenced.Onward.{IsThere, no_refs, refs, Wants, Refers, gone_onward, drop_onward, filling_onward, push_onward}
+use Rattle.flow_invariants.proofs.Referenced.Onward.{IsThere, refs, Wants, Refers, gone_onward, drop_onward, filling_onward, push_onward}
 use Rattle.flow_invariants.proofs.Referenced.Losses.{wants_counts}
 
 -- a cell that is unset
@@ -38,7 +37,8 @@ unset_single (Some (Single None ws)) h = (ws, refl)
 unset_single (Some (Single (Some o) ws)) h = absurd h
 unset_single (Some (Stream q e w)) h = absurd h
 
-module _ (k : ℕ) (r : RawTree) (types : CellTypes) (c : Core) (xs : Numbered Frame) (o : Orderly c) (p : ProcessFits r types c xs) (t : CellsTied c) (results : ResultsAlone c xs) (ts : List Task) (h : Refers k c xs) (i : ℕ) (oc : OutcomeTree) (top : c.tasks ≡ Close i oc ∷ ts)
+module _ (k : ℕ) (r : RawTree) (types : CellTypes) (c : Core) (xs : Numbered Frame) (o : Orderly c) (p : ProcessFits r types c xs) (t : CellsTied c) (results : ResultsAlone c xs) (ts : List Task)
+    (h : Refers k c xs) (i : ℕ) (oc : OutcomeTree) (top : c.tasks ≡ Close i oc ∷ ts)
     (unset : (j : ℕ) (e : Entry) → thing c.entries i ≡ Some e → e.result ≡ Some j → IsUnset (thing c.cells j)) where
   abbrev ys : Numbered Frame
   ys = removed xs i
@@ -82,7 +82,9 @@ module _ (k : ℕ) (r : RawTree) (types : CellTypes) (c : Core) (xs : Numbered F
       cell = Single None ws
 
       -- no future of it is left: the cell is gone
-      removed_refers : (d : Core) → d.cells ≡ removed c.cells result → d.entries ≡ removed c.entries i → ((s : Side) → refs k s gone ys + 0 ≤ refs k s (record gone { cells = removed c.cells result }) ys + 0 → refs k s gone ys + count s k (refs_in (value_in oc)) ≤ refs k s d ys) → Refers k d ys
+      removed_refers : (d : Core) → d.cells ≡ removed c.cells result → d.entries ≡ removed c.entries i
+          → ((s : Side) → refs k s gone ys + 0 ≤ refs k s (record gone { cells = removed c.cells result }) ys + 0 → refs k s gone ys + count s k (refs_in (value_in oc)) ≤ refs k s d ys)
+          → Refers k d ys
       removed_refers d cs es more = by_test (nat_eq result k) refl
         where
           to_gone : Wants k d → Wants k gone
@@ -116,7 +118,8 @@ module _ (k : ℕ) (r : RawTree) (types : CellTypes) (c : Core) (xs : Numbered F
           d : Core
           d = fill_cell result oc (Some cell) (writes (end_line i oc) (record gone { left = m }))
 
-          more : (s : Side) → refs k s gone ys + (count s k (refs_in (value_in oc)) + one s k FutureSide result) ≤ refs k s (fill_cell result oc (Some cell) (writes (end_line i oc) (record gone { left = m }))) ys
+          more : (s : Side) → refs k s gone ys + (count s k (refs_in (value_in oc)) + one s k FutureSide result) ≤ refs k s
+              (fill_cell result oc (Some cell) (writes (end_line i oc) (record gone { left = m }))) ys
           more s =
               let x = (filling_onward k result cell oc gone ys at tt).1 s in
               let y = (push_onward k (Fire result) (record gone { cells = put c.cells result (filled cell oc) }) ys).1 s in omega (arith, x, y)
@@ -129,7 +132,8 @@ module _ (k : ℕ) (r : RawTree) (types : CellTypes) (c : Core) (xs : Numbered F
               ((λ z. omega (arith, x, y)), (λ w. omega (arith, x, y)))
           by_test false q =
               let other : result ≡ k → ⊥ = (λ z. let f : ⊥ = grind (arith, q, z) in f) in
-              let less : (s : Side) → refs k s c xs ≤ refs k s (fill_cell result oc (Some cell) (writes (end_line i oc) (record gone { left = m }))) ys = (λ s. let y = counted s in let z = no_one s result k PromiseSide other in let n = more s in omega (arith, y, z, n)) in (
+              let less : (s : Side) → refs k s c xs ≤ refs k s (fill_cell result oc (Some cell) (writes (end_line i oc) (record gone { left = m }))) ys =
+              (λ s. let y = counted s in let z = no_one s result k PromiseSide other in let n = more s in omega (arith, y, z, n)) in (
                 λ z. let n = h.0 ((filling_onward k result cell oc gone ys at tt).0 z) in let u = less PromiseSide in let v = less FutureSide in omega (arith, n, u, v),
                 λ w. let n = h.1 (wanted w) in let v = less FutureSide in omega (arith, n, v),
               )

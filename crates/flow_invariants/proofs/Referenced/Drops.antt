@@ -1,14 +1,14 @@
 -- A drop, and a fire that ends, leave each cell with a reference.
-use Rattle.std.proofs.Common.{◌≡◌, ℕ, zero, suc, ◌+◌, ◌<◌, ◌≤◌, nat_eq, Bool, true, false, List, [], ◌∷◌, refl, sym, ap, subst, ◌∙◌, arith}
+use Rattle.std.proofs.Common.{◌≡◌, ℕ, ◌+◌, ◌≤◌, nat_eq, Bool, true, false, List, ◌∷◌, refl, sym, ap, subst, arith}
 use Rattle.std.specs.declared.option.Option.{Option}
 use Rattle.std.specs.declared.option.Option.TheVariants.{None, Some}
 use Rattle.flow_value.specs.declared.value.Kind.{Kind}
 use Rattle.flow_class.specs.Classes.{RawTree}
 use Rattle.flow_numbered.specs.Numbered.{Numbered, thing}
 use Rattle.flow_meaning.specs.Cells.{Side, PromiseSide, FutureSide, side_of, Cell}
-use Rattle.flow_meaning.specs.Process.{Task, Fire, Drop, Core}
+use Rattle.flow_meaning.specs.Process.{Task, Drop, Core}
 use Rattle.flow_meaning.specs.References.{reference_count, one, in_task}
-use Rattle.flow_meaning.specs.Orderly.{Orderly, Rising, tasks_of}
+use Rattle.flow_meaning.specs.Orderly.{Orderly, tasks_of}
 use Rattle.flow_meaning.specs.Dropping.{lose_cell, lose_ref, drop, suffer, loss, port_of}
 use Rattle.flow_meaning.specs.Work.{owner}
 use Rattle.flow_meaning.specs.Step.{proc}
@@ -20,10 +20,11 @@ use Rattle.flow_heap_refinement.proofs.Keeping.{no_one}
 use Rattle.flow_heap_refinement.proofs.Referring.{of_popped}
 use Rattle.flow_progress.specs.Alone.{ResultsAlone}
 use Rattle.flow_progress.specs.Fitting.{CellTypes, ActorAt, TasksFit, ProcessFits}
-use Rattle.flow_invariants.proofs.Referenced.Onward.{IsThere, refs, Wants, Refers}
+use Rattle.flow_invariants.proofs.Referenced.Onward.{refs, Wants, Refers}
 use Rattle.flow_invariants.proofs.Referenced.Losses.{other_lost, own_lost}
 
-module _ (k : ℕ) (r : RawTree) (types : CellTypes) (c : Core) (xs : Numbered Frame) (o : Orderly c) (p : ProcessFits r types c xs) (t : CellsTied c) (results : ResultsAlone c xs) (ts : List Task) (h : Refers k c xs) where
+module _ (k : ℕ) (r : RawTree) (types : CellTypes) (c : Core) (xs : Numbered Frame) (o : Orderly c) (p : ProcessFits r types c xs) (t : CellsTied c) (results : ResultsAlone c xs) (ts : List Task)
+    (h : Refers k c xs) where
   -- the newest task is off, which is no actor's
   abbrev off : ℕ → Core
   off n = record c { tasks = ts; left = n }
@@ -69,15 +70,19 @@ module _ (k : ℕ) (r : RawTree) (types : CellTypes) (c : Core) (xs : Numbered F
     lose_refers = by_cell (thing c.cells j) refl
       where
         by_number : (cell : Cell) → thing c.cells j ≡ Some cell → (b : Bool) → nat_eq j k ≡ b
-            → Unless (λ d. Refers k d xs) (suffer j (loss s (reference_count (frames_hold xs) PromiseSide j (off n)) (reference_count (frames_hold xs) FutureSide j (off n)) cell (owner j c.entries) (port_of j c.ports)) (off n))
+            → Unless (λ d. Refers k d xs) (suffer j (loss s (reference_count (frames_hold xs) PromiseSide j (off n)) (reference_count (frames_hold xs) FutureSide j (off n)) cell (owner j c.entries)
+            (port_of j c.ports)) (off n))
         by_number cell at true e =
             let same : j ≡ k = grind (arith, e) in
-            subst (λ z. Unless (λ d. Refers k d xs) (suffer z (loss s (reference_count (frames_hold xs) PromiseSide z (off n)) (reference_count (frames_hold xs) FutureSide z (off n)) cell (owner z c.entries) (port_of z c.ports)) (off n))) (sym same)
-            (own_lost k r types (off n) xs q o.numbered (off_tied n) cell (subst (λ z. thing c.cells z ≡ Some cell) same at) few s (refs k PromiseSide (off n) xs) (refs k FutureSide (off n) xs) refl refl
+            subst (λ z. Unless (λ d. Refers k d xs) (suffer z (loss s (reference_count (frames_hold xs) PromiseSide z (off n)) (reference_count (frames_hold xs) FutureSide z (off n)) cell
+            (owner z c.entries) (port_of z c.ports)) (off n))) (sym same)
+            (own_lost k r types (off n) xs q o.numbered (off_tied n) cell (subst (λ z. thing c.cells z ≡ Some cell) same at) few s (refs k PromiseSide (off n) xs)
+            (refs k FutureSide (off n) xs) refl refl
             (λ e w. let a = popped FutureSide in let b = no_future e in let g = h.1 w in omega (arith, a, b, g)))
         by_number cell at false e =
             let other : j ≡ k → ⊥ = (λ z. let f : ⊥ = grind (arith, e, z) in f) in
-            other_lost k r types (off n) xs q o.numbered (off_tied n) j cell at other (others other) s (reference_count (frames_hold xs) PromiseSide j (off n)) (reference_count (frames_hold xs) FutureSide j (off n))
+            other_lost k r types (off n) xs q o.numbered (off_tied n) j cell at other (others other) s (reference_count (frames_hold xs) PromiseSide j (off n))
+            (reference_count (frames_hold xs) FutureSide j (off n))
 
         by_cell : (x : Option Cell) → thing c.cells j ≡ x → Unless (λ d. Refers k d xs) (lose_cell (frames_hold xs) s j x (off n))
         by_cell None q = tt

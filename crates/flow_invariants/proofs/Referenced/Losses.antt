@@ -1,5 +1,5 @@
 -- A lost reference leaves each cell with one, and each unmarked actor with a future of its result.
-use Rattle.std.proofs.Common.{◌≡◌, ◌⊎◌, inl, inr, ℕ, zero, suc, ◌+◌, ◌<◌, ◌≤◌, nat_eq, Bool, true, false, List, [], ◌∷◌, if◌then◌else◌, refl, sym, ap, subst, ◌∙◌, arith}
+use Rattle.std.proofs.Common.{◌≡◌, inl, ℕ, zero, suc, ◌+◌, ◌<◌, ◌≤◌, nat_eq, Bool, true, false, [], ◌∷◌, if◌then◌else◌, refl, sym, ap, subst, ◌∙◌, arith}
 use Rattle.std.specs.declared.option.Option.{Option}
 use Rattle.std.specs.declared.option.Option.TheVariants.{None, Some}
 use Rattle.flow_base.specs.ErrorNumbers.{broken_promise, operation_cancelled}
@@ -7,25 +7,24 @@ use Rattle.flow_value.specs.Values.{BadOutcome}
 use Rattle.flow_class.specs.Classes.{RawTree}
 use Rattle.flow_numbered.specs.Numbered.{Numbered, thing, put, removed}
 use Rattle.flow_meaning.specs.Cells.{Side, PromiseSide, FutureSide, Cell, Single, Stream, is_complete, held, filled}
-use Rattle.flow_meaning.specs.Process.{Task, Throw, Fire, Entry, Core}
-use Rattle.flow_meaning.specs.References.{one, count_maybe, count_kept, in_entries, in_ports, in_task, refs_in, count}
+use Rattle.flow_meaning.specs.Process.{Throw, Fire, Entry, Core}
+use Rattle.flow_meaning.specs.References.{one, count_maybe, count_kept, in_entries, refs_in, count}
 use Rattle.flow_meaning.specs.Orderly.{Rising, tasks_of}
 use Rattle.flow_meaning.specs.Lines.{cancel_line, broken_line}
 use Rattle.flow_meaning.specs.Work.{free_cell, free, fill_cell, fill, writes, dropping_values, owner, marked, cancel_by, cancel, pushed, leave_for}
-use Rattle.flow_meaning.specs.Dropping.{port_of, promises_gone, futures_gone, loss, suffer, break_cell, lose_cell, lose_ref}
+use Rattle.flow_meaning.specs.Dropping.{port_of, promises_gone, futures_gone, loss, suffer, break_cell}
 use Rattle.flow_meaning.specs.Step.{proc}
 use Rattle.flow_meaning.specs.Frame.{Frame}
 use Rattle.flow_meaning.proofs.Posture.{Unless, unless, after_turn, same_number, removed_none, thing_put, thing_put_other}
 use Rattle.flow_meaning.proofs.Shifts.{same_of}
 use Rattle.flow_meaning.proofs.InOrder.{no_thing}
-use Rattle.flow_heap_refinement.specs.Counted.{references, frames_hold}
 use Rattle.flow_heap_refinement.specs.CellsTied.{CellsTied}
 use Rattle.flow_heap_refinement.proofs.Owners.{entry_found, entry_unfound, one_owner}
 use Rattle.flow_heap_refinement.proofs.Referring.{of_port_gone}
 use Rattle.flow_heap_refinement.proofs.Beside.{one_each}
 use Rattle.flow_progress.specs.Fitting.{CellTypes, ActorFits, ProcessFits}
 use Rattle.flow_progress.proofs.States.{actor_of}
-use Rattle.flow_invariants.proofs.Referenced.Onward.{IsThere, no_refs, refs, Wants, Onward, onward_on, Refers, refers_on, entry_onward, replaced_onward, gone_onward, drop_onward, filling_onward, IsOpen, swap_onward, push_onward}
+use Rattle.flow_invariants.proofs.Referenced.Onward.{IsThere, no_refs, refs, Wants, Onward, onward_on, Refers, refers_on, entry_onward, replaced_onward, gone_onward, drop_onward, filling_onward, IsOpen, push_onward}
 use Rattle.flow_invariants.proofs.Referenced.Tasks.{right_kinds, agree_put}
 
 module _ (k : ℕ) (r : RawTree) (types : CellTypes) (c : Core) (xs : Numbered Frame) (p : ProcessFits r types c xs) (up : Rising 0 c.started c.entries) (t : CellsTied c) where
@@ -57,14 +56,16 @@ module _ (k : ℕ) (r : RawTree) (types : CellTypes) (c : Core) (xs : Numbered F
   cancel_by_onward : (b : Bool) (i : ℕ) (e : Entry) → thing c.entries i ≡ Some e → e.suspended ≡ b → Kept (cancel_by b i e (writes (cancel_line i) c))
   cancel_by_onward false i e at s = entry_onward k no_refs no_refs i e (marked e) (writes (cancel_line i) c) xs at (inl refl) (λ z. omega arith)
   cancel_by_onward true i e at s =
-      let m = replaced_onward k no_refs i e (marked e) [] (Throw i operation_cancelled) (writes (cancel_line i) c) xs at (inl refl) (λ z. omega arith) (agree_put c i e (marked e) at refl t.agree) kinds p.numbered in
+      let m = replaced_onward k no_refs i e (marked e) [] (Throw i operation_cancelled) (writes (cancel_line i) c) xs at (inl refl) (λ z. omega arith)
+      (agree_put c i e (marked e) at refl t.agree) kinds p.numbered in
       (m.0, (λ s. let n = m.1 s in omega (arith, n)), m.2)
     where
       kinds : Rattle.flow_heap_refinement.specs.Leaving.RightKinds c.cells e.operands
       kinds = by_frame (thing xs i) refl
         where
           by_frame : (x : Option Frame) → thing xs i ≡ x → Rattle.flow_heap_refinement.specs.Leaving.RightKinds c.cells e.operands
-          by_frame None q = absurd (subst (λ x. Rattle.flow_progress.specs.Fitting.ActorAt r types (Some e) x (tasks_of i c.tasks)) q (subst (λ x. Rattle.flow_progress.specs.Fitting.ActorAt r types x (thing xs i) (tasks_of i c.tasks)) at (p.actors i)))
+          by_frame None q = absurd (subst (λ x. Rattle.flow_progress.specs.Fitting.ActorAt r types (Some e) x (tasks_of i c.tasks)) q
+              (subst (λ x. Rattle.flow_progress.specs.Fitting.ActorAt r types x (thing xs i) (tasks_of i c.tasks)) at (p.actors i)))
           by_frame (Some f) q =
               let a = actor_of r types e f (thing c.entries i) (thing xs i) (tasks_of i c.tasks) at q (p.actors i) in
               let o = subst (λ b. Rattle.flow_progress.specs.Fitting.PostureFits r types b a.class e f (tasks_of i c.tasks)) s a.posture in right_kinds r types c p.cells f 0 e.operands o.2
@@ -78,7 +79,8 @@ module _ (k : ℕ) (r : RawTree) (types : CellTypes) (c : Core) (xs : Numbered F
       let d = record c { cells = removed c.cells j } in
       onward_on k no_refs (λ s. count s k (refs_in (held cell))) no_refs c xs d xs (dropping_values (held cell) d) xs (gone_onward k j cell c xs at other) (drop_onward k (held cell) d xs)
 
-  broken_onward : (j : ℕ) (cell : Cell) (m : ℕ) → thing c.cells j ≡ Some cell → is_complete cell ≡ false → Kept (fill_cell j (BadOutcome broken_promise) (Some cell) (writes (broken_line j) (record c { left = m })))
+  broken_onward : (j : ℕ) (cell : Cell) (m : ℕ) → thing c.cells j ≡ Some cell → is_complete cell ≡ false
+      → Kept (fill_cell j (BadOutcome broken_promise) (Some cell) (writes (broken_line j) (record c { left = m })))
   broken_onward j cell m at done =
       let d = record c { cells = put c.cells j (filled cell (BadOutcome broken_promise)) } in
       let a = filling_onward k j cell (BadOutcome broken_promise) c xs at (is_open cell done) in
@@ -99,7 +101,8 @@ module _ (k : ℕ) (r : RawTree) (types : CellTypes) (c : Core) (xs : Numbered F
       let a = gone_onward k j cell d xs at other in
       let b = drop_onward k (held cell) e xs in (
         (λ z. a.0 z),
-        (λ s. let x = a.1 s in let y = b.1 s in let z = of_port_gone (proc c xs) s k port j there in let w = Rattle.flow_heap_refinement.proofs.Keeping.no_one s j k PromiseSide other in omega (arith, x, y, z, w)),
+        (λ s. let x = a.1 s in let y = b.1 s in let z = of_port_gone (proc c xs) s k port j there in let w = Rattle.flow_heap_refinement.proofs.Keeping.no_one s j k PromiseSide other in omega
+            (arith, x, y, z, w)),
         (λ w. w),
       )
 
@@ -230,7 +233,8 @@ module _ (k : ℕ) (r : RawTree) (types : CellTypes) (c : Core) (xs : Numbered F
     promises_here n b false q = break_here n b q
 
     -- a promise that is lost takes no future
-    pub own_lost : (s : Side) (m n : ℕ) → refs k PromiseSide c xs ≡ m → refs k FutureSide c xs ≡ n → (s ≡ PromiseSide → Wants k c → 0 < refs k FutureSide c xs) → Here (suffer k (loss s m n cell (owner k c.entries) (port_of k c.ports)) c)
+    pub own_lost : (s : Side) (m n : ℕ) → refs k PromiseSide c xs ≡ m → refs k FutureSide c xs ≡ n → (s ≡ PromiseSide → Wants k c → 0 < refs k FutureSide c xs)
+        → Here (suffer k (loss s m n cell (owner k c.entries) (port_of k c.ports)) c)
     own_lost PromiseSide zero zero a b h = free_here a
     own_lost FutureSide zero zero a b h = free_here a
     own_lost PromiseSide zero (suc n) a b h = promises_here n b (is_complete cell) refl

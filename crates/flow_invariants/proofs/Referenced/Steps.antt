@@ -1,41 +1,34 @@
 -- Each task leaves each cell of a process that fits with a reference, and each unmarked actor with a future of its result.
-use Rattle.std.proofs.Common.{◌≡◌, ◌⊎◌, inl, inr, ℕ, zero, suc, ◌+◌, ◌<◌, ◌≤◌, nat_eq, Bool, true, false, List, [], ◌∷◌, ◌++◌, length, if◌then◌else◌, refl, sym, ap, subst, ◌∙◌, arith}
-use Rattle.std.specs.declared.option.Option.{Option}
-use Rattle.std.specs.declared.option.Option.TheVariants.{None, Some}
-use Rattle.flow_base.specs.ErrorNumbers.{operation_cancelled}
+use Rattle.std.proofs.Common.{◌≡◌, ◌⊎◌, inl, inr, ℕ, Bool, true, false, List, [], ◌∷◌, refl, sym, ap, subst, ◌∙◌, arith}
 use Rattle.flow_tree.specs.Decls.{RoutineTree}
-use Rattle.flow_value.specs.declared.value.Kind.{Kind}
 use Rattle.flow_value.specs.Values.{ValueTree, OutcomeTree, GoodOutcome, BadOutcome}
-use Rattle.flow_class.specs.Classes.{CatcherTree, EffectInstr, ChooseLast, RawTree}
-use Rattle.flow_class.specs.Code.{Body, Last, fetch, catcher_at}
-use Rattle.flow_numbered.specs.Numbered.{Numbered, thing, put, removed}
-use Rattle.flow_meaning.specs.Cells.{Side, PromiseSide, FutureSide, side_of, Ref, Waiter, Cell, Single, Stream, is_ready, waiters, taken, after_taking}
-use Rattle.flow_meaning.specs.Process.{Task, Run, Give, Throw, Catch, Store, Keep, Close, Fire, Drop, Entry, Core, Raised}
-use Rattle.flow_meaning.specs.References.{Scan, reference_count, refs_in, value_in, one, count, count_kept, in_task}
-use Rattle.flow_meaning.specs.Orderly.{Orderly, Rising, tasks_of}
-use Rattle.flow_meaning.specs.Work.{pushed, writes, dropping_values, leave_for, take_branch, give, is_ready_at}
-use Rattle.flow_meaning.specs.Dropping.{port_of, lose_cell, lose_ref, fire_to, fire_at, fire_cell, fire, loss}
-use Rattle.flow_meaning.specs.Lines.{throw_line, take_line, catch_line}
+use Rattle.flow_class.specs.Classes.{RawTree}
+use Rattle.flow_class.specs.Code.{fetch, catcher_at}
+use Rattle.flow_numbered.specs.Numbered.{Numbered, thing, put}
+use Rattle.flow_meaning.specs.Cells.{Side}
+use Rattle.flow_meaning.specs.Process.{Task, Run, Give, Throw, Catch, Store, Core}
+use Rattle.flow_meaning.specs.References.{in_task}
+use Rattle.flow_meaning.specs.Orderly.{Orderly}
+use Rattle.flow_meaning.specs.Work.{pushed, writes, dropping_values, leave_for}
+use Rattle.flow_meaning.specs.Lines.{throw_line}
 use Rattle.flow_meaning.specs.Step as steps
 use Rattle.flow_meaning.specs.Step.{proc, with_operand, below, fate, throw_core, OperandFate, GoesOn, Cancelled, Ready, verdict, keep_by, keep, handle, do_task}
-use Rattle.flow_meaning.specs.Frame.{Frame, over, raised, raise, lose}
-use Rattle.flow_meaning.specs.Class.{classes, class_names}
-use Rattle.flow_meaning.proofs.Posture.{Unless, unless, after_turn, thing_put, own_task}
-use Rattle.flow_meaning.proofs.Shifts.{give_of, throw_of, store_of, keep_of, close_of}
-use Rattle.flow_heap_refinement.specs.Counted.{Agree, frames_hold}
+use Rattle.flow_meaning.specs.Frame.{Frame, raised}
+use Rattle.flow_meaning.specs.Class.{classes}
+use Rattle.flow_meaning.proofs.Posture.{Unless, unless}
+use Rattle.flow_meaning.proofs.Shifts.{give_of, throw_of, store_of}
 use Rattle.flow_heap_refinement.specs.CellsTied.{CellsTied}
-use Rattle.flow_heap_refinement.proofs.Holding.{of_all_locals}
-use Rattle.flow_heap_refinement.proofs.Referring.{of_popped}
 use Rattle.flow_progress.specs.Places.{class_vars, HoldsTypes}
 use Rattle.flow_progress.specs.Rules.{ClassRules, KeepsRules}
-use Rattle.flow_progress.specs.Fitting.{CellTypes, typed_by, Standing, Waiting, OperandsFit, ProcessFits}
+use Rattle.flow_progress.specs.Fitting.{CellTypes, typed_by, Standing, Waiting, ProcessFits}
 use Rattle.flow_progress.proofs.Handed.{has_place}
 use Rattle.flow_progress.proofs.StepFits.{Actor, actor_here, frame_rules}
-use Rattle.flow_invariants.proofs.Referenced.Onward.{IsThere, no_refs, refs, Wants, Onward, onward_on, Refers, refers_on, pop_onward}
+use Rattle.flow_invariants.proofs.Referenced.Onward.{Refers, refers_on}
 use Rattle.flow_invariants.proofs.Referenced.Hands.{store_takes, take_takes, raise_takes}
-use Rattle.flow_invariants.proofs.Referenced.Tasks.{right_kinds, agree_put, Kept, now, swapped, handed_on, stored_on, leaves_on}
+use Rattle.flow_invariants.proofs.Referenced.Tasks.{right_kinds, Kept, now, swapped, handed_on, stored_on, leaves_on}
 
-module _ (k : ℕ) (r : RawTree) (actors : List RoutineTree) (rules : ClassRules r actors) (types : CellTypes) (c : Core) (xs : Numbered Frame) (o : Orderly c) (p : ProcessFits r types c xs) (t : CellsTied c) (ts : List Task) (h : Refers k c xs) where
+module _ (k : ℕ) (r : RawTree) (actors : List RoutineTree) (rules : ClassRules r actors) (types : CellTypes) (c : Core) (xs : Numbered Frame) (o : Orderly c) (p : ProcessFits r types c xs)
+    (t : CellsTied c) (ts : List Task) (h : Refers k c xs) where
   abbrev After : steps.Stepped Frame → Type 0
   After q = Unless (λ d. Refers k d q.0.actors) q.0.core
 
@@ -65,7 +58,8 @@ module _ (k : ℕ) (r : RawTree) (actors : List RoutineTree) (rules : ClassRules
           subst (λ x. After (steps.give (classes r) i b (GoodOutcome u) x (proc (now k c xs ts) xs))) (sym a.stands)
           (after_kept (dropping_values z.0 (pushed (Run i) (now k c xs ts))) (put xs i z.1)
           (handed_on k c xs ts (Give i b (GoodOutcome u)) i f z.1 z.0 (Run i) top a.stands
-          (λ s. take_takes r (typed_by types) (class_vars f.code) f w.places d.waiting.holds s k b u d.waiting.group d.callback d.waiting.there d.there (λ q e. (d.takes, sym (ap (Rattle.flow_progress.specs.Rules.takes_type f.code) e) ∙ d.into)))))
+          (λ s. take_takes r (typed_by types) (class_vars f.code) f w.places d.waiting.holds s k b u d.waiting.group d.callback d.waiting.there d.there
+          (λ q e. (d.takes, sym (ap (Rattle.flow_progress.specs.Rules.takes_type f.code) e) ∙ d.into)))))
 
   -- the result of an effect
   pub store_refers : (i : ℕ) (v : ValueTree) → c.tasks ≡ Store i v ∷ ts → After (steps.store (classes r) i v (thing xs i) (proc (now k c xs ts) xs))
@@ -79,7 +73,8 @@ module _ (k : ℕ) (r : RawTree) (actors : List RoutineTree) (rules : ClassRules
       (after_kept (dropping_values z.0 (now k c xs ts)) (put xs i z.1)
       (stored_on k c xs ts (Store i v) i f z.1 z.0 top a.stands
       (λ s. let m = store_takes r (typed_by types) (class_vars f.code) f w.places a.doing.1.holds s k v d.0 (fetch f.code f.block f.instr) d.1
-      (λ path e here none. has_place r actors (class_vars f.code) (typed_by types) f w v d.0 path e a.doing.1 here (subst (λ z. Rattle.flow_progress.specs.Asking.Stores r f.code (class_vars f.code) z d.0) here d.1) d.2 none) in
+      (λ path e here none. has_place r actors (class_vars f.code) (typed_by types) f w v d.0 path e a.doing.1 here
+      (subst (λ z. Rattle.flow_progress.specs.Asking.Stores r f.code (class_vars f.code) z d.0) here d.1) d.2 none) in
       let n = Rattle.flow_heap_refinement.proofs.Sums.count_joined s k (Rattle.flow_value.specs.Values.refs_of v) [] in omega (arith, m, n))))
 
   -- an error that is thrown

@@ -231,7 +231,18 @@ mutual
   plain_puts (choose_stmt at p q first more w ws eq) =
       let m = whens_make ws in
       let n = when_puts w in
-      record { parts = λ h. (n.parts m.parts, h); few = omega (arith, m.few, n.few, ap length eq, length-append first (more ++ sign_at sign.CloseCurly q ∷ []), length-append more (sign_at sign.CloseCurly q ∷ [])) }
+      record {
+        parts = λ h. (n.parts m.parts, h);
+        few = omega (
+          arith,
+          m.few,
+          n.few,
+          ap length eq,
+          length-append first (more ++ sign_at sign.CloseCurly q ∷ []),
+          length-append more
+              (sign_at sign.CloseCurly q ∷ []),
+        );
+      }
   plain_puts (init_stmt at p xs r eq) =
       let m = init_puts r in
       record { parts = m.parts; few = omega (arith, m.few, ap length eq, length-append xs (sign_at sign.Semicolon p ∷ [])) }

@@ -119,7 +119,8 @@ throws_there n (BlockStmt at b k) s = refl
 throws_there n (IfStmt at e b k) s = refl
 throws_there n (IfElseStmt at e b c k) s = refl
 throws_there n (WhileStmt at e b k) s = refl
-throws_there n (ForStmt at i e t b k) s = sym (throws_for n i (looped (is_there e) (with_step (ways (left (left n i) t) b) (ways (left n i) t))) (ways (left (left (left n i) t) b) k) (init_kind i s.0) refl)
+throws_there n (ForStmt at i e t b k) s = sym (throws_for n i (looped (is_there e) (with_step (ways (left (left n i) t) b) (ways (left n i) t))) (ways (left (left (left n i) t) b) k)
+    (init_kind i s.0) refl)
 throws_there n (LoopStmt at b k) s = refl
 throws_there n (BreakStmt at k) s = refl
 throws_there n (ContinueStmt at k) s = refl
@@ -127,7 +128,8 @@ throws_there n (ReturnStmt at v k) s = refl
 throws_there n (ThrowStmt at v k) s = refl
 throws_there n (TryStmt at b q x h k) s = refl
 throws_there n (ChooseStmt at bs k) s =
-    sym (reached_first (onward (waited_at n) (either at_once (branch_ways (n - 1) bs).throws)) _ (reached_onward (waited_at n) (either at_once (branch_ways (n - 1) bs).throws) ∙ ap (λ x. x && true) (waited_reached n)))
+    sym (reached_first (onward (waited_at n) (either at_once (branch_ways (n - 1) bs).throws)) _
+    (reached_onward (waited_at n) (either at_once (branch_ways (n - 1) bs).throws) ∙ ap (λ x. x && true) (waited_reached n)))
 throws_there n (DeclareStmt at i v k) s = refl
 throws_there n (AssignStmt at xs v k) s = refl
 throws_there n (ModifyStmt at xs c k) s = refl

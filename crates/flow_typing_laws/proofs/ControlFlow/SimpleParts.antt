@@ -49,7 +49,8 @@ step_part no_step = tt
 step_part (some_step at xs r q) = is_step r
 
 mutual
-  plain : {actor : Bool} {d : ℕ} {c c' : Counts} {all : List Marked} {at : Place} {rest body : Body} {ends_if : Bool} → PlainRule actor d c c' all at rest body ends_if → HasSimpleParts rest → HasSimpleParts body
+  plain : {actor : Bool} {d : ℕ} {c c' : Counts} {all : List Marked} {at : Place} {rest body : Body} {ends_if : Bool} → PlainRule actor d c c' all at rest body ends_if → HasSimpleParts rest
+      → HasSimpleParts body
   plain (if_stmt at p q test body e b eq) h = (of_body b, h)
   plain (if_else_stmt at p q r test body other e b o eq) h = (of_body b, of_body o, h)
   plain (while_stmt at p q test body e b eq) h = (of_body b, h)
