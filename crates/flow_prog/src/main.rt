@@ -6,9 +6,9 @@ mod status;
 
 use crate::real::{BeginKept, SystemFiles};
 use crate::status::{answer, hand_on_rest, is_noted};
+use flow_refusal::note;
 use flow_system::gathering::Gathering;
 use flow_system::opened::OpenedFiles;
-use flow_refusal::note;
 use std::io::Write;
 use std::process::ExitCode;
 use std::{env, io};

@@ -4,8 +4,8 @@ ghost use Rattle.std.specs.Prelude.{◌≡◌};
 ghost use Rattle.flow_base.specs.Seen.{Untold};
 
 use flow_base::fault::OutFault;
-use flow_system::opened::Opener;
 use flow_base::sink::Sink;
+use flow_system::opened::Opener;
 use std::alloc::Global;
 use std::fs::File;
 use std::io;
