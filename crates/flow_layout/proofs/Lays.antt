@@ -18,7 +18,7 @@ use Rattle.flow_tree.specs.declared.stmt.StmtKind.TheVariants as kind
 use Rattle.flow_tree.specs.View.{expr_of}
 use Rattle.flow_tree.specs.StmtView.{into_of, waiting_of, stmt_of, body_of, branch_of, branches_of, simple_of, else_of}
 use Rattle.flow_tree.specs.Tree.{TypeTree, ErrorType}
-use Rattle.flow_tree.specs.Body.{WaitTree, Body, End, BlockStmt, IfStmt, IfElseStmt, WhileStmt, ForStmt, LoopStmt, TryStmt, ChooseStmt, DeclareStmt, WaitStmt, Branches, MoreBranches}
+use Rattle.flow_tree.specs.Body.{WaitTree, Body, End, BlockStmt, IfStmt, IfElseStmt, WhileStmt, ForStmt, LoopStmt, TryStmt, ChooseStmt, DeclareStmt, WaitStmt, Branches}
 use Rattle.flow_tree.specs.Decls.{SlotTree}
 use Rattle.flow_ast.specs.Slots.{declared_slots, body_slots, branch_slots, waited_slots, body_groups, branch_groups, branch_waits, into_slots}
 use Rattle.flow_layout.specs.Locals.{declared_locals, body_locals, branch_locals, counts, into_locals}
@@ -80,12 +80,13 @@ three_bodies l b c d k i = record {
 -- a try: its body, the local of the error, its handler
 pub try_bodies : (l : LayoutTree) (b h k : Body) → with_body (with_body (with_more (with_body l b) [] (ErrorType ∷ [])) h) k ≡ record {
   slots = l.slots ++ (body_slots b ++ body_slots h ++ body_slots k);
-  locals = l.locals ++ (body_locals b ++ (ErrorType ∷ []) ++ body_locals h ++ body_locals k);
+  locals = l.locals ++ (body_locals b ++ (ErrorType ∷ body_locals h) ++ body_locals k);
   branches = l.branches ++ counts (body_groups b ++ body_groups h ++ body_groups k);
 }
 try_bodies l b h k i = record {
   slots = (ap (λ x. (x ++ body_slots h) ++ body_slots k) (append-nil (l.slots ++ body_slots b)) ∙ three l.slots (body_slots b) (body_slots h) (body_slots k)) i;
-  locals = four l.locals (body_locals b) (ErrorType ∷ []) (body_locals h) (body_locals k) i;
+  locals = (ap (λ x. x ++ body_locals k) (append_assoc (l.locals ++ body_locals b) (ErrorType ∷ []) (body_locals h))
+      ∙ three l.locals (body_locals b) (ErrorType ∷ body_locals h) (body_locals k)) i;
   branches = (three l.branches (counts (body_groups b)) (counts (body_groups h)) (counts (body_groups k))
       ∙ ap (λ x. l.branches ++ x) (sym (counts_three (body_groups b) (body_groups h) (body_groups k)))) i;
 }

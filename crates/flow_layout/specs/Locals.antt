@@ -1,9 +1,10 @@
 -- The locals of an actor, and how many branches its groups have.
-use Rattle.std.specs.Prelude.{ℕ, List, [], ◌∷◌, ◌++◌, map, length, if◌then◌else◌}
+use Rattle.std.specs.Prelude.{ℕ, List, [], ◌∷◌, length, if◌then◌else◌}
 use Rattle.std.specs.declared.option.Option.{Option}
 use Rattle.std.specs.declared.option.Option.TheVariants.{None, Some}
 use Rattle.flow_tree.specs.Tree.{TypeTree, ErrorType}
-use Rattle.flow_tree.specs.Body.{IntoTree, WaitTree, Body, End, BlockStmt, IfStmt, IfElseStmt, WhileStmt, ForStmt, LoopStmt, BreakStmt, ContinueStmt, ReturnStmt, ThrowStmt, TryStmt, ChooseStmt, DeclareStmt, AssignStmt, ModifyStmt, CallStmt, WaitStmt, Branches, NoBranches, MoreBranches}
+use Rattle.flow_tree.specs.Body.{IntoTree, WaitTree, Body, DeclareStmt, WaitStmt, Branches}
+use Rattle.flow_tree.specs.Folds.{Fold, folded, folded_branches, listing}
 use Rattle.flow_tree.specs.Decls.{RoutineTree}
 use Rattle.flow_ast.specs.Slots.{groups_of}
 
@@ -15,32 +16,25 @@ abbrev pub into_locals : Option IntoTree → List TypeTree
 into_locals None = []
 into_locals (Some i) = declared_locals i
 
+abbrev pub waited_locals : WaitTree → List TypeTree
+waited_locals w = into_locals w.into
+
+-- what a statement declares by itself is a local where it is no state variable
+abbrev pub stmt_locals : Body → List TypeTree
+stmt_locals (DeclareStmt at i e k) = declared_locals i
+stmt_locals (WaitStmt at w k) = waited_locals w
+stmt_locals b = []
+
 -- The types of the locals that statements declare, in the order of the text. The variable of a catch comes after the
 -- locals of its try body.
-abbrev mutual
-  pub body_locals : Body → List TypeTree
-  body_locals End = []
-  body_locals (BlockStmt at b k) = body_locals b ++ body_locals k
-  body_locals (IfStmt at e b k) = body_locals b ++ body_locals k
-  body_locals (IfElseStmt at e b c k) = body_locals b ++ body_locals c ++ body_locals k
-  body_locals (WhileStmt at e b k) = body_locals b ++ body_locals k
-  body_locals (ForStmt at i e t b k) = body_locals i ++ body_locals t ++ body_locals b ++ body_locals k
-  body_locals (LoopStmt at b k) = body_locals b ++ body_locals k
-  body_locals (BreakStmt at k) = body_locals k
-  body_locals (ContinueStmt at k) = body_locals k
-  body_locals (ReturnStmt at e k) = body_locals k
-  body_locals (ThrowStmt at e k) = body_locals k
-  body_locals (TryStmt at b p x h k) = body_locals b ++ (ErrorType ∷ []) ++ body_locals h ++ body_locals k
-  body_locals (ChooseStmt at bs k) = branch_locals bs ++ body_locals k
-  body_locals (DeclareStmt at i e k) = declared_locals i ++ body_locals k
-  body_locals (AssignStmt at xs e k) = body_locals k
-  body_locals (ModifyStmt at xs c k) = body_locals k
-  body_locals (CallStmt at xs es k) = body_locals k
-  body_locals (WaitStmt at w k) = into_locals w.into ++ body_locals k
+abbrev pub locals_listed : Fold (List TypeTree)
+locals_listed = listing stmt_locals (λ x. ErrorType ∷ []) waited_locals
 
-  pub branch_locals : Branches → List TypeTree
-  branch_locals NoBranches = []
-  branch_locals (MoreBranches at w b bs) = into_locals w.into ++ body_locals b ++ branch_locals bs
+abbrev pub body_locals : Body → List TypeTree
+body_locals b = folded locals_listed b
+
+abbrev pub branch_locals : Branches → List TypeTree
+branch_locals bs = folded_branches locals_listed bs
 
 -- the locals of an actor, numbered from 0
 abbrev pub locals_of : RoutineTree → List TypeTree

@@ -5,7 +5,7 @@ use Rattle.std.specs.declared.option.Option.TheVariants.{None, Some}
 use Rattle.flow_base.specs.declared.place.Place.{Place}
 use Rattle.flow_tree.specs.declared.ty.Ident.{Ident}
 use Rattle.flow_tree.specs.Tree.{ExprTree}
-use Rattle.flow_tree.specs.Body.{IntoTree, Body, End, BlockStmt, IfStmt, IfElseStmt, WhileStmt, ForStmt, LoopStmt, BreakStmt, ContinueStmt, ReturnStmt, ThrowStmt, TryStmt, ChooseStmt, DeclareStmt, AssignStmt, ModifyStmt, CallStmt, WaitStmt}
+use Rattle.flow_tree.specs.Body.{IntoTree, Body, ForStmt, TryStmt, DeclareStmt, WaitStmt}
 use Rattle.flow_tree.specs.Decls.{SlotTree}
 use Rattle.flow_class.specs.Classes.{InstrTree, GotoLast, PassLast, TestLast}
 use Rattle.flow_class.specs.Scopes.{Scope, Mark, scope, outside, over}
@@ -20,7 +20,7 @@ use Rattle.flow_split.proofs.Steps.{Stands, ended_plain, ended_acting, scope_beg
 try_sums : (a b c d : ℕ) → suc (a + b) + c + d ≡ a + (b + suc c + d)
 try_sums a b c d = omega arith
 
-for_sums : (a i b p k : ℕ) → a + i + b + p + k ≡ a + (i + b + p + k)
+for_sums : (a i b p k : ℕ) → a + i + b + p + k ≡ a + (i + p + b + k)
 for_sums a i b p k = omega arith
 
 plus_zero : (n : ℕ) → n + 0 ≡ n
@@ -39,24 +39,9 @@ outside_taken None l s = refl
 outside_taken (Some i) l s = outside_local i.state i.name.name l s
 
 pub outside_later : (b : Body) (l : ℕ) (s : Scope) → outside (later b l s) ≡ outside s
-outside_later End l s = refl
-outside_later (BlockStmt at b k) l s = refl
-outside_later (IfStmt at e b k) l s = refl
-outside_later (IfElseStmt at e b c k) l s = refl
-outside_later (WhileStmt at e b k) l s = refl
-outside_later (ForStmt at i e p b k) l s = refl
-outside_later (LoopStmt at b k) l s = refl
-outside_later (BreakStmt at k) l s = refl
-outside_later (ContinueStmt at k) l s = refl
-outside_later (ReturnStmt at e k) l s = refl
-outside_later (ThrowStmt at e k) l s = refl
-outside_later (TryStmt at b p x h k) l s = refl
-outside_later (ChooseStmt at bs k) l s = refl
 outside_later (DeclareStmt at i e k) l s = outside_local i.state i.name.name l s
-outside_later (AssignStmt at xs e k) l s = refl
-outside_later (ModifyStmt at xs c k) l s = refl
-outside_later (CallStmt at xs es k) l s = refl
 outside_later (WaitStmt at w k) l s = outside_taken w.into l s
+outside_later _ l s = refl
 
 module _ (ns : Names) (slots : List SlotTree) (w : Around) where
   pub try_emits : (v u : Around) (e e1 e2 f f2 g new : Emitted) (at catch : Place) (b : Body) (x : Ident) (c : Body) (y hb he q : ℕ) → e.is_open ≡ true

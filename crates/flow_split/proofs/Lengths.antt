@@ -37,6 +37,13 @@ plus_zero n = omega arith
 one_plus : (n : ℕ) → 1 + n ≡ suc n
 one_plus n = omega arith
 
+-- the step of a `for` is counted before its body, and lowered behind it
+step_first : (a b c d : ℕ) → a + b + c + d ≡ a + c + b + d
+step_first a b c d = omega arith
+
+suc_plus : (a b : ℕ) → suc a + b ≡ suc (a + b)
+suc_plus a b = omega arith
+
 nat_assoc : (a b c : ℕ) → a + b + c ≡ a + (b + c)
 nat_assoc a b c = omega arith
 
@@ -53,25 +60,9 @@ finished_sizes w s (Scoped l) = record { more = refl; groups = refl }
 finished_sizes w s (Part l) = record { more = refl; groups = refl }
 
 -- where there is no statement, there are no groups
-none_behind : (k : Body) → has_statement k ≡ false → groups_in k ≡ 0
+pub none_behind : (k : Body) → has_statement k ≡ false → groups_in k ≡ 0
 none_behind End e = refl
-none_behind (BlockStmt at b k) e = cc
-none_behind (IfStmt at t b k) e = cc
-none_behind (IfElseStmt at t b c k) e = cc
-none_behind (WhileStmt at t b k) e = cc
-none_behind (ForStmt at i t p b k) e = cc
-none_behind (LoopStmt at b k) e = cc
-none_behind (BreakStmt at k) e = cc
-none_behind (ContinueStmt at k) e = cc
-none_behind (ReturnStmt at t k) e = cc
-none_behind (ThrowStmt at t k) e = cc
-none_behind (TryStmt at b p x h k) e = cc
-none_behind (ChooseStmt at bs k) e = cc
-none_behind (DeclareStmt at i t k) e = cc
-none_behind (AssignStmt at xs t k) e = cc
-none_behind (ModifyStmt at xs c k) e = cc
-none_behind (CallStmt at xs es k) e = cc
-none_behind (WaitStmt at w k) e = cc
+none_behind _ e = cc
 
 rest_if : (b : Bool) (h : Option Hand) (c d : Chunk) (k : Body) (n m : ℕ) → has_statement k ≡ b → Sizes c n 0 → Sizes d m (groups_in k)
     → Sizes (if b then joined h c d else c) (n + (if b then suc m else 0)) (groups_in k)
@@ -157,14 +148,15 @@ module _ (ns : Names) (slots : List SlotTree) where
         let c3 = lowered ns slots r v (begun m) p in
         let c4 = lowered ns slots s w (begun o) k in
         let d4 = lowered_sizes s w (begun o) k in
-        after w.hand (joined w.hand (joined w.hand c1 c2) c3) (dropping (scope (later p m.local r)) c4) (blocks_in t i + test_blocks e + suc (blocks_in false b) + suc (blocks_in t p)) (groups_in i + groups_in b + groups_in p)
+        sized _ _ _ _ _ refl (step_first (groups_in i) (groups_in b) (groups_in p) (groups_in k))
+        (after w.hand (joined w.hand (joined w.hand c1 c2) c3) (dropping (scope (later p m.local r)) c4) (blocks_in t i + test_blocks e + suc (blocks_in false b) + suc (blocks_in t p)) (groups_in i + groups_in b + groups_in p)
         (blocks_in t k) (groups_in k)
         (after w.hand (joined w.hand c1 c2) c3 (blocks_in t i + test_blocks e + suc (blocks_in false b)) (groups_in i + groups_in b) (blocks_in t p) (groups_in p)
         (after w.hand c1 c2 (blocks_in t i + test_blocks e) (groups_in i) (blocks_in false b) (groups_in b)
         (test_sizes v r e g.block o.block c0 (blocks_in t i) (groups_in i) (lowered_sizes (Mark ∷ s) v n i))
         (lowered_sizes (Mark ∷ r) u (begun g) b))
         (lowered_sizes r v (begun m) p))
-        (record { more = d4.more; groups = d4.groups })
+        (record { more = d4.more; groups = d4.groups }))
     lowered_sizes s w n (BreakStmt at k) =
         let m = exited w.looped.tried n in
         rest_sizes w.hand (exits w.looped.tried w s n (GotoLast w.looped.out)) (lowered ns slots s w (begun m) k) k (exit_blocks w.looped.tried) (blocks_in w.looped.tried k)
@@ -199,10 +191,11 @@ module _ (ns : Names) (slots : List SlotTree) where
         let j = past_branches t bs g in
         let v = inner w (Scoped (GotoLast j.block)) in
         let c0 : Chunk = record (ends w s true [] (ChooseLast n.group)) { groups = callbacks ns slots s t g bs ∷ [] } in
-        after w.hand (branches ns slots c0 s v g bs) (lowered ns slots s w (begun j) k) (branch_blocks t bs) (suc (branch_group_count bs)) (blocks_in t k) (groups_in k)
+        sized _ _ _ _ _ refl (suc_plus (branch_group_count bs) (groups_in k))
+        (after w.hand (branches ns slots c0 s v g bs) (lowered ns slots s w (begun j) k) (branch_blocks t bs) (suc (branch_group_count bs)) (blocks_in t k) (groups_in k)
         (sized (branches ns slots c0 s v g bs) (0 + branch_blocks t bs) (1 + branch_group_count bs) (branch_blocks t bs) (suc (branch_group_count bs)) (zero_plus (branch_blocks t bs)) (one_plus (branch_group_count bs))
         (branches_sizes c0 s v g bs 0 1 (record { more = refl; groups = refl })))
-        (lowered_sizes s w (begun j) k)
+        (lowered_sizes s w (begun j) k))
     lowered_sizes s w n (DeclareStmt at i e k) =
         let r = lowered_sizes (with_into i n.local s) w (taken (Some i) n) k in
         record { more = r.more; groups = r.groups }

@@ -4,7 +4,8 @@ use Rattle.std.specs.Prelude.{ℕ, suc, ◌+◌, Bool, true, false, if◌then◌
 use Rattle.std.specs.declared.option.Option.{Option}
 use Rattle.std.specs.declared.option.Option.TheVariants.{None, Some}
 use Rattle.flow_tree.specs.Tree.{ExprTree}
-use Rattle.flow_tree.specs.Body.{IntoTree, Body, End, BlockStmt, IfStmt, IfElseStmt, WhileStmt, ForStmt, LoopStmt, BreakStmt, ContinueStmt, ReturnStmt, ThrowStmt, TryStmt, ChooseStmt, DeclareStmt, AssignStmt, ModifyStmt, CallStmt, WaitStmt, Branches, NoBranches, MoreBranches}
+use Rattle.flow_tree.specs.Body.{IntoTree, WaitTree, Body, End, BlockStmt, IfStmt, IfElseStmt, WhileStmt, ForStmt, LoopStmt, BreakStmt, ContinueStmt, ReturnStmt, ThrowStmt, TryStmt, ChooseStmt, DeclareStmt, AssignStmt, ModifyStmt, CallStmt, WaitStmt, Branches, NoBranches, MoreBranches}
+use Rattle.flow_tree.specs.Folds.{Fold, folded, folded_branches, counting}
 use Rattle.flow_ast.specs.Leaving.{has_statement}
 
 -- behind a statement that nothing goes on from a block begins only if a statement stands there
@@ -56,57 +57,39 @@ abbrev pub into_count : Option IntoTree → ℕ
 into_count None = 0
 into_count (Some i) = local_count i
 
--- the locals of a body
-abbrev mutual
-  pub locals_in : Body → ℕ
-  locals_in End = 0
-  locals_in (BlockStmt at b k) = locals_in b + locals_in k
-  locals_in (IfStmt at e b k) = locals_in b + locals_in k
-  locals_in (IfElseStmt at e b c k) = locals_in b + locals_in c + locals_in k
-  locals_in (WhileStmt at e b k) = locals_in b + locals_in k
-  locals_in (ForStmt at i e p b k) = locals_in i + locals_in b + locals_in p + locals_in k
-  locals_in (LoopStmt at b k) = locals_in b + locals_in k
-  locals_in (BreakStmt at k) = locals_in k
-  locals_in (ContinueStmt at k) = locals_in k
-  locals_in (ReturnStmt at e k) = locals_in k
-  locals_in (ThrowStmt at e k) = locals_in k
-  locals_in (TryStmt at b p x h k) = locals_in b + suc (locals_in h) + locals_in k
-  locals_in (ChooseStmt at bs k) = branch_local_count bs + locals_in k
-  locals_in (DeclareStmt at i e k) = local_count i + locals_in k
-  locals_in (AssignStmt at xs e k) = locals_in k
-  locals_in (ModifyStmt at xs c k) = locals_in k
-  locals_in (CallStmt at xs es k) = locals_in k
-  locals_in (WaitStmt at w k) = into_count w.into + locals_in k
+abbrev pub waited_count : WaitTree → ℕ → ℕ
+waited_count w n = into_count w.into + n
 
-  pub branch_local_count : Branches → ℕ
-  branch_local_count NoBranches = 0
-  branch_local_count (MoreBranches at w b bs) = into_count w.into + locals_in b + branch_local_count bs
+-- a statement declares a local by itself, or none
+abbrev pub stmt_locals_counted : Body → ℕ → ℕ
+stmt_locals_counted (DeclareStmt at i e k) n = local_count i + n
+stmt_locals_counted (WaitStmt at w k) n = waited_count w n
+stmt_locals_counted b n = n
 
--- the groups of a body
-abbrev mutual
-  pub groups_in : Body → ℕ
-  groups_in End = 0
-  groups_in (BlockStmt at b k) = groups_in b + groups_in k
-  groups_in (IfStmt at e b k) = groups_in b + groups_in k
-  groups_in (IfElseStmt at e b c k) = groups_in b + groups_in c + groups_in k
-  groups_in (WhileStmt at e b k) = groups_in b + groups_in k
-  groups_in (ForStmt at i e p b k) = groups_in i + groups_in b + groups_in p + groups_in k
-  groups_in (LoopStmt at b k) = groups_in b + groups_in k
-  groups_in (BreakStmt at k) = groups_in k
-  groups_in (ContinueStmt at k) = groups_in k
-  groups_in (ReturnStmt at e k) = groups_in k
-  groups_in (ThrowStmt at e k) = groups_in k
-  groups_in (TryStmt at b p x h k) = groups_in b + groups_in h + groups_in k
-  groups_in (ChooseStmt at bs k) = suc (branch_group_count bs) + groups_in k
-  groups_in (DeclareStmt at i e k) = groups_in k
-  groups_in (AssignStmt at xs e k) = groups_in k
-  groups_in (ModifyStmt at xs c k) = groups_in k
-  groups_in (CallStmt at xs es k) = groups_in k
-  groups_in (WaitStmt at w k) = suc (groups_in k)
+-- the locals of a body, and the variables of its catches
+abbrev pub locals_counted : Fold ℕ
+locals_counted = counting stmt_locals_counted (λ x n. suc n) waited_count
 
-  pub branch_group_count : Branches → ℕ
-  branch_group_count NoBranches = 0
-  branch_group_count (MoreBranches at w b bs) = groups_in b + branch_group_count bs
+abbrev pub locals_in : Body → ℕ
+locals_in b = folded locals_counted b
+
+abbrev pub branch_local_count : Branches → ℕ
+branch_local_count bs = folded_branches locals_counted bs
+
+-- a wait is a group, and a choose
+abbrev pub stmt_groups_counted : Body → ℕ → ℕ
+stmt_groups_counted (ChooseStmt at bs k) n = suc n
+stmt_groups_counted (WaitStmt at w k) n = suc n
+stmt_groups_counted b n = n
+
+abbrev pub groups_counted : Fold ℕ
+groups_counted = counting stmt_groups_counted (λ x n. n) (λ w n. n)
+
+abbrev pub groups_in : Body → ℕ
+groups_in b = folded groups_counted b
+
+abbrev pub branch_group_count : Branches → ℕ
+branch_group_count bs = folded_branches groups_counted bs
 
 -- the numbers that come next: of a block, a local and a group
 pub record Next : Type 0 where

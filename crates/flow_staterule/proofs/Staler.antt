@@ -7,8 +7,9 @@ use Rattle.std.specs.declared.option.Option.TheVariants.{None, Some}
 use Rattle.std.proofs.lemmas.Bool.{false≢true, true≢false, ltb-true, lt-ltb}
 use Rattle.flow_base.specs.declared.place.Place.{Place}
 use Rattle.flow_tree.specs.declared.ty.Ident.{Ident}
-use Rattle.flow_tree.specs.Tree.{ExprTree, ExprTrees, IntExpr, TextExpr, BoolExpr, VoidExpr, VarExpr, CallExpr, FieldExpr, MethodExpr, NotExpr, NegExpr, BinaryExpr, ParenExpr, NoExprs, MoreExprs}
+use Rattle.flow_tree.specs.Tree.{ExprTree, ExprTrees}
 use Rattle.flow_tree.specs.Body.{IntoTree, ChangeTree, PlusChange, MinusChange, UpChange, DownChange, Body, End, BlockStmt, IfStmt, IfElseStmt, WhileStmt, ForStmt, LoopStmt, BreakStmt, ContinueStmt, ReturnStmt, ThrowStmt, TryStmt, ChooseStmt, DeclareStmt, AssignStmt, ModifyStmt, CallStmt, WaitStmt, Branches, NoBranches, MoreBranches}
+use Rattle.flow_tree.proofs.Folds.{names_agree, all_names_agree}
 use Rattle.flow_ast.specs.Slots.{body_groups}
 use Rattle.flow_staterule.specs.declared.scope.Point.{Point}
 use Rattle.flow_staterule.specs.declared.scope.Use.{Use}
@@ -90,24 +91,11 @@ mention_more d (v ∷ vs) p q at x s =
     pick_more (bytes_eq v.name x) (use_of at p v.local (length vs)) (use_of at q v.local (length vs)) (mention vs p at x) (mention vs q at x)
     (use_more d p q at v.local (length vs) s) (mention_more d vs p q at x s)
 
-mutual
-  expr_more : (d : ℕ) (vs : List Variable) (p q : Point) (e : ExprTree) → Staler d p q → MoreStale (expr_uses vs p e) (expr_uses vs q e)
-  expr_more d vs p q (IntExpr k) s = tt
-  expr_more d vs p q (TextExpr t) s = tt
-  expr_more d vs p q (BoolExpr b) s = tt
-  expr_more d vs p q VoidExpr s = tt
-  expr_more d vs p q (VarExpr x) s = mention_more d vs p q x.at x.name s
-  expr_more d vs p q (CallExpr f xs) s = exprs_more d vs p q xs s
-  expr_more d vs p q (FieldExpr e x) s = expr_more d vs p q e s
-  expr_more d vs p q (MethodExpr e m xs) s = then_more _ _ _ _ (expr_more d vs p q e s) (exprs_more d vs p q xs s)
-  expr_more d vs p q (NotExpr e) s = expr_more d vs p q e s
-  expr_more d vs p q (NegExpr e) s = expr_more d vs p q e s
-  expr_more d vs p q (BinaryExpr op a b) s = then_more _ _ _ _ (expr_more d vs p q a s) (expr_more d vs p q b s)
-  expr_more d vs p q (ParenExpr e) s = expr_more d vs p q e s
+expr_more : (d : ℕ) (vs : List Variable) (p q : Point) (e : ExprTree) → Staler d p q → MoreStale (expr_uses vs p e) (expr_uses vs q e)
+expr_more d vs p q e s = names_agree MoreStale (named vs p) (named vs q) tt (λ x. mention_more d vs p q x.at x.name s) (λ us ws vs xs h k. then_more us vs ws xs h k) e
 
-  exprs_more : (d : ℕ) (vs : List Variable) (p q : Point) (es : ExprTrees) → Staler d p q → MoreStale (exprs_uses vs p es) (exprs_uses vs q es)
-  exprs_more d vs p q NoExprs s = tt
-  exprs_more d vs p q (MoreExprs e es) s = then_more _ _ _ _ (expr_more d vs p q e s) (exprs_more d vs p q es s)
+exprs_more : (d : ℕ) (vs : List Variable) (p q : Point) (es : ExprTrees) → Staler d p q → MoreStale (exprs_uses vs p es) (exprs_uses vs q es)
+exprs_more d vs p q es s = all_names_agree MoreStale (named vs p) (named vs q) tt (λ x. mention_more d vs p q x.at x.name s) (λ us ws vs xs h k. then_more us vs ws xs h k) es
 
 maybe_more : (d : ℕ) (vs : List Variable) (p q : Point) (e : Option ExprTree) → Staler d p q → MoreStale (maybe_uses vs p e) (maybe_uses vs q e)
 maybe_more d vs p q None s = tt
@@ -141,24 +129,8 @@ into_wider vs None = omega arith
 into_wider vs (Some i) = omega arith
 
 declaring_wider : (vs : List Variable) (b : Body) → length vs ≤ length (declaring vs b)
-declaring_wider vs End = omega arith
-declaring_wider vs (BlockStmt at b k) = omega arith
-declaring_wider vs (IfStmt at e b k) = omega arith
-declaring_wider vs (IfElseStmt at e b c k) = omega arith
-declaring_wider vs (WhileStmt at e b k) = omega arith
-declaring_wider vs (ForStmt at i e t b k) = omega arith
-declaring_wider vs (LoopStmt at b k) = omega arith
-declaring_wider vs (BreakStmt at k) = omega arith
-declaring_wider vs (ContinueStmt at k) = omega arith
-declaring_wider vs (ReturnStmt at v k) = omega arith
-declaring_wider vs (ThrowStmt at v k) = omega arith
-declaring_wider vs (TryStmt at b q x h k) = omega arith
-declaring_wider vs (ChooseStmt at bs k) = omega arith
-declaring_wider vs (DeclareStmt at i v k) = omega arith
-declaring_wider vs (AssignStmt at xs v k) = omega arith
-declaring_wider vs (ModifyStmt at xs c k) = omega arith
-declaring_wider vs (CallStmt at xs es k) = omega arith
 declaring_wider vs (WaitStmt at w k) = into_wider vs w.into
+declaring_wider vs _ = omega arith
 
 beyond_staler : (n m : ℕ) (vs : List Variable) (p q : Point) (b : Body) → n ≤ m → Staler (length vs) p q → Staler (length vs) (beyond n vs p b) (beyond m vs q b)
 beyond_staler n m vs p q b le s = behind_staler (length vs) p q (ways n b).ends (ways m b).ends s (ways_grow n m b le).ends

@@ -1,40 +1,30 @@
 -- The rule on state: no use of a local is stale. It is broken at the first stale use in the order of the text, and told with
 -- its declaration and with the first wait in the order of the text that makes it stale.
-use Rattle.std.specs.Prelude.{ℕ, ◌+◌, Bool, false, List, [], ◌∷◌, ◌++◌, map, reverse, length, slice_get, if◌then◌else◌}
+use Rattle.std.specs.Prelude.{ℕ, ◌+◌, Bool, false, List, [], ◌∷◌, map, reverse, length, slice_get, if◌then◌else◌}
 use Rattle.std.specs.declared.option.Option.{Option}
 use Rattle.std.specs.declared.option.Option.TheVariants.{None, Some}
 use Rattle.flow_base.specs.declared.place.Place.{Place}
-use Rattle.flow_tree.specs.Body.{Body, End, BlockStmt, IfStmt, IfElseStmt, WhileStmt, ForStmt, LoopStmt, BreakStmt, ContinueStmt, ReturnStmt, ThrowStmt, TryStmt, ChooseStmt, DeclareStmt, AssignStmt, ModifyStmt, CallStmt, WaitStmt, Branches, NoBranches, MoreBranches}
+use Rattle.flow_tree.specs.Body.{Body, ChooseStmt, WaitStmt, Branches}
+use Rattle.flow_tree.specs.Folds.{Fold, folded, folded_branches, listing, no_items}
 use Rattle.flow_tree.specs.Decls.{ParamTree, DeclTree, StructDecl, FunctionDecl, ActorDecl}
 use Rattle.flow_staterule.specs.declared.rule.Lost.{Lost}
 use Rattle.flow_staterule.specs.declared.scope.Use.{Use}
 use Rattle.flow_staterule.specs.Uses.{uses, parameter, begins}
 
--- the places of the waits of a body, in the order of the text
-abbrev mutual
-  pub wait_places : Body → List Place
-  wait_places End = []
-  wait_places (BlockStmt at b k) = wait_places b ++ wait_places k
-  wait_places (IfStmt at e b k) = wait_places b ++ wait_places k
-  wait_places (IfElseStmt at e b c k) = wait_places b ++ wait_places c ++ wait_places k
-  wait_places (WhileStmt at e b k) = wait_places b ++ wait_places k
-  wait_places (ForStmt at i e t b k) = wait_places i ++ wait_places t ++ wait_places b ++ wait_places k
-  wait_places (LoopStmt at b k) = wait_places b ++ wait_places k
-  wait_places (BreakStmt at k) = wait_places k
-  wait_places (ContinueStmt at k) = wait_places k
-  wait_places (ReturnStmt at v k) = wait_places k
-  wait_places (ThrowStmt at v k) = wait_places k
-  wait_places (TryStmt at b q x h k) = wait_places b ++ wait_places h ++ wait_places k
-  wait_places (ChooseStmt at bs k) = at ∷ branch_places bs ++ wait_places k
-  wait_places (DeclareStmt at i v k) = wait_places k
-  wait_places (AssignStmt at xs v k) = wait_places k
-  wait_places (ModifyStmt at xs c k) = wait_places k
-  wait_places (CallStmt at xs es k) = wait_places k
-  wait_places (WaitStmt at w k) = at ∷ wait_places k
+-- the places of the waits of a body, in the order of the text; a choose is one
+abbrev pub stmt_places : Body → List Place
+stmt_places (ChooseStmt at bs k) = at ∷ []
+stmt_places (WaitStmt at w k) = at ∷ []
+stmt_places b = []
 
-  pub branch_places : Branches → List Place
-  branch_places NoBranches = []
-  branch_places (MoreBranches at w b bs) = wait_places b ++ branch_places bs
+abbrev pub places_listed : Fold (List Place)
+places_listed = listing stmt_places no_items no_items
+
+abbrev pub wait_places : Body → List Place
+wait_places b = folded places_listed b
+
+abbrev pub branch_places : Branches → List Place
+branch_places bs = folded_branches places_listed bs
 
 -- the places of the waits in the body of an `else`
 abbrev pub else_places : Option Body → List Place

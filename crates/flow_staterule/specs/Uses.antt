@@ -9,9 +9,10 @@ use Rattle.std.specs.declared.option.Option.{Option}
 use Rattle.std.specs.declared.option.Option.TheVariants.{None, Some}
 use Rattle.flow_base.specs.declared.place.Place.{Place}
 use Rattle.flow_tree.specs.declared.ty.Ident.{Ident}
-use Rattle.flow_tree.specs.Tree.{ExprTree, ExprTrees, IntExpr, TextExpr, BoolExpr, VoidExpr, VarExpr, CallExpr, FieldExpr, MethodExpr, NotExpr, NegExpr, BinaryExpr, ParenExpr, NoExprs, MoreExprs}
+use Rattle.flow_tree.specs.Tree.{ExprTree, ExprTrees}
 use Rattle.flow_tree.specs.Body.{IntoTree, ChangeTree, PlusChange, MinusChange, UpChange, DownChange, Body, End, BlockStmt, IfStmt, IfElseStmt, WhileStmt, ForStmt, LoopStmt, BreakStmt, ContinueStmt, ReturnStmt, ThrowStmt, TryStmt, ChooseStmt, DeclareStmt, AssignStmt, ModifyStmt, CallStmt, WaitStmt, Branches, NoBranches, MoreBranches}
 use Rattle.flow_tree.specs.Decls.{ParamTree}
+use Rattle.flow_tree.specs.Folds.{names_listed, all_names_listed}
 use Rattle.flow_staterule.specs.declared.scope.Point.{Point}
 use Rattle.flow_staterule.specs.declared.scope.Use.{Use}
 use Rattle.flow_staterule.specs.declared.uses.Caught.{Caught}
@@ -44,24 +45,11 @@ abbrev pub named : List Variable → Point → Ident → List Use
 named vs p x = mention vs p x.at x.name
 
 -- the uses in an expression, in the order of the text
-abbrev mutual
-  pub expr_uses : List Variable → Point → ExprTree → List Use
-  expr_uses vs p (IntExpr k) = []
-  expr_uses vs p (TextExpr t) = []
-  expr_uses vs p (BoolExpr b) = []
-  expr_uses vs p VoidExpr = []
-  expr_uses vs p (VarExpr x) = named vs p x
-  expr_uses vs p (CallExpr f xs) = exprs_uses vs p xs
-  expr_uses vs p (FieldExpr e x) = expr_uses vs p e
-  expr_uses vs p (MethodExpr e m xs) = expr_uses vs p e ++ exprs_uses vs p xs
-  expr_uses vs p (NotExpr e) = expr_uses vs p e
-  expr_uses vs p (NegExpr e) = expr_uses vs p e
-  expr_uses vs p (BinaryExpr op a b) = expr_uses vs p a ++ expr_uses vs p b
-  expr_uses vs p (ParenExpr e) = expr_uses vs p e
+abbrev pub expr_uses : List Variable → Point → ExprTree → List Use
+expr_uses vs p e = names_listed (named vs p) e
 
-  pub exprs_uses : List Variable → Point → ExprTrees → List Use
-  exprs_uses vs p NoExprs = []
-  exprs_uses vs p (MoreExprs e es) = expr_uses vs p e ++ exprs_uses vs p es
+abbrev pub exprs_uses : List Variable → Point → ExprTrees → List Use
+exprs_uses vs p es = all_names_listed (named vs p) es
 
 abbrev pub maybe_uses : List Variable → Point → Option ExprTree → List Use
 maybe_uses vs p None = []

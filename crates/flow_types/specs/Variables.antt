@@ -4,7 +4,8 @@ use Rattle.std.specs.declared.option.Option.{Option}
 use Rattle.std.specs.declared.option.Option.TheVariants.{None, Some}
 use Rattle.flow_tree.specs.declared.ty.Ident.{Ident}
 use Rattle.flow_tree.specs.Tree.{TypeTree, ErrorType}
-use Rattle.flow_tree.specs.Body.{IntoTree, Body, End, BlockStmt, IfStmt, IfElseStmt, WhileStmt, ForStmt, LoopStmt, BreakStmt, ContinueStmt, ReturnStmt, ThrowStmt, TryStmt, ChooseStmt, DeclareStmt, AssignStmt, ModifyStmt, CallStmt, WaitStmt, Branches, NoBranches, MoreBranches}
+use Rattle.flow_tree.specs.Body.{IntoTree, WaitTree, Body, DeclareStmt, WaitStmt, Branches}
+use Rattle.flow_tree.specs.Folds.{Fold, folded, folded_branches, listing}
 use Rattle.flow_tree.specs.Decls.{ParamTree, RoutineTree, DeclTree, StructDecl, FunctionDecl, ActorDecl}
 use Rattle.flow_types.specs.declared.variable.VarKind.{VarKind}
 use Rattle.flow_types.specs.declared.variable.VarKind.TheVariants.{Param, State, Local}
@@ -32,31 +33,23 @@ into_variables (Some i) = into_variable i ∷ []
 abbrev pub error_variable : Ident → VariableTree
 error_variable x = record { name = x; kind = Local; ty = ErrorType }
 
--- what the statements of a body declare, in the order of the text; a `catch` declares its error
-abbrev mutual
-  pub body_variables : Body → List VariableTree
-  body_variables End = []
-  body_variables (BlockStmt at b k) = body_variables b ++ body_variables k
-  body_variables (IfStmt at t b k) = body_variables b ++ body_variables k
-  body_variables (IfElseStmt at t b c k) = body_variables b ++ (body_variables c ++ body_variables k)
-  body_variables (WhileStmt at t b k) = body_variables b ++ body_variables k
-  body_variables (ForStmt at i t n b k) = body_variables i ++ (body_variables n ++ (body_variables b ++ body_variables k))
-  body_variables (LoopStmt at b k) = body_variables b ++ body_variables k
-  body_variables (BreakStmt at k) = body_variables k
-  body_variables (ContinueStmt at k) = body_variables k
-  body_variables (ReturnStmt at v k) = body_variables k
-  body_variables (ThrowStmt at v k) = body_variables k
-  body_variables (TryStmt at b q x h k) = body_variables b ++ (error_variable x ∷ (body_variables h ++ body_variables k))
-  body_variables (ChooseStmt at bs k) = branch_variables bs ++ body_variables k
-  body_variables (DeclareStmt at i v k) = into_variable i ∷ body_variables k
-  body_variables (AssignStmt at xs v k) = body_variables k
-  body_variables (ModifyStmt at xs c k) = body_variables k
-  body_variables (CallStmt at xs es k) = body_variables k
-  body_variables (WaitStmt at w k) = into_variables w.into ++ body_variables k
+abbrev pub waited_variables : WaitTree → List VariableTree
+waited_variables w = into_variables w.into
 
-  pub branch_variables : Branches → List VariableTree
-  branch_variables NoBranches = []
-  branch_variables (MoreBranches at w b bs) = into_variables w.into ++ (body_variables b ++ branch_variables bs)
+abbrev pub stmt_variables : Body → List VariableTree
+stmt_variables (DeclareStmt at i v k) = into_variable i ∷ []
+stmt_variables (WaitStmt at w k) = waited_variables w
+stmt_variables b = []
+
+-- what the statements of a body declare, in the order of the text; a `catch` declares its error
+abbrev pub variables_listed : Fold (List VariableTree)
+variables_listed = listing stmt_variables (λ x. error_variable x ∷ []) waited_variables
+
+abbrev pub body_variables : Body → List VariableTree
+body_variables b = folded variables_listed b
+
+abbrev pub branch_variables : Branches → List VariableTree
+branch_variables bs = folded_branches variables_listed bs
 
 -- the parameters, and then the others; a record has none
 abbrev pub routine_variables : RoutineTree → List VariableTree

@@ -49,7 +49,7 @@ plus_same n a b m e f = omega (arith, e, f)
 for_blocks : (n i p a b x m : ℕ) → n ≡ i + p + (a + 3) + x → a ≡ b → i + x + suc b + suc p + suc m ≡ n + m
 for_blocks n i p a b x m e f = omega (arith, e, f)
 
-for_locals : (n i p a b m : ℕ) → n ≡ i + p + a → a ≡ b → i + b + p + m ≡ n + m
+for_locals : (n i p a b m : ℕ) → n ≡ i + p + a → a ≡ b → i + p + b + m ≡ n + m
 for_locals n i p a b m e f = omega (arith, e, f)
 
 two_bodies : (n a b h g m : ℕ) → n ≡ a + 3 + h → a ≡ b → h ≡ g → suc b + suc g + suc m ≡ n + m
