@@ -43,12 +43,12 @@ module _ (rs : List RecordTree) where
   path_type vars [] = None
   path_type vars (x ∷ xs) = fields_type (option_map (λ (p : ParamTree). p.ty) (param_named vars x.name)) xs
 
--- the types that have a value without one being given
-abbrev pub has_default : TypeTree → Bool
-has_default IntType = true
-has_default BoolType = true
-has_default StringType = true
-has_default _ = false
+-- the types whose value without one being given is a plain one
+abbrev pub has_plain_default : TypeTree → Bool
+has_plain_default IntType = true
+has_plain_default BoolType = true
+has_plain_default StringType = true
+has_plain_default _ = false
 
 module _ (rs : List RecordTree) (fs actors : List RoutineTree) where
   -- what is in force over these variables
@@ -72,7 +72,7 @@ module _ (rs : List RecordTree) (fs actors : List RoutineTree) where
 
   -- a declaration gives a value of its type, or is of one that has a value without
   abbrev pub DeclareFits : List ParamTree → IntoTree → Option ExprTree → Type 0
-  DeclareFits vars i None = has_default i.ty ≡ true
+  DeclareFits vars i None = has_plain_default i.ty ≡ true
   DeclareFits vars i (Some e) = Yields vars e i.ty
 
   -- a call of a function as a statement

@@ -17,7 +17,7 @@ use Rattle.flow_eval.specs.Operators.{operated}
 use Rattle.flow_eval.specs.Eval.{Res, Done, Fails, Spent, Meaningless, Setting, Runner, at_once, eval_all, function_called}
 use Rattle.flow_eval.specs.Functions.{Locals, Run, Goes, Breaks, Continues, Returns, Raises, SpentRun, NoRun, after, scoped, valued, chosen, again, passes, stepped, caught_by, thrown, error_at, default_value, bound, declared, assigned, scope, skip, leave_loop, change_sign, handled, try_run, put_path, evaluated, if_run, pass_run, turn_run, loop_run, for_run, throw_run, declare_run, assign_run, change_operand, changed, modify_run, call_by, call_run, return_run, exec, finished, entered, body_run, run_function}
 use Rattle.flow_ast.specs.Leaving.{has_statement, reaches_end, reaches_break}
-use Rattle.flow_ast.specs.Fits.{declared_in, path_type, has_default, Yields, MaybeYields, ChangeFits, DeclareFits, CallFits, ThrowFits, BodyFits, FunctionFits, FunctionsFit}
+use Rattle.flow_ast.specs.Fits.{declared_in, path_type, has_plain_default, Yields, MaybeYields, ChangeFits, DeclareFits, CallFits, ThrowFits, BodyFits, FunctionFits, FunctionsFit}
 use Rattle.flow_eval.specs.Typed.{HasType, HaveTypes, CellsFit}
 use Rattle.flow_eval.specs.WellTyped.{Safe}
 use Rattle.flow_eval.proofs.TypedValues.{first_there, is_bool_value, is_error_value}
@@ -273,7 +273,7 @@ module _ (s : Setting) (typed : ℕ → TypeTree → Type 0) where
         valued_comes r (λ v. HasType s.records typed v t) (Went true ps) (Left loop false (Extends ps)) (Left loop true (Extends ps)) (Extends ps) (evaluated s run e ls left) ls
         (λ v left. assigned (put_path s.records ls xs v) left) (value_good ps ls e t left f y) (extends_same ps ls f) (λ v left h. assigned_runs r loop ps ls xs t v left f p h)
 
-    default_there : (t : TypeTree) → has_default t ≡ true → (v : ValueTree) × (default_value t ≡ Some v) × HasType s.records typed v t
+    default_there : (t : TypeTree) → has_plain_default t ≡ true → (v : ValueTree) × (default_value t ≡ Some v) × HasType s.records typed v t
     default_there IntType e = (IntValue (pos 0), refl, refl)
     default_there BoolType e = (BoolValue false, refl, refl)
     default_there StringType e = (TextValue [], refl, refl)

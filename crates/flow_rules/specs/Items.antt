@@ -11,10 +11,11 @@ use Rattle.flow_tree.specs.declared.ty.Ident.{Ident}
 use Rattle.flow_tree.specs.declared.fault.Rule.{Rule}
 use Rattle.flow_tree.specs.declared.fault.Rule.TheVariants.{K}
 use Rattle.flow_tree.specs.declared.expr.Op.TheVariants.{Add, Sub}
-use Rattle.flow_tree.specs.Tree.{TypeTree, IntType, BoolType, StringType, VoidType, ErrorType, FutureType, FutureStreamType, PromiseType, PromiseStreamType, ExprTree, ExprTrees}
+use Rattle.flow_tree.specs.Tree.{TypeTree, IntType, BoolType, VoidType, ErrorType, FutureType, FutureStreamType, PromiseType, PromiseStreamType, ExprTree, ExprTrees}
 use Rattle.flow_tree.specs.Body.{IntoTree, WaitTree, ChangeTree, PlusChange, MinusChange, UpChange, DownChange, Body, End, BlockStmt, IfStmt, IfElseStmt, WhileStmt, ForStmt, LoopStmt, BreakStmt, ContinueStmt, ReturnStmt, ThrowStmt, TryStmt, ChooseStmt, DeclareStmt, AssignStmt, ModifyStmt, CallStmt, WaitStmt, Branches, NoBranches, MoreBranches}
 use Rattle.flow_tree.specs.Decls.{SlotTree}
 use Rattle.flow_ast.specs.Slots.{body_slots, branch_slots, waited_slots}
+use Rattle.flow_ast.specs.Fits.{has_plain_default}
 use Rattle.flow_ast.specs.TypingNames.{named}
 use Rattle.flow_ast.specs.Typing.{or_else, is_there}
 use Rattle.flow_rules.specs.declared.rule.TheConstants.{UNKNOWN_NAME, TWICE, NOT_HERE, NEEDS_VALUE, BREAK_OUTSIDE, WAIT_OUTSIDE}
@@ -88,14 +89,11 @@ state_here s false = None
 abbrev pub into_fault : Setting → List (List ℕ) → IntoTree → Option ℕ
 into_fault s states i = lesser (written s i.ty) (lesser (state_here s i.state) (fresh s states i.state i.name.name))
 
--- the types of variables that have a value without one being given
+-- the types of variables that have a value without one being given: a promise or a promise of a stream is made
 abbrev pub has_default : TypeTree → Bool
-has_default IntType = true
-has_default BoolType = true
-has_default StringType = true
 has_default (PromiseType t) = true
 has_default (PromiseStreamType t) = true
-has_default _ = false
+has_default t = has_plain_default t
 
 abbrev pub value_fault : Setting → TypeTree → Option ExprTree → Option ℕ
 value_fault s t None = unless (has_default t) NEEDS_VALUE
