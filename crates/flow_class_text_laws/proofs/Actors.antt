@@ -1,6 +1,6 @@
 -- What the grammar derives of declarations: records and functions can be written, and of an actor its name, its types and its body can be
 -- said.
-use Rattle.std.proofs.Common.{ℕ, Bool, true, false, List, [], ◌∷◌, ◌++◌, map, if◌then◌else◌, subst, arith}
+use Rattle.std.proofs.Common.{ℕ, Bool, true, false, List, [], ◌∷◌, map, if◌then◌else◌, subst, arith}
 use Rattle.std.specs.List.{AllByRecursion}
 use Rattle.std.specs.declared.option.Option.{Option}
 use Rattle.std.specs.declared.option.Option.TheVariants.{None, Some}
@@ -8,13 +8,16 @@ use Rattle.flow_base.specs.declared.place.Place.{Place}
 use Rattle.flow_tree.specs.declared.token.Token.TheVariants as token
 use Rattle.flow_tree.specs.declared.token.Word.TheVariants as word
 use Rattle.flow_tree.specs.Tree.{TypeTree, ErrorType}
-use Rattle.flow_tree.specs.Body.{IntoTree, Body, End, BlockStmt, IfStmt, IfElseStmt, WhileStmt, ForStmt, LoopStmt, BreakStmt, ContinueStmt, ReturnStmt, ThrowStmt, TryStmt, ChooseStmt, DeclareStmt, AssignStmt, ModifyStmt, CallStmt, WaitStmt, Branches, NoBranches, MoreBranches}
+use Rattle.flow_tree.specs.Body.{IntoTree, WaitTree, Body, DeclareStmt, WaitStmt}
 use Rattle.flow_tree.specs.Decls.{ParamTree, SlotTree, RoutineTree, DeclTree, StructDecl, FunctionDecl, ActorDecl}
 use Rattle.flow_tree.specs.GrammarToken.{Declaration, Node, Variable, Marked, begin}
 use Rattle.flow_tree.specs.Grammar.{error_type}
 use Rattle.flow_tree.specs.GrammarDecl.{ParamRule, param, MoreParamsRule, end_params, more_params, ParamsRule, no_params, some_params, RoutineRule, routine, DeclRule, record_decl, function_decl, actor_decl, DeclsRule, no_decls, more_decls}
-use Rattle.flow_ast.specs.Slots.{param_slot, declared_slots, into_slots, body_slots, branch_slots, slots_of}
-use Rattle.flow_layout.specs.Locals.{declared_locals, into_locals, body_locals, branch_locals}
+use Rattle.flow_tree.specs.declared.ty.Ident.{Ident}
+use Rattle.flow_tree.specs.Folds.{Fold, folded, listing, no_items}
+use Rattle.flow_tree.proofs.Folds.{folds_agree}
+use Rattle.flow_ast.specs.Slots.{param_slot, declared_slots, into_slots, waited_slots, stmt_slots, body_slots, slots_of}
+use Rattle.flow_layout.specs.Locals.{declared_locals, into_locals, waited_locals, stmt_locals, body_locals}
 use Rattle.flow_meaning.specs.Source.{records_in, functions_in}
 use Rattle.flow_classprint.specs.ClassGrammar.{IsSpelled, RecordRule, record_rule, FunctionRule, function_rule}
 use Rattle.flow_class_text_laws.proofs.Writable.{Derived, TypeWritable, SlotWritable}
@@ -22,7 +25,7 @@ use Rattle.flow_class_text_laws.proofs.Spelled.{word_spelled}
 use Rattle.flow_class_text_laws.proofs.Written.{p}
 use Rattle.flow_class_text_laws.proofs.Paths.{retyped}
 use Rattle.flow_class_text_laws.proofs.Lexed.{Fine, fine_front, fine_back, fine_are, unbegun}
-use Rattle.flow_class_text_laws.proofs.Bodies.{IntoSaid, TakenSaid, BodySaid, BranchesSaid, stmts}
+use Rattle.flow_class_text_laws.proofs.Bodies.{IntoSaid, TakenSaid, WaitSaid, StmtSaid, BodySaid, stmts}
 use Rattle.flow_class_text_laws.proofs.Chunks.{all_more}
 
 -- the slots and locals of a body
@@ -43,35 +46,29 @@ taken_said : (o : Option IntoTree) → TakenSaid o → SlotsSaid (into_slots o)
 taken_said None h = tt
 taken_said (Some i) h = declared_said i h
 
-mutual
-  slots_said : (b : Body) → BodySaid b → SlotsSaid (body_slots b)
-  slots_said End h = tt
-  slots_said (BlockStmt at b k) h = all_more SlotWritable (body_slots b) (body_slots k) (slots_said b h.0) (slots_said k h.1)
-  slots_said (IfStmt at e b k) h = all_more SlotWritable (body_slots b) (body_slots k) (slots_said b h.1) (slots_said k h.2)
-  slots_said (IfElseStmt at e b c k) h =
-      all_more SlotWritable (body_slots b ++ body_slots c) (body_slots k) (all_more SlotWritable (body_slots b) (body_slots c) (slots_said b h.1) (slots_said c h.2)) (slots_said k h.3)
-  slots_said (WhileStmt at e b k) h = all_more SlotWritable (body_slots b) (body_slots k) (slots_said b h.1) (slots_said k h.2)
-  slots_said (ForStmt at i e q b k) h =
-      all_more SlotWritable (body_slots i ++ body_slots q ++ body_slots b) (body_slots k)
-      (all_more SlotWritable (body_slots i ++ body_slots q) (body_slots b) (all_more SlotWritable (body_slots i) (body_slots q) (slots_said i h.0) (slots_said q h.2)) (slots_said b h.3)) (slots_said k h.4)
-  slots_said (LoopStmt at b k) h = all_more SlotWritable (body_slots b) (body_slots k) (slots_said b h.0) (slots_said k h.1)
-  slots_said (BreakStmt at k) h = slots_said k h
-  slots_said (ContinueStmt at k) h = slots_said k h
-  slots_said (ReturnStmt at e k) h = slots_said k h.1
-  slots_said (ThrowStmt at e k) h = slots_said k h.1
-  slots_said (TryStmt at b q x c k) h =
-      all_more SlotWritable (body_slots b ++ body_slots c) (body_slots k) (all_more SlotWritable (body_slots b) (body_slots c) (slots_said b h.0) (slots_said c h.1)) (slots_said k h.2)
-  slots_said (ChooseStmt at bs k) h = all_more SlotWritable (branch_slots bs) (body_slots k) (branch_slots_said bs h.2) (slots_said k h.3)
-  slots_said (DeclareStmt at i e k) h = all_more SlotWritable (declared_slots i) (body_slots k) (declared_said i h.0) (slots_said k h.2)
-  slots_said (AssignStmt at xs e k) h = slots_said k h.2
-  slots_said (ModifyStmt at xs d k) h = slots_said k h.2
-  slots_said (CallStmt at xs es k) h = slots_said k h.2
-  slots_said (WaitStmt at w k) h = all_more SlotWritable (into_slots w.into) (body_slots k) (taken_said w.into h.0.0) (slots_said k h.1)
+-- a fold that says nothing
+abbrev nothing_said : Fold (Unit {0})
+nothing_said = record { nothing = tt; both = λ u v. tt; of_stmt = λ s u. tt; of_catch = λ x u. tt; of_wait = λ t u. tt }
 
-  branch_slots_said : (bs : Branches) → BranchesSaid bs → SlotsSaid (branch_slots bs)
-  branch_slots_said NoBranches h = tt
-  branch_slots_said (MoreBranches at w b bs) h =
-      all_more SlotWritable (into_slots w.into ++ body_slots b) (branch_slots bs) (all_more SlotWritable (into_slots w.into) (body_slots b) (taken_said w.into h.0.0) (slots_said b h.1)) (branch_slots_said bs h.2)
+-- lists that statements give, of which each item can be said where the statements can
+module _ {A : Type 0} (P : A → Type 0) (c : Ident → List A) (w : WaitTree → List A) (f : Body → List A) where
+  pub listed_said : ((s : Body) → StmtSaid s → AllByRecursion P (f s)) → ((x : Ident) → AllByRecursion P (c x)) → ((t : WaitTree) → WaitSaid t → AllByRecursion P (w t))
+      → (b : Body) → BodySaid b → AllByRecursion P (folded (listing f c w) b)
+  listed_said said caught waited b h = folds_agree (λ xs (u : Unit {0}). AllByRecursion P xs) StmtSaid (listing f c w) nothing_said (record {
+    nothing = tt;
+    both = λ xs ys u v k l. all_more P xs ys k l;
+    of_stmt = λ s xs u k l. all_more P (f s) xs (said s k) l;
+    of_catch = λ x xs u l. all_more P (c x) xs (caught x) l;
+    of_wait = λ at t k xs u q l. all_more P (w t) xs (waited t q) l;
+  }) b h
+
+stmt_slots_said : (s : Body) → StmtSaid s → SlotsSaid (stmt_slots s)
+stmt_slots_said (DeclareStmt at i e k) h = declared_said i h.0
+stmt_slots_said (WaitStmt at w k) h = taken_said w.into h.0
+stmt_slots_said _ h = tt
+
+slots_said : (b : Body) → BodySaid b → SlotsSaid (body_slots b)
+slots_said b h = listed_said SlotWritable no_items waited_slots stmt_slots stmt_slots_said (λ x. tt) (λ t k. taken_said t.into k.0) b h
 
 local_said : (i : IntoTree) → IntoSaid i → TypesSaid (declared_locals i)
 local_said i h = by_state i.state
@@ -87,37 +84,13 @@ into_said (Some i) h = local_said i h
 errors_said : TypesSaid (ErrorType ∷ [])
 errors_said = (record { tokens = _; rule = error_type p; are = ((word_spelled word.Error, (omega arith, tt)), tt) }, tt)
 
-mutual
-  pub locals_said : (b : Body) → BodySaid b → TypesSaid (body_locals b)
-  locals_said End h = tt
-  locals_said (BlockStmt at b k) h = all_more TypeWritable (body_locals b) (body_locals k) (locals_said b h.0) (locals_said k h.1)
-  locals_said (IfStmt at e b k) h = all_more TypeWritable (body_locals b) (body_locals k) (locals_said b h.1) (locals_said k h.2)
-  locals_said (IfElseStmt at e b c k) h =
-      all_more TypeWritable (body_locals b ++ body_locals c) (body_locals k) (all_more TypeWritable (body_locals b) (body_locals c) (locals_said b h.1) (locals_said c h.2)) (locals_said k h.3)
-  locals_said (WhileStmt at e b k) h = all_more TypeWritable (body_locals b) (body_locals k) (locals_said b h.1) (locals_said k h.2)
-  locals_said (ForStmt at i e q b k) h =
-      all_more TypeWritable (body_locals i ++ body_locals q ++ body_locals b) (body_locals k)
-      (all_more TypeWritable (body_locals i ++ body_locals q) (body_locals b) (all_more TypeWritable (body_locals i) (body_locals q) (locals_said i h.0) (locals_said q h.2)) (locals_said b h.3)) (locals_said k h.4)
-  locals_said (LoopStmt at b k) h = all_more TypeWritable (body_locals b) (body_locals k) (locals_said b h.0) (locals_said k h.1)
-  locals_said (BreakStmt at k) h = locals_said k h
-  locals_said (ContinueStmt at k) h = locals_said k h
-  locals_said (ReturnStmt at e k) h = locals_said k h.1
-  locals_said (ThrowStmt at e k) h = locals_said k h.1
-  locals_said (TryStmt at b q x c k) h =
-      all_more TypeWritable (body_locals b ++ (ErrorType ∷ []) ++ body_locals c) (body_locals k)
-      (all_more TypeWritable (body_locals b ++ (ErrorType ∷ [])) (body_locals c) (all_more TypeWritable (body_locals b) (ErrorType ∷ []) (locals_said b h.0) errors_said) (locals_said c h.1))
-      (locals_said k h.2)
-  locals_said (ChooseStmt at bs k) h = all_more TypeWritable (branch_locals bs) (body_locals k) (branch_locals_said bs h.2) (locals_said k h.3)
-  locals_said (DeclareStmt at i e k) h = all_more TypeWritable (declared_locals i) (body_locals k) (local_said i h.0) (locals_said k h.2)
-  locals_said (AssignStmt at xs e k) h = locals_said k h.2
-  locals_said (ModifyStmt at xs d k) h = locals_said k h.2
-  locals_said (CallStmt at xs es k) h = locals_said k h.2
-  locals_said (WaitStmt at w k) h = all_more TypeWritable (into_locals w.into) (body_locals k) (into_said w.into h.0.0) (locals_said k h.1)
+stmt_locals_said : (s : Body) → StmtSaid s → TypesSaid (stmt_locals s)
+stmt_locals_said (DeclareStmt at i e k) h = local_said i h.0
+stmt_locals_said (WaitStmt at w k) h = into_said w.into h.0
+stmt_locals_said _ h = tt
 
-  branch_locals_said : (bs : Branches) → BranchesSaid bs → TypesSaid (branch_locals bs)
-  branch_locals_said NoBranches h = tt
-  branch_locals_said (MoreBranches at w b bs) h =
-      all_more TypeWritable (into_locals w.into ++ body_locals b) (branch_locals bs) (all_more TypeWritable (into_locals w.into) (body_locals b) (into_said w.into h.0.0) (locals_said b h.1)) (branch_locals_said bs h.2)
+pub locals_said : (b : Body) → BodySaid b → TypesSaid (body_locals b)
+locals_said b h = listed_said TypeWritable (λ x. ErrorType ∷ []) waited_locals stmt_locals stmt_locals_said (λ x. errors_said) (λ t k. into_said t.into k.0) b h
 
 -- declarations
 pub record ActorSaid (a : RoutineTree) : Type 0 where

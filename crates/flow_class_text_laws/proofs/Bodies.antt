@@ -8,12 +8,13 @@ use Rattle.flow_tree.specs.declared.limits.TheConstants.{BRANCHES}
 use Rattle.flow_tree.specs.declared.token.Token.TheVariants as token
 use Rattle.flow_tree.specs.declared.ty.Ident.{Ident}
 use Rattle.flow_tree.specs.Tree.{ExprTree, ExprTrees}
-use Rattle.flow_tree.specs.Body.{IntoTree, WaitTree, ChangeTree, PlusChange, MinusChange, UpChange, DownChange, Body, End, BlockStmt, IfStmt, IfElseStmt, WhileStmt, ForStmt, LoopStmt, BreakStmt, ContinueStmt, ReturnStmt, ThrowStmt, TryStmt, ChooseStmt, DeclareStmt, AssignStmt, ModifyStmt, CallStmt, WaitStmt, Branches, NoBranches, MoreBranches}
+use Rattle.flow_tree.specs.Body.{IntoTree, WaitTree, ChangeTree, PlusChange, MinusChange, UpChange, DownChange, Body, IfStmt, IfElseStmt, WhileStmt, ForStmt, ReturnStmt, ThrowStmt, ChooseStmt, DeclareStmt, AssignStmt, ModifyStmt, CallStmt, WaitStmt, Branches}
 use Rattle.flow_tree.specs.GrammarToken.{Marked}
 use Rattle.flow_tree.specs.Grammar.{ExprRule, ArgsRule}
-use Rattle.flow_tree.specs.GrammarStmt.{Counts, IntoRule, declared, OperandRule, wait, wait_next, WaitingRule, plain_wait, into_wait, PathRule, last_name, more_names, AssignRule, assign, plus, minus, up, down, InitRule, declare, declare_value, change, InitPart, no_init, some_init, StepPart, no_step, some_step, MaybeExprRule, no_expr, some_expr, PlainRule, if_stmt, if_else_stmt, while_stmt, for_stmt, loop_stmt, break_stmt, continue_stmt, return_stmt, throw_stmt, try_stmt, choose_stmt, init_stmt, wait_stmt, call_stmt, StmtRule, block_stmt, plain_stmt, BlockRule, braces, BodyRule, block_body, one_body, StmtsRule, no_stmts, more_stmts, WhensRule, no_whens, more_whens, WhenRule, branch}
+use Rattle.flow_tree.specs.GrammarStmt.{Counts, IntoRule, declared, OperandRule, wait, wait_next, WaitingRule, plain_wait, into_wait, PathRule, AssignRule, assign, plus, minus, up, down, InitRule, declare, declare_value, change, InitPart, no_init, some_init, StepPart, no_step, some_step, MaybeExprRule, no_expr, some_expr, PlainRule, if_stmt, if_else_stmt, while_stmt, for_stmt, loop_stmt, break_stmt, continue_stmt, return_stmt, throw_stmt, try_stmt, choose_stmt, init_stmt, wait_stmt, call_stmt, StmtRule, block_stmt, plain_stmt, BlockRule, braces, BodyRule, block_body, one_body, StmtsRule, no_stmts, more_stmts, WhensRule, no_whens, more_whens, WhenRule, branch}
+use Rattle.flow_tree.specs.Folds.{EachStmt, EachBranch}
+use Rattle.flow_tree.proofs.Formed.{path_formed}
 use Rattle.flow_ast.specs.Slots.{branch_waits}
-use Rattle.flow_lowering_laws.specs.Actors.Parts.{HasRoot}
 use Rattle.flow_classprint.specs.ClassGrammar.{IsSpelled}
 use Rattle.flow_class_text_laws.proofs.Writable.{Derived, TypeWritable}
 use Rattle.flow_class_text_laws.proofs.Paths.{retyped}
@@ -37,12 +38,8 @@ MaybeSaid (Some e) = ExprSaid e
 abbrev pub PathSaid : List Ident → Type 0
 PathSaid xs = Derived (λ ts. PathRule ts xs)
 
-has_root : {ts : List Marked} {xs : List Ident} → PathRule ts xs → HasRoot xs
-has_root (last_name x) = tt
-has_root (more_names x p more r eq) = tt
-
 pub no_path : PathSaid [] → ⊥
-no_path h = has_root h.rule
+no_path h = path_formed h.rule
 
 abbrev pub IntoSaid : IntoTree → Type 0
 IntoSaid i = TypeWritable i.ty × IsSpelled (token.Name i.name.name)
@@ -63,30 +60,27 @@ WaitSaid w = TakenSaid w.into × ExprSaid w.operand
 abbrev pub branches_of : Branches → ℕ
 branches_of bs = length (branch_waits bs)
 
-abbrev mutual
-  pub BodySaid : Body → Type 0
-  BodySaid End = Unit {0}
-  BodySaid (BlockStmt at b k) = BodySaid b × BodySaid k
-  BodySaid (IfStmt at e b k) = ExprSaid e × BodySaid b × BodySaid k
-  BodySaid (IfElseStmt at e b c k) = ExprSaid e × BodySaid b × BodySaid c × BodySaid k
-  BodySaid (WhileStmt at e b k) = ExprSaid e × BodySaid b × BodySaid k
-  BodySaid (ForStmt at i e p b k) = BodySaid i × MaybeSaid e × BodySaid p × BodySaid b × BodySaid k
-  BodySaid (LoopStmt at b k) = BodySaid b × BodySaid k
-  BodySaid (BreakStmt at k) = BodySaid k
-  BodySaid (ContinueStmt at k) = BodySaid k
-  BodySaid (ReturnStmt at e k) = ExprSaid e × BodySaid k
-  BodySaid (ThrowStmt at e k) = MaybeSaid e × BodySaid k
-  BodySaid (TryStmt at b q x h k) = BodySaid b × BodySaid h × BodySaid k
-  BodySaid (ChooseStmt at bs k) = (1 ≤ branches_of bs) × (branches_of bs ≤ BRANCHES) × BranchesSaid bs × BodySaid k
-  BodySaid (DeclareStmt at i e k) = IntoSaid i × MaybeSaid e × BodySaid k
-  BodySaid (AssignStmt at xs e k) = PathSaid xs × ExprSaid e × BodySaid k
-  BodySaid (ModifyStmt at xs d k) = PathSaid xs × ChangeSaid d × BodySaid k
-  BodySaid (CallStmt at xs es k) = PathSaid xs × ArgsSaid es × BodySaid k
-  BodySaid (WaitStmt at w k) = WaitSaid w × BodySaid k
+-- what a statement says by itself can be said; a choose has a branch at least and 64 at most
+abbrev pub StmtSaid : Body → Type 0
+StmtSaid (IfStmt at e b k) = ExprSaid e
+StmtSaid (IfElseStmt at e b c k) = ExprSaid e
+StmtSaid (WhileStmt at e b k) = ExprSaid e
+StmtSaid (ForStmt at i e p b k) = MaybeSaid e
+StmtSaid (ReturnStmt at e k) = ExprSaid e
+StmtSaid (ThrowStmt at e k) = MaybeSaid e
+StmtSaid (ChooseStmt at bs k) = (1 ≤ branches_of bs) × (branches_of bs ≤ BRANCHES)
+StmtSaid (DeclareStmt at i e k) = IntoSaid i × MaybeSaid e
+StmtSaid (AssignStmt at xs e k) = PathSaid xs × ExprSaid e
+StmtSaid (ModifyStmt at xs d k) = PathSaid xs × ChangeSaid d
+StmtSaid (CallStmt at xs es k) = PathSaid xs × ArgsSaid es
+StmtSaid (WaitStmt at w k) = WaitSaid w
+StmtSaid b = Unit {0}
 
-  pub BranchesSaid : Branches → Type 0
-  BranchesSaid NoBranches = Unit {0}
-  BranchesSaid (MoreBranches at w b bs) = WaitSaid w × BodySaid b × BranchesSaid bs
+abbrev pub BodySaid : Body → Type 0
+BodySaid b = EachStmt StmtSaid b
+
+abbrev pub BranchesSaid : Branches → Type 0
+BranchesSaid bs = EachBranch StmtSaid bs
 
 -- expressions, paths and variables
 expr_said : {d : ℕ} {ts : List Marked} {e : ExprTree} → ExprRule 0 d ts e → 3 ≤ d → Fine ts → ExprSaid e
@@ -121,21 +115,21 @@ waiting_said (into_wait p left right i o eq) l h =
 assign_said : {d : ℕ} {all : List Marked} {at : Place} {rest body : Body} → AssignRule d all at rest body → 2 ≤ d → Fine all → BodySaid rest → BodySaid body
 assign_said (assign at p path value x e eq s) l h k =
     let t = subst Fine eq h in
-    (path_said x (fine_front path _ t), expr_said e (omega (arith, l)) (fine_back path _ t).1, k)
+    ((path_said x (fine_front path _ t), expr_said e (omega (arith, l)) (fine_back path _ t).1), k)
 assign_said (plus at p path value x e eq s) l h k =
     let t = subst Fine eq h in
-    (path_said x (fine_front path _ t), expr_said e (omega (arith, l)) (fine_back path _ t).1, k)
+    ((path_said x (fine_front path _ t), expr_said e (omega (arith, l)) (fine_back path _ t).1), k)
 assign_said (minus at p path value x e eq s) l h k =
     let t = subst Fine eq h in
-    (path_said x (fine_front path _ t), expr_said e (omega (arith, l)) (fine_back path _ t).1, k)
-assign_said (up at p path x eq s) l h k = (path_said x (fine_front path _ (subst Fine eq h)), tt, k)
-assign_said (down at p path x eq s) l h k = (path_said x (fine_front path _ (subst Fine eq h)), tt, k)
+    ((path_said x (fine_front path _ t), expr_said e (omega (arith, l)) (fine_back path _ t).1), k)
+assign_said (up at p path x eq s) l h k = ((path_said x (fine_front path _ (subst Fine eq h)), tt), k)
+assign_said (down at p path x eq s) l h k = ((path_said x (fine_front path _ (subst Fine eq h)), tt), k)
 
 init_said : {actor : Bool} {d : ℕ} {c c' : Counts} {all : List Marked} {at : Place} {rest body : Body} → InitRule actor d c c' all at rest body → 2 ≤ d → Fine all → BodySaid rest → BodySaid body
-init_said (declare at i s) l h k = (into_said i l h, tt, k)
+init_said (declare at i s) l h k = ((into_said i l h, tt), k)
 init_said (declare_value at p left value i e eq s) l h k =
     let t = subst Fine eq h in
-    (into_said i l (fine_front left _ t), expr_said e (omega (arith, l)) (fine_back left _ t).1, k)
+    ((into_said i l (fine_front left _ t), expr_said e (omega (arith, l)) (fine_back left _ t).1), k)
 init_said (change at a) l h k = assign_said a l h k
 
 init_part : {actor : Bool} {d : ℕ} {c c' : Counts} {all : List Marked} {body : Body} → InitPart actor d c c' all body → 2 ≤ d → Fine all → BodySaid body
@@ -172,34 +166,34 @@ mutual
       let t = subst Fine eq h in
       let u = (fine_back init _ t.1.1).1 in
       let v = (fine_back test _ u).1 in (
-        init_part i (omega (arith, l)) (fine_front init _ t.1.1),
         maybe_said e (omega (arith, l)) (fine_front test _ u),
+        init_part i (omega (arith, l)) (fine_front init _ t.1.1),
         step_part n (omega (arith, l)) (fine_front step _ v),
         of_body b (omega (arith, l)) (fine_back step _ v).1,
         k,
       )
-  plain (loop_stmt at body b eq) l h k = (of_body b (omega (arith, l)) (subst Fine eq h).1, k)
-  plain (break_stmt at p) l h k = k
-  plain (continue_stmt at p) l h k = k
+  plain (loop_stmt at body b eq) l h k = (tt, of_body b (omega (arith, l)) (subst Fine eq h).1, k)
+  plain (break_stmt at p) l h k = (tt, k)
+  plain (continue_stmt at p) l h k = (tt, k)
   plain (return_stmt at p value e eq) l h k = (expr_said e (omega (arith, l)) (fine_front value _ (subst Fine eq h).1), k)
   plain (throw_stmt at p value e eq) l h k = (maybe_said e (omega (arith, l)) (fine_front value _ (subst Fine eq h).1), k)
   plain (try_stmt at p q r s u x body caught b c eq) l h k =
       let t = subst Fine eq h in
-      (block b (omega (arith, l)) (fine_front body _ t.1), block c (omega (arith, l)) (fine_back body _ t.1).1.1.1.1.1.1, k)
+      (tt, block b (omega (arith, l)) (fine_front body _ t.1), block c (omega (arith, l)) (fine_back body _ t.1).1.1.1.1.1.1, k)
   plain (choose_stmt {b = b} {bs = bs} at p q first more w ws eq) l h k =
       let t = subst Fine eq h in
       let one = when w (omega (arith, l)) (fine_front first _ t.1.1) in
       let rest = whens ws (omega (arith, l)) (fine_front more _ (fine_back first _ t.1.1)) in
       let few = rest.few (omega arith) in
-      (omega (arith, one.one_more), omega (arith, one.one_more, few), one.said rest.said, k)
+      ((omega (arith, one.one_more), omega (arith, one.one_more, few)), one.said rest.said, k)
   plain (init_stmt at p xs i eq) l h k = init_said i l (fine_front xs _ (subst Fine eq h)) k
   plain (wait_stmt at p xs w eq s) l h k = (waiting_said w l (fine_front xs _ (subst Fine eq h)), k)
   plain (call_stmt at p q r path args x a eq s) l h k =
       let t = subst Fine eq h in
-      (path_said x (fine_front path _ t), args_said a (omega (arith, l)) (fine_front args _ (fine_back path _ t).1), k)
+      ((path_said x (fine_front path _ t), args_said a (omega (arith, l)) (fine_front args _ (fine_back path _ t).1)), k)
 
   stmt : {actor : Bool} {d : ℕ} {c c' : Counts} {all : List Marked} {rest body : Body} {e : Bool} → StmtRule actor d c c' all rest body e → 2 ≤ d → Fine all → BodySaid rest → BodySaid body
-  stmt {d = d} {c = c} (block_stmt at xs b s eq) l h k = (block b (omega (arith, l)) (statement_unbegun c d xs (subst Fine eq h)), k)
+  stmt {d = d} {c = c} (block_stmt at xs b s eq) l h k = (tt, block b (omega (arith, l)) (statement_unbegun c d xs (subst Fine eq h)), k)
   stmt {d = d} {c = c} (plain_stmt at xs r eq) l h k = plain r l (statement_unbegun c d xs (subst Fine eq h)) k
 
   block : {actor : Bool} {d : ℕ} {c c' : Counts} {all : List Marked} {body : Body} → BlockRule actor d c c' all body → 2 ≤ d → Fine all → BodySaid body

@@ -270,7 +270,7 @@ module _ (ns : Names) (slots : List SlotTree) (le : length slots ≤ 2 ^ 32) whe
     lowered_said End s w n k h a l = finished_said w s w.exit a.0
     lowered_said (BlockStmt at b x) s w n k h a l =
         let m = past w.looped.tried b n in
-        joined_said w.hand (lowered_said b (Mark ∷ s) (inner w (Scoped (GotoLast m.block))) n k.0 h (tt, a.1) (omega (arith, l))) (lowered_said x s w (begun m) k.1 h a (omega (arith, l)))
+        joined_said w.hand (lowered_said b (Mark ∷ s) (inner w (Scoped (GotoLast m.block))) n k.1 h (tt, a.1) (omega (arith, l))) (lowered_said x s w (begun m) k.2 h a (omega (arith, l)))
     lowered_said (IfStmt at e b x) s w n k h a l =
         let m = past w.looped.tried b (begun n) in
         joined_said w.hand
@@ -306,23 +306,23 @@ module _ (ns : Names) (slots : List SlotTree) (le : length slots ≤ 2 ^ 32) whe
         let same = tested_local e d in
         joined_said w.hand
         (joined_said w.hand
-        (joined_said w.hand (test_said v r e g.block o.block (lowered ns slots (Mark ∷ s) v n i) f k.1 (lowered_said i (Mark ∷ s) v n k.0 h (tt, a.1) (omega (arith, l))))
+        (joined_said w.hand (test_said v r e g.block o.block (lowered ns slots (Mark ∷ s) v n i) f k.0 (lowered_said i (Mark ∷ s) v n k.1 h (tt, a.1) (omega (arith, l))))
         (lowered_said b (Mark ∷ r) (pass w 2 (GotoLast m.block) o.block) (begun g) k.3 f (tt, tt) (omega (arith, l, same))))
         (lowered_said q r v (begun m) k.2 f (tt, a.1) (omega (arith, l, same))))
         (dropping_said (scope (later q m.local r)) (lowered_said x s w (begun o) k.4 h a (omega (arith, l, same))))
     lowered_said (LoopStmt at b x) s w n k h a l =
         let m = past false b (begun n) in
         joined_said w.hand
-        (joined_said w.hand (ends_said w s false [] (PassLast n.block) tt tt) (lowered_said b (Mark ∷ s) (pass w 1 (PassLast n.block) m.block) (begun n) k.0 h (tt, tt) (omega (arith, l))))
-        (lowered_said x s w (begun m) k.1 h a (omega (arith, l)))
+        (joined_said w.hand (ends_said w s false [] (PassLast n.block) tt tt) (lowered_said b (Mark ∷ s) (pass w 1 (PassLast n.block) m.block) (begun n) k.1 h (tt, tt) (omega (arith, l))))
+        (lowered_said x s w (begun m) k.2 h a (omega (arith, l)))
     lowered_said (BreakStmt at x) s w n k h a l =
         let m = exited w.looped.tried n in
         let same = exited_local w.looped.tried n in
-        rest_said w.hand x (exits_said w.looped.tried w s n (GotoLast w.looped.out) tt) (lowered_said x s w (begun m) k h a (omega (arith, l, same)))
+        rest_said w.hand x (exits_said w.looped.tried w s n (GotoLast w.looped.out) tt) (lowered_said x s w (begun m) k.1 h a (omega (arith, l, same)))
     lowered_said (ContinueStmt at x) s w n k h a l =
         let m = exited w.looped.tried n in
         let same = exited_local w.looped.tried n in
-        rest_said w.hand x (exits_said w.looped.tried w s n w.looped.again a.1) (lowered_said x s w (begun m) k h a (omega (arith, l, same)))
+        rest_said w.hand x (exits_said w.looped.tried w s n w.looped.again a.1) (lowered_said x s w (begun m) k.1 h a (omega (arith, l, same)))
     lowered_said (ReturnStmt at e x) s w n k h a l =
         rest_said w.hand x (ends_said w s true [] (ReturnLast (over slots s e)) tt (whole_over slots s (place_small slots s le h) e k.0)) (lowered_said x s w (begun n) k.1 h a l)
     lowered_said (ThrowStmt at e x) s w n k h a l =
@@ -336,9 +336,9 @@ module _ (ns : Names) (slots : List SlotTree) (le : length slots ≤ 2 ^ 32) whe
         let exit = Scoped (GotoLast j.block) in
         joined_said w.hand
         (joined_said w.hand
-        (joined_said (Some d) (ends_said w s false [] (GotoLast n.block) tt tt) (lowered_said b (Mark ∷ s) (guarded w exit d) (begun n) k.0 h (tt, a.1) (omega (arith, l))))
-        (lowered_said c (Var y.name m.local ∷ Mark ∷ s) (handling w exit y.name) g k.1 (omega (arith, l), h) (tt, a.1) (omega (arith, l))))
-        (lowered_said x s w (begun j) k.2 h a (omega (arith, l)))
+        (joined_said (Some d) (ends_said w s false [] (GotoLast n.block) tt tt) (lowered_said b (Mark ∷ s) (guarded w exit d) (begun n) k.1 h (tt, a.1) (omega (arith, l))))
+        (lowered_said c (Var y.name m.local ∷ Mark ∷ s) (handling w exit y.name) g k.2 (omega (arith, l), h) (tt, a.1) (omega (arith, l))))
+        (lowered_said x s w (begun j) k.3 h a (omega (arith, l)))
     lowered_said (ChooseStmt at bs x) s w n k h a l =
         let t = w.looped.tried in
         let g = grouped n in
@@ -348,20 +348,20 @@ module _ (ns : Names) (slots : List SlotTree) (le : length slots ≤ 2 ^ 32) whe
           body = tt;
           last = tt;
           more = tt;
-          groups = (group_said (callbacks ns slots s t g bs) (branches_of bs) (callbacks_count s t g bs) k.0 k.1 (callbacks_said s t g bs h k.2), tt);
+          groups = (group_said (callbacks ns slots s t g bs) (branches_of bs) (callbacks_count s t g bs) k.0.0 k.0.1 (callbacks_said s t g bs h k.1), tt);
         } in
-        joined_said w.hand (branches_said bs c s (inner w (Scoped (GotoLast j.block))) g k.2 h (tt, a.1) (omega (arith, l)) f) (lowered_said x s w (begun j) k.3 h a (omega (arith, l)))
+        joined_said w.hand (branches_said bs c s (inner w (Scoped (GotoLast j.block))) g k.1 h (tt, a.1) (omega (arith, l)) f) (lowered_said x s w (begun j) k.2 h a (omega (arith, l)))
     lowered_said (DeclareStmt at i e x) s w n k h a l =
-        acting_said (declares ns slots s n.local i e) (declares_said s n.local i e h (omega (arith, l)) k.1)
-        (lowered_said x (with_into i n.local s) w (taken (Some i) n) k.2 (small_into i n.local s (omega (arith, l)) h) a (omega (arith, l)))
+        acting_said (declares ns slots s n.local i e) (declares_said s n.local i e h (omega (arith, l)) k.0.1)
+        (lowered_said x (with_into i n.local s) w (taken (Some i) n) k.1 (small_into i n.local s (omega (arith, l)) h) a (omega (arith, l)))
     lowered_said (AssignStmt at xs e x) s w n k h a l =
         acting_said (assigned ns slots s (path_over slots s xs) e ∷ [])
-        (assigned_said s (path_over slots s xs) e (target_over s h xs k.0) (λ r. whole_over slots s (place_small slots s le h) e k.1), tt) (lowered_said x s w n k.2 h a l)
+        (assigned_said s (path_over slots s xs) e (target_over s h xs k.0.0) (λ r. whole_over slots s (place_small slots s le h) e k.0.1), tt) (lowered_said x s w n k.1 h a l)
     lowered_said (ModifyStmt at xs d x) s w n k h a l =
-        acting_said (changed ns slots s xs (change xs d)) (changed_said s h xs d k.0 k.1) (lowered_said x s w n k.2 h a l)
+        acting_said (changed ns slots s xs (change xs d)) (changed_said s h xs d k.0.0 k.0.1) (lowered_said x s w n k.1 h a l)
     lowered_said (CallStmt at xs es x) s w n k h a l =
         acting_said (ActInstr (act_over slots s xs) (over_all slots s es) ∷ [])
-        ((called_over s h xs k.0, args_over slots s (place_small slots s le h) es k.1), tt) (lowered_said x s w n k.2 h a l)
+        ((called_over s h xs k.0.0, args_over slots s (place_small slots s le h) es k.0.1), tt) (lowered_said x s w n k.1 h a l)
     lowered_said (WaitStmt at v x) s w n k h a l =
         let c : Chunk = record (ends w s true [] (ChooseLast n.group)) { groups = (callback ns slots s v n.local n.block ∷ []) ∷ [] } in
         let f : ChunkSaid c = record { body = tt; last = tt; more = tt; groups = ((omega arith, (whole_over slots s (place_small slots s le h) v.operand k.0.1, tt)), tt) } in

@@ -6,9 +6,10 @@ use Rattle.std.proofs.lemmas.List.{length-map}
 use Rattle.std.specs.declared.option.Option.TheVariants.{None, Some}
 use Rattle.flow_tree.specs.declared.limits.TheConstants.{TOKENS, WEIGHT}
 use Rattle.flow_tree.specs.declared.decl.Program.{Program}
-use Rattle.flow_tree.specs.Body.{Body, End, BlockStmt, IfStmt, IfElseStmt, WhileStmt, ForStmt, LoopStmt, BreakStmt, ContinueStmt, ReturnStmt, ThrowStmt, TryStmt, ChooseStmt, DeclareStmt, AssignStmt, ModifyStmt, CallStmt, WaitStmt, Branches, NoBranches, MoreBranches}
+use Rattle.flow_tree.specs.Body.{Body, ChooseStmt, WaitStmt}
 use Rattle.flow_tree.specs.Decls.{RoutineTree, DeclTree, StructDecl, FunctionDecl, ActorDecl}
 use Rattle.flow_tree.specs.DeclView.{program_of}
+use Rattle.flow_tree.proofs.Folds.{folds_alike}
 use Rattle.flow_ast.specs.Slots.{param_slot, body_slots, slots_of}
 use Rattle.flow_class.specs.Classes.{ClassTree, RawTree}
 use Rattle.flow_layout.specs.Laying.{layout_of}
@@ -18,10 +19,10 @@ use Rattle.flow_rules.specs.Known.{row_of, known}
 use Rattle.flow_rules.specs.Rules.{setting_of, decls_refusal}
 use Rattle.flow_valid.specs.Heads.{plain_decls, all_decls, declarations_kept, head_of}
 use Rattle.flow_valid.specs.Named.{names_exist}
-use Rattle.flow_valid.specs.Validity.{leads_forward, groups_chosen, catchers_kept, types_fit, first_broken, broken_rule, IsValid}
+use Rattle.flow_valid.specs.Validity.{leads_forward, groups_chosen, catchers_kept, types_fit, first_broken, broken_rule}
 use Rattle.flow_split.specs.Around.{whole}
-use Rattle.flow_split.specs.Counts.{groups_in, branch_group_count}
-use Rattle.flow_split.specs.Weight.{weight, body_weight, branch_weight}
+use Rattle.flow_split.specs.Counts.{stmt_groups_counted, groups_counted, groups_in}
+use Rattle.flow_split.specs.Weight.{weight, stmt_weight, weights_counted, body_weight}
 use Rattle.flow_split.proofs.Lengths.{lowered_groups}
 use Rattle.flow_lower.specs.Compiled.{class_in, compiled}
 use Rattle.flow_lower.specs.Weighing.{first_heavy}
@@ -44,30 +45,19 @@ use Rattle.flow_class_text_laws.proofs.Kept.{IsFew, ClassSaid, no_fault, class_w
 use Rattle.flow_class_text_laws.proofs.Actors.{ActorSaid, DeclsSaid, locals_said, decls_said, records_written, functions_written}
 
 -- a body has no more groups than it weighs
-mutual
-  groups_within : (b : Body) → groups_in b ≤ body_weight b
-  groups_within End = omega arith
-  groups_within (BlockStmt at b k) = omega (arith, groups_within b, groups_within k)
-  groups_within (IfStmt at e b k) = omega (arith, groups_within b, groups_within k)
-  groups_within (IfElseStmt at e b c k) = omega (arith, groups_within b, groups_within c, groups_within k)
-  groups_within (WhileStmt at e b k) = omega (arith, groups_within b, groups_within k)
-  groups_within (ForStmt at i e q b k) = omega (arith, groups_within i, groups_within q, groups_within b, groups_within k)
-  groups_within (LoopStmt at b k) = omega (arith, groups_within b, groups_within k)
-  groups_within (BreakStmt at k) = omega (arith, groups_within k)
-  groups_within (ContinueStmt at k) = omega (arith, groups_within k)
-  groups_within (ReturnStmt at e k) = omega (arith, groups_within k)
-  groups_within (ThrowStmt at e k) = omega (arith, groups_within k)
-  groups_within (TryStmt at b q x c k) = omega (arith, groups_within b, groups_within c, groups_within k)
-  groups_within (ChooseStmt at bs k) = omega (arith, branches_within bs, groups_within k)
-  groups_within (DeclareStmt at i e k) = omega (arith, groups_within k)
-  groups_within (AssignStmt at xs e k) = omega (arith, groups_within k)
-  groups_within (ModifyStmt at xs d k) = omega (arith, groups_within k)
-  groups_within (CallStmt at xs es k) = omega (arith, groups_within k)
-  groups_within (WaitStmt at w k) = omega (arith, groups_within k)
+stmt_within : (s : Body) (m n : ℕ) → m ≤ n → stmt_groups_counted s m ≤ stmt_weight s + n
+stmt_within (ChooseStmt at bs k) m n h = omega (arith, h)
+stmt_within (WaitStmt at w k) m n h = omega (arith, h)
+stmt_within _ m n h = omega (arith, h)
 
-  branches_within : (bs : Branches) → branch_group_count bs ≤ branch_weight bs
-  branches_within NoBranches = omega arith
-  branches_within (MoreBranches at w b bs) = omega (arith, groups_within b, branches_within bs)
+groups_within : (b : Body) → groups_in b ≤ body_weight b
+groups_within b = folds_alike (λ m n. m ≤ n) groups_counted weights_counted (record {
+  nothing = omega arith;
+  both = λ a b c d h k. omega (arith, h, k);
+  of_stmt = λ s m n p h. stmt_within s m n h;
+  of_catch = λ x m n h. h;
+  of_wait = λ at w k m n p h. omega (arith, h);
+}) b
 
 -- actors that are not too heavy
 abbrev IsLight : RoutineTree → Type 0

@@ -43,11 +43,8 @@ statement_unbegun c d [] h = tt
 statement_unbegun c d (x ∷ xs) h = ((h.0.0, h.0.1.1.1), h.1)
 
 shallow : (p : Part) → InLimits 7 p → IsShallow p
-shallow (Declaration k) h = tt
-shallow (Statement k) h = tt
 shallow (Node d) h = h (omega arith)
-shallow (Variable k) h = tt
-shallow (Branch k) h = tt
+shallow _ h = tt
 
 all_shallow : (ps : List Part) → AllInLimits 7 ps → AllShallow ps
 all_shallow [] h = tt

@@ -32,12 +32,6 @@ rebegin d (x ∷ xs) l h = ((h.0.0, (l, h.0.1)), h.1)
 
 -- no expression stands deeper than its first token says
 deep : {k d : ℕ} {ts : List Marked} {e : ExprTree} → ExprRule k d ts e → AreTokens ts → d ≤ DEPTH
-deep (number n p) h = h.0.1.0
-deep (text t p) h = h.0.1.0
-deep (truth p) h = h.0.1.0
-deep (falsehood p) h = h.0.1.0
-deep (void p q r) h = h.0.1.0
-deep (variable x) h = h.0.1.0
 deep (call f p q args r e) h = (subst AreTokens e h).0.1.0
 deep (paren p q of r e) h = (subst AreTokens e h).0.1.0
 deep (field p x of r e) h = let inner = deep r (unbegin _ of (are_front _ _ (subst AreTokens e h))) in omega (arith, inner)
@@ -45,6 +39,7 @@ deep (method p q r f of args a b e) h = let inner = deep a (unbegin _ of (are_fr
 deep (negation p of l r e) h = (subst AreTokens e h).0.1.0
 deep (minus p of l r e) h = (subst AreTokens e h).0.1.0
 deep (binary op p left right l a b e) h = let inner = deep a (unbegin _ left (are_front _ _ (subst AreTokens e h))) in omega (arith, inner)
+deep _ h = h.0.1.0
 
 -- each name that can be spelled is over places one that can be, whose place has a small number
 module _ (slots : List SlotTree) (s : Scope)

@@ -21,7 +21,8 @@ use Rattle.flow_meaning.specs.Items.{change}
 use Rattle.flow_split.specs.Around.{Exit, Text, Scoped, Part, Hand, Around, inner, pass, guarded, handling}
 use Rattle.flow_split.specs.Counts.{Next, begun, taken, grouped, past, past_branches}
 use Rattle.flow_split.specs.Lowered.{Chunk, blocks_of, joined, ends, acting, drop_of, dropping, finished, before_rest, exits, exited, with_into, with_taken, later, first_value, new_at, first_at, tested, assign_by, assigned, changed, place_in, declares, thrown, callback, callbacks, test_before, lowered, branches}
-use Rattle.flow_typing_laws.specs.Typing.Paths.{IsPath, HasPaths, HavePaths}
+use Rattle.flow_tree.specs.Formed.{IsPath}
+use Rattle.flow_typing_laws.specs.Typing.Paths.{HasPaths, HavePaths}
 use Rattle.flow_progress.specs.Written.{HasPath}
 
 abbrev pub AllPaths : List InstrTree → Type 0
@@ -118,26 +119,26 @@ module _ (ns : Names) (slots : List SlotTree) where
     lowered_pathed End s w n h = finished_pathed w s w.exit
     lowered_pathed (BlockStmt at b k) s w n h =
         let m = past w.looped.tried b n in
-        joined_pathed w.hand (lowered_pathed b (Mark ∷ s) (inner w (Scoped (GotoLast m.block))) n h.0) (lowered_pathed k s w (begun m) h.1)
+        joined_pathed w.hand (lowered_pathed b (Mark ∷ s) (inner w (Scoped (GotoLast m.block))) n h.1) (lowered_pathed k s w (begun m) h.2)
     lowered_pathed (IfStmt at e b k) s w n h =
         let m = past w.looped.tried b (begun n) in
         joined_pathed w.hand
-        (joined_pathed w.hand (ends_pathed w s true [] (TestLast (over slots s e) n.block m.block) tt) (lowered_pathed b (Mark ∷ s) (inner w (Scoped (GotoLast m.block))) (begun n) h.0))
-        (lowered_pathed k s w (begun m) h.1)
+        (joined_pathed w.hand (ends_pathed w s true [] (TestLast (over slots s e) n.block m.block) tt) (lowered_pathed b (Mark ∷ s) (inner w (Scoped (GotoLast m.block))) (begun n) h.1))
+        (lowered_pathed k s w (begun m) h.2)
     lowered_pathed (IfElseStmt at e b c k) s w n h =
         let m = past w.looped.tried b (begun n) in
         let j = past w.looped.tried c (begun m) in
         let v = inner w (Scoped (GotoLast j.block)) in
         joined_pathed w.hand
-        (joined_pathed w.hand (joined_pathed w.hand (ends_pathed w s true [] (TestLast (over slots s e) n.block m.block) tt) (lowered_pathed b (Mark ∷ s) v (begun n) h.0)) (lowered_pathed c (Mark ∷ s) v (begun m) h.1))
-        (lowered_pathed k s w (begun j) h.2)
+        (joined_pathed w.hand (joined_pathed w.hand (ends_pathed w s true [] (TestLast (over slots s e) n.block m.block) tt) (lowered_pathed b (Mark ∷ s) v (begun n) h.1)) (lowered_pathed c (Mark ∷ s) v (begun m) h.2))
+        (lowered_pathed k s w (begun j) h.3)
     lowered_pathed (WhileStmt at e b k) s w n h =
         let g = begun n in
         let m = past false b (begun g) in
         joined_pathed w.hand
         (joined_pathed w.hand (joined_pathed w.hand (ends_pathed w s false [] (PassLast n.block) tt) (ends_pathed w s true [] (TestLast (over slots s e) g.block m.block) tt))
-        (lowered_pathed b (Mark ∷ s) (pass w 1 (PassLast n.block) m.block) (begun g) h.0))
-        (lowered_pathed k s w (begun m) h.1)
+        (lowered_pathed b (Mark ∷ s) (pass w 1 (PassLast n.block) m.block) (begun g) h.1))
+        (lowered_pathed k s w (begun m) h.2)
     lowered_pathed (ForStmt at i e p b k) s w n h =
         let t = w.looped.tried in
         let d = past t i n in
@@ -148,25 +149,25 @@ module _ (ns : Names) (slots : List SlotTree) where
         let v = inner w (Part (PassLast d.block)) in
         joined_pathed w.hand
         (joined_pathed w.hand
-        (joined_pathed w.hand (test_pathed v r e g.block o.block (lowered ns slots (Mark ∷ s) v n i) (lowered_pathed i (Mark ∷ s) v n h.0))
-        (lowered_pathed b (Mark ∷ r) (pass w 2 (GotoLast m.block) o.block) (begun g) h.2))
-        (lowered_pathed p r v (begun m) h.1))
-        (dropping_pathed (scope (later p m.local r)) (lowered_pathed k s w (begun o) h.3))
+        (joined_pathed w.hand (test_pathed v r e g.block o.block (lowered ns slots (Mark ∷ s) v n i) (lowered_pathed i (Mark ∷ s) v n h.1))
+        (lowered_pathed b (Mark ∷ r) (pass w 2 (GotoLast m.block) o.block) (begun g) h.3))
+        (lowered_pathed p r v (begun m) h.2))
+        (dropping_pathed (scope (later p m.local r)) (lowered_pathed k s w (begun o) h.4))
     lowered_pathed (LoopStmt at b k) s w n h =
         let m = past false b (begun n) in
         joined_pathed w.hand
-        (joined_pathed w.hand (ends_pathed w s false [] (PassLast n.block) tt) (lowered_pathed b (Mark ∷ s) (pass w 1 (PassLast n.block) m.block) (begun n) h.0))
-        (lowered_pathed k s w (begun m) h.1)
+        (joined_pathed w.hand (ends_pathed w s false [] (PassLast n.block) tt) (lowered_pathed b (Mark ∷ s) (pass w 1 (PassLast n.block) m.block) (begun n) h.1))
+        (lowered_pathed k s w (begun m) h.2)
     lowered_pathed (BreakStmt at k) s w n h =
         let m = exited w.looped.tried n in
-        rest_pathed w.hand k (exits_pathed w.looped.tried w s n (GotoLast w.looped.out)) (lowered_pathed k s w (begun m) h)
+        rest_pathed w.hand k (exits_pathed w.looped.tried w s n (GotoLast w.looped.out)) (lowered_pathed k s w (begun m) h.1)
     lowered_pathed (ContinueStmt at k) s w n h =
         let m = exited w.looped.tried n in
-        rest_pathed w.hand k (exits_pathed w.looped.tried w s n w.looped.again) (lowered_pathed k s w (begun m) h)
+        rest_pathed w.hand k (exits_pathed w.looped.tried w s n w.looped.again) (lowered_pathed k s w (begun m) h.1)
     lowered_pathed (ReturnStmt at e k) s w n h =
-        rest_pathed w.hand k (ends_pathed w s true [] (ReturnLast (over slots s e)) tt) (lowered_pathed k s w (begun n) h)
+        rest_pathed w.hand k (ends_pathed w s true [] (ReturnLast (over slots s e)) tt) (lowered_pathed k s w (begun n) h.1)
     lowered_pathed (ThrowStmt at e k) s w n h =
-        rest_pathed w.hand k (ends_pathed w s true [] (ThrowLast (thrown ns slots s at e w.caught)) tt) (lowered_pathed k s w (begun n) h)
+        rest_pathed w.hand k (ends_pathed w s true [] (ThrowLast (thrown ns slots s at e w.caught)) tt) (lowered_pathed k s w (begun n) h.1)
     lowered_pathed (TryStmt at b p x c k) s w n h =
         let t = w.looped.tried in
         let m = past true b (begun n) in
@@ -175,17 +176,17 @@ module _ (ns : Names) (slots : List SlotTree) where
         let d : Hand = record { block = m.block; error = m.local } in
         let exit = Scoped (GotoLast j.block) in
         joined_pathed w.hand
-        (joined_pathed w.hand (joined_pathed (Some d) (ends_pathed w s false [] (GotoLast n.block) tt) (lowered_pathed b (Mark ∷ s) (guarded w exit d) (begun n) h.0))
-        (lowered_pathed c (Var x.name m.local ∷ Mark ∷ s) (handling w exit x.name) g h.1))
-        (lowered_pathed k s w (begun j) h.2)
+        (joined_pathed w.hand (joined_pathed (Some d) (ends_pathed w s false [] (GotoLast n.block) tt) (lowered_pathed b (Mark ∷ s) (guarded w exit d) (begun n) h.1))
+        (lowered_pathed c (Var x.name m.local ∷ Mark ∷ s) (handling w exit x.name) g h.2))
+        (lowered_pathed k s w (begun j) h.3)
     lowered_pathed (ChooseStmt at bs k) s w n h =
         let t = w.looped.tried in
         let g = grouped n in
         let j = past_branches t bs g in
         let c : Chunk = record (ends w s true [] (ChooseLast n.group)) { groups = callbacks ns slots s t g bs ∷ [] } in
-        joined_pathed w.hand (branches_pathed bs c s (inner w (Scoped (GotoLast j.block))) g h.0 (record { body = tt; more = tt })) (lowered_pathed k s w (begun j) h.1)
+        joined_pathed w.hand (branches_pathed bs c s (inner w (Scoped (GotoLast j.block))) g h.1 (record { body = tt; more = tt })) (lowered_pathed k s w (begun j) h.2)
     lowered_pathed (DeclareStmt at i e k) s w n h =
-        acting_pathed (declares ns slots s n.local i e) (declares_pathed s n.local i e) (lowered_pathed k (with_into i n.local s) w (taken (Some i) n) h)
+        acting_pathed (declares ns slots s n.local i e) (declares_pathed s n.local i e) (lowered_pathed k (with_into i n.local s) w (taken (Some i) n) h.1)
     lowered_pathed (AssignStmt at xs e k) s w n h =
         acting_pathed (assigned ns slots s (path_over slots s xs) e ∷ []) (assigned_pathed s (path_over slots s xs) e (over_pathed slots s xs h.0), tt) (lowered_pathed k s w n h.1)
     lowered_pathed (ModifyStmt at xs d k) s w n h =
@@ -195,14 +196,14 @@ module _ (ns : Names) (slots : List SlotTree) where
     lowered_pathed (WaitStmt at v k) s w n h =
         let c : Chunk = record (ends w s true [] (ChooseLast n.group)) { groups = (callback ns slots s v n.local n.block ∷ []) ∷ [] } in
         let p : Pathed c = record { body = tt; more = tt } in
-        joined_pathed w.hand p (lowered_pathed k (with_taken v.into n.local s) w (taken v.into (begun (grouped n))) h)
+        joined_pathed w.hand p (lowered_pathed k (with_taken v.into n.local s) w (taken v.into (begun (grouped n))) h.1)
 
     branches_pathed : (bs : Branches) (a : Chunk) (s : Scope) (w : Around) (n : Next) → HavePaths bs → Pathed a → Pathed (branches ns slots a s w n bs)
     branches_pathed NoBranches a s w n h f = f
     branches_pathed (MoreBranches at v b bs) a s w n h f =
         let m = taken v.into (begun n) in
-        branches_pathed bs (joined w.hand a (lowered ns slots (with_taken v.into n.local (Mark ∷ s)) w m b)) s w (past w.looped.tried b m) h.1
-        (joined_pathed w.hand f (lowered_pathed b (with_taken v.into n.local (Mark ∷ s)) w m h.0))
+        branches_pathed bs (joined w.hand a (lowered ns slots (with_taken v.into n.local (Mark ∷ s)) w m b)) s w (past w.looped.tried b m) h.2
+        (joined_pathed w.hand f (lowered_pathed b (with_taken v.into n.local (Mark ∷ s)) w m h.1))
 
 -- what is fetched
 some_same : {A : Type 0} {x y : A} → Some x ≡ Some y → x ≡ y

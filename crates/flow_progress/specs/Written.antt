@@ -8,7 +8,8 @@ use Rattle.flow_class.specs.Code.{Body, Nothing, fetch}
 use Rattle.flow_valid.specs.Heads.{all_decls}
 use Rattle.flow_meaning.specs.Source.{actors_in}
 use Rattle.flow_typing_laws.specs.ControlFlow.Laws.{HasSimpleParts}
-use Rattle.flow_typing_laws.specs.Typing.Paths.{IsPath, HasPaths}
+use Rattle.flow_tree.specs.Formed.{IsPath}
+use Rattle.flow_typing_laws.specs.Typing.Paths.{HasPaths}
 
 -- a path that is written begins with a name
 abbrev pub HasPath : InstrTree → Type 0

@@ -37,7 +37,8 @@ use Rattle.flow_lowering_laws.specs.Actors.InPlace.{InPlace}
 use Rattle.flow_lowering_laws.proofs.Actors.Standing.{LocalsAt, locals_front, locals_back}
 use Rattle.flow_lowering_laws.proofs.Actors.Places.{names, names_with, Placing, placing}
 use Rattle.flow_lowering_laws.proofs.Actors.Further.{into_locals_count}
-use Rattle.flow_typing_laws.specs.Typing.Paths.{IsPath, HasPaths}
+use Rattle.flow_tree.specs.Formed.{IsPath}
+use Rattle.flow_typing_laws.specs.Typing.Paths.{HasPaths}
 use Rattle.flow_typing_laws.proofs.Typing.Names.{bytes_same, none_some, no_first, no_second}
 use Rattle.flow_typing_laws.proofs.Typing.Agreement.{neither_first, neither_second, no_item}
 use Rattle.flow_validity_laws.proofs.OverPlaces.{over_names, Sees}
@@ -179,7 +180,7 @@ module _ (base : Setting) (ns : Names) (c : ClassTree) (few_slots : length c.slo
       let one = fresh_left (us ++ ws) (uses k vs p cu x) fresh in
       let i = assigned ns c.slots s (path_over c.slots s xs) q in
       let rest = lives l t e rows vs gs s w n p a cu k
-      (record { stands = st; above = said.above; room = said.room; parts = said.parts; paths = said.paths.1; placed = said.placed; judged = neither_second f _ said.judged })
+      (record { stands = st; above = said.above; room = said.room; parts = said.parts.1; paths = said.paths.1; placed = said.placed; judged = neither_second f _ said.judged })
       g th (fresh_right (us ++ ws) (uses k vs p cu x) fresh) many in
       then_lives l rows vs gs s w n p a (n.block + blocks_in w.looped.tried x) (n.group + groups_in x) (ways k x) gs i (lowered ns c.slots s w n x) g rest
       (λ z cover. assign_in base ns c rows s st.sees vs gs n.local g.line p g.start z cover xs q judged one)
@@ -217,7 +218,7 @@ module _ (base : Setting) (ns : Names) (c : ClassTree) (few_slots : length c.slo
       let one = fresh_left (us ++ ws) (uses k vs p cu x) fresh in
       let i = ActInstr (act_over c.slots s xs) (over_all c.slots s es) in
       let rest = lives l t e rows vs gs s w n p a cu k
-      (record { stands = st; above = said.above; room = said.room; parts = said.parts; paths = said.paths.1; placed = said.placed; judged = neither_second f _ said.judged })
+      (record { stands = st; above = said.above; room = said.room; parts = said.parts.1; paths = said.paths.1; placed = said.placed; judged = neither_second f _ said.judged })
       g th (fresh_right (us ++ ws) (uses k vs p cu x) fresh) many in
       then_lives l rows vs gs s w n p a (n.block + blocks_in w.looped.tried x) (n.group + groups_in x) (ways k x) gs i (lowered ns c.slots s w n x) g rest
       (λ z cover. act_in base ns c rows s st.sees vs gs n.local g.line p g.start z cover xs es judged one (named_path xs said.paths.0)) (λ z cover. covers_after i z gs p.stale (λ q. refl) cover)
@@ -252,8 +253,8 @@ module _ (base : Setting) (ns : Names) (c : ClassTree) (few_slots : length c.slo
         stands = stands_into base ns c few_slots few_locals agree e rows s w.caught n.local i st into pl;
         above = above_taken base ns c few_slots few_locals agree (Some i) n.local s said.above;
         room = locals_back ns c n.local z.local (declared_locals i) (body_locals x) (omega (arith, n1)) said.room;
-        parts = said.parts;
-        paths = said.paths;
+        parts = said.parts.1;
+        paths = said.paths.1;
         placed = subst (λ xs. InPlace c.slots l t xs x) (sym (names_with i.state i.name.name n.local s)) said.placed.1;
         judged = neither_second f _ said.judged;
       })

@@ -15,6 +15,7 @@ use Rattle.flow_split.specs.Around.{Exit, Text, Scoped, Part, Hand, Around, whol
 use Rattle.flow_split.specs.Counts.{Next, begun, taken, grouped, past, past_branches, groups_in, branch_group_count}
 use Rattle.flow_split.specs.Lowered.{Chunk, blocks_of, joined, ends, before_rest, dropping, exits, exited, finished, thrown, with_into, with_taken, later, tested, callback, callbacks, test_before, lowered, branches, lowered_class}
 use Rattle.flow_split.proofs.Lengths.{lowered_groups}
+use Rattle.flow_split.proofs.Lengths.{none_behind}
 use Rattle.flow_lowering_laws.proofs.Actors.Further.{exited_group}
 use Rattle.flow_validity_laws.proofs.Naming.{both}
 
@@ -125,27 +126,6 @@ quiet_finished n w s (Part l) q = none_named n (named_in (finished w s (Part l))
 quiet_inner : (w : Around) (x : Exit) → QuietExit x → IsQuiet w → IsQuiet (inner w x)
 quiet_inner w x q h = record { exit = q; again = h.again }
 
--- where there is no statement, there are no groups
-pub none_behind : (k : Body) → has_statement k ≡ false → groups_in k ≡ 0
-none_behind End e = refl
-none_behind (BlockStmt at b k) e = cc
-none_behind (IfStmt at t b k) e = cc
-none_behind (IfElseStmt at t b c k) e = cc
-none_behind (WhileStmt at t b k) e = cc
-none_behind (ForStmt at i t p b k) e = cc
-none_behind (LoopStmt at b k) e = cc
-none_behind (BreakStmt at k) e = cc
-none_behind (ContinueStmt at k) e = cc
-none_behind (ReturnStmt at t k) e = cc
-none_behind (ThrowStmt at t k) e = cc
-none_behind (TryStmt at b p x h k) e = cc
-none_behind (ChooseStmt at bs k) e = cc
-none_behind (DeclareStmt at i t k) e = cc
-none_behind (AssignStmt at xs t k) e = cc
-none_behind (ModifyStmt at xs c k) e = cc
-none_behind (CallStmt at xs es k) e = cc
-none_behind (WaitStmt at w k) e = cc
-
 rest_once : (b : Bool) (n k : ℕ) (h : Option Hand) (a d : Chunk) → Once n n (named_in a) → (b ≡ true → Once n k (named_in d)) → (b ≡ false → k ≡ n) → Once n k (named_in (if b then joined h a d else a))
 rest_once true n k h a d f g e = joined_once n n k h a d f (g refl)
 rest_once false n k h a d f g e = once_to n n k (named_in a) (sym (e refl)) f
@@ -228,7 +208,7 @@ module _ (ns : Names) (slots : List SlotTree) where
         let x2 = joined_once n.group g.group m.group w.hand c1 c2 x1 (lowered_once (Mark ∷ r) f (begun g) b (record { exit = λ g. refl; again = λ g. refl })) in
         let x3 = joined_once n.group m.group o.group w.hand (joined w.hand c1 c2) c3 x2 (lowered_once r v (begun m) p qv) in
         let x4 = joined_once n.group o.group (o.group + groups_in k) w.hand (joined w.hand (joined w.hand c1 c2) c3) (dropping ds c4) x3 (lowered_once s w (begun o) k q) in
-        once_to n.group (o.group + groups_in k) (n.group + (groups_in i + groups_in b + groups_in p + groups_in k)) (named_in (joined w.hand (joined w.hand (joined w.hand c1 c2) c3) (dropping ds c4))) (omega (arith, test_group e h)) x4
+        once_to n.group (o.group + groups_in k) (n.group + (groups_in i + groups_in p + groups_in b + groups_in k)) (named_in (joined w.hand (joined w.hand (joined w.hand c1 c2) c3) (dropping ds c4))) (omega (arith, test_group e h)) x4
     lowered_once s w n (LoopStmt at b k) q =
         let m = past false b (begun n) in
         let v = pass w 1 (PassLast n.block) m.block in
@@ -279,7 +259,7 @@ module _ (ns : Names) (slots : List SlotTree) where
         let a = branches ns slots c0 s v g bs in
         let d = lowered ns slots s w (begun j) k in
         let x1 = branches_once c0 n.group s v g bs (quiet_inner w (Scoped (GotoLast j.block)) (λ g. refl) q) (chosen_once n.group (named_in c0) (λ g. refl)) in
-        once_to n.group (j.group + groups_in k) (n.group + (suc (branch_group_count bs) + groups_in k)) (named_in (joined w.hand a d)) (omega arith)
+        once_to n.group (j.group + groups_in k) (n.group + suc (branch_group_count bs + groups_in k)) (named_in (joined w.hand a d)) (omega arith)
         (joined_once n.group j.group (j.group + groups_in k) w.hand a d x1 (lowered_once s w (begun j) k q))
     lowered_once s w n (DeclareStmt at i e k) q = lowered_once (with_into i n.local s) w (taken (Some i) n) k q
     lowered_once s w n (AssignStmt at xs e k) q = lowered_once s w n k q

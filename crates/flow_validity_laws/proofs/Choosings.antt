@@ -129,8 +129,8 @@ module _ (base : Setting) (ns : Names) (c : ClassTree) (few_slots : length c.slo
         stands = stands_marked base ns c few_slots few_locals agree e rows s w.caught said.stands;
         above = said.above;
         room = locals_front ns c n.local (body_locals b) (body_locals x) said.room;
-        parts = said.parts.0;
-        paths = said.paths.0;
+        parts = said.parts.1;
+        paths = said.paths.1;
         placed = said.placed.0;
         judged = neither_first (body_refusal e b) _ h2;
       })
@@ -141,8 +141,8 @@ module _ (base : Setting) (ns : Names) (c : ClassTree) (few_slots : length c.slo
         stands = stands_behind base ns c few_slots few_locals agree e b rows s w.caught said.stands;
         above = above_more ns c n.local j.local s (omega arith) said.above;
         room = locals_after ns c b n.local (body_locals x) said.room;
-        parts = said.parts.1;
-        paths = said.paths.1;
+        parts = said.parts.2;
+        paths = said.paths.2;
         placed = said.placed.1;
         judged = neither_second (body_refusal e b) _ h2;
       })
@@ -200,8 +200,8 @@ module _ (base : Setting) (ns : Names) (c : ClassTree) (few_slots : length c.slo
         stands = stands_marked base ns c few_slots few_locals agree e rows s w.caught said.stands;
         above = said.above;
         room = locals_front ns c n.local (body_locals b) (body_locals d) room12;
-        parts = said.parts.0;
-        paths = said.paths.0;
+        parts = said.parts.1;
+        paths = said.paths.1;
         placed = said.placed.0;
         judged = neither_first (body_refusal e b) _ h2;
       })
@@ -212,8 +212,8 @@ module _ (base : Setting) (ns : Names) (c : ClassTree) (few_slots : length c.slo
         stands = stands_marked base ns c few_slots few_locals agree eb rows s w.caught stb;
         above = above_more ns c n.local i.local s (omega arith) said.above;
         room = locals_after ns c b n.local (body_locals d) room12;
-        parts = said.parts.1;
-        paths = said.paths.1;
+        parts = said.parts.2;
+        paths = said.paths.2;
         placed = said.placed.1;
         judged = neither_first (body_refusal eb d) _ h3;
       })
@@ -224,8 +224,8 @@ module _ (base : Setting) (ns : Names) (c : ClassTree) (few_slots : length c.slo
         stands = stands_behind base ns c few_slots few_locals agree eb d rows s w.caught stb;
         above = above_more ns c n.local j.local s (omega arith) said.above;
         room = locals_back ns c n.local j.local (body_locals b ++ body_locals d) (body_locals x) (omega (arith, sizes)) said.room;
-        parts = said.parts.2;
-        paths = said.paths.2;
+        parts = said.parts.3;
+        paths = said.paths.3;
         placed = said.placed.2;
         judged = neither_second (body_refusal eb d) _ h3;
       })
@@ -352,8 +352,8 @@ module _ (base : Setting) (ns : Names) (c : ClassTree) (few_slots : length c.slo
         stands = stands_behind base ns c few_slots few_locals agree e b rows s w.caught said.stands;
         above = above_more ns c n.local j.local s (omega arith) said.above;
         room = locals_after ns c b n.local (body_locals x) said.room;
-        parts = said.parts.1;
-        paths = said.paths.1;
+        parts = said.parts.2;
+        paths = said.paths.2;
         placed = said.placed.1;
         judged = neither_second (body_refusal (in_loop e) b) _ h2;
       })
@@ -369,8 +369,8 @@ module _ (base : Setting) (ns : Names) (c : ClassTree) (few_slots : length c.slo
         stands = stands_marked base ns c few_slots few_locals agree (in_loop e) rows s w.caught (stands_loop base ns c few_slots few_locals agree e rows s w.caught said.stands);
         above = said.above;
         room = locals_front ns c n.local (body_locals b) (body_locals x) said.room;
-        parts = said.parts.0;
-        paths = said.paths.0;
+        parts = said.parts.1;
+        paths = said.paths.1;
         placed = said.placed.0;
         judged = neither_first (body_refusal (in_loop e) b) _ h2;
       })
@@ -410,8 +410,8 @@ module _ (base : Setting) (ns : Names) (c : ClassTree) (few_slots : length c.slo
         stands = stands_behind base ns c few_slots few_locals agree e b rows s w.caught said.stands;
         above = above_more ns c n.local j.local s (omega arith) said.above;
         room = locals_after ns c b n.local (body_locals x) said.room;
-        parts = said.parts.1;
-        paths = said.paths.1;
+        parts = said.parts.2;
+        paths = said.paths.2;
         placed = said.placed.1;
         judged = neither_second (body_refusal (in_loop e) b) _ said.judged;
       })
@@ -423,8 +423,8 @@ module _ (base : Setting) (ns : Names) (c : ClassTree) (few_slots : length c.slo
         stands = stands_marked base ns c few_slots few_locals agree (in_loop e) rows s w.caught (stands_loop base ns c few_slots few_locals agree e rows s w.caught said.stands);
         above = said.above;
         room = locals_front ns c n.local (body_locals b) (body_locals x) said.room;
-        parts = said.parts.0;
-        paths = said.paths.0;
+        parts = said.parts.1;
+        paths = said.paths.1;
         placed = said.placed.0;
         judged = neither_first (body_refusal (in_loop e) b) _ said.judged;
       })

@@ -76,11 +76,7 @@ type_less k j l (FutureType t) e = type_less k j l t e
 type_less k j l (FutureStreamType t) e = type_less k j l t e
 type_less k j l (PromiseType t) e = type_less k j l t e
 type_less k j l (PromiseStreamType t) e = type_less k j l t e
-type_less k j l IntType e = refl
-type_less k j l BoolType e = refl
-type_less k j l StringType e = refl
-type_less k j l VoidType e = refl
-type_less k j l ErrorType e = refl
+type_less k j l _ e = refl
 
 unless_true : (b : Bool) (n : ℕ) → b ≡ true → unless b n ≡ None
 unless_true true n e = refl

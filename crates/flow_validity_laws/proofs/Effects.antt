@@ -121,24 +121,7 @@ declared_effect f (Some (ActorOf ts t)) = refl
 
 predefined_effect : (p : Predefined) → is_there (world_if (is_effect p) p) ≡ calls_effect (Some (predefined_callee p (signature p)))
 predefined_effect ToString = refl
-predefined_effect ToInt = refl
-predefined_effect Now = refl
-predefined_effect EndOfStream = refl
-predefined_effect TimedOut = refl
-predefined_effect BrokenPromise = refl
-predefined_effect OperationCancelled = refl
-predefined_effect ActorCancelled = refl
-predefined_effect Error = refl
-predefined_effect RandomInt = refl
-predefined_effect Delay = refl
-predefined_effect Never = refl
-predefined_effect Listen = refl
-predefined_effect ReadFile = refl
-predefined_effect WriteFile = refl
-predefined_effect SyncFile = refl
-predefined_effect FileSize = refl
-predefined_effect Trace = refl
-predefined_effect SendTo = refl
+predefined_effect _ = refl
 
 actor_there : (k : Option ℕ) → is_there (effectful_of None k) ≡ is_there k
 actor_there None = refl

@@ -24,14 +24,14 @@ use Rattle.flow_split.specs.Around.{Exit, Text, Scoped, Part, Hand, Around, inne
 use Rattle.flow_split.specs.Counts.{Next, begun, taken, grouped, past, past_branches, local_count, into_count, locals_in}
 use Rattle.flow_split.specs.Lowered.{Chunk, block_with, blocks_of, joined, ends, acting, dropping, drop_of, finished, exits, exited, with_local, with_into, with_taken, later, tested, assigned, changed, taken_in, place_in, declares, thrown, cancelled, callback, callbacks, test_before, lowered, branches}
 use Rattle.flow_valid.specs.Validity.{calls_effect, instr_fits, last_fits, block_fits, callback_fits}
-use Rattle.flow_lowering_laws.specs.Actors.Parts.{IsInit, HasParts, HaveParts}
-use Rattle.flow_lowering_laws.specs.Actors.InPlace.{naming, naming_any, MayTake, InPlace, AllInPlace}
+use Rattle.flow_tree.specs.Formed.{IsInit}
+use Rattle.flow_lowering_laws.specs.Actors.Parts.{HasParts, HaveParts}
+use Rattle.flow_lowering_laws.specs.Actors.InPlace.{MayTake, InPlace, AllInPlace}
 use Rattle.flow_lowering_laws.specs.Actors.InPlace as place_of_names
 use Rattle.flow_lowering_laws.proofs.Actors.Standing.{LocalsAt, locals_front, locals_back}
-use Rattle.flow_lowering_laws.proofs.Actors.Groups.{step_parts, init_parts}
 use Rattle.flow_lowering_laws.proofs.Actors.Around.{above_more}
 use Rattle.flow_lowering_laws.proofs.Actors.Places.{names, names_with, Placing, placing}
-use Rattle.flow_lowering_laws.proofs.Actors.Further.{locals_count, branch_locals_count, into_locals_count, locals_after, exited_local, names_taken}
+use Rattle.flow_lowering_laws.proofs.Actors.Further.{locals_count, branch_locals_count, into_locals_count, locals_after, exited_local, names_taken, try_room}
 use Rattle.flow_lowering_laws.proofs.Actors.Fors.{step_locals, test_local}
 use Rattle.std.specs.Str.{bytes_eq}
 use Rattle.flow_typing_laws.proofs.Typing.Names.{bytes_self, no_first, no_second}
@@ -243,8 +243,8 @@ module _ (base : Setting) (ns : Names) (c : ClassTree) (few_slots : length c.slo
         let j = past w.looped.tried b n in
         let v = inner w (Scoped (GotoLast j.block)) in
         joined_fit w.hand (lowered ns c.slots (Mark ∷ s) v n b) (lowered ns c.slots s w (begun j) x)
-        (body_fit b l t e vs (Mark ∷ s) v n (stands_marked e vs s w.caught k) (plain_inner w (Scoped (GotoLast j.block)) refl p) a (locals_front ns c n.local (body_locals b) (body_locals x) r) parts.0 ok.0 (neither_first (body_refusal e b) _ h))
-        (body_fit x l t (behind e b) vs s w (begun j) (stands_behind e b vs s w.caught k) p (above_more ns c n.local j.local s (omega arith) a) (locals_after ns c b n.local (body_locals x) r) parts.1 ok.1 (neither_second (body_refusal e b) _ h))
+        (body_fit b l t e vs (Mark ∷ s) v n (stands_marked e vs s w.caught k) (plain_inner w (Scoped (GotoLast j.block)) refl p) a (locals_front ns c n.local (body_locals b) (body_locals x) r) parts.1 ok.0 (neither_first (body_refusal e b) _ h))
+        (body_fit x l t (behind e b) vs s w (begun j) (stands_behind e b vs s w.caught k) p (above_more ns c n.local j.local s (omega arith) a) (locals_after ns c b n.local (body_locals x) r) parts.2 ok.1 (neither_second (body_refusal e b) _ h))
     body_fit (IfStmt at q b x) l t e vs s w n k p a r parts ok h =
         let j = past w.looped.tried b (begun n) in
         let v = inner w (Scoped (GotoLast j.block)) in
@@ -254,8 +254,8 @@ module _ (base : Setting) (ns : Names) (c : ClassTree) (few_slots : length c.slo
         let m = neither_second i _ h in
         joined_fit w.hand (joined w.hand c0 c1) (lowered ns c.slots s w (begun j) x)
         (joined_fit w.hand c0 c1 (test_fit e vs s w.caught at q w n.block j.block k (neither_first i _ h))
-        (body_fit b l t e vs (Mark ∷ s) v (begun n) (stands_marked e vs s w.caught k) (plain_inner w (Scoped (GotoLast j.block)) refl p) a (locals_front ns c n.local (body_locals b) (body_locals x) r) parts.0 ok.0 (neither_first (body_refusal e b) _ m)))
-        (body_fit x l t (behind e b) vs s w (begun j) (stands_behind e b vs s w.caught k) p (above_more ns c n.local j.local s (omega arith) a) (locals_after ns c b n.local (body_locals x) r) parts.1 ok.1 (neither_second (body_refusal e b) _ m))
+        (body_fit b l t e vs (Mark ∷ s) v (begun n) (stands_marked e vs s w.caught k) (plain_inner w (Scoped (GotoLast j.block)) refl p) a (locals_front ns c n.local (body_locals b) (body_locals x) r) parts.1 ok.0 (neither_first (body_refusal e b) _ m)))
+        (body_fit x l t (behind e b) vs s w (begun j) (stands_behind e b vs s w.caught k) p (above_more ns c n.local j.local s (omega arith) a) (locals_after ns c b n.local (body_locals x) r) parts.2 ok.1 (neither_second (body_refusal e b) _ m))
     body_fit (IfElseStmt at q b d x) l t e vs s w n k p a r parts ok h =
         let i = past w.looped.tried b (begun n) in
         let j = past w.looped.tried d (begun i) in
@@ -273,10 +273,10 @@ module _ (base : Setting) (ns : Names) (c : ClassTree) (few_slots : length c.slo
         joined_fit w.hand (joined w.hand (joined w.hand c0 c1) c2) (lowered ns c.slots s w (begun j) x)
         (joined_fit w.hand (joined w.hand c0 c1) c2
         (joined_fit w.hand c0 c1 (test_fit e vs s w.caught at q w n.block i.block k (neither_first f _ h))
-        (body_fit b l t e vs (Mark ∷ s) v (begun n) (stands_marked e vs s w.caught k) pv a (locals_front ns c n.local (body_locals b) (body_locals d) r12) parts.0 ok.0 (neither_first (body_refusal e b) _ m)))
-        (body_fit d l t (behind e b) vs (Mark ∷ s) v (begun i) (stands_marked (behind e b) vs s w.caught kb) pv (above_more ns c n.local i.local s (omega arith) a) (locals_after ns c b n.local (body_locals d) r12) parts.1 ok.1 (neither_first (body_refusal (behind e b) d) _ o)))
+        (body_fit b l t e vs (Mark ∷ s) v (begun n) (stands_marked e vs s w.caught k) pv a (locals_front ns c n.local (body_locals b) (body_locals d) r12) parts.1 ok.0 (neither_first (body_refusal e b) _ m)))
+        (body_fit d l t (behind e b) vs (Mark ∷ s) v (begun i) (stands_marked (behind e b) vs s w.caught kb) pv (above_more ns c n.local i.local s (omega arith) a) (locals_after ns c b n.local (body_locals d) r12) parts.2 ok.1 (neither_first (body_refusal (behind e b) d) _ o)))
         (body_fit x l t (behind (behind e b) d) vs s w (begun j) (stands_behind (behind e b) d vs s w.caught kb) p (above_more ns c n.local j.local s (omega arith) a)
-        (locals_back ns c n.local j.local (body_locals b ++ body_locals d) (body_locals x) (omega (arith, sizes)) r) parts.2 ok.2 (neither_second (body_refusal (behind e b) d) _ o))
+        (locals_back ns c n.local j.local (body_locals b ++ body_locals d) (body_locals x) (omega (arith, sizes)) r) parts.3 ok.2 (neither_second (body_refusal (behind e b) d) _ o))
     body_fit (WhileStmt at q b x) l t e vs s w n k p a r parts ok h =
         let g = begun n in
         let j = past false b (begun g) in
@@ -288,8 +288,8 @@ module _ (base : Setting) (ns : Names) (c : ClassTree) (few_slots : length c.slo
         let m = neither_second i _ h in
         joined_fit w.hand (joined w.hand (joined w.hand c0 c1) c2) (lowered ns c.slots s w (begun j) x)
         (joined_fit w.hand (joined w.hand c0 c1) c2 (joined_fit w.hand c0 c1 (ends_fit w s false [] (PassLast n.block) refl refl) (test_fit e vs s w.caught at q w g.block j.block k (neither_first i _ h)))
-        (body_fit b true t (in_loop e) vs (Mark ∷ s) v (begun g) (stands_marked (in_loop e) vs s w.caught (stands_loop e vs s w.caught k)) (record { exit = refl; again = refl }) a (locals_front ns c n.local (body_locals b) (body_locals x) r) parts.0 ok.0 (neither_first (body_refusal (in_loop e) b) _ m)))
-        (body_fit x l t (behind e b) vs s w (begun j) (stands_behind e b vs s w.caught k) p (above_more ns c n.local j.local s (omega arith) a) (locals_after ns c b n.local (body_locals x) r) parts.1 ok.1 (neither_second (body_refusal (in_loop e) b) _ m))
+        (body_fit b true t (in_loop e) vs (Mark ∷ s) v (begun g) (stands_marked (in_loop e) vs s w.caught (stands_loop e vs s w.caught k)) (record { exit = refl; again = refl }) a (locals_front ns c n.local (body_locals b) (body_locals x) r) parts.1 ok.0 (neither_first (body_refusal (in_loop e) b) _ m)))
+        (body_fit x l t (behind e b) vs s w (begun j) (stands_behind e b vs s w.caught k) p (above_more ns c n.local j.local s (omega arith) a) (locals_after ns c b n.local (body_locals x) r) parts.2 ok.1 (neither_second (body_refusal (in_loop e) b) _ m))
     body_fit (ForStmt at i q d b x) l t e vs s w n k p a r parts ok h =
         let tr = w.looped.tried in
         let hd = past tr i n in
@@ -313,7 +313,7 @@ module _ (base : Setting) (ns : Names) (c : ClassTree) (few_slots : length c.slo
         let m3 = neither_second (body_refusal e' d) _ m2 in
         let e'' = in_loop (behind e' d) in
         let tl = test_local ns c few_slots few_locals q hd in
-        let none : locals_in d ≡ 0 = sym (locals_count d) ∙ ap length (step_locals d parts.1) in
+        let none : locals_in d ≡ 0 = sym (locals_count d) ∙ ap length (step_locals d parts.0.1) in
         let n12 = length-append (body_locals i) (body_locals d) in
         let n123 = length-append (body_locals i ++ body_locals d) (body_locals b) in
         let r123 = locals_front ns c n.local (body_locals i ++ body_locals d ++ body_locals b) (body_locals x) r in
@@ -322,17 +322,17 @@ module _ (base : Setting) (ns : Names) (c : ClassTree) (few_slots : length c.slo
         let r2 : LocalsAt ns c g.local (body_locals b) = locals_back ns c n.local g.local (body_locals i ++ body_locals d) (body_locals b) (omega (arith, tl, n12, locals_count i, locals_count d, none)) r123 in
         let r4 : LocalsAt ns c o.local (body_locals x) =
         locals_back ns c n.local o.local (body_locals i ++ body_locals d ++ body_locals b) (body_locals x) (omega (arith, tl, n12, n123, locals_count i, locals_count d, locals_count b)) r in
-        let r3 : LocalsAt ns c j.local (body_locals d) = subst (λ ls. LocalsAt ns c j.local ls) (sym (step_locals d parts.1)) tt in
+        let r3 : LocalsAt ns c j.local (body_locals d) = subst (λ ls. LocalsAt ns c j.local ls) (sym (step_locals d parts.0.1)) tt in
         let k1 = stands_marked e vs s w.caught k in
-        let st = begins i e vs s1 w.caught n.local l t parts.0 k1 (neither_first (body_refusal e i) _ h) a r1 ok.0 in
+        let st = begins i e vs s1 w.caught n.local l t parts.0.0 k1 (neither_first (body_refusal e i) _ h) a r1 ok.0 in
         let a2 : Above g.local sc = subst (λ z. Above z sc) (sym tl) st.above in
         let kb = stands_behind e' d st.vars sc w.caught st.stands in
-        let f1 = for_test e' st.vars sc w.caught at q v g.block o.block c0 st.stands (neither_first it _ m1) (body_fit i l t e vs s1 v n k1 pv a r1 (init_parts i parts.0) ok.0 (neither_first (body_refusal e i) _ h)) in
-        let f2 = body_fit b true t e'' st.vars (Mark ∷ sc) f (begun g) (stands_marked e'' st.vars sc w.caught (stands_loop (behind e' d) st.vars sc w.caught kb)) (record { exit = refl; again = refl }) a2 r2 parts.2
+        let f1 = for_test e' st.vars sc w.caught at q v g.block o.block c0 st.stands (neither_first it _ m1) (body_fit i l t e vs s1 v n k1 pv a r1 parts.1 ok.0 (neither_first (body_refusal e i) _ h)) in
+        let f2 = body_fit b true t e'' st.vars (Mark ∷ sc) f (begun g) (stands_marked e'' st.vars sc w.caught (stands_loop (behind e' d) st.vars sc w.caught kb)) (record { exit = refl; again = refl }) a2 r2 parts.3
         (subst (λ xs. InPlace c.slots true t xs b) (sym st.named) ok.2) (neither_first (body_refusal e'' b) _ m3) in
-        let f3 = body_fit d l t e' st.vars sc v (begun j) st.stands pv (above_more ns c g.local j.local sc (omega arith) a2) r3 (step_parts d parts.1) (subst (λ xs. InPlace c.slots l t xs d) (sym st.named) ok.1) (neither_first (body_refusal e' d) _ m2) in
+        let f3 = body_fit d l t e' st.vars sc v (begun j) st.stands pv (above_more ns c g.local j.local sc (omega arith) a2) r3 parts.2 (subst (λ xs. InPlace c.slots l t xs d) (sym st.named) ok.1) (neither_first (body_refusal e' d) _ m2) in
         let kx = stands_behind (behind (behind e i) d) b vs s w.caught (stands_behind (behind e i) d vs s w.caught (stands_behind e i vs s w.caught k)) in
-        let f4 = body_fit x l t (behind (behind (behind e i) d) b) vs s w (begun o) kx p (above_more ns c n.local o.local s (omega (arith, tl)) a) r4 parts.3 ok.3 (neither_second (body_refusal e'' b) _ m3) in
+        let f4 = body_fit x l t (behind (behind (behind e i) d) b) vs s w (begun o) kx p (above_more ns c n.local o.local s (omega (arith, tl)) a) r4 parts.4 ok.3 (neither_second (body_refusal e'' b) _ m3) in
         joined_fit w.hand (joined w.hand (joined w.hand c1 c2) c3) (dropping (scope (later d j.local sc)) c4) (joined_fit w.hand (joined w.hand c1 c2) c3 (joined_fit w.hand c1 c2 f1 f2) f3) (dropping_fit (scope (later d j.local sc)) c4 f4)
     body_fit (LoopStmt at b x) l t e vs s w n k p a r parts ok h =
         let j = past false b (begun n) in
@@ -341,30 +341,30 @@ module _ (base : Setting) (ns : Names) (c : ClassTree) (few_slots : length c.slo
         let c1 = lowered ns c.slots (Mark ∷ s) v (begun n) b in
         joined_fit w.hand (joined w.hand c0 c1) (lowered ns c.slots s w (begun j) x)
         (joined_fit w.hand c0 c1 (ends_fit w s false [] (PassLast n.block) refl refl)
-        (body_fit b true t (in_loop e) vs (Mark ∷ s) v (begun n) (stands_marked (in_loop e) vs s w.caught (stands_loop e vs s w.caught k)) (record { exit = refl; again = refl }) a (locals_front ns c n.local (body_locals b) (body_locals x) r) parts.0 ok.0 (neither_first (body_refusal (in_loop e) b) _ h)))
-        (body_fit x l t (behind e b) vs s w (begun j) (stands_behind e b vs s w.caught k) p (above_more ns c n.local j.local s (omega arith) a) (locals_after ns c b n.local (body_locals x) r) parts.1 ok.1 (neither_second (body_refusal (in_loop e) b) _ h))
+        (body_fit b true t (in_loop e) vs (Mark ∷ s) v (begun n) (stands_marked (in_loop e) vs s w.caught (stands_loop e vs s w.caught k)) (record { exit = refl; again = refl }) a (locals_front ns c n.local (body_locals b) (body_locals x) r) parts.1 ok.0 (neither_first (body_refusal (in_loop e) b) _ h)))
+        (body_fit x l t (behind e b) vs s w (begun j) (stands_behind e b vs s w.caught k) p (above_more ns c n.local j.local s (omega arith) a) (locals_after ns c b n.local (body_locals x) r) parts.2 ok.1 (neither_second (body_refusal (in_loop e) b) _ h))
     body_fit (BreakStmt at x) l t e vs s w n k p a r parts ok h =
         let m = exited w.looped.tried n in
         let el = exited_local w.looped.tried n in
         rest_fit (has_statement x) w.hand (exits w.looped.tried w s n (GotoLast w.looped.out)) (lowered ns c.slots s w (begun m) x) (exits_fit w.looped.tried w s n (GotoLast w.looped.out) refl)
-        (body_fit x l t e vs s w (begun m) k p (subst (λ z. Above z s) (sym el) a) (subst (λ z. LocalsAt ns c z (body_locals x)) (sym el) r) parts ok.1 (neither_second (item at _) _ h))
+        (body_fit x l t e vs s w (begun m) k p (subst (λ z. Above z s) (sym el) a) (subst (λ z. LocalsAt ns c z (body_locals x)) (sym el) r) parts.1 ok.1 (neither_second (item at _) _ h))
     body_fit (ContinueStmt at x) l t e vs s w n k p a r parts ok h =
         let m = exited w.looped.tried n in
         let el = exited_local w.looped.tried n in
         rest_fit (has_statement x) w.hand (exits w.looped.tried w s n w.looped.again) (lowered ns c.slots s w (begun m) x) (exits_fit w.looped.tried w s n w.looped.again p.again)
-        (body_fit x l t e vs s w (begun m) k p (subst (λ z. Above z s) (sym el) a) (subst (λ z. LocalsAt ns c z (body_locals x)) (sym el) r) parts ok.1 (neither_second (item at _) _ h))
+        (body_fit x l t e vs s w (begun m) k p (subst (λ z. Above z s) (sym el) a) (subst (λ z. LocalsAt ns c z (body_locals x)) (sym el) r) parts.1 ok.1 (neither_second (item at _) _ h))
     body_fit (ReturnStmt at q x) l t e vs s w n k p a r parts ok h =
         let i = item at (wanted e.setting false q e.returns) in
         let f = at_item e vs at (λ z. wanted z false q e.returns) k.setting (neither_first i _ h) in
         let good = type_fits base ns c agree vs s k.sees false q c.returns (ap (λ z. wanted (over_names base c vs) false q z) (sym k.returns) ∙ f) in
         rest_fit (has_statement x) w.hand (ends w s true [] (ReturnLast (over c.slots s q))) (lowered ns c.slots s w (begun n) x) (ends_fit w s true [] (ReturnLast (over c.slots s q)) refl good)
-        (body_fit x l t e vs s w (begun n) k p a r parts ok (neither_second i _ h))
+        (body_fit x l t e vs s w (begun n) k p a r parts.1 ok (neither_second i _ h))
     body_fit (ThrowStmt at q x) l t e vs s w n k p a r parts ok h =
         let i = item at (throw_fault e.setting e.caught q) in
         let f = at_item e vs at (λ z. throw_fault z e.caught q) k.setting (neither_first i _ h) in
         let last = ThrowLast (thrown ns c.slots s at q w.caught) in
         rest_fit (has_statement x) w.hand (ends w s true [] last) (lowered ns c.slots s w (begun n) x) (ends_fit w s true [] last refl (throw_fits base ns c agree vs s k.sees at q e.caught w.caught k.caught f))
-        (body_fit x l t e vs s w (begun n) k p a r parts ok.1 (neither_second i _ h))
+        (body_fit x l t e vs s w (begun n) k p a r parts.1 ok.1 (neither_second i _ h))
     body_fit (TryStmt at b q u d x) l t e vs s w n k p a r parts ok h =
         let tr = w.looped.tried in
         let m = past true b (begun n) in
@@ -378,7 +378,8 @@ module _ (base : Setting) (ns : Names) (c : ClassTree) (few_slots : length c.slo
         let c0 = ends w s false [] (GotoLast n.block) in
         let c1 = lowered ns c.slots (Mark ∷ s) v (begun n) b in
         let c2 = lowered ns c.slots s2 f g d in
-        let r123 = locals_front ns c n.local (body_locals b ++ (ErrorType ∷ []) ++ body_locals d) (body_locals x) r in
+        let whole = try_room ns c b d (body_locals x) n.local r in
+        let r123 = locals_front ns c n.local (body_locals b ++ (ErrorType ∷ []) ++ body_locals d) (body_locals x) whole in
         let r12 = locals_front ns c n.local (body_locals b ++ (ErrorType ∷ [])) (body_locals d) r123 in
         let error = locals_after ns c b n.local (ErrorType ∷ []) r12 in
         let n12 : length (body_locals b ++ (ErrorType ∷ [])) ≡ suc (locals_in b) = omega (arith, length-append (body_locals b) (ErrorType ∷ []), locals_count b) in
@@ -400,11 +401,11 @@ module _ (base : Setting) (ns : Names) (c : ClassTree) (few_slots : length c.slo
         joined_fit w.hand (joined w.hand (joined (Some hand) c0 c1) c2) (lowered ns c.slots s w (begun j) x)
         (joined_fit w.hand (joined (Some hand) c0 c1) c2
         (joined_fit (Some hand) c0 c1 (ends_fit w s false [] (GotoLast n.block) refl refl)
-        (body_fit b l t e vs (Mark ∷ s) v (begun n) (stands_marked e vs s w.caught k) (record { exit = refl; again = p.again }) a (locals_front ns c n.local (body_locals b) (ErrorType ∷ []) r12) parts.0 ok.0 (neither_first (body_refusal e b) _ h)))
+        (body_fit b l t e vs (Mark ∷ s) v (begun n) (stands_marked e vs s w.caught k) (record { exit = refl; again = p.again }) a (locals_front ns c n.local (body_locals b) (ErrorType ∷ []) r12) parts.1 ok.0 (neither_first (body_refusal e b) _ h)))
         (body_fit d l true ec (vs ++ (u.name, ErrorType) ∷ []) s2 f g kc (record { exit = refl; again = p.again }) (omega arith, above_more ns c n.local g.local s (omega arith) a)
-        (locals_back ns c n.local g.local (body_locals b ++ (ErrorType ∷ [])) (body_locals d) (omega (arith, n12)) r123) parts.1 ok.1 (neither_first (body_refusal ec d) _ h2)))
+        (locals_back ns c n.local g.local (body_locals b ++ (ErrorType ∷ [])) (body_locals d) (omega (arith, n12)) r123) parts.2 ok.1 (neither_first (body_refusal ec d) _ h2)))
         (body_fit x l t (behind eb d) vs s w (begun j) (stands_behind eb d vs s w.caught kb) p (above_more ns c n.local j.local s (omega arith) a)
-        (locals_back ns c n.local j.local (body_locals b ++ (ErrorType ∷ []) ++ body_locals d) (body_locals x) (omega (arith, n123)) r) parts.2 ok.2 (neither_second (body_refusal ec d) _ h2))
+        (locals_back ns c n.local j.local (body_locals b ++ (ErrorType ∷ []) ++ body_locals d) (body_locals x) (omega (arith, n123)) whole) parts.3 ok.2 (neither_second (body_refusal ec d) _ h2))
     body_fit (ChooseStmt at bs x) l t e vs s w n k p a r parts ok h =
         let tr = w.looped.tried in
         let g = grouped n in
@@ -418,9 +419,9 @@ module _ (base : Setting) (ns : Names) (c : ClassTree) (few_slots : length c.slo
         let rb = locals_front ns c n.local (branch_locals bs) (body_locals x) r in
         let f0 : Fit c0 = record { body = refl; last = refl; more = refl; groups = both (list_all (callback_fits c places) ks) true (callbacks_fit bs l t e vs s w.caught tr g k a rb ok.0 hb) refl } in
         joined_fit w.hand (branches ns c.slots c0 s v g bs) (lowered ns c.slots s w (begun j) x)
-        (branches_fit bs l t e vs s v g c0 k (plain_inner w (Scoped (GotoLast j.block)) refl p) a rb parts.0 ok.0 hb f0)
+        (branches_fit bs l t e vs s v g c0 k (plain_inner w (Scoped (GotoLast j.block)) refl p) a rb parts.1 ok.0 hb f0)
         (body_fit x l t (with_states e (slot_names (branch_slots bs))) vs s w (begun j) (stands_states e (slot_names (branch_slots bs)) vs s w.caught k) p (above_more ns c n.local j.local s (omega arith) a)
-        (locals_back ns c n.local j.local (branch_locals bs) (body_locals x) (omega (arith, branch_locals_count bs)) r) parts.1 ok.1 (neither_second (branch_refusal e bs) _ m))
+        (locals_back ns c n.local j.local (branch_locals bs) (body_locals x) (omega (arith, branch_locals_count bs)) r) parts.2 ok.1 (neither_second (branch_refusal e bs) _ m))
     body_fit (DeclareStmt at i q x) l t e vs s w n k p a r parts ok h =
         let f = item at (declare_fault e.setting e.states i q) in
         let g = no_item at (declare_fault e.setting e.states i q) (neither_first f _ h) in
@@ -432,12 +433,12 @@ module _ (base : Setting) (ns : Names) (c : ClassTree) (few_slots : length c.slo
         let z = taken (Some i) n in
         acting_fit (declares ns c.slots s n.local i q) (lowered ns c.slots (with_into i n.local s) w z x) (declare_fits base ns c agree vs s k.sees n.local i q (own_place s n.local i vs k.sees pl) value)
         (body_fit x l t (declared e i) (vs ++ (i.name.name, i.ty) ∷ []) (with_into i n.local s) w z (stands_into e vs s w.caught n.local i k into pl) p (above_taken (Some i) n.local s a)
-        (locals_back ns c n.local z.local (declared_locals i) (body_locals x) (omega (arith, n1)) r) parts (subst (λ xs. InPlace c.slots l t xs x) (sym (names_with i.state i.name.name n.local s)) ok.1) (neither_second f _ h))
+        (locals_back ns c n.local z.local (declared_locals i) (body_locals x) (omega (arith, n1)) r) parts.1 (subst (λ xs. InPlace c.slots l t xs x) (sym (names_with i.state i.name.name n.local s)) ok.1) (neither_second f _ h))
     body_fit (AssignStmt at xs q x) l t e vs s w n k p a r parts ok h =
         let f = item at (assign_fault e.setting xs q) in
         let i = assigned ns c.slots s (path_over c.slots s xs) q in
         acting_fit (i ∷ []) (lowered ns c.slots s w n x) (both (instr_fits c places i) true (assign_fits base ns c agree vs s k.sees xs q (at_item e vs at (λ z. assign_fault z xs q) k.setting (neither_first f _ h))) refl)
-        (body_fit x l t e vs s w n k p a r parts ok (neither_second f _ h))
+        (body_fit x l t e vs s w n k p a r parts.1 ok (neither_second f _ h))
     body_fit (ModifyStmt at xs d x) l t e vs s w n k p a r parts ok h =
         let f = item at (modify_fault e.setting xs d) in
         acting_fit (changed ns c.slots s xs (change xs d)) (lowered ns c.slots s w n x) (change_fits base ns c agree vs s k.sees xs d (at_item e vs at (λ z. modify_fault z xs d) k.setting (neither_first f _ h)))
@@ -446,7 +447,7 @@ module _ (base : Setting) (ns : Names) (c : ClassTree) (few_slots : length c.slo
         let f = item at (call_fault e.setting xs es) in
         let i = ActInstr (act_over c.slots s xs) (over_all c.slots s es) in
         acting_fit (i ∷ []) (lowered ns c.slots s w n x) (both (instr_fits c places i) true (act_fits base ns c agree vs s k.sees xs es (at_item e vs at (λ z. call_fault z xs es) k.setting (neither_first f _ h))) refl)
-        (body_fit x l t e vs s w n k p a r parts ok (neither_second f _ h))
+        (body_fit x l t e vs s w n k p a r parts.1 ok (neither_second f _ h))
     body_fit (WaitStmt at u x) l t e vs s w n k p a r parts ok h =
         let f = item at (wait_fault e.setting e.states u) in
         let cb = callback ns c.slots s u n.local n.block in
@@ -459,7 +460,7 @@ module _ (base : Setting) (ns : Names) (c : ClassTree) (few_slots : length c.slo
         let f0 : Fit c0 = record { body = refl; last = refl; more = refl; groups = both (list_all (callback_fits c places) (cb ∷ [])) true (both (callback_fits c places cb) true i refl) refl } in
         joined_fit w.hand c0 (lowered ns c.slots s2 w z x) f0
         (body_fit x l t (waited e u.into) (waited_vars vs u.into) s2 w z (stands_taken e vs s w.caught n.local u.into k (into_of_wait e at u (neither_first f _ h)) a mine ok.0) p (above_taken u.into n.local s a)
-        (locals_back ns c n.local z.local (into_locals u.into) (body_locals x) (omega (arith, n1)) r) parts (subst (λ xs. InPlace c.slots l t xs x) (sym (names_taken ns c u.into n.local s)) ok.1) (neither_second f _ h))
+        (locals_back ns c n.local z.local (into_locals u.into) (body_locals x) (omega (arith, n1)) r) parts.1 (subst (λ xs. InPlace c.slots l t xs x) (sym (names_taken ns c u.into n.local s)) ok.1) (neither_second f _ h))
 
     callbacks_fit : (bs : Branches) (l t : Bool) (e : Env) (vs : List (List ℕ × TypeTree)) (s : Scope) (o : Option (List ℕ)) (tr : Bool) (n : Next) → Stands e vs s o → Above n.local s → LocalsAt ns c n.local (branch_locals bs) → AllInPlace c.slots l t (names s) bs
         → branch_refusal e bs ≡ None → list_all (callback_fits c places) (callbacks ns c.slots s tr n bs) ≡ true
@@ -495,7 +496,7 @@ module _ (base : Setting) (ns : Names) (c : ClassTree) (few_slots : length c.slo
         let n12 = length-append (into_locals u.into) (body_locals b) in
         let xs = slot_names (waited_slots u ++ body_slots b) in
         let k2 = stands_taken e vs s1 w.caught n.local u.into (stands_marked e vs s w.caught k) (into_of_wait e at u (neither_first i _ h)) a mine ok.0 in
-        let f2 = body_fit b l t (waited e u.into) (waited_vars vs u.into) s2 w z k2 p (above_taken u.into n.local s1 a) (locals_back ns c n.local z.local (into_locals u.into) (body_locals b) (omega (arith, n1)) r12) parts.0
+        let f2 = body_fit b l t (waited e u.into) (waited_vars vs u.into) s2 w z k2 p (above_taken u.into n.local s1 a) (locals_back ns c n.local z.local (into_locals u.into) (body_locals b) (omega (arith, n1)) r12) parts.1
         (subst (λ ys. InPlace c.slots l t ys b) (sym (names_taken ns c u.into n.local s1)) ok.1) (neither_first (body_refusal (waited e u.into) b) _ m) in
         branches_fit bs l t (with_states e xs) vs s w j (joined w.hand ch d) (stands_states e xs vs s w.caught k) p (above_more ns c n.local j.local s (omega arith) a)
-        (locals_back ns c n.local j.local (into_locals u.into ++ body_locals b) (branch_locals bs) (omega (arith, n1, n12, locals_count b)) r) parts.1 ok.2 (neither_second (body_refusal (waited e u.into) b) _ m) (joined_fit w.hand ch d f f2)
+        (locals_back ns c n.local j.local (into_locals u.into ++ body_locals b) (branch_locals bs) (omega (arith, n1, n12, locals_count b)) r) parts.2 ok.2 (neither_second (body_refusal (waited e u.into) b) _ m) (joined_fit w.hand ch d f f2)

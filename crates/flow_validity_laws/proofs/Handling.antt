@@ -30,7 +30,7 @@ use Rattle.flow_split.proofs.Lengths.{lowered_more, lowered_groups}
 use Rattle.flow_valid.specs.Validity.{calls_effect}
 use Rattle.flow_lowering_laws.proofs.Actors.Standing.{locals_front, locals_back}
 use Rattle.flow_lowering_laws.proofs.Actors.Around.{above_more}
-use Rattle.flow_lowering_laws.proofs.Actors.Further.{locals_count, locals_after}
+use Rattle.flow_lowering_laws.proofs.Actors.Further.{locals_count, locals_after, try_room}
 use Rattle.flow_typing_laws.proofs.Typing.Agreement.{neither_first, neither_second}
 use Rattle.flow_validity_laws.proofs.OverPlaces.{over_names}
 use Rattle.flow_validity_laws.proofs.InForce.{New}
@@ -125,7 +125,8 @@ module _ (base : Setting) (ns : Names) (c : ClassTree) (few_slots : length c.slo
       let h2 = neither_second i _ h1 in
       let stb = stands_behind base ns c few_slots few_locals agree e b rows s w.caught said.stands in
       let new = is_new (over_names base c rows) eb.states false y.name (at_item base ns c few_slots few_locals agree e rows spot (λ z. rule_fresh z eb.states false y.name) said.stands.setting (neither_first i _ h1)) in
-      let room123 = locals_front ns c n.local (body_locals b ++ (ErrorType ∷ []) ++ body_locals o) (body_locals x) said.room in
+      let whole = try_room ns c b o (body_locals x) n.local said.room in
+      let room123 = locals_front ns c n.local (body_locals b ++ (ErrorType ∷ []) ++ body_locals o) (body_locals x) whole in
       let room12 = locals_front ns c n.local (body_locals b ++ (ErrorType ∷ [])) (body_locals o) room123 in
       let error = locals_after ns c b n.local (ErrorType ∷ []) room12 in
       let own = slice_get_within c.locals m.local ErrorType error.0 in
@@ -162,8 +163,8 @@ module _ (base : Setting) (ns : Names) (c : ClassTree) (few_slots : length c.slo
         stands = (let z = stands_marked base ns c few_slots few_locals agree e rows s w.caught said.stands in record { setting = z.setting; returns = z.returns; sees = z.sees; caught = z.caught });
         above = said.above;
         room = locals_front ns c n.local (body_locals b) (ErrorType ∷ []) room12;
-        parts = said.parts.0;
-        paths = said.paths.0;
+        parts = said.parts.1;
+        paths = said.paths.1;
         placed = said.placed.0;
         judged = neither_first (body_refusal e b) _ said.judged;
       })
@@ -173,9 +174,9 @@ module _ (base : Setting) (ns : Names) (c : ClassTree) (few_slots : length c.slo
       (record {
         stands = stands_behind base ns c few_slots few_locals agree eb o rows s w.caught stb;
         above = above_more ns c n.local j.local s (omega arith) said.above;
-        room = locals_back ns c n.local j.local (body_locals b ++ (ErrorType ∷ []) ++ body_locals o) (body_locals x) (omega (arith, n123)) said.room;
-        parts = said.parts.2;
-        paths = said.paths.2;
+        room = locals_back ns c n.local j.local (body_locals b ++ (ErrorType ∷ []) ++ body_locals o) (body_locals x) (omega (arith, n123)) whole;
+        parts = said.parts.3;
+        paths = said.paths.3;
         placed = said.placed.2;
         judged = neither_second (body_refusal ec o) _ h2;
       })
@@ -201,8 +202,8 @@ module _ (base : Setting) (ns : Names) (c : ClassTree) (few_slots : length c.slo
         stands = stands2;
         above = (omega arith, above_more ns c n.local gg.local s (omega arith) said.above);
         room = locals_back ns c n.local gg.local (body_locals b ++ (ErrorType ∷ [])) (body_locals o) (omega (arith, n12)) room123;
-        parts = said.parts.1;
-        paths = said.paths.1;
+        parts = said.parts.2;
+        paths = said.paths.2;
         placed = said.placed.1;
         judged = neither_first (body_refusal ec o) _ h2;
       })

@@ -163,31 +163,11 @@ module _ (base : Setting) (ns : Names) (c : ClassTree) (agree : (f : List ℕ) �
 
   effect_same : (e : ExprTree) → is_there (effect_in ns e) ≡ is_effect names e
   effect_same (CallExpr f es) = mapped_there (λ g. (g, es)) (effectful ns f.name) ∙ agree f.name
-  effect_same (IntExpr n) = refl
-  effect_same (TextExpr t) = refl
-  effect_same (BoolExpr b) = refl
-  effect_same VoidExpr = refl
-  effect_same (VarExpr x) = refl
-  effect_same (FieldExpr e x) = refl
-  effect_same (MethodExpr e m es) = refl
-  effect_same (NotExpr e) = refl
-  effect_same (NegExpr e) = refl
-  effect_same (BinaryExpr op a b) = refl
-  effect_same (ParenExpr e) = refl
+  effect_same _ = refl
 
   effect_over : (e : ExprTree) → is_effect places (over c.slots s e) ≡ is_effect names e
   effect_over (CallExpr f es) = refl
-  effect_over (IntExpr n) = refl
-  effect_over (TextExpr t) = refl
-  effect_over (BoolExpr b) = refl
-  effect_over VoidExpr = refl
-  effect_over (VarExpr x) = refl
-  effect_over (FieldExpr e x) = refl
-  effect_over (MethodExpr e m es) = refl
-  effect_over (NotExpr e) = refl
-  effect_over (NegExpr e) = refl
-  effect_over (BinaryExpr op a b) = refl
-  effect_over (ParenExpr e) = refl
+  effect_over _ = refl
 
   -- what is put at a path, by whether it is an effect
   put_by : (path : List Ident) (e : ExprTree) → fault names true e ≡ None → ((effect : Bool) → fault names effect e ≡ None → put_fault places effect path (over c.slots s e) ≡ None) → instr_fits c places (assigned ns c.slots s path e) ≡ true

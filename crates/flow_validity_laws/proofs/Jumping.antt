@@ -45,7 +45,7 @@ use Rattle.flow_validity_laws.proofs.Entries.{Aim, Lies, Entries, enters, catche
 use Rattle.flow_validity_laws.proofs.Surroundings.{Aims, behind_once, lists_from, LastWay, Sides, sides_right, sides_first, hand_fact, lists_kept}
 use Rattle.flow_validity_laws.proofs.Reading.{whole_in}
 use Rattle.flow_validity_laws.proofs.Grounds.{here_aim, Ground, ground_inner, live_to, leaf, exits_here}
-use Rattle.flow_validity_laws.proofs.Choosing.{none_behind}
+use Rattle.flow_split.proofs.Lengths.{none_behind}
 use Rattle.flow_validity_laws.proofs.Grounds.{no_aim, lies_nowhere}
 use Rattle.flow_validity_laws.proofs.Alive.{Rows, Thrown, thrown_marked, Outer, Lives, rest_lives}
 
@@ -201,8 +201,8 @@ module _ (base : Setting) (ns : Names) (c : ClassTree) (few_slots : length c.slo
         stands = stands_marked base ns c few_slots few_locals agree e rows s w.caught said.stands;
         above = said.above;
         room = locals_front ns c n.local (body_locals b) (body_locals x) said.room;
-        parts = said.parts.0;
-        paths = said.paths.0;
+        parts = said.parts.1;
+        paths = said.paths.1;
         placed = said.placed.0;
         judged = neither_first (body_refusal e b) _ said.judged;
       })
@@ -213,8 +213,8 @@ module _ (base : Setting) (ns : Names) (c : ClassTree) (few_slots : length c.slo
         stands = stands_behind base ns c few_slots few_locals agree e b rows s w.caught said.stands;
         above = above_more ns c n.local j.local s (omega arith) said.above;
         room = locals_after ns c b n.local (body_locals x) said.room;
-        parts = said.parts.1;
-        paths = said.paths.1;
+        parts = said.parts.2;
+        paths = said.paths.2;
         placed = said.placed.1;
         judged = neither_second (body_refusal e b) _ said.judged;
       })

@@ -288,10 +288,6 @@ module _ (base : Setting) (c : ClassTree) where
 
       mutual
         pub expr_in : (whole : Bool) (e : ExprTree) → fault (over_names base c rows) whole e ≡ None → AllFresh (expr_uses vs p e) → AllIn (expr_places (over c.slots s e)) set
-        expr_in whole (IntExpr n) f h = in_none set
-        expr_in whole (TextExpr t) f h = in_none set
-        expr_in whole (BoolExpr b) f h = in_none set
-        expr_in whole VoidExpr f h = in_none set
         expr_in whole (VarExpr x) f h = var_in x (named constant_names x.name) refl (holds _ UNKNOWN_NAME f) h
         expr_in whole (CallExpr g es) f h =
             let n = over_names base c rows in
@@ -317,6 +313,7 @@ module _ (base : Setting) (c : ClassTree) where
             let ws = expr_uses vs p b in
             in_both set (expr_places (over c.slots s a)) (expr_places (over c.slots s b)) (expr_in false a (no_first (fault n false a) (fault n false b) r) (fresh_left us ws h)) (expr_in false b (no_second (fault n false a) (fault n false b) r) (fresh_right us ws h))
         expr_in whole (ParenExpr e) f h = expr_in false e f h
+        expr_in whole _ f h = in_none set
 
         pub exprs_in : (k : ℕ) (needs : List Need) (es : ExprTrees) → faults (over_names base c rows) k needs es ≡ None → AllFresh (exprs_uses vs p es) → AllIn (exprs_places (over_all c.slots s es)) set
         exprs_in k needs NoExprs f h = in_none set

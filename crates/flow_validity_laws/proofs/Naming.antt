@@ -192,10 +192,6 @@ module _ (c : ClassTree) (few_slots : length c.slots < 2 ^ 64) (few_locals : len
 
     mutual
       pub expr_there : (e : ExprTree) → There (expr_places (over c.slots s e))
-      expr_there (IntExpr n) = refl
-      expr_there (TextExpr t) = refl
-      expr_there (BoolExpr b) = refl
-      expr_there VoidExpr = refl
       expr_there (VarExpr x) = by_constant (named constant_names x.name) x.name refl
       expr_there (CallExpr f es) = exprs_there es
       expr_there (FieldExpr e x) = expr_there e
@@ -204,6 +200,7 @@ module _ (c : ClassTree) (few_slots : length c.slots < 2 ^ 64) (few_locals : len
       expr_there (NegExpr e) = expr_there e
       expr_there (BinaryExpr op a b) = there_both (expr_places (over c.slots s a)) (expr_places (over c.slots s b)) (expr_there a) (expr_there b)
       expr_there (ParenExpr e) = expr_there e
+      expr_there _ = refl
 
       pub exprs_there : (es : ExprTrees) → There (exprs_places (over_all c.slots s es))
       exprs_there NoExprs = refl

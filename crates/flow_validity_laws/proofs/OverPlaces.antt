@@ -60,17 +60,11 @@ module _ (base : Setting) (c : ClassTree) where
 
     placed_same : (whole : Bool) (k : Kind) → placed over_class whole k ≡ placed (over_names vs) whole k
     placed_same whole Value = refl
-    placed_same whole OfFunction = refl
-    placed_same whole Clock = refl
-    placed_same whole Effect = refl
-    placed_same whole Statement = refl
+    placed_same whole _ = refl
 
     said_same : (k : Kind) → said over_class k ≡ said (over_names vs) k
     said_same Value = refl
-    said_same OfFunction = refl
-    said_same Clock = refl
-    said_same Effect = refl
-    said_same Statement = refl
+    said_same _ = refl
 
     pub path_form_same : (xs : List Ident) (o : Option TypeTree) → path_form over_class o xs ≡ path_form (over_names vs) o xs
     path_form_same [] o = refl
@@ -112,10 +106,6 @@ module _ (base : Setting) (c : ClassTree) where
 
     mutual
       pub same : (whole : Bool) (e : ExprTree) → fault (over_names vs) whole e ≡ None → IsSame whole e
-      same whole (IntExpr n) h = record { by_form = refl; sound = refl }
-      same whole (TextExpr t) h = record { by_form = refl; sound = refl }
-      same whole (BoolExpr b) h = record { by_form = refl; sound = refl }
-      same whole VoidExpr h = record { by_form = refl; sound = refl }
       same whole (VarExpr x) h =
           let f = by_constant x.name (named constant_names x.name) refl (holds (is_there (variable_form (over_names vs) x.name)) UNKNOWN_NAME h) in
           record { by_form = f; sound = ap (λ o. unless (is_there o) UNKNOWN_NAME) f ∙ h }
@@ -170,6 +160,7 @@ module _ (base : Setting) (c : ClassTree) where
                 (no_lesser (fault over_class false (over c.slots s a)) (fault over_class false (over c.slots s b)) i.sound j.sound) (ap₂ (operands op) i.by_form j.by_form ∙ no_second l o h);
           }
       same whole (ParenExpr e) h = let i = same false e h in record { by_form = i.by_form; sound = i.sound }
+      same whole _ h = record { by_form = refl; sound = refl }
 
       pub all_same : (k : ℕ) (ns : List Need) (es : ExprTrees) → faults (over_names vs) k ns es ≡ None → faults over_class k ns (over_all c.slots s es) ≡ None
       all_same k ns NoExprs h = refl
@@ -293,14 +284,4 @@ module _ (base : Setting) (c : ClassTree) where
         let o = called (over_names vs) f.name in
         let l = faults (over_names vs) 0 (needs_of o) es in
         no_lesser l (calls es o (placed (over_names vs) false)) (no_first l (calls es o (placed (over_names vs) true)) h) (quiet_calls es o q (no_second l (calls es o (placed (over_names vs) true)) h))
-    quiet (IntExpr n) q h = h
-    quiet (TextExpr t) q h = h
-    quiet (BoolExpr b) q h = h
-    quiet VoidExpr q h = h
-    quiet (VarExpr x) q h = h
-    quiet (FieldExpr e x) q h = h
-    quiet (MethodExpr e m es) q h = h
-    quiet (NotExpr e) q h = h
-    quiet (NegExpr e) q h = h
-    quiet (BinaryExpr op a b) q h = h
-    quiet (ParenExpr e) q h = h
+    quiet _ q h = h

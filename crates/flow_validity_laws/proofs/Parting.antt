@@ -51,7 +51,7 @@ use Rattle.flow_validity_laws.proofs.Grounds.{lies_past, from_scope}
 use Rattle.flow_validity_laws.proofs.Alive.{thrown_into}
 use Rattle.flow_validity_laws.proofs.Choosings.{jump_leaf, IsJump}
 use Rattle.flow_split.specs.Lowered.{tested, test_before, dropping, later}
-use Rattle.flow_lowering_laws.specs.Actors.Parts.{IsStep, IsInit}
+use Rattle.flow_tree.specs.Formed.{IsStep, IsInit}
 use Rattle.flow_lowering_laws.specs.Actors.InPlace.{started as place_started}
 use Rattle.flow_rules.specs.Items.{started}
 use Rattle.flow_staterule.specs.Uses.{declaring}
@@ -200,7 +200,7 @@ module _ (base : Setting) (ns : Names) (c : ClassTree) (few_slots : length c.slo
             (λ z cover. assign_in base ns c rows s st.sees vs gs n.local g.line p g.start z cover xs q good (fresh_left (target_uses vs p xs ++ expr_uses vs p q) [] fresh))
             (λ z cover. covers_after i z gs p.stale (keeps_assigned base ns c s (path_over c.slots s xs) q) cover) ex jump meets;
       }
-  opens (ModifyStmt at [] d End) l t e rows vs gs s w n p a cu k is st above room paths placed judged g th fresh = absurd is
+  opens (ModifyStmt at [] d End) l t e rows vs gs s w n p a cu k is st above room paths placed judged g th fresh = absurd paths.0
   opens (ModifyStmt at (x ∷ xs) d End) l t e rows vs gs s w n p a cu k is st above room paths placed judged g th fresh =
       let f = item at (modify_fault e.setting (x ∷ xs) d) in
       let good = at_item base ns c few_slots few_locals agree e rows at (λ z. modify_fault z (x ∷ xs) d) st.setting (neither_first f _ judged) in

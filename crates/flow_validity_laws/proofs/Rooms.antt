@@ -11,7 +11,8 @@ use Rattle.flow_meaning.specs.Evaluating.{Names}
 use Rattle.flow_split.specs.Around.{Exit, Text, Scoped, Part, Hand, Around, inner, pass, guarded, handling}
 use Rattle.flow_split.specs.Counts.{Next, begun, behind, blocks_in, local_count, into_count, locals_in, groups_in}
 use Rattle.flow_split.specs.Lowered.{Chunk, joined, before_rest, with_local, with_into, with_taken, later, lowered}
-use Rattle.flow_lowering_laws.specs.Actors.Parts.{IsInit, HasParts}
+use Rattle.flow_tree.specs.Formed.{IsInit}
+use Rattle.flow_lowering_laws.specs.Actors.Parts.{HasParts}
 use Rattle.flow_lowering_laws.specs.Actors.InPlace.{InPlace}
 use Rattle.flow_lowering_laws.proofs.Actors.Standing.{LocalsAt}
 use Rattle.flow_validity_laws.proofs.Naming.{Falling, falling_more}

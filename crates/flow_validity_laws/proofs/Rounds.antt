@@ -125,8 +125,8 @@ module _ (base : Setting) (ns : Names) (c : ClassTree) (few_slots : length c.slo
       let u = sequence first lp in
       let vx = ways kx x in
       let st4 = (behind (length vs) p u.ends).stale in
-      let is_init = said.parts.0 in
-      let is_step = said.parts.1 in
+      let is_init = said.parts.0.0 in
+      let is_step = said.parts.0.1 in
       let step_init = step_is_init d is_step in
       let once = part_ends k i is_init in
       let same : u.ends ≡ lp.ends = ap (λ z. onward z lp.ends) once in
@@ -169,7 +169,7 @@ module _ (base : Setting) (ns : Names) (c : ClassTree) (few_slots : length c.slo
       let kin = stands_marked base ns c few_slots few_locals agree e rows s w.caught said.stands in
       let av : Aims = record a { end = here_aim gs p.stale n.local } in
       let gv = ground_inner base ns c few_slots few_locals w f s n.local n.local rows vs gs p p a p.stale (omega arith) g.start g in
-      let op = opens base ns c few_slots few_locals agree i l t e rows vs gs s1 v n p av cu k is_init kin said.above r1 said.paths.0 said.placed.0 (neither_first (body_refusal e i) _ said.judged) gv (thrown_marked base ns c few_slots few_locals agree rows gs s cu w.caught e.caught th)
+      let op = opens base ns c few_slots few_locals agree i l t e rows vs gs s1 v n p av cu k is_init kin said.above r1 said.paths.1 said.placed.0 (neither_first (body_refusal e i) _ said.judged) gv (thrown_marked base ns c few_slots few_locals agree rows gs s cu w.caught e.caught th)
       (fresh_left us0 us1 fresh01) in
       let rows2 = op.rows in
       let hs = op.places in
@@ -199,8 +199,8 @@ module _ (base : Setting) (ns : Names) (c : ClassTree) (few_slots : length c.slo
         stands = past_s;
         above = above_more ns c n.local o.local s (omega (arith, tl)) said.above;
         room = r4;
-        parts = said.parts.3;
-        paths = said.paths.3;
+        parts = said.parts.4;
+        paths = said.paths.4;
         placed = said.placed.3;
         judged = neither_second (body_refusal e2 b) _ m3;
       })
@@ -213,8 +213,8 @@ module _ (base : Setting) (ns : Names) (c : ClassTree) (few_slots : length c.slo
         stands = stands_marked base ns c few_slots few_locals agree e2 rows2 sc w.caught (stands_loop base ns c few_slots few_locals agree (rule_behind e' d) rows2 sc w.caught (stands_behind base ns c few_slots few_locals agree e' d rows2 sc w.caught op.stands));
         above = a2;
         room = r2;
-        parts = said.parts.2;
-        paths = said.paths.2;
+        parts = said.parts.3;
+        paths = said.paths.3;
         placed = subst (λ xs. InPlace c.slots true t xs b) (sym op.called_so) said.placed.2;
         judged = neither_first (body_refusal e2 b) _ m3;
       })
@@ -235,7 +235,7 @@ module _ (base : Setting) (ns : Names) (c : ClassTree) (few_slots : length c.slo
       (ap (λ z. suc j.block + z) (lowered_more ns c.slots sc v (begun j) d)) (ap (λ z. j.group + z) (lowered_groups ns c.slots sc v (begun j) d))
       (λ h en z. (z.0, hand_onward c en w.hand a.hand (length vs2) hp (round r) step.throws h z.1))
       (λ h.
-      let os = opens base ns c few_slots few_locals agree d l t e' rows2 vs2 hs sc v (begun j) sp av cu kl step_init op.stands (above_more ns c gg.local j.local sc (omega arith) a2) r3 said.paths.1
+      let os = opens base ns c few_slots few_locals agree d l t e' rows2 vs2 hs sc v (begun j) sp av cu kl step_init op.stands (above_more ns c gg.local j.local sc (omega arith) a2) r3 said.paths.2
       (subst (λ xs. InPlace c.slots l t xs d) (sym op.called_so) said.placed.1) (neither_first (body_refusal e' d) _ m2)
       (ground_past base ns c few_slots few_locals v sc hd.local j.local rows2 vs2 hs p sp av (omega (arith, tl)) ((behind_is (length vs2) hp (round r) h).from ∙ reach_hp) op.ground) op.thrown (fresh_right (us0 ++ us1) us2 fresh012) in
       let ps = os.same is_step in
@@ -267,5 +267,5 @@ module _ (base : Setting) (ns : Names) (c : ClassTree) (few_slots : length c.slo
       }))
       (λ en z i1 i2 i3. (i1, hand_right c en w.hand a.hand hp r.throws (onward (round r) step.throws) (body_hand base ns c few_slots few_locals agree en w.hand a.hand (length vs2) p big (around en z.0)))) in
       live_to base ns c few_slots few_locals w.hand a.hand gs p.stale outer n.block (suc o.block + blocks_in tr x) (n.block + (blocks_in tr i + test_blocks q + suc (blocks_in false b) + suc (blocks_in tr d) + suc (blocks_in tr x))) n.group (o.group + groups_in x)
-      (n.group + (groups_in i + groups_in b + groups_in d + groups_in x)) (joined w.hand (joined w.hand (joined w.hand c1 c2) c3) c4) (omega (arith, tb)) (omega (arith, tg))
+      (n.group + (groups_in i + groups_in d + groups_in b + groups_in x)) (joined w.hand (joined w.hand (joined w.hand c1 c2) c3) c4) (omega (arith, tb)) (omega (arith, tg))
       (join c w.hand w.hand a.hand gs p.stale outer near1 outer n.block o.block (suc o.block + blocks_in tr x) n.group o.group (o.group + groups_in x) (joined w.hand (joined w.hand c1 c2) c3) c4 all_rounds rx.later (λ en z is. (z, is)) (λ en z is. z))

@@ -13,11 +13,11 @@ use Rattle.flow_meaning.specs.Evaluating.{Names}
 use Rattle.flow_split.specs.Around.{Exit, Text, Scoped, Part, Hand, Around, inner, pass, guarded, handling}
 use Rattle.flow_split.specs.Counts.{Next, begun, past, behind, exit_blocks, blocks_in, locals_in, groups_in}
 use Rattle.flow_split.specs.Lowered as lowering
-use Rattle.flow_split.specs.Lowered.{Chunk, joined, ends, acting, finished, exits, exited, with_into, with_taken, later, tested, assigned, changed, taken_in, declares, thrown, callback, callbacks, test_before, lowered, branches, drop_of}
+use Rattle.flow_split.specs.Lowered.{joined, ends, finished, exits, exited, thrown, lowered, drop_of}
 use Rattle.flow_lowering_laws.specs.Actors.Parts.{HasParts}
 use Rattle.flow_lowering_laws.specs.Actors.InPlace.{InPlace}
 use Rattle.flow_lowering_laws.proofs.Actors.Standing.{LocalsAt, locals_front, locals_back}
-use Rattle.flow_lowering_laws.proofs.Actors.Further.{locals_count, locals_after, exited_local, exited_group}
+use Rattle.flow_lowering_laws.proofs.Actors.Further.{locals_count, locals_after, exited_local, exited_group, try_room}
 use Rattle.flow_validity_laws.proofs.Naming.{Falling, falling_more, scope_falls, falling_knows, expr_there, thrown_there, drop_named, Knows}
 use Rattle.flow_validity_laws.proofs.Chunks.{good_up_to, HandGood, Leads, LastGood, joined_good, ends_good, goto_good, pass_good, leads_good, test_good, exits_good}
 use Rattle.flow_validity_laws.proofs.Rooms.{GoodHere, ExitGood, Fits, fits_scoped, fits_handling, fits_guarded, fits_loop, Room, Kept, rest_kept, dead_kept}
@@ -65,7 +65,7 @@ module _ (ns : Names) (c : ClassTree) (few_slots : length c.slots < 2 ^ 64) (few
         first = room.first;
         types = locals_front ns c n.local (body_locals b) (body_locals k) room.types;
       })
-      fall lt parts.0 ok.0 in
+      fall lt parts.1 ok.0 in
       let g = rest_kept ns c few_slots few_locals k rest l t xs s w n j m e c1 fits
       (record {
         blocks = omega (arith, room.blocks);
@@ -74,7 +74,7 @@ module _ (ns : Names) (c : ClassTree) (few_slots : length c.slots < 2 ^ 64) (few
         first = omega (arith, room.first);
         types = locals_after ns c b n.local (body_locals k) room.types;
       })
-      fall (omega arith) parts.1 ok.1 g1 in
+      fall (omega arith) parts.2 ok.1 g1 in
       good_up_to c few_slots few_locals m n.block (suc j.block + blocks_in d k) (n.block + (blocks_in d b + suc (blocks_in d k))) (joined w.hand c1 (lowered ns c.slots s w (begun j) k)) (omega arith) g
 
   -- a test in the block at hand
@@ -100,7 +100,7 @@ module _ (ns : Names) (c : ClassTree) (few_slots : length c.slots < 2 ^ 64) (few
         first = room.first;
         types = locals_front ns c n.local (body_locals b) (body_locals k) room.types;
       })
-      fall (omega arith) parts.0 ok.0 in
+      fall (omega arith) parts.1 ok.0 in
       let g01 = joined_good c few_slots few_locals e m n.block n.block j.block w.hand c0 c1 fits.hand (omega (arith, room.blocks)) g0 g1 in
       let g = rest_kept ns c few_slots few_locals k rest l t xs s w n j m e (joined w.hand c0 c1) fits
       (record {
@@ -110,7 +110,7 @@ module _ (ns : Names) (c : ClassTree) (few_slots : length c.slots < 2 ^ 64) (few
         first = omega (arith, room.first);
         types = locals_after ns c b n.local (body_locals k) room.types;
       })
-      fall (omega arith) parts.1 ok.1 g01 in
+      fall (omega arith) parts.2 ok.1 g01 in
       good_up_to c few_slots few_locals m n.block (suc j.block + blocks_in d k) (n.block + (suc (blocks_in d b) + suc (blocks_in d k))) (joined w.hand (joined w.hand c0 c1) (lowered ns c.slots s w (begun j) k)) (omega arith) g
 
   pub if_else_kept : (at : Place) (q : ExprTree) (b o k : Body) → Keeps b → Keeps o → Keeps k → Keeps (IfElseStmt at q b o k)
@@ -133,7 +133,7 @@ module _ (ns : Names) (c : ClassTree) (few_slots : length c.slots < 2 ^ 64) (few
         first = room.first;
         types = locals_front ns c n.local (body_locals b) (body_locals o) types12;
       })
-      fall (omega arith) parts.0 ok.0 in
+      fall (omega arith) parts.1 ok.0 in
       let g2 = other l t xs (Mark ∷ s) v (begun i) i.block j.block (fits_scoped ns c few_slots few_locals l e j.block j.block w (omega (arith, room.blocks)) (omega arith) (omega (arith, room.blocks, fits.within)) fits)
       (record {
         blocks = omega arith;
@@ -142,7 +142,7 @@ module _ (ns : Names) (c : ClassTree) (few_slots : length c.slots < 2 ^ 64) (few
         first = omega (arith, room.first);
         types = locals_after ns c b n.local (body_locals o) types12;
       })
-      (falling_more n.local i.local s (omega arith) fall) (omega arith) parts.1 ok.1 in
+      (falling_more n.local i.local s (omega arith) fall) (omega arith) parts.2 ok.1 in
       let g01 = joined_good c few_slots few_locals e m n.block n.block i.block w.hand c0 c1 fits.hand (omega (arith, room.blocks)) g0 g1 in
       let g012 = joined_good c few_slots few_locals e m n.block i.block j.block w.hand (joined w.hand c0 c1) c2 fits.hand (omega (arith, room.blocks)) g01 g2 in
       let g = rest_kept ns c few_slots few_locals k rest l t xs s w n j m e (joined w.hand (joined w.hand c0 c1) c2) fits
@@ -153,7 +153,7 @@ module _ (ns : Names) (c : ClassTree) (few_slots : length c.slots < 2 ^ 64) (few
         first = omega (arith, room.first);
         types = locals_back ns c n.local j.local (body_locals b ++ body_locals o) (body_locals k) (omega (arith, sizes)) room.types;
       })
-      fall (omega arith) parts.2 ok.2 g012 in
+      fall (omega arith) parts.3 ok.2 g012 in
       good_up_to c few_slots few_locals m n.block (suc j.block + blocks_in d k) (n.block + (suc (blocks_in d b) + suc (blocks_in d o) + suc (blocks_in d k)))
       (joined w.hand (joined w.hand (joined w.hand c0 c1) c2) (lowered ns c.slots s w (begun j) k)) (omega arith) g
 
@@ -180,7 +180,7 @@ module _ (ns : Names) (c : ClassTree) (few_slots : length c.slots < 2 ^ 64) (few
         first = room.first;
         types = locals_front ns c n.local (body_locals b) (body_locals k) room.types;
       })
-      fall (omega arith) parts.0 ok.0 in
+      fall (omega arith) parts.1 ok.0 in
       let g01 = joined_good c few_slots few_locals e m n.block n.block h.block w.hand c0 c1 fits.hand (omega (arith, room.blocks)) g0 g1 in
       let g012 = joined_good c few_slots few_locals e m n.block h.block j.block w.hand (joined w.hand c0 c1) c2 fits.hand (omega (arith, room.blocks)) g01 g2 in
       let g = rest_kept ns c few_slots few_locals k rest l t xs s w n j m e (joined w.hand (joined w.hand c0 c1) c2) fits
@@ -191,7 +191,7 @@ module _ (ns : Names) (c : ClassTree) (few_slots : length c.slots < 2 ^ 64) (few
         first = omega (arith, room.first);
         types = locals_after ns c b n.local (body_locals k) room.types;
       })
-      fall (omega arith) parts.1 ok.1 g012 in
+      fall (omega arith) parts.2 ok.1 g012 in
       good_up_to c few_slots few_locals m n.block (suc j.block + blocks_in w.looped.tried k) (n.block + (1 + suc (blocks_in false b) + suc (blocks_in w.looped.tried k)))
       (joined w.hand (joined w.hand (joined w.hand c0 c1) c2) (lowered ns c.slots s w (begun j) k)) (omega arith) g
 
@@ -211,7 +211,7 @@ module _ (ns : Names) (c : ClassTree) (few_slots : length c.slots < 2 ^ 64) (few
         first = room.first;
         types = locals_front ns c n.local (body_locals b) (body_locals k) room.types;
       })
-      fall (omega arith) parts.0 ok.0 in
+      fall (omega arith) parts.1 ok.0 in
       let g01 = joined_good c few_slots few_locals e m n.block n.block j.block w.hand c0 c1 fits.hand (omega (arith, room.blocks)) g0 g1 in
       let g = rest_kept ns c few_slots few_locals k rest l t xs s w n j m e (joined w.hand c0 c1) fits
       (record {
@@ -221,7 +221,7 @@ module _ (ns : Names) (c : ClassTree) (few_slots : length c.slots < 2 ^ 64) (few
         first = omega (arith, room.first);
         types = locals_after ns c b n.local (body_locals k) room.types;
       })
-      fall (omega arith) parts.1 ok.1 g01 in
+      fall (omega arith) parts.2 ok.1 g01 in
       good_up_to c few_slots few_locals m n.block (suc j.block + blocks_in w.looped.tried k) (n.block + (suc (blocks_in false b) + suc (blocks_in w.looped.tried k)))
       (joined w.hand (joined w.hand c0 c1) (lowered ns c.slots s w (begun j) k)) (omega arith) g
 
@@ -248,11 +248,11 @@ module _ (ns : Names) (c : ClassTree) (few_slots : length c.slots < 2 ^ 64) (few
 
   pub break_kept : (at : Place) (k : Body) → Keeps k → Keeps (BreakStmt at k)
   break_kept at k rest l t xs s w n m e fits room fall lt parts ok =
-      exit_kept k rest l t xs s w n m e (GotoLast w.looped.out) (fits.out ok.0) fits room.blocks room.locals room.groups room.first room.types fall lt parts ok.1
+      exit_kept k rest l t xs s w n m e (GotoLast w.looped.out) (fits.out ok.0) fits room.blocks room.locals room.groups room.first room.types fall lt parts.1 ok.1
 
   pub continue_kept : (at : Place) (k : Body) → Keeps k → Keeps (ContinueStmt at k)
   continue_kept at k rest l t xs s w n m e fits room fall lt parts ok =
-      exit_kept k rest l t xs s w n m e w.looped.again (fits.again ok.0) fits room.blocks room.locals room.groups room.first room.types fall lt parts ok.1
+      exit_kept k rest l t xs s w n m e w.looped.again (fits.again ok.0) fits room.blocks room.locals room.groups room.first room.types fall lt parts.1 ok.1
 
   -- a return or a throw
   leave_kept : (k : Body) → Keeps k → (l t : Bool) (xs : List (List ℕ)) (s : Scope) (w : Around) (n : Next) (m e : ℕ) (last : LastTree) → LastGood c few_slots few_locals m last → FitsHere l e w
@@ -267,13 +267,13 @@ module _ (ns : Names) (c : ClassTree) (few_slots : length c.slots < 2 ^ 64) (few
   pub return_kept : (at : Place) (q : ExprTree) (k : Body) → Keeps k → Keeps (ReturnStmt at q k)
   return_kept at q k rest l t xs s w n m e fits room fall lt parts ok =
       leave_kept k rest l t xs s w n m e (ReturnLast (over c.slots s q)) (record { named = expr_there c few_slots few_locals s (knows n.local s (omega (arith, room.locals)) fall) q; on = refl })
-      fits room.blocks room.locals room.groups room.first room.types fall parts ok
+      fits room.blocks room.locals room.groups room.first room.types fall parts.1 ok
 
   pub throw_kept : (at : Place) (q : Option ExprTree) (k : Body) → Keeps k → Keeps (ThrowStmt at q k)
   throw_kept at q k rest l t xs s w n m e fits room fall lt parts ok =
       leave_kept k rest l t xs s w n m e (ThrowLast (thrown ns c.slots s at q w.caught))
       (record { named = thrown_there c few_slots few_locals s (knows n.local s (omega (arith, room.locals)) fall) ns at q w.caught; on = refl })
-      fits room.blocks room.locals room.groups room.first room.types fall parts ok.1
+      fits room.blocks room.locals room.groups room.first room.types fall parts.1 ok.1
 
   pub try_kept : (at place : Place) (u : Ident) (b o k : Body) → Keeps b → Keeps o → Keeps k → Keeps (TryStmt at b place u o k)
   try_kept at place u b o k body handler rest l t xs s w n m e fits room fall lt parts ok =
@@ -289,7 +289,8 @@ module _ (ns : Names) (c : ClassTree) (few_slots : length c.slots < 2 ^ 64) (few
       let c0 = ends w s false [] (GotoLast n.block) in
       let c1 = lowered ns c.slots (Mark ∷ s) v (begun n) b in
       let c2 = lowered ns c.slots s2 f g o in
-      let types123 = locals_front ns c n.local (body_locals b ++ (ErrorType ∷ []) ++ body_locals o) (body_locals k) room.types in
+      let whole = try_room ns c b o (body_locals k) n.local room.types in
+      let types123 = locals_front ns c n.local (body_locals b ++ (ErrorType ∷ []) ++ body_locals o) (body_locals k) whole in
       let types12 = locals_front ns c n.local (body_locals b ++ (ErrorType ∷ [])) (body_locals o) types123 in
       let error = locals_after ns c b n.local (ErrorType ∷ []) types12 in
       let n12 : length (body_locals b ++ (ErrorType ∷ [])) ≡ suc (locals_in b) = omega (arith, length-append (body_locals b) (ErrorType ∷ []), locals_count b) in
@@ -305,7 +306,7 @@ module _ (ns : Names) (c : ClassTree) (few_slots : length c.slots < 2 ^ 64) (few
         first = room.first;
         types = locals_front ns c n.local (body_locals b) (ErrorType ∷ []) types12;
       })
-      fall (omega arith) parts.0 ok.0 in
+      fall (omega arith) parts.1 ok.0 in
       let g2 = handler l true (u.name ∷ xs) s2 f g i.block j.block (fits_handling ns c few_slots few_locals l e j.block j.block w u.name (omega (arith, room.blocks)) (omega arith) (omega (arith, room.blocks, fits.within)) fits)
       (record {
         blocks = omega arith;
@@ -314,7 +315,7 @@ module _ (ns : Names) (c : ClassTree) (few_slots : length c.slots < 2 ^ 64) (few
         first = omega (arith, room.first);
         types = locals_back ns c n.local g.local (body_locals b ++ (ErrorType ∷ [])) (body_locals o) (omega (arith, n12)) types123;
       })
-      (omega arith, falling_more n.local i.local s (omega arith) fall) (omega arith) parts.1 ok.1 in
+      (omega arith, falling_more n.local i.local s (omega arith) fall) (omega arith) parts.2 ok.1 in
       let g01 = joined_good c few_slots few_locals i.block m n.block n.block i.block (Some hand) c0 c1 known (omega arith) g0 g1 in
       let g012 = joined_good c few_slots few_locals e m n.block i.block j.block w.hand (joined (Some hand) c0 c1) c2 fits.hand (omega (arith, room.blocks)) g01 g2 in
       let r = rest_kept ns c few_slots few_locals k rest l t xs s w n j m e (joined w.hand (joined (Some hand) c0 c1) c2) fits
@@ -323,8 +324,8 @@ module _ (ns : Names) (c : ClassTree) (few_slots : length c.slots < 2 ^ 64) (few
         locals = omega (arith, room.locals);
         groups = omega (arith, room.groups);
         first = omega (arith, room.first);
-        types = locals_back ns c n.local j.local (body_locals b ++ (ErrorType ∷ []) ++ body_locals o) (body_locals k) (omega (arith, n123)) room.types;
+        types = locals_back ns c n.local j.local (body_locals b ++ (ErrorType ∷ []) ++ body_locals o) (body_locals k) (omega (arith, n123)) whole;
       })
-      fall (omega arith) parts.2 ok.2 g012 in
+      fall (omega arith) parts.3 ok.2 g012 in
       good_up_to c few_slots few_locals m n.block (suc j.block + blocks_in d k) (n.block + (suc (blocks_in true b) + suc (blocks_in d o) + suc (blocks_in d k)))
       (joined w.hand (joined w.hand (joined (Some hand) c0 c1) c2) (lowered ns c.slots s w (begun j) k)) (omega arith) r

@@ -106,8 +106,8 @@ module _ (k : List ℕ → Option Meaning) where
         let kb = body_known b e g (neither_first (body_refusal e b) _ h) in
         let ko = body_known o ec g (neither_first (body_refusal ec o) _ m) in
         let kc = body_known c (behind eb o) g (neither_second (body_refusal ec o) _ m) in
-        let inner = and_known (body_slots b) (body_slots o) (body_locals b ++ (ErrorType ∷ [])) (body_locals o) (record { slots = kb.slots; locals = all_both (type_known k) (body_locals b) (ErrorType ∷ []) kb.locals refl }) ko in
-        and_known (body_slots b ++ body_slots o) (body_slots c) (body_locals b ++ (ErrorType ∷ []) ++ body_locals o) (body_locals c) inner kc
+        let inner = and_known (body_slots b) (body_slots o) (body_locals b) (ErrorType ∷ body_locals o) kb (record { slots = ko.slots; locals = ko.locals }) in
+        and_known (body_slots b ++ body_slots o) (body_slots c) (body_locals b ++ (ErrorType ∷ body_locals o)) (body_locals c) inner kc
     body_known (ChooseStmt at bs c) e g h =
         let l = neither_second (item at _) _ h in
         and_known (branch_slots bs) (body_slots c) (branch_locals bs) (body_locals c) (branches_known bs e g (neither_first (branch_refusal e bs) _ l))

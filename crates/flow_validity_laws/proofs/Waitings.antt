@@ -213,8 +213,8 @@ module _ (base : Setting) (ns : Names) (c : ClassTree) (few_slots : length c.slo
         stands = stands_taken base ns c few_slots few_locals agree e rows s w.caught n.local u.into said.stands into said.above mine said.placed.0;
         above = above_taken base ns c few_slots few_locals agree u.into n.local s said.above;
         room = locals_back ns c n.local z.local (into_locals u.into) (body_locals x) (omega (arith, n1)) said.room;
-        parts = said.parts;
-        paths = said.paths;
+        parts = said.parts.1;
+        paths = said.paths.1;
         placed = subst (λ xs. InPlace c.slots l t xs x) (sym (names_taken ns c u.into n.local s)) said.placed.1;
         judged = neither_second f _ said.judged;
       })
@@ -326,8 +326,8 @@ module _ (base : Setting) (ns : Names) (c : ClassTree) (few_slots : length c.slo
         stands = stands_taken base ns c few_slots few_locals agree e rows s1 w.caught n.local u.into sm into above mine placed.0;
         above = above_taken base ns c few_slots few_locals agree u.into n.local s1 above;
         room = locals_back ns c n.local z.local (into_locals u.into) (body_locals b) (omega (arith, n1)) r12;
-        parts = parts.0;
-        paths = paths.0;
+        parts = parts.1;
+        paths = paths.1;
         placed = subst (λ ys. InPlace c.slots l t ys b) (sym (names_taken ns c u.into n.local s1)) placed.1;
         judged = neither_first (body_refusal (waited e u.into) b) _ h2;
       })
@@ -346,7 +346,7 @@ module _ (base : Setting) (ns : Names) (c : ClassTree) (few_slots : length c.slo
       live_to base ns c few_slots few_locals w.hand a.hand gs p.stale outer first (j.block + branch_blocks tr bs) (n.block + (suc (blocks_in tr b) + branch_blocks tr bs)) g0 (j.group + branch_group_count bs) (n.group + (groups_in b + branch_group_count bs))
       (branches ns c.slots (joined w.hand ch d) s w j bs) (omega arith) (omega arith)
       (others l t (with_states e xs) rows vs gs s w j p q a cu (k - length (body_groups b)) first g0 (joined w.hand ch d) outer (stands_states base ns c few_slots few_locals agree e xs rows s w.caught st) (above_more ns c n.local j.local s (omega arith) above)
-      (locals_back ns c n.local j.local (into_locals u.into ++ body_locals b) (branch_locals bs) (omega (arith, n1, n12, locals_count b)) room) parts.1 paths.1 placed.2 (neither_second (body_refusal (waited e u.into) b) _ h2)
+      (locals_back ns c n.local j.local (into_locals u.into ++ body_locals b) (branch_locals bs) (omega (arith, n1, n12, locals_count b)) room) parts.2 paths.2 placed.2 (neither_second (body_refusal (waited e u.into) b) _ h2)
       (ground_past base ns c few_slots few_locals w s1 n.local j.local rows vs gs q q a (omega arith) g.start g) th (fresh_right (es ++ us) ws fresh) (omega (arith, many, sum))
       (λ en o. (end_right en w.exit a.end q rb.ends rbs.ends (owed en o).0, sides_right c en l w a q rb rbs (owed en o).1)) acc)
     where
@@ -401,8 +401,8 @@ module _ (base : Setting) (ns : Names) (c : ClassTree) (few_slots : length c.slo
         stands = stands_states base ns c few_slots few_locals agree e (slot_names (branch_slots bs)) rows s w.caught said.stands;
         above = above_more ns c n.local j.local s (omega arith) said.above;
         room = locals_back ns c n.local j.local (branch_locals bs) (body_locals x) (omega (arith, branch_locals_count bs)) said.room;
-        parts = said.parts.1;
-        paths = said.paths.1;
+        parts = said.parts.2;
+        paths = said.paths.2;
         placed = said.placed.1;
         judged = neither_second (branch_refusal e bs) _ h2;
       })
@@ -411,11 +411,11 @@ module _ (base : Setting) (ns : Names) (c : ClassTree) (few_slots : length c.slo
       let near0 : Entries c → Type 0 = λ en. near1 en × BranchEntries en s gs q.stale tr g' bs in
       let one = choose_leaf rows vs gs s w n.local p a near0 n.block n.group ks r wt g.hand (operands_in bs e rows vs gs s n.local p q cu (k - 1) tr g' said.stands.setting said.stands.sees g.line g.start hb (fresh_left us ws fresh))
       (λ en o. hand_waited en w.hand a.hand p r bw.throws (sides_first c en l w a p way v o.0.0.1).hand) (λ en o y cover i b is. edges_in bs en s gs p.stale q.stale tr g' y i b cover (omega (arith, lost, g.line.size)) o.1 is) in
-      let two = each l t e rows vs gs s w1 g' p q a1 cu (k - 1) n.block n.group c0 near1 said.stands said.above room_bs said.parts.0 said.paths.0 said.placed.0 hb
+      let two = each l t e rows vs gs s w1 g' p q a1 cu (k - 1) n.block n.group c0 near1 said.stands said.above room_bs said.parts.1 said.paths.1 said.placed.0 hb
       (ground_inner base ns c few_slots few_locals w (Scoped (GotoLast j.block)) s n.local n.local rows vs gs p q a st (omega arith) start g) th (fresh_left us ws fresh) (omega (arith, many, sum))
       (λ en o. inner_owed base ns c few_slots few_locals agree en l w j.block n.local a gs q st bw (λ h. o.1 ∙ r2.entry_is (reached_onward r bw.ends reached h)) (exits_onward st (length gs) (length vs) p r bw.ends reached ex)
       (sides_right c en l w a q (node at_once) bw (sides_onward c en l w a (length vs) p r (both (node at_once) bw) reached (sides_first c en l w a p way v o.0.1)))) one in
-      live_to base ns c few_slots few_locals w.hand a.hand gs p.stale outer n.block (suc j.block + blocks_in tr x) (n.block + (branch_blocks tr bs + suc (blocks_in tr x))) n.group (j.group + groups_in x) (n.group + (suc (branch_group_count bs) + groups_in x)) (joined w.hand c1 c3) (omega arith) (omega arith)
+      live_to base ns c few_slots few_locals w.hand a.hand gs p.stale outer n.block (suc j.block + blocks_in tr x) (n.block + (branch_blocks tr bs + suc (blocks_in tr x))) n.group (j.group + groups_in x) (n.group + suc (branch_group_count bs + groups_in x)) (joined w.hand c1 c3) (omega arith) (omega arith)
       (join c w.hand w.hand a.hand gs p.stale outer near1 outer n.block j.block (suc j.block + blocks_in tr x) n.group j.group (j.group + groups_in x) c1 c3 two r2.later (λ en o is. (o, is)) (λ en o is. o))
     where
       hand_waited : (en : Entries c) (h : Option Hand) (m : Aim) (p : Point) (r y : Reached) → HandWay c en h m p (onward r (either at_once y)) → HandWay c en h m p r

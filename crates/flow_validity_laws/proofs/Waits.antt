@@ -21,7 +21,6 @@ use Rattle.flow_split.specs.Lowered.{Chunk, joined, ends, dropping, with_into, w
 use Rattle.flow_lowering_laws.specs.Actors.Parts.{HaveParts}
 use Rattle.flow_lowering_laws.specs.Actors.InPlace.{naming, naming_any, started, AllInPlace}
 use Rattle.flow_lowering_laws.proofs.Actors.Standing.{LocalsAt, locals_front, locals_back}
-use Rattle.flow_lowering_laws.proofs.Actors.Groups.{step_parts, init_parts}
 use Rattle.flow_lowering_laws.proofs.Actors.Further.{locals_count, branch_locals_count, into_locals_count}
 use Rattle.flow_lowering_laws.proofs.Actors.Fors.{step_later, step_locals, test_block, test_local, test_group}
 use Rattle.flow_validity_laws.proofs.Naming.{both, less_is, inside, Falling, falling_more, Falls, scope_falls, there_both, place_there, expr_there, path_there, one_named, assigned_named, changed_named, declares_named, act_named, taken_place, Knows}
@@ -61,7 +60,7 @@ module _ (ns : Names) (c : ClassTree) (few_slots : length c.slots < 2 ^ 64) (few
       let tb = test_block ns c few_slots few_locals q h in
       let tl = test_local ns c few_slots few_locals q h in
       let tg = test_group ns c few_slots few_locals q h in
-      let none : locals_in p ≡ 0 = sym (locals_count p) ∙ ap length (step_locals p parts.1) in
+      let none : locals_in p ≡ 0 = sym (locals_count p) ∙ ap length (step_locals p parts.0.1) in
       let n12 = length-append (body_locals i) (body_locals p) in
       let n123 = length-append (body_locals i ++ body_locals p) (body_locals b) in
       let t123 = locals_front ns c n.local (body_locals i ++ body_locals p ++ body_locals b) (body_locals k) room.types in
@@ -70,26 +69,26 @@ module _ (ns : Names) (c : ClassTree) (few_slots : length c.slots < 2 ^ 64) (few
       let t2 : LocalsAt ns c g.local (body_locals b) = locals_back ns c n.local g.local (body_locals i ++ body_locals p) (body_locals b) (omega (arith, tl, n12, locals_count i, locals_count p, none)) t123 in
       let t4 : LocalsAt ns c o.local (body_locals k) =
       locals_back ns c n.local o.local (body_locals i ++ body_locals p ++ body_locals b) (body_locals k) (omega (arith, tl, n12, n123, locals_count i, locals_count p, locals_count b)) room.types in
-      let t3 : LocalsAt ns c j.local (body_locals p) = subst (λ ls. LocalsAt ns c j.local ls) (sym (step_locals p parts.1)) tt in
-      let fall_r : Falling (n.local + locals_in i) r = falling_later ns c few_slots few_locals i n.local s1 parts.0 fall in
+      let t3 : LocalsAt ns c j.local (body_locals p) = subst (λ ls. LocalsAt ns c j.local ls) (sym (step_locals p parts.0.1)) tt in
+      let fall_r : Falling (n.local + locals_in i) r = falling_later ns c few_slots few_locals i n.local s1 parts.0.0 fall in
       let fall_g : Falling g.local r = subst (λ z. Falling z r) (sym tl) fall_r in
       let ends_in : o.block < e = omega (arith, room.blocks, tb) in
       let out_in : o.block < length c.blocks = omega (arith, ends_in, fits.within) in
       let g0 = init l t xs s1 v n m h.block (fits_inner ns c few_slots few_locals l e h.block w (Part (PassLast h.block)) (omega (arith, ends_in, tb)) (omega (arith, out_in, tb)) fits)
       (record { blocks = omega arith; locals = omega (arith, room.locals); groups = omega (arith, room.groups); first = room.first; types = t1 })
-      fall lt (init_parts i parts.0) ok.0 in
+      fall lt parts.1 ok.0 in
       let g1 = test_kept m e v r n h g.local q o.block c0 fits.hand (omega (arith, ends_in, tb)) (omega (arith, room.locals, tl)) fall_g (omega arith) out_in g0 in
       let g2 = body true t (started i xs) (Mark ∷ r) f (begun g) g.block j.block (fits_loop ns c few_slots few_locals l e j.block 2 w (GotoLast j.block) o.block (omega (arith, ends_in)) (omega arith) out_in (omega arith, omega (arith, out_in)) fits)
       (record { blocks = omega arith; locals = omega (arith, room.locals, tl); groups = omega (arith, room.groups, tg); first = omega (arith, room.first, tg); types = t2 })
-      fall_g (omega arith) parts.2 ok.2 in
+      fall_g (omega arith) parts.3 ok.2 in
       let g3 = step l t (started i xs) r v (begun j) j.block o.block (fits_inner ns c few_slots few_locals l e o.block w (Part (PassLast h.block)) (omega (arith, ends_in)) (omega (arith, out_in, tb)) fits)
       (record { blocks = omega arith; locals = omega (arith, room.locals, tl); groups = omega (arith, room.groups, tg); first = omega (arith, room.first, tg); types = t3 })
-      (falling_more g.local j.local r (omega arith) fall_g) (omega arith) (step_parts p parts.1) ok.1 in
+      (falling_more g.local j.local r (omega arith) fall_g) (omega arith) parts.2 ok.1 in
       let g4 = rest l t xs s w (begun o) o.block e fits
       (record { blocks = omega (arith, room.blocks, tb); locals = omega (arith, room.locals, tl); groups = omega (arith, room.groups, tg); first = omega (arith, room.first, tg); types = t4 })
-      (falling_more n.local o.local s (omega (arith, tl)) fall) (omega arith) parts.3 ok.3 in
+      (falling_more n.local o.local s (omega (arith, tl)) fall) (omega arith) parts.4 ok.3 in
       let dropped : Falls (length c.locals) ds =
-      subst (λ z. Falls (length c.locals) (scope z)) (sym (step_later p j.local r parts.1)) (scope_falls (length c.locals) r (whole_falling ns c few_slots few_locals g.local r (omega (arith, room.locals, tl)) fall_g)) in
+      subst (λ z. Falls (length c.locals) (scope z)) (sym (step_later p j.local r parts.0.1)) (scope_falls (length c.locals) r (whole_falling ns c few_slots few_locals g.local r (omega (arith, room.locals, tl)) fall_g)) in
       let g4' = dropping_good c few_slots few_locals o.block (suc o.block) (suc o.block + blocks_in d k) ds c4 dropped g4 in
       let g12 = joined_good c few_slots few_locals e m n.block g.block j.block w.hand c1 c2 fits.hand (omega (arith, ends_in)) g1 g2 in
       let g123 = joined_good c few_slots few_locals e m n.block j.block o.block w.hand (joined w.hand c1 c2) c3 fits.hand (omega (arith, ends_in)) g12 g3 in
@@ -113,7 +112,7 @@ module _ (ns : Names) (c : ClassTree) (few_slots : length c.slots < 2 ^ 64) (few
         first = room.first;
         types = locals_back ns c n.local z.local (declared_locals i) (body_locals k) (omega (arith, n1)) room.types;
       })
-      (falling_into ns c few_slots few_locals i n.local s fall) lt parts ok.1)
+      (falling_into ns c few_slots few_locals i n.local s fall) lt parts.1 ok.1)
 
   pub assign_kept : (at : Place) (ys : List Ident) (q : ExprTree) (k : Body) → Keeps k → Keeps (AssignStmt at ys q k)
   assign_kept at ys q k rest l t xs s w n m e fits room fall lt parts ok =
@@ -121,7 +120,7 @@ module _ (ns : Names) (c : ClassTree) (few_slots : length c.slots < 2 ^ 64) (few
       let i = assigned ns c.slots s (path_over c.slots s ys) q in
       acting_good c few_slots few_locals m n.block (n.block + blocks_in w.looped.tried k) (i ∷ []) (lowered ns c.slots s w n k)
       (one_named c few_slots few_locals s know i (assigned_named c few_slots few_locals s know ns (path_over c.slots s ys) q (path_there c few_slots few_locals s know ys)))
-      (rest l t xs s w n m e fits (record { blocks = room.blocks; locals = room.locals; groups = room.groups; first = room.first; types = room.types }) fall lt parts ok)
+      (rest l t xs s w n m e fits (record { blocks = room.blocks; locals = room.locals; groups = room.groups; first = room.first; types = room.types }) fall lt parts.1 ok)
 
   pub modify_kept : (at : Place) (ys : List Ident) (d : ChangeTree) (k : Body) → Keeps k → Keeps (ModifyStmt at ys d k)
   modify_kept at ys d k rest l t xs s w n m e fits room fall lt parts ok =
@@ -136,7 +135,7 @@ module _ (ns : Names) (c : ClassTree) (few_slots : length c.slots < 2 ^ 64) (few
       let i = ActInstr (act_over c.slots s ys) (over_all c.slots s es) in
       acting_good c few_slots few_locals m n.block (n.block + blocks_in w.looped.tried k) (i ∷ []) (lowered ns c.slots s w n k)
       (one_named c few_slots few_locals s know i (act_named c few_slots few_locals s know ys es))
-      (rest l t xs s w n m e fits (record { blocks = room.blocks; locals = room.locals; groups = room.groups; first = room.first; types = room.types }) fall lt parts ok)
+      (rest l t xs s w n m e fits (record { blocks = room.blocks; locals = room.locals; groups = room.groups; first = room.first; types = room.types }) fall lt parts.1 ok)
 
   -- waits
   chosen : (g : ℕ) → 0 < g → g ≤ length c.groups → is_there (group_at c.groups g) ≡ true
@@ -177,7 +176,7 @@ module _ (ns : Names) (c : ClassTree) (few_slots : length c.slots < 2 ^ 64) (few
         first = omega arith;
         types = locals_back ns c n.local z.local (into_locals u.into) (body_locals k) (omega (arith, n1)) room.types;
       })
-      (falling_taken ns c few_slots few_locals u.into n.local s fall) (omega arith) parts ok.1 in
+      (falling_taken ns c few_slots few_locals u.into n.local s fall) (omega arith) parts.1 ok.1 in
       good_up_to c few_slots few_locals m n.block (suc n.block + blocks_in d k) (n.block + suc (blocks_in d k)) (joined w.hand c0 c1) (omega arith)
       (joined_good c few_slots few_locals e m n.block n.block (suc n.block + blocks_in d k) w.hand c0 c1 fits.hand (omega (arith, room.blocks)) g0 g1)
 
@@ -216,10 +215,10 @@ module _ (ns : Names) (c : ClassTree) (few_slots : length c.slots < 2 ^ 64) (few
         first = some;
         types = locals_back ns c n.local z.local (into_locals w.into) (body_locals b) (omega (arith, n1)) types12;
       })
-      (falling_taken ns c few_slots few_locals w.into n.local (Mark ∷ s) fall) (omega arith) parts.0 ok.1 in
+      (falling_taken ns c few_slots few_locals w.into n.local (Mark ∷ s) fall) (omega arith) parts.1 ok.1 in
       let g01 = joined_good c few_slots few_locals e m first n.block j.block v.hand a ch fits.hand (omega (arith, blocks)) g g1 in
       let r = others l t xs s v j m first e (joined v.hand a ch) fits (omega (arith, blocks)) (omega (arith, locals)) (omega (arith, groups)) (omega (arith, some))
-      (locals_back ns c n.local j.local (into_locals w.into ++ body_locals b) (branch_locals bs) (omega (arith, n1, n12, locals_count b)) types) (falling_more n.local j.local s (omega arith) fall) parts.1 ok.2 g01 in
+      (locals_back ns c n.local j.local (into_locals w.into ++ body_locals b) (branch_locals bs) (omega (arith, n1, n12, locals_count b)) types) (falling_more n.local j.local s (omega arith) fall) parts.2 ok.2 g01 in
       good_up_to c few_slots few_locals m first (j.block + branch_blocks d bs) (n.block + (suc (blocks_in d b) + branch_blocks d bs)) (branches ns c.slots (joined v.hand a ch) s v j bs) (omega arith) r
 
   pub choose_kept : (at : Place) (bs : Branches) (k : Body) → BranchesKept bs → Keeps k → Keeps (ChooseStmt at bs k)
@@ -234,7 +233,7 @@ module _ (ns : Names) (c : ClassTree) (few_slots : length c.slots < 2 ^ 64) (few
       let c1 = branches ns c.slots c0 s v g bs in
       let g0 = choose_ends m n.block n.group n.local w s ks (omega (arith, room.locals)) fall room.first (omega (arith, room.groups)) (callbacks_named s d g bs know (omega (arith, room.locals)) (omega (arith, room.blocks, fits.within))) in
       let g1 = each l t xs s v g m n.block j.block c0 (fits_scoped ns c few_slots few_locals l e j.block j.block w (omega (arith, room.blocks)) (omega arith) (omega (arith, room.blocks, fits.within)) fits) (omega arith) (omega (arith, room.locals))
-      (omega (arith, room.groups)) (omega arith) (locals_front ns c n.local (branch_locals bs) (body_locals k) room.types) fall parts.0 ok.0 g0 in
+      (omega (arith, room.groups)) (omega arith) (locals_front ns c n.local (branch_locals bs) (body_locals k) room.types) fall parts.1 ok.0 g0 in
       let r = rest_kept ns c few_slots few_locals k rest l t xs s w n j m e c1 fits
       (record {
         blocks = omega (arith, room.blocks);
@@ -243,5 +242,5 @@ module _ (ns : Names) (c : ClassTree) (few_slots : length c.slots < 2 ^ 64) (few
         first = omega arith;
         types = locals_back ns c n.local j.local (branch_locals bs) (body_locals k) (omega (arith, branch_locals_count bs)) room.types;
       })
-      fall (omega arith) parts.1 ok.1 g1 in
+      fall (omega arith) parts.2 ok.1 g1 in
       good_up_to c few_slots few_locals m n.block (suc j.block + blocks_in d k) (n.block + (branch_blocks d bs + suc (blocks_in d k))) (joined w.hand c1 (lowered ns c.slots s w (begun j) k)) (omega arith) r

@@ -14,7 +14,7 @@ use Rattle.flow_meaning.specs.Evaluating.{Names}
 use Rattle.flow_meaning.specs.Items.{Site, Loop, Do, Leave, Made, Handler, site_past, site_at}
 use Rattle.flow_meaning.specs.SourceStep.{Breaks, Continues}
 use Rattle.flow_meaning.specs.Text as text
-use Rattle.flow_meaning.specs.Carry.{Pos, entry, Target, At, Again, here, jump}
+use Rattle.flow_meaning.specs.Carry.{entry, At, Again, here, jump}
 use Rattle.flow_meaning.specs.Carry as carry
 use Rattle.flow_split.specs.Around.{Scoped, Hand, Around, inner, pass, guarded, handling}
 use Rattle.flow_split.specs.Counts.{locals_in, blocks_in, Next, begun, past}
@@ -26,7 +26,7 @@ use Rattle.flow_lowering_laws.proofs.Actors.Spots.{both, lowered_moved}
 use Rattle.flow_lowering_laws.proofs.Actors.Held.{same, caught_by}
 use Rattle.flow_lowering_laws.proofs.Actors.Around.{above_more, here_inner, here_handler, here_try, here_loop, exit_at, end_at}
 use Rattle.flow_lowering_laws.proofs.Actors.Simples.{throw_at}
-use Rattle.flow_lowering_laws.proofs.Actors.Further.{exited_local, exited_group, exited_block, locals_count, Carried, locals_after, groups_after, blocks_joined, rest_at, live_at, dead_at}
+use Rattle.flow_lowering_laws.proofs.Actors.Further.{exited_local, exited_group, exited_block, locals_count, Carried, locals_after, groups_after, blocks_joined, rest_at, live_at, dead_at, try_room}
 
 module _ (ns : Names) (c : ClassTree) (few_slots : length c.slots < 2 ^ 64) (few_locals : length c.locals < 2 ^ 64) where
   abbrev low : Scope → Around → Next → Body → Chunk
@@ -41,13 +41,13 @@ module _ (ns : Names) (c : ClassTree) (few_slots : length c.slots < 2 ^ 64) (few
       let v = inner w (Scoped (GotoLast m.block)) in
       let y = text.past b x.spot in
       let c1 = low (Mark ∷ s) v n b in
-      let group = groups_after ns c s v n b x.spot n.group parts.0 h.group in
+      let group = groups_after ns c s v n b x.spot n.group parts.1 h.group in
       let inside = here_inner ns c l w s n n x (site_past b x) x.spot k m.block r ts (omega arith) h.group h in (
         entry m.block,
-        body l (Mark ∷ s) v n x (Leave ∷ Do (site_past b x) k ∷ r) (At (entry m.block) ∷ ts) p inside (locals_front ns c n.local (body_locals b) (body_locals k) room) parts.0 ok.0
+        body l (Mark ∷ s) v n x (Leave ∷ Do (site_past b x) k ∷ r) (At (entry m.block) ∷ ts) p inside (locals_front ns c n.local (body_locals b) (body_locals k) room) parts.1 ok.0
             (first ns c p n.block x.spot w.hand w.hand c1 (low s w (begun m) k) st),
-        rest_at ns c k rest l s w n m x y x.spot r ts p n.block w.hand c1 h (omega arith) group (locals_after ns c b n.local (body_locals k) room) parts.1 ok.1
-            (ap (λ j. n.block + j) (sym (lowered_more ns c.slots (Mark ∷ s) v n b))) (lowered_moved ns c.slots (Mark ∷ s) v n b x.spot parts.0) st,
+        rest_at ns c k rest l s w n m x y x.spot r ts p n.block w.hand c1 h (omega arith) group (locals_after ns c b n.local (body_locals k) room) parts.2 ok.1
+            (ap (λ j. n.block + j) (sym (lowered_more ns c.slots (Mark ∷ s) v n b))) (lowered_moved ns c.slots (Mark ∷ s) v n b x.spot parts.1) st,
       )
 
   pub if_stands : (at : Place) (e : ExprTree) (b k : Body) → Carried ns c b → Carried ns c k → Carried ns c (IfStmt at e b k)
@@ -58,7 +58,7 @@ module _ (ns : Names) (c : ClassTree) (few_slots : length c.slots < 2 ^ 64) (few
       let c0 = ends w s true [] (TestLast (over c.slots s e) n.block m.block) in
       let c1 = low (Mark ∷ s) v (begun n) b in
       let blocks = lowered_more ns c.slots (Mark ∷ s) v (begun n) b in
-      let group = groups_after ns c s v (begun n) b x.spot n.group parts.0 h.group in
+      let group = groups_after ns c s v (begun n) b x.spot n.group parts.1 h.group in
       let inside = here_inner ns c l w s n (begun n) x (site_past b x) x.spot k m.block r ts (omega arith) h.group h in
       let front = first ns c p n.block x.spot w.hand w.hand (joined w.hand c0 c1) (low s w (begun m) k) st in (
         caught_by ns c n.local w.depth s r ts p n.block x.spot w.hand (low s w n (IfStmt at e b k)) h.above h.hand same refl st,
@@ -66,11 +66,11 @@ module _ (ns : Names) (c : ClassTree) (few_slots : length c.slots < 2 ^ 64) (few
         m.block,
         entry m.block,
         front.code,
-        body l (Mark ∷ s) v (begun n) x (Leave ∷ Do (site_past b x) k ∷ r) (At (entry m.block) ∷ ts) (entry n.block) inside (locals_front ns c n.local (body_locals b) (body_locals k) room) parts.0 ok.0
+        body l (Mark ∷ s) v (begun n) x (Leave ∷ Do (site_past b x) k ∷ r) (At (entry m.block) ∷ ts) (entry n.block) inside (locals_front ns c n.local (body_locals b) (body_locals k) room) parts.1 ok.0
             (second ns c p n.block n.block x.spot x.spot w.hand w.hand c0 c1 (omega arith) refl front),
         here,
-        rest_at ns c k rest l s w n m x y x.spot r ts p n.block w.hand (joined w.hand c0 c1) h (omega arith) group (locals_after ns c b n.local (body_locals k) room) parts.1 ok.1
-            (omega (arith, blocks)) (lowered_moved ns c.slots (Mark ∷ s) v (begun n) b x.spot parts.0) st,
+        rest_at ns c k rest l s w n m x y x.spot r ts p n.block w.hand (joined w.hand c0 c1) h (omega arith) group (locals_after ns c b n.local (body_locals k) room) parts.2 ok.1
+            (omega (arith, blocks)) (lowered_moved ns c.slots (Mark ∷ s) v (begun n) b x.spot parts.1) st,
       )
 
   pub if_else_stands : (at : Place) (e : ExprTree) (b d k : Body) → Carried ns c b → Carried ns c d → Carried ns c k → Carried ns c (IfElseStmt at e b d k)
@@ -88,10 +88,10 @@ module _ (ns : Names) (c : ClassTree) (few_slots : length c.slots < 2 ^ 64) (few
       let b2 = lowered_more ns c.slots (Mark ∷ s) v (begun m) d in
       let b01 = blocks_joined ns c w.hand c0 c1 0 (blocks_in t b) refl b1 in
       let b012 = blocks_joined ns c w.hand (joined w.hand c0 c1) c2 (0 + suc (blocks_in t b)) (blocks_in t d) b01 b2 in
-      let g1 = groups_after ns c s v (begun n) b x.spot n.group parts.0 h.group in
-      let g2 = groups_after ns c s v (begun m) d y m.group parts.1 g1 in
-      let m1 = lowered_moved ns c.slots (Mark ∷ s) v (begun n) b x.spot parts.0 in
-      let m2 = lowered_moved ns c.slots (Mark ∷ s) v (begun m) d y parts.1 in
+      let g1 = groups_after ns c s v (begun n) b x.spot n.group parts.1 h.group in
+      let g2 = groups_after ns c s v (begun m) d y m.group parts.2 g1 in
+      let m1 = lowered_moved ns c.slots (Mark ∷ s) v (begun n) b x.spot parts.1 in
+      let m2 = lowered_moved ns c.slots (Mark ∷ s) v (begun m) d y parts.2 in
       let behind = site_at z x in
       let inside = here_inner ns c l w s n (begun n) x behind x.spot k j.block r ts (omega arith) h.group h in
       let apart = here_inner ns c l w s n (begun m) x behind y k j.block r ts (omega arith) g1 h in
@@ -104,12 +104,12 @@ module _ (ns : Names) (c : ClassTree) (few_slots : length c.slots < 2 ^ 64) (few
         m.block,
         entry j.block,
         front.code,
-        body l (Mark ∷ s) v (begun n) x (Leave ∷ Do behind k ∷ r) (At (entry j.block) ∷ ts) (entry n.block) inside (locals_front ns c n.local (body_locals b) (body_locals d) room12) parts.0 ok.0
+        body l (Mark ∷ s) v (begun n) x (Leave ∷ Do behind k ∷ r) (At (entry j.block) ∷ ts) (entry n.block) inside (locals_front ns c n.local (body_locals b) (body_locals d) room12) parts.1 ok.0
             (second ns c p n.block n.block x.spot x.spot w.hand w.hand c0 c1 (omega arith) refl front1),
-        other l (Mark ∷ s) v (begun m) (site_at y x) (Leave ∷ Do behind k ∷ r) (At (entry j.block) ∷ ts) (entry m.block) apart (locals_after ns c b n.local (body_locals d) room12) parts.1 ok.1
+        other l (Mark ∷ s) v (begun m) (site_at y x) (Leave ∷ Do behind k ∷ r) (At (entry j.block) ∷ ts) (entry m.block) apart (locals_after ns c b n.local (body_locals d) room12) parts.2 ok.1
             (second ns c p n.block m.block x.spot y w.hand w.hand (joined w.hand c0 c1) c2 (omega (arith, b01)) m1 front),
         rest_at ns c k rest l s w n j x z x.spot r ts p n.block w.hand (joined w.hand (joined w.hand c0 c1) c2) h (omega arith) g2
-            (locals_back ns c n.local j.local (body_locals b ++ body_locals d) (body_locals k) (omega (arith, sizes)) room) parts.2 ok.2
+            (locals_back ns c n.local j.local (body_locals b ++ body_locals d) (body_locals k) (omega (arith, sizes)) room) parts.3 ok.2
             (omega (arith, b012)) (both c1.groups c2.groups x.spot y z m1 m2) st,
       )
 
@@ -126,8 +126,8 @@ module _ (ns : Names) (c : ClassTree) (few_slots : length c.slots < 2 ^ 64) (few
       let c2 = low (Mark ∷ s) v (begun g) b in
       let b2 = lowered_more ns c.slots (Mark ∷ s) v (begun g) b in
       let b012 = blocks_joined ns c w.hand (joined w.hand c0 c1) c2 1 (blocks_in false b) refl b2 in
-      let group = groups_after ns c s v (begun g) b x.spot n.group parts.0 h.group in
-      let m2 = lowered_moved ns c.slots (Mark ∷ s) v (begun g) b x.spot parts.0 in
+      let group = groups_after ns c s v (begun g) b x.spot n.group parts.1 h.group in
+      let m2 = lowered_moved ns c.slots (Mark ∷ s) v (begun g) b x.spot parts.1 in
       let inside = here_loop ns c l w s n (begun g) x behind x.spot loop k n.block m.block r ts refl (omega arith) h.group h in
       let front = first ns c p n.block x.spot w.hand w.hand (joined w.hand (joined w.hand c0 c1) c2) (low s w (begun m) k) st in
       let front1 = first ns c p n.block x.spot w.hand w.hand (joined w.hand c0 c1) c2 front in
@@ -140,11 +140,11 @@ module _ (ns : Names) (c : ClassTree) (few_slots : length c.slots < 2 ^ 64) (few
           g.block,
           m.block,
           test.code,
-          body true (Mark ∷ s) v (begun g) x (Leave ∷ Made loop ∷ Do behind k ∷ r) (Again n.block ∷ At (entry m.block) ∷ ts) (entry g.block) inside (locals_front ns c n.local (body_locals b) (body_locals k) room) parts.0 ok.0
+          body true (Mark ∷ s) v (begun g) x (Leave ∷ Made loop ∷ Do behind k ∷ r) (Again n.block ∷ At (entry m.block) ∷ ts) (entry g.block) inside (locals_front ns c n.local (body_locals b) (body_locals k) room) parts.1 ok.0
               (second ns c p n.block g.block x.spot x.spot w.hand w.hand (joined w.hand c0 c1) c2 (omega arith) refl front),
           here,
         ),
-        rest_at ns c k rest l s w n m x y x.spot r ts p n.block w.hand (joined w.hand (joined w.hand c0 c1) c2) h (omega arith) group (locals_after ns c b n.local (body_locals k) room) parts.1 ok.1
+        rest_at ns c k rest l s w n m x y x.spot r ts p n.block w.hand (joined w.hand (joined w.hand c0 c1) c2) h (omega arith) group (locals_after ns c b n.local (body_locals k) room) parts.2 ok.1
             (omega (arith, b012)) m2 st,
       )
 
@@ -159,16 +159,16 @@ module _ (ns : Names) (c : ClassTree) (few_slots : length c.slots < 2 ^ 64) (few
       let c1 = low (Mark ∷ s) v (begun n) b in
       let b1 = lowered_more ns c.slots (Mark ∷ s) v (begun n) b in
       let b01 = blocks_joined ns c w.hand c0 c1 0 (blocks_in false b) refl b1 in
-      let group = groups_after ns c s v (begun n) b x.spot n.group parts.0 h.group in
-      let m1 = lowered_moved ns c.slots (Mark ∷ s) v (begun n) b x.spot parts.0 in
+      let group = groups_after ns c s v (begun n) b x.spot n.group parts.1 h.group in
+      let m1 = lowered_moved ns c.slots (Mark ∷ s) v (begun n) b x.spot parts.1 in
       let inside = here_loop ns c l w s n (begun n) x behind x.spot loop k n.block m.block r ts refl (omega arith) h.group h in
       let front = first ns c p n.block x.spot w.hand w.hand (joined w.hand c0 c1) (low s w (begun m) k) st in (
         n.block,
         entry m.block,
         (p, here, front.code),
-        body true (Mark ∷ s) v (begun n) x (Leave ∷ Made loop ∷ Do behind k ∷ r) (Again n.block ∷ At (entry m.block) ∷ ts) (entry n.block) inside (locals_front ns c n.local (body_locals b) (body_locals k) room) parts.0 ok.0
+        body true (Mark ∷ s) v (begun n) x (Leave ∷ Made loop ∷ Do behind k ∷ r) (Again n.block ∷ At (entry m.block) ∷ ts) (entry n.block) inside (locals_front ns c n.local (body_locals b) (body_locals k) room) parts.1 ok.0
             (second ns c p n.block n.block x.spot x.spot w.hand w.hand c0 c1 (omega arith) refl front),
-        rest_at ns c k rest l s w n m x y x.spot r ts p n.block w.hand (joined w.hand c0 c1) h (omega arith) group (locals_after ns c b n.local (body_locals k) room) parts.1 ok.1
+        rest_at ns c k rest l s w n m x y x.spot r ts p n.block w.hand (joined w.hand c0 c1) h (omega arith) group (locals_after ns c b n.local (body_locals k) room) parts.2 ok.1
             (omega (arith, b01)) m1 st,
       )
 
@@ -193,11 +193,12 @@ module _ (ns : Names) (c : ClassTree) (few_slots : length c.slots < 2 ^ 64) (few
       let b2 = lowered_more ns c.slots (Var u.name m.local ∷ Mark ∷ s) f g d in
       let b01 = blocks_joined ns c (Some hand) c0 c1 0 (blocks_in true b) refl b1 in
       let b012 = blocks_joined ns c w.hand (joined (Some hand) c0 c1) c2 (0 + suc (blocks_in true b)) (blocks_in t d) b01 b2 in
-      let g1 = groups_after ns c s v (begun n) b x.spot n.group parts.0 h.group in
-      let g2 = groups_after ns c s f g d y m.group parts.1 g1 in
-      let m1 = lowered_moved ns c.slots (Mark ∷ s) v (begun n) b x.spot parts.0 in
-      let m2 = lowered_moved ns c.slots (Var u.name m.local ∷ Mark ∷ s) f g d y parts.1 in
-      let room123 = locals_front ns c n.local (body_locals b ++ (ErrorType ∷ []) ++ body_locals d) (body_locals k) room in
+      let g1 = groups_after ns c s v (begun n) b x.spot n.group parts.1 h.group in
+      let g2 = groups_after ns c s f g d y m.group parts.2 g1 in
+      let m1 = lowered_moved ns c.slots (Mark ∷ s) v (begun n) b x.spot parts.1 in
+      let m2 = lowered_moved ns c.slots (Var u.name m.local ∷ Mark ∷ s) f g d y parts.2 in
+      let whole = try_room ns c b d (body_locals k) n.local room in
+      let room123 = locals_front ns c n.local (body_locals b ++ (ErrorType ∷ []) ++ body_locals d) (body_locals k) whole in
       let room12 = locals_front ns c n.local (body_locals b ++ (ErrorType ∷ [])) (body_locals d) room123 in
       let error = locals_after ns c b n.local (ErrorType ∷ []) room12 in
       let own = slice_get_within c.locals m.local ErrorType error.0 in
@@ -212,14 +213,14 @@ module _ (ns : Names) (c : ClassTree) (few_slots : length c.slots < 2 ^ 64) (few
         m.local,
         entry j.block,
         jump n.block front.code here,
-        body l (Mark ∷ s) v (begun n) x (Leave ∷ Handler u.name there d ∷ Do behind k ∷ r) (carry.Hand m.block m.local ∷ At (entry j.block) ∷ ts) (entry n.block) inside (locals_front ns c n.local (body_locals b) (ErrorType ∷ []) room12) parts.0 ok.0
+        body l (Mark ∷ s) v (begun n) x (Leave ∷ Handler u.name there d ∷ Do behind k ∷ r) (carry.Hand m.block m.local ∷ At (entry j.block) ∷ ts) (entry n.block) inside (locals_front ns c n.local (body_locals b) (ErrorType ∷ []) room12) parts.1 ok.0
             (second ns c p n.block n.block x.spot x.spot w.hand (Some hand) c0 c1 (omega arith) refl front1),
         (own, above_more ns c n.local m.local s (omega arith) h.above),
         handler l (Var u.name m.local ∷ Mark ∷ s) f g there (Leave ∷ Do behind k ∷ r) (At (entry j.block) ∷ ts) (entry m.block) caught
-            (locals_back ns c n.local g.local (body_locals b ++ (ErrorType ∷ [])) (body_locals d) (omega (arith, n12)) room123) parts.1 ok.1
+            (locals_back ns c n.local g.local (body_locals b ++ (ErrorType ∷ [])) (body_locals d) (omega (arith, n12)) room123) parts.2 ok.1
             (second ns c p n.block m.block x.spot y w.hand w.hand (joined (Some hand) c0 c1) c2 (omega (arith, b01)) m1 front),
         rest_at ns c k rest l s w n j x z x.spot r ts p n.block w.hand (joined w.hand (joined (Some hand) c0 c1) c2) h (omega arith) g2
-            (locals_back ns c n.local j.local (body_locals b ++ (ErrorType ∷ []) ++ body_locals d) (body_locals k) (omega (arith, n123)) room) parts.2 ok.2
+            (locals_back ns c n.local j.local (body_locals b ++ (ErrorType ∷ []) ++ body_locals d) (body_locals k) (omega (arith, n123)) whole) parts.3 ok.2
             (omega (arith, b012)) (both c1.groups c2.groups x.spot y z m1 m2) st,
       )
 
@@ -229,7 +230,7 @@ module _ (ns : Names) (c : ClassTree) (few_slots : length c.slots < 2 ^ 64) (few
       let a = exits t w s n (GotoLast w.looped.out) in
       let d = low s w (begun (exited t n)) k in (
         exit_at ns c Breaks t w s n (GotoLast w.looped.out) r ts p x.spot (h.breaks ok.0) (live_at ns c p n.block x.spot w.hand a d k st),
-        dead_at ns c k rest l s w n (exited t n) x r ts p a h (exited_local t n) (exited_group t n) room parts ok.1 (exited_block t w s n (GotoLast w.looped.out)) (exits_still t w s n (GotoLast w.looped.out)) st,
+        dead_at ns c k rest l s w n (exited t n) x r ts p a h (exited_local t n) (exited_group t n) room parts.1 ok.1 (exited_block t w s n (GotoLast w.looped.out)) (exits_still t w s n (GotoLast w.looped.out)) st,
       )
 
   pub continue_stands : (at : Place) (k : Body) → Carried ns c k → Carried ns c (ContinueStmt at k)
@@ -238,7 +239,7 @@ module _ (ns : Names) (c : ClassTree) (few_slots : length c.slots < 2 ^ 64) (few
       let a = exits t w s n w.looped.again in
       let d = low s w (begun (exited t n)) k in (
         exit_at ns c Continues t w s n w.looped.again r ts p x.spot (h.continues ok.0) (live_at ns c p n.block x.spot w.hand a d k st),
-        dead_at ns c k rest l s w n (exited t n) x r ts p a h (exited_local t n) (exited_group t n) room parts ok.1 (exited_block t w s n w.looped.again) (exits_still t w s n w.looped.again) st,
+        dead_at ns c k rest l s w n (exited t n) x r ts p a h (exited_local t n) (exited_group t n) room parts.1 ok.1 (exited_block t w s n w.looped.again) (exits_still t w s n w.looped.again) st,
       )
 
   pub return_stands : (at : Place) (e : ExprTree) (k : Body) → Carried ns c k → Carried ns c (ReturnStmt at e k)
@@ -247,7 +248,7 @@ module _ (ns : Names) (c : ClassTree) (few_slots : length c.slots < 2 ^ 64) (few
       let alone = live_at ns c p n.block x.spot w.hand a (low s w (begun n) k) k st in (
         caught_by ns c n.local w.depth s r ts p n.block x.spot w.hand a h.above h.hand same refl alone,
         alone.code,
-        dead_at ns c k rest l s w n n x r ts p a h refl refl room parts ok (omega arith) refl st,
+        dead_at ns c k rest l s w n n x r ts p a h refl refl room parts.1 ok (omega arith) refl st,
       )
 
   pub throw_stands : (at : Place) (e : Option ExprTree) (k : Body) → Carried ns c k → Carried ns c (ThrowStmt at e k)
@@ -256,5 +257,5 @@ module _ (ns : Names) (c : ClassTree) (few_slots : length c.slots < 2 ^ 64) (few
       let alone = live_at ns c p n.block x.spot w.hand a (low s w (begun n) k) k st in (
         caught_by ns c n.local w.depth s r ts p n.block x.spot w.hand a h.above h.hand same refl alone,
         throw_at ns c few_slots few_locals s at e w.caught x.caught p h.known h.named ok.0 alone.code,
-        dead_at ns c k rest l s w n n x r ts p a h refl refl room parts ok.1 (omega arith) refl st,
+        dead_at ns c k rest l s w n n x r ts p a h refl refl room parts.1 ok.1 (omega arith) refl st,
       )

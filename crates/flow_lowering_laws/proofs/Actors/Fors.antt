@@ -16,7 +16,7 @@ use Rattle.flow_meaning.specs.Carries.{LoopAt}
 use Rattle.flow_split.specs.Around.{Hand, Around}
 use Rattle.flow_split.specs.Counts.{test_blocks, locals_in, Next}
 use Rattle.flow_split.specs.Lowered.{Chunk, ends, dropping, with_local, later, tested, test_before}
-use Rattle.flow_lowering_laws.specs.Actors.Parts.{IsStep, IsInit}
+use Rattle.flow_tree.specs.Formed.{IsStep, IsInit}
 use Rattle.flow_lowering_laws.specs.Actors.InPlace.{started}
 use Rattle.flow_lowering_laws.proofs.Actors.Standing.{moved, LocalsAt, locals_front, Stands, first, second}
 use Rattle.flow_lowering_laws.proofs.Actors.Held.{same, caught_by, HandIn, HandlerIn}

@@ -1,15 +1,17 @@
 -- Further on in a text: the locals, waits and blocks behind a body.
 use Rattle.std.proofs.Common.{◌≡◌, ℕ, suc, ◌+◌, ◌<◌, ◌≤◌, Bool, true, false, List, [], ◌∷◌, ◌++◌, length, if◌then◌else◌, refl, ap, sym, subst, ◌∙◌, arith, length-append}
 use Rattle.std.proofs.lemmas.Option.{slice_get_within}
+use Rattle.std.proofs.lemmas.List.{append_assoc}
 use Rattle.std.specs.declared.option.Option.{Option}
 use Rattle.std.specs.declared.option.Option.TheVariants.{None, Some}
 use Rattle.flow_tree.specs.Tree.{TypeTree, ErrorType}
-use Rattle.flow_tree.specs.Body.{IntoTree, Body, End, BlockStmt, IfStmt, IfElseStmt, WhileStmt, ForStmt, LoopStmt, BreakStmt, ContinueStmt, ReturnStmt, ThrowStmt, TryStmt, ChooseStmt, DeclareStmt, AssignStmt, ModifyStmt, CallStmt, WaitStmt, Branches, NoBranches, MoreBranches}
+use Rattle.flow_tree.specs.Body.{IntoTree, Body, DeclareStmt, WaitStmt, Branches}
+use Rattle.flow_tree.proofs.Folds.{Agree, folds_alike, branches_alike}
 use Rattle.flow_ast.specs.Leaving.{has_statement}
 use Rattle.flow_ast.specs.Typing.{is_there}
 use Rattle.flow_class.specs.Classes.{LastTree, ClassTree}
 use Rattle.flow_class.specs.Scopes.{Scope}
-use Rattle.flow_layout.specs.Locals.{body_locals, branch_locals, declared_locals, into_locals}
+use Rattle.flow_layout.specs.Locals.{stmt_locals, locals_listed, body_locals, branch_locals, declared_locals, into_locals}
 use Rattle.flow_meaning.specs.Requests.{Spot}
 use Rattle.flow_meaning.specs.Evaluating.{Names}
 use Rattle.flow_meaning.specs.Items.{Site, Item, site_at}
@@ -17,7 +19,7 @@ use Rattle.flow_meaning.specs.Text as text
 use Rattle.flow_meaning.specs.Carry.{Pos, entry, Target}
 use Rattle.flow_meaning.specs.Carries.{BodyAt}
 use Rattle.flow_split.specs.Around.{Hand, Around}
-use Rattle.flow_split.specs.Counts.{local_count, into_count, locals_in, branch_local_count, groups_in, Next, begun}
+use Rattle.flow_split.specs.Counts.{local_count, into_count, stmt_locals_counted, locals_counted, locals_in, branch_local_count, groups_in, Next, begun}
 use Rattle.flow_split.specs.Lowered.{Chunk, block_with, joined, before_rest, exits, exited, with_local, with_into, with_taken, lowered}
 use Rattle.flow_split.proofs.Joins.{join_more}
 use Rattle.flow_split.proofs.Lengths.{lowered_groups}
@@ -43,39 +45,25 @@ into_locals_count (Some i) = declared_count i
 two : (xs ys : List TypeTree) (a b : ℕ) → length xs ≡ a → length ys ≡ b → length (xs ++ ys) ≡ a + b
 two xs ys a b e f = omega (arith, length-append xs ys, e, f)
 
-mutual
-  pub locals_count : (b : Body) → length (body_locals b) ≡ locals_in b
-  locals_count End = refl
-  locals_count (BlockStmt at b k) = two (body_locals b) (body_locals k) _ _ (locals_count b) (locals_count k)
-  locals_count (IfStmt at e b k) = two (body_locals b) (body_locals k) _ _ (locals_count b) (locals_count k)
-  locals_count (IfElseStmt at e b d k) =
-      two (body_locals b ++ body_locals d) (body_locals k) _ _ (two (body_locals b) (body_locals d) _ _ (locals_count b) (locals_count d)) (locals_count k)
-  locals_count (WhileStmt at e b k) = two (body_locals b) (body_locals k) _ _ (locals_count b) (locals_count k)
-  locals_count (ForStmt at i e p b k) =
-      let whole = two (body_locals i ++ body_locals p ++ body_locals b) (body_locals k) _ _
-      (two (body_locals i ++ body_locals p) (body_locals b) _ _ (two (body_locals i) (body_locals p) _ _ (locals_count i) (locals_count p)) (locals_count b)) (locals_count k) in
-      omega (arith, whole)
-  locals_count (LoopStmt at b k) = two (body_locals b) (body_locals k) _ _ (locals_count b) (locals_count k)
-  locals_count (BreakStmt at k) = locals_count k
-  locals_count (ContinueStmt at k) = locals_count k
-  locals_count (ReturnStmt at e k) = locals_count k
-  locals_count (ThrowStmt at e k) = locals_count k
-  locals_count (TryStmt at b q x h k) =
-      let b1 = locals_count b in
-      let h1 = locals_count h in
-      let k1 = locals_count k in
-      omega (arith, length-append (body_locals b ++ (ErrorType ∷ []) ++ body_locals h) (body_locals k), length-append (body_locals b ++ (ErrorType ∷ [])) (body_locals h), length-append (body_locals b) (ErrorType ∷ []), b1, h1, k1)
-  locals_count (ChooseStmt at bs k) = two (branch_locals bs) (body_locals k) _ _ (branch_locals_count bs) (locals_count k)
-  locals_count (DeclareStmt at i e k) = two (declared_locals i) (body_locals k) _ _ (declared_count i) (locals_count k)
-  locals_count (AssignStmt at xs e k) = locals_count k
-  locals_count (ModifyStmt at xs d k) = locals_count k
-  locals_count (CallStmt at xs es k) = locals_count k
-  locals_count (WaitStmt at w k) = two (into_locals w.into) (body_locals k) _ _ (into_locals_count w.into) (locals_count k)
+stmt_locals_count : (s : Body) (ts : List TypeTree) (n : ℕ) → length ts ≡ n → length (stmt_locals s ++ ts) ≡ stmt_locals_counted s n
+stmt_locals_count (DeclareStmt at i e k) ts n h = two (declared_locals i) ts _ n (declared_count i) h
+stmt_locals_count (WaitStmt at w k) ts n h = two (into_locals w.into) ts _ n (into_locals_count w.into) h
+stmt_locals_count _ ts n h = h
 
-  pub branch_locals_count : (bs : Branches) → length (branch_locals bs) ≡ branch_local_count bs
-  branch_locals_count NoBranches = refl
-  branch_locals_count (MoreBranches at w b bs) =
-      two (into_locals w.into ++ body_locals b) (branch_locals bs) _ _ (two (into_locals w.into) (body_locals b) _ _ (into_locals_count w.into) (locals_count b)) (branch_locals_count bs)
+locals_agree : Agree (λ (ts : List TypeTree) n. length ts ≡ n) (λ s. Unit {0}) locals_listed locals_counted
+locals_agree = record {
+  nothing = refl;
+  both = two;
+  of_stmt = λ s ts n p h. stmt_locals_count s ts n h;
+  of_catch = λ x ts n h. ap suc h;
+  of_wait = λ at w k ts n p h. two (into_locals w.into) ts _ n (into_locals_count w.into) h;
+}
+
+pub locals_count : (b : Body) → length (body_locals b) ≡ locals_in b
+locals_count b = folds_alike (λ ts n. length ts ≡ n) locals_listed locals_counted locals_agree b
+
+pub branch_locals_count : (bs : Branches) → length (branch_locals bs) ≡ branch_local_count bs
+branch_locals_count bs = branches_alike (λ ts n. length ts ≡ n) locals_listed locals_counted locals_agree bs
 
 -- the chunk behind a statement that nothing goes on from
 abbrev rest_if : Bool → Option Hand → Chunk → Chunk → Chunk
@@ -103,6 +91,11 @@ module _ (ns : Names) (c : ClassTree) where
   -- the locals behind a body
   pub locals_after : (b : Body) (n : ℕ) (ks : List TypeTree) → LocalsAt ns c n (body_locals b ++ ks) → LocalsAt ns c (n + locals_in b) ks
   locals_after b n ks h = locals_back ns c n (n + locals_in b) (body_locals b) ks (ap (λ m. n + m) (sym (locals_count b))) h
+
+  -- the locals of a `try`: those of its body with the variable of the catch, and then those of the handler
+  pub try_room : (b d : Body) (ks : List TypeTree) (n : ℕ) → LocalsAt ns c n (body_locals b ++ (ErrorType ∷ body_locals d) ++ ks)
+      → LocalsAt ns c n (body_locals b ++ (ErrorType ∷ []) ++ body_locals d ++ ks)
+  try_room b d ks n h = subst (λ ls. LocalsAt ns c n (ls ++ ks)) (sym (append_assoc (body_locals b) (ErrorType ∷ []) (body_locals d))) h
 
   -- the waits behind a body
   pub groups_after : (s : Scope) (w : Around) (n : Next) (b : Body) (x : Spot) (g : ℕ) → HasParts b → g ≡ x.group → g + groups_in b ≡ (text.past b x).group

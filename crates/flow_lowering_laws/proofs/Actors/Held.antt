@@ -3,7 +3,7 @@ use Rattle.std.proofs.Common.{◌≡◌, ℕ, zero, suc, ◌+◌, ◌<◌, ◌�
 use Rattle.std.specs.declared.option.Option.{Option}
 use Rattle.std.specs.declared.option.Option.TheVariants.{None, Some}
 use Rattle.flow_tree.specs.Tree.{ExprTree}
-use Rattle.flow_tree.specs.Body.{Body, End, BlockStmt, IfStmt, IfElseStmt, WhileStmt, ForStmt, LoopStmt, BreakStmt, ContinueStmt, ReturnStmt, ThrowStmt, TryStmt, ChooseStmt, DeclareStmt, AssignStmt, ModifyStmt, CallStmt, WaitStmt, Branches, NoBranches, MoreBranches}
+use Rattle.flow_tree.specs.Body.{Body, End, BlockStmt, ForStmt, BreakStmt, ContinueStmt, ReturnStmt, ThrowStmt, ChooseStmt, DeclareStmt, AssignStmt, ModifyStmt, CallStmt, Branches, NoBranches, MoreBranches}
 use Rattle.flow_ast.specs.Leaving.{has_statement}
 use Rattle.flow_class.specs.Classes.{LastTree, GotoLast, PassLast, ChooseLast, ReturnLast, ThrowLast, ClassTree}
 use Rattle.flow_class.specs.Code.{catcher_at}
@@ -12,7 +12,7 @@ use Rattle.flow_catch.specs.Inner.{inner_locals}
 use Rattle.flow_meaning.specs.Requests.{Spot}
 use Rattle.flow_meaning.specs.Evaluating.{Names}
 use Rattle.flow_meaning.specs.Items.{Item, Do, Leave, Round, Check, Made, Handler, Over, Unwound, unwind}
-use Rattle.flow_meaning.specs.Carry.{Pos, Target, At, Again, hand_of, CaughtBy, CaughtAt}
+use Rattle.flow_meaning.specs.Carry.{Pos, Target, hand_of, CaughtBy, CaughtAt}
 use Rattle.flow_meaning.specs.Carry as carry
 use Rattle.flow_split.specs.Around.{Exit, Text, Scoped, Part, Hand, Around, inner}
 use Rattle.flow_split.specs.Counts.{Next, begun, taken, grouped, past, past_branches}
@@ -185,9 +185,6 @@ module _ (ns : Names) (c : ClassTree) where
   pub lowered_held : (s : Scope) (w : Around) (n : Next) (b : Body) → Grown n.local (inner_locals w.depth s) (lowered ns c.slots s w n b).held
   lowered_held s w n End = still n.local _ _ (finished_held w s w.exit)
   lowered_held s w n (BlockStmt at b k) = lowered_held (Mark ∷ s) (inner w (Scoped (GotoLast (past w.looped.tried b n).block))) n b
-  lowered_held s w n (IfStmt at e b k) = same
-  lowered_held s w n (IfElseStmt at e b d k) = same
-  lowered_held s w n (WhileStmt at e b k) = same
   lowered_held s w n (ForStmt at i e p b k) =
       let f = past w.looped.tried i n in
       let g = tested e f in
@@ -195,7 +192,6 @@ module _ (ns : Names) (c : ClassTree) where
       let v = inner w (Part (PassLast f.block)) in
       subst (λ ds. Grown n.local (inner_locals w.depth s) ds) (sym (test_held v (later i n.local (Mark ∷ s)) e g.block o.block (lowered ns c.slots (Mark ∷ s) v n i)))
       (lowered_held (Mark ∷ s) v n i)
-  lowered_held s w n (LoopStmt at b k) = same
   lowered_held s w n (BreakStmt at k) =
       let a = exits w.looped.tried w s n (GotoLast w.looped.out) in
       still n.local _ _ (rest_held w.hand a (lowered ns c.slots s w (begun (exited w.looped.tried n)) k) k ∙ exits_held w.looped.tried w s n (GotoLast w.looped.out))
@@ -205,7 +201,6 @@ module _ (ns : Names) (c : ClassTree) where
   lowered_held s w n (ReturnStmt at e k) = still n.local _ _ (rest_held w.hand (ends w s true [] (ReturnLast (over c.slots s e))) (lowered ns c.slots s w (begun n) k) k)
   lowered_held s w n (ThrowStmt at e k) =
       still n.local _ _ (rest_held w.hand (ends w s true [] (ThrowLast (thrown ns c.slots s at e w.caught))) (lowered ns c.slots s w (begun n) k) k)
-  lowered_held s w n (TryStmt at b q x h k) = same
   lowered_held s w n (ChooseStmt at bs k) =
       let g = grouped n in
       let t = w.looped.tried in
@@ -216,4 +211,4 @@ module _ (ns : Names) (c : ClassTree) where
   lowered_held s w n (AssignStmt at xs e k) = lowered_held s w n k
   lowered_held s w n (ModifyStmt at xs d k) = lowered_held s w n k
   lowered_held s w n (CallStmt at xs es k) = lowered_held s w n k
-  lowered_held s w n (WaitStmt at v k) = same
+  lowered_held s w n _ = same

@@ -27,7 +27,8 @@ use Rattle.flow_meaning.specs.Carries.{ThrowAt, TakesInto, BranchAt}
 use Rattle.flow_split.specs.Around.{Part, Around}
 use Rattle.flow_split.specs.Counts.{Next, taken}
 use Rattle.flow_split.specs.Lowered.{acting, finished, with_into, with_taken, later, first_value, new_at, first_at, assign_by, assigned, changed, place_by, place_in, taken_in, declares, thrown, callback, lowered}
-use Rattle.flow_lowering_laws.specs.Actors.Parts.{HasRoot, IsInit}
+use Rattle.flow_tree.specs.Formed.{IsPath, IsInit}
+use Rattle.flow_lowering_laws.specs.Actors.Parts.{HasParts}
 use Rattle.flow_lowering_laws.specs.Actors.InPlace.{MayTake, IsThrown, InPlace}
 use Rattle.flow_lowering_laws.proofs.Actors.Standing.{LocalsAt, locals_front, Stands, one_at, one_on}
 use Rattle.flow_lowering_laws.proofs.Actors.Held.{HandIn, caught_by, lowered_held}
@@ -80,7 +81,7 @@ module _ (ns : Names) (c : ClassTree) (few_slots : length c.slots < 2 ^ 64) (few
     pub is : changed ns c.slots s xs e ≡ instr ∷ []
     pub gives : (p : Pos) → at ns c p ≡ code.Body instr → ChangeAt ns c s xs e p
 
-  pub changes_at : (s : Scope) (xs : List Ident) (d : ChangeTree) → HasRoot xs → Changes s xs (change xs d)
+  pub changes_at : (s : Scope) (xs : List Ident) (d : ChangeTree) → IsPath xs → Changes s xs (change xs d)
   changes_at s [] d h = absurd h
   changes_at s (x ∷ xs) d h = record {
     instr = assigned ns c.slots s (path_over c.slots s (x ∷ xs)) (modified d (path_from (VarExpr x) xs));
@@ -152,9 +153,9 @@ module _ (ns : Names) (c : ClassTree) (few_slots : length c.slots < 2 ^ 64) (few
   abbrev pub PartAt : Scope → List Item → List Target → Body → Pos → Scope → LastTree → Type 0
   PartAt s r ts b p later last = (q : Pos) × SimpleAt ns c s r ts b p q later × (at ns c q ≡ Last last)
 
-  pub init_at : (b : Body) (w : Around) (last : LastTree) (s : Scope) (n : Next) (x : Spot) (r : List Item) (ts : List Target) (p : Pos) (l t : Bool) → IsInit b → w.exit ≡ Part last → Above n.local s
+  pub init_at : (b : Body) (w : Around) (last : LastTree) (s : Scope) (n : Next) (x : Spot) (r : List Item) (ts : List Target) (p : Pos) (l t : Bool) → IsInit b → HasParts b → w.exit ≡ Part last → Above n.local s
       → HandIn w.hand w.depth r ts → LocalsAt ns c n.local (body_locals b) → InPlace c.slots l t (names s) b → Stands ns c p n.block x w.hand (lowered ns c.slots s w n b) → PartAt s r ts b p (later b n.local s) last
-  init_at (DeclareStmt place i e End) w last s n x r ts p l t is ex a hand room ok st =
+  init_at (DeclareStmt place i e End) w last s n x r ts p l t is parts ex a hand room ok st =
       let v = placing ns c few_slots few_locals s n.local i a (locals_front ns c n.local (declared_locals i) [] room) ok.0 in
       let d = declares_at s n.local i v e in
       let s2 = with_into i n.local s in
@@ -170,8 +171,8 @@ module _ (ns : Names) (c : ClassTree) (few_slots : length c.slots < 2 ^ 64) (few
         ),
         part_at w last s2 (after p) n.block x ex (one_on ns c p n.block x w.hand d.instr rest one),
       )
-  init_at End w last s n x r ts p l t is ex a hand room ok st = (p, (refl, refl), part_at w last s p n.block x ex st)
-  init_at (AssignStmt place xs e End) w last s n x r ts p l t is ex a hand room ok st =
+  init_at End w last s n x r ts p l t is parts ex a hand room ok st = (p, (refl, refl), part_at w last s p n.block x ex st)
+  init_at (AssignStmt place xs e End) w last s n x r ts p l t is parts ex a hand room ok st =
       let i = assigned ns c.slots s (path_over c.slots s xs) e in
       let rest = lowered ns c.slots s w n End in (
         after p,
@@ -183,8 +184,8 @@ module _ (ns : Names) (c : ClassTree) (few_slots : length c.slots < 2 ^ 64) (few
         ),
         part_at w last s (after p) n.block x ex (one_on ns c p n.block x w.hand i rest st),
       )
-  init_at (ModifyStmt place xs d End) w last s n x r ts p l t is ex a hand room ok st =
-      let v = changes_at s xs d is in
+  init_at (ModifyStmt place xs d End) w last s n x r ts p l t is parts ex a hand room ok st =
+      let v = changes_at s xs d parts.0 in
       let rest = lowered ns c.slots s w n End in
       let one = subst (λ is. Stands ns c p n.block x w.hand (acting is rest)) v.is st in (
         after p,
@@ -196,4 +197,4 @@ module _ (ns : Names) (c : ClassTree) (few_slots : length c.slots < 2 ^ 64) (few
         ),
         part_at w last s (after p) n.block x ex (one_on ns c p n.block x w.hand v.instr rest one),
       )
-  init_at _ w last s n x r ts p l t is ex a hand room ok st = absurd is
+  init_at _ w last s n x r ts p l t is parts ex a hand room ok st = absurd is

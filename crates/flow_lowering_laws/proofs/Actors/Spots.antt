@@ -1,9 +1,9 @@
 -- The numbers of waits behind a lowered body are those behind the body in its text.
 use Rattle.std.proofs.Common.{◌≡◌, suc, Bool, List, [], ◌∷◌, ◌++◌, length, refl, ap, sym, ◌∙◌}
 use Rattle.std.proofs.lemmas.List.{map-append}
-use Rattle.flow_tree.specs.Body.{WaitTree, Body, End, BlockStmt, IfStmt, IfElseStmt, WhileStmt, ForStmt, LoopStmt, BreakStmt, ContinueStmt, ReturnStmt, ThrowStmt, TryStmt, ChooseStmt, DeclareStmt, AssignStmt, ModifyStmt, CallStmt, WaitStmt, Branches, NoBranches, MoreBranches}
+use Rattle.flow_tree.specs.Body.{WaitTree, Body, End, ChooseStmt, AssignStmt, ModifyStmt, WaitStmt, Branches, NoBranches, MoreBranches}
 use Rattle.flow_tree.specs.Decls.{SlotTree}
-use Rattle.flow_ast.specs.Slots.{body_groups, branch_groups, branch_waits}
+use Rattle.flow_ast.specs.Slots.{body_groups, branch_groups, branch_waits, stmt_groups, groups_listed}
 use Rattle.flow_class.specs.Classes.{CallbackTree}
 use Rattle.flow_class.specs.Scopes.{Scope}
 use Rattle.flow_meaning.specs.Requests.{Spot}
@@ -14,7 +14,9 @@ use Rattle.flow_meaning.specs.Text as text
 use Rattle.flow_split.specs.Around.{Around}
 use Rattle.flow_split.specs.Counts.{Next}
 use Rattle.flow_split.specs.Lowered.{Chunk, callbacks, lowered, branches}
-use Rattle.flow_lowering_laws.specs.Actors.Parts.{IsStep, HasParts, HaveParts}
+use Rattle.flow_tree.specs.Formed.{IsStep}
+use Rattle.flow_tree.proofs.Folds.{Agree, folds_alike, branches_alike}
+use Rattle.flow_lowering_laws.specs.Actors.Parts.{HasParts, HaveParts}
 use Rattle.flow_lowering_laws.proofs.Actors.Standing.{moved, moved_append}
 use Rattle.flow_lowering_laws.proofs.Actors.Groups.{kinds, wanted, branch_kinds, lowered_kinds, branches_kinds}
 
@@ -49,53 +51,35 @@ waits_count (MoreBranches at w b bs) = ap suc (waits_count bs)
 two : (us vs : List (List WaitTree)) (x y z : Spot) → spread (wanted us) x ≡ y → spread (wanted vs) y ≡ z → spread (wanted (us ++ vs)) x ≡ z
 two us vs x y z e f = ap (λ ks. spread ks x) (map-append waits_kinds us vs) ∙ spread_append (wanted us) (wanted vs) x ∙ ap (spread (wanted vs)) e ∙ f
 
-choose_from : (bs : Branches) (x : Spot) → spread (wanted (branch_groups bs)) (next_spot (branch_count bs) x) ≡ text.past_branches bs (next_spot (branch_count bs) x)
-    → spread (wanted (branch_waits bs ∷ branch_groups bs)) x ≡ text.past_branches bs (next_spot (branch_count bs) x)
+-- the groups of a body are spread as its waits are numbered
+abbrev SpreadBy : List (List WaitTree) → (Spot → Spot) → Type 0
+SpreadBy gs f = (x : Spot) → spread (wanted gs) x ≡ f x
+
+choose_from : (bs : Branches) (gs : List (List WaitTree)) (f : Spot → Spot) → SpreadBy gs f → SpreadBy (branch_waits bs ∷ gs) (λ x. f (next_spot (branch_count bs) x))
 unfolding spread
-choose_from bs x h = ap (λ n. spread (wanted (branch_groups bs)) (next_spot n x)) (waits_count bs) ∙ h
+choose_from bs gs f h x = ap (λ n. spread (wanted gs) (next_spot n x)) (waits_count bs) ∙ h (next_spot (branch_count bs) x)
 
-mutual
-  unfolding spread
+stmt_spread : (s : Body) (gs : List (List WaitTree)) (f : Spot → Spot) → SpreadBy gs f → SpreadBy (stmt_groups s ++ gs) (text.stmt_spots s f)
+unfolding spread
+stmt_spread (ChooseStmt at bs k) gs f h = choose_from bs gs f h
+stmt_spread (WaitStmt at w k) gs f h = λ x. h (next_spot 1 x)
+stmt_spread _ gs f h = λ x. h x
 
-  past_groups : (b : Body) (x : Spot) → spread (wanted (body_groups b)) x ≡ text.past b x
-  past_groups End x = refl
-  past_groups (BlockStmt at b k) x = two (body_groups b) (body_groups k) x (text.past b x) _
-      (past_groups b x) (past_groups k (text.past b x))
-  past_groups (IfStmt at e b k) x = two (body_groups b) (body_groups k) x (text.past b x) _
-      (past_groups b x) (past_groups k (text.past b x))
-  past_groups (IfElseStmt at e b d k) x = two (body_groups b ++ body_groups d) (body_groups k) x (text.past d (text.past b x)) _
-      (two (body_groups b) (body_groups d) x (text.past b x) _
-      (past_groups b x) (past_groups d (text.past b x))) (past_groups k (text.past d (text.past b x)))
-  past_groups (WhileStmt at e b k) x = two (body_groups b) (body_groups k) x (text.past b x) _
-      (past_groups b x) (past_groups k (text.past b x))
-  past_groups (ForStmt at i e t b k) x = two (body_groups i ++ body_groups t ++ body_groups b) (body_groups k) x (text.past b (text.past t (text.past i x))) _
-      (two (body_groups i ++ body_groups t) (body_groups b) x (text.past t (text.past i x)) _
-      (two (body_groups i) (body_groups t) x (text.past i x) _
-      (past_groups i x) (past_groups t (text.past i x))) (past_groups b (text.past t (text.past i x)))) (past_groups k (text.past b (text.past t (text.past i x))))
-  past_groups (LoopStmt at b k) x = two (body_groups b) (body_groups k) x (text.past b x) _
-      (past_groups b x) (past_groups k (text.past b x))
-  past_groups (TryStmt at b q v h k) x = two (body_groups b ++ body_groups h) (body_groups k) x (text.past h (text.past b x)) _
-      (two (body_groups b) (body_groups h) x (text.past b x) _
-      (past_groups b x) (past_groups h (text.past b x))) (past_groups k (text.past h (text.past b x)))
-  past_groups (BreakStmt at k) x = past_groups k x
-  past_groups (ContinueStmt at k) x = past_groups k x
-  past_groups (ReturnStmt at e k) x = past_groups k x
-  past_groups (ThrowStmt at e k) x = past_groups k x
-  past_groups (DeclareStmt at i e k) x = past_groups k x
-  past_groups (AssignStmt at xs e k) x = past_groups k x
-  past_groups (ModifyStmt at xs d k) x = past_groups k x
-  past_groups (CallStmt at xs es k) x = past_groups k x
-  past_groups (ChooseStmt at bs k) x =
-      let y = next_spot (branch_count bs) x in
-      two (branch_waits bs ∷ branch_groups bs) (body_groups k) x (text.past_branches bs y) _ (choose_from bs x (branch_past bs y)) (past_groups k (text.past_branches bs y))
-  past_groups (WaitStmt at w k) x = past_groups k (next_spot 1 x)
+all_spread : Agree SpreadBy (λ s. Unit {0}) groups_listed text.spots_passed
+unfolding spread
+all_spread = record {
+  nothing = λ x. refl;
+  both = λ us vs f g h k x. two us vs x (f x) (g (f x)) (h x) (k (f x));
+  of_stmt = λ s gs f p h. stmt_spread s gs f h;
+  of_catch = λ v gs f h. h;
+  of_wait = λ at w k gs f p h. h;
+}
 
-  branch_past : (bs : Branches) (x : Spot) → spread (wanted (branch_groups bs)) x ≡ text.past_branches bs x
-  branch_past NoBranches x = refl
-  branch_past (MoreBranches at w b bs) x = two (body_groups b) (branch_groups bs) x (text.past b x) _ (past_groups b x) (branch_past bs (text.past b x))
+past_groups : (b : Body) (x : Spot) → spread (wanted (body_groups b)) x ≡ text.past b x
+past_groups b = folds_alike SpreadBy groups_listed text.spots_passed all_spread b
 
 choose_groups : (bs : Branches) (x : Spot) → spread (wanted (branch_waits bs ∷ branch_groups bs)) x ≡ text.past_branches bs (next_spot (branch_count bs) x)
-choose_groups bs x = choose_from bs x (branch_past bs (next_spot (branch_count bs) x))
+choose_groups bs x = choose_from bs (branch_groups bs) (λ y. text.past_branches bs y) (branches_alike SpreadBy groups_listed text.spots_passed all_spread bs) x
 
 -- nor is there one in a part of a `for`
 pub step_still : (b : Body) (x : Spot) → IsStep b → text.past b x ≡ x

@@ -54,7 +54,7 @@ module _ (ns : Names) (c : ClassTree) (few_slots : length c.slots < 2 ^ 64) (few
         d.gives p (one_at ns c p n.block x.spot w.hand d.instr ch one),
         v.declared,
         rest l s2 w m x r ts (after p) behind
-            (locals_back ns c n.local m.local (declared_locals i) (body_locals k) (omega (arith, into_locals_count (Some i))) room) parts
+            (locals_back ns c n.local m.local (declared_locals i) (body_locals k) (omega (arith, into_locals_count (Some i))) room) parts.1
             (subst (λ xs. InPlace c.slots l (is_there x.caught) xs k) (sym (names_with i.state i.name.name n.local s)) ok.1) (one_on ns c p n.block x.spot w.hand d.instr ch one),
       )
 
@@ -64,7 +64,7 @@ module _ (ns : Names) (c : ClassTree) (few_slots : length c.slots < 2 ^ 64) (few
       let ch = low s w n k in (
         caught_by ns c n.local w.depth s r ts p n.block x.spot w.hand (low s w n (AssignStmt place xs e k)) h.above h.hand (lowered_held ns c s w n (AssignStmt place xs e k)) refl st,
         assign_at ns c few_slots few_locals s (path_over c.slots s xs) e p (one_at ns c p n.block x.spot w.hand i ch st),
-        rest l s w n x r ts (after p) h room parts ok (one_on ns c p n.block x.spot w.hand i ch st),
+        rest l s w n x r ts (after p) h room parts.1 ok (one_on ns c p n.block x.spot w.hand i ch st),
       )
 
   pub modify_stands : (place : Place) (xs : List Ident) (d : ChangeTree) (k : Body) → Carried ns c k → Carried ns c (ModifyStmt place xs d k)
@@ -83,7 +83,7 @@ module _ (ns : Names) (c : ClassTree) (few_slots : length c.slots < 2 ^ 64) (few
       let ch = low s w n k in (
         caught_by ns c n.local w.depth s r ts p n.block x.spot w.hand (low s w n (CallStmt place xs es k)) h.above h.hand (lowered_held ns c s w n (CallStmt place xs es k)) refl st,
         one_at ns c p n.block x.spot w.hand i ch st,
-        rest l s w n x r ts (after p) h room parts ok (one_on ns c p n.block x.spot w.hand i ch st),
+        rest l s w n x r ts (after p) h room parts.1 ok (one_on ns c p n.block x.spot w.hand i ch st),
       )
 
   -- a group stands where its wait does
@@ -107,7 +107,7 @@ module _ (ns : Names) (c : ClassTree) (few_slots : length c.slots < 2 ^ 64) (few
         group_stands p n.block n.group x.spot (d ∷ []) w s h.group alone,
         branch_takes ns c few_slots few_locals s n.local n.block v h.above mine ok.0,
         rest l s2 w m (site_at y x) r ts (entry n.block) behind
-            (locals_back ns c n.local m.local (into_locals v.into) (body_locals k) (omega (arith, into_locals_count v.into)) room) parts
+            (locals_back ns c n.local m.local (into_locals v.into) (body_locals k) (omega (arith, into_locals_count v.into)) room) parts.1
             (subst (λ xs. InPlace c.slots l (is_there x.caught) xs k) (sym (names_taken ns c v.into n.local s)) ok.1)
             (second ns c p n.block n.block x.spot y w.hand w.hand c0 (low s2 w m k) (omega arith) refl st),
       )
@@ -147,16 +147,16 @@ module _ (ns : Names) (c : ClassTree) (few_slots : length c.slots < 2 ^ 64) (few
       let n12 = length-append (into_locals w.into) (body_locals b) in
       let front = branches_front bs (joined v.hand c0 d) s v j p first_block u st in
       let inside = here_taken ns c w.into l v (Mark ∷ s) n m x x.spot (Leave ∷ r) ts refl mine h.group h in
-      let group = groups_after ns c s2 v m b x.spot n.group parts.0 h.group in
+      let group = groups_after ns c s2 v m b x.spot n.group parts.1 h.group in
       let further = here_past ns c l v (Mark ∷ s) n j x y (Leave ∷ r) ts (omega arith) group h in (
         s2,
         inner_takes ns c few_slots few_locals s n.local n.block w h.above mine ok.0,
-        body l s2 v m x (Leave ∷ r) ts (entry n.block) inside (locals_back ns c n.local m.local (into_locals w.into) (body_locals b) (omega (arith, n1)) room12) parts.0
+        body l s2 v m x (Leave ∷ r) ts (entry n.block) inside (locals_back ns c n.local m.local (into_locals w.into) (body_locals b) (omega (arith, n1)) room12) parts.1
             (subst (λ xs. InPlace c.slots l (is_there x.caught) xs b) (sym (names_taken ns c w.into n.local (Mark ∷ s))) ok.1)
             (second ns c p first_block n.block u x.spot v.hand v.hand c0 d e g front),
         others l (joined v.hand c0 d) s v j (site_at y x) r ts p first_block u further
-            (locals_back ns c n.local j.local (into_locals w.into ++ body_locals b) (branch_locals bs) (omega (arith, n1, n12, locals_count b)) room) parts.1 ok.2
-            (omega (arith, e, sum, blocks)) (both c0.groups d.groups u x.spot y g (lowered_moved ns c.slots s2 v m b x.spot parts.0)) st,
+            (locals_back ns c n.local j.local (into_locals w.into ++ body_locals b) (branch_locals bs) (omega (arith, n1, n12, locals_count b)) room) parts.2 ok.2
+            (omega (arith, e, sum, blocks)) (both c0.groups d.groups u x.spot y g (lowered_moved ns c.slots s2 v m b x.spot parts.1)) st,
       )
 
   pub choose_stands : (place : Place) (bs : Branches) (k : Body) → BranchesCarried bs → Carried ns c k → Carried ns c (ChooseStmt place bs k)
@@ -172,7 +172,7 @@ module _ (ns : Names) (c : ClassTree) (few_slots : length c.slots < 2 ^ 64) (few
       let c0 : Chunk = record (ends w s true [] (ChooseLast n.group)) { groups = cs ∷ [] } in
       let whole = branches ns c.slots c0 s v g bs in
       let count : moved c0.groups x.spot ≡ y = ap (λ a. next_spot a x.spot) (callbacks_count ns c.slots s t g bs) in
-      let moves = choose_moved ns c.slots c0 s v g bs x.spot (ap (λ ks. ks ∷ []) (branch_kinds ns c.slots s t g bs)) parts.0 in
+      let moves = choose_moved ns c.slots c0 s v g bs x.spot (ap (λ ks. ks ∷ []) (branch_kinds ns c.slots s t g bs)) parts.1 in
       let blocks = branches_more ns c.slots c0 s v g bs in
       let group : j.group ≡ z.group =
       after_groups n.group (length whole.groups) (branch_group_count bs) x.spot.group z.group h.group (branches_groups ns c.slots c0 s v g bs) (sym (moved_group whole.groups x.spot) ∙ ap (λ a. a.group) moves) in
@@ -184,9 +184,9 @@ module _ (ns : Names) (c : ClassTree) (few_slots : length c.slots < 2 ^ 64) (few
         entry j.block,
         caught_by ns c n.local w.depth s r ts p n.block x.spot w.hand c0 h.above h.hand same refl alone,
         group_stands p n.block n.group x.spot cs w s h.group alone,
-        each l c0 s v g (site_at y x) (Do behind k ∷ r) (At (entry j.block) ∷ ts) p n.block x.spot inside (locals_front ns c n.local (branch_locals bs) (body_locals k) room) parts.0 ok.0 (omega arith) count front,
+        each l c0 s v g (site_at y x) (Do behind k ∷ r) (At (entry j.block) ∷ ts) p n.block x.spot inside (locals_front ns c n.local (branch_locals bs) (body_locals k) room) parts.1 ok.0 (omega arith) count front,
         rest_at ns c k rest l s w n j x z x.spot r ts p n.block w.hand whole h (omega arith) group
-            (locals_back ns c n.local j.local (branch_locals bs) (body_locals k) (omega (arith, branch_locals_count bs)) room) parts.1 ok.1
+            (locals_back ns c n.local j.local (branch_locals bs) (body_locals k) (omega (arith, branch_locals_count bs)) room) parts.2 ok.1
             (omega (arith, blocks)) moves st,
       )
     where

@@ -21,10 +21,10 @@ use Rattle.flow_rules.specs.Least.{lesser, unless}
 use Rattle.flow_rules.specs.Known.{is_predefined}
 use Rattle.flow_rules.specs.Judged.{Setting}
 use Rattle.flow_rules.specs.Items.{Env, item, with_var, with_states, in_loop, in_catch, slot_names, behind, if_state, declared, waited, written, among, fresh, state_here, into_fault, maybe_into, throw_fault, declare_fault, started, body_refusal, branch_refusal}
-use Rattle.flow_lowering_laws.specs.Actors.Parts.{IsInit, HasParts, HaveParts}
-use Rattle.flow_lowering_laws.specs.Actors.InPlace.{NotAmong, naming_if, naming, naming_any, IsThrown, slot_of, HasSlot, MayDeclare, MayTake, InPlace, AllInPlace}
+use Rattle.flow_tree.specs.Formed.{IsInit}
+use Rattle.flow_lowering_laws.specs.Actors.Parts.{HasParts, HaveParts}
+use Rattle.flow_lowering_laws.specs.Actors.InPlace.{NotAmong, naming_if, naming, naming_any, IsThrown, MayDeclare, MayTake, InPlace, AllInPlace}
 use Rattle.flow_lowering_laws.specs.Actors.InPlace as place
-use Rattle.flow_lowering_laws.proofs.Actors.Groups.{step_parts, init_parts}
 
 -- what can't be
 some_none : {A : Type 0} {x : A} → Some x ≡ None → ⊥
@@ -247,13 +247,13 @@ module _ (all_slots : List SlotTree) where
     in_place End e l t xs before rest p h el ec st = tt
     in_place (BlockStmt at b k) e l t xs before rest p h el ec st =
         let a = neither (body_refusal e b) _ h in (
-          in_place b e l t xs before (body_slots k ++ rest) p.0 a.0 el ec (first_of_two e.setting.vars e.states xs before (body_slots b) (body_slots k) rest st),
-          in_place k (behind e b) l t xs (before ++ body_slots b) rest p.1 a.1 el ec (second_of_two e.setting.vars e.states xs before (body_slots b) (body_slots k) rest st),
+          in_place b e l t xs before (body_slots k ++ rest) p.1 a.0 el ec (first_of_two e.setting.vars e.states xs before (body_slots b) (body_slots k) rest st),
+          in_place k (behind e b) l t xs (before ++ body_slots b) rest p.2 a.1 el ec (second_of_two e.setting.vars e.states xs before (body_slots b) (body_slots k) rest st),
         )
     in_place (IfStmt at v b k) e l t xs before rest p h el ec st =
         let a = neither (body_refusal e b) _ (neither _ _ h).1 in (
-          in_place b e l t xs before (body_slots k ++ rest) p.0 a.0 el ec (first_of_two e.setting.vars e.states xs before (body_slots b) (body_slots k) rest st),
-          in_place k (behind e b) l t xs (before ++ body_slots b) rest p.1 a.1 el ec (second_of_two e.setting.vars e.states xs before (body_slots b) (body_slots k) rest st),
+          in_place b e l t xs before (body_slots k ++ rest) p.1 a.0 el ec (first_of_two e.setting.vars e.states xs before (body_slots b) (body_slots k) rest st),
+          in_place k (behind e b) l t xs (before ++ body_slots b) rest p.2 a.1 el ec (second_of_two e.setting.vars e.states xs before (body_slots b) (body_slots k) rest st),
         )
     in_place (IfElseStmt at v b d k) e l t xs before rest p h el ec st =
         let a = neither (body_refusal e b) _ (neither _ _ h).1 in
@@ -261,19 +261,19 @@ module _ (all_slots : List SlotTree) where
         let s = regrouped e.setting.vars e.states xs before (body_slots b) (body_slots d) (body_slots k) rest st in
         let s2 = second_of_two e.setting.vars e.states xs before (body_slots b) (body_slots d ++ body_slots k) rest s in
         let f = behind e b in (
-          in_place b e l t xs before (body_slots d ++ body_slots k ++ rest) p.0 a.0 el ec (first_of_two e.setting.vars e.states xs before (body_slots b) (body_slots d ++ body_slots k) rest s),
-          in_place d f l t xs (before ++ body_slots b) (body_slots k ++ rest) p.1 c.0 el ec (first_of_two f.setting.vars f.states xs (before ++ body_slots b) (body_slots d) (body_slots k) rest s2),
-          in_place k (behind f d) l t xs (before ++ body_slots b ++ body_slots d) rest p.2 c.1 el ec (second_of_two f.setting.vars f.states xs (before ++ body_slots b) (body_slots d) (body_slots k) rest s2),
+          in_place b e l t xs before (body_slots d ++ body_slots k ++ rest) p.1 a.0 el ec (first_of_two e.setting.vars e.states xs before (body_slots b) (body_slots d ++ body_slots k) rest s),
+          in_place d f l t xs (before ++ body_slots b) (body_slots k ++ rest) p.2 c.0 el ec (first_of_two f.setting.vars f.states xs (before ++ body_slots b) (body_slots d) (body_slots k) rest s2),
+          in_place k (behind f d) l t xs (before ++ body_slots b ++ body_slots d) rest p.3 c.1 el ec (second_of_two f.setting.vars f.states xs (before ++ body_slots b) (body_slots d) (body_slots k) rest s2),
         )
     in_place (WhileStmt at v b k) e l t xs before rest p h el ec st =
         let a = neither (body_refusal (in_loop e) b) _ (neither _ _ h).1 in (
-          in_place b (in_loop e) true t xs before (body_slots k ++ rest) p.0 a.0 refl ec (first_of_two e.setting.vars e.states xs before (body_slots b) (body_slots k) rest st),
-          in_place k (behind e b) l t xs (before ++ body_slots b) rest p.1 a.1 el ec (second_of_two e.setting.vars e.states xs before (body_slots b) (body_slots k) rest st),
+          in_place b (in_loop e) true t xs before (body_slots k ++ rest) p.1 a.0 refl ec (first_of_two e.setting.vars e.states xs before (body_slots b) (body_slots k) rest st),
+          in_place k (behind e b) l t xs (before ++ body_slots b) rest p.2 a.1 el ec (second_of_two e.setting.vars e.states xs before (body_slots b) (body_slots k) rest st),
         )
     in_place (LoopStmt at b k) e l t xs before rest p h el ec st =
         let a = neither (body_refusal (in_loop e) b) _ h in (
-          in_place b (in_loop e) true t xs before (body_slots k ++ rest) p.0 a.0 refl ec (first_of_two e.setting.vars e.states xs before (body_slots b) (body_slots k) rest st),
-          in_place k (behind e b) l t xs (before ++ body_slots b) rest p.1 a.1 el ec (second_of_two e.setting.vars e.states xs before (body_slots b) (body_slots k) rest st),
+          in_place b (in_loop e) true t xs before (body_slots k ++ rest) p.1 a.0 refl ec (first_of_two e.setting.vars e.states xs before (body_slots b) (body_slots k) rest st),
+          in_place k (behind e b) l t xs (before ++ body_slots b) rest p.2 a.1 el ec (second_of_two e.setting.vars e.states xs before (body_slots b) (body_slots k) rest st),
         )
     in_place (ForStmt at i v n b k) e l t xs before rest p h el ec st =
         let a = neither (body_refusal e i) _ h in
@@ -287,29 +287,29 @@ module _ (all_slots : List SlotTree) where
         let f = started e i in
         let ys = place.started i xs in
         let s = regrouped vars e.states xs before i1 n1 b1 (k1 ++ rest) (first_of_two vars e.states xs before (i1 ++ n1 ++ b1) k1 rest st) in
-        let after = starts i e xs before (n1 ++ b1) (k1 ++ rest) p.0 a.0 s in
+        let after = starts i e xs before (n1 ++ b1) (k1 ++ rest) p.0.0 a.0 s in
         let whole = regrouped vars e.states xs before i1 n1 (b1 ++ k1) rest (regrouped vars e.states xs before (i1 ++ n1) b1 k1 rest st) in
         let g = behind e i in
         let j = behind g n in
-        let fl = started_looped e i p.0 ∙ el in
-        let fc = started_caught e i p.0 ∙ ec in
+        let fl = started_looped e i p.0.0 ∙ el in
+        let fc = started_caught e i p.0.0 ∙ ec in
         let s2 = second_of_two vars e.states xs before i1 (n1 ++ (b1 ++ k1)) rest whole in
         let s3 = second_of_two vars g.states xs (before ++ i1) n1 (b1 ++ k1) rest s2 in (
-          in_place i e l t xs before (n1 ++ b1 ++ (k1 ++ rest)) (init_parts i p.0) a.0 el ec (first_of_two vars e.states xs before i1 (n1 ++ b1) (k1 ++ rest) s),
-          in_place n f l t ys (before ++ i1) (b1 ++ (k1 ++ rest)) (step_parts n p.1) c.0 fl fc (first_of_two f.setting.vars f.states ys (before ++ i1) n1 b1 (k1 ++ rest) after),
-          in_place b (in_loop (behind f n)) true t ys (before ++ i1 ++ n1) (k1 ++ rest) p.2 d.0 refl fc (second_of_two f.setting.vars f.states ys (before ++ i1) n1 b1 (k1 ++ rest) after),
-          in_place k (behind j b) l t xs (before ++ i1 ++ n1 ++ b1) rest p.3 d.1 el ec (second_of_two vars j.states xs (before ++ i1 ++ n1) b1 k1 rest s3),
+          in_place i e l t xs before (n1 ++ b1 ++ (k1 ++ rest)) p.1 a.0 el ec (first_of_two vars e.states xs before i1 (n1 ++ b1) (k1 ++ rest) s),
+          in_place n f l t ys (before ++ i1) (b1 ++ (k1 ++ rest)) p.2 c.0 fl fc (first_of_two f.setting.vars f.states ys (before ++ i1) n1 b1 (k1 ++ rest) after),
+          in_place b (in_loop (behind f n)) true t ys (before ++ i1 ++ n1) (k1 ++ rest) p.3 d.0 refl fc (second_of_two f.setting.vars f.states ys (before ++ i1) n1 b1 (k1 ++ rest) after),
+          in_place k (behind j b) l t xs (before ++ i1 ++ n1 ++ b1) rest p.4 d.1 el ec (second_of_two vars j.states xs (before ++ i1 ++ n1) b1 k1 rest s3),
         )
     in_place (BreakStmt at k) e l t xs before rest p h el ec st =
         let a = neither _ (body_refusal e k) h in
-        (sym el ∙ holds _ _ (no_fault at _ a.0), in_place k e l t xs before rest p a.1 el ec st)
+        (sym el ∙ holds _ _ (no_fault at _ a.0), in_place k e l t xs before rest p.1 a.1 el ec st)
     in_place (ContinueStmt at k) e l t xs before rest p h el ec st =
         let a = neither _ (body_refusal e k) h in
-        (sym el ∙ holds _ _ (no_fault at _ a.0), in_place k e l t xs before rest p a.1 el ec st)
-    in_place (ReturnStmt at v k) e l t xs before rest p h el ec st = in_place k e l t xs before rest p (neither _ (body_refusal e k) h).1 el ec st
+        (sym el ∙ holds _ _ (no_fault at _ a.0), in_place k e l t xs before rest p.1 a.1 el ec st)
+    in_place (ReturnStmt at v k) e l t xs before rest p h el ec st = in_place k e l t xs before rest p.1 (neither _ (body_refusal e k) h).1 el ec st
     in_place (ThrowStmt at v k) e l t xs before rest p h el ec st =
         let a = neither _ (body_refusal e k) h in
-        (is_thrown e.setting e.caught t v ec (no_fault at _ a.0), in_place k e l t xs before rest p a.1 el ec st)
+        (is_thrown e.setting e.caught t v ec (no_fault at _ a.0), in_place k e l t xs before rest p.1 a.1 el ec st)
     in_place (TryStmt at b q x d k) e l t xs before rest p h el ec st =
         let a = neither (body_refusal e b) _ h in
         let f = behind e b in
@@ -318,28 +318,28 @@ module _ (all_slots : List SlotTree) where
         let s2 = second_of_two e.setting.vars e.states xs before (body_slots b) (body_slots d ++ body_slots k) rest s in
         let caught = with_local f.setting.vars f.states xs (before ++ body_slots b) (body_slots d) (body_slots k ++ rest) x.name ErrorType
         (first_of_two f.setting.vars f.states xs (before ++ body_slots b) (body_slots d) (body_slots k) rest s2) in (
-          in_place b e l t xs before (body_slots d ++ body_slots k ++ rest) p.0 a.0 el ec (first_of_two e.setting.vars e.states xs before (body_slots b) (body_slots d ++ body_slots k) rest s),
-          in_place d (in_catch (with_var f x.name ErrorType)) l true (x.name ∷ xs) (before ++ body_slots b) (body_slots k ++ rest) p.1 c.0 el refl caught,
-          in_place k (behind f d) l t xs (before ++ body_slots b ++ body_slots d) rest p.2 c.1 el ec (second_of_two f.setting.vars f.states xs (before ++ body_slots b) (body_slots d) (body_slots k) rest s2),
+          in_place b e l t xs before (body_slots d ++ body_slots k ++ rest) p.1 a.0 el ec (first_of_two e.setting.vars e.states xs before (body_slots b) (body_slots d ++ body_slots k) rest s),
+          in_place d (in_catch (with_var f x.name ErrorType)) l true (x.name ∷ xs) (before ++ body_slots b) (body_slots k ++ rest) p.2 c.0 el refl caught,
+          in_place k (behind f d) l t xs (before ++ body_slots b ++ body_slots d) rest p.3 c.1 el ec (second_of_two f.setting.vars f.states xs (before ++ body_slots b) (body_slots d) (body_slots k) rest s2),
         )
     in_place (ChooseStmt at bs k) e l t xs before rest p h el ec st =
         let a = neither (branch_refusal e bs) _ (neither _ _ h).1 in (
-          all_in_place bs e l t xs before (body_slots k ++ rest) p.0 a.0 el ec (first_of_two e.setting.vars e.states xs before (branch_slots bs) (body_slots k) rest st),
-          in_place k (with_states e (slot_names (branch_slots bs))) l t xs (before ++ branch_slots bs) rest p.1 a.1 el ec (second_of_two e.setting.vars e.states xs before (branch_slots bs) (body_slots k) rest st),
+          all_in_place bs e l t xs before (body_slots k ++ rest) p.1 a.0 el ec (first_of_two e.setting.vars e.states xs before (branch_slots bs) (body_slots k) rest st),
+          in_place k (with_states e (slot_names (branch_slots bs))) l t xs (before ++ branch_slots bs) rest p.2 a.1 el ec (second_of_two e.setting.vars e.states xs before (branch_slots bs) (body_slots k) rest st),
         )
     in_place (DeclareStmt at i v k) e l t xs before rest p h el ec st =
         let a = neither _ (body_refusal (declared e i) k) h in
         let b = none_lesser (into_fault e.setting e.states i) _ (no_fault at _ a.0) in
         let d = declares e.setting e.states xs before (body_slots k) rest i b.0 st in
-        (d.may, in_place k (declared e i) l t (naming i xs) (before ++ declared_slots i) rest p a.1 el ec d.stands)
-    in_place (AssignStmt at ys v k) e l t xs before rest p h el ec st = in_place k e l t xs before rest p (neither _ (body_refusal e k) h).1 el ec st
+        (d.may, in_place k (declared e i) l t (naming i xs) (before ++ declared_slots i) rest p.1 a.1 el ec d.stands)
+    in_place (AssignStmt at ys v k) e l t xs before rest p h el ec st = in_place k e l t xs before rest p.1 (neither _ (body_refusal e k) h).1 el ec st
     in_place (ModifyStmt at ys d k) e l t xs before rest p h el ec st = in_place k e l t xs before rest p.1 (neither _ (body_refusal e k) h).1 el ec st
-    in_place (CallStmt at ys es k) e l t xs before rest p h el ec st = in_place k e l t xs before rest p (neither _ (body_refusal e k) h).1 el ec st
+    in_place (CallStmt at ys es k) e l t xs before rest p h el ec st = in_place k e l t xs before rest p.1 (neither _ (body_refusal e k) h).1 el ec st
     in_place (WaitStmt at w k) e l t xs before rest p h el ec st =
         let a = neither _ (body_refusal (waited e w.into) k) h in
         let b = none_lesser (maybe_into e.setting e.states w.into) _ (no_fault at _ a.0) in
         let d = takes e xs before (body_slots k) rest w.into b.0 st in
-        (d.may, in_place k (waited e w.into) l t (naming_any w.into xs) (before ++ into_slots w.into) rest p a.1 (waited_looped e w.into ∙ el) (waited_caught e w.into ∙ ec) d.stands)
+        (d.may, in_place k (waited e w.into) l t (naming_any w.into xs) (before ++ into_slots w.into) rest p.1 a.1 (waited_looped e w.into ∙ el) (waited_caught e w.into ∙ ec) d.stands)
 
     all_in_place : (bs : Branches) (e : Env) (l t : Bool) (xs : List (List ℕ)) (before rest : List SlotTree) → HaveParts bs → branch_refusal e bs ≡ None → e.looped ≡ l → e.caught ≡ t
         → Stand e.setting.vars e.states xs before (branch_slots bs) rest → AllInPlace all_slots l t xs bs
@@ -353,8 +353,8 @@ module _ (all_slots : List SlotTree) where
         let d = takes e xs before (body_slots b ++ branch_slots bs) rest w.into f.0 s in
         let g = waited e w.into in (
           d.may,
-          in_place b g l t (naming_any w.into xs) (before ++ mine) (branch_slots bs ++ rest) p.0 c.0 (waited_looped e w.into ∙ el) (waited_caught e w.into ∙ ec)
+          in_place b g l t (naming_any w.into xs) (before ++ mine) (branch_slots bs ++ rest) p.1 c.0 (waited_looped e w.into ∙ el) (waited_caught e w.into ∙ ec)
               (first_of_two g.setting.vars g.states (naming_any w.into xs) (before ++ mine) (body_slots b) (branch_slots bs) rest d.stands),
-          all_in_place bs (with_states e (slot_names (mine ++ body_slots b))) l t xs (before ++ (mine ++ body_slots b)) rest p.1 c.1 el ec
+          all_in_place bs (with_states e (slot_names (mine ++ body_slots b))) l t xs (before ++ (mine ++ body_slots b)) rest p.2 c.1 el ec
               (second_of_two e.setting.vars e.states xs before (mine ++ body_slots b) (branch_slots bs) rest st),
         )

@@ -32,7 +32,7 @@ use Rattle.flow_lowering_laws.proofs.Actors.Further.{locals_count}
 use Rattle.flow_lowering_laws.proofs.Actors.Shapes.{keeps_shape}
 use Rattle.flow_lowering_laws.proofs.Actors.Whole.{keeps_text}
 use Rattle.flow_lowering_laws.specs.Programs.{HasFewPlaces, IsFaithful}
-use Rattle.flow_lowering_laws.proofs.Programs.Grammar.{begun, variables, slots_count, stmts_make}
+use Rattle.flow_lowering_laws.proofs.Programs.Grammar.{begun, variables, slots_count, stmts_make, stmts_parts}
 use Rattle.flow_lowering_laws.proofs.Programs.Rules.{neither, in_place}
 
 -- something holds of each actor
@@ -68,10 +68,10 @@ routine_formed : {actor : Bool} {at : Place} {t : TypeTree} {all : List Marked} 
 routine_formed (routine p q r close x params xs ps b eq) =
     let m = stmts_make b in
     record {
-      parts = m.parts;
+      parts = stmts_parts b;
       few = omega (
         arith,
-        m.few,
+        m,
         params_few ps,
         ap length eq,
         length-append params (sign_at sign.CloseRound q ∷ sign_at sign.OpenCurly r ∷ (xs ++ sign_at sign.CloseCurly close ∷ [])),

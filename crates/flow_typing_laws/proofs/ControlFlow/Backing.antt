@@ -10,8 +10,9 @@ use Rattle.std.specs.declared.option.Option.{Option}
 use Rattle.std.specs.declared.option.Option.TheVariants.{None, Some}
 use Rattle.flow_base.specs.declared.place.Place.{Place}
 use Rattle.flow_tree.specs.declared.ty.Ident.{Ident}
-use Rattle.flow_tree.specs.Tree.{ExprTree, ExprTrees, IntExpr, TextExpr, BoolExpr, VoidExpr, VarExpr, CallExpr, FieldExpr, MethodExpr, NotExpr, NegExpr, BinaryExpr, ParenExpr, NoExprs, MoreExprs}
+use Rattle.flow_tree.specs.Tree.{ExprTree, ExprTrees}
 use Rattle.flow_tree.specs.Body.{ChangeTree, PlusChange, MinusChange, UpChange, DownChange}
+use Rattle.flow_tree.proofs.Folds.{names_agree, all_names_agree}
 use Rattle.flow_staterule.specs.declared.scope.Point.{Point}
 use Rattle.flow_staterule.specs.declared.scope.Use.{Use}
 use Rattle.flow_staterule.specs.declared.uses.Caught.{Caught}
@@ -166,24 +167,22 @@ module _ (tell : ℕ → Note) (g : List (Edge ℕ)) where
   apart : (m : ℕ) (vs : List Named) (us ws : List Use) (xs ys : List Ident) → Each us (of_names vs m xs) → Each ws (of_names vs m ys) → Each (us ++ ws) (of_names vs m (xs ++ ys))
   apart m vs us ws xs ys e k = subst (Each (us ++ ws)) (sym (names_apart vs m xs ys)) (each_then ws (of_names vs m ys) e k)
 
-  mutual
-    pub expr_fits : (m : ℕ) (vs : List Named) (p : Point) (e : ExprTree) → Here m vs p → Each (expr_uses (map variable_of vs) p e) (of_names vs m (expr_names e))
-    expr_fits m vs p (IntExpr n) k = no_uses
-    expr_fits m vs p (TextExpr t) k = no_uses
-    expr_fits m vs p (BoolExpr b) k = no_uses
-    expr_fits m vs p VoidExpr k = no_uses
-    expr_fits m vs p (VarExpr x) k = alone m vs _ x (one_fits m vs p x k)
-    expr_fits m vs p (CallExpr f es) k = exprs_fit m vs p es k
-    expr_fits m vs p (FieldExpr e x) k = expr_fits m vs p e k
-    expr_fits m vs p (MethodExpr e x es) k = apart m vs _ _ (expr_names e) (exprs_names es) (expr_fits m vs p e k) (exprs_fit m vs p es k)
-    expr_fits m vs p (NotExpr e) k = expr_fits m vs p e k
-    expr_fits m vs p (NegExpr e) k = expr_fits m vs p e k
-    expr_fits m vs p (BinaryExpr op a b) k = apart m vs _ _ (expr_names a) (expr_names b) (expr_fits m vs p a k) (expr_fits m vs p b k)
-    expr_fits m vs p (ParenExpr e) k = expr_fits m vs p e k
+  -- each name of an expression by itself, and one part with another
+  module _ (m : ℕ) (vs : List Named) (p : Point) (k : Here m vs p) where
+    abbrev FitsAll : List Use → List Ident → Type 0
+    FitsAll us xs = Each us (of_names vs m xs)
 
-    pub exprs_fit : (m : ℕ) (vs : List Named) (p : Point) (es : ExprTrees) → Here m vs p → Each (exprs_uses (map variable_of vs) p es) (of_names vs m (exprs_names es))
-    exprs_fit m vs p NoExprs k = no_uses
-    exprs_fit m vs p (MoreExprs e es) k = apart m vs _ _ (expr_names e) (exprs_names es) (expr_fits m vs p e k) (exprs_fit m vs p es k)
+    each_name : (x : Ident) → FitsAll (named (map variable_of vs) p x) (x ∷ [])
+    each_name x = alone m vs _ x (one_fits m vs p x k)
+
+    both_fit : (us ws : List Use) (xs ys : List Ident) → FitsAll us xs → FitsAll ws ys → FitsAll (us ++ ws) (xs ++ ys)
+    both_fit us ws xs ys e h = apart m vs us ws xs ys e h
+
+  pub expr_fits : (m : ℕ) (vs : List Named) (p : Point) (e : ExprTree) → Here m vs p → Each (expr_uses (map variable_of vs) p e) (of_names vs m (expr_names e))
+  expr_fits m vs p e k = names_agree (FitsAll m vs p k) (named (map variable_of vs) p) (λ x. x ∷ []) no_uses (each_name m vs p k) (both_fit m vs p k) e
+
+  pub exprs_fit : (m : ℕ) (vs : List Named) (p : Point) (es : ExprTrees) → Here m vs p → Each (exprs_uses (map variable_of vs) p es) (of_names vs m (exprs_names es))
+  exprs_fit m vs p es k = all_names_agree (FitsAll m vs p k) (named (map variable_of vs) p) (λ x. x ∷ []) no_uses (each_name m vs p k) (both_fit m vs p k) es
 
   pub maybe_fits : (m : ℕ) (vs : List Named) (p : Point) (e : Option ExprTree) → Here m vs p → Each (maybe_uses (map variable_of vs) p e) (of_names vs m (maybe_names e))
   maybe_fits m vs p None k = no_uses

@@ -8,16 +8,17 @@ use Rattle.std.specs.declared.option.Option.TheVariants.{None, Some}
 use Rattle.flow_base.specs.declared.place.Place.{Place}
 use Rattle.flow_tree.specs.Body.{Body}
 use Rattle.flow_tree.specs.Decls.{ParamTree, DeclTree, StructDecl, FunctionDecl, ActorDecl}
+use Rattle.flow_tree.specs.Formed.{InDecl}
 use Rattle.flow_staterule.specs.declared.rule.Lost.{Lost}
 use Rattle.flow_staterule.specs.declared.scope.Use.{Use}
 use Rattle.flow_staterule.specs.Ways.{at_once}
-use Rattle.flow_staterule.specs.Uses.{Variable, is_stale, begins}
+use Rattle.flow_staterule.specs.Uses.{begins}
 use Rattle.flow_staterule.specs.Uses as rule
 use Rattle.flow_staterule.specs.StateRule.{wait_places, routine_uses, first_stale, is_stale_use, is_lost_with, first_with, lost_at, told_of, lost_in, lost_in_decl, first_of, first_lost}
 use Rattle.flow_typing_laws.specs.ControlFlow.Graph.{Edge}
 use Rattle.flow_typing_laws.specs.ControlFlow.Control.{control, closing, first}
 use Rattle.flow_typing_laws.specs.ControlFlow.Mentions.{Declared, Named, Mention, Wait, parameter, routine_mentions, waits}
-use Rattle.flow_typing_laws.specs.ControlFlow.Laws.{HasSimpleParts, IsBad, IsFirstBad, LostIn, LostInDecl, FirstLost, nothing, here, later, DeclHasSimpleParts, LostByWalk}
+use Rattle.flow_typing_laws.specs.ControlFlow.Laws.{HasSimpleParts, IsBad, IsFirstBad, LostIn, LostInDecl, FirstLost, nothing, here, later, LostByWalk}
 use Rattle.flow_typing_laws.proofs.ControlFlow.Notes.{Note, note, Tells, tells_itself}
 use Rattle.flow_typing_laws.proofs.ControlFlow.Leading.{Has}
 use Rattle.flow_typing_laws.proofs.ControlFlow.Flowing.{Below, Kept, flow_from}
@@ -358,7 +359,7 @@ module _ (ps : List ParamTree) (b : Body) (s : HasSimpleParts b) where
       of_first (Some m) e = of_use m (slice_get (routine_uses ps b many) m) e refl
 
 -- declaration by declaration
-decl_lost : (d : DeclTree) → DeclHasSimpleParts d → LostInDecl d (lost_in_decl d)
+decl_lost : (d : DeclTree) → InDecl HasSimpleParts d → LostInDecl d (lost_in_decl d)
 decl_lost (StructDecl r) s = refl
 decl_lost (FunctionDecl f) s = lost_by_walk f.params f.body s
 decl_lost (ActorDecl f) s = lost_by_walk f.params f.body s

@@ -6,7 +6,8 @@ use Rattle.std.proofs.lemmas.List.Elements.{All-nil, All-cons, All-append, All-m
 use Rattle.std.specs.declared.option.Option.{Option}
 use Rattle.std.specs.declared.option.Option.TheVariants.{None, Some}
 use Rattle.flow_tree.specs.declared.ty.Ident.{Ident}
-use Rattle.flow_tree.specs.Body.{IntoTree, Body, End, BlockStmt, IfStmt, IfElseStmt, WhileStmt, ForStmt, LoopStmt, BreakStmt, ContinueStmt, ReturnStmt, ThrowStmt, TryStmt, ChooseStmt, DeclareStmt, AssignStmt, ModifyStmt, CallStmt, WaitStmt}
+use Rattle.flow_tree.specs.Body.{IntoTree, Body, End, WhileStmt, ForStmt, LoopStmt, ChooseStmt, WaitStmt}
+use Rattle.flow_tree.proofs.ForParts.{InitKind, no_init, declares, assigns, modifies, init_kind}
 use Rattle.flow_staterule.specs.declared.scope.Point.{Point}
 use Rattle.flow_staterule.specs.declared.ways.Reached.{Reached}
 use Rattle.flow_staterule.specs.declared.ways.Ways.{Ways}
@@ -14,7 +15,7 @@ use Rattle.flow_staterule.specs.Ways.{ways, at_once, is_reached, sequence, head,
 use Rattle.flow_typing_laws.specs.ControlFlow.Graph.{Edge}
 use Rattle.flow_typing_laws.specs.ControlFlow.Control.{points, Around, listed, leads, statement, first, edge}
 use Rattle.flow_typing_laws.specs.ControlFlow.Mentions.{Declared, Named, local_at, declared, with_into, declaring}
-use Rattle.flow_typing_laws.specs.ControlFlow.Laws.{IsInit, IsStep, HasSimpleParts}
+use Rattle.flow_typing_laws.specs.ControlFlow.Laws.{HasSimpleParts}
 use Rattle.flow_typing_laws.proofs.ControlFlow.Notes.{Note, note, wait_note, behind_all, for_round, for_point, notes, Tells}
 use Rattle.flow_typing_laws.proofs.ControlFlow.Leading.{Has, has_below, Into, into_less, less_head, into_self, into_back, behind_from, behind_stale, within_behind, Exits, exits_rest}
 
@@ -28,38 +29,6 @@ pub record Flow (x : ℕ) (a b : Note) : Type 0 where
 -- all variables are declared at points below this one
 abbrev pub Below : ℕ → List Named → Type 0
 Below m vs = (j : ℕ) (d : Declared) → Has vs j d → d.point < m
-
--- a part of a `for`
-pub data InitKind : Body → Type 0 where
-  no_init : InitKind End
-  declares : (at : _) (i : _) (v : _) → InitKind (DeclareStmt at i v End)
-  assigns : (at : _) (xs : _) (v : _) → InitKind (AssignStmt at xs v End)
-  modifies : (at : _) (xs : _) (c : _) → InitKind (ModifyStmt at xs c End)
-
-pub init_kind : (i : Body) → IsInit i → InitKind i
-init_kind End s = no_init
-init_kind (DeclareStmt at i v End) s = declares at i v
-init_kind (AssignStmt at xs v End) s = assigns at xs v
-init_kind (ModifyStmt at xs c End) s = modifies at xs c
-init_kind b s = absurd s
-
-pub step_parts : (t : Body) → IsStep t → HasSimpleParts t
-step_parts End s = tt
-step_parts (AssignStmt at xs v End) s = tt
-step_parts (ModifyStmt at xs c End) s = tt
-step_parts b s = absurd s
-
--- the first point of a step, or of what follows it
-pub data StepKind : Body → Type 0 where
-  no_step : StepKind End
-  assigned : (at : _) (xs : _) (v : _) → StepKind (AssignStmt at xs v End)
-  modified : (at : _) (xs : _) (c : _) → StepKind (ModifyStmt at xs c End)
-
-pub step_kind : (t : Body) → IsStep t → StepKind t
-step_kind End s = no_step
-step_kind (AssignStmt at xs v End) s = assigned at xs v
-step_kind (ModifyStmt at xs c End) s = modified at xs c
-step_kind b s = absurd s
 
 abbrev pub point_of : Option Declared → ℕ
 point_of None = 0
@@ -189,23 +158,12 @@ module _ (tell : ℕ → Note) where
 
   pub into_first : (n : ℕ) (b : Body) (m : ℕ) (vs : List Named) (p : Point) (f : ℕ) → HasSimpleParts b → Tells tell m (notes n b m vs p) → Into (ways n b).ends vs p (tell f) → Into at_once vs p (tell (first b m f))
   into_first n End m vs p f s h i = i
-  into_first n (BlockStmt at b k) m vs p f s h i = into_here vs p m h.0
-  into_first n (IfStmt at e b k) m vs p f s h i = into_here vs p m h.0
-  into_first n (IfElseStmt at e b c k) m vs p f s h i = into_here vs p m h.0
   into_first n (WhileStmt at e b k) m vs p f s h i = into_headed (ways n b) vs p m h.0
-  into_first n (ForStmt at j e t b k) m vs p f s h i = into_for n m vs p j t b f _ (init_kind j s.0) h
+  into_first n (ForStmt at j e t b k) m vs p f s h i = into_for n m vs p j t b f _ (init_kind j s.0.0) h
   into_first n (LoopStmt at b k) m vs p f s h i = into_headed (ways n b) vs p m h.0
-  into_first n (BreakStmt at k) m vs p f s h i = into_here vs p m h.0
-  into_first n (ContinueStmt at k) m vs p f s h i = into_here vs p m h.0
-  into_first n (ReturnStmt at v k) m vs p f s h i = into_here vs p m h.0
-  into_first n (ThrowStmt at v k) m vs p f s h i = into_here vs p m h.0
-  into_first n (TryStmt at b q x c k) m vs p f s h i = into_here vs p m h.0
   into_first n (ChooseStmt at bs k) m vs p f s h i = into_waiting n vs p m h.0
-  into_first n (DeclareStmt at v e k) m vs p f s h i = into_here vs p m h.0
-  into_first n (AssignStmt at xs v k) m vs p f s h i = into_here vs p m h.0
-  into_first n (ModifyStmt at xs c k) m vs p f s h i = into_here vs p m h.0
-  into_first n (CallStmt at xs es k) m vs p f s h i = into_here vs p m h.0
   into_first n (WaitStmt at w k) m vs p f s h i = into_waiting n vs p m h.0
+  into_first n _ m vs p f s h i = into_here vs p m h.0
 
   -- what comes behind a statement that is left so
   pub into_next : (w : Ways) (n : ℕ) (k : Body) (m : ℕ) (vs : List Named) (p : Point) (a : Around) → HasSimpleParts k → Tells tell m (notes n k m vs (behind_all vs p w.ends)) → Exits tell (sequence w (ways n k)) vs p a

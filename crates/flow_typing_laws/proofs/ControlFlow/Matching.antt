@@ -6,6 +6,7 @@ use Rattle.std.specs.declared.option.Option.{Option}
 use Rattle.std.specs.declared.option.Option.TheVariants.{None, Some}
 use Rattle.flow_tree.specs.declared.ty.Ident.{Ident}
 use Rattle.flow_tree.specs.Body.{IntoTree, Body}
+use Rattle.flow_tree.proofs.ForParts.{InitKind, no_init, declares, assigns, modifies}
 use Rattle.flow_staterule.specs.declared.scope.Point.{Point}
 use Rattle.flow_staterule.specs.declared.scope.Use.{Use}
 use Rattle.flow_staterule.specs.declared.uses.Caught.{Caught}
@@ -16,10 +17,9 @@ use Rattle.flow_staterule.specs.Uses as rule
 use Rattle.flow_typing_laws.specs.ControlFlow.Graph.{Edge, Leads}
 use Rattle.flow_typing_laws.specs.ControlFlow.Control.{points, Around, followed_by, statement, first, edges}
 use Rattle.flow_typing_laws.specs.ControlFlow.Mentions.{Declared, Named, Mention, local_at, declared, with_into, declaring}
-use Rattle.flow_typing_laws.specs.ControlFlow.Laws.{HasSimpleParts}
 use Rattle.flow_typing_laws.proofs.ControlFlow.Notes.{Note, note, wait_note, behind_all}
 use Rattle.flow_typing_laws.proofs.ControlFlow.Leading.{Has}
-use Rattle.flow_typing_laws.proofs.ControlFlow.Flowing.{Below, InitKind, no_init, declares, assigns, modifies, into_point}
+use Rattle.flow_typing_laws.proofs.ControlFlow.Flowing.{Below, into_point}
 use Rattle.flow_typing_laws.proofs.ControlFlow.Walking.{goes_trail, trail_step, Part, part_left, statement_first}
 use Rattle.flow_typing_laws.proofs.ControlFlow.Backing.{variable_of, Real, real_then, real_declared, Here, Each, IsCaught}
 
@@ -76,12 +76,6 @@ init_alike m _ vs vs' no_init e = e
 init_alike m _ vs vs' (declares at i v) e = declared_alike m i vs vs' e
 init_alike m _ vs vs' (assigns at xs v) e = e
 init_alike m _ vs vs' (modifies at xs c) e = e
-
-pub init_parts : (i : Body) → InitKind i → HasSimpleParts i
-init_parts _ no_init = tt
-init_parts _ (declares at i v) = tt
-init_parts _ (assigns at xs v) = tt
-init_parts _ (modifies at xs c) = tt
 
 within_cases : (f w : Bool) (d : ℕ) (p : Point) → p.stale ≤ d → (behind d p (record { fresh = f; waited = w })).stale ≤ d
 within_cases f true d p l = omega arith

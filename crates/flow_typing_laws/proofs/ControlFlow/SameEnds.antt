@@ -1,7 +1,8 @@
 -- The test by structure says what the ways out say.
 use Rattle.std.proofs.Common.{◌≡◌, ℕ, ◌-◌, Bool, true, false, ◌||◌, ◌&&◌, length, refl, sym, ap, ap₂, ◌∙◌, rules}
 use Rattle.std.proofs.lemmas.Bool.{false≢true, true≢false}
-use Rattle.flow_tree.specs.Body.{Body, End, BlockStmt, IfStmt, IfElseStmt, WhileStmt, ForStmt, LoopStmt, BreakStmt, ContinueStmt, ReturnStmt, ThrowStmt, TryStmt, ChooseStmt, DeclareStmt, AssignStmt, ModifyStmt, CallStmt, WaitStmt, Branches, NoBranches, MoreBranches}
+use Rattle.flow_tree.specs.Body.{Body, End, BlockStmt, IfStmt, IfElseStmt, WhileStmt, ForStmt, LoopStmt, TryStmt, ChooseStmt, DeclareStmt, AssignStmt, ModifyStmt, CallStmt, WaitStmt, Branches, NoBranches, MoreBranches}
+use Rattle.flow_tree.proofs.ForParts.{InitKind, no_init, declares, assigns, modifies, init_kind}
 use Rattle.flow_ast.specs.Slots.{branch_groups}
 use Rattle.flow_ast.specs.Typing.{is_there}
 use Rattle.flow_ast.specs.Leaving.{has_statement}
@@ -11,7 +12,7 @@ use Rattle.flow_staterule.specs.declared.ways.Ways.{Ways}
 use Rattle.flow_staterule.specs.Ways.{ways, branch_ways, never, at_once, either, is_reached, onward, both, follow, node, plain, sequence, with_step, head, past, looped, handled, waited_at}
 use Rattle.flow_staterule.specs.Uses.{left}
 use Rattle.flow_typing_laws.specs.ControlFlow.Laws.{HasSimpleParts, HaveSimpleParts}
-use Rattle.flow_typing_laws.proofs.ControlFlow.Flowing.{InitKind, no_init, declares, assigns, modifies, init_kind, waited_reached}
+use Rattle.flow_typing_laws.proofs.ControlFlow.Flowing.{waited_reached}
 
 pub record Same (c : closing.Ways) (w : Ways) : Type 0 where
   pub end : c.end ≡ is_reached w.ends
@@ -95,9 +96,7 @@ same_waiting n c v s = record {
 -- the parts of a `for`
 same_init : (n : ℕ) (i : Body) (w : Ways) (c : closing.Ways) → InitKind i → Same c w → Same c (sequence (ways n i) w)
 same_init n _ w c no_init s = record { end = s.end; breaks = s.breaks }
-same_init n _ w c (declares at i v) s = record { end = s.end; breaks = s.breaks }
-same_init n _ w c (assigns at xs v) s = record { end = s.end; breaks = s.breaks }
-same_init n _ w c (modifies at xs e) s = record { end = s.end; breaks = s.breaks }
+same_init n _ w c _ s = record { end = s.end; breaks = s.breaks }
 
 -- a body is left to the catch around it where it has a statement
 first_true : (a b : Bool) → a ≡ true → a || b ≡ true
@@ -114,25 +113,11 @@ throws_for n _ w v (assigns at xs x) e = refl
 throws_for n _ w v (modifies at xs x) e = refl
 
 throws_there : (n : ℕ) (b : Body) → HasSimpleParts b → has_statement b ≡ is_reached (ways n b).throws
-throws_there n End s = refl
-throws_there n (BlockStmt at b k) s = refl
-throws_there n (IfStmt at e b k) s = refl
-throws_there n (IfElseStmt at e b c k) s = refl
-throws_there n (WhileStmt at e b k) s = refl
-throws_there n (ForStmt at i e t b k) s = sym (throws_for n i (looped (is_there e) (with_step (ways (left (left n i) t) b) (ways (left n i) t))) (ways (left (left (left n i) t) b) k) (init_kind i s.0) refl)
-throws_there n (LoopStmt at b k) s = refl
-throws_there n (BreakStmt at k) s = refl
-throws_there n (ContinueStmt at k) s = refl
-throws_there n (ReturnStmt at v k) s = refl
-throws_there n (ThrowStmt at v k) s = refl
-throws_there n (TryStmt at b q x h k) s = refl
+throws_there n (ForStmt at i e t b k) s = sym (throws_for n i (looped (is_there e) (with_step (ways (left (left n i) t) b) (ways (left n i) t))) (ways (left (left (left n i) t) b) k) (init_kind i s.0.0) refl)
 throws_there n (ChooseStmt at bs k) s =
     sym (reached_first (onward (waited_at n) (either at_once (branch_ways (n - 1) bs).throws)) _ (reached_onward (waited_at n) (either at_once (branch_ways (n - 1) bs).throws) ∙ ap (λ x. x && true) (waited_reached n)))
-throws_there n (DeclareStmt at i v k) s = refl
-throws_there n (AssignStmt at xs v k) s = refl
-throws_there n (ModifyStmt at xs c k) s = refl
-throws_there n (CallStmt at xs es k) s = refl
 throws_there n (WaitStmt at w k) s = sym (reached_first (waited_at n) _ (waited_reached n))
+throws_there n _ s = refl
 
 without : (b : Body) → has_statement b ≡ false → (closing.ways b).end ≡ true
 without End e = refl
@@ -140,35 +125,31 @@ without b e = absurd (true≢false e)
 
 mutual
   pub same_ways : (n : ℕ) (b : Body) → HasSimpleParts b → Same (closing.ways b) (ways n b)
-  same_ways n End s = record { end = refl; breaks = refl }
-  same_ways n (BlockStmt at b k) s = same_then _ _ (both (node at_once) (ways n b)) (ways (left n b) k) (same_node _ _ (same_ways n b s.0)) (same_ways (left n b) k s.1)
-  same_ways n (IfStmt at e b k) s = same_then _ _ (both (plain at_once) (ways n b)) (ways (left n b) k) (same_if _ _ (same_ways n b s.0)) (same_ways (left n b) k s.1)
+  same_ways n (BlockStmt at b k) s = same_then _ _ (both (node at_once) (ways n b)) (ways (left n b) k) (same_node _ _ (same_ways n b s.1)) (same_ways (left n b) k s.2)
+  same_ways n (IfStmt at e b k) s = same_then _ _ (both (plain at_once) (ways n b)) (ways (left n b) k) (same_if _ _ (same_ways n b s.1)) (same_ways (left n b) k s.2)
   same_ways n (IfElseStmt at e b c k) s =
       same_then _ _ (both (node at_once) (both (ways n b) (ways (left n b) c))) (ways (left (left n b) c) k)
-      (same_node _ (both (ways n b) (ways (left n b) c)) (same_either _ _ (ways n b) (ways (left n b) c) (same_ways n b s.0) (same_ways (left n b) c s.1))) (same_ways (left (left n b) c) k s.2)
-  same_ways n (WhileStmt at e b k) s = same_then _ _ (looped true (ways n b)) (ways (left n b) k) (same_looped true (closing.ways b) (ways n b) (same_ways n b s.0).breaks) (same_ways (left n b) k s.1)
+      (same_node _ (both (ways n b) (ways (left n b) c)) (same_either _ _ (ways n b) (ways (left n b) c) (same_ways n b s.1) (same_ways (left n b) c s.2))) (same_ways (left (left n b) c) k s.3)
+  same_ways n (WhileStmt at e b k) s = same_then _ _ (looped true (ways n b)) (ways (left n b) k) (same_looped true (closing.ways b) (ways n b) (same_ways n b s.1).breaks) (same_ways (left n b) k s.2)
   same_ways n (ForStmt at i e t b k) s =
       let l = left (left n i) t in
       let w = with_step (ways l b) (ways (left n i) t) in
       same_then _ _ (sequence (ways n i) (looped (is_there e) w)) (ways (left l b) k)
-      (same_init n i (looped (is_there e) w) _ (init_kind i s.0) (same_looped (is_there e) (closing.ways b) w (same_ways l b s.2).breaks)) (same_ways (left l b) k s.3)
-  same_ways n (LoopStmt at b k) s = same_then _ _ (looped false (ways n b)) (ways (left n b) k) (same_looped false (closing.ways b) (ways n b) (same_ways n b s.0).breaks) (same_ways (left n b) k s.1)
-  same_ways n (BreakStmt at k) s = record { end = refl; breaks = refl }
-  same_ways n (ContinueStmt at k) s = record { end = refl; breaks = refl }
-  same_ways n (ReturnStmt at v k) s = record { end = refl; breaks = refl }
-  same_ways n (ThrowStmt at v k) s = record { end = refl; breaks = refl }
+      (same_init n i (looped (is_there e) w) _ (init_kind i s.0.0) (same_looped (is_there e) (closing.ways b) w (same_ways l b s.3).breaks)) (same_ways (left l b) k s.4)
+  same_ways n (LoopStmt at b k) s = same_then _ _ (looped false (ways n b)) (ways (left n b) k) (same_looped false (closing.ways b) (ways n b) (same_ways n b s.1).breaks) (same_ways (left n b) k s.2)
   same_ways n (TryStmt at b q x h k) s =
       same_then _ _ (handled (ways n b) (ways (left n b) h)) (ways (left (left n b) h) k)
-      (same_handled (has_statement b) _ _ (ways n b) (ways (left n b) h) (throws_there n b s.0) (without b) (same_ways n b s.0) (same_ways (left n b) h s.1)) (same_ways (left (left n b) h) k s.2)
+      (same_handled (has_statement b) _ _ (ways n b) (ways (left n b) h) (throws_there n b s.1) (without b) (same_ways n b s.1) (same_ways (left n b) h s.2)) (same_ways (left (left n b) h) k s.3)
   same_ways n (ChooseStmt at bs k) s =
       same_then _ _ (follow (waited_at n) (both (node at_once) (branch_ways (n - 1) bs))) (ways (n - 1 - length (branch_groups bs)) k)
-      (same_follow n _ (both (node at_once) (branch_ways (n - 1) bs)) (same_node _ _ (same_branch_ways (n - 1) bs s.0))) (same_ways (n - 1 - length (branch_groups bs)) k s.1)
-  same_ways n (DeclareStmt at i v k) s = same_plain n _ _ (same_ways n k s)
-  same_ways n (AssignStmt at xs v k) s = same_plain n _ _ (same_ways n k s)
-  same_ways n (ModifyStmt at xs c k) s = same_plain n _ _ (same_ways n k s)
-  same_ways n (CallStmt at xs es k) s = same_plain n _ _ (same_ways n k s)
-  same_ways n (WaitStmt at w k) s = same_waiting n _ (ways (n - 1) k) (same_ways (n - 1) k s)
+      (same_follow n _ (both (node at_once) (branch_ways (n - 1) bs)) (same_node _ _ (same_branch_ways (n - 1) bs s.1))) (same_ways (n - 1 - length (branch_groups bs)) k s.2)
+  same_ways n (DeclareStmt at i v k) s = same_plain n _ _ (same_ways n k s.1)
+  same_ways n (AssignStmt at xs v k) s = same_plain n _ _ (same_ways n k s.1)
+  same_ways n (ModifyStmt at xs c k) s = same_plain n _ _ (same_ways n k s.1)
+  same_ways n (CallStmt at xs es k) s = same_plain n _ _ (same_ways n k s.1)
+  same_ways n (WaitStmt at w k) s = same_waiting n _ (ways (n - 1) k) (same_ways (n - 1) k s.1)
+  same_ways n _ s = record { end = refl; breaks = refl }
 
   pub same_branch_ways : (n : ℕ) (bs : Branches) → HaveSimpleParts bs → Same (closing.branch_ways bs) (branch_ways n bs)
   same_branch_ways n NoBranches s = record { end = refl; breaks = refl }
-  same_branch_ways n (MoreBranches at w b bs) s = same_either _ _ (ways n b) (branch_ways (left n b) bs) (same_ways n b s.0) (same_branch_ways (left n b) bs s.1)
+  same_branch_ways n (MoreBranches at w b bs) s = same_either _ _ (ways n b) (branch_ways (left n b) bs) (same_ways n b s.1) (same_branch_ways (left n b) bs s.2)

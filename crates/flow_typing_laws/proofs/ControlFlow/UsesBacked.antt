@@ -5,6 +5,7 @@ use Rattle.std.proofs.lemmas.List.Elements.{Contains-append_right}
 use Rattle.std.specs.declared.option.Option.{Option}
 use Rattle.std.specs.declared.option.Option.TheVariants.{Some}
 use Rattle.flow_tree.specs.Body.{Body, End, BlockStmt, IfStmt, IfElseStmt, WhileStmt, ForStmt, LoopStmt, BreakStmt, ContinueStmt, ReturnStmt, ThrowStmt, TryStmt, ChooseStmt, DeclareStmt, AssignStmt, ModifyStmt, CallStmt, WaitStmt, Branches, NoBranches, MoreBranches}
+use Rattle.flow_tree.proofs.ForParts.{InitKind, no_init, declares, assigns, modifies, init_kind}
 use Rattle.flow_ast.specs.Slots.{body_groups, branch_groups, branch_waits}
 use Rattle.flow_ast.specs.Typing.{is_there}
 use Rattle.flow_staterule.specs.declared.scope.Point.{Point}
@@ -20,12 +21,12 @@ use Rattle.flow_typing_laws.specs.ControlFlow.Control as control
 use Rattle.flow_typing_laws.specs.ControlFlow.Mentions.{Declared, Named, local_at, declared, with_into, declaring, mentions, branch_mentions}
 use Rattle.flow_typing_laws.specs.ControlFlow.Laws.{HasSimpleParts, HaveSimpleParts}
 use Rattle.flow_typing_laws.proofs.ControlFlow.Notes.{Note, behind_all, block_ways, if_ways, if_else_ways, for_round, for_ways, try_ways, choose_ways, notes, branch_notes, notes_many, branch_notes_many, Tells, tells_first, tells_rest}
-use Rattle.flow_typing_laws.proofs.ControlFlow.Flowing.{Below, InitKind, no_init, declares, assigns, modifies, init_kind, step_parts, below_more, below_declared, below_into, into_point}
+use Rattle.flow_typing_laws.proofs.ControlFlow.Flowing.{Below, below_more, below_declared, below_into, into_point}
 use Rattle.flow_typing_laws.proofs.ControlFlow.AlongEdges.{init_below, caught_point}
 use Rattle.flow_typing_laws.proofs.ControlFlow.Walking.{Goes, goes_either, goes_before, goes_less, goes_head, goes_waiting, trail_step, Part, part_left, part_right, to_first, statement_to, statement_first, statement_second, Walked, walked_less, walked_then, walked_step, contains_first}
 use Rattle.flow_typing_laws.proofs.ControlFlow.WaysWalked.{walked, branch_walked, block_walked, if_walked, if_else_walked, while_walked, loop_walked, round_walked, try_walked, choose_walked}
 use Rattle.flow_typing_laws.proofs.ControlFlow.Backing.{variable_of, Real, real_then, real_dead, real_declared, Here, Each, no_uses, each_then, expr_fits, exprs_fit, maybe_fits, target_fits, base_fits, change_fits, thrown_fits, IsCaught}
-use Rattle.flow_typing_laws.proofs.ControlFlow.Matching.{Alike, long, behind_alike, beyond_alike, left_one, left_two, left_three, left_more, declared_alike, into_alike, init_alike, init_parts, stale_within, stale_into, here_of, here_waiting, found_alike, real_step, real_into, init_real, caught_deeper, caught_into, caught_init}
+use Rattle.flow_typing_laws.proofs.ControlFlow.Matching.{Alike, long, behind_alike, beyond_alike, left_one, left_two, left_three, left_more, declared_alike, into_alike, init_alike, stale_within, stale_into, here_of, here_waiting, found_alike, real_step, real_into, init_real, caught_deeper, caught_into, caught_init}
 
 module _ (tell : ℕ → Note) (g : List (Edge ℕ)) where
   -- what is known where a part of a body begins
@@ -55,9 +56,7 @@ module _ (tell : ℕ → Note) (g : List (Edge ℕ)) where
   -- behind the init of a `for`
   init_point : (vs : List Named) (p : Point) (n : ℕ) (j : Body) → InitKind j → p ≡ behind_all vs p (ways n j).ends
   init_point vs p n _ no_init = refl
-  init_point vs p n _ (declares at i v) = refl
-  init_point vs p n _ (assigns at xs v) = refl
-  init_point vs p n _ (modifies at xs c) = refl
+  init_point vs p n _ _ = refl
 
   within_init : (m k : ℕ) (j : Body) (vs : List Named) → InitKind j → k ≤ length vs → k ≤ length (declaring m j vs)
   within_init m k _ vs no_init l = l
@@ -108,10 +107,10 @@ module _ (tell : ℕ → Note) (g : List (Edge ℕ)) where
         let up' : m ≤ m' = omega arith in
         let k' = block_walked tell g n b m a f is (walked tell g n b (suc m) vs p (followed_by a f) hb ib) in
         each_then tell g _ _
-        (backed n n' b (suc m) vs vs' p p' c d (followed_by a f) e s.0 hb ib (begins_step m (suc m) x vs p up (statement_first tell g m a x [] is) r) k)
+        (backed n n' b (suc m) vs vs' p p' c d (followed_by a f) e s.1 hb ib (begins_step m (suc m) x vs p up (statement_first tell g m a x [] is) r) k)
         (backed (left n b) (left n' (BlockStmt at b End)) t m' vs vs' (behind_all vs p w.ends) (beyond n' vs' p' (BlockStmt at b End)) c d a
         (record { left = left_one n n' (body_groups b) e.left; named = e.named; point = beyond_alike vs vs' p p' w.ends (block_ways n' b).ends e.named e.point (ap (λ z. (block_ways z b).ends) e.left) })
-        s.1 ht it (begins_then w.ends m m' m f vs p up' r k'.ends) k)
+        s.2 ht it (begins_then w.ends m m' m f vs p up' r k'.ends) k)
     backed n n' (IfStmt at q b t) m vs vs' p p' c d a e s h i r k =
         let w = if_ways n b in
         let m' = suc m + points b in
@@ -130,10 +129,10 @@ module _ (tell : ℕ → Note) (g : List (Edge ℕ)) where
         let k' = if_walked tell g n b m a f is (walked tell g n b (suc m) vs p (followed_by a f) hb ib) in
         each_then tell g _ _
         (each_then tell g _ _ (found_alike tell g (λ v z. expr_uses v z q) vs vs' p p' _ e.named e.point (expr_fits tell g m vs p q (here_of tell g m vs p h.0 r.real)))
-        (backed n n' b (suc m) vs vs' p p' c d (followed_by a f) e s.0 hb ib (begins_step m (suc m) x vs p up (statement_first tell g m a x (f ∷ []) is) r) k))
+        (backed n n' b (suc m) vs vs' p p' c d (followed_by a f) e s.1 hb ib (begins_step m (suc m) x vs p up (statement_first tell g m a x (f ∷ []) is) r) k))
         (backed (left n b) (left n' (IfStmt at q b End)) t m' vs vs' (behind_all vs p w.ends) (beyond n' vs' p' (IfStmt at q b End)) c d a
         (record { left = left_one n n' (body_groups b) e.left; named = e.named; point = beyond_alike vs vs' p p' w.ends (if_ways n' b).ends e.named e.point (ap (λ z. (if_ways z b).ends) e.left) })
-        s.1 ht it (begins_then w.ends m m' m f vs p up' r k'.ends) k)
+        s.2 ht it (begins_then w.ends m m' m f vs p up' r k'.ends) k)
     backed n n' (IfElseStmt at q b o t) m vs vs' p p' c d a e s h i r k =
         let w = if_else_ways n b o in
         let l = suc m + points b in
@@ -162,12 +161,12 @@ module _ (tell : ℕ → Note) (g : List (Edge ℕ)) where
         each_then tell g _ _
         (each_then tell g _ _
         (each_then tell g _ _ (found_alike tell g (λ v z. expr_uses v z q) vs vs' p p' _ e.named e.point (expr_fits tell g m vs p q (here_of tell g m vs p h.0 r.real)))
-        (backed n n' b (suc m) vs vs' p p' c d (followed_by a f) e s.0 hb ib (begins_step m (suc m) x vs p up (statement_first tell g m a x (y ∷ []) is) r) k))
-        (backed (left n b) (left n' b) o l vs vs' p p' c d (followed_by a f) (record { left = ap (λ z. left z b) e.left; named = e.named; point = e.point }) s.1 ho io
+        (backed n n' b (suc m) vs vs' p p' c d (followed_by a f) e s.1 hb ib (begins_step m (suc m) x vs p up (statement_first tell g m a x (y ∷ []) is) r) k))
+        (backed (left n b) (left n' b) o l vs vs' p p' c d (followed_by a f) (record { left = ap (λ z. left z b) e.left; named = e.named; point = e.point }) s.2 ho io
         (begins_step m l y vs p up'' (statement_second tell g m a x y [] is) r) k))
         (backed (left (left n b) o) (left n' (IfElseStmt at q b o End)) t m' vs vs' (behind_all vs p w.ends) (beyond n' vs' p' (IfElseStmt at q b o End)) c d a
         (record { left = left_two n n' (body_groups b) (body_groups o) e.left; named = e.named; point = beyond_alike vs vs' p p' w.ends (if_else_ways n' b o).ends e.named e.point (ap (λ z. (if_else_ways z b o).ends) e.left) })
-        s.2 ht it (begins_then w.ends m m' m f vs p up' r k'.ends) k)
+        s.3 ht it (begins_then w.ends m m' m f vs p up' r k'.ends) k)
     backed n n' (WhileStmt at q b t) m vs vs' p p' c d a e s h i r k =
         let w = looped true (ways n b) in
         let u = behind_all vs p (head (ways n b)) in
@@ -193,15 +192,15 @@ module _ (tell : ℕ → Note) (g : List (Edge ℕ)) where
         let pu = behind_alike vs vs' p p' (head (ways n b)) (head (ways n' b)) e.named e.point (ap (λ z. head (ways z b)) e.left) in
         each_then tell g _ _
         (each_then tell g _ _ (found_alike tell g (λ v z. expr_uses v z q) vs vs' u u' _ e.named pu (expr_fits tell g m vs u q (here_of tell g m vs u h.0 rh.real)))
-        (backed n n' b (suc m) vs vs' u u' c d (in_loop (followed_by a f) m) (record { left = e.left; named = e.named; point = pu }) s.0 hb ib (begins_step m (suc m) x vs u up l rh) k))
+        (backed n n' b (suc m) vs vs' u u' c d (in_loop (followed_by a f) m) (record { left = e.left; named = e.named; point = pu }) s.1 hb ib (begins_step m (suc m) x vs u up l rh) k))
         (backed (left n b) (left n' (WhileStmt at q b End)) t m' vs vs' (behind_all vs p w.ends) (beyond n' vs' p' (WhileStmt at q b End)) c d a
         (record { left = left_one n n' (body_groups b) e.left; named = e.named; point = beyond_alike vs vs' p p' w.ends (looped true (ways n' b)).ends e.named e.point (ap (λ z. (looped true (ways z b)).ends) e.left) })
-        s.1 ht it (begins_then w.ends m m' m f vs p up' r k'.ends) k)
+        s.2 ht it (begins_then w.ends m m' m f vs p up' r k'.ends) k)
     backed n n' (ForStmt at j q o b t) m vs vs' p p' c d a e s h i r k =
         let y = m + points j in
         let m'' = suc y + points o in
         let m' = m'' + points b in
-        let kind = init_kind j s.0 in
+        let kind = init_kind j s.0.0 in
         let ws = declaring m j vs in
         let no = left n j in
         let nb = left no o in
@@ -264,14 +263,14 @@ module _ (tell : ℕ → Note) (g : List (Edge ℕ)) where
         each_then tell g _ _
         (each_then tell g _ _
         (each_then tell g _ _
-        (each_then tell g _ _ (backed n n' j m vs vs' p p' c d (followed_by a y) e (init_parts j kind) hj ij r k)
+        (each_then tell g _ _ (backed n n' j m vs vs' p p' c d (followed_by a y) e s.1 hj ij r k)
         (found_alike tell g (λ v z. maybe_uses v z q) ws vs'' u u' _ ews eu (maybe_fits tell g y ws u q (here_of tell g y ws u hr.0 ru.real))))
-        (backed no (left n' j) o (suc y) ws vs'' v v' c d (in_step a y) (record { left = ap (λ z. left z j) e.left; named = ews; point = ev }) (step_parts o s.1) ho io rv kc))
-        (backed nb (left (left n' j) o) b m'' ws vs'' u u' c d (in_loop (followed_by a f) z) (record { left = ap (λ z. left (left z j) o) e.left; named = ews; point = eu }) s.2 hb ib
+        (backed no (left n' j) o (suc y) ws vs'' v v' c d (in_step a y) (record { left = ap (λ z. left z j) e.left; named = ews; point = ev }) (s.2) ho io rv kc))
+        (backed nb (left (left n' j) o) b m'' ws vs'' u u' c d (in_loop (followed_by a f) z) (record { left = ap (λ z. left (left z j) o) e.left; named = ews; point = eu }) s.3 hb ib
         (begins_step y m'' x ws u yb l ru) kc))
         (backed nt (left n' (ForStmt at j q o b End)) t m' vs vs' (behind_all vs p w.ends) (beyond n' vs' p' (ForStmt at j q o b End)) c d a
         (record { left = left_three n n' (body_groups j) (body_groups o) (body_groups b) e.left; named = e.named; point = beyond_alike vs vs' p p' w.ends (for_ways n' j q o b).ends e.named e.point (ap (λ z. (for_ways z j q o b).ends) e.left) })
-        s.3 ht it (begins_then w.ends m m' (first j m y) f vs p up' r kw.ends) k)
+        s.4 ht it (begins_then w.ends m m' (first j m y) f vs p up' r kw.ends) k)
     backed n n' (LoopStmt at b t) m vs vs' p p' c d a e s h i r k =
         let w = looped false (ways n b) in
         let u = behind_all vs p (head (ways n b)) in
@@ -296,18 +295,18 @@ module _ (tell : ℕ → Note) (g : List (Edge ℕ)) where
         let rh = begins_then (head (ways n b)) m m m m vs p le r (head_goes (ways n b) m x (followed_by a f) l (walked_less tell g (ways n b) m (suc m) x (in_loop (followed_by a f) m) up kb)) in
         let pu = behind_alike vs vs' p p' (head (ways n b)) (head (ways n' b)) e.named e.point (ap (λ z. head (ways z b)) e.left) in
         each_then tell g _ _
-        (backed n n' b (suc m) vs vs' u u' c d (in_loop (followed_by a f) m) (record { left = e.left; named = e.named; point = pu }) s.0 hb ib (begins_step m (suc m) x vs u up l rh) k)
+        (backed n n' b (suc m) vs vs' u u' c d (in_loop (followed_by a f) m) (record { left = e.left; named = e.named; point = pu }) s.1 hb ib (begins_step m (suc m) x vs u up l rh) k)
         (backed (left n b) (left n' (LoopStmt at b End)) t m' vs vs' (behind_all vs p w.ends) (beyond n' vs' p' (LoopStmt at b End)) c d a
         (record { left = left_one n n' (body_groups b) e.left; named = e.named; point = beyond_alike vs vs' p p' w.ends (looped false (ways n' b)).ends e.named e.point (ap (λ z. (looped false (ways z b)).ends) e.left) })
-        s.1 ht it (begins_then w.ends m m' m f vs p up' r k'.ends) k)
-    backed n n' (BreakStmt at t) m vs vs' p p' c d a e s h i r k = dead_backed n n' t m vs vs' p p' c d a (listed a.breaks) e i r (backed n n' t (suc m) vs vs' (behind_all vs p never) (behind (length vs') p' never) c d a) s h.1 k
-    backed n n' (ContinueStmt at t) m vs vs' p p' c d a e s h i r k = dead_backed n n' t m vs vs' p p' c d a (listed a.continues) e i r (backed n n' t (suc m) vs vs' (behind_all vs p never) (behind (length vs') p' never) c d a) s h.1 k
+        s.2 ht it (begins_then w.ends m m' m f vs p up' r k'.ends) k)
+    backed n n' (BreakStmt at t) m vs vs' p p' c d a e s h i r k = dead_backed n n' t m vs vs' p p' c d a (listed a.breaks) e i r (backed n n' t (suc m) vs vs' (behind_all vs p never) (behind (length vs') p' never) c d a) s.1 h.1 k
+    backed n n' (ContinueStmt at t) m vs vs' p p' c d a e s h i r k = dead_backed n n' t m vs vs' p p' c d a (listed a.continues) e i r (backed n n' t (suc m) vs vs' (behind_all vs p never) (behind (length vs') p' never) c d a) s.1 h.1 k
     backed n n' (ReturnStmt at q t) m vs vs' p p' c d a e s h i r k =
         each_then tell g _ _ (found_alike tell g (λ v z. expr_uses v z q) vs vs' p p' _ e.named e.point (expr_fits tell g m vs p q (here_of tell g m vs p h.0 r.real)))
-        (dead_backed n n' t m vs vs' p p' c d a [] e i r (backed n n' t (suc m) vs vs' (behind_all vs p never) (behind (length vs') p' never) c d a) s h.1 k)
+        (dead_backed n n' t m vs vs' p p' c d a [] e i r (backed n n' t (suc m) vs vs' (behind_all vs p never) (behind (length vs') p' never) c d a) s.1 h.1 k)
     backed n n' (ThrowStmt at q t) m vs vs' p p' c d a e s h i r k =
         each_then tell g _ _ (found_alike tell g (λ v z. thrown_uses z c at q v) vs vs' p p' _ e.named e.point (thrown_fits tell g m vs p c d at q (here_of tell g m vs p h.0 r.real) k))
-        (dead_backed n n' t m vs vs' p p' c d a [] e i r (backed n n' t (suc m) vs vs' (behind_all vs p never) (behind (length vs') p' never) c d a) s h.1 k)
+        (dead_backed n n' t m vs vs' p p' c d a [] e i r (backed n n' t (suc m) vs vs' (behind_all vs p never) (behind (length vs') p' never) c d a) s.1 h.1 k)
     backed n n' (TryStmt at b q z o t) m vs vs' p p' c d a e s h i r k =
         let w = try_ways n b o in
         let y = suc m + points b in
@@ -351,12 +350,12 @@ module _ (tell : ℕ → Note) (g : List (Edge ℕ)) where
         let ro : Begins (suc y) x' us u = record { below = below_declared y (local_at y z) vs (caught_point y z) ry.below; within = wu; real = real_declared tell g y x' (local_at y z) vs u l' (caught_point y z) ry.within rx.real } in
         let eu = behind_alike vs vs' p p' (ways n b).throws (ways n' b).throws e.named e.point (ap (λ z. (ways z b).throws) e.left) in
         each_then tell g _ _
-        (each_then tell g _ _ (backed n n' b (suc m) vs vs' p p' c d (in_try (followed_by a f) y) e s.0 hb ib (begins_at m (suc m) m x vs p up r (real_step tell g m x vs p l r.below r.real)) k)
+        (each_then tell g _ _ (backed n n' b (suc m) vs vs' p p' c d (in_try (followed_by a f) y) e s.1 hb ib (begins_at m (suc m) m x vs p up r (real_step tell g m x vs p l r.below r.real)) k)
         (backed (left n b) (left n' b) o (suc y) us (rule.caught_as z ∷ vs') u u' (Some (record { number = length vs'; declared = z.at })) (Some (record { at = z.at; point = y })) (followed_by a f)
-        (record { left = ap (λ z. left z b) e.left; named = ap (λ l. rule.caught_as z ∷ l) e.named; point = eu }) s.1 ho io ro (refl, inl (sym (long vs vs' e.named), refl))))
+        (record { left = ap (λ z. left z b) e.left; named = ap (λ l. rule.caught_as z ∷ l) e.named; point = eu }) s.2 ho io ro (refl, inl (sym (long vs vs' e.named), refl))))
         (backed (left (left n b) o) (left n' (TryStmt at b q z o End)) t m' vs vs' (behind_all vs p w.ends) (beyond n' vs' p' (TryStmt at b q z o End)) c d a
         (record { left = left_two n n' (body_groups b) (body_groups o) e.left; named = e.named; point = beyond_alike vs vs' p p' w.ends (try_ways n' b o).ends e.named e.point (ap (λ z. (try_ways z b o).ends) e.left) })
-        s.2 ht it (begins_then w.ends m m' m f vs p up' r k'.ends) k)
+        s.3 ht it (begins_then w.ends m m' m f vs p up' r k'.ends) k)
     backed n n' (ChooseStmt at bs t) m vs vs' p p' c d a e s h i r k =
         let w = choose_ways n bs in
         let n'' = n - 1 - length (branch_groups bs) in
@@ -381,11 +380,11 @@ module _ (tell : ℕ → Note) (g : List (Edge ℕ)) where
         let k' = choose_walked tell g n bs m a f is counts (branch_walked tell g (n - 1) bs (suc m) vs u (followed_by a f) (waited_at n) m m up hb ib) in
         let eu = behind_alike vs vs' p p' (waited_at n) (waited_at n') e.named e.point (ap waited_at e.left) in
         each_then tell g _ _
-        (branch_backed (n - 1) (n' - 1) bs m (suc m) vs vs' p p' u u' c d (followed_by a f) (ap (λ z. z - 1) e.left) e.named e.point eu s.0 hb ib (here_waiting tell g n m vs p h.0 r.real) (below_more m (suc m) vs up r.below)
+        (branch_backed (n - 1) (n' - 1) bs m (suc m) vs vs' p p' u u' c d (followed_by a f) (ap (λ z. z - 1) e.left) e.named e.point eu s.1 hb ib (here_waiting tell g n m vs p h.0 r.real) (below_more m (suc m) vs up r.below)
         (stale_within vs p (waited_at n) r.within) (λ y q. real_then tell g (waited_at n) m m y vs p r.below (to_when y q) r.real) k)
         (backed n'' (left n' (ChooseStmt at bs End)) t m' vs vs' (behind_all vs p w.ends) (beyond n' vs' p' (ChooseStmt at bs End)) c d a
         (record { left = left_more n n' (branch_waits bs) (branch_groups bs) e.left; named = e.named; point = beyond_alike vs vs' p p' w.ends (choose_ways n' bs).ends e.named e.point (ap (λ z. (choose_ways z bs).ends) e.left) })
-        s.1 ht it (begins_then w.ends m m' m f vs p up' r k'.ends) k)
+        s.2 ht it (begins_then w.ends m m' m f vs p up' r k'.ends) k)
     backed n n' (DeclareStmt at j q t) m vs vs' p p' c d a e s h i r k =
         let ws = declared m j ∷ vs in
         let x = first t (suc m) a.follows in
@@ -396,19 +395,19 @@ module _ (tell : ℕ → Note) (g : List (Edge ℕ)) where
         let wp : p.stale ≤ length ws = (let z = r.within in omega (arith, z)) in
         let rt : Begins (suc m) x ws p = record { below = below_declared m (declared m j) vs (into_point m j) r.below; within = wp; real = real_declared tell g m x (declared m j) vs p l (into_point m j) r.within (real_step tell g m x vs p l r.below r.real) } in
         each_then tell g _ _ (found_alike tell g (λ v z. maybe_uses v z q) vs vs' p p' _ e.named e.point (maybe_fits tell g m vs p q (here_of tell g m vs p h.0 r.real)))
-        (backed n n' t (suc m) ws (rule.declared j ∷ vs') p p' c d a (record { left = e.left; named = declared_alike m j vs vs' e.named; point = e.point }) s h.1 it rt (caught_deeper tell g c d (declared m j) vs k))
+        (backed n n' t (suc m) ws (rule.declared j ∷ vs') p p' c d a (record { left = e.left; named = declared_alike m j vs vs' e.named; point = e.point }) s.1 h.1 it rt (caught_deeper tell g c d (declared m j) vs k))
     backed n n' (AssignStmt at xs q t) m vs vs' p p' c d a e s h i r k =
         let here = here_of tell g m vs p h.0 r.real in
         each_then tell g _ _ (each_then tell g _ _ (found_alike tell g (λ v z. target_uses v z xs) vs vs' p p' _ e.named e.point (target_fits tell g m vs p xs here)) (found_alike tell g (λ v z. expr_uses v z q) vs vs' p p' _ e.named e.point (expr_fits tell g m vs p q here)))
-        (next_backed n n' t m vs vs' p p' c d a i r (backed n n' t (suc m) vs vs' p p' c d a e s h.1) k)
+        (next_backed n n' t m vs vs' p p' c d a i r (backed n n' t (suc m) vs vs' p p' c d a e s.1 h.1) k)
     backed n n' (ModifyStmt at xs q t) m vs vs' p p' c d a e s h i r k =
         let here = here_of tell g m vs p h.0 r.real in
         each_then tell g _ _ (each_then tell g _ _ (found_alike tell g (λ v z. target_uses v z xs) vs vs' p p' _ e.named e.point (target_fits tell g m vs p xs here)) (found_alike tell g (λ v z. change_uses v z q) vs vs' p p' _ e.named e.point (change_fits tell g m vs p q here)))
-        (next_backed n n' t m vs vs' p p' c d a i r (backed n n' t (suc m) vs vs' p p' c d a e s h.1) k)
+        (next_backed n n' t m vs vs' p p' c d a i r (backed n n' t (suc m) vs vs' p p' c d a e s.1 h.1) k)
     backed n n' (CallStmt at xs q t) m vs vs' p p' c d a e s h i r k =
         let here = here_of tell g m vs p h.0 r.real in
         each_then tell g _ _ (each_then tell g _ _ (found_alike tell g (λ v z. base_uses v z xs) vs vs' p p' _ e.named e.point (base_fits tell g m vs p xs here)) (found_alike tell g (λ v z. exprs_uses v z q) vs vs' p p' _ e.named e.point (exprs_fit tell g m vs p q here)))
-        (next_backed n n' t m vs vs' p p' c d a i r (backed n n' t (suc m) vs vs' p p' c d a e s h.1) k)
+        (next_backed n n' t m vs vs' p p' c d a i r (backed n n' t (suc m) vs vs' p p' c d a e s.1 h.1) k)
     backed n n' (WaitStmt at q t) m vs vs' p p' c d a e s h i r k =
         let ws = with_into m q.into vs in
         let u = behind_all vs p (waited_at n) in
@@ -423,7 +422,7 @@ module _ (tell : ℕ → Note) (g : List (Edge ℕ)) where
         let rt : Begins (suc m) x ws u = record { below = below_into m q.into vs r.below; within = stale_into m u.stale q.into vs wu; real = real_into tell g m x q.into vs u l wu rx } in
         each_then tell g _ _ (found_alike tell g (λ v z. expr_uses v z q.operand) vs vs' p p' _ e.named e.point (expr_fits tell g m vs p q.operand (here_waiting tell g n m vs p h.0 r.real)))
         (backed (n - 1) (left n' (WaitStmt at q End)) t (suc m) ws (rule.with_into vs' q.into) u (beyond n' vs' p' (WaitStmt at q End)) c d a
-        (record { left = ap (λ z. z - 1) e.left; named = into_alike m q.into vs vs' e.named; point = beyond_alike vs vs' p p' (waited_at n) (waited_at n') e.named e.point (ap waited_at e.left) }) s h.1 it rt (caught_into tell g m q.into c d vs k))
+        (record { left = ap (λ z. z - 1) e.left; named = into_alike m q.into vs vs' e.named; point = beyond_alike vs vs' p p' (waited_at n) (waited_at n') e.named e.point (ap waited_at e.left) }) s.1 h.1 it rt (caught_into tell g m q.into c d vs k))
 
     pub branch_backed : (n n' : ℕ) (bs : Branches) (o m : ℕ) (vs : List Named) (vs' : List Variable) (p p' u u' : Point) (c : Option Caught) (d : Option Declared) (a : Around) → n ≡ n' → map variable_of vs ≡ vs' → p ≡ p' → u ≡ u' → HaveSimpleParts bs
         → Tells tell m (branch_notes n bs m vs u) → Part tell g (branch_edges bs m a) → Here tell g o vs p → Below m vs → u.stale ≤ length vs → ((y : ℕ) → Contains (whens bs m) y → Real tell g y vs u) → IsCaught tell g c d vs
@@ -446,5 +445,5 @@ module _ (tell : ℕ → Note) (g : List (Edge ℕ)) where
         let rt : Begins (suc m) x ws u = record { below = below_into m q.into vs b; within = stale_into m u.stale q.into vs w; real = real_into tell g m x q.into vs u l w (real_step tell g m x vs u l b rm) } in
         each_then tell g _ _
         (each_then tell g _ _ (found_alike tell g (λ v z. expr_uses v z q.operand) vs vs' p p' _ ev ep (expr_fits tell g o vs p q.operand here))
-        (backed n n' t (suc m) ws (rule.with_into vs' q.into) u u' c d a (record { left = e; named = into_alike m q.into vs vs' ev; point = eu }) s.0 ht (part_right tell g el et i1) rt (caught_into tell g m q.into c d vs k)))
-        (branch_backed (left n t) (left n' t) bs o m' vs vs' p p' u u' c d a (ap (λ z. left z t) e) ev ep eu s.1 hb (part_right tell g (el ++ et) eb i) here (below_more m m' vs up b) w (λ y q. r y (Contains-append_right (m ∷ []) (whens bs m') y q)) k)
+        (backed n n' t (suc m) ws (rule.with_into vs' q.into) u u' c d a (record { left = e; named = into_alike m q.into vs vs' ev; point = eu }) s.1 ht (part_right tell g el et i1) rt (caught_into tell g m q.into c d vs k)))
+        (branch_backed (left n t) (left n' t) bs o m' vs vs' p p' u u' c d a (ap (λ z. left z t) e) ev ep eu s.2 hb (part_right tell g (el ++ et) eb i) here (below_more m m' vs up b) w (λ y q. r y (Contains-append_right (m ∷ []) (whens bs m') y q)) k)

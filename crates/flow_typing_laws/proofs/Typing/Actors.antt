@@ -8,13 +8,14 @@ use Rattle.flow_tree.specs.declared.ty.Ident.{Ident}
 use Rattle.flow_tree.specs.Tree.{TypeTree, BoolType, ErrorType, ExprTree}
 use Rattle.flow_tree.specs.Body.{IntoTree, WaitTree, Body, End, BlockStmt, IfStmt, IfElseStmt, WhileStmt, ForStmt, LoopStmt, BreakStmt, ContinueStmt, ReturnStmt, ThrowStmt, TryStmt, ChooseStmt, DeclareStmt, AssignStmt, ModifyStmt, CallStmt, WaitStmt, Branches, NoBranches, MoreBranches}
 use Rattle.flow_tree.specs.Decls.{ParamTree, RoutineTree, DeclTree, StructDecl, FunctionDecl, ActorDecl}
+use Rattle.flow_tree.proofs.ForParts.{InitKind, no_init, declares, assigns, modifies, init_kind, StepKind, no_step, assigned, modified, step_kind}
 use Rattle.flow_ast.specs.Fits.{declared_in, path_type, ThrowFits}
 use Rattle.flow_rules.specs.declared.rule.TheConstants.{NEEDS_VALUE, FALLS_OFF, BREAK_OUTSIDE, WAIT_OUTSIDE}
 use Rattle.flow_rules.specs.Least.{lesser, unless}
 use Rattle.flow_rules.specs.Known.{known}
 use Rattle.flow_rules.specs.Judged.{Setting, form, fault, wanted, wants}
 use Rattle.flow_rules.specs.Closing as closing
-use Rattle.flow_rules.specs.Items.{Env, item, with_var, with_states, in_loop, in_catch, behind, declared, waited, started, fresh, into_fault, value_fault, target_form, target_fault, assign_fault, modify_fault, ends_of, base_form, base_fault, path_fault, call_by_name, call_on, call_fault, test_fault, maybe_test, throw_fault, declare_fault, wait_fault, maybe_into, wait_type, body_refusal, branch_refusal, slot_names}
+use Rattle.flow_rules.specs.Items.{Env, item, with_var, with_states, in_loop, in_catch, behind, declared, waited, started, fresh, into_fault, value_fault, target_form, target_fault, assign_fault, modify_fault, call_fault, test_fault, maybe_test, throw_fault, declare_fault, wait_fault, maybe_into, wait_type, body_refusal, branch_refusal, slot_names}
 use Rattle.flow_rules.specs.Items as rule
 use Rattle.flow_ast.specs.Slots.{body_slots, branch_slots, waited_slots}
 use Rattle.flow_rules.specs.Rules.{setting_of, header_fault, body_env, routine_refusal, decl_refusal, decls_refusal}
@@ -22,12 +23,13 @@ use Rattle.flow_typing_laws.specs.ControlFlow.Laws.{HasSimpleParts, HaveSimplePa
 use Rattle.flow_meaning.specs.Source.{records_in, functions_in, actors_in}
 use Rattle.flow_typing_laws.specs.Typing.Scopes.{scope_in, setting_in}
 use Rattle.flow_typing_laws.specs.Typing.Joined.{IsTyped}
-use Rattle.flow_typing_laws.specs.Typing.Paths.{IsPath, HasPaths, HavePaths, AllHavePaths}
+use Rattle.flow_tree.specs.Formed.{IsPath}
+use Rattle.flow_typing_laws.specs.Typing.Paths.{HasPaths, HavePaths, AllHavePaths}
 use Rattle.flow_typing_laws.specs.Typing.ActorFits.{into_param, waited_params, Gives, ValueGiven, StandsWell, StandWell, ActorFits}
 use Rattle.flow_typing_laws.proofs.Typing.Names.{none_some, some_same, no_first, no_second, holds}
 use Rattle.flow_typing_laws.proofs.Typing.Expressions.{typed, wanted_is}
 use Rattle.flow_typing_laws.proofs.Typing.Agreement.{Distinct, agrees, neither_first, neither_second, no_item, not_true}
-use Rattle.flow_typing_laws.proofs.Typing.Standing.{InitKind, no_init, declares, assigns, modifies, init_kind, StepKind, no_step, assigned, modified, step_kind, caught_param, Stands, stands_behind, stands_loop, stands_declared, stands_caught, at_item, stands_started}
+use Rattle.flow_typing_laws.proofs.Typing.Standing.{caught_param, Stands, stands_behind, stands_loop, stands_declared, stands_caught, at_item, stands_started}
 use Rattle.flow_typing_laws.proofs.Typing.CallsFitting.{call_stands}
 use Rattle.flow_typing_laws.proofs.Typing.Statements.{yields, maybe_yields, target, modify_fits}
 
@@ -93,13 +95,13 @@ module _ (ds : List DeclTree) (apart : Distinct ds) where
     stands_well : (b : Body) (e : Env) (vars : List ParamTree) (r : TypeTree) (loop : Bool) (c : Option (List ℕ)) → Stands ds false e vars r loop c → HasSimpleParts b → HasPaths b → body_refusal e b ≡ None → StandsWell ds r loop c vars b
     stands_well End e vars r loop c k s p h = tt
     stands_well (BlockStmt at b t) e vars r loop c k s p h =
-        (stands_well b e vars r loop c k s.0 p.0 (neither_first (body_refusal e b) _ h), stands_well t (behind e b) vars r loop c (stands_behind ds false e b vars r loop c k) s.1 p.1 (neither_second (body_refusal e b) _ h))
+        (stands_well b e vars r loop c k s.1 p.1 (neither_first (body_refusal e b) _ h), stands_well t (behind e b) vars r loop c (stands_behind ds false e b vars r loop c k) s.2 p.2 (neither_second (body_refusal e b) _ h))
     stands_well (IfStmt at q b t) e vars r loop c k s p h =
         let i = item at (test_fault e.setting q) in
         let l = neither_second i _ h in (
           yields ds apart false vars q BoolType (at_item ds false e vars at (λ s. test_fault s q) k.setting (neither_first i _ h)),
-          stands_well b e vars r loop c k s.0 p.0 (neither_first (body_refusal e b) _ l),
-          stands_well t (behind e b) vars r loop c (stands_behind ds false e b vars r loop c k) s.1 p.1 (neither_second (body_refusal e b) _ l),
+          stands_well b e vars r loop c k s.1 p.1 (neither_first (body_refusal e b) _ l),
+          stands_well t (behind e b) vars r loop c (stands_behind ds false e b vars r loop c k) s.2 p.2 (neither_second (body_refusal e b) _ l),
         )
     stands_well (IfElseStmt at q b o t) e vars r loop c k s p h =
         let i = item at (test_fault e.setting q) in
@@ -107,19 +109,19 @@ module _ (ds : List DeclTree) (apart : Distinct ds) where
         let m = neither_second (body_refusal e b) _ l in
         let kb = stands_behind ds false e b vars r loop c k in (
           yields ds apart false vars q BoolType (at_item ds false e vars at (λ s. test_fault s q) k.setting (neither_first i _ h)),
-          stands_well b e vars r loop c k s.0 p.0 (neither_first (body_refusal e b) _ l),
-          stands_well o (behind e b) vars r loop c kb s.1 p.1 (neither_first (body_refusal (behind e b) o) _ m),
-          stands_well t (behind (behind e b) o) vars r loop c (stands_behind ds false (behind e b) o vars r loop c kb) s.2 p.2 (neither_second (body_refusal (behind e b) o) _ m),
+          stands_well b e vars r loop c k s.1 p.1 (neither_first (body_refusal e b) _ l),
+          stands_well o (behind e b) vars r loop c kb s.2 p.2 (neither_first (body_refusal (behind e b) o) _ m),
+          stands_well t (behind (behind e b) o) vars r loop c (stands_behind ds false (behind e b) o vars r loop c kb) s.3 p.3 (neither_second (body_refusal (behind e b) o) _ m),
         )
     stands_well (WhileStmt at q b t) e vars r loop c k s p h =
         let i = item at (test_fault e.setting q) in
         let l = neither_second i _ h in (
           yields ds apart false vars q BoolType (at_item ds false e vars at (λ s. test_fault s q) k.setting (neither_first i _ h)),
-          stands_well b (in_loop e) vars r true c (stands_loop ds false e vars r loop c k) s.0 p.0 (neither_first (body_refusal (in_loop e) b) _ l),
-          stands_well t (behind e b) vars r loop c (stands_behind ds false e b vars r loop c k) s.1 p.1 (neither_second (body_refusal (in_loop e) b) _ l),
+          stands_well b (in_loop e) vars r true c (stands_loop ds false e vars r loop c k) s.1 p.1 (neither_first (body_refusal (in_loop e) b) _ l),
+          stands_well t (behind e b) vars r loop c (stands_behind ds false e b vars r loop c k) s.2 p.2 (neither_second (body_refusal (in_loop e) b) _ l),
         )
     stands_well (ForStmt at j q n b t) e vars r loop c k s p h =
-        let kind = init_kind j s.0 in
+        let kind = init_kind j s.0.0 in
         let ws = vars ++ declared_in j in
         let e' = started e j in
         let ks = stands_started ds false e j vars r loop c kind k in
@@ -131,30 +133,30 @@ module _ (ds : List DeclTree) (apart : Distinct ds) where
         let kn = stands_behind ds false e' n ws r loop c ks in
         let ej = behind e j in
         let en = behind ej n in (
-          init_stands e vars r c j k.setting kind p.0 (neither_first (body_refusal e j) _ h),
+          init_stands e vars r c j k.setting kind p.1 (neither_first (body_refusal e j) _ h),
           maybe_yields ds apart false ws q (at_item ds false e' ws at (λ s. maybe_test s q) ks.setting (neither_first i _ l)),
-          step_stands e' ws r c n ks.setting (step_kind n s.1) p.1 (neither_first (body_refusal e' n) _ m),
-          stands_well b (in_loop e'') ws r true c (stands_loop ds false e'' ws r loop c kn) s.2 p.2 (neither_first (body_refusal (in_loop e'') b) _ o),
-          stands_well t (behind en b) vars r loop c (stands_behind ds false en b vars r loop c (stands_behind ds false ej n vars r loop c (stands_behind ds false e j vars r loop c k))) s.3 p.3 (neither_second (body_refusal (in_loop e'') b) _ o),
+          step_stands e' ws r c n ks.setting (step_kind n s.0.1) p.2 (neither_first (body_refusal e' n) _ m),
+          stands_well b (in_loop e'') ws r true c (stands_loop ds false e'' ws r loop c kn) s.3 p.3 (neither_first (body_refusal (in_loop e'') b) _ o),
+          stands_well t (behind en b) vars r loop c (stands_behind ds false en b vars r loop c (stands_behind ds false ej n vars r loop c (stands_behind ds false e j vars r loop c k))) s.4 p.4 (neither_second (body_refusal (in_loop e'') b) _ o),
         )
     stands_well (LoopStmt at b t) e vars r loop c k s p h = (
-      stands_well b (in_loop e) vars r true c (stands_loop ds false e vars r loop c k) s.0 p.0 (neither_first (body_refusal (in_loop e) b) _ h),
-      stands_well t (behind e b) vars r loop c (stands_behind ds false e b vars r loop c k) s.1 p.1 (neither_second (body_refusal (in_loop e) b) _ h),
+      stands_well b (in_loop e) vars r true c (stands_loop ds false e vars r loop c k) s.1 p.1 (neither_first (body_refusal (in_loop e) b) _ h),
+      stands_well t (behind e b) vars r loop c (stands_behind ds false e b vars r loop c k) s.2 p.2 (neither_second (body_refusal (in_loop e) b) _ h),
     )
     stands_well (BreakStmt at t) e vars r loop c k s p h =
         let i = unless e.looped BREAK_OUTSIDE in
-        (k.looped (holds e.looped BREAK_OUTSIDE (no_item at i (neither_first (item at i) _ h))), stands_well t e vars r loop c k s p (neither_second (item at i) _ h))
+        (k.looped (holds e.looped BREAK_OUTSIDE (no_item at i (neither_first (item at i) _ h))), stands_well t e vars r loop c k s.1 p.1 (neither_second (item at i) _ h))
     stands_well (ContinueStmt at t) e vars r loop c k s p h =
         let i = unless e.looped BREAK_OUTSIDE in
-        (k.looped (holds e.looped BREAK_OUTSIDE (no_item at i (neither_first (item at i) _ h))), stands_well t e vars r loop c k s p (neither_second (item at i) _ h))
+        (k.looped (holds e.looped BREAK_OUTSIDE (no_item at i (neither_first (item at i) _ h))), stands_well t e vars r loop c k s.1 p.1 (neither_second (item at i) _ h))
     stands_well (ReturnStmt at v t) e vars r loop c k s p h =
         let i = item at (wanted e.setting false v e.returns) in (
           yields ds apart false vars v r (ap (wanted (at_actor vars) false v) (sym k.returns) ∙ at_item ds false e vars at (λ s. wanted s false v e.returns) k.setting (neither_first i _ h)),
-          stands_well t e vars r loop c k s p (neither_second i _ h),
+          stands_well t e vars r loop c k s.1 p.1 (neither_second i _ h),
         )
     stands_well (ThrowStmt at v t) e vars r loop c k s p h =
         let i = item at (throw_fault e.setting e.caught v) in
-        (throw_stands e vars r loop c at v k (neither_first i _ h), stands_well t e vars r loop c k s p (neither_second i _ h))
+        (throw_stands e vars r loop c at v k (neither_first i _ h), stands_well t e vars r loop c k s.1 p.1 (neither_second i _ h))
     stands_well (TryStmt at b q x o t) e vars r loop c k s p h =
         let eb = behind e b in
         let kb = stands_behind ds false e b vars r loop c k in
@@ -163,33 +165,33 @@ module _ (ds : List DeclTree) (apart : Distinct ds) where
         let m = neither_second i _ l in
         let ec = in_catch (with_var eb x.name ErrorType) in
         let kc = stands_caught ds false eb x eb.states vars r loop c kb (no_item q (fresh e.setting eb.states false x.name) (neither_first i _ l)) in (
-          stands_well b e vars r loop c k s.0 p.0 (neither_first (body_refusal e b) _ h),
-          stands_well o ec (vars ++ caught_param x ∷ []) r loop (Some x.name) kc s.1 p.1 (neither_first (body_refusal ec o) _ m),
-          stands_well t (behind eb o) vars r loop c (stands_behind ds false eb o vars r loop c kb) s.2 p.2 (neither_second (body_refusal ec o) _ m),
+          stands_well b e vars r loop c k s.1 p.1 (neither_first (body_refusal e b) _ h),
+          stands_well o ec (vars ++ caught_param x ∷ []) r loop (Some x.name) kc s.2 p.2 (neither_first (body_refusal ec o) _ m),
+          stands_well t (behind eb o) vars r loop c (stands_behind ds false eb o vars r loop c kb) s.3 p.3 (neither_second (body_refusal ec o) _ m),
         )
     stands_well (ChooseStmt at bs t) e vars r loop c k s p h =
         let i = item at (unless (not e.setting.plain) WAIT_OUTSIDE) in
         let l = neither_second i _ h in
         let e' = with_states e (slot_names (branch_slots bs)) in
-        (stand_well bs e vars r loop c k s.0 p.0 (neither_first (branch_refusal e bs) _ l), stands_well t e' vars r loop c (stands_states e (slot_names (branch_slots bs)) vars r loop c k) s.1 p.1 (neither_second (branch_refusal e bs) _ l))
+        (stand_well bs e vars r loop c k s.1 p.1 (neither_first (branch_refusal e bs) _ l), stands_well t e' vars r loop c (stands_states e (slot_names (branch_slots bs)) vars r loop c k) s.2 p.2 (neither_second (branch_refusal e bs) _ l))
     stands_well (DeclareStmt at i v t) e vars r loop c k s p h =
         let f = item at (declare_fault e.setting e.states i v) in (
           value_given vars e.states i v (at_item ds false e vars at (λ s. declare_fault s e.states i v) k.setting (neither_first f _ h)),
-          stands_well t (declared e i) (vars ++ into_param i ∷ []) r loop c (stands_declared ds false e i vars r loop c k) s p (neither_second f _ h),
+          stands_well t (declared e i) (vars ++ into_param i ∷ []) r loop c (stands_declared ds false e i vars r loop c k) s.1 p.1 (neither_second f _ h),
         )
     stands_well (AssignStmt at xs v t) e vars r loop c k s p h =
         let f = item at (assign_fault e.setting xs v) in
-        (assign_gives vars xs v p.0 (at_item ds false e vars at (λ s. assign_fault s xs v) k.setting (neither_first f _ h)), stands_well t e vars r loop c k s p.1 (neither_second f _ h))
+        (assign_gives vars xs v p.0 (at_item ds false e vars at (λ s. assign_fault s xs v) k.setting (neither_first f _ h)), stands_well t e vars r loop c k s.1 p.1 (neither_second f _ h))
     stands_well (ModifyStmt at xs d t) e vars r loop c k s p h =
         let f = item at (modify_fault e.setting xs d) in
-        (modify_fits ds apart false vars xs d p.0 (at_item ds false e vars at (λ s. modify_fault s xs d) k.setting (neither_first f _ h)), stands_well t e vars r loop c k s p.1 (neither_second f _ h))
+        (modify_fits ds apart false vars xs d p.0 (at_item ds false e vars at (λ s. modify_fault s xs d) k.setting (neither_first f _ h)), stands_well t e vars r loop c k s.1 p.1 (neither_second f _ h))
     stands_well (CallStmt at xs es t) e vars r loop c k s p h =
         let f = item at (call_fault e.setting xs es) in
-        (call_stands ds apart vars xs es p.0 (at_item ds false e vars at (λ s. call_fault s xs es) k.setting (neither_first f _ h)), stands_well t e vars r loop c k s p.1 (neither_second f _ h))
+        (call_stands ds apart vars xs es p.0 (at_item ds false e vars at (λ s. call_fault s xs es) k.setting (neither_first f _ h)), stands_well t e vars r loop c k s.1 p.1 (neither_second f _ h))
     stands_well (WaitStmt at w t) e vars r loop c k s p h =
         let f = item at (wait_fault e.setting e.states w) in (
           wait_gives vars e.states w (at_item ds false e vars at (λ s. wait_fault s e.states w) k.setting (neither_first f _ h)),
-          stands_well t (waited e w.into) (waited_params vars w.into) r loop c (stands_waited e w.into vars r loop c k) s p (neither_second f _ h),
+          stands_well t (waited e w.into) (waited_params vars w.into) r loop c (stands_waited e w.into vars r loop c k) s.1 p.1 (neither_second f _ h),
         )
 
     stand_well : (bs : Branches) (e : Env) (vars : List ParamTree) (r : TypeTree) (loop : Bool) (c : Option (List ℕ)) → Stands ds false e vars r loop c → HaveSimpleParts bs → HavePaths bs → branch_refusal e bs ≡ None → StandWell ds r loop c vars bs
@@ -199,8 +201,8 @@ module _ (ds : List DeclTree) (apart : Distinct ds) where
         let l = neither_second f _ h in
         let xs = slot_names (waited_slots w ++ body_slots b) in (
           wait_gives vars e.states w (at_item ds false e vars at (λ s. wait_fault s e.states w) k.setting (neither_first f _ h)),
-          stands_well b (waited e w.into) (waited_params vars w.into) r loop c (stands_waited e w.into vars r loop c k) s.0 p.0 (neither_first (body_refusal (waited e w.into) b) _ l),
-          stand_well bs (with_states e xs) vars r loop c (stands_states e xs vars r loop c k) s.1 p.1 (neither_second (body_refusal (waited e w.into) b) _ l),
+          stands_well b (waited e w.into) (waited_params vars w.into) r loop c (stands_waited e w.into vars r loop c k) s.1 p.1 (neither_first (body_refusal (waited e w.into) b) _ l),
+          stand_well bs (with_states e xs) vars r loop c (stands_states e xs vars r loop c k) s.2 p.2 (neither_second (body_refusal (waited e w.into) b) _ l),
         )
 
   -- the actors of a program

@@ -243,15 +243,7 @@ module _ (ds : List DeclTree) (vars : List ParamTree) (apart : Distinct ds) wher
 
   fields_same : (plain : Bool) (t : TypeTree) (x : List ℕ) → field_form (setting_in ds plain vars) t x ≡ field_type (records_in ds) t x
   fields_same plain (NamedType r) x = record_fields r x
-  fields_same plain IntType x = refl
-  fields_same plain BoolType x = refl
-  fields_same plain StringType x = refl
-  fields_same plain VoidType x = refl
-  fields_same plain ErrorType x = refl
-  fields_same plain (FutureType t) x = refl
-  fields_same plain (FutureStreamType t) x = refl
-  fields_same plain (PromiseType t) x = refl
-  fields_same plain (PromiseStreamType t) x = refl
+  fields_same plain _ x = refl
 
   pub agrees : (plain : Bool) → Agrees (setting_in ds plain vars) scope
   agrees plain = record { names = names_declared; fields = fields_same plain; vars = rows_named vars }

@@ -7,6 +7,7 @@ use Rattle.flow_base.specs.declared.place.Place.{Place}
 use Rattle.flow_tree.specs.Tree.{TypeTree, BoolType, ErrorType, ExprTree}
 use Rattle.flow_tree.specs.Body.{Body, End, BlockStmt, IfStmt, IfElseStmt, WhileStmt, ForStmt, LoopStmt, BreakStmt, ContinueStmt, ReturnStmt, ThrowStmt, TryStmt, ChooseStmt, DeclareStmt, AssignStmt, ModifyStmt, CallStmt, WaitStmt}
 use Rattle.flow_tree.specs.Decls.{ParamTree, RecordTree, RoutineTree, DeclTree, StructDecl, FunctionDecl, ActorDecl}
+use Rattle.flow_tree.proofs.ForParts.{InitKind, no_init, declares, assigns, modifies, init_kind, StepKind, no_step, assigned, modified, step_kind}
 use Rattle.flow_ast.specs.Typing.{is_there}
 use Rattle.flow_ast.specs.Leaving.{has_statement, reaches_end, reaches_break}
 use Rattle.flow_ast.specs.Fits.{declared_in, ThrowFits, BodyFits, FunctionFits, FunctionsFit}
@@ -23,7 +24,7 @@ use Rattle.flow_typing_laws.specs.Typing.Scopes.{setting_in}
 use Rattle.flow_typing_laws.specs.Typing.Paths.{HasPaths, AllHavePaths}
 use Rattle.flow_typing_laws.proofs.Typing.Names.{none_some, some_none, some_same, no_second, holds}
 use Rattle.flow_typing_laws.proofs.Typing.Agreement.{Distinct, neither_first, neither_second, no_item, not_true}
-use Rattle.flow_typing_laws.proofs.Typing.Standing.{InitKind, no_init, declares, assigns, modifies, init_kind, StepKind, no_step, assigned, modified, step_kind, param, caught_param, Stands, stands_behind, stands_loop, stands_declared, stands_caught, at_item, step_declares, stands_started}
+use Rattle.flow_typing_laws.proofs.Typing.Standing.{param, caught_param, Stands, stands_behind, stands_loop, stands_declared, stands_caught, at_item, step_declares, stands_started}
 use Rattle.flow_typing_laws.proofs.Typing.Statements.{yields, maybe_yields, declare_fits, assign_fits, modify_fits, call_fits}
 
 module _ (ds : List DeclTree) (apart : Distinct ds) where
@@ -53,13 +54,13 @@ module _ (ds : List DeclTree) (apart : Distinct ds) where
   body_fits : (b : Body) (e : Env) (vars : List ParamTree) (r : TypeTree) (loop : Bool) (c : Option (List ℕ)) → Stands ds true e vars r loop c → HasSimpleParts b → HasPaths b → body_refusal e b ≡ None → Fitting r loop c vars b
   body_fits End e vars r loop c k s p h = tt
   body_fits (BlockStmt at b t) e vars r loop c k s p h =
-      (body_fits b e vars r loop c k s.0 p.0 (neither_first (body_refusal e b) _ h), body_fits t (behind e b) vars r loop c (stands_behind ds true e b vars r loop c k) s.1 p.1 (neither_second (body_refusal e b) _ h))
+      (body_fits b e vars r loop c k s.1 p.1 (neither_first (body_refusal e b) _ h), body_fits t (behind e b) vars r loop c (stands_behind ds true e b vars r loop c k) s.2 p.2 (neither_second (body_refusal e b) _ h))
   body_fits (IfStmt at q b t) e vars r loop c k s p h =
       let i = item at (test_fault e.setting q) in
       let l = neither_second i _ h in (
         yields ds apart true vars q BoolType (at_item ds true e vars at (λ s. test_fault s q) k.setting (neither_first i _ h)),
-        body_fits b e vars r loop c k s.0 p.0 (neither_first (body_refusal e b) _ l),
-        body_fits t (behind e b) vars r loop c (stands_behind ds true e b vars r loop c k) s.1 p.1 (neither_second (body_refusal e b) _ l),
+        body_fits b e vars r loop c k s.1 p.1 (neither_first (body_refusal e b) _ l),
+        body_fits t (behind e b) vars r loop c (stands_behind ds true e b vars r loop c k) s.2 p.2 (neither_second (body_refusal e b) _ l),
       )
   body_fits (IfElseStmt at q b o t) e vars r loop c k s p h =
       let i = item at (test_fault e.setting q) in
@@ -67,19 +68,19 @@ module _ (ds : List DeclTree) (apart : Distinct ds) where
       let m = neither_second (body_refusal e b) _ l in
       let kb = stands_behind ds true e b vars r loop c k in (
         yields ds apart true vars q BoolType (at_item ds true e vars at (λ s. test_fault s q) k.setting (neither_first i _ h)),
-        body_fits b e vars r loop c k s.0 p.0 (neither_first (body_refusal e b) _ l),
-        body_fits o (behind e b) vars r loop c kb s.1 p.1 (neither_first (body_refusal (behind e b) o) _ m),
-        body_fits t (behind (behind e b) o) vars r loop c (stands_behind ds true (behind e b) o vars r loop c kb) s.2 p.2 (neither_second (body_refusal (behind e b) o) _ m),
+        body_fits b e vars r loop c k s.1 p.1 (neither_first (body_refusal e b) _ l),
+        body_fits o (behind e b) vars r loop c kb s.2 p.2 (neither_first (body_refusal (behind e b) o) _ m),
+        body_fits t (behind (behind e b) o) vars r loop c (stands_behind ds true (behind e b) o vars r loop c kb) s.3 p.3 (neither_second (body_refusal (behind e b) o) _ m),
       )
   body_fits (WhileStmt at q b t) e vars r loop c k s p h =
       let i = item at (test_fault e.setting q) in
       let l = neither_second i _ h in (
         yields ds apart true vars q BoolType (at_item ds true e vars at (λ s. test_fault s q) k.setting (neither_first i _ h)),
-        body_fits b (in_loop e) vars r true c (stands_loop ds true e vars r loop c k) s.0 p.0 (neither_first (body_refusal (in_loop e) b) _ l),
-        body_fits t (behind e b) vars r loop c (stands_behind ds true e b vars r loop c k) s.1 p.1 (neither_second (body_refusal (in_loop e) b) _ l),
+        body_fits b (in_loop e) vars r true c (stands_loop ds true e vars r loop c k) s.1 p.1 (neither_first (body_refusal (in_loop e) b) _ l),
+        body_fits t (behind e b) vars r loop c (stands_behind ds true e b vars r loop c k) s.2 p.2 (neither_second (body_refusal (in_loop e) b) _ l),
       )
   body_fits (ForStmt at j q n b t) e vars r loop c k s p h =
-      let kind = init_kind j s.0 in
+      let kind = init_kind j s.0.0 in
       let ws = vars ++ declared_in j in
       let e' = started e j in
       let ks = stands_started ds true e j vars r loop c kind k in
@@ -91,31 +92,31 @@ module _ (ds : List DeclTree) (apart : Distinct ds) where
       let kn = stands_behind ds true e' n ws r loop c ks in
       let ej = behind e j in
       let en = behind ej n in (
-        init_fits e vars r c j k.setting kind p.0 (neither_first (body_refusal e j) _ h),
+        init_fits e vars r c j k.setting kind p.1 (neither_first (body_refusal e j) _ h),
         maybe_yields ds apart true ws q (at_item ds true e' ws at (λ s. maybe_test s q) ks.setting (neither_first i _ l)),
-        step_fits e' ws r c n ks.setting (step_kind n s.1) p.1 (neither_first (body_refusal e' n) _ m),
-        step_declares ds true n (step_kind n s.1),
-        body_fits b (in_loop e'') ws r true c (stands_loop ds true e'' ws r loop c kn) s.2 p.2 (neither_first (body_refusal (in_loop e'') b) _ o),
-        body_fits t (behind en b) vars r loop c (stands_behind ds true en b vars r loop c (stands_behind ds true ej n vars r loop c (stands_behind ds true e j vars r loop c k))) s.3 p.3 (neither_second (body_refusal (in_loop e'') b) _ o),
+        step_fits e' ws r c n ks.setting (step_kind n s.0.1) p.2 (neither_first (body_refusal e' n) _ m),
+        step_declares ds true n (step_kind n s.0.1),
+        body_fits b (in_loop e'') ws r true c (stands_loop ds true e'' ws r loop c kn) s.3 p.3 (neither_first (body_refusal (in_loop e'') b) _ o),
+        body_fits t (behind en b) vars r loop c (stands_behind ds true en b vars r loop c (stands_behind ds true ej n vars r loop c (stands_behind ds true e j vars r loop c k))) s.4 p.4 (neither_second (body_refusal (in_loop e'') b) _ o),
       )
   body_fits (LoopStmt at b t) e vars r loop c k s p h = (
-    body_fits b (in_loop e) vars r true c (stands_loop ds true e vars r loop c k) s.0 p.0 (neither_first (body_refusal (in_loop e) b) _ h),
-    body_fits t (behind e b) vars r loop c (stands_behind ds true e b vars r loop c k) s.1 p.1 (neither_second (body_refusal (in_loop e) b) _ h),
+    body_fits b (in_loop e) vars r true c (stands_loop ds true e vars r loop c k) s.1 p.1 (neither_first (body_refusal (in_loop e) b) _ h),
+    body_fits t (behind e b) vars r loop c (stands_behind ds true e b vars r loop c k) s.2 p.2 (neither_second (body_refusal (in_loop e) b) _ h),
   )
   body_fits (BreakStmt at t) e vars r loop c k s p h =
       let i = unless e.looped BREAK_OUTSIDE in
-      (k.looped (holds e.looped BREAK_OUTSIDE (no_item at i (neither_first (item at i) _ h))), body_fits t e vars r loop c k s p (neither_second (item at i) _ h))
+      (k.looped (holds e.looped BREAK_OUTSIDE (no_item at i (neither_first (item at i) _ h))), body_fits t e vars r loop c k s.1 p.1 (neither_second (item at i) _ h))
   body_fits (ContinueStmt at t) e vars r loop c k s p h =
       let i = unless e.looped BREAK_OUTSIDE in
-      (k.looped (holds e.looped BREAK_OUTSIDE (no_item at i (neither_first (item at i) _ h))), body_fits t e vars r loop c k s p (neither_second (item at i) _ h))
+      (k.looped (holds e.looped BREAK_OUTSIDE (no_item at i (neither_first (item at i) _ h))), body_fits t e vars r loop c k s.1 p.1 (neither_second (item at i) _ h))
   body_fits (ReturnStmt at v t) e vars r loop c k s p h =
       let i = item at (wanted e.setting false v e.returns) in (
         yields ds apart true vars v r (ap (wanted (setting_in ds true vars) false v) (sym k.returns) ∙ at_item ds true e vars at (λ s. wanted s false v e.returns) k.setting (neither_first i _ h)),
-        body_fits t e vars r loop c k s p (neither_second i _ h),
+        body_fits t e vars r loop c k s.1 p.1 (neither_second i _ h),
       )
   body_fits (ThrowStmt at v t) e vars r loop c k s p h =
       let i = item at (throw_fault e.setting e.caught v) in
-      (throw_fits e vars r loop c at v k (neither_first i _ h), body_fits t e vars r loop c k s p (neither_second i _ h))
+      (throw_fits e vars r loop c at v k (neither_first i _ h), body_fits t e vars r loop c k s.1 p.1 (neither_second i _ h))
   body_fits (TryStmt at b q x o t) e vars r loop c k s p h =
       let eb = behind e b in
       let kb = stands_behind ds true e b vars r loop c k in
@@ -124,25 +125,25 @@ module _ (ds : List DeclTree) (apart : Distinct ds) where
       let m = neither_second i _ l in
       let ec = in_catch (with_var eb x.name ErrorType) in
       let kc = stands_caught ds true eb x eb.states vars r loop c kb (no_item q (fresh e.setting eb.states false x.name) (neither_first i _ l)) in (
-        body_fits b e vars r loop c k s.0 p.0 (neither_first (body_refusal e b) _ h),
-        body_fits o ec (vars ++ caught_param x ∷ []) r loop (Some x.name) kc s.1 p.1 (neither_first (body_refusal ec o) _ m),
-        body_fits t (behind eb o) vars r loop c (stands_behind ds true eb o vars r loop c kb) s.2 p.2 (neither_second (body_refusal ec o) _ m),
+        body_fits b e vars r loop c k s.1 p.1 (neither_first (body_refusal e b) _ h),
+        body_fits o ec (vars ++ caught_param x ∷ []) r loop (Some x.name) kc s.2 p.2 (neither_first (body_refusal ec o) _ m),
+        body_fits t (behind eb o) vars r loop c (stands_behind ds true eb o vars r loop c kb) s.3 p.3 (neither_second (body_refusal ec o) _ m),
       )
   body_fits (ChooseStmt at bs t) e vars r loop c k s p h = plain_out e vars at k.setting (neither_first (item at (unless (not e.setting.plain) WAIT_OUTSIDE)) _ h)
   body_fits (DeclareStmt at i v t) e vars r loop c k s p h =
       let f = item at (declare_fault e.setting e.states i v) in (
         declare_fits ds apart vars e.states i v (at_item ds true e vars at (λ s. declare_fault s e.states i v) k.setting (neither_first f _ h)),
-        body_fits t (declared e i) (vars ++ param i ∷ []) r loop c (stands_declared ds true e i vars r loop c k) s p (neither_second f _ h),
+        body_fits t (declared e i) (vars ++ param i ∷ []) r loop c (stands_declared ds true e i vars r loop c k) s.1 p.1 (neither_second f _ h),
       )
   body_fits (AssignStmt at xs v t) e vars r loop c k s p h =
       let f = item at (assign_fault e.setting xs v) in
-      (assign_fits ds apart vars xs v p.0 (at_item ds true e vars at (λ s. assign_fault s xs v) k.setting (neither_first f _ h)), body_fits t e vars r loop c k s p.1 (neither_second f _ h))
+      (assign_fits ds apart vars xs v p.0 (at_item ds true e vars at (λ s. assign_fault s xs v) k.setting (neither_first f _ h)), body_fits t e vars r loop c k s.1 p.1 (neither_second f _ h))
   body_fits (ModifyStmt at xs d t) e vars r loop c k s p h =
       let f = item at (modify_fault e.setting xs d) in
-      (modify_fits ds apart true vars xs d p.0 (at_item ds true e vars at (λ s. modify_fault s xs d) k.setting (neither_first f _ h)), body_fits t e vars r loop c k s p.1 (neither_second f _ h))
+      (modify_fits ds apart true vars xs d p.0 (at_item ds true e vars at (λ s. modify_fault s xs d) k.setting (neither_first f _ h)), body_fits t e vars r loop c k s.1 p.1 (neither_second f _ h))
   body_fits (CallStmt at xs es t) e vars r loop c k s p h =
       let f = item at (call_fault e.setting xs es) in
-      (call_fits ds apart vars xs es p.0 (at_item ds true e vars at (λ s. call_fault s xs es) k.setting (neither_first f _ h)), body_fits t e vars r loop c k s p.1 (neither_second f _ h))
+      (call_fits ds apart vars xs es p.0 (at_item ds true e vars at (λ s. call_fault s xs es) k.setting (neither_first f _ h)), body_fits t e vars r loop c k s.1 p.1 (neither_second f _ h))
   body_fits (WaitStmt at w t) e vars r loop c k s p h =
       let f = wait_fault e.setting e.states w in
       let i = no_item at f (neither_first (item at f) _ h) in
@@ -165,7 +166,6 @@ or_false false = refl
 
 module _ (rs : List RecordTree) (fs actors : List RoutineTree) (r : TypeTree) where
   same_ends : (b : Body) (loop : Bool) (c : Option (List ℕ)) (vars : List ParamTree) → BodyFits rs fs actors r loop c vars b → SameEnds b
-  same_ends End loop c vars f = record { ends = refl; breaks = refl }
   same_ends (BlockStmt at b t) loop c vars f =
       let x = same_ends b loop c vars f.0 in
       let y = same_ends t loop c vars f.1 in
@@ -194,10 +194,6 @@ module _ (rs : List RecordTree) (fs actors : List RoutineTree) (r : TypeTree) wh
       let x = same_ends b true c vars f.0 in
       let y = same_ends t loop c vars f.1 in
       record { ends = ap₂ (λ a d. a && d) x.breaks y.ends; breaks = ap₂ (λ a d. a && d) x.breaks y.breaks }
-  same_ends (BreakStmt at t) loop c vars f = record { ends = refl; breaks = refl }
-  same_ends (ContinueStmt at t) loop c vars f = record { ends = refl; breaks = refl }
-  same_ends (ReturnStmt at v t) loop c vars f = record { ends = refl; breaks = refl }
-  same_ends (ThrowStmt at v t) loop c vars f = record { ends = refl; breaks = refl }
   same_ends (TryStmt at b q x o t) loop c vars f =
       let a = same_ends b loop c vars f.0 in
       let z = same_ends o loop (Some x.name) (vars ++ caught_param x ∷ []) f.1 in
@@ -210,6 +206,7 @@ module _ (rs : List RecordTree) (fs actors : List RoutineTree) (r : TypeTree) wh
   same_ends (ModifyStmt at xs d t) loop c vars f = let y = same_ends t loop c vars f.1 in record { ends = y.ends; breaks = y.breaks }
   same_ends (CallStmt at xs es t) loop c vars f = let y = same_ends t loop c vars f.1 in record { ends = y.ends; breaks = y.breaks }
   same_ends (WaitStmt at w t) loop c vars f = absurd f
+  same_ends _ loop c vars f = record { ends = refl; breaks = refl }
 
 -- the functions of a program
 module _ (ds : List DeclTree) (apart : Distinct ds) where

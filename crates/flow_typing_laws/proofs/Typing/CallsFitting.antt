@@ -22,7 +22,7 @@ use Rattle.flow_rules.specs.Items.{path_form, path_fault, ends_of, base_form, ba
 use Rattle.flow_meaning.specs.Source.{records_in}
 use Rattle.flow_typing_laws.specs.Typing.Agreeing.{IsDeclared}
 use Rattle.flow_typing_laws.specs.Typing.Scopes.{scope_in, setting_in}
-use Rattle.flow_typing_laws.specs.Typing.Paths.{IsPath}
+use Rattle.flow_tree.specs.Formed.{IsPath}
 use Rattle.flow_typing_laws.specs.Typing.CallsFit.{HaveTypes, NameFits, SendFits, CancelFits, MethodFits, base_type, CallStands}
 use Rattle.flow_typing_laws.proofs.Typing.Names.{type_same, some_none, there, no_first, no_second, holds}
 use Rattle.flow_typing_laws.proofs.Typing.Expressions.{typed, all_typed, from_start, equality_there, constant_typed}

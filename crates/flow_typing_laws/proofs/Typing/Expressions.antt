@@ -60,15 +60,12 @@ signed Or t u e = cut (same_type t u) (bool_only t) BoolType e (bool_there t)
 signed And t u e = cut (same_type t u) (bool_only t) BoolType e (bool_there t)
 signed Eq t u e = cut (same_type t u) (equality_type t) BoolType e (equality_there t)
 signed Ne t u e = cut (same_type t u) (equality_type t) BoolType e (equality_there t)
-signed Lt t u e = cut (same_type t u) (order_type t) BoolType e (order_there t)
-signed Le t u e = cut (same_type t u) (order_type t) BoolType e (order_there t)
-signed Gt t u e = cut (same_type t u) (order_type t) BoolType e (order_there t)
-signed Ge t u e = cut (same_type t u) (order_type t) BoolType e (order_there t)
 signed Add t u e = refl
 signed Sub t u e = cut (same_type t u) (int_only t) IntType e (int_there t)
 signed Mul t u e = cut (same_type t u) (int_only t) IntType e (int_there t)
 signed Div t u e = cut (same_type t u) (int_only t) IntType e (int_there t)
 signed Rem t u e = cut (same_type t u) (int_only t) IntType e (int_there t)
+signed _ t u e = cut (same_type t u) (order_type t) BoolType e (order_there t)
 
 -- a type that is wanted
 pub wanted_is : (o : Option TypeTree) (t u : TypeTree) → o ≡ Some t → wants o u ≡ None → t ≡ u

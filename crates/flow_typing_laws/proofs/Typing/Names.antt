@@ -42,16 +42,12 @@ type_same (PromiseStreamType t) (PromiseStreamType u) e = ap PromiseStreamType (
 type_same t u e = absurd (false≢true e)
 
 pub type_self : (t : TypeTree) → same_type t t ≡ true
-type_self IntType = refl
-type_self BoolType = refl
-type_self StringType = refl
-type_self VoidType = refl
-type_self ErrorType = refl
 type_self (NamedType x) = bytes_self x
 type_self (FutureType t) = type_self t
 type_self (FutureStreamType t) = type_self t
 type_self (PromiseType t) = type_self t
 type_self (PromiseStreamType t) = type_self t
+type_self _ = refl
 
 -- Options.
 pub none_some : {A : Type 0} {x : A} → None ≡ Some x → ⊥

@@ -6,8 +6,9 @@ use Rattle.std.specs.declared.option.Option.TheVariants.{None, Some}
 use Rattle.flow_base.specs.declared.place.Place.{Place}
 use Rattle.flow_tree.specs.declared.ty.Ident.{Ident}
 use Rattle.flow_tree.specs.Tree.{TypeTree, ErrorType}
-use Rattle.flow_tree.specs.Body.{IntoTree, Body, End, DeclareStmt, AssignStmt, ModifyStmt}
+use Rattle.flow_tree.specs.Body.{IntoTree, Body, End, AssignStmt, ModifyStmt}
 use Rattle.flow_tree.specs.Decls.{ParamTree, DeclTree}
+use Rattle.flow_tree.proofs.ForParts.{InitKind, no_init, declares, assigns, modifies, StepKind, no_step, assigned, modified}
 use Rattle.flow_ast.specs.TypingNames.{named}
 use Rattle.flow_ast.specs.Typing.{is_there, param_named}
 use Rattle.flow_ast.specs.Fits.{declared_in, CaughtFits}
@@ -16,37 +17,11 @@ use Rattle.flow_rules.specs.Known.{field_row, is_predefined}
 use Rattle.flow_rules.specs.Judged.{Setting}
 use Rattle.flow_rules.specs.Items.{Env, item, with_var, in_loop, in_catch, behind, declared, started, among, fresh}
 use Rattle.flow_rules.specs.Rules.{setting_of}
-use Rattle.flow_typing_laws.specs.ControlFlow.Laws.{IsInit, IsStep}
 use Rattle.flow_meaning.specs.Source.{records_in, functions_in, actors_in}
 use Rattle.flow_typing_laws.specs.Typing.Scopes.{setting_in}
 use Rattle.flow_typing_laws.proofs.Typing.Names.{holds}
 use Rattle.flow_typing_laws.proofs.Typing.Agreement.{rows_named, no_item, not_true, neither_left}
 use Rattle.flow_typing_laws.proofs.Typing.Statements.{more_params, last_param, there_of}
-
--- the parts of a `for`
-pub data InitKind : Body → Type 0 where
-  no_init : InitKind End
-  declares : (at : _) (i : _) (v : _) → InitKind (DeclareStmt at i v End)
-  assigns : (at : _) (xs : _) (v : _) → InitKind (AssignStmt at xs v End)
-  modifies : (at : _) (xs : _) (c : _) → InitKind (ModifyStmt at xs c End)
-
-pub init_kind : (i : Body) → IsInit i → InitKind i
-init_kind End s = no_init
-init_kind (DeclareStmt at i v End) s = declares at i v
-init_kind (AssignStmt at xs v End) s = assigns at xs v
-init_kind (ModifyStmt at xs c End) s = modifies at xs c
-init_kind b s = absurd s
-
-pub data StepKind : Body → Type 0 where
-  no_step : StepKind End
-  assigned : (at : _) (xs : _) (v : _) → StepKind (AssignStmt at xs v End)
-  modified : (at : _) (xs : _) (c : _) → StepKind (ModifyStmt at xs c End)
-
-pub step_kind : (t : Body) → IsStep t → StepKind t
-step_kind End s = no_step
-step_kind (AssignStmt at xs v End) s = assigned at xs v
-step_kind (ModifyStmt at xs c End) s = modified at xs c
-step_kind b s = absurd s
 
 abbrev pub param : IntoTree → ParamTree
 param i = record { ty = i.ty; name = i.name }

@@ -16,17 +16,17 @@ use Rattle.flow_tree.specs.Body.{IntoTree, ChangeTree, PlusChange, MinusChange, 
 use Rattle.flow_tree.specs.Decls.{ParamTree, RecordTree, RoutineTree, DeclTree}
 use Rattle.flow_ast.specs.TypingNames.{named, call_names, method_names}
 use Rattle.flow_ast.specs.Typing.{Signature, signature, is_there, routine_named, param_named, param_types, same_type, sum_type, int_only, binary_type, method_in}
-use Rattle.flow_ast.specs.Fits.{fields_type, path_type, has_default, Yields, MaybeYields, ChangeFits, DeclareFits, CallFits}
+use Rattle.flow_ast.specs.Fits.{fields_type, path_type, has_plain_default, Yields, MaybeYields, ChangeFits, DeclareFits, CallFits}
 use Rattle.flow_rules.specs.declared.rule.TheConstants.{UNKNOWN_NAME, WRONG_TYPE, WRONG_COUNT, NOT_HERE, NEEDS_VALUE, DISCARD}
 use Rattle.flow_rules.specs.Least.{lesser, unless}
 use Rattle.flow_rules.specs.Known.{Meaning, RecordOf, FunctionOf, ActorOf, type_known}
 use Rattle.flow_rules.specs.Judged.{Setting, Exactly, Callee, predefined_kind, stated, predefined_callee, declared_callee, called_as, called, stated_on, method_callee, called_by, called_on, needs_of, field_form, form, fault, faults, wanted, wants, operands, not_here, said, as_many, calls, of_field}
-use Rattle.flow_rules.specs.Items.{Env, item, with_var, with_states, in_loop, in_catch, behind, declared, started, written, fresh, state_here, into_fault, value_fault, path_form, path_fault, target_form, target_fault, assigned, assign_fault, change_fault, modify_fault, ends_of, base_form, base_fault, call_by_name, call_on, call_fault, test_fault, maybe_test, throw_fault, declare_fault, wait_fault, body_refusal}
+use Rattle.flow_rules.specs.Items.{behind, written, fresh, state_here, into_fault, value_fault, path_form, path_fault, target_form, target_fault, assigned, assign_fault, change_fault, modify_fault, ends_of, base_form, base_fault, call_fault, maybe_test, declare_fault}
 use Rattle.flow_rules.specs.Items as rule
 use Rattle.flow_meaning.specs.Source.{records_in, functions_in, actors_in}
 use Rattle.flow_typing_laws.specs.Typing.Agreeing.{IsDeclared}
 use Rattle.flow_typing_laws.specs.Typing.Scopes.{scope_in, setting_in}
-use Rattle.flow_typing_laws.specs.Typing.Paths.{IsPath}
+use Rattle.flow_tree.specs.Formed.{IsPath}
 use Rattle.flow_typing_laws.proofs.Typing.Names.{bytes_self, type_same, none_some, some_none, there, no_first, no_second, holds}
 use Rattle.flow_typing_laws.proofs.Typing.Expressions.{typed, all_typed, wanted_is, sum_there, stated_statement, from_start}
 use Rattle.flow_typing_laws.proofs.Typing.Agreement.{Distinct, agrees}
@@ -164,7 +164,7 @@ module _ (ds : List DeclTree) (apart : Distinct ds) where
       (k.in_scope ∙ ap Some same, k.quiet (inr refl))
 
   -- a variable's value
-  default_fits : (vars : List ParamTree) (t : TypeTree) → written (at_function vars) t ≡ None → rule.has_default t ≡ true → has_default t ≡ true
+  default_fits : (vars : List ParamTree) (t : TypeTree) → written (at_function vars) t ≡ None → rule.has_default t ≡ true → has_plain_default t ≡ true
   default_fits vars IntType w d = refl
   default_fits vars BoolType w d = refl
   default_fits vars StringType w d = refl

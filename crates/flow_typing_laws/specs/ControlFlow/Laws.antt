@@ -2,8 +2,10 @@
 use Rattle.std.specs.Prelude.{◌≡◌, ℕ, ◌<◌, ◌↔◌, IsTrue, List, [], ◌∷◌, Contains, slice_get}
 use Rattle.std.specs.declared.option.Option.{Option}
 use Rattle.std.specs.declared.option.Option.TheVariants.{None, Some}
-use Rattle.flow_tree.specs.Body.{Body, End, BlockStmt, IfStmt, IfElseStmt, WhileStmt, ForStmt, LoopStmt, BreakStmt, ContinueStmt, ReturnStmt, ThrowStmt, TryStmt, ChooseStmt, DeclareStmt, AssignStmt, ModifyStmt, CallStmt, WaitStmt, Branches, NoBranches, MoreBranches}
+use Rattle.flow_tree.specs.Body.{Body, ForStmt, Branches}
 use Rattle.flow_tree.specs.Decls.{ParamTree, DeclTree, StructDecl, FunctionDecl, ActorDecl}
+use Rattle.flow_tree.specs.Folds.{EachStmt, EachBranch}
+use Rattle.flow_tree.specs.Formed.{IsInit, IsStep, EachBody}
 use Rattle.flow_rules.specs.Closing.{ways}
 use Rattle.flow_staterule.specs.declared.rule.Lost.{Lost}
 use Rattle.flow_staterule.specs.StateRule.{first_lost}
@@ -11,41 +13,19 @@ use Rattle.flow_typing_laws.specs.ControlFlow.Graph.{Walk, Reaches}
 use Rattle.flow_typing_laws.specs.ControlFlow.Control.{control, closing}
 use Rattle.flow_typing_laws.specs.ControlFlow.Mentions.{Mention, Wait, routine_mentions, waits}
 
--- The init of a `for` declares or changes a variable, and its step changes one, where they are there: so the grammar has them.
-abbrev pub IsStep : Body → Type 0
-IsStep End = Unit {0}
-IsStep (AssignStmt at xs v End) = Unit {0}
-IsStep (ModifyStmt at xs c End) = Unit {0}
-IsStep b = ⊥
+-- the parts of a `for` are simple, as the grammar has them
+abbrev pub IsSimpleFor : Body → Type 0
+IsSimpleFor (ForStmt at i e t b k) = IsInit i × IsStep t
+IsSimpleFor b = Unit {0}
 
-abbrev pub IsInit : Body → Type 0
-IsInit (DeclareStmt at i v End) = Unit {0}
-IsInit b = IsStep b
+abbrev pub HasSimpleParts : Body → Type 0
+HasSimpleParts b = EachStmt IsSimpleFor b
 
-abbrev mutual
-  pub HasSimpleParts : Body → Type 0
-  HasSimpleParts End = Unit {0}
-  HasSimpleParts (BlockStmt at b k) = HasSimpleParts b × HasSimpleParts k
-  HasSimpleParts (IfStmt at e b k) = HasSimpleParts b × HasSimpleParts k
-  HasSimpleParts (IfElseStmt at e b c k) = HasSimpleParts b × HasSimpleParts c × HasSimpleParts k
-  HasSimpleParts (WhileStmt at e b k) = HasSimpleParts b × HasSimpleParts k
-  HasSimpleParts (ForStmt at i e t b k) = IsInit i × IsStep t × HasSimpleParts b × HasSimpleParts k
-  HasSimpleParts (LoopStmt at b k) = HasSimpleParts b × HasSimpleParts k
-  HasSimpleParts (BreakStmt at k) = HasSimpleParts k
-  HasSimpleParts (ContinueStmt at k) = HasSimpleParts k
-  HasSimpleParts (ReturnStmt at v k) = HasSimpleParts k
-  HasSimpleParts (ThrowStmt at v k) = HasSimpleParts k
-  HasSimpleParts (TryStmt at b q x h k) = HasSimpleParts b × HasSimpleParts h × HasSimpleParts k
-  HasSimpleParts (ChooseStmt at bs k) = HaveSimpleParts bs × HasSimpleParts k
-  HasSimpleParts (DeclareStmt at i v k) = HasSimpleParts k
-  HasSimpleParts (AssignStmt at xs v k) = HasSimpleParts k
-  HasSimpleParts (ModifyStmt at xs c k) = HasSimpleParts k
-  HasSimpleParts (CallStmt at xs es k) = HasSimpleParts k
-  HasSimpleParts (WaitStmt at w k) = HasSimpleParts k
+abbrev pub HaveSimpleParts : Branches → Type 0
+HaveSimpleParts bs = EachBranch IsSimpleFor bs
 
-  pub HaveSimpleParts : Branches → Type 0
-  HaveSimpleParts NoBranches = Unit {0}
-  HaveSimpleParts (MoreBranches at w b bs) = HasSimpleParts b × HaveSimpleParts bs
+abbrev pub AllHaveSimpleParts : List DeclTree → Type 0
+AllHaveSimpleParts ds = EachBody HasSimpleParts ds
 
 -- some walk leads from the opening brace of a body to the closing one
 abbrev pub ComesToEnd : Body → Type 0
@@ -101,15 +81,6 @@ pub data FirstLost : List DeclTree → Option Lost → Type 0 where
   nothing : FirstLost [] None
   here : (d : DeclTree) (ds : List DeclTree) (l : Lost) → LostInDecl d (Some l) → FirstLost (d ∷ ds) (Some l)
   later : (d : DeclTree) (ds : List DeclTree) (l : Option Lost) → LostInDecl d None → FirstLost ds l → FirstLost (d ∷ ds) l
-
-abbrev pub DeclHasSimpleParts : DeclTree → Type 0
-DeclHasSimpleParts (StructDecl r) = Unit {0}
-DeclHasSimpleParts (FunctionDecl f) = HasSimpleParts f.body
-DeclHasSimpleParts (ActorDecl f) = HasSimpleParts f.body
-
-abbrev pub AllHaveSimpleParts : List DeclTree → Type 0
-AllHaveSimpleParts [] = Unit {0}
-AllHaveSimpleParts (d ∷ ds) = DeclHasSimpleParts d × AllHaveSimpleParts ds
 
 -- the use that the rule on state tells is the first bad one by walks, and there is none where it tells none
 abbrev pub LostByWalk : List DeclTree → Type 0

@@ -7,9 +7,10 @@ use Rattle.std.specs.declared.option.Option.{Option}
 use Rattle.std.specs.declared.option.Option.TheVariants.{None, Some}
 use Rattle.flow_base.specs.declared.place.Place.{Place}
 use Rattle.flow_tree.specs.declared.ty.Ident.{Ident}
-use Rattle.flow_tree.specs.Tree.{ExprTree, ExprTrees, IntExpr, TextExpr, BoolExpr, VoidExpr, VarExpr, CallExpr, FieldExpr, MethodExpr, NotExpr, NegExpr, BinaryExpr, ParenExpr, NoExprs, MoreExprs}
+use Rattle.flow_tree.specs.Tree.{ExprTree, ExprTrees}
 use Rattle.flow_tree.specs.Body.{IntoTree, ChangeTree, PlusChange, MinusChange, UpChange, DownChange, Body, End, BlockStmt, IfStmt, IfElseStmt, WhileStmt, ForStmt, LoopStmt, BreakStmt, ContinueStmt, ReturnStmt, ThrowStmt, TryStmt, ChooseStmt, DeclareStmt, AssignStmt, ModifyStmt, CallStmt, WaitStmt, Branches, NoBranches, MoreBranches}
 use Rattle.flow_tree.specs.Decls.{ParamTree}
+use Rattle.flow_tree.specs.Folds.{names_listed, all_names_listed}
 use Rattle.flow_typing_laws.specs.ControlFlow.Control.{points, branch_points}
 
 -- a declaration of a local: the place of its name, and its point
@@ -42,24 +43,11 @@ of_names vs n [] = []
 of_names vs n (x ∷ xs) = of_name vs n x ++ of_names vs n xs
 
 -- the variables that an expression names, in the order of the text
-abbrev mutual
-  pub expr_names : ExprTree → List Ident
-  expr_names (IntExpr k) = []
-  expr_names (TextExpr t) = []
-  expr_names (BoolExpr b) = []
-  expr_names VoidExpr = []
-  expr_names (VarExpr x) = x ∷ []
-  expr_names (CallExpr f es) = exprs_names es
-  expr_names (FieldExpr e x) = expr_names e
-  expr_names (MethodExpr e m es) = expr_names e ++ exprs_names es
-  expr_names (NotExpr e) = expr_names e
-  expr_names (NegExpr e) = expr_names e
-  expr_names (BinaryExpr op a b) = expr_names a ++ expr_names b
-  expr_names (ParenExpr e) = expr_names e
+abbrev pub expr_names : ExprTree → List Ident
+expr_names e = names_listed (λ x. x ∷ []) e
 
-  pub exprs_names : ExprTrees → List Ident
-  exprs_names NoExprs = []
-  exprs_names (MoreExprs e es) = expr_names e ++ exprs_names es
+abbrev pub exprs_names : ExprTrees → List Ident
+exprs_names es = all_names_listed (λ x. x ∷ []) es
 
 abbrev pub maybe_names : Option ExprTree → List Ident
 maybe_names None = []
