@@ -1,12 +1,11 @@
 -- What is seen of a world at the boundary of events, process by process.
 use Rattle.std.specs.Prelude.{List, map}
 use Rattle.std.specs.List.{AllByRecursion}
-use Rattle.flow_class.specs.Classes.{RawTree}
 use Rattle.flow_meaning.specs.Process.{Engine}
 use Rattle.flow_meaning.specs.Items.{Actor}
 use Rattle.flow_meaning.specs.Frame.{Frame}
 use Rattle.flow_meaning.specs.World.{World}
-use Rattle.flow_meaning.specs.Views.{Unfinished, WaitingBranch, Live, Pending, Frames, Callbacks, Tied, Referred}
+use Rattle.flow_meaning.specs.Views.{Unfinished, WaitingBranch, Live, Pending, Frames, Callbacks, Referred}
 
 -- the unfinished actors of each process and their branches, by their texts
 abbrev pub LiveIn : World Actor → List (List Unfinished)
@@ -21,10 +20,6 @@ FramesIn w = map (λ p. Frames p.proc) w.places
 
 abbrev pub CallbacksIn : World Frame → List (List WaitingBranch)
 CallbacksIn w = map (λ p. Callbacks p.proc) w.places
-
--- each process has its frames, of the classes of its unfinished actors
-abbrev pub TiedIn : RawTree → World Frame → Type 0
-TiedIn r w = AllByRecursion (λ p. Tied r p.proc) w.places
 
 -- each unfinished actor of the world is uncancelled and still referred to
 abbrev pub ReferredIn : {A : Type 0} → Engine A → World A → Type 0

@@ -45,9 +45,6 @@ pub record IsRun {A : Type 0} (e : Engine A) (w : file.World) (states : List (Wo
   pub with_head : lines ≡ line.Head ∷ rest
 
 -- what a program means in a world, and what its classes do
-abbrev pub SourceStates : ProgramTree → file.World → List (World Actor) → Type 0
-SourceStates p w states = (lines : List Line) × IsRun (source p) w states lines
-
 abbrev pub SourceTrace : ProgramTree → file.World → List Line → Type 0
 SourceTrace p w lines = (states : List (World Actor)) × IsRun (source p) w states lines
 

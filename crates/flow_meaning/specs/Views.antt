@@ -1,11 +1,9 @@
 -- What is seen of a process at the boundary of events: its unfinished actors, and the branches at which they wait. And
 -- what holds of them there.
-use Rattle.std.specs.Prelude.{◌≡◌, ℕ, suc, ◌<◌, true, false, List, [], ◌∷◌, ◌++◌, length, slice_get}
+use Rattle.std.specs.Prelude.{◌≡◌, ℕ, suc, ◌<◌, false, List, [], ◌∷◌, ◌++◌}
 use Rattle.std.specs.declared.option.Option.{Option}
 use Rattle.std.specs.declared.option.Option.TheVariants.{None, Some}
 use Rattle.flow_numbered.specs.Numbered.{Numbered, thing}
-use Rattle.flow_class.specs.Classes.{CallbackTree, RawTree}
-use Rattle.flow_class.specs.Code.{group_at}
 use Rattle.flow_meaning.specs.Cells.{Ref, FutureSide}
 use Rattle.flow_meaning.specs.References.{reference_count}
 use Rattle.flow_meaning.specs.Step.{scanned}
@@ -73,21 +71,6 @@ Frames p = unfinished frame_spot p.actors p.core.entries
 
 abbrev pub Callbacks : Proc Frame → List WaitingBranch
 Callbacks p = waiting frame_spot p.actors p.core.entries
-
--- Each unfinished actor has one frame. Its code is the class of the actor, and where the actor is suspended, the state
--- number is the group at which it waits, with an operand for each callback.
-pub record IsTied (r : RawTree) (e : Entry) (f : Frame) : Type 0 where
-  pub code : slice_get r.classes e.class ≡ Some f.code
-  pub group : e.suspended ≡ true → (cs : List CallbackTree) × (group_at f.code.groups f.state ≡ Some cs) × (length cs ≡ length e.operands)
-
-abbrev pub AllTied : RawTree → Numbered Entry → Numbered Frame → Type 0
-AllTied r [] [] = Unit {0}
-AllTied r [] (y ∷ ys) = ⊥
-AllTied r (x ∷ xs) [] = ⊥
-AllTied r (x ∷ xs) (y ∷ ys) = (x.0 ≡ y.0) × IsTied r x.1 y.1 × AllTied r xs ys
-
-abbrev pub Tied : RawTree → Proc Frame → Type 0
-Tied r p = AllTied r p.core.entries p.actors
 
 -- Each unfinished actor is uncancelled, and a future refers to its result.
 abbrev pub IsReferred : Option ℕ → (ℕ → ℕ) → Type 0
