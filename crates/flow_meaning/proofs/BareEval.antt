@@ -7,7 +7,7 @@ use Rattle.std.specs.declared.option.Option.{Option}
 use Rattle.std.specs.declared.option.Option.TheVariants.{None, Some}
 use Rattle.flow_tree.specs.declared.ty.Ident.{Ident}
 use Rattle.flow_tree.specs.Tree.{ExprTree, ExprTrees, IntExpr, TextExpr, BoolExpr, VoidExpr, VarExpr, CallExpr, FieldExpr, MethodExpr, NotExpr, NegExpr, BinaryExpr, ParenExpr, NoExprs, MoreExprs}
-use Rattle.flow_tree.specs.Body.{IntoTree, ChangeTree, PlusChange, MinusChange, UpChange, DownChange, Body, End, BlockStmt, IfStmt, IfElseStmt, WhileStmt, ForStmt, LoopStmt, BreakStmt, ContinueStmt, ReturnStmt, ThrowStmt, TryStmt, ChooseStmt, DeclareStmt, AssignStmt, ModifyStmt, CallStmt, WaitStmt}
+use Rattle.flow_tree.specs.Body.{IntoTree, ChangeTree, PlusChange, MinusChange, UpChange, DownChange, Body, BlockStmt, IfStmt, IfElseStmt, WhileStmt, ForStmt, LoopStmt, ReturnStmt, ThrowStmt, TryStmt, DeclareStmt, AssignStmt, ModifyStmt, CallStmt}
 use Rattle.flow_tree.specs.Decls.{ParamTree, RoutineTree}
 use Rattle.flow_tree.specs.Canon.{placeless_ident, placeless_expr, placeless_exprs, placeless_into, placeless_change, placeless_body, placeless_param, placeless_routine}
 use Rattle.flow_ast.specs.declared.predefined.Predefined.{Predefined}
@@ -47,9 +47,7 @@ entered_bare (p ∷ ps) (v ∷ vs) = ap (with_first (p.name.name, v)) (entered_b
 
 sign_bare : (c : ChangeTree) → change_sign (placeless_change c) ≡ change_sign c
 sign_bare (PlusChange e) = refl
-sign_bare (MinusChange e) = refl
-sign_bare UpChange = refl
-sign_bare DownChange = refl
+sign_bare _ = refl
 
 -- s is the setting, and both runs do the same with a function
 module _ (s : Setting) (run other : Runner) (runs : (f : RoutineTree) (vs : List ValueTree) (left : ℕ) → other (placeless_routine f) vs left ≡ run f vs left) where
@@ -74,11 +72,6 @@ module _ (s : Setting) (run other : Runner) (runs : (f : RoutineTree) (vs : List
 
   mutual
     pub eval_bare : (look : List ℕ → Option ValueTree) (e : ExprTree) (left : ℕ) → eval b other look (placeless_expr e) left ≡ eval s run look e left
-    eval_bare look (IntExpr n) left = refl
-    eval_bare look (TextExpr t) left = refl
-    eval_bare look (BoolExpr x) left = refl
-    eval_bare look VoidExpr left = refl
-    eval_bare look (VarExpr x) left = refl
     eval_bare look (CallExpr f xs) left =
         then_same (λ vs left. called b other (named call_names f.name) f.name vs left) (λ vs left. called s run (named call_names f.name) f.name vs left)
         (eval_all b other look (placeless_exprs xs) left) (eval_all s run look xs left) (all_bare look xs left)
@@ -99,6 +92,7 @@ module _ (s : Setting) (run other : Runner) (runs : (f : RoutineTree) (vs : List
         (eval b other look (placeless_expr x) left) (eval s run look x left) (eval_bare look x left)
         (λ v l. ap (λ g. second op v g l) (fun_ext (eval_bare look y)))
     eval_bare look (ParenExpr e) left = eval_bare look e left
+    eval_bare look _ left = refl
 
     pub all_bare : (look : List ℕ → Option ValueTree) (es : ExprTrees) (left : ℕ) → eval_all b other look (placeless_exprs es) left ≡ eval_all s run look es left
     all_bare look NoExprs left = refl
@@ -193,7 +187,6 @@ module _ (s : Setting) (run other : Runner) (runs : (f : RoutineTree) (vs : List
   exec_same x c f = fun_ext (λ vars. fun_ext (λ left. f vars left))
 
   pub exec_bare : (x : Body) (c : Option (List ℕ)) (vars : Locals) (left : ℕ) → exec b other (placeless_body x) c vars left ≡ exec s run x c vars left
-  exec_bare End c vars left = refl
   exec_bare (BlockStmt at x k) c vars left = ap₂ (λ (g h : Go). after (scope g vars left) h) (exec_same x c (exec_bare x c)) (exec_same k c (exec_bare k c))
   exec_bare (IfStmt at e x k) c vars left =
       ap₂ (λ (g h : Go). after (if_run b other (placeless_expr e) (scope g) skip vars left) h) (exec_same x c (exec_bare x c)) (exec_same k c (exec_bare k c))
@@ -212,19 +205,16 @@ module _ (s : Setting) (run other : Runner) (runs : (f : RoutineTree) (vs : List
   exec_bare (LoopStmt at x k) c vars left =
       ap₂ (λ (g h : Go). after (loop_run b other None skip g vars left) h) (exec_same x c (exec_bare x c)) (exec_same k c (exec_bare k c))
       ∙ ap (λ (l : Go). after (l vars left) (exec s run k c)) (loop_bare None skip (exec s run x c))
-  exec_bare (BreakStmt at k) c vars left = refl
-  exec_bare (ContinueStmt at k) c vars left = refl
   exec_bare (ReturnStmt at e k) c vars left = ap₂ after (return_bare e vars left) (exec_same k c (exec_bare k c))
   exec_bare (ThrowStmt at e k) c vars left = ap₂ after (throw_bare e c vars left) (exec_same k c (exec_bare k c))
   exec_bare (TryStmt at x q n y k) c vars left =
       ap₂ (λ (g h : Go). after (try_run g n.name h vars left) (exec b other (placeless_body k) c)) (exec_same x c (exec_bare x c)) (exec_same y (Some n.name) (exec_bare y (Some n.name)))
       ∙ ap (λ (h : Go). after (try_run (exec s run x c) n.name (exec s run y (Some n.name)) vars left) h) (exec_same k c (exec_bare k c))
-  exec_bare (ChooseStmt at bs k) c vars left = refl
   exec_bare (DeclareStmt at i e k) c vars left = ap₂ after (declare_bare i e vars left) (exec_same k c (exec_bare k c))
   exec_bare (AssignStmt at xs e k) c vars left = ap₂ after (assign_bare xs e vars left) (exec_same k c (exec_bare k c))
   exec_bare (ModifyStmt at xs m k) c vars left = ap₂ after (modify_bare xs m vars left) (exec_same k c (exec_bare k c))
   exec_bare (CallStmt at xs es k) c vars left = ap₂ after (call_run_bare xs es vars left) (exec_same k c (exec_bare k c))
-  exec_bare (WaitStmt at w k) c vars left = refl
+  exec_bare _ c vars left = refl
 
   body_bare : (f : RoutineTree) (o : Option Locals) (left : ℕ) → body_run b other (placeless_routine f) o left ≡ body_run s run f o left
   body_bare f None left = refl

@@ -143,9 +143,7 @@ path_bare e (x ∷ xs) = path_bare (FieldExpr e x) xs
 
 modified_bare : (c : ChangeTree) (e : ExprTree) → modified (placeless_change c) (placeless_expr e) ≡ placeless_expr (modified c e)
 modified_bare (PlusChange x) e = refl
-modified_bare (MinusChange x) e = refl
-modified_bare UpChange e = refl
-modified_bare DownChange e = refl
+modified_bare _ e = refl
 
 change_bare : (xs : List Ident) (c : ChangeTree) → change (map placeless_ident xs) (placeless_change c) ≡ option_map placeless_expr (change xs c)
 change_bare [] c = refl
@@ -307,14 +305,10 @@ module _ (ns : Names) (v : View) where
   check_through a l (Some e) r = test_through a e (step.pass ns v a l r) (actor a.vars r)
 
   item_through : (a : Actor) (r : List Item) → step.do_item b v (placeless_actor a) (map placeless_item r) ≡ through placeless_actor (step.do_item ns v a r)
-  item_through a [] = refl
   item_through a (Do s x ∷ r) = body_through a s x r
   item_through a (Leave ∷ r) = left_through v.left a.vars r
-  item_through a (Round l ∷ r) = refl
   item_through a (Check l ∷ r) = check_through a l l.condition r
-  item_through a (Made l ∷ r) = refl
-  item_through a (Handler x s h ∷ r) = refl
-  item_through a (Over ∷ r) = refl
+  item_through a _ = refl
 
 -- the results of effects, and branches
 module _ (ns : Names) where

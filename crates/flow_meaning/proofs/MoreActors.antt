@@ -9,7 +9,7 @@ use Rattle.flow_ast.specs.declared.predefined.Predefined.{Predefined}
 use Rattle.flow_ast.specs.declared.predefined.Predefined.TheVariants as code
 use Rattle.flow_ast.specs.declared.predefined.Method.{Method}
 use Rattle.flow_tree.specs.Tree.{TypeTree, IntType, BoolType, StringType, VoidType, ErrorType, NamedType, FutureType, FutureStreamType, PromiseType, PromiseStreamType, ExprTree, ExprTrees}
-use Rattle.flow_tree.specs.Body.{IntoTree, Body, End, BlockStmt, IfStmt, IfElseStmt, WhileStmt, ForStmt, LoopStmt, BreakStmt, ContinueStmt, ReturnStmt, ThrowStmt, TryStmt, ChooseStmt, DeclareStmt, AssignStmt, ModifyStmt, CallStmt, WaitStmt}
+use Rattle.flow_tree.specs.Body.{IntoTree, Body, IfStmt, IfElseStmt, BreakStmt, ContinueStmt, ReturnStmt, ThrowStmt, ChooseStmt, DeclareStmt, AssignStmt, ModifyStmt, CallStmt, WaitStmt}
 use Rattle.flow_tree.specs.Decls.{RoutineTree, ProgramTree}
 use Rattle.flow_ast.specs.TypingNames.{named, call_names, method_names}
 use Rattle.flow_ast.specs.Typing.{routine_named}
@@ -123,14 +123,11 @@ module _ (k : ℕ) (ns : Names) (v : View) (sum : ℕ) (e : sum ≡ v.left + k) 
   scope_later vars r = leave_later (scope vars.locals) (actor (with_locals vars (outside vars.locals)) r)
 
   exit_later : (how : source_step.Exit) (me : Item) (a : Actor) (r : List Item) → LaterStep k (source_step.exit v.left how me a r) (source_step.exit sum how me a r)
-  exit_later how me a [] = stuck_later k a _
   exit_later how me a (Do s b ∷ r) = quiet_later k _
   exit_later how me a (Handler x s h ∷ r) = quiet_later k _
   exit_later how me a (Leave ∷ r) = scope_later a.vars (me ∷ r)
   exit_later how me a (Made l ∷ r) = quiet_later k _
-  exit_later how me a (Round l ∷ r) = stuck_later k a _
-  exit_later how me a (Check l ∷ r) = stuck_later k a _
-  exit_later how me a (Over ∷ r) = stuck_later k a _
+  exit_later how me a _ = stuck_later k a _
 
   choose_later : (a : Actor) (b : Option Bool) (main other : Actor) (l m : ℕ) → m ≡ l + k → LaterStep k (source_step.choose l a b main other) (source_step.choose m a b main other)
   choose_later a None main other l m h = stuck_later k a _
@@ -195,12 +192,7 @@ module _ (k : ℕ) (ns : Names) (v : View) (sum : ℕ) (e : sum ≡ v.left + k) 
 
   ref_later : (p : Spot) (a : Actor) (u : ValueTree) (l m : ℕ) → m ≡ l + k → LaterStep k (source_step.operand_ref ns v l p a u) (source_step.operand_ref ns (with_left v sum) m p a u)
   ref_later p a (RefValue kd cell) l m h = asks_later k (Operand p (kd, cell)) a l m h
-  ref_later p a (IntValue n) l m h = stuck_later k a _
-  ref_later p a (BoolValue n) l m h = stuck_later k a _
-  ref_later p a (TextValue n) l m h = stuck_later k a _
-  ref_later p a VoidValue l m h = stuck_later k a _
-  ref_later p a (ErrorValue n) l m h = stuck_later k a _
-  ref_later p a (RecordValue n vs) l m h = stuck_later k a _
+  ref_later p a _ l m h = stuck_later k a _
 
   operand_later : (o : Option (Effectful × ExprTrees)) (a : Actor) (p : Spot) (x : ExprTree) → LaterStep k (source_step.operand_by ns v o a p x) (source_step.operand_by ns (with_left v sum) o a p x)
   operand_later (Some g) a p x = effects_later a (Kept p) g
@@ -213,20 +205,14 @@ module _ (k : ℕ) (ns : Names) (v : View) (sum : ℕ) (e : sum ≡ v.left + k) 
   await_later a p None = asks_later k _ _ v.left sum e
 
   body_later : (a : Actor) (s : Site) (b : Body) (r : List Item) → LaterStep k (source_step.do_body ns v a s b r) (source_step.do_body ns (with_left v sum) a s b r)
-  body_later a s End r = quiet_later k _
-  body_later a s (BlockStmt at b n) r = quiet_later k _
   body_later a s (IfStmt at x b n) r = test_later a x _ _
   body_later a s (IfElseStmt at x b c n) r = test_later a x _ _
-  body_later a s (WhileStmt at x b n) r = quiet_later k _
-  body_later a s (LoopStmt at b n) r = quiet_later k _
-  body_later a s (ForStmt at i x t b n) r = quiet_later k _
   body_later a s (BreakStmt at n) r = exit_later source_step.Breaks (Do s (BreakStmt at n)) a r
   body_later a s (ContinueStmt at n) r = exit_later source_step.Continues (Do s (ContinueStmt at n)) a r
   body_later a s (ReturnStmt at x n) r =
       evaluated_later k a (λ u left. asks left (Returns u (everything a.vars)) over) (λ u l m h. asks_later k (Returns u (everything a.vars)) over l m h)
       (value ns v (look a.vars) x) (value ns (with_left v sum) (look a.vars) x) (value_later (look a.vars) x)
   body_later a s (ThrowStmt at x n) r = throws_later a x s.caught
-  body_later a s (TryStmt at b q x h n) r = quiet_later k _
   body_later a s (ChooseStmt at bs n) r = await_later a s.spot (operand (OneOf bs) v.kept)
   body_later a s (DeclareStmt at i x n) r = declares_later a i x (Do s n ∷ r)
   body_later a s (AssignStmt at xs x n) r = store_by_later (effect_in ns x) a (Path xs) x (Do s n ∷ r)
@@ -235,6 +221,7 @@ module _ (k : ℕ) (ns : Names) (v : View) (sum : ℕ) (e : sum ≡ v.left + k) 
       evaluated_later k a (λ act left. asks left act (actor a.vars (Do s n ∷ r))) (λ act l m h. asks_later k act (actor a.vars (Do s n ∷ r)) l m h)
       (call_act ns v (look a.vars) xs es) (call_act ns (with_left v sum) (look a.vars) xs es) (call_act_later (look a.vars) xs es)
   body_later a s (WaitStmt at w n) r = await_later a s.spot (operand (Single w) v.kept)
+  body_later a s _ r = quiet_later k _
 
   check_later : (a : Actor) (l : Loop) (o : Option ExprTree) (r : List Item) → LaterStep k (source_step.check ns v a l o r) (source_step.check ns (with_left v sum) a l o r)
   check_later a l None r = quiet_later k _
@@ -280,12 +267,7 @@ module _ (k : ℕ) (ns : Names) (v : View) (sum : ℕ) (e : sum ≡ v.left + k) 
 
     frame_ref : (p : Spot) (u : ValueTree) (l m : ℕ) → m ≡ l + k → LaterStep k (class.operand_ref ns v f l p u) (class.operand_ref ns (with_left v sum) f m p u)
     frame_ref p (RefValue kd cell) l m h = asks_later k (Operand p (kd, cell)) f l m h
-    frame_ref p (IntValue n) l m h = stuck_later k f _
-    frame_ref p (BoolValue n) l m h = stuck_later k f _
-    frame_ref p (TextValue n) l m h = stuck_later k f _
-    frame_ref p VoidValue l m h = stuck_later k f _
-    frame_ref p (ErrorValue n) l m h = stuck_later k f _
-    frame_ref p (RecordValue n vs) l m h = stuck_later k f _
+    frame_ref p _ l m h = stuck_later k f _
 
     frame_operand : (p : Spot) (x : ExprTree) (o : Option (Effectful × ExprTrees)) → LaterStep k (class.operand_by ns v f p x o) (class.operand_by ns (with_left v sum) f p x o)
     frame_operand p x (Some g) = frame_effects (Kept p) g

@@ -48,9 +48,7 @@ gives_new_ordered i goal k cell c w h a = gives_ordered i goal (RefValue k (suc 
 
 empty_waits : (k : Kind) (c : Core) → AllWait c.entries (waiters (empty_cell k))
 empty_waits kind.Promise c = tt
-empty_waits kind.Future c = tt
-empty_waits kind.PromiseStream c = tt
-empty_waits kind.FutureStream c = tt
+empty_waits _ c = tt
 
 bad_ordered : (i err : ℕ) (c : Core) → InHand i c → Awake i c → Unless Ordered (throws i err c).0
 bad_ordered i err c h a = unless c.halted (throw_ordered i err c h a)

@@ -68,15 +68,8 @@ fire_ordered scan k c o = fire_cell_ordered scan k (thing c.cells k) c o refl
 
 -- The newest task is off the stack: it was of no actor, or its actor is in hand.
 paired_rest : (t : Task) (ts : List Task) → Paired (t ∷ ts) → Paired ts
-paired_rest (Run i) ts h = h
-paired_rest (Give i b o) ts h = h
-paired_rest (Throw i err) ts h = h
-paired_rest (Catch i err) ts h = h
-paired_rest (Store i v) ts h = h
 paired_rest (Keep i spot r) ts h = h.1
-paired_rest (Close i o) ts h = h
-paired_rest (Fire k) ts h = h
-paired_rest (Drop kd k) ts h = h
+paired_rest _ ts h = h
 
 pub popped_other : (left : ℕ) (t : Task) (ts : List Task) (c : Core) → Ordered c → c.tasks ≡ t ∷ ts → ((j : ℕ) → tasks_of j (t ∷ ts) ≡ tasks_of j ts) → Ordered (record c { tasks = ts; left = left })
 popped_other left t ts c o top h =

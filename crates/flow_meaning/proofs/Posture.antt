@@ -197,9 +197,7 @@ leave_shifts i p e e0 vs t c h at r =
 -- a phase says no more than that of an actor that waits
 pub least : (p : Phase) → rank p ≤ 3
 least Free = omega arith
-least Risky = omega arith
-least Due = omega arith
-least Waiting = omega arith
+least _ = omega arith
 
 pub phase_waits : (i : ℕ) (c : Core) → is_suspended (thing c.entries i) ≡ Some true → phase_of c i ≡ Waiting
 phase_waits i c h = ap (λ o. phase_by o (tasks_of i c.tasks)) h

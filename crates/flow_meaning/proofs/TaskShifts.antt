@@ -29,12 +29,7 @@ Rest i (t ∷ ts) = ts ≡ []
 
 pub rest_of : (i : ℕ) (ts : List Task) → Proceeds i ts → Rest i ts
 rest_of i _ steps = refl
-rest_of i _ stores = refl
-rest_of i _ keeps = refl
-rest_of i _ takes = refl
-rest_of i _ throws = refl
-rest_of i _ catches = refl
-rest_of i _ ends = refl
+rest_of i _ _ = refl
 
 -- an actor with a task runs
 pub runs_by : (i : ℕ) (o : Option Bool) (t : Task) (us ts : List Task) → ts ≡ t ∷ us → Stands i o ts → (o ≡ Some false) × Proceeds i (t ∷ us)

@@ -37,19 +37,11 @@ module _ (gs : List (List CallbackTree)) where
 
   last_least : (kept : ℕ) (l : LastTree) → 6 ≤ last_room kept l
   last_least kept (ChooseLast g) = omega arith
-  last_least kept (GotoLast b) = omega arith
-  last_least kept (PassLast b) = omega arith
-  last_least kept (TestLast e b c) = omega arith
-  last_least kept (ReturnLast e) = omega arith
-  last_least kept (ThrowLast e) = omega arith
+  last_least kept _ = omega arith
 
   last_most : (kept : ℕ) (l : LastTree) → last_room kept l ≤ last_room 0 l
   last_most kept (ChooseLast g) = omega arith
-  last_most kept (GotoLast b) = omega arith
-  last_most kept (PassLast b) = omega arith
-  last_most kept (TestLast e b c) = omega arith
-  last_most kept (ReturnLast e) = omega arith
-  last_most kept (ThrowLast e) = omega arith
+  last_most kept _ = omega arith
 
   rest_least : (is : List InstrTree) (l : LastTree) (n kept : ℕ) → (fetch_in is l n ≡ Nothing → ⊥) → 6 ≤ rest_room is l n kept
   rest_least [] l zero kept h = last_least kept l

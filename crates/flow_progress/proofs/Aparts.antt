@@ -4,7 +4,7 @@ use Rattle.std.specs.declared.option.Option.TheVariants.{Some}
 use Rattle.flow_tree.specs.Tree.{TypeTree, FutureType}
 use Rattle.flow_value.specs.declared.value.Kind.{Kind}
 use Rattle.flow_value.specs.declared.value.Kind.TheVariants as kind
-use Rattle.flow_value.specs.Values.{ValueTree, ValueTrees, NoValues, MoreValues, IntValue, BoolValue, TextValue, VoidValue, ErrorValue, RecordValue, RefValue, OutcomeTree, GoodOutcome, BadOutcome, refs_of, refs_of_all}
+use Rattle.flow_value.specs.Values.{ValueTree, ValueTrees, NoValues, MoreValues, RecordValue, RefValue, OutcomeTree, GoodOutcome, BadOutcome, refs_of, refs_of_all}
 use Rattle.flow_class.specs.Classes.{RawTree}
 use Rattle.flow_valid.specs.Validity.{IsValid}
 use Rattle.flow_numbered.specs.Numbered.{Numbered, thing}
@@ -37,13 +37,9 @@ module _ (k : ℕ) where
 
   mutual
     value_zero : (v : ValueTree) → Sees (Off k) v → count FutureSide k (refs_of v) ≡ 0
-    value_zero (IntValue z) h = refl
-    value_zero (BoolValue b) h = refl
-    value_zero (TextValue s) h = refl
-    value_zero VoidValue h = refl
-    value_zero (ErrorValue e) h = refl
     value_zero (RecordValue d vs) h = all_zero vs h
     value_zero (RefValue kd n) h = let z = one_zero kd n h in omega (arith, z)
+    value_zero _ h = refl
 
     all_zero : (vs : ValueTrees) → SeesAll (Off k) vs → count FutureSide k (refs_of_all vs) ≡ 0
     all_zero NoValues h = refl

@@ -33,7 +33,7 @@ use Rattle.flow_valid.specs.Named.{listed, expr_places, exprs_places, base_place
 use Rattle.flow_valid.specs.Filling.{among, instr_reads, instr_fills, operands, group_reads, reads}
 use Rattle.flow_valid.specs.Validity.{operand_type}
 use Rattle.flow_meaning.specs.Variables.{flat, filled}
-use Rattle.flow_meaning.specs.Requests.{Act, Goes, Pass, Drops, Effects, Operand, Waits, Sends, Cancels, Prints, SendsTo, Returns, Throws, RunsOut, Stuck, Spot, Make, Goal, Stored, Kept}
+use Rattle.flow_meaning.specs.Requests.{Act, Goes, Effects, Sends, Cancels, SendsTo, Returns, Spot, Make, Goal, Stored, Kept}
 use Rattle.flow_meaning.specs.Process.{View}
 use Rattle.flow_meaning.specs.Evaluating.{Names, effectful, setting, bind, StepOf, asks, given, evaluated, Effectful, effect_in, effect_of, done, before_last, last_of, value, values, function_act, plain_act, based_act, call_act}
 use Rattle.flow_meaning.specs.Frame.{Memory, Frame, read, write, look, held_in, emptied, reversed, everything, assign, spot_of, go, next_instr, over, lose}
@@ -180,18 +180,7 @@ module _ (r : RawTree) (actors : List RoutineTree) (vars : List ParamTree) (type
   told_fits : (act : Act) → Stands r.records typed (next_instr f.mem f) → Message r.records typed act → CallFit act
   told_fits (Sends k o) n h = ((n, h), refl)
   told_fits (Cancels k) n h = (n, refl)
-  told_fits Goes n h = absurd h
-  told_fits Pass n h = absurd h
-  told_fits (Drops vs) n h = absurd h
-  told_fits (Effects goal eff) n h = absurd h
-  told_fits (Operand spot q) n h = absurd h
-  told_fits (Waits spot vs) n h = absurd h
-  told_fits (Prints u) n h = absurd h
-  told_fits (SendsTo q port text) n h = absurd h
-  told_fits (Returns u vs) n h = absurd h
-  told_fits (Throws e) n h = absurd h
-  told_fits RunsOut n h = absurd h
-  told_fits Stuck n h = absurd h
+  told_fits _ n h = absurd h
 
   plain_fits : (o : Option Predefined) (x : Ident) (ts : List TypeTree) (us : List ValueTree) (left : ℕ) → Stands r.records typed (next_instr f.mem f) → SayFits r actors f.code vars o x ts → HaveTypes r.records typed (values_of_list us) ts
       → Safe CallFit (plain_act (class_names r) v (look f.mem) o x.name us left)

@@ -5,13 +5,13 @@ use Rattle.std.specs.Option.{option_map}
 use Rattle.std.proofs.lemmas.Bool.{false≢true, true≢false}
 use Rattle.std.specs.declared.option.Option.{Option}
 use Rattle.std.specs.declared.option.Option.TheVariants.{None, Some}
-use Rattle.flow_tree.specs.Tree.{TypeTree, IntType, BoolType, StringType, VoidType, ErrorType, NamedType, FutureType, FutureStreamType, PromiseType, PromiseStreamType}
+use Rattle.flow_tree.specs.Tree.{TypeTree, NamedType, FutureType, FutureStreamType, PromiseType, PromiseStreamType}
 use Rattle.flow_tree.specs.Decls.{ParamTree, RecordTree, DeclTree, StructDecl, FunctionDecl}
 use Rattle.flow_ast.specs.TypingNames.{named}
 use Rattle.flow_ast.specs.Typing.{Signature, is_there, is_packet, packet_fields, param_types, record_named, record_call}
 use Rattle.flow_value.specs.declared.value.Kind.{Kind}
 use Rattle.flow_value.specs.declared.value.Kind.TheVariants as kind
-use Rattle.flow_value.specs.Values.{ValueTree, ValueTrees, NoValues, MoreValues, IntValue, BoolValue, TextValue, VoidValue, ErrorValue, RecordValue, RefValue}
+use Rattle.flow_value.specs.Values.{ValueTree, ValueTrees, NoValues, MoreValues, RecordValue, RefValue}
 use Rattle.flow_eval.specs.Typed.{HaveTypes, reference_type, future_side}
 use Rattle.flow_rules.specs.declared.rule.TheConstants.{UNKNOWN_NAME, TWICE}
 use Rattle.flow_rules.specs.Least.{lesser, unless}
@@ -73,11 +73,7 @@ level_known done more (FutureType t) h = level_known done more t h
 level_known done more (FutureStreamType t) h = level_known done more t h
 level_known done more (PromiseType t) h = level_known done more t h
 level_known done more (PromiseStreamType t) h = level_known done more t h
-level_known done more IntType h = omega arith
-level_known done more BoolType h = omega arith
-level_known done more StringType h = omega arith
-level_known done more VoidType h = omega arith
-level_known done more ErrorType h = omega arith
+level_known done more _ h = omega arith
 
 fields_known : (done more : List RecordTree) (taken : List ℕ → Bool) (fs : List ParamTree) → fields_fault (known (map StructDecl done)) taken fs ≡ None → AllBelow (done ++ more) (2 + length done) (param_types fs)
 fields_known done more taken [] h = tt
@@ -184,17 +180,13 @@ module _ (r : RawTree) (valid : IsValid r) (types : CellTypes) where
 
   mutual
     lower : (n : ℕ) (v : ValueTree) (t : TypeTree) → Fits r types v t → level r.records t < n → Sees (Lower n) v
-    lower n (IntValue z) t h l = tt
-    lower n (BoolValue b) t h l = tt
-    lower n (TextValue s) t h l = tt
-    lower n VoidValue t h l = tt
-    lower n (ErrorValue e) t h l = tt
     lower n (RecordValue d vs) t h l =
         let m : level r.records (NamedType h.0) < n = subst (λ t. level r.records t < n) h.2 l in
         all_lower n vs h.1.params h.5 (below_all (level r.records (NamedType h.0)) n h.1.params (omega (arith, m)) (params_before h.0 h.1 h.4))
     lower n (RefValue kd k) t h l = λ w e.
         let same : h.0 ≡ w = same_inner kd h.0 w (some_type (future_side kd h.0) (FutureType w) (sym h.2 ∙ e)) in
         subst (λ u. level r.records u < n) same (subst (λ m. m < n) (inner_level r.records kd h.0) (subst (λ t. level r.records t < n) h.1 l))
+    lower n _ t h l = tt
 
     all_lower : (n : ℕ) (vs : ValueTrees) (ts : List TypeTree) → HaveTypes r.records (typed_by types) vs ts → AllBelow r.records n ts → SeesAll (Lower n) vs
     all_lower n NoValues ts h l = tt
@@ -204,13 +196,9 @@ module _ (r : RawTree) (valid : IsValid r) (types : CellTypes) where
 
   mutual
     sees_off : (P Q : ℕ → Type 0) → ((k : ℕ) → P k → Q k) → (v : ValueTree) → Sees P v → Sees Q v
-    sees_off P Q f (IntValue z) h = tt
-    sees_off P Q f (BoolValue b) h = tt
-    sees_off P Q f (TextValue s) h = tt
-    sees_off P Q f VoidValue h = tt
-    sees_off P Q f (ErrorValue e) h = tt
     sees_off P Q f (RecordValue d vs) h = all_sees_off P Q f vs h
     sees_off P Q f (RefValue kd k) h = f k h
+    sees_off P Q f _ h = tt
 
     all_sees_off : (P Q : ℕ → Type 0) → ((k : ℕ) → P k → Q k) → (vs : ValueTrees) → SeesAll P vs → SeesAll Q vs
     all_sees_off P Q f NoValues h = tt
@@ -218,11 +206,6 @@ module _ (r : RawTree) (valid : IsValid r) (types : CellTypes) where
 
   -- no value of a type refers to a cell of its futures
   pub apart : (k : ℕ) (v : ValueTree) (t : TypeTree) → types k ≡ Some (FutureType t) → Fits r types v t → Sees (Off k) v
-  apart k (IntValue z) t e h = tt
-  apart k (BoolValue b) t e h = tt
-  apart k (TextValue s) t e h = tt
-  apart k VoidValue t e h = tt
-  apart k (ErrorValue x) t e h = tt
   apart k (RecordValue d vs) t e h =
       let n = level r.records (NamedType h.0) in
       all_sees_off (Lower n) (Off k)
@@ -231,3 +214,4 @@ module _ (r : RawTree) (valid : IsValid r) (types : CellTypes) where
   apart k (RefValue kd j) t e h = λ q.
       let same : h.0 ≡ t = same_inner kd h.0 t (some_type (future_side kd h.0) (FutureType t) (sym h.2 ∙ ap types q ∙ e)) in
       no_loop kd h.0 (same ∙ h.1)
+  apart k _ t e h = tt

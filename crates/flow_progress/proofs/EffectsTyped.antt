@@ -7,7 +7,7 @@ use Rattle.std.proofs.lemmas.Bool.{false≢true, true≢false}
 use Rattle.std.specs.declared.option.Option.{Option}
 use Rattle.std.specs.declared.option.Option.TheVariants.{None, Some}
 use Rattle.flow_tree.specs.declared.ty.Ident.{Ident}
-use Rattle.flow_tree.specs.Tree.{TypeTree, FutureType, ExprTree, ExprTrees, IntExpr, TextExpr, BoolExpr, VoidExpr, VarExpr, CallExpr, FieldExpr, MethodExpr, NotExpr, NegExpr, BinaryExpr, ParenExpr}
+use Rattle.flow_tree.specs.Tree.{TypeTree, FutureType, ExprTree, ExprTrees, CallExpr}
 use Rattle.flow_tree.specs.Decls.{ParamTree}
 use Rattle.flow_ast.specs.declared.predefined.Predefined.{Predefined}
 use Rattle.flow_ast.specs.declared.predefined.Predefined.TheVariants as predefined
@@ -17,7 +17,7 @@ use Rattle.flow_rules.specs.declared.rule.TheConstants.{WRONG_COUNT}
 use Rattle.flow_rules.specs.Least.{lesser, unless}
 use Rattle.flow_rules.specs.Known.{Meaning, RecordOf, FunctionOf, ActorOf, known}
 use Rattle.flow_rules.specs.Judged as judged
-use Rattle.flow_rules.specs.Judged.{Setting, Kind, Need, Exactly, Callee, predefined_kind, predefined_callee, declared_callee, called_as, called, needs_of, gives_of, form, wants, placed, as_many, calls, fault, faults, wanted}
+use Rattle.flow_rules.specs.Judged.{Setting, Kind, Need, Exactly, Callee, predefined_kind, predefined_callee, declared_callee, called_as, called, needs_of, gives_of, wants, placed, as_many, calls, faults, wanted}
 use Rattle.flow_class.specs.Classes.{ClassTree, RawTree}
 use Rattle.flow_valid.specs.Heads.{all_decls}
 use Rattle.flow_valid.specs.Validity.{IsValid, is_effect_kind, calls_effect}
@@ -71,11 +71,8 @@ world_is false p g e = absurd (none_some e)
 
 -- what is no effect stands anywhere or nowhere
 same_placed : (s : Setting) (k : Kind) → is_effect_kind k ≡ false → placed s true k ≡ placed s false k
-same_placed s judged.Value e = refl
-same_placed s judged.OfFunction e = refl
-same_placed s judged.Clock e = refl
 same_placed s judged.Effect e = absurd (true≢false e)
-same_placed s judged.Statement e = refl
+same_placed s _ e = refl
 
 same_calls : (s : Setting) (xs : ExprTrees) (o : Option Callee) → calls_effect o ≡ false → calls xs o (placed s true) ≡ calls xs o (placed s false)
 same_calls s xs None e = refl
@@ -174,15 +171,5 @@ module _ (r : RawTree) (valid : IsValid r) (c : ClassTree) (vars : List ParamTre
       subst (λ o. lesser (lesser (faults here 0 (needs_of (called here f.name)) xs) o) (wants (gives_of (called here f.name)) t) ≡ None) (same_calls here xs (called here f.name) b) h
 
   pub operand_value : (e : ExprTree) (t : TypeTree) → effect_in (class_names r) e ≡ None → wanted here true e t ≡ None → wanted here false e t ≡ None
-  operand_value (IntExpr n) t q h = h
-  operand_value (TextExpr x) t q h = h
-  operand_value (BoolExpr b) t q h = h
-  operand_value VoidExpr t q h = h
-  operand_value (VarExpr x) t q h = h
   operand_value (CallExpr f xs) t q h = no_effect f xs t (calls_effect (called here f.name)) refl q h
-  operand_value (FieldExpr e x) t q h = h
-  operand_value (MethodExpr e m es) t q h = h
-  operand_value (NotExpr e) t q h = h
-  operand_value (NegExpr e) t q h = h
-  operand_value (BinaryExpr op a b) t q h = h
-  operand_value (ParenExpr e) t q h = h
+  operand_value _ t q h = h

@@ -76,10 +76,6 @@ AllFilled m ps = (q : Slotted) → among ps q ≡ true → Filled m q
 
 mutual
   pub readable_by : (m : Memory) (e : ExprTree) → AllFilled m (expr_places e) → Readable m e
-  readable_by m (IntExpr n) h = tt
-  readable_by m (TextExpr t) h = tt
-  readable_by m (BoolExpr b) h = tt
-  readable_by m VoidExpr h = tt
   readable_by m (VarExpr x) h = λ q e. h q (ap (λ o. among (listed o) q) e ∙ ap (λ b. b || false) (same_self q))
   readable_by m (CallExpr f es) h = all_readable_by m es h
   readable_by m (FieldExpr e x) h = readable_by m e h
@@ -88,6 +84,7 @@ mutual
   readable_by m (NegExpr e) h = readable_by m e h
   readable_by m (BinaryExpr op a b) h = (readable_by m a (λ q k. h q (among_left (expr_places a) (expr_places b) q k)), readable_by m b (λ q k. h q (among_right (expr_places a) (expr_places b) q k)))
   readable_by m (ParenExpr e) h = readable_by m e h
+  readable_by m _ h = tt
 
   pub all_readable_by : (m : Memory) (es : ExprTrees) → AllFilled m (exprs_places es) → AllReadable m es
   all_readable_by m NoExprs h = tt
@@ -162,10 +159,6 @@ module _ (rs : List RecordTree) (fs actors : List RoutineTree) (c : ClassTree) (
 
   mutual
     types_same : (e : ExprTree) → Readable m e → type_in (scope_over rs fs actors (filled_vars m vars)) e ≡ type_in (scope_over rs fs actors vars) e
-    types_same (IntExpr n) h = refl
-    types_same (TextExpr t) h = refl
-    types_same (BoolExpr b) h = refl
-    types_same VoidExpr h = refl
     types_same (VarExpr x) h = same_variable x.name (named constant_names x.name) h
     types_same (CallExpr f es) h = ap (λ o. with_type o (applied (call_signature (scope_over rs fs actors vars) f.name))) (all_types_same es h)
     types_same (FieldExpr e x) h = ap (λ o. with_type o (λ t. field_type rs t x.name)) (types_same e h)
@@ -178,6 +171,7 @@ module _ (rs : List RecordTree) (fs actors : List RoutineTree) (c : ClassTree) (
         ap (λ o. with_type o (λ t. with_type (type_in (scope_over rs fs actors (filled_vars m vars)) b) (binary_type op t))) (types_same a h.0)
         ∙ ap (λ o. with_type (type_in (scope_over rs fs actors vars) a) (λ t. with_type o (binary_type op t))) (types_same b h.1)
     types_same (ParenExpr e) h = types_same e h
+    types_same _ h = refl
 
     all_types_same : (es : ExprTrees) → AllReadable m es → types_in (scope_over rs fs actors (filled_vars m vars)) es ≡ types_in (scope_over rs fs actors vars) es
     all_types_same NoExprs h = refl
@@ -189,11 +183,6 @@ module _ (rs : List RecordTree) (fs actors : List RoutineTree) (c : ClassTree) (
 module _ (rs : List RecordTree) (fs actors : List RoutineTree) (vs ws : List ParamTree) where
   mutual
     quiet_same : (e : ExprTree) → without_effects (scope_over rs fs actors vs) e ≡ without_effects (scope_over rs fs actors ws) e
-    quiet_same (IntExpr n) = refl
-    quiet_same (TextExpr t) = refl
-    quiet_same (BoolExpr b) = refl
-    quiet_same VoidExpr = refl
-    quiet_same (VarExpr x) = refl
     quiet_same (CallExpr f es) = ap (λ b. not (effect_call (scope_over rs fs actors ws) f.name) && b) (all_quiet_same es)
     quiet_same (FieldExpr e x) = quiet_same e
     quiet_same (MethodExpr e k es) = ap (λ b. b && all_without_effects (scope_over rs fs actors vs) es) (quiet_same e) ∙ ap (λ b. without_effects (scope_over rs fs actors ws) e && b) (all_quiet_same es)
@@ -201,6 +190,7 @@ module _ (rs : List RecordTree) (fs actors : List RoutineTree) (vs ws : List Par
     quiet_same (NegExpr e) = quiet_same e
     quiet_same (BinaryExpr op a b) = ap (λ z. z && without_effects (scope_over rs fs actors vs) b) (quiet_same a) ∙ ap (λ z. without_effects (scope_over rs fs actors ws) a && z) (quiet_same b)
     quiet_same (ParenExpr e) = quiet_same e
+    quiet_same _ = refl
 
     all_quiet_same : (es : ExprTrees) → all_without_effects (scope_over rs fs actors vs) es ≡ all_without_effects (scope_over rs fs actors ws) es
     all_quiet_same NoExprs = refl

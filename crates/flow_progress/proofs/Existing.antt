@@ -7,7 +7,7 @@ use Rattle.flow_trace.specs.declared.line.Line.{Line}
 use Rattle.flow_trace.specs.declared.line.Line.TheVariants as line
 use Rattle.flow_worldfile.specs.Worlds as file
 use Rattle.flow_worldfile.specs.declared.directive.Order.{Order}
-use Rattle.flow_worldfile.specs.declared.directive.Order.TheVariants.{Kill, Stop, Boot, Cut, Heal, DiskFail}
+use Rattle.flow_worldfile.specs.declared.directive.Order.TheVariants.{Boot}
 use Rattle.flow_simnet.specs.declared.packet.Fate.{Fate}
 use Rattle.flow_simnet.specs.declared.packet.Fate.TheVariants.{Cut as CutOff, Drawn, At}
 use Rattle.flow_class.specs.Classes.{RawTree}
@@ -17,7 +17,7 @@ use Rattle.flow_meaning.specs.Step.{Stepped, step}
 use Rattle.flow_meaning.specs.Law.{AtRest}
 use Rattle.flow_meaning.specs.Orderly.{UnlessStopped}
 use Rattle.flow_meaning.specs.Burst.{Live, Burst, rests, steps, serve, advanced, advance}
-use Rattle.flow_meaning.specs.Outside.{What, Boots, Rings, Arrives, Answers, Outside, host, sent_by, fate_in, send_packet}
+use Rattle.flow_meaning.specs.Outside.{What, Boots, Rings, Arrives, Answers, Outside, host, sent_by, fate_in}
 use Rattle.flow_meaning.specs.Outside as outside
 use Rattle.flow_meaning.specs.World.{Place, World, Begun, Next, Nothing, Script, Event, next_of, ordered, arrived, listener, happened, process_of, process_in, ready, counted, with_left, begun_by, ending, at_start}
 use Rattle.flow_meaning.specs.Runs.{Runs, ends, spent, event, before, after, lines_of, ClassTrace}
@@ -76,11 +76,7 @@ module _ (r : RawTree) (leads : LeadOn r) where
 
   ordered_counts : (x : Order) (a : Place Frame) (w : Outside) → Counts w (ordered (classes r) x a w)
   ordered_counts (Boot p) a w = (refl, refl)
-  ordered_counts (Stop p) a w = (refl, refl)
-  ordered_counts (Kill p) a w = (refl, refl)
-  ordered_counts (Cut p q) a w = (refl, refl)
-  ordered_counts (Heal p q) a w = (refl, refl)
-  ordered_counts (DiskFail p n) a w = (refl, refl)
+  ordered_counts _ a w = (refl, refl)
 
   arrived_counts : (m from port : ℕ) (text : List ℕ) (a : Place Frame) (w : Outside) (l : Option ℕ) → Counts w (arrived m from port text a w l)
   arrived_counts m from port text a w None = (refl, refl)

@@ -7,7 +7,7 @@ use Rattle.flow_tree.specs.declared.ty.Ident.{Ident}
 use Rattle.flow_tree.specs.declared.expr.Op.{Op}
 use Rattle.flow_tree.specs.declared.expr.Op.TheVariants.{Or, And}
 use Rattle.flow_ast.specs.declared.predefined.Predefined as code
-use Rattle.flow_tree.specs.Tree.{ExprTree, ExprTrees, IntExpr, TextExpr, BoolExpr, VoidExpr, VarExpr, CallExpr, FieldExpr, MethodExpr, NotExpr, NegExpr, BinaryExpr, ParenExpr, NoExprs, MoreExprs}
+use Rattle.flow_tree.specs.Tree.{ExprTree, ExprTrees, VarExpr, CallExpr, FieldExpr, MethodExpr, NotExpr, NegExpr, BinaryExpr, ParenExpr, NoExprs, MoreExprs}
 use Rattle.flow_tree.specs.Body.{IntoTree, ChangeTree, PlusChange, MinusChange, UpChange, DownChange, Body, End, BlockStmt, IfStmt, IfElseStmt, WhileStmt, ForStmt, LoopStmt, BreakStmt, ContinueStmt, ReturnStmt, ThrowStmt, TryStmt, ChooseStmt, DeclareStmt, AssignStmt, ModifyStmt, CallStmt, WaitStmt}
 use Rattle.flow_tree.specs.Decls.{RoutineTree}
 use Rattle.flow_ast.specs.TypingNames.{named, call_names, method_names, constant_names}
@@ -97,10 +97,6 @@ module _ (n : ℕ) (s : Setting) (run : Runner) (runs : RunnerFewer n run) where
 
   mutual
     pub eval_fewer : (look : List ℕ → Option ValueTree) (e : ExprTree) (left : ℕ) → left ≤ n → AtMost n (eval s run look e left)
-    eval_fewer look (IntExpr k) left h = h
-    eval_fewer look (TextExpr t) left h = h
-    eval_fewer look (BoolExpr b) left h = h
-    eval_fewer look VoidExpr left h = h
     eval_fewer look (VarExpr x) left h = once_fewer n (variable look x.name (named constant_names x.name)) left h
     eval_fewer look (CallExpr f xs) left h =
         then_fewer n (eval_all s run look xs left) (λ vs left. called s run (named call_names f.name) f.name vs left) (eval_all_fewer look xs left h)
@@ -119,6 +115,7 @@ module _ (n : ℕ) (s : Setting) (run : Runner) (runs : RunnerFewer n run) where
         then_fewer n (eval s run look a left) (λ v left. second op v (eval s run look b) left) (eval_fewer look a left h)
         (λ v left le. second_fewer op v (eval s run look b) (λ l m. eval_fewer look b l m) left le)
     eval_fewer look (ParenExpr e) left h = eval_fewer look e left h
+    eval_fewer look _ left h = h
 
     pub eval_all_fewer : (look : List ℕ → Option ValueTree) (es : ExprTrees) (left : ℕ) → left ≤ n → AtMost n (eval_all s run look es left)
     eval_all_fewer look NoExprs left h = h
@@ -128,21 +125,14 @@ module _ (n : ℕ) (s : Setting) (run : Runner) (runs : RunnerFewer n run) where
 
   after_fewer : (r : Run) (go : Locals → ℕ → Run) → RunAtMost n r → FewerRuns n go → RunAtMost n (after r go)
   after_fewer (Goes vars left) go h f = f vars left h
-  after_fewer (Breaks vars left) go h f = h
-  after_fewer (Continues vars left) go h f = h
-  after_fewer (Returns v left) go h f = h
-  after_fewer (Raises e vars left) go h f = h
   after_fewer SpentRun go h f = tt
   after_fewer NoRun go h f = tt
+  after_fewer _ go h f = h
 
   scoped_fewer : (k : ℕ) (r : Run) → RunAtMost n r → RunAtMost n (scoped k r)
-  scoped_fewer k (Goes vars left) h = h
-  scoped_fewer k (Breaks vars left) h = h
-  scoped_fewer k (Continues vars left) h = h
-  scoped_fewer k (Returns v left) h = h
-  scoped_fewer k (Raises e vars left) h = h
   scoped_fewer k SpentRun h = tt
   scoped_fewer k NoRun h = tt
+  scoped_fewer k _ h = h
 
   scope_fewer : (go : Locals → ℕ → Run) → FewerRuns n go → FewerRuns n (scope go)
   scope_fewer go f vars left le = scoped_fewer (length vars) (go vars left) (f vars left le)
@@ -184,12 +174,9 @@ module _ (n : ℕ) (s : Setting) (run : Runner) (runs : RunnerFewer n run) where
 
   caught_fewer : (r : Run) (handler : ℕ → Locals → ℕ → Run) → RunAtMost n r → ((err : ℕ) → FewerRuns n (handler err)) → RunAtMost n (caught_by r handler)
   caught_fewer (Raises e vars left) handler h f = f e vars left h
-  caught_fewer (Goes vars left) handler h f = h
-  caught_fewer (Continues vars left) handler h f = h
-  caught_fewer (Breaks vars left) handler h f = h
-  caught_fewer (Returns v left) handler h f = h
   caught_fewer SpentRun handler h f = tt
   caught_fewer NoRun handler h f = tt
+  caught_fewer _ handler h f = h
 
   thrown_fewer : (o : Option ℕ) → FewerRuns n (thrown o)
   thrown_fewer None vars left le = tt
@@ -316,13 +303,9 @@ module _ (n : ℕ) (s : Setting) (run : Runner) (runs : RunnerFewer n run) where
   exec_fewer (WaitStmt at w k) caught = λ vars left le. tt
 
   finished_fewer : (r : Run) → RunAtMost n r → AtMost n (finished r)
-  finished_fewer (Goes vars left) h = tt
-  finished_fewer (Breaks vars left) h = tt
-  finished_fewer (Continues vars left) h = tt
   finished_fewer (Returns v left) h = h
   finished_fewer (Raises e vars left) h = h
-  finished_fewer SpentRun h = tt
-  finished_fewer NoRun h = tt
+  finished_fewer _ h = tt
 
   body_fewer : (f : RoutineTree) (o : Option Locals) (left : ℕ) → left ≤ n → AtMost n (body_run s run f o left)
   body_fewer f None left le = tt

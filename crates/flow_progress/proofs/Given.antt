@@ -107,13 +107,7 @@ module _ (rs : List RecordTree) (typed : ℕ → TypeTree → Type 0) where
   prints v IntType h e = let n = is_int_value rs typed v h in λ i. (_, ap (print_line i) n.1)
   prints v BoolType h e = let n = is_bool_value rs typed v h in λ i. (_, ap (print_line i) n.1)
   prints v StringType h e = let n = is_text_value rs typed v h in λ i. (_, ap (print_line i) n.1)
-  prints v VoidType h e = absurd cc
-  prints v ErrorType h e = absurd cc
-  prints v (NamedType x) h e = absurd cc
-  prints v (FutureType t) h e = absurd cc
-  prints v (FutureStreamType t) h e = absurd cc
-  prints v (PromiseType t) h e = absurd cc
-  prints v (PromiseStreamType t) h e = absurd cc
+  prints v _ h e = absurd cc
 
   -- messages
   abbrev pub Message : Act → Type 0

@@ -9,7 +9,7 @@ use Rattle.flow_eval.specs.Eval.{Res, Done, Fails, Spent, Meaningless}
 use Rattle.flow_eval.specs.Answers.{bool_of, error_of}
 use Rattle.flow_class.specs.Classes.{CatcherTree, InstrTree, SetInstr, EffectInstr, NewInstr, ActInstr, DropInstr, LastTree, GotoLast, PassLast, TestLast, ChooseLast, ReturnLast, ThrowLast, CallbackTree, ClassTree, RawTree}
 use Rattle.flow_class.specs.Code.{type_at, Fetched, Body, Last, Nothing, fetch, catcher_at, callback_at}
-use Rattle.flow_meaning.specs.Requests.{Act, Goes, Pass, Drops, Effects, Operand, Waits, Sends, Cancels, Prints, SendsTo, Returns, Throws, RunsOut, Stuck, Spot, Make, Goal, Stored, Kept}
+use Rattle.flow_meaning.specs.Requests.{Act, Goes, Effects, Sends, Cancels, Prints, SendsTo, Returns, Spot, Make, Goal, Stored, Kept}
 use Rattle.flow_meaning.specs.Process.{View}
 use Rattle.flow_meaning.specs.Evaluating.{Names, bind, StepOf, asks, given, evaluated, Effectful, effect_in, effect_of, value, values, call_act}
 use Rattle.flow_meaning.specs.Frame.{Memory, Frame, look, assign, spot_of, next_instr, over, raised}
@@ -57,15 +57,7 @@ module _ (r : RawTree) (v : View) (f : Frame) (own : IsOf r f.code) where
     asked_known left (Cancels k) h = own
     asked_known left (Prints u) h = own
     asked_known left (SendsTo q port text) h = own
-    asked_known left Pass h = absurd h
-    asked_known left (Drops vs) h = absurd h
-    asked_known left (Effects goal eff) h = absurd h
-    asked_known left (Operand spot u) h = absurd h
-    asked_known left (Waits spot vs) h = absurd h
-    asked_known left (Returns u vs) h = absurd h
-    asked_known left (Throws e) h = absurd h
-    asked_known left RunsOut h = absurd h
-    asked_known left Stuck h = absurd h
+    asked_known left _ h = absurd h
 
     instruction_known : (i : InstrTree) → here ≡ Body i → Known (instruction ns v f i)
     unfolding here

@@ -27,7 +27,7 @@ use Rattle.flow_valid.specs.Named.{has_place, has_block, has_group, has_last, ta
 use Rattle.flow_valid.specs.Validity.{IsValid, put_fault, is_promise, operand_type, is_effect, instr_fits, last_fits, operand_fits, callback_fits, taken_type}
 use Rattle.flow_meaning.specs.Source.{records_in}
 use Rattle.flow_meaning.specs.Evaluating.{before_last, last_of}
-use Rattle.flow_typing_laws.specs.Typing.Paths.{IsPath}
+use Rattle.flow_tree.specs.Formed.{IsPath}
 use Rattle.flow_typing_laws.specs.Typing.Scopes.{setting_in}
 use Rattle.flow_typing_laws.specs.Typing.CallsFit.{HaveTypes, NameFits, MethodFits, PathFits, CallStands}
 use Rattle.flow_typing_laws.proofs.Typing.Names.{none_some, some_same, no_first, no_second}

@@ -76,13 +76,9 @@ module _ (P : ℕ → Type 0) where
 module _ (r : RawTree) (types others : CellTypes) (P : ℕ → Type 0) (moves : (k : ℕ) (t : TypeTree) → P k → types k ≡ Some t → others k ≡ Some t) where
   mutual
     pub retyped : (v : ValueTree) (t : TypeTree) → Sees P v → Fits r types v t → Fits r others v t
-    retyped (IntValue n) t s h = h
-    retyped (BoolValue b) t s h = h
-    retyped (TextValue x) t s h = h
-    retyped VoidValue t s h = h
-    retyped (ErrorValue e) t s h = h
     retyped (RecordValue d vs) t s h = (h.0, h.1, h.2, h.3, h.4, all_retyped vs h.1.params s h.5)
     retyped (RefValue kd k) t s h = (h.0, h.1, moves k (future_side kd h.0) s h.2)
+    retyped _ t s h = h
 
     pub all_retyped : (vs : ValueTrees) (ts : List TypeTree) → SeesAll P vs → HaveTypes r.records (typed_by types) vs ts → HaveTypes r.records (typed_by others) vs ts
     all_retyped NoValues ts s h = h
@@ -193,13 +189,9 @@ module _ (r : RawTree) (types others : CellTypes) (P : ℕ → Type 0) (moves : 
 module _ (P : ℕ → Type 0) (any : (k : ℕ) → P k) where
   mutual
     pub sees_any : (v : ValueTree) → Sees P v
-    sees_any (IntValue n) = tt
-    sees_any (BoolValue b) = tt
-    sees_any (TextValue t) = tt
-    sees_any VoidValue = tt
-    sees_any (ErrorValue e) = tt
     sees_any (RecordValue r vs) = all_sees_any vs
     sees_any (RefValue kd k) = any k
+    sees_any _ = tt
 
     pub all_sees_any : (vs : ValueTrees) → SeesAll P vs
     all_sees_any NoValues = tt

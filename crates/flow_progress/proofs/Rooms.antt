@@ -17,7 +17,7 @@ use Rattle.flow_eval.specs.Functions.{Call, read_in}
 use Rattle.flow_class.specs.Classes.{InstrTree, SetInstr, EffectInstr, NewInstr, ActInstr, DropInstr, LastTree, GotoLast, PassLast, TestLast, ChooseLast, ReturnLast, ThrowLast, CallbackTree}
 use Rattle.flow_class.specs.Code.{type_at, Fetched, Body, Last, Nothing, fetch, callback_at}
 use Rattle.flow_valid.specs.Validity.{leads_forward}
-use Rattle.flow_meaning.specs.Requests.{Act, Goes, Pass, Drops, Effects, Operand, Waits, Sends, Cancels, Prints, SendsTo, Returns, Throws, RunsOut, Stuck, Spot, Make, Goal, Stored, Kept}
+use Rattle.flow_meaning.specs.Requests.{Act, Goes, Effects, Sends, Cancels, Prints, SendsTo, Returns, Spot, Make, Goal, Stored, Kept}
 use Rattle.flow_meaning.specs.Process.{View}
 use Rattle.flow_meaning.specs.Evaluating.{Names, Look, setting, bind, StepOf, asks, given, evaluated, Effectful, effect_in, effect_of, method_act, done, before_last, last_of, value, values, function_act, plain_act, based_act, call_act}
 use Rattle.flow_meaning.specs.Frame.{Frame, look, assign, spot_of, next_instr, over}
@@ -105,15 +105,7 @@ module _ (v : View) (f : Frame) where
     act_leaves left (Cancels k) le h b a = (le, a)
     act_leaves left (Prints u) le h b a = (le, a)
     act_leaves left (SendsTo q port text) le h b a = (le, (a, omega (arith, b)))
-    act_leaves left Pass le h b a = absurd h
-    act_leaves left (Drops vs) le h b a = absurd h
-    act_leaves left (Effects goal eff) le h b a = absurd h
-    act_leaves left (Operand spot u) le h b a = absurd h
-    act_leaves left (Waits spot vs) le h b a = absurd h
-    act_leaves left (Returns u vs) le h b a = absurd h
-    act_leaves left (Throws e) le h b a = absurd h
-    act_leaves left RunsOut le h b a = absurd h
-    act_leaves left Stuck le h b a = absurd h
+    act_leaves left _ le h b a = absurd h
 
     -- at an instruction the result of its effect leads to the next one
     result_room : (i : InstrTree) → fetch f.code f.block f.instr ≡ Body i → ahead f.code f.block (suc f.instr) v.kept + 2 ≤ now → goal_room Stored f v.kept < now

@@ -4,13 +4,13 @@ use Rattle.std.specs.Prelude.{codes}
 use Rattle.std.specs.declared.option.Option.{Option}
 use Rattle.std.specs.declared.option.Option.TheVariants.{None, Some}
 use Rattle.flow_tree.specs.Tree.{TypeTree, NamedType, FutureStreamType}
-use Rattle.flow_value.specs.Values.{ValueTree, ValueTrees, NoValues, MoreValues, IntValue, BoolValue, TextValue, VoidValue, ErrorValue, RecordValue, RefValue, refs_of, refs_of_all}
+use Rattle.flow_value.specs.Values.{ValueTree, ValueTrees, NoValues, MoreValues, RecordValue, RefValue, refs_of, refs_of_all}
 use Rattle.flow_value.specs.declared.value.Kind.TheVariants.{Future}
 use Rattle.flow_eval.specs.Typed.{HaveTypes}
 use Rattle.flow_class.specs.Classes.{RawTree}
 use Rattle.flow_numbered.specs.Numbered.{Numbered, thing, put}
 use Rattle.flow_meaning.specs.Cells.{Ref, Waiter, Cell, waiters}
-use Rattle.flow_meaning.specs.Process.{Task, Run, Give, Throw, Catch, Store, Keep, Close, Fire, Drop, Entry, Halt, Spent, NoMeaning, Core}
+use Rattle.flow_meaning.specs.Process.{Task, Fire, Drop, Entry, Halt, Spent, NoMeaning, Core}
 use Rattle.flow_meaning.specs.Requests.{Request}
 use Rattle.flow_meaning.specs.References.{refs_in}
 use Rattle.flow_meaning.specs.Work.{turn_of, turn, pushed, drops, dropping_values}
@@ -99,26 +99,14 @@ module _ (r : RawTree) (types : CellTypes) where
 
   -- what is left of the tasks
   rest_fits : (t : Task) (ts : List Task) → TasksFit r types (t ∷ ts) → TasksFit r types ts
-  rest_fits (Run i) ts h = h
-  rest_fits (Give i b o) ts h = h
-  rest_fits (Throw i e) ts h = h
-  rest_fits (Catch i e) ts h = h
-  rest_fits (Store i v) ts h = h
-  rest_fits (Keep i spot q) ts h = h
-  rest_fits (Close i o) ts h = h
   rest_fits (Fire k) ts h = h.1
   rest_fits (Drop kd k) ts h = h.1
+  rest_fits _ ts h = h
 
   pub own_fits : (i : ℕ) (t : Task) (ts : List Task) → is_of i t ≡ true → TasksFit r types ts → TasksFit r types (t ∷ ts)
-  own_fits i (Run j) ts own h = h
-  own_fits i (Give j b o) ts own h = h
-  own_fits i (Throw j e) ts own h = h
-  own_fits i (Catch j e) ts own h = h
-  own_fits i (Store j v) ts own h = h
-  own_fits i (Keep j spot q) ts own h = h
-  own_fits i (Close j o) ts own h = h
   own_fits i (Fire k) ts own h = absurd cc
   own_fits i (Drop kd k) ts own h = absurd cc
+  own_fits i _ ts own h = h
 
   -- the newest task is off
   pub popped_but : (i left : ℕ) (t : Task) (ts : List Task) (c : Core) (xs : Numbered Frame) → ProcessFits r types c xs → c.tasks ≡ t ∷ ts → ((j : ℕ) → (i ≡ j → ⊥) → Unmoved j c (record c { tasks = ts })) → FitsBut i (record c { tasks = ts; left = left }) xs
@@ -177,13 +165,9 @@ module _ (r : RawTree) (types : CellTypes) where
 
   mutual
     value_refs : (v : ValueTree) (t : TypeTree) → Fits r types v t → RefsExist (refs_of v)
-    value_refs (IntValue n) t h = tt
-    value_refs (BoolValue b) t h = tt
-    value_refs (TextValue x) t h = tt
-    value_refs VoidValue t h = tt
-    value_refs (ErrorValue e) t h = tt
     value_refs (RecordValue d vs) t h = all_refs vs h.1.params h.5
     value_refs (RefValue kd k) t h = ((h.0, h.2), tt)
+    value_refs _ t h = tt
 
     all_refs : (vs : ValueTrees) (ts : List TypeTree) → HaveTypes r.records (typed_by types) vs ts → RefsExist (refs_of_all vs)
     all_refs NoValues ts h = tt

@@ -11,7 +11,7 @@ use Rattle.flow_class.specs.Code.{catcher_at, fetch}
 use Rattle.flow_numbered.specs.Numbered.{Numbered, thing, put}
 use Rattle.flow_meaning.specs.Cells.{Ref, Cell, is_ready}
 use Rattle.flow_meaning.specs.Requests.{Spot, Supply}
-use Rattle.flow_meaning.specs.Process.{Task, Run, Give, Throw, Catch, Store, Keep, Close, Fire, Drop, Entry, Core}
+use Rattle.flow_meaning.specs.Process.{Task, Run, Give, Throw, Catch, Store, Keep, Close, Entry, Core}
 use Rattle.flow_meaning.specs.Lines.{throw_line, catch_line}
 use Rattle.flow_meaning.specs.Work.{writes, pushed, running, dropping_values, leave_for, is_ready_at}
 use Rattle.flow_meaning.specs.Step.{Stepped, proc, give, store, throw, throw_core, OperandFate, GoesOn, Cancelled, Ready, verdict, with_operand, below, keep_by, keep, handle}
@@ -45,15 +45,7 @@ operands_last r types f n (x ∷ qs) q h =
 
 below_fit : (r : RawTree) (types : CellTypes) (i : ℕ) (ts : List Task) → NextStep i ts → TasksFit r types ts → TasksFit r types (below ts)
 below_fit r types i (Run j ∷ ts) n h = h
-below_fit r types i [] n h = absurd n
-below_fit r types i (Give j b o ∷ ts) n h = absurd n
-below_fit r types i (Throw j e ∷ ts) n h = absurd n
-below_fit r types i (Catch j e ∷ ts) n h = absurd n
-below_fit r types i (Store j v ∷ ts) n h = absurd n
-below_fit r types i (Keep j spot q ∷ ts) n h = absurd n
-below_fit r types i (Close j o ∷ ts) n h = absurd n
-below_fit r types i (Fire k ∷ ts) n h = absurd n
-below_fit r types i (Drop kd k ∷ ts) n h = absurd n
+below_fit r types i _ n h = absurd n
 
 ready_cell : (o : Option Cell) → is_ready_at o ≡ true → (cell : Cell) × (o ≡ Some cell) × (is_ready cell ≡ true)
 ready_cell None h = absurd cc

@@ -5,7 +5,7 @@ use Rattle.std.specs.declared.option.Option.{Option}
 use Rattle.std.specs.declared.option.Option.TheVariants.{None, Some}
 use Rattle.flow_value.specs.declared.value.Kind.{Kind}
 use Rattle.flow_value.specs.declared.value.Kind.TheVariants as kind
-use Rattle.flow_value.specs.Values.{ValueTree, ValueTrees, NoValues, MoreValues, IntValue, BoolValue, TextValue, VoidValue, ErrorValue, RecordValue, RefValue, OutcomeTree, GoodOutcome, BadOutcome, refs_of, refs_of_all}
+use Rattle.flow_value.specs.Values.{ValueTree, ValueTrees, NoValues, MoreValues, RecordValue, RefValue, OutcomeTree, GoodOutcome, BadOutcome, refs_of, refs_of_all}
 use Rattle.flow_class.specs.declared.class.Slotted.TheVariants.{Slot, Local}
 use Rattle.flow_numbered.specs.Numbered.{Numbered, thing}
 use Rattle.flow_meaning.specs.Cells.{Side, PromiseSide, FutureSide, Ref, side_of, Waiter, Cell, Single, Stream, waiters, held}
@@ -84,13 +84,9 @@ module _ (k : ℕ) where
 
   mutual
     value_off : (v : ValueTree) → Nil (refs_of v) → Sees (Off k) v
-    value_off (IntValue n) h = tt
-    value_off (BoolValue b) h = tt
-    value_off (TextValue t) h = tt
-    value_off VoidValue h = tt
-    value_off (ErrorValue e) h = tt
     value_off (RecordValue d vs) h = all_off vs h
     value_off (RefValue kd n) h = kind_off kd n (zero_first (one PromiseSide k (side_of kd) n) 0 h.0) (zero_first (one FutureSide k (side_of kd) n) 0 h.1)
+    value_off _ h = tt
 
     all_off : (vs : ValueTrees) → Nil (refs_of_all vs) → SeesAll (Off k) vs
     all_off NoValues h = tt

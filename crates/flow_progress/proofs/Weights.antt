@@ -6,7 +6,7 @@ use Rattle.flow_value.specs.Values.{ValueTree}
 use Rattle.flow_class.specs.Code.{Fetched, Last, fetch}
 use Rattle.flow_numbered.specs.Numbered.{Numbered, thing}
 use Rattle.flow_meaning.specs.Cells.{Ref}
-use Rattle.flow_meaning.specs.Process.{Task, Run, Give, Throw, Catch, Store, Keep, Close, Fire, Drop, Entry, Core}
+use Rattle.flow_meaning.specs.Process.{Task, Run, Give, Throw, Catch, Store, Keep, Fire, Entry, Core}
 use Rattle.flow_meaning.specs.References.{refs_in}
 use Rattle.flow_meaning.specs.Work.{turn_of, turn, pushed, running, drops, dropping_values, leave_for}
 use Rattle.flow_meaning.specs.Step.{kept_by}
@@ -127,18 +127,11 @@ all_lighter c d xs l f s h = (l, f, s, λ j. still_less j c d xs (h j))
 
 -- tasks
 pub quiet_task : (i : ℕ) (t : Task) (ts : List Task) → is_of i t ≡ true → fires (t ∷ ts) ≡ fires ts
-quiet_task i (Run j) ts h = refl
-quiet_task i (Give j b o) ts h = refl
-quiet_task i (Throw j e) ts h = refl
-quiet_task i (Catch j e) ts h = refl
-quiet_task i (Store j v) ts h = refl
-quiet_task i (Keep j s r) ts h = refl
-quiet_task i (Close j o) ts h = refl
 quiet_task i (Fire k) ts h = absurd (no_true h)
   where
     no_true : false ≡ true → ⊥
     no_true h = cc
-quiet_task i (Drop kind k) ts h = refl
+quiet_task i _ ts h = refl
 
 pub drops_fires : (rs : List Ref) (ts : List Task) → fires (drops rs ts) ≡ fires ts
 drops_fires [] ts = refl

@@ -1,18 +1,17 @@
 -- Walks along the items of a body: what stands when a statement, a body or a scope is done.
-use Rattle.std.proofs.Common.{◌≡◌, ℕ, ◌≤◌, ◌<◌, Bool, true, false, not, ◌&&◌, ◌||◌, List, [], ◌∷◌, ◌++◌, map, take, length, refl, sym, ap, ap₂, ◌∙◌, append_assoc, append-nil}
+use Rattle.std.proofs.Common.{◌≡◌, ℕ, Bool, true, false, not, ◌&&◌, ◌||◌, List, [], ◌∷◌, ◌++◌, map, take, length, refl, sym, ap, ap₂, ◌∙◌, append_assoc, append-nil}
 use Rattle.std.specs.declared.option.Option.{Option}
 use Rattle.std.specs.declared.option.Option.TheVariants.{None, Some}
 use Rattle.flow_base.specs.declared.place.Place.{Place}
 use Rattle.flow_tree.specs.Tree.{TypeTree}
-use Rattle.flow_tree.specs.Body.{Body, End, BlockStmt, IfStmt, IfElseStmt, WhileStmt, ForStmt, LoopStmt, BreakStmt, ContinueStmt, ReturnStmt, ThrowStmt, TryStmt, ChooseStmt, DeclareStmt, AssignStmt, ModifyStmt, CallStmt, WaitStmt, IntoTree, Branches, NoBranches}
-use Rattle.flow_tree.specs.Decls.{SlotTree}
+use Rattle.flow_tree.specs.Body.{Body, End, DeclareStmt, WaitStmt, IntoTree, Branches, NoBranches}
 use Rattle.flow_ast.specs.Slots.{body_slots, branch_slots}
 use Rattle.flow_ast.specs.TypingNames.{named}
-use Rattle.flow_ast.specs.Typing.{or_else, is_there}
+use Rattle.flow_ast.specs.Typing.{is_there}
 use Rattle.flow_rules.specs.Least.{unless}
 use Rattle.flow_rules.specs.Known.{is_predefined}
 use Rattle.flow_rules.specs.Judged.{Setting}
-use Rattle.flow_rules.specs.Items.{Env, Refusal, item, with_states, declared, waited, behind, started, slot_names, among, fresh, body_refusal, branch_refusal}
+use Rattle.flow_rules.specs.Items.{Env, item, with_states, declared, waited, behind, started, slot_names, among, fresh, body_refusal, branch_refusal}
 use Rattle.flow_rules.specs.WalkView.{bare, Grows, Steps, Passes}
 
 -- variables and names of state variables, put into what is in force
@@ -55,48 +54,17 @@ vars_waited e None = take_own e.setting.vars
 vars_waited e (Some i) = vars_declared e i
 
 pub vars_started : (e : Env) (b : Body) → take (length e.setting.vars) (started e b).setting.vars ≡ e.setting.vars
-vars_started e End = take_own e.setting.vars
-vars_started e (BlockStmt at b k) = take_own e.setting.vars
-vars_started e (IfStmt at t b k) = take_own e.setting.vars
-vars_started e (IfElseStmt at t b c k) = take_own e.setting.vars
-vars_started e (WhileStmt at t b k) = take_own e.setting.vars
-vars_started e (ForStmt at i t n b k) = take_own e.setting.vars
-vars_started e (LoopStmt at b k) = take_own e.setting.vars
-vars_started e (BreakStmt at k) = take_own e.setting.vars
-vars_started e (ContinueStmt at k) = take_own e.setting.vars
-vars_started e (ReturnStmt at v k) = take_own e.setting.vars
-vars_started e (ThrowStmt at v k) = take_own e.setting.vars
-vars_started e (TryStmt at b q x h k) = take_own e.setting.vars
-vars_started e (ChooseStmt at bs k) = take_own e.setting.vars
 vars_started e (DeclareStmt at i v k) = vars_declared e i
-vars_started e (AssignStmt at xs v k) = take_own e.setting.vars
-vars_started e (ModifyStmt at xs c k) = take_own e.setting.vars
-vars_started e (CallStmt at xs es k) = take_own e.setting.vars
 vars_started e (WaitStmt at w k) = vars_waited e w.into
+vars_started e _ = take_own e.setting.vars
 
 pub placeless_waited : (e : Env) (i : Option IntoTree) → bare (waited e i) ≡ bare e
 placeless_waited e None = refl
 placeless_waited e (Some i) = refl
 
 pub placeless_started : (e : Env) (b : Body) → bare (started e b) ≡ bare e
-placeless_started e End = refl
-placeless_started e (BlockStmt at b k) = refl
-placeless_started e (IfStmt at t b k) = refl
-placeless_started e (IfElseStmt at t b c k) = refl
-placeless_started e (WhileStmt at t b k) = refl
-placeless_started e (ForStmt at i t n b k) = refl
-placeless_started e (LoopStmt at b k) = refl
-placeless_started e (BreakStmt at k) = refl
-placeless_started e (ContinueStmt at k) = refl
-placeless_started e (ReturnStmt at v k) = refl
-placeless_started e (ThrowStmt at v k) = refl
-placeless_started e (TryStmt at b q x h k) = refl
-placeless_started e (ChooseStmt at bs k) = refl
-placeless_started e (DeclareStmt at i v k) = refl
-placeless_started e (AssignStmt at xs v k) = refl
-placeless_started e (ModifyStmt at xs c k) = refl
-placeless_started e (CallStmt at xs es k) = refl
 placeless_started e (WaitStmt at w k) = placeless_waited e w.into
+placeless_started e _ = refl
 
 -- along the statements of a body: what is in force at the rest of it
 pub record Along (first e : Env) (rest all : Body) : Type 0 where

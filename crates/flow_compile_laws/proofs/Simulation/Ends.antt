@@ -19,7 +19,7 @@ use Rattle.flow_class.specs.Code.{Last}
 use Rattle.flow_class.specs.Code as code
 use Rattle.flow_class.specs.Scopes.{Scope, place_of, over, over_all, act_over}
 use Rattle.flow_meaning.specs.Orderly.{Risky}
-use Rattle.flow_meaning.specs.Requests.{Act, Goes, Pass, Drops, Effects, Operand, Waits, Sends, Cancels, Prints, SendsTo, Returns, Throws, RunsOut, Stuck}
+use Rattle.flow_meaning.specs.Requests.{Act, Effects, Operand, Waits, Sends, SendsTo, Returns, Throws}
 use Rattle.flow_meaning.specs.Process.{View, Engine}
 use Rattle.flow_meaning.specs.Evaluating.{Names, bind, StepOf, asks, evaluated, value, call_act}
 use Rattle.flow_meaning.specs.Law.{phase_after}
@@ -28,7 +28,7 @@ use Rattle.flow_meaning.specs.Variables as source
 use Rattle.flow_meaning.specs.Items.{Site, Item, Do, Actor, actor, everything, Unwound, unwind}
 use Rattle.flow_meaning.specs.Items as item
 use Rattle.flow_meaning.specs.SourceStep as text
-use Rattle.flow_meaning.specs.Frame.{Memory, Frame, read, next_instr}
+use Rattle.flow_meaning.specs.Frame.{Memory, Frame, read}
 use Rattle.flow_meaning.specs.Frame as frame
 use Rattle.flow_meaning.specs.Class as class
 use Rattle.flow_meaning.specs.Carry as carry
@@ -133,14 +133,7 @@ module _ (d : Engine Frame) (ns : Names) (steps : (v : View) (f : Frame) → d.n
     mild_stands (Sends j o) a f i b = b
     mild_stands (SendsTo q port t) a f i b = b
     mild_stands (Throws e) a f i b = b
-    mild_stands Goes a f i b = inr (risks d ns steps a f b)
-    mild_stands Pass a f i b = inr (risks d ns steps a f b)
-    mild_stands (Drops vs) a f i b = inr (risks d ns steps a f b)
-    mild_stands (Cancels j) a f i b = inr (risks d ns steps a f b)
-    mild_stands (Prints u) a f i b = inr (risks d ns steps a f b)
-    mild_stands (Returns u vs) a f i b = inr (risks d ns steps a f b)
-    mild_stands RunsOut a f i b = inr (risks d ns steps a f b)
-    mild_stands Stuck a f i b = inr (risks d ns steps a f b)
+    mild_stands _ a f i b = inr (risks d ns steps a f b)
 
     call_agree : (t : Point ns) (next : Actor) (g : Frame) (q : Res Act) → AllMild q → Beside ns Risky next g
         → Agree d ns steps (evaluated (point_actor d ns steps t) q (λ act left. asks left act next)) (evaluated (point_frame d ns steps t) q (λ act left. asks left act g))

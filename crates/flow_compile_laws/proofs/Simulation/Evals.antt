@@ -5,7 +5,7 @@ use Rattle.std.specs.Prelude.{option_map}
 use Rattle.std.specs.declared.option.Option.{Option}
 use Rattle.std.specs.declared.option.Option.TheVariants.{None, Some}
 use Rattle.flow_tree.specs.declared.ty.Ident.{Ident}
-use Rattle.flow_tree.specs.Tree.{ExprTree, ExprTrees, IntExpr, TextExpr, BoolExpr, VoidExpr, VarExpr, CallExpr, FieldExpr, MethodExpr, NotExpr, NegExpr, BinaryExpr, ParenExpr, NoExprs, MoreExprs}
+use Rattle.flow_tree.specs.Tree.{ExprTree, ExprTrees, VarExpr, CallExpr, FieldExpr, MethodExpr, NotExpr, NegExpr, BinaryExpr, ParenExpr, NoExprs, MoreExprs}
 use Rattle.flow_tree.specs.Decls.{SlotTree, RoutineTree}
 use Rattle.flow_ast.specs.declared.predefined.Predefined.{Predefined}
 use Rattle.flow_ast.specs.declared.predefined.Predefined.TheVariants as code
@@ -58,10 +58,6 @@ module _ (c : ClassTree) (m : Memory) (s : Scope) (held : Held c m s) where
   module _ (st : Setting) (run : Runner) where
     mutual
       pub eval_over : (e : ExprTree) (left : ℕ) → eval st run placed_look (over c.slots s e) left ≡ eval st run named_look e left
-      eval_over (IntExpr n) left = refl
-      eval_over (TextExpr t) left = refl
-      eval_over (BoolExpr b) left = refl
-      eval_over VoidExpr left = refl
       eval_over (VarExpr x) left = ap (λ a. at_once a left) (variable_over x.name (named constant_names x.name) refl)
       eval_over (CallExpr f xs) left = ap (λ r. then r (λ vs left. called st run (named call_names f.name) f.name vs left)) (all_over xs left)
       eval_over (FieldExpr e x) left = ap (λ r. then r (λ v left. at_once (field_answer (field st.records v x.name)) left)) (eval_over e left)
@@ -78,6 +74,7 @@ module _ (c : ClassTree) (m : Memory) (s : Scope) (held : Held c m s) where
           (eval st run placed_look (over c.slots s x) left) (eval st run named_look x left) (eval_over x left)
           (λ v l. ap (λ g. second op v g l) (fun_ext (eval_over y)))
       eval_over (ParenExpr e) left = eval_over e left
+      eval_over _ left = refl
 
       pub all_over : (es : ExprTrees) (left : ℕ) → eval_all st run placed_look (over_all c.slots s es) left ≡ eval_all st run named_look es left
       all_over NoExprs left = refl

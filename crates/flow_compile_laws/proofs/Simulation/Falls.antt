@@ -3,7 +3,7 @@ use Rattle.std.proofs.Common.{◌≡◌, ℕ, ◌+◌, ◌<◌, Bool, true, fals
 use Rattle.std.specs.declared.option.Option.{Option}
 use Rattle.std.specs.declared.option.Option.TheVariants.{None, Some}
 use Rattle.flow_tree.specs.Tree.{TypeTree, PromiseType, PromiseStreamType, ExprTree, ExprTrees}
-use Rattle.flow_tree.specs.Body.{IntoTree, Body, End, BlockStmt, IfStmt, IfElseStmt, WhileStmt, ForStmt, LoopStmt, BreakStmt, ContinueStmt, ReturnStmt, ThrowStmt, TryStmt, ChooseStmt, DeclareStmt, AssignStmt, ModifyStmt, CallStmt, WaitStmt}
+use Rattle.flow_tree.specs.Body.{IntoTree, Body, IfStmt, IfElseStmt, WhileStmt, ForStmt, BreakStmt, ContinueStmt, ReturnStmt, ThrowStmt, ChooseStmt, DeclareStmt, AssignStmt, ModifyStmt, CallStmt, WaitStmt}
 use Rattle.flow_value.specs.Values.{ValueTree, RefValue}
 use Rattle.flow_eval.specs.Eval.{Res, Done, Fails, Spent, Meaningless}
 use Rattle.flow_eval.specs.Answers.{bool_of, error_of}
@@ -111,24 +111,21 @@ module _ (ns : Names) (v : View) where
   call_falls a q next n = evaluated_falls a q (λ act left. asks left act next) n (λ act left e. cc)
 
   body_falls : (a : Actor) (x : Site) (b : Body) (r : List Item) → Falls (do_body ns v a x b r) (1 + body_weight b + rest_weight r)
-  body_falls a x End r = λ e. omega arith
-  body_falls a x (BlockStmt at b k) r = λ e. omega arith
   body_falls a x (IfStmt at e b k) r = test_falls a e _ _ _
   body_falls a x (IfElseStmt at e b c k) r = test_falls a e _ _ _
   body_falls a x (WhileStmt at e b k) r = λ e. omega arith
-  body_falls a x (LoopStmt at b k) r = λ e. omega arith
   body_falls a x (ForStmt at i e t b k) r = λ e. omega arith
   body_falls a x (BreakStmt at k) r = exit_falls v.left Breaks x (BreakStmt at k) a r refl
   body_falls a x (ContinueStmt at k) r = exit_falls v.left Continues x (ContinueStmt at k) a r refl
   body_falls a x (ReturnStmt at e k) r = evaluated_falls a (value ns v (look a.vars) e) (λ u left. asks left (Returns u (everything a.vars)) over) _ (λ u left e. cc)
   body_falls a x (ThrowStmt at e k) r = throws_falls a e x.caught _
-  body_falls a x (TryStmt at b q y h k) r = λ e. omega arith
   body_falls a x (ChooseStmt at bs k) r = await_falls a x.spot (operand (OneOf bs) v.kept) _
   body_falls a x (DeclareStmt at i e k) r = declares_falls a i e (Do x k ∷ r) _
   body_falls a x (AssignStmt at xs e k) r = store_falls a (Path xs) e (Do x k ∷ r) _
   body_falls a x (ModifyStmt at xs c k) r = given_falls a (change xs c) (λ e. store ns v a (Path xs) e (Do x k ∷ r)) _ (λ e. store_falls a (Path xs) e (Do x k ∷ r) _)
   body_falls a x (CallStmt at xs es k) r = call_falls a (call_act ns v (look a.vars) xs es) (actor a.vars (Do x k ∷ r)) _
   body_falls a x (WaitStmt at w k) r = await_falls a x.spot (operand (Single w) v.kept) _
+  body_falls a x _ r = λ e. omega arith
 
   check_falls : (a : Actor) (l : Loop) (o : Option ExprTree) (r : List Item) → Falls (check ns v a l o r) (rest_weight (Check l ∷ r))
   check_falls a l None r = λ e. omega arith
