@@ -1,9 +1,10 @@
 -- Lists that are read item by item, and things that are read number by number.
-use Rattle.std.proofs.Common.{◌≡◌, ℕ, zero, suc, ◌-◌, ◌<◌, ◌≤◌, List, [], ◌∷◌, ◌++◌, length, map, nat_eq, nat_lt, Option, Some, None, sym, ap, ap₂, ◌∙◌, refl, arith, if◌then◌else◌}
+use Rattle.std.proofs.Common.{◌≡◌, ℕ, zero, suc, ◌-◌, ◌<◌, ◌≤◌, List, [], ◌∷◌, ◌++◌, length, map, nat_eq, nat_lt, Option, Some, None, sym, ap, ◌∙◌, refl, arith}
 use Rattle.std.specs.Prelude.{Bool, true, false, take, slice_get, IsSome}
 use Rattle.std.proofs.lemmas.List.{append-nil, append_assoc, map-append, length_push}
 use Rattle.std.proofs.lemmas.Bool.Decides.{nat_tests}
 use Rattle.flow_numbered.specs.Numbered.{Numbered, thing, next_above, IsRising}
+use Rattle.flow_numbered.proofs.Above.{things_above, all_above, IsNext, none_above}
 
 -- the first items of a list, and one more; and all of them
 pub take_next : {A : Type 0} (xs : List A) (n : ℕ) (x : A) → Some x ≡ slice_get xs n → take (suc n) xs ≡ take n xs ++ x ∷ []
@@ -39,17 +40,6 @@ module _ {A B S : Type 0} (kept : S → B) (part : A → B) where
   read_all xs ys read e = read ∙ ap (map part) (take_all xs (length ys) e)
 
 module _ {A : Type 0} where
-  -- the things above a number
-  abbrev pub things_above : ℕ → Numbered A → Numbered A
-  things_above n [] = []
-  things_above n (x ∷ xs) = if nat_lt n x.0 then x ∷ things_above n xs else things_above n xs
-
-  pub all_above : (n low : ℕ) (xs : Numbered A) (most : ℕ) → n ≤ low → IsRising low xs most → things_above n xs ≡ xs
-  all_above n low [] most below rising = refl
-  all_above n low (x ∷ xs) most below rising =
-      let here : nat_lt n x.0 ≡ true = grind (arith, nat_tests, rising.0) in
-      rw here (ap (λ ys. x ∷ ys) (all_above n x.0 xs most (omega (arith, rising.0)) rising.1))
-
   pub no_more : (xs : Numbered A) (n m : ℕ) → n ≤ m → length (things_above m xs) ≤ length (things_above n xs)
   no_more [] n m l = omega arith
   no_more (x ∷ xs) n m l = by (nat_lt n x.0) refl (nat_lt m x.0) refl (no_more xs n m l)
@@ -99,52 +89,6 @@ module _ {A : Type 0} where
             above = rest.above;
             fewer = rw (t, past) rest.fewer;
           }
-
-  -- where numbers rise, it is the first of those above
-  pub record IsNext (xs : Numbered A) (n m : ℕ) : Type 0 where
-    pub what : A
-    pub there : thing xs m ≡ Some what
-    pub first : things_above n xs ≡ (m, what) ∷ things_above m xs
-    pub above : n < m
-
-  pub next_is : (low : ℕ) (xs : Numbered A) (most n m : ℕ) → IsRising low xs most → Some m ≡ next_above xs n → IsNext xs n m
-  next_is low [] most n m rising e = absurd (cc)
-  next_is low (x ∷ xs) most n m rising e = by (nat_lt n x.0) refl (λ h. next_is x.0 xs most n m rising.1 h)
-    where
-      some : {Y : Type 0} {a b : Y} → Some a ≡ Some b → a ≡ b
-      some h = cc
-
-      by : (b : Bool) → nat_lt n x.0 ≡ b → (Some m ≡ next_above xs n → IsNext xs n m) → IsNext (x ∷ xs) n m
-      by true t go =
-          let is : m ≡ x.0 = some (rw t at e) in
-          let here : nat_eq m x.0 ≡ true = grind (arith, nat_tests) in
-          let past : nat_lt m x.0 ≡ false = grind (arith, nat_tests) in
-          let low_enough : n < x.0 = grind (arith, nat_tests) in
-          record {
-            what = x.1;
-            there = rw here refl;
-            first = rw (t, past) (ap₂ (λ k ys. (k, x.1) ∷ ys) (sym is) (all_above n x.0 xs most (omega (arith, low_enough)) rising.1 ∙ sym (all_above m x.0 xs most (omega (arith, is)) rising.1)));
-            above = omega (arith, is, low_enough);
-          }
-      by false t go =
-          let rest = go (rw t at e) in
-          let before : x.0 < m = grind (arith, nat_tests, rest.above) in
-          let other : nat_eq m x.0 ≡ false = grind (arith, nat_tests) in
-          let past : nat_lt m x.0 ≡ false = grind (arith, nat_tests) in
-          record {
-            what = rest.what;
-            there = rw other rest.there;
-            first = rw (t, past) rest.first;
-            above = rest.above;
-          }
-
-  pub none_above : (xs : Numbered A) (n : ℕ) → None ≡ next_above xs n → things_above n xs ≡ []
-  none_above [] n e = refl
-  none_above (x ∷ xs) n e = by (nat_lt n x.0) refl (none_above xs n)
-    where
-      by : (b : Bool) → nat_lt n x.0 ≡ b → (None ≡ next_above xs n → things_above n xs ≡ []) → things_above n (x ∷ xs) ≡ []
-      by true t go = absurd (cc (rw t at e))
-      by false t go = rw t (go (rw t at e))
 
 module _ {A B S : Type 0} (kept : S → B) (part : ℕ × A → B) where
   -- the things that were read up to a number, and those above it, are all

@@ -1,3 +1,4 @@
 pub mod Chains
 pub mod RowLemmas
 pub mod Things
+pub mod Above

@@ -1,7 +1,8 @@
 use Rattle.std.proofs.Common.{length}
 use Rattle.flow_numbered.specs.Numbered.{IsRising}
 use Rattle.flow_heapstate.specs.State.{cell_kept, cell_part}
-use Rattle.flow_heapstate.proofs.Reading.{IsListed, things_above}
+use Rattle.flow_numbered.proofs.Above.{things_above}
+use Rattle.flow_heapstate.proofs.Reading.{IsListed}
 use Rattle.flow_heapstate.proofs.listing.cells.Given as goal
 
 abbrev pub invariant-loop-cell : goal.invariant-loop-cell

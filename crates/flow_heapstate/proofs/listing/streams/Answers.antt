@@ -1,7 +1,8 @@
 use Rattle.std.proofs.Common.{sym, ap, ◌∙◌, subst}
 use Rattle.flow_numbered.specs.Numbered.{next_above}
 use Rattle.flow_heapstate.specs.State.{stream_kept, stream_part}
-use Rattle.flow_heapstate.proofs.Reading.{IsListed, next_is, next_found, listed_none, listed_next, listed_all}
+use Rattle.flow_numbered.proofs.Above.{next_is}
+use Rattle.flow_heapstate.proofs.Reading.{IsListed, next_found, listed_none, listed_next, listed_all}
 use Rattle.flow_heapstate.proofs.listing.streams.Goals as goal
 
 pub loop-cell-init : goal.loop-cell-init
