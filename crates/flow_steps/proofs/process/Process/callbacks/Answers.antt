@@ -2,7 +2,8 @@ use Rattle.std.proofs.Common.{map, length, sym, ap, ◌++◌, ◌∙◌, subst, 
 use Rattle.std.specs.List.{flat_map}
 use Rattle.flow_numbered.specs.Numbered.{thing, next_above, IsRising}
 use Rattle.flow_steps.specs.Views.{callback_view, callback_views}
-use Rattle.flow_steps.proofs.Listing.{IsTold, next_is, told_none, told_next, told_all}
+use Rattle.flow_numbered.proofs.Above.{next_is}
+use Rattle.flow_steps.proofs.Listing.{IsTold, told_none, told_next, told_all}
 use Rattle.flow_steps.proofs.process.Process.callbacks.Goals as goal
 
 pub loop-actor-init : goal.loop-actor-init

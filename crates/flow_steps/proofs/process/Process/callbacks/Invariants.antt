@@ -2,7 +2,8 @@ use Rattle.std.proofs.Common.{ℕ, length}
 use Rattle.std.specs.List.{flat_map}
 use Rattle.flow_numbered.specs.Numbered.{IsRising}
 use Rattle.flow_steps.specs.Views.{callback_views}
-use Rattle.flow_steps.proofs.Listing.{IsTold, things_above}
+use Rattle.flow_numbered.proofs.Above.{things_above}
+use Rattle.flow_steps.proofs.Listing.{IsTold}
 use Rattle.flow_steps.proofs.process.Process.callbacks.Given as goal
 
 abbrev pub invariant-loop-actor : goal.invariant-loop-actor

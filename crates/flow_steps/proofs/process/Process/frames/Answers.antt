@@ -1,7 +1,8 @@
 use Rattle.std.proofs.Common.{[], ◌∷◌, map, length, sym, ap, ◌∙◌, subst, refl, arith}
 use Rattle.flow_numbered.specs.Numbered.{next_above, IsRising}
 use Rattle.flow_steps.specs.Views.{frame_view}
-use Rattle.flow_steps.proofs.Listing.{IsTold, next_is, told_none, told_next, told_all, things_above}
+use Rattle.flow_numbered.proofs.Above.{next_is, things_above}
+use Rattle.flow_steps.proofs.Listing.{IsTold, told_none, told_next, told_all}
 use Rattle.flow_steps.proofs.process.Process.frames.Goals as goal
 
 pub loop-actor-init : goal.loop-actor-init

@@ -1,7 +1,8 @@
 use Rattle.std.proofs.Common.{ℕ, length, map}
 use Rattle.flow_numbered.specs.Numbered.{IsRising}
 use Rattle.flow_steps.specs.Views.{frame_view}
-use Rattle.flow_steps.proofs.Listing.{IsTold, things_above}
+use Rattle.flow_numbered.proofs.Above.{things_above}
+use Rattle.flow_steps.proofs.Listing.{IsTold}
 use Rattle.flow_steps.proofs.process.Process.frames.Given as goal
 
 abbrev pub invariant-loop-actor : goal.invariant-loop-actor

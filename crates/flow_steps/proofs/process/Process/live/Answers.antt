@@ -1,6 +1,6 @@
 use Rattle.std.proofs.Common.{length, ap, ◌∙◌, subst, arith}
 use Rattle.flow_numbered.specs.Numbered.{next_above, IsRising}
-use Rattle.flow_steps.proofs.Listing.{next_is, none_above, all_above}
+use Rattle.flow_numbered.proofs.Above.{next_is, none_above, all_above}
 use Rattle.flow_steps.proofs.process.Process.live.Goals as goal
 
 pub loop-actor-init : goal.loop-actor-init

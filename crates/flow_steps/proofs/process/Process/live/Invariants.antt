@@ -1,6 +1,6 @@
 use Rattle.std.proofs.Common.{◌≡◌, ◌+◌, ◌≤◌, ℕ, length}
 use Rattle.flow_numbered.specs.Numbered.{IsRising}
-use Rattle.flow_steps.proofs.Listing.{things_above}
+use Rattle.flow_numbered.proofs.Above.{things_above}
 use Rattle.flow_steps.proofs.process.Process.live.Given as goal
 
 abbrev pub invariant-loop-actor : goal.invariant-loop-actor
