@@ -73,7 +73,13 @@ module _ {R : Type 0} (f : Fold R) where
 
 -- lists one after another, in the order of the text
 abbrev pub listing : {A : Type 0} → (Body → List A) → (Ident → List A) → (WaitTree → List A) → Fold (List A)
-listing s c w = record { nothing = []; both = λ xs ys. xs ++ ys; of_stmt = λ b xs. s b ++ xs; of_catch = λ x xs. c x ++ xs; of_wait = λ t xs. w t ++ xs }
+listing s c w = record {
+  nothing = [];
+  both = λ xs ys. xs ++ ys;
+  of_stmt = λ b xs. s b ++ xs;
+  of_catch = λ x xs. c x ++ xs;
+  of_wait = λ t xs. w t ++ xs;
+}
 
 -- sums; a statement, a variable and a wait say what they make of the sum that they stand before
 abbrev pub counting : (Body → ℕ → ℕ) → (Ident → ℕ → ℕ) → (WaitTree → ℕ → ℕ) → Fold ℕ
