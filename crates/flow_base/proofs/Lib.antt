@@ -1,2 +1,4 @@
 pub mod Bools
+pub mod Growing
 pub mod MemoryFiles
+pub mod Reading

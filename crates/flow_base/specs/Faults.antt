@@ -21,3 +21,8 @@ abbrev pub Counts : {T : Type 0} → (before after : ℕ) → Result T OutFault 
 Counts before after (Ok answer) = after ≡ before
 Counts before after (Err Failed) = after ≡ next_count before
 Counts before after (Err OutOfMemory) = after ≡ before
+
+-- a failure is counted, and want of memory isn't
+abbrev pub CountsFault : (before after : ℕ) → OutFault → Type 0
+CountsFault before after Failed = after ≡ next_count before
+CountsFault before after OutOfMemory = after ≡ before

@@ -1,10 +1,10 @@
 // Reading a file, to one byte past a limit at most.
 
-ghost use Rattle.std.specs.Prelude.{◌≡◌, ◌+◌, IfOk};
+ghost use Rattle.std.specs.Prelude.{◌≡◌, ◌+◌, ◌<◌, length, IfOk};
 ghost use Rattle.flow_base.specs.Asked.{AsksOnce};
-ghost use Rattle.flow_base.specs.Bytes.{AreFirst};
+ghost use Rattle.flow_base.specs.Bytes.{AreFirst, AreFirstOf};
 ghost use Rattle.flow_base.specs.Faults.{Counts};
-ghost use Rattle.flow_base.specs.Seen.{MovesOnly, ReadsOn, ReadsWithin};
+ghost use Rattle.flow_base.specs.Seen.{ReadsOn, ReadsSome, ReadsFrom, ReadsWithin, opening_at};
 
 use crate::fault::OutFault;
 use crate::files::Files;
@@ -12,20 +12,21 @@ use crate::ids::FileNo;
 use std::alloc::Global;
 
 /// The bytes that are left of an opened file, `limit + 1` of them at most: as many as tell a file
-/// within the limit from a longer one. No more than that is read. `Failed` comes exactly where a read
-/// failed.
+/// within the limit from a longer one. No more than that is read by this opening, which tells it, and
+/// nothing by the others. `Failed` comes exactly where a read failed.
 pub fn read_past<F: Files>(
     alloc: Global,
     files: &mut F,
     file: FileNo,
     limit: usize,
 ) -> Result<Vec<u8>, OutFault>
-    requires { F.is_open files.old file.0 }
+    requires { file.0 < length (F.seen files.old).openings }
     ensures bytes { IfOk result (λ v. AreFirst (limit + 1)
-        ((F.seen files.old).left (F.name_of files.old file.0)) v.items) }
-    ensures within { ReadsOn (limit + 1) (F.name_of files.old file.0) (F.seen files.old)
-        (F.seen files.new) }
-    ensures others { MovesOnly (F.name_of files.old file.0) (F.seen files.old) (F.seen files.new) }
+        (opening_at (F.seen files.old).openings file.0).left v.items) }
+    ensures read { IfOk result (λ v. ReadsOn (F.seen files.old).openings
+        (F.seen files.new).openings file.0 v.items) }
+    ensures within { ReadsSome (limit + 1) (F.seen files.old).openings
+        (F.seen files.new).openings file.0 }
     ensures content { (F.seen files.new).content ≡ (F.seen files.old).content }
     ensures asked { (F.seen files.new).asked ≡ (F.seen files.old).asked }
     ensures counted { Counts (F.seen files.old).faults (F.seen files.new).faults result }
@@ -46,17 +47,19 @@ pub fn read_past<F: Files>(
 }
 
 /// The bytes of the file of that name, `limit + 1` of them at most, read from its start. No more than
-/// that is read. `Failed` comes exactly where a call failed.
+/// that is read, and what was read is told. A name that is missing isn't read. `Failed` comes exactly
+/// where a call failed.
 pub fn read_file<F: Files>(
     alloc: Global,
     files: &mut F,
     name: &str,
     limit: usize,
 ) -> Result<Vec<u8>, OutFault>
-    ensures bytes { IfOk result (λ v. AreFirst (limit + 1) ((F.seen files.old).content name.now)
+    ensures bytes { IfOk result (λ v. AreFirstOf (limit + 1)
+        ((F.seen files.old).content name.now) v.items) }
+    ensures read { IfOk result (λ v. ReadsFrom (F.seen files.old) (F.seen files.new) name.now
         v.items) }
     ensures within { ReadsWithin (limit + 1) name.now (F.seen files.old) (F.seen files.new) }
-    ensures others { MovesOnly name.now (F.seen files.old) (F.seen files.new) }
     ensures content { (F.seen files.new).content ≡ (F.seen files.old).content }
     ensures asked { AsksOnce (F.seen files.old).asked (F.seen files.new).asked name.now result }
     ensures counted { Counts (F.seen files.old).faults (F.seen files.new).faults result }

@@ -1,6 +1,7 @@
 // A sink in memory.
 
-ghost use Rattle.std.specs.Prelude.{◌≡◌, []};
+ghost use Rattle.std.specs.Prelude.{◌≡◌, [], Some, length};
+ghost use Rattle.std.proofs.Common.{take_all, le_refl, ap};
 ghost use Rattle.flow_base.specs.Calls.{no_calls};
 ghost use Rattle.flow_base.specs.MemorySink.{Writes, Flushes, seen_of};
 
@@ -47,6 +48,8 @@ impl MemSink {
 
 impl Sink for MemSink {
     ghost seen = { seen_of };
+
+    ghost handed_first = { λ s. ap Some (take_all (length s.bytes) s.bytes (le_refl _)) };
 
     fn write(&mut self, piece: &[u8]) -> Result<usize, OutFault>
         ensures { Writes self.old piece.now result self.new }

@@ -2,7 +2,7 @@
 
 ghost use Rattle.std.specs.Prelude.{OnOk};
 ghost use Rattle.std.specs.Io.KnownBytes.{Appends};
-ghost use Rattle.flow_base.specs.Bytes.{AppendsPart};
+ghost use Rattle.flow_base.specs.Bytes.{AppendsPart, Grows};
 ghost use Rattle.flow_base.specs.Faults.{HasCause};
 
 use crate::fault::OutFault;
@@ -14,6 +14,7 @@ pub fn write_whole<S: Sink>(out: &mut S, piece: &[u8]) -> Result<(), OutFault>
     ensures whole { OnOk result (Appends (S.seen out.old).written (S.seen out.new).written
         piece.now) }
     ensures part { AppendsPart (S.seen out.old).written (S.seen out.new).written piece.now }
+    ensures handed { Grows (S.seen out.old).handed (S.seen out.new).handed }
     ensures cause { HasCause (S.seen out.old).faults (S.seen out.new).faults result }
 {
     let mut rest = piece;

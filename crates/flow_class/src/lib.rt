@@ -6,3 +6,5 @@
 
 pub mod class;
 pub mod places;
+
+pub use flow_ast::decl::Slot;

@@ -82,7 +82,7 @@ into_said None h = tt
 into_said (Some i) h = local_said i h
 
 errors_said : TypesSaid (ErrorType ∷ [])
-errors_said = (record { tokens = _; rule = error_type p; are = ((word_spelled word.Error, (omega arith, tt)), tt) }, tt)
+errors_said = (record { tokens = _; rule = error_type p; are = ((word_spelled word.Error, ((λ j. omega arith), tt)), tt) }, tt)
 
 stmt_locals_said : (s : Body) → StmtSaid s → TypesSaid (stmt_locals s)
 stmt_locals_said (DeclareStmt at i e k) h = local_said i h.0

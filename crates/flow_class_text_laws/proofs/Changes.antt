@@ -13,9 +13,9 @@ use Rattle.flow_tree.specs.Grammar.{ExprRule, number, variable, paren, field, bi
 use Rattle.flow_tree.specs.GrammarStmt.{PathRule, last_name, more_names}
 use Rattle.flow_class.specs.Scopes.{Scope, place_of, over, over_all, ident_over}
 use Rattle.flow_meaning.specs.Items.{path_from, modified}
-use Rattle.flow_classprint.specs.ClassGrammar.{AreFree, IsSpelled, AreTokens}
+use Rattle.flow_classprint.specs.ClassGrammar.{AreFree, IsSpelled}
 use Rattle.flow_class_text_laws.proofs.Writable.{Derived, ExprWritable, ArgsWritable, IsMaybePlace}
-use Rattle.flow_class_text_laws.proofs.Spelled.{sign_spelled, number_spelled, both_are}
+use Rattle.flow_class_text_laws.proofs.Spelled.{AreTokens, sign_spelled, number_spelled, both_are}
 use Rattle.flow_class_text_laws.proofs.Written.{p}
 use Rattle.flow_class_text_laws.proofs.Renamed.{rebegin, renamed, all_renamed}
 use Rattle.flow_class_text_laws.proofs.Names.{ident_good}
@@ -55,7 +55,7 @@ module _ (slots : List SlotTree) (s : Scope) (few : (x : List ℕ) → IsMaybePl
   root : (x : Ident) (d k : ℕ) → IsSpelled (token.Name x.name) → d ≤ DEPTH → At k d (VarExpr x)
   root x d k h l =
       let new = ident_good slots s few x h in
-      (record { tokens = _; rule = variable (ident_over slots s x); are = ((new.0, (l, tt)), tt) }, new.1)
+      (record { tokens = _; rule = variable (ident_over slots s x); are = ((new.0, ((λ j. l), tt)), tt) }, new.1)
 
   of_field : (e : ExprTree) (x : Ident) (d k : ℕ) → At 7 (suc d) e → IsSpelled (token.Name x.name) → d ≤ DEPTH → At k d (FieldExpr e x)
   of_field e x d k inner h l = (
@@ -81,13 +81,13 @@ module _ (slots : List SlotTree) (s : Scope) (few : (x : List ℕ) → IsMaybePl
     record {
       tokens = _;
       rule = paren p p inner.0.tokens inner.0.rule refl;
-      are = ((sign_spelled sign.OpenRound, (omega arith, tt)), both_are inner.0.tokens _ inner.0.are ((sign_spelled sign.CloseRound, tt), tt));
+      are = ((sign_spelled sign.OpenRound, ((λ j. omega arith), tt)), both_are inner.0.tokens _ inner.0.are ((sign_spelled sign.CloseRound, tt), tt));
     },
     inner.1,
   )
 
   one : At 5 2 (IntExpr (pos 1))
-  one = (record { tokens = _; rule = number (pos 1) p; are = ((number_spelled 1 (omega arith), (omega arith, tt)), tt) }, tt)
+  one = (record { tokens = _; rule = number (pos 1) p; are = ((number_spelled 1 (omega arith), ((λ j. omega arith), tt)), tt) }, tt)
 
   sum : (a b : ExprTree) → At 4 2 a → At 5 2 b → ExprWritable (over slots s (BinaryExpr Add a b))
   sum a b left right = (

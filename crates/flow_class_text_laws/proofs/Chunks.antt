@@ -93,7 +93,7 @@ cancelled_said at = (
   record {
     tokens = _;
     rule = call (record { name = codes "operation_cancelled"; at = at }) p p [] no_args refl;
-    are = ((cancelled_spelled, (omega arith, tt)), ((sign_spelled sign.OpenRound, tt), ((sign_spelled sign.CloseRound, tt), tt)));
+    are = ((cancelled_spelled, ((λ j. omega arith), tt)), ((sign_spelled sign.OpenRound, tt), ((sign_spelled sign.CloseRound, tt), tt)));
   },
   tt,
 )
@@ -183,9 +183,9 @@ MaybeWritten None = Unit {0}
 MaybeWritten (Some e) = ExprWritable e
 
 first_written : (t : TypeTree) → MaybeWritten (first_value t)
-first_written IntType = (record { tokens = _; rule = number (pos 0) p; are = ((number_spelled 0 (omega arith), (omega arith, tt)), tt) }, tt)
-first_written BoolType = (record { tokens = _; rule = falsehood p; are = ((word_spelled _, (omega arith, tt)), tt) }, tt)
-first_written StringType = (record { tokens = _; rule = text [] p; are = ((record { bytes = 34 ∷ 34 ∷ []; spells = ([], refl, empty); bounded = omega arith }, (omega arith, tt)), tt) }, tt)
+first_written IntType = (record { tokens = _; rule = number (pos 0) p; are = ((number_spelled 0 (omega arith), ((λ j. omega arith), tt)), tt) }, tt)
+first_written BoolType = (record { tokens = _; rule = falsehood p; are = ((word_spelled _, ((λ j. omega arith), tt)), tt) }, tt)
+first_written StringType = (record { tokens = _; rule = text [] p; are = ((record { bytes = 34 ∷ 34 ∷ []; spells = ([], refl, empty); bounded = omega arith }, ((λ j. omega arith), tt)), tt) }, tt)
 first_written _ = tt
 
 first_said : (i : IntoTree) (o : Option Slotted) (e : Option ExprTree) → IsMaybePlace o → MaybeWritten e → InstrsSaid (first_at i o e)
@@ -240,7 +240,7 @@ module _ (ns : Names) (slots : List SlotTree) (le : length slots ≤ 2 ^ 32) whe
   thrown_written s at (Some e) caught h k = whole_over slots s (place_small slots s le h) e k
   thrown_written s at None caught h k =
       let good = over_good (option_and_then (place_of slots s) caught) (caught_small caught) in
-      (record { tokens = _; rule = variable (record { name = var_over (option_and_then (place_of slots s) caught); at = at }); are = ((good.0, (omega arith, tt)), tt) }, good.1)
+      (record { tokens = _; rule = variable (record { name = var_over (option_and_then (place_of slots s) caught); at = at }); are = ((good.0, ((λ j. omega arith), tt)), tt) }, good.1)
     where
       caught_small : (o : Option (List ℕ)) → IsMaybePlace (option_and_then (place_of slots s) o)
       caught_small None = tt

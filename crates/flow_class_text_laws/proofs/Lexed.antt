@@ -1,12 +1,14 @@
 -- The tokens of a program that is read: each can be spelled, and its parts keep the limits.
-use Rattle.std.proofs.Common.{ℕ, List, [], ◌∷◌, ◌++◌, take, subst, sym, arith}
+use Rattle.std.proofs.Common.{ℕ, List, [], ◌∷◌, ◌++◌, take, subst, sym}
 use Rattle.flow_tree.specs.declared.token.Spot.{Spot}
 use Rattle.flow_tree.specs.declared.decl.Program.{Program}
-use Rattle.flow_tree.specs.GrammarToken.{Part, Declaration, Statement, Node, Variable, Branch, Marked, begin, spots_of, InLimits, AllInLimits, Keeps}
+use Rattle.flow_tree.specs.GrammarToken.{Part, Marked, begin, spots_of, AllInLimits, Keeps}
 use Rattle.flow_tree.specs.GrammarStmt.{Counts, begin_statement}
 use Rattle.flow_tree.specs.Lexing.{ReadsTokens, here, gap, token}
 use Rattle.flow_front.specs.Verdict.{IsProgram}
-use Rattle.flow_classprint.specs.ClassGrammar.{IsSpelled, IsShallow, AllShallow, AreTokens}
+use Rattle.flow_tree.proofs.GrammarLists.{class_parts}
+use Rattle.flow_classprint.specs.ClassGrammar.{IsSpelled}
+use Rattle.flow_class_text_laws.proofs.Spelled.{AreTokens}
 
 abbrev pub AllSpelled : List Spot → Type 0
 AllSpelled [] = Unit {0}
@@ -42,17 +44,9 @@ pub statement_unbegun : (c : Counts) (d : ℕ) (xs : List Marked) → Fine (begi
 statement_unbegun c d [] h = tt
 statement_unbegun c d (x ∷ xs) h = ((h.0.0, h.0.1.1.1), h.1)
 
-shallow : (p : Part) → InLimits 7 p → IsShallow p
-shallow (Node d) h = h (omega arith)
-shallow _ h = tt
-
-all_shallow : (ps : List Part) → AllInLimits 7 ps → AllShallow ps
-all_shallow [] h = tt
-all_shallow (p ∷ ps) h = (shallow p h.0, all_shallow ps h.1)
-
 pub fine_are : (xs : List Marked) → Fine xs → AreTokens xs
 fine_are [] h = tt
-fine_are (x ∷ xs) h = ((h.0.0, all_shallow x.parts h.0.1), fine_are xs h.1)
+fine_are (x ∷ xs) h = ((h.0.0, class_parts 7 x.parts h.0.1), fine_are xs h.1)
 
 -- those of a text that is a program
 pub program_fine : (text : List ℕ) (p : Program) (h : IsProgram text p) → Fine h.parsed.1.marked

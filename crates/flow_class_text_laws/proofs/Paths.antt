@@ -6,25 +6,25 @@ use Rattle.flow_tree.specs.Tree.{TypeTree}
 use Rattle.flow_tree.specs.GrammarToken.{Marked}
 use Rattle.flow_tree.specs.Grammar.{TypeRule, int_type, bool_type, string_type, void_type, error_type, named_type, wrapped_type}
 use Rattle.flow_tree.specs.GrammarStmt.{PathRule, last_name, more_names}
-use Rattle.flow_classprint.specs.ClassGrammar.{IsSpelled, AreTokens}
+use Rattle.flow_classprint.specs.ClassGrammar.{IsSpelled}
 use Rattle.flow_class_text_laws.proofs.Writable.{Derived}
-use Rattle.flow_class_text_laws.proofs.Spelled.{both_are}
+use Rattle.flow_class_text_laws.proofs.Spelled.{AreTokens, both_are}
 use Rattle.flow_class_text_laws.proofs.Renamed.{are_front, are_back}
 
 pub retyped : {d : ℕ} {ts : List Marked} {t : TypeTree} (c : ℕ) → c ≤ d → TypeRule d ts t → AreTokens ts → Derived (λ us. TypeRule c us t)
-retyped c l (int_type p) h = record { tokens = _; rule = int_type p; are = ((h.0.0, (omega (arith, l, h.0.1.0), tt)), tt) }
-retyped c l (bool_type p) h = record { tokens = _; rule = bool_type p; are = ((h.0.0, (omega (arith, l, h.0.1.0), tt)), tt) }
-retyped c l (string_type p) h = record { tokens = _; rule = string_type p; are = ((h.0.0, (omega (arith, l, h.0.1.0), tt)), tt) }
-retyped c l (void_type p) h = record { tokens = _; rule = void_type p; are = ((h.0.0, (omega (arith, l, h.0.1.0), tt)), tt) }
-retyped c l (error_type p) h = record { tokens = _; rule = error_type p; are = ((h.0.0, (omega (arith, l, h.0.1.0), tt)), tt) }
-retyped c l (named_type x) h = record { tokens = _; rule = named_type x; are = ((h.0.0, (omega (arith, l, h.0.1.0), tt)), tt) }
+retyped c l (int_type p) h = record { tokens = _; rule = int_type p; are = ((h.0.0, ((λ j. omega (arith, l, h.0.1.0 j)), tt)), tt) }
+retyped c l (bool_type p) h = record { tokens = _; rule = bool_type p; are = ((h.0.0, ((λ j. omega (arith, l, h.0.1.0 j)), tt)), tt) }
+retyped c l (string_type p) h = record { tokens = _; rule = string_type p; are = ((h.0.0, ((λ j. omega (arith, l, h.0.1.0 j)), tt)), tt) }
+retyped c l (void_type p) h = record { tokens = _; rule = void_type p; are = ((h.0.0, ((λ j. omega (arith, l, h.0.1.0 j)), tt)), tt) }
+retyped c l (error_type p) h = record { tokens = _; rule = error_type p; are = ((h.0.0, ((λ j. omega (arith, l, h.0.1.0 j)), tt)), tt) }
+retyped c l (named_type x) h = record { tokens = _; rule = named_type x; are = ((h.0.0, ((λ j. omega (arith, l, h.0.1.0 j)), tt)), tt) }
 retyped c l (wrapped_type w p q r of a e) h =
     let t = subst AreTokens e h in
     let inner = retyped (suc c) (omega (arith, l)) a (are_front of _ t.1.1) in
     record {
       tokens = _;
       rule = wrapped_type w p q r inner.tokens inner.rule refl;
-      are = ((t.0.0, (omega (arith, l, t.0.1.0), tt)), (t.1.0, both_are inner.tokens _ inner.are (are_back of _ t.1.1)));
+      are = ((t.0.0, ((λ j. omega (arith, l, t.0.1.0 j)), tt)), (t.1.0, both_are inner.tokens _ inner.are (are_back of _ t.1.1)));
     }
 
 -- a path with another first name

@@ -10,9 +10,9 @@ use Rattle.flow_tree.specs.GrammarToken.{Part, Node, Marked, begin}
 use Rattle.flow_tree.specs.Grammar.{sign_at, name_at, op_sign, ExprRule, ArgsRule, MoreArgsRule, number, text, truth, falsehood, void, variable, call, paren, field, method, negation, minus, binary, no_args, some_args, end_args, more_args}
 use Rattle.flow_class.specs.Places.{place_named}
 use Rattle.flow_class.specs.Scopes.{Scope, ident_over, over, over_all}
-use Rattle.flow_classprint.specs.ClassGrammar.{IsFree, AreFree, AllAreFree, IsSpelled, AreTokens}
+use Rattle.flow_classprint.specs.ClassGrammar.{IsFree, AreFree, AllAreFree, IsSpelled}
 use Rattle.flow_class_text_laws.proofs.Writable.{Derived}
-use Rattle.flow_class_text_laws.proofs.Spelled.{both_are}
+use Rattle.flow_class_text_laws.proofs.Spelled.{AreTokens, both_are}
 
 pub are_front : (xs ys : List Marked) → AreTokens (xs ++ ys) → AreTokens xs
 are_front [] ys h = tt
@@ -28,18 +28,18 @@ unbegin part (x ∷ xs) h = ((h.0.0, h.0.1.1), h.1)
 
 pub rebegin : (d : ℕ) (xs : List Marked) → d ≤ DEPTH → AreTokens xs → AreTokens (begin (Node d) xs)
 rebegin d [] l h = tt
-rebegin d (x ∷ xs) l h = ((h.0.0, (l, h.0.1)), h.1)
+rebegin d (x ∷ xs) l h = ((h.0.0, ((λ j. l), h.0.1)), h.1)
 
 -- no expression stands deeper than its first token says
 deep : {k d : ℕ} {ts : List Marked} {e : ExprTree} → ExprRule k d ts e → AreTokens ts → d ≤ DEPTH
-deep (call f p q args r e) h = (subst AreTokens e h).0.1.0
-deep (paren p q of r e) h = (subst AreTokens e h).0.1.0
+deep (call f p q args r e) h = (subst AreTokens e h).0.1.0 (omega arith)
+deep (paren p q of r e) h = (subst AreTokens e h).0.1.0 (omega arith)
 deep (field p x of r e) h = let inner = deep r (unbegin _ of (are_front _ _ (subst AreTokens e h))) in omega (arith, inner)
 deep (method p q r f of args a b e) h = let inner = deep a (unbegin _ of (are_front _ _ (subst AreTokens e h))) in omega (arith, inner)
-deep (negation p of l r e) h = (subst AreTokens e h).0.1.0
-deep (minus p of l r e) h = (subst AreTokens e h).0.1.0
+deep (negation p of l r e) h = (subst AreTokens e h).0.1.0 (omega arith)
+deep (minus p of l r e) h = (subst AreTokens e h).0.1.0 (omega arith)
 deep (binary op p left right l a b e) h = let inner = deep a (unbegin _ left (are_front _ _ (subst AreTokens e h))) in omega (arith, inner)
-deep _ h = h.0.1.0
+deep _ h = h.0.1.0 (omega arith)
 
 -- each name that can be spelled is over places one that can be, whose place has a small number
 module _ (slots : List SlotTree) (s : Scope)
@@ -55,21 +55,21 @@ module _ (slots : List SlotTree) (s : Scope)
 
   mutual
     pub renamed : {k d : ℕ} {ts : List Marked} {e : ExprTree} (c : ℕ) → c ≤ d → ExprRule k d ts e → AreTokens ts → Over k c e
-    renamed c l (number n p) h = (record { tokens = _; rule = number n p; are = ((h.0.0, (omega (arith, l, h.0.1.0), tt)), tt) }, tt)
-    renamed c l (text t p) h = (record { tokens = _; rule = text t p; are = ((h.0.0, (omega (arith, l, h.0.1.0), tt)), tt) }, tt)
-    renamed c l (truth p) h = (record { tokens = _; rule = truth p; are = ((h.0.0, (omega (arith, l, h.0.1.0), tt)), tt) }, tt)
-    renamed c l (falsehood p) h = (record { tokens = _; rule = falsehood p; are = ((h.0.0, (omega (arith, l, h.0.1.0), tt)), tt) }, tt)
-    renamed c l (void p q r) h = (record { tokens = _; rule = void p q r; are = ((h.0.0, (omega (arith, l, h.0.1.0), tt)), h.1) }, tt)
+    renamed c l (number n p) h = (record { tokens = _; rule = number n p; are = ((h.0.0, ((λ j. omega (arith, l, h.0.1.0 j)), tt)), tt) }, tt)
+    renamed c l (text t p) h = (record { tokens = _; rule = text t p; are = ((h.0.0, ((λ j. omega (arith, l, h.0.1.0 j)), tt)), tt) }, tt)
+    renamed c l (truth p) h = (record { tokens = _; rule = truth p; are = ((h.0.0, ((λ j. omega (arith, l, h.0.1.0 j)), tt)), tt) }, tt)
+    renamed c l (falsehood p) h = (record { tokens = _; rule = falsehood p; are = ((h.0.0, ((λ j. omega (arith, l, h.0.1.0 j)), tt)), tt) }, tt)
+    renamed c l (void p q r) h = (record { tokens = _; rule = void p q r; are = ((h.0.0, ((λ j. omega (arith, l, h.0.1.0 j)), tt)), h.1) }, tt)
     renamed c l (variable x) h =
         let new = good x h.0.0 in
-        (record { tokens = _; rule = variable (ident_over slots s x); are = ((new.0, (omega (arith, l, h.0.1.0), tt)), tt) }, new.1)
+        (record { tokens = _; rule = variable (ident_over slots s x); are = ((new.0, ((λ j. omega (arith, l, h.0.1.0 j)), tt)), tt) }, new.1)
     renamed c l (call f p q args r e) h =
         let t = subst AreTokens e h in
         let as_over = all_renamed (suc c) (omega (arith, l)) r (are_front args _ t.1.1) in (
           record {
             tokens = _;
             rule = call f p q as_over.0.tokens as_over.0.rule refl;
-            are = ((t.0.0, (omega (arith, l, t.0.1.0), tt)), (t.1.0, both_are as_over.0.tokens _ as_over.0.are (are_back args _ t.1.1)));
+            are = ((t.0.0, ((λ j. omega (arith, l, t.0.1.0 j)), tt)), (t.1.0, both_are as_over.0.tokens _ as_over.0.are (are_back args _ t.1.1)));
           },
           as_over.1,
         )
@@ -79,7 +79,7 @@ module _ (slots : List SlotTree) (s : Scope)
           record {
             tokens = _;
             rule = paren p q inner.0.tokens inner.0.rule refl;
-            are = ((t.0.0, (omega (arith, l, t.0.1.0), tt)), both_are inner.0.tokens _ inner.0.are (are_back of _ t.1));
+            are = ((t.0.0, ((λ j. omega (arith, l, t.0.1.0 j)), tt)), both_are inner.0.tokens _ inner.0.are (are_back of _ t.1));
           },
           inner.1,
         )
@@ -111,11 +111,11 @@ module _ (slots : List SlotTree) (s : Scope)
     renamed c l (negation p of k r e) h =
         let t = subst AreTokens e h in
         let inner = renamed (suc c) (omega (arith, l)) r t.1 in
-        (record { tokens = _; rule = negation p inner.0.tokens k inner.0.rule refl; are = ((t.0.0, (omega (arith, l, t.0.1.0), tt)), inner.0.are) }, inner.1)
+        (record { tokens = _; rule = negation p inner.0.tokens k inner.0.rule refl; are = ((t.0.0, ((λ j. omega (arith, l, t.0.1.0 j)), tt)), inner.0.are) }, inner.1)
     renamed c l (minus p of k r e) h =
         let t = subst AreTokens e h in
         let inner = renamed (suc c) (omega (arith, l)) r t.1 in
-        (record { tokens = _; rule = minus p inner.0.tokens k inner.0.rule refl; are = ((t.0.0, (omega (arith, l, t.0.1.0), tt)), inner.0.are) }, inner.1)
+        (record { tokens = _; rule = minus p inner.0.tokens k inner.0.rule refl; are = ((t.0.0, ((λ j. omega (arith, l, t.0.1.0 j)), tt)), inner.0.are) }, inner.1)
     renamed c l (binary op p left right k a b e) h =
         let t = subst AreTokens e h in
         let before = unbegin _ left (are_front _ _ t) in

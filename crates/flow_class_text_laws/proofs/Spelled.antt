@@ -15,8 +15,22 @@ use Rattle.flow_tree.specs.Spelling.{word_bytes, sign_bytes, is_number_text}
 use Rattle.flow_class.specs.declared.class.Slotted.{Slotted}
 use Rattle.flow_class.specs.declared.class.Slotted.TheVariants.{Slot, Local}
 use Rattle.flow_class.specs.Places.{place_name}
-use Rattle.flow_tree.specs.GrammarToken.{Marked}
-use Rattle.flow_classprint.specs.ClassGrammar.{IsNumber, IsPlace, IsSpelled, AreTokens}
+use Rattle.flow_tree.specs.declared.limits.TheConstants.{OF_CLASS_TEXT}
+use Rattle.flow_tree.specs.GrammarToken.{Marked, AllInLimitsOf, KeepsOf}
+use Rattle.flow_classprint.specs.ClassGrammar.{IsNumber, IsPlace, IsSpelled, AreSpelled}
+
+-- tokens that can be spelled, whose parts keep the limits of class text
+abbrev pub AreTokens : List Marked → Type 0
+AreTokens [] = Unit {0}
+AreTokens (x ∷ xs) = (IsSpelled x.spot.token × AllInLimitsOf OF_CLASS_TEXT 7 x.parts) × AreTokens xs
+
+pub are_spelled : (xs : List Marked) → AreTokens xs → AreSpelled xs
+are_spelled [] h = tt
+are_spelled (x ∷ xs) h = (h.0.0, are_spelled xs h.1)
+
+pub are_kept : (xs : List Marked) → AreTokens xs → KeepsOf OF_CLASS_TEXT 7 xs
+are_kept [] h = tt
+are_kept (x ∷ xs) h = (h.0.1, are_kept xs h.1)
 
 -- signs and reserved words
 pub sign_spelled : (s : signs.Sign) → IsSpelled (token.Sign s)

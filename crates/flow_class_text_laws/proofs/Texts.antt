@@ -4,13 +4,13 @@ use Rattle.std.specs.Prelude.{codes}
 use Rattle.std.specs.List.{AllByRecursion}
 use Rattle.flow_tree.specs.declared.token.Sign.TheVariants as sign
 use Rattle.flow_tree.specs.Tree.{TypeTree}
-use Rattle.flow_tree.specs.Decls.{SlotTree}
+use Rattle.flow_tree.specs.Decls.{SlotTree, RecordTree, RoutineTree}
 use Rattle.flow_tree.specs.GrammarToken.{Marked}
 use Rattle.flow_class.specs.Classes.{BlockTree, CallbackTree, ClassTree, RawTree}
 use Rattle.flow_classprint.specs.ClassGrammar as rules
-use Rattle.flow_classprint.specs.ClassGrammar.{IsNumber, AreTokens, NumberedRule, CallbackRule, GroupsRule, SlotRule, LocalRule, BlockRule, ClassRule, EachRule, TextRule, IsWritten}
+use Rattle.flow_classprint.specs.ClassGrammar.{IsNumber, NumberedRule, CallbackRule, GroupsRule, SlotRule, LocalRule, BlockRule, ClassRule, ClassesRule, IsWritten}
 use Rattle.flow_class_text_laws.proofs.Writable.{Derived, TypeWritable, CallbackWritable, GroupWritable, SlotWritable, SomeBlocks, BlockWritable, FewFrom, all_callbacks, ClassWritable, IsWritable}
-use Rattle.flow_class_text_laws.proofs.Spelled.{sign_spelled, said_spelled, number_spelled, both_are, said_params, said_classes, said_class, said_returns, said_slot, said_local, said_group}
+use Rattle.flow_class_text_laws.proofs.Spelled.{AreTokens, sign_spelled, said_spelled, number_spelled, both_are, said_params, said_classes, said_class, said_returns, said_slot, said_local, said_group, are_spelled, are_kept}
 use Rattle.flow_class_text_laws.proofs.Written.{p, block_written, callback_written}
 
 next_few : {A : Type 0} (n : ℕ) (xs : List A) → FewFrom (n + 1) xs → FewFrom (suc n) xs
@@ -97,24 +97,50 @@ class_written c h =
       );
     })
 
-each : {A : Type 0} (rule : List Marked → A → Type 0) (xs : List A) → AllByRecursion (λ x. Derived (λ ts. rule ts x)) xs → Derived (λ ts. EachRule rule ts xs)
-each rule [] h = record { tokens = []; rule = rules.none; are = tt }
-each rule (x ∷ xs) h =
-    let rest = each rule xs h.1 in
-    record { tokens = h.0.tokens ++ rest.tokens; rule = rules.next h.0.tokens rest.tokens h.0.rule rest.rule refl; are = both_are h.0.tokens rest.tokens h.0.are rest.are }
+-- records before functions, each in its order
+functions_written : (fs : List RoutineTree) → AllByRecursion (λ f. Derived (λ ts. rules.FunctionRule ts f)) fs → Derived (λ ts. rules.HeadsRule ts [] fs)
+functions_written [] h = record { tokens = []; rule = rules.no_heads; are = tt }
+functions_written (f ∷ fs) h =
+    let rest = functions_written fs h.1 in
+    record {
+      tokens = h.0.tokens ++ rest.tokens;
+      rule = rules.more_functions h.0.tokens rest.tokens h.0.rule rest.rule refl;
+      are = both_are h.0.tokens rest.tokens h.0.are rest.are;
+    }
 
-all_classes : (cs : List ClassTree) → AllByRecursion ClassWritable cs → AllByRecursion (λ c. Derived (λ ts. ClassRule ts c)) cs
-all_classes [] h = tt
-all_classes (c ∷ cs) h = (class_written c h.0, all_classes cs h.1)
+heads_written : (rs : List RecordTree) (fs : List RoutineTree) → AllByRecursion (λ r. Derived (λ ts. rules.RecordRule ts r)) rs
+    → AllByRecursion (λ f. Derived (λ ts. rules.FunctionRule ts f)) fs → Derived (λ ts. rules.HeadsRule ts rs fs)
+heads_written [] fs h g = functions_written fs g
+heads_written (r ∷ rs) fs h g =
+    let rest = heads_written rs fs h.1 g in
+    record {
+      tokens = h.0.tokens ++ rest.tokens;
+      rule = rules.more_records h.0.tokens rest.tokens h.0.rule rest.rule refl;
+      are = both_are h.0.tokens rest.tokens h.0.are rest.are;
+    }
+
+classes_written : (cs : List ClassTree) → AllByRecursion ClassWritable cs → Derived (λ ts. ClassesRule ts cs)
+classes_written [] h = record { tokens = []; rule = rules.no_classes; are = tt }
+classes_written (c ∷ cs) h =
+    let first = class_written c h.0 in
+    let rest = classes_written cs h.1 in
+    record {
+      tokens = first.tokens ++ rest.tokens;
+      rule = rules.more_classes first.tokens rest.tokens first.rule rest.rule refl;
+      are = both_are first.tokens rest.tokens first.are rest.are;
+    }
 
 pub text_written : (raw : RawTree) → IsWritable raw → IsWritten raw
 text_written raw h =
-    let records = each rules.RecordRule raw.records h.records in
-    let functions = each rules.FunctionRule raw.functions h.functions in
-    let classes = each ClassRule raw.classes (all_classes raw.classes h.classes) in
+    let heads = heads_written raw.records raw.functions h.records h.functions in
+    let classes = classes_written raw.classes h.classes in
     let one : IsNumber 1 = omega arith in
+    let tokens = rules.said (codes "classes") p ∷ rules.number_at 1 p ∷ (heads.tokens ++ classes.tokens) in
+    let are : AreTokens tokens =
+    ((said_spelled (codes "classes") said_classes, tt), ((number_spelled 1 one, tt), both_are heads.tokens _ heads.are classes.are)) in
     record {
-      tokens = _;
-      rule = rules.text p p records.tokens functions.tokens classes.tokens records.rule functions.rule classes.rule refl;
-      are = ((said_spelled (codes "classes") said_classes, tt), ((number_spelled 1 one, tt), both_are records.tokens _ records.are (both_are functions.tokens _ functions.are classes.are)));
+      tokens = tokens;
+      rule = rules.text p p heads.tokens classes.tokens heads.rule classes.rule refl;
+      spelled = are_spelled tokens are;
+      keeps = are_kept tokens are;
     }

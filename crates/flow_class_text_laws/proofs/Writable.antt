@@ -12,7 +12,8 @@ use Rattle.flow_tree.specs.GrammarToken.{Marked}
 use Rattle.flow_tree.specs.Grammar.{TypeRule, ExprRule, ArgsRule}
 use Rattle.flow_class.specs.declared.class.Slotted.{Slotted}
 use Rattle.flow_class.specs.Classes.{CatcherTree, InstrTree, SetInstr, EffectInstr, NewInstr, ActInstr, DropInstr, LastTree, GotoLast, PassLast, TestLast, ChooseLast, ReturnLast, ThrowLast, BlockTree, CallbackTree, ClassTree, RawTree}
-use Rattle.flow_classprint.specs.ClassGrammar.{IsNumber, IsPlace, AreFree, AllAreFree, VarPathRule, CalleeRule, RecordRule, FunctionRule, IsSpelled, AreTokens}
+use Rattle.flow_classprint.specs.ClassGrammar.{IsNumber, IsPlace, AreFree, AllAreFree, VarPathRule, CalleeRule, RecordRule, FunctionRule, IsSpelled}
+use Rattle.flow_class_text_laws.proofs.Spelled.{AreTokens}
 
 -- some tokens that can be spelled are derived so
 pub record Derived (R : List Marked → Type 0) : Type 0 where

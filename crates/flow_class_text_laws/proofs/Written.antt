@@ -10,7 +10,7 @@ use Rattle.flow_class.specs.declared.class.Slotted.{Slotted}
 use Rattle.flow_class.specs.declared.class.Slotted.TheVariants.{Local}
 use Rattle.flow_class.specs.Classes.{CatcherTree, InstrTree, SetInstr, EffectInstr, NewInstr, ActInstr, DropInstr, LastTree, GotoLast, PassLast, TestLast, ChooseLast, ReturnLast, ThrowLast, BlockTree, CallbackTree}
 use Rattle.flow_classprint.specs.ClassGrammar as rules
-use Rattle.flow_classprint.specs.ClassGrammar.{IsNumber, IsPlace, AreTokens, WholeRule, LocalsRule, MaybeLocalsRule, ErrorRule, CatchRule, AssignRule, InstrRule, InstrsRule, LastRule, BlockRule, IntoRule, CallbackRule}
+use Rattle.flow_classprint.specs.ClassGrammar.{IsNumber, IsPlace, WholeRule, LocalsRule, MaybeLocalsRule, ErrorRule, CatchRule, AssignRule, InstrRule, InstrsRule, LastRule, BlockRule, IntoRule, CallbackRule}
 use Rattle.flow_class_text_laws.proofs.Writable.{Derived, ExprWritable, AreNumbers, InstrWritable, LastWritable, IsMaybeNumber, IsMaybePlace, CatchWritable, BlockWritable, CallbackWritable}
 use Rattle.flow_class_text_laws.proofs.Spelled.{sign_spelled, word_spelled, said_spelled, number_spelled, place_spelled, both_are, Said, said_set, said_do, said_new, said_act, said_drop, said_goto, said_pass, said_test, said_block, said_callback, said_into, said_error}
 

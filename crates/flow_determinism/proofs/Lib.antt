@@ -3,3 +3,5 @@ pub mod Grouped
 pub mod Paths
 pub mod Whole
 pub mod Written
+pub mod Referred
+pub mod Ended

@@ -1,12 +1,18 @@
 -- Sound programs and their classes have one trace in each world in range.
 use Rattle.std.specs.Prelude.{ℕ, List}
+use Rattle.std.specs.List.{AllByRecursion}
 use Rattle.flow_tree.specs.declared.decl.Program.{Program}
 use Rattle.flow_tree.specs.DeclView.{program_of}
 use Rattle.flow_worldfile.specs.Worlds as file
 use Rattle.flow_class.specs.Classes.{RawTree}
 use Rattle.flow_lower.specs.Compiled.{compiled}
 use Rattle.flow_front.specs.Verdict.{IsSound}
-use Rattle.flow_meaning.specs.Runs.{SourceTrace, ClassTrace}
+use Rattle.flow_meaning.specs.Boundaries.{ReferredIn}
+use Rattle.flow_meaning.specs.Items.{Actor}
+use Rattle.flow_meaning.specs.Runs.{SourceStates, SourceTrace, ClassTrace}
+use Rattle.flow_meaning.specs.Source.{source}
+use Rattle.flow_meaning.specs.World.{World}
+use Rattle.flow_invariants.specs.Ended.{UnreferredEnd}
 use Rattle.flow_invariants.specs.Fitting.Laws.{AreValid, OneTrace}
 use Rattle.flow_invariants.specs.Unmarked.{AreWhole, StatesRest, StepsKeep}
 
@@ -39,3 +45,19 @@ ProgramsKeep = (text : List ℕ) (program : Program) → IsSound text program �
 
 abbrev pub ProgramsRest : Type 0
 ProgramsRest = (text : List ℕ) (program : Program) → IsSound text program → StatesRest (classes_of program)
+
+-- At each boundary of a run of the text no unfinished actor is marked as cancelled, and a future refers to its
+-- result, by what the actors' own variables hold.
+abbrev pub SourcesReferred : Type 0
+SourcesReferred =
+    (text : List ℕ) (program : Program) (w : file.World) (states : List (World Actor)) → IsSound text program
+    → file.IsInRange w → SourceStates (program_of program) w states
+    → AllByRecursion (ReferredIn (source (program_of program))) states
+
+-- In each event of such a run, unless it is spent, an actor to whose result no future refers any more has ended at
+-- the end of the event.
+abbrev pub SourcesEnd : Type 0
+SourcesEnd =
+    (text : List ℕ) (program : Program) (w : file.World) (states : List (World Actor)) → IsSound text program
+    → file.IsInRange w → SourceStates (program_of program) w states
+    → AllByRecursion (UnreferredEnd (source (program_of program))) states

@@ -1,6 +1,6 @@
 // Laws of the runs of sound programs.
 
-ghost use Rattle.flow_determinism.specs.Laws.{CompilesWritten, ClassesRun, SourcesRun, CompilesWhole, ProgramsKeep, ProgramsRest};
+ghost use Rattle.flow_determinism.specs.Laws.{CompilesWritten, ClassesRun, SourcesRun, CompilesWhole, ProgramsKeep, ProgramsRest, SourcesReferred, SourcesEnd};
 
 use flow_invariants::laws::unmarked::boundaries_have_no_marked_actor;
 use flow_compile_laws::laws::traces::compile_preserves_traces;
@@ -35,3 +35,15 @@ pub fn compiled_boundaries_have_no_marked_actor()
     compiled_classes_are_well_formed();
     boundaries_have_no_marked_actor();
 }
+
+/// At each boundary of a run of such a program, by its text, no unfinished actor is marked as cancelled, and a future
+/// refers to the result of each, by what the variables of its actors hold.
+pub fn actors_at_boundaries_are_referred()
+    ensures { SourcesReferred }
+{}
+
+/// In each event of such a run, unless it is spent: an actor whose last future goes within the event, so that between two
+/// steps no future refers to its result, has ended at the end of the event.
+pub fn unreferred_actors_of_programs_end()
+    ensures { SourcesEnd }
+{}

@@ -75,7 +75,7 @@ module _ {A : Type 0} (puts : A → Line → Result (Unit {0}) OutFault → A �
     brings_well stuck never n b is none off =
         bringing_well host shows (wrote puts) anything code at.machine.processes r stuck never n before b
         (brought_well host shows (wrote puts) anything code at.machine.processes r program host_steady (all_bursts_sure host shows (wrote puts) anything code at.machine.processes r) m.time n before b
-        (done_in r turns p.0 d x).proc o is none ready.kept around ready.clock ready.outside.time ready.shows.processes_are) off
+        (done_in r turns p.0 d x).proc o is none ready.kept (record { shown = around; clock = ready.clock; time = ready.outside.time; among = ready.shows.processes_are })) off
 
   -- where a process rests nothing is to be stored
   rests_none : Quiescent r at.machine.process x.proc → NoPromiseStored start.heap
@@ -99,7 +99,13 @@ module _ {A : Type 0} (puts : A → Line → Result (Unit {0}) OutFault → A �
       subst (λ n. UnlessStopped (booted_by n).core.halted (ProcessInvariant r (booted_by n))) (sym ready.shows.me)
       (subst (λ (q : Proc Frame). UnlessStopped q.core.halted (ProcessInvariant r q)) (sym same) ready.kept) in
       boot_well host shows (wrote puts) anything code at.machine.processes r program host_steady m.time turns me at.machine.process x.proc o before b
-      ready.shows.rests.resting (rests_none ready.shows.rests) ready.held ready.may kept (record { outside = ready.outside; active = ready.active; ports = ready.shows.ports }) ready.clock ready.outside.time ready.shows.processes_are off
+      (record { resting = ready.shows.rests.resting; kept = ready.held; no_main = ready.may; booted = kept }) (rests_none ready.shows.rests)
+      (record {
+        shown = record { outside = ready.outside; active = ready.active; ports = ready.shows.ports };
+        clock = ready.clock;
+        time = ready.outside.time;
+        among = ready.shows.processes_are;
+      }) off
 
   gets_stuck_well : (d : EventAction) → Ready r turns p d x o at m → MayHear d x.proc → (b : Inside A) → ActionStuck host shows (wrote puts) anything code d at.machine start before b → ⊥
   gets_stuck_well Boots ready hear b off = boots_well ready b off

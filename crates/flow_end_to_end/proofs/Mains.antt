@@ -93,7 +93,7 @@ main_well r m p now turns code me program rest kept none stuck = by_stuck stuck
 
 module _ {A W : Type 0} (serves : Host W) (shows : A → Numbered ℕ → W → Type 0) (wrote broke : A → List Line → A → Type 0) (code : Code) (processes : ℕ) (r : RawTree) where
   pub boot_well : law.BootNeverStuck serves shows wrote broke code processes r
-  boot_well program steady now turns me m p w a b rest stored held none kept world clock time count breaks = by_fault Stuck b refl breaks
+  boot_well program steady now turns me m p w a b may stored around breaks = by_fault Stuck b refl breaks
     where
       start : Process
       start = begun now turns m
@@ -103,7 +103,7 @@ module _ {A W : Type 0} (serves : Host W) (shows : A → Numbered ℕ → W → 
 
       -- the call asks for a line at most
       asks_line : (n : Process) → MainCalled code me start n → ServingStuck n.asked → ⊥
-      asks_line n (main_waits t is) stuck = subst ServingStuck (ap (λ (z : Process). z.asked) is ∙ turned_asked start ∙ rest.shown.asked) stuck
+      asks_line n (main_waits t is) stuck = subst ServingStuck (ap (λ (z : Process). z.asked) is ∙ turned_asked start ∙ may.resting.shown.asked) stuck
       asks_line n (main_starts t st) stuck = subst ServingStuck (ap (λ (z : Process). z.asked) st.starts.told) stuck
 
       by_begin : (n told : Process) (c d : A) → MainCalled code me start n → BreaksOff serves shows wrote broke code processes told c Stuck d
@@ -114,8 +114,9 @@ module _ {A W : Type 0} (serves : Host W) (shows : A → Numbered ℕ → W → 
 
       by_fault : (f : RunFault) (c : A) → f ≡ Stuck → MainBreaksOff serves shows wrote broke code processes me start a f c → ⊥
       by_fault f c e uncalled = cc (e)
-      by_fault f c e (main_stuck stuck) = main_well r m p now turns code me program rest held none stuck
+      by_fault f c e (main_stuck stuck) = main_well r m p now turns code me program may.resting may.kept may.no_main stuck
       by_fault f c e (untold n _ _ calls broken stuck) = asks_line n calls (stuck e)
       by_fault f c e (called n told d _ _ calls served off) =
           by_begin n told d c calls (subst (λ g. BreaksOff serves shows wrote broke code processes told d g c) e off)
-          (main_begins serves shows wrote code processes r program steady now turns me m p w a rest held none kept world clock time count n told d calls served)
+          (main_begins serves shows wrote code processes r program steady now turns me m p w a may.resting may.kept may.no_main may.booted around.shown around.clock around.time around.among n told
+              d calls served)

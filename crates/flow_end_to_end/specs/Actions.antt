@@ -1,5 +1,5 @@
 -- Nothing that an event does to a process in memory goes astray, and nothing that follows of it.
-use Rattle.std.specs.Prelude.{◌≡◌, ℕ, pos, List, Result}
+use Rattle.std.specs.Prelude.{◌≡◌, ℕ, List, Result}
 use Rattle.std.specs.declared.option.Option.TheVariants.{None}
 use Rattle.flow_base.specs.declared.ids.ProcId.{ProcId}
 use Rattle.flow_base.specs.declared.fault.OutFault.{OutFault}
@@ -8,18 +8,15 @@ use Rattle.flow_class.specs.Classes.{RawTree}
 use Rattle.flow_code.specs.declared.program.Code.{Code}
 use Rattle.flow_trace.specs.declared.line.Line.{Line}
 use Rattle.flow_meaning.specs.Burst.{Host}
-use Rattle.flow_meaning.specs.Class.{classes}
-use Rattle.flow_meaning.specs.Deliver.{begin, boot}
+use Rattle.flow_meaning.specs.Deliver.{begin}
 use Rattle.flow_meaning.specs.Frame.{Frame}
 use Rattle.flow_numbered.specs.Numbered.{Numbered}
-use Rattle.flow_meaning.specs.Orderly.{UnlessStopped}
 use Rattle.flow_meaning.specs.Outside.{Outside}
 use Rattle.flow_meaning.specs.Process.{Proc}
 use Rattle.flow_meaning.specs.Step.{on_core}
 use Rattle.flow_meaning.specs.World as meaning
 use Rattle.flow_steps.specs.declared.process.Process.{Process}
 use Rattle.flow_steps.specs.Doing.{begun}
-use Rattle.flow_steps.specs.Evaluating.{program_time}
 use Rattle.flow_steps.specs.StuckTasks.{MainStuck}
 use Rattle.flow_machine.specs.declared.host.RunFault.TheVariants.{Stuck}
 use Rattle.flow_machine.specs.Breaking.{MainBreaksOff}
@@ -33,7 +30,8 @@ use Rattle.flow_machine_progress.specs.Stores.{NoPromiseStored}
 use Rattle.flow_burst_refinement.specs.Invariants.Invariant.{ProcessInvariant}
 use Rattle.flow_burst_refinement.specs.Enabled.Tasking.{IsProgram}
 use Rattle.flow_burst_refinement.specs.Bursts.{HostKeepsTime}
-use Rattle.flow_burst_refinement.specs.Boundaries.Delivering.{Resting}
+use Rattle.flow_burst_refinement.specs.Boundaries.Delivering.{Resting, MayBoot}
+use Rattle.flow_burst_refinement.specs.Programs.Delivering.{HostRepresents}
 use Rattle.flow_world_refinement.specs.Effects.Actions.{Ready}
 
 -- `main` can be called where its result isn't held
@@ -48,12 +46,10 @@ abbrev pub BootNeverStuck : {A W : Type 0} (serves : Host W) (shows : A → Numb
     (wrote broke : A → List Line → A → Type 0) (code : Code) (processes : ℕ) → RawTree → Type 0
 BootNeverStuck {A} {W} serves shows wrote broke code processes r =
     IsProgram r code → HostKeepsTime serves
-    → (now turns : ℕ) (me : ProcId) (m : Process) (p : Proc Frame) (w : W) (a b : A) → Resting r m p
-    → NoPromiseStored m.heap → ProcessInvariant r (on_core (begin turns) p) → p.core.main ≡ None
-    → (let q = boot (classes r) me.0 (on_core (begin turns) p) in UnlessStopped q.core.halted (ProcessInvariant r q))
-    → shows a p.core.ports w → program_time now ≡ pos now → now ≡ (serves.supply w).now
-    → processes ≡ (serves.supply w).processes
-    → MainBreaksOff serves shows wrote broke code processes me (begun now turns m) a Stuck b → ⊥
+    → (now turns : ℕ) (me : ProcId) (memory : Process) (process : Proc Frame) (world : W) (host left : A)
+    → MayBoot r turns me memory process → NoPromiseStored memory.heap
+    → HostRepresents serves shows processes now host process world
+    → MainBreaksOff serves shows wrote broke code processes me (begun now turns memory) host Stuck left → ⊥
 
 -- an element comes to a stream without an end
 abbrev pub MayHear : EventAction → Proc Frame → Type 0

@@ -1,4 +1,1 @@
-pub mod Cells
-pub mod Steps
-pub mod Brought
 pub mod Worlds

@@ -1,21 +1,21 @@
 -- What a process of valid classes keeps within an event of a run, and what holds of it at a boundary.
 use Rattle.std.specs.Prelude.{◌≡◌, List, [], ◌∷◌, slice_get}
 use Rattle.std.specs.List.{AllByRecursion}
-use Rattle.std.specs.declared.option.Option.TheVariants.{None, Some}
+use Rattle.std.specs.declared.option.Option.TheVariants.{Some}
 use Rattle.flow_worldfile.specs.Worlds as file
 use Rattle.flow_class.specs.Classes.{CallbackTree, ClassTree, RawTree}
 use Rattle.flow_meaning.specs.Process.{Proc}
 use Rattle.flow_meaning.specs.Orderly.{UnlessStopped}
-use Rattle.flow_meaning.specs.Burst.{Live, Burst}
-use Rattle.flow_meaning.specs.Outside.{Outside, host}
+use Rattle.flow_meaning.specs.Burst.{Live}
+use Rattle.flow_meaning.specs.Outside.{Outside}
 use Rattle.flow_meaning.specs.Views.{Referred}
-use Rattle.flow_meaning.specs.World.{Place, World, Begun, next_of, begun_by, ending, at_start}
-use Rattle.flow_meaning.specs.Runs.{before, after, ClassStates}
+use Rattle.flow_meaning.specs.World.{Place, World, at_start}
+use Rattle.flow_meaning.specs.Runs.{ClassStates}
 use Rattle.flow_meaning.specs.Frame.{Frame}
 use Rattle.flow_meaning.specs.Class.{classes}
-use Rattle.flow_progress.specs.Ending.{Reaches}
 use Rattle.flow_heap_refinement.specs.Rested.{Owned, Cared, Referenced}
 use Rattle.flow_invariants.specs.Fitting.Laws.{AreValid}
+use Rattle.flow_invariants.specs.Invariant.{Comes}
 
 -- a group that is written has a callback
 abbrev pub HasCallback : List CallbackTree → Type 0
@@ -50,14 +50,6 @@ abbrev pub StatesRest : RawTree → Type 0
 StatesRest r =
     (w : file.World) (states : List (World Frame)) → file.IsInRange w → ClassStates r w states
     → AllByRecursion (WorldRests r) states
-
--- what a run comes to from a world: after some steps of its next event, or of a later one
-pub data Comes (r : RawTree) : World Frame → Live Outside Frame → Type 0 where
-  now : {w : World Frame} {l : Live Outside Frame} (b : Begun Frame) → ending w.out (next_of w.out) ≡ None
-      → begun_by (classes r) w (next_of w.out) ≡ Some b → Reaches (classes r) host (before b) l → Comes r w l
-  later : {w : World Frame} {m : Live Outside Frame} (b : Begun Frame) (l : Live Outside Frame)
-      → ending w.out (next_of w.out) ≡ None → begun_by (classes r) w (next_of w.out) ≡ Some b
-      → Burst (classes r) host (before b) l → l.proc.core.halted ≡ None → Comes r (after w b l) m → Comes r w m
 
 -- Between two steps of an event, unless it is stopped, the process keeps what it has to.
 abbrev pub StepsKeep : RawTree → Type 0

@@ -28,7 +28,7 @@ module _ {A B : Type 0} (e : Engine A) (d : Engine B) (R : Phase → A → B →
   scans_at (x ∷ xs) [] s k h = absurd h
   scans_at (x ∷ xs) (y ∷ ys) s k h = let a = sim.occ s k x.1 y.1 h.1 in let b = scans_at xs ys s k h.2 in omega arith
 
-  scans : (xs : Numbered A) (ys : Numbered B) → AllRelated (R Free) xs ys → scan_of e.occ xs ≡ scan_of d.occ ys
+  pub scans : (xs : Numbered A) (ys : Numbered B) → AllRelated (R Free) xs ys → scan_of e.occ xs ≡ scan_of d.occ ys
   scans xs ys h = fun_ext (λ s. fun_ext (λ k. scans_at xs ys s k h))
 
   -- two steps with the same core and the same request, and, unless the event was stopped, related actors

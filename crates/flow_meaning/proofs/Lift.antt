@@ -45,7 +45,7 @@ load_put w (x ∷ xs) i a b h lt = by_test (nat_eq i x.0) h (λ k. load_put w xs
     by_test false k below = omega (arith, below k)
 
 -- several steps of a process in its world
-data Many {W A : Type 0} (e : Engine A) (h : Host W) : Live W A → Live W A → Type 0 where
+pub data Many {W A : Type 0} (e : Engine A) (h : Host W) : Live W A → Live W A → Type 0 where
   here : {s : Live W A} → Many e h s s
   after : {s t : Live W A} → (r : Live W A) → advance e h s ≡ Some r → Many e h r t → Many e h s t
 
@@ -228,6 +228,13 @@ module _ {W A B : Type 0} (e : Engine A) (d : Engine B) (h : Host W) (R : Phase 
       let one : Steps s.proc.actors u (Some r) = subst (Steps s.proc.actors u) a (does s u k) in
       let all = bursts_follow r t one.0 one.2 b in
       (all.0, many_burst d h (moved s.proc.actors u r one.0 one.1) all.1, all.2)
+
+  -- and several steps of the first are followed by some of the second
+  pub many_follow : (s t : Live W A) (u : Live W B) → Same R s u → Many e h s t → (v : Live W B) × Many d h u v × Same R t v
+  many_follow s t u k here = (u, here, k)
+  many_follow s t u k (after r a more) =
+      let one : Steps s.proc.actors u (Some r) = subst (Steps s.proc.actors u) a (does s u k) in
+      let all = many_follow r t one.0 one.2 more in (all.0, many_many d h (moved s.proc.actors u r one.0 one.1) all.1, all.2)
 
   -- the other way: a burst of n steps of the second
   abbrev BurstIn : ℕ → Live W B → Live W B → Type 0

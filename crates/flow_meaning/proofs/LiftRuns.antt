@@ -164,6 +164,12 @@ module _ {A B : Type 0} (e : Engine A) (d : Engine B) (R : Phase → A → B →
   found b None h = absurd h
   found b (Some k) h = (k, refl, h)
 
+  -- an event begins alike
+  pub begun_follows : (w : World A) (v : World B) (b : Begun A) → SameWorld R w v → begun_by e w (next_of w.out) ≡ Some b
+      → (k : Begun B) × (begun_by d v (next_of v.out) ≡ Some k) × Same R (before b) (before k)
+  begun_follows w v b h g =
+      let f = found b (begun_by d v (next_of v.out)) (subst (λ o. BegunBoth o (begun_by d v (next_of v.out))) g (begun_same w v h)) in (f.0, f.1, (f.2.3, f.2.1))
+
   found_back : (o : Option (Begun A)) (k : Begun B) → BegunBoth o (Some k) → (b : Begun A) × (o ≡ Some b) × SameBegun b k
   found_back None k h = absurd h
   found_back (Some b) k h = (b, refl, h)

@@ -77,7 +77,7 @@ module _ (r : RawTree) (ls : List Line) (m : Process) (p : Proc Frame) (kd : Kin
       (ap (λ o. (free_cell k o (f p.core)).left) there ∙ b p.core)
       (ap (λ o. (free_cell k o (f p.core)).halted) there ∙ g p.core)
 
-  by_case : (l : Lost) (y : Loss) → losing.Matches r p k l y → (y ≡ Broken → is_complete c ≡ false)
+  by_case : (l : Lost) (y : Loss) → losing.LossMatches r p k l y → (y ≡ Broken → is_complete c ≡ false)
       → Matches r ls nothing_in_hand (lost_by kd k l m) (on_core (suffer k y) p)
   by_case (h, after.Nothing) Kept f open_ = shows (same_shown h p f refl refl refl)
   by_case (h, after.Nothing) Freed f open_ = absurd f

@@ -2,6 +2,8 @@
 use Rattle.std.proofs.Common.{◌≡◌, ℕ, ◌+◌, ◌≤◌, ◌<◌, true, false, List, [], ◌∷◌, ◌++◌, length, take, drop, refl, sym, ap, ◌∙◌, subst, arith, inr}
 use Rattle.std.specs.Prelude.{Err}
 use Rattle.std.specs.declared.option.Option.TheVariants.{Some}
+use Rattle.flow_tree.specs.declared.limits.Limits.{Limits}
+use Rattle.flow_tree.specs.declared.limits.TheConstants.{OF_PROGRAMS}
 use Rattle.flow_base.specs.declared.place.Place.{Place}
 use Rattle.flow_tree.specs.declared.token.Token.{Token}
 use Rattle.flow_tree.specs.declared.token.Token.TheVariants as token
@@ -16,7 +18,7 @@ use Rattle.flow_tree.specs.declared.fault.SourceFault.TheVariants.{Refused, Acro
 use Rattle.flow_tree.specs.Decls.{DeclTree, StructDecl, FunctionDecl, ActorDecl}
 use Rattle.flow_tree.specs.Tree.{IntType}
 use Rattle.flow_tree.specs.GrammarAnswer.{place_at}
-use Rattle.flow_tree.specs.GrammarToken.{Declaration, Node, Variable, Marked, begin, Good}
+use Rattle.flow_tree.specs.GrammarToken.{Declaration, Node, Variable, Marked, begin, GoodOf}
 use Rattle.flow_tree.specs.Grammar.{sign_at, word_at, name_at, node_word, TypeRule, int_type}
 use Rattle.flow_tree.specs.GrammarStmt.{StartsAt}
 use Rattle.flow_tree.specs.GrammarDecl.{ParamRule, DeclRule, record_decl, function_decl, actor_decl, DeclsRule}
@@ -43,8 +45,8 @@ next_first : (P : Token → Type 0) (spots : List Spot) (at : ℕ) → AsFirst P
 next_first P spots at h = subst (AsFirst P) (sym (next_is spots at)) h
 
 -- a parameter or a field
-param_opens : (m : ℕ) (ts : List Spot) → AsFirst TypeToken (first_of ts) → Good TypeName m (take 1 ts)
-param_opens m ts b = good_first (TypeRule 1) Any (λ y. Named) Any (λ a b v z s f. tt) m (take 1 ts) (λ y. some_named) (type_opens m 1 (λ l. omega arith) ts b)
+param_opens : (limits : Limits) (m : ℕ) (ts : List Spot) → AsFirst TypeToken (first_of ts) → GoodOf limits TypeName m (take 1 ts)
+param_opens limits m ts b = good_first limits (TypeRule 1) Any (λ y. Named) Any (λ a b v z s f. tt) m (take 1 ts) (λ y. some_named) (type_opens limits m 1 (λ l. omega arith) ts b)
 
 type_name_begins : (w : List Marked) (x : _) → TypeName w x → Starts TypeToken w
 type_name_begins w x r = starts_is TypeToken r.first r.rest r.is (type_starts r.front)
@@ -52,24 +54,24 @@ type_name_begins w x r = starts_is TypeToken r.first r.rest r.is (type_starts r.
 some_type_name : Inhabited TypeName
 some_type_name = some_then (TypeRule 1) (λ y. Named) (some_type 1) (λ y. some_named)
 
-module _ (t : Tokens) (at n : ℕ) (h : at ≤ length t.spots.items) where
+module _ (limits : Limits) (t : Tokens) (at n : ℕ) (h : at ≤ length t.spots.items) where
   -- with a number that is too great
-  pub param_beyond : 1000 < n → at < length t.spots.items → AsFirst TypeToken (token_at t.spots.items at) → Fails (ParamRule n) Any t at (Refused (rule.L 6) (place_at t at))
-  param_beyond g lt b = fails t (param_left t at h n) (Refused (rule.L 6) (place_at t at))
-      (beyond_fails TypeName Any (Variable n) 6 t at (omega arith) (omega arith) lt (λ k. let x = k (omega arith) in omega arith) (λ m l k. absurd (omega arith)) TypeToken type_name_begins some_type_name (λ m l. param_opens m (drop at t.spots.items) (next_first TypeToken t.spots.items at b)))
+  pub param_beyond : limits.variables < n → at < length t.spots.items → AsFirst TypeToken (token_at t.spots.items at) → Fails limits (ParamRule n) Any t at (Refused (rule.L 6) (place_at t at))
+  param_beyond g lt b = fails limits t (param_left limits t at h n) (Refused (rule.L 6) (place_at t at))
+      (beyond_fails limits TypeName Any (Variable n) 6 t at (omega arith) (omega arith) lt (λ k. let x = k (omega arith) in omega arith) (λ m l k. absurd (omega arith)) TypeToken type_name_begins some_type_name (λ m l. param_opens limits m (drop at t.spots.items) (next_first TypeToken t.spots.items at b)))
 
-  pub no_param : (AsFirst TypeToken (token_at t.spots.items at) → ⊥) → Fails (ParamRule n) Any t at (Refused (rule.S 5) (place_at t at))
-  no_param b = none_fails (ParamRule n) Any t at (some_param n) (λ w z x r f l. b (starts_looks TypeToken w z (token_at t.spots.items at) (param_starts r) l))
+  pub no_param : (AsFirst TypeToken (token_at t.spots.items at) → ⊥) → Fails limits (ParamRule n) Any t at (Refused (rule.S 5) (place_at t at))
+  no_param b = none_fails limits (ParamRule n) Any t at (some_param n) (λ w z x r f l. b (starts_looks TypeToken w z (token_at t.spots.items at) (param_starts r) l))
 
-  pub param_fails : n ≤ 1000 → (e : SourceFault) → Fails TypeName Any t at e → Fails (ParamRule n) Any t at e
-  param_fails l e a = fails t (param_left t at h n) e (marks_fails TypeName Any (Variable n) t at (λ m le k. l) e a)
+  pub param_fails : n ≤ limits.variables → (e : SourceFault) → Fails limits TypeName Any t at e → Fails limits (ParamRule n) Any t at e
+  param_fails l e a = fails limits t (param_left limits t at h n) e (marks_fails limits TypeName Any (Variable n) t at (λ m le k. l) e a)
 
 -- a declaration
 some_name : Ident
 some_name = record { name = []; at = nowhere }
 
-struct_good : (m : ℕ) (p : Place) → Good DeclRule m (record { token = token.Word word.Struct; at = p } ∷ [])
-struct_good m p =
+struct_good : (limits : Limits) (m : ℕ) (p : Place) → GoodOf limits DeclRule m (record { token = token.Word word.Struct; at = p } ∷ [])
+struct_good limits m p =
     let x = some_all_fields in
     let xs = x.rule.0.1 in
     let rest = name_at some_name ∷ sign_at sign.OpenCurly nowhere ∷ (xs ++ (sign_at sign.CloseCurly nowhere ∷ sign_at sign.Semicolon nowhere ∷ [])) in
@@ -82,8 +84,8 @@ struct_good m p =
       keeps = (tt, tt);
     }
 
-actor_good : (m : ℕ) (p : Place) → Good DeclRule m (record { token = token.Word word.Actor; at = p } ∷ [])
-actor_good m p =
+actor_good : (limits : Limits) (m : ℕ) (p : Place) → GoodOf limits DeclRule m (record { token = token.Word word.Actor; at = p } ∷ [])
+actor_good limits m p =
     let r = some_routine true in
     let of = node_word 2 word.Int nowhere ∷ [] in
     record {
@@ -99,9 +101,9 @@ starts_at : (P : Token → Type 0) (w : List Marked) → Starts P w → (p : Pla
 starts_at P [] h = absurd h
 starts_at P (x ∷ w) h = (x.spot.at, refl)
 
-function_good : (m : ℕ) (ts : List Spot) → Good (TypeRule 1) m ts → Good DeclRule m ts
-function_good m ts t =
-    let g = good_first (TypeRule 1) Any (λ y. Routine false) Any (λ a b v z s f. tt) m ts (λ y. some_routine false) t in
+function_good : (limits : Limits) (m : ℕ) (ts : List Spot) → GoodOf limits (TypeRule 1) m ts → GoodOf limits DeclRule m ts
+function_good limits m ts t =
+    let g = good_first limits (TypeRule 1) Any (λ y. Routine false) Any (λ a b v z s f. tt) m ts (λ y. some_routine false) t in
     let y = g.tree.0 in
     let r = g.tree.1 in
     let p = starts_at TypeToken (g.read ++ g.rest) (starts_is TypeToken g.rule.first g.rule.rest g.rule.is (type_starts g.rule.front)) in
@@ -114,20 +116,20 @@ function_good m ts t =
       keeps = g.keeps;
     }
 
-decl_with : (m : ℕ) (x : Token) (p : Place) (ts : List Spot) → DeclToken x → Good DeclRule m (take 1 (record { token = x; at = p } ∷ ts))
-decl_with m (token.Word word.Struct) p ts b = struct_good m p
-decl_with m (token.Word word.Actor) p ts b = actor_good m p
-decl_with m x p ts b = function_good m _ (type_opens m 1 (λ l. omega arith) (record { token = x; at = p } ∷ ts) b)
+decl_with : (limits : Limits) (m : ℕ) (x : Token) (p : Place) (ts : List Spot) → DeclToken x → GoodOf limits DeclRule m (take 1 (record { token = x; at = p } ∷ ts))
+decl_with limits m (token.Word word.Struct) p ts b = struct_good limits m p
+decl_with limits m (token.Word word.Actor) p ts b = actor_good limits m p
+decl_with limits m x p ts b = function_good limits m _ (type_opens limits m 1 (λ l. omega arith) (record { token = x; at = p } ∷ ts) b)
 
-decl_opens : (m : ℕ) (ts : List Spot) → AsFirst DeclToken (first_of ts) → Good DeclRule m (take 1 ts)
-decl_opens m [] b = absurd b
-decl_opens m (x ∷ ts) b = decl_with m x.token x.at ts b
+decl_opens : (limits : Limits) (m : ℕ) (ts : List Spot) → AsFirst DeclToken (first_of ts) → GoodOf limits DeclRule m (take 1 ts)
+decl_opens limits m [] b = absurd b
+decl_opens limits m (x ∷ ts) b = decl_with limits m x.token x.at ts b
 
-some_decl : Inhabited DeclRule
-some_decl = let g = actor_good 2 nowhere in record { marked = g.read ++ g.rest; tree = g.tree; rule = g.rule }
+some_decl : (limits : Limits) → Inhabited DeclRule
+some_decl limits = let g = actor_good limits 2 nowhere in record { marked = g.read ++ g.rest; tree = g.tree; rule = g.rule }
 
-node_opens : (m : ℕ) (ts : List Spot) → AsFirst DeclToken (first_of ts) → Good (Marks (Node 1) DeclRule) m (take 1 ts)
-node_opens m ts b = good_marks DeclRule Any (Node 1) m (take 1 ts) (λ l. omega arith) (decl_opens m ts b)
+node_opens : (limits : Limits) (m : ℕ) (ts : List Spot) → AsFirst DeclToken (first_of ts) → GoodOf limits (Marks (Node 1) DeclRule) m (take 1 ts)
+node_opens limits m ts b = good_marks limits DeclRule Any (Node 1) m (take 1 ts) (λ l. omega arith) (decl_opens limits m ts b)
 
 node_begins : (w : List Marked) (x : DeclTree) → Marks (Node 1) DeclRule w x → Starts DeclToken w
 node_begins w x r = starts_marks r.0 (decl_starts r.1) r.2
@@ -137,25 +139,25 @@ node_begins w x r = starts_marks r.0 (decl_starts r.1) r.2
     starts_marks (x ∷ xs) h e = subst (Starts DeclToken) (sym e) h
 
 -- what `parse` answers where declarations are refused
-program_refused : (t : Tokens) → length t.spots.items ≤ 200000 → (f : SourceFault) → Fails (DeclsRule 1) AtEnd t 0 f → ParseAnswer t (Err f)
+program_refused : (t : Tokens) → length t.spots.items ≤ 200000 → (f : SourceFault) → Fails OF_PROGRAMS (DeclsRule 1) AtEnd t 0 f → ParseAnswer t (Err f)
 program_refused t few (Refused (rule.S n) p) a = let s = a.1 in let e : 0 + s.number ≡ s.number = omega arith in (a.0, program_fails t 2 s.number p (omega arith) few (s.place ∙ ap (place_at t) e) s.stops)
 program_refused t few (Refused (rule.L n) p) a = let s = a.2 in let e : 0 + s.number ≡ s.number = omega arith in inr (program_limit t n s.number p a.0 a.1 few (s.place ∙ ap (place_at t) e) s.stops)
 program_refused t few (Refused (rule.K n) p) a = a
 program_refused t few (AcrossWait p q r) a = a
 program_refused t few OutOfMemory a = tt
 
-module _ (t : Tokens) (few : length t.spots.items ≤ 200000) {at n : ℕ} {g : List DeclTree → List DeclTree} (l : Leaves (DeclsRule 1) AtEnd (DeclsRule n) AtEnd g t.spots.items 0 at) (x : Token) (e : token_at t.spots.items at ≡ Some x) where
+module _ (t : Tokens) (few : length t.spots.items ≤ 200000) {at n : ℕ} {g : List DeclTree → List DeclTree} (l : Leaves OF_PROGRAMS (DeclsRule 1) AtEnd (DeclsRule n) AtEnd g t.spots.items 0 at) (x : Token) (e : token_at t.spots.items at ≡ Some x) where
   -- one declaration more than there may be
   pub decl_beyond : 4096 < n → at < length t.spots.items → AsFirst DeclToken (token_at t.spots.items at) → ParseAnswer t (Err (Refused (rule.L 3) (place_at t at)))
-  decl_beyond k lt b = program_refused t few (Refused (rule.L 3) (place_at t at)) (first_fails t (decls_link n) (decl_left t.spots.items x e l) (Refused (rule.L 3) (place_at t at))
-      (beyond_fails (Marks (Node 1) DeclRule) Any (Declaration n) 3 t at (omega arith) (omega arith) lt (λ h. let y = h (omega arith) in omega arith) (λ m i h. absurd (omega arith)) DeclToken node_begins (some_marks DeclRule (Node 1) some_decl) (λ m i. node_opens m (drop at t.spots.items) (next_first DeclToken t.spots.items at b))))
+  decl_beyond k lt b = program_refused t few (Refused (rule.L 3) (place_at t at)) (first_fails OF_PROGRAMS t (decls_link n) (decl_left OF_PROGRAMS t.spots.items x e l) (Refused (rule.L 3) (place_at t at))
+      (beyond_fails OF_PROGRAMS (Marks (Node 1) DeclRule) Any (Declaration n) 3 t at (omega arith) (omega arith) lt (λ h. let y = h (omega arith) in omega arith) (λ m i h. absurd (omega arith)) DeclToken node_begins (some_marks DeclRule (Node 1) (some_decl OF_PROGRAMS)) (λ m i. node_opens OF_PROGRAMS m (drop at t.spots.items) (next_first DeclToken t.spots.items at b))))
 
   -- no declaration begins here
   pub no_decl : (AsFirst DeclToken (token_at t.spots.items at) → ⊥) → ParseAnswer t (Err (Refused (rule.S 5) (place_at t at)))
-  no_decl b = program_refused t few (Refused (rule.S 5) (place_at t at)) (first_fails t (decls_link n) (decl_left t.spots.items x e l) (Refused (rule.S 5) (place_at t at))
-      (none_fails (DeclMarks n) Any t at (some_marks (Marks (Node 1) DeclRule) (Declaration n) (some_marks DeclRule (Node 1) some_decl)) (λ w z y r f k. b (starts_looks DeclToken w z (token_at t.spots.items at) (decl_marks_starts r) k))))
+  no_decl b = program_refused t few (Refused (rule.S 5) (place_at t at)) (first_fails OF_PROGRAMS t (decls_link n) (decl_left OF_PROGRAMS t.spots.items x e l) (Refused (rule.S 5) (place_at t at))
+      (none_fails OF_PROGRAMS (DeclMarks n) Any t at (some_marks (Marks (Node 1) DeclRule) (Declaration n) (some_marks DeclRule (Node 1) (some_decl OF_PROGRAMS))) (λ w z y r f k. b (starts_looks DeclToken w z (token_at t.spots.items at) (decl_marks_starts r) k))))
 
   -- the declaration that begins here is refused
-  pub decl_fails : n ≤ 4096 → (f : SourceFault) → Fails DeclRule Any t at f → ParseAnswer t (Err f)
-  decl_fails k f a = program_refused t few f (first_fails t (decls_link n) (decl_left t.spots.items x e l) f
-      (marks_fails (Marks (Node 1) DeclRule) Any (Declaration n) t at (λ m le h. k) f (marks_fails DeclRule Any (Node 1) t at (λ m le h. omega arith) f a)))
+  pub decl_fails : n ≤ 4096 → (f : SourceFault) → Fails OF_PROGRAMS DeclRule Any t at f → ParseAnswer t (Err f)
+  decl_fails k f a = program_refused t few f (first_fails OF_PROGRAMS t (decls_link n) (decl_left OF_PROGRAMS t.spots.items x e l) f
+      (marks_fails OF_PROGRAMS (Marks (Node 1) DeclRule) Any (Declaration n) t at (λ m le h. k) f (marks_fails OF_PROGRAMS DeclRule Any (Node 1) t at (λ m le h. omega arith) f a)))

@@ -43,3 +43,4 @@ pub mod TypeReaders
 pub mod ReaderStops
 pub mod ProgramFails
 pub mod OneAnswer
+pub mod Nodes

@@ -1,6 +1,7 @@
 -- From the reading of declarations to what `parse` answers.
 use Rattle.std.proofs.Common.{◌≡◌, ℕ, zero, suc, ◌≤◌, List, [], ◌∷◌, ◌++◌, length, take, drop, refl, sym, ap, ◌∙◌, subst, arith, append_assoc}
 use Rattle.std.proofs.lemmas.List.{append-nil, take-append-drop}
+use Rattle.flow_tree.specs.declared.limits.TheConstants.{OF_PROGRAMS}
 use Rattle.flow_base.specs.declared.place.Place.{Place}
 use Rattle.flow_tree.specs.declared.token.Tokens.{Tokens}
 use Rattle.flow_tree.specs.declared.token.Spot.{Spot}
@@ -13,16 +14,16 @@ use Rattle.flow_parse.specs.Failing.{Sees, Never, Stops}
 use Rattle.flow_parse.specs.ParseAnswer.{GoodTo, begun, whole, FailsBy, FailsLimit}
 use Rattle.flow_parse.proofs.Spots.{spots_take}
 
-sees_begun : (n : ℕ) (xs ys : List Marked) → Keeps n xs → Sees n (length (spots_of xs)) (spots_of xs ++ spots_of ys) (xs ++ ys)
+sees_begun : (n : ℕ) (xs ys : List Marked) → Keeps n xs → Sees OF_PROGRAMS n (length (spots_of xs)) (spots_of xs ++ spots_of ys) (xs ++ ys)
 sees_begun n [] ys k = tt
 sees_begun n (x ∷ xs) ys k = (refl, k.0, sees_begun n xs ys k.1)
 
-sees_whole : (n j : ℕ) (xs : List Marked) → Keeps n xs → Sees n j (spots_of xs) xs
+sees_whole : (n j : ℕ) (xs : List Marked) → Keeps n xs → Sees OF_PROGRAMS n j (spots_of xs) xs
 sees_whole n zero xs k = tt
 sees_whole n (suc j) [] k = tt
 sees_whole n (suc j) (x ∷ xs) k = (refl, k.0, sees_whole n j xs k.1)
 
-sees_more : (n j : ℕ) (ts us : List Spot) (m : List Marked) → j ≤ length ts → take j ts ≡ take j us → Sees n j us m → Sees n j ts m
+sees_more : (n j : ℕ) (ts us : List Spot) (m : List Marked) → j ≤ length ts → take j ts ≡ take j us → Sees OF_PROGRAMS n j us m → Sees OF_PROGRAMS n j ts m
 sees_more n zero ts us m h e s = tt
 sees_more n (suc j) [] us m h e s = absurd (omega arith)
 sees_more n (suc j) (t ∷ ts) [] m h e s = absurd (nothing (t ∷ take j ts) e)
@@ -53,17 +54,17 @@ decls_of : {end : Place} {w : List Marked} {p : ProgramTree} → ProgramRule end
 decls_of (program {xs = xs} r) = (xs, r)
 
 -- declarations of which none begin so are no program that does
-pub never_good : (t : Tokens) (n k : ℕ) → k ≤ length t.spots.items → Never (DeclsRule 1) AtEnd n (suc k) t.spots.items → GoodTo t n k → ⊥
+pub never_good : (t : Tokens) (n k : ℕ) → k ≤ length t.spots.items → Never OF_PROGRAMS (DeclsRule 1) AtEnd n (suc k) t.spots.items → GoodTo t n k → ⊥
 never_good t n k h f (begun l g) =
     let ts = t.spots.items in
     let d = decls_of g.rule in
     let e : length (spots_of g.read) ≡ suc k = ap length g.is ∙ length_take (suc k) ts (omega arith) in
     let same : take (suc k) ts ≡ take (suc k) (spots_of g.read ++ spots_of g.rest) = sym g.is ∙ sym (take_all (spots_of g.read) (spots_of g.rest)) ∙ ap (λ n. take n (spots_of g.read ++ spots_of g.rest)) e in
-    let s : Sees n (suc k) ts (g.read ++ g.rest) = sees_more n (suc k) ts (spots_of g.read ++ spots_of g.rest) (g.read ++ g.rest) (omega arith) same (subst (λ j. Sees n j (spots_of g.read ++ spots_of g.rest) (g.read ++ g.rest)) e (sees_begun n g.read g.rest g.keeps)) in
-    f (g.read ++ g.rest) [] d.0 d.1 refl (subst (Sees n (suc k) ts) (sym (append-nil (g.read ++ g.rest))) s)
+    let s : Sees OF_PROGRAMS n (suc k) ts (g.read ++ g.rest) = sees_more n (suc k) ts (spots_of g.read ++ spots_of g.rest) (g.read ++ g.rest) (omega arith) same (subst (λ j. Sees OF_PROGRAMS n j (spots_of g.read ++ spots_of g.rest) (g.read ++ g.rest)) e (sees_begun n g.read g.rest g.keeps)) in
+    f (g.read ++ g.rest) [] d.0 d.1 refl (subst (Sees OF_PROGRAMS n (suc k) ts) (sym (append-nil (g.read ++ g.rest))) s)
 never_good t n k h f (whole p d) =
     let x = decls_of d.rule in
-    f d.marked [] x.0 x.1 refl (subst (Sees n (suc k) t.spots.items) (sym (append-nil d.marked)) (subst (λ ts. Sees n (suc k) ts d.marked) d.is (sees_whole n (suc k) d.marked d.keeps)))
+    f d.marked [] x.0 x.1 refl (subst (Sees OF_PROGRAMS n (suc k) t.spots.items) (sym (append-nil d.marked)) (subst (λ ts. Sees OF_PROGRAMS n (suc k) ts d.marked) d.is (sees_whole n (suc k) d.marked d.keeps)))
 
 pub good_program : (t : Tokens) (n : ℕ) (ts : List Spot) → Good (DeclsRule 1) n ts → Good (ProgramRule t.end) n ts
 good_program t n ts g = record { read = g.read; rest = g.rest; tree = record { decls = g.tree; end = t.end }; rule = program g.rule; is = g.is; keeps = g.keeps }
@@ -91,7 +92,7 @@ fewer_tokens t n i k h g = record {
 }
 
 -- where declarations stop, `parse` refuses
-abbrev pub program_fails : (t : Tokens) (n k : ℕ) (at : Place) → n ≤ 7 → length t.spots.items ≤ 200000 → at ≡ place_at t k → Stops (DeclsRule 1) AtEnd n t.spots.items k → FailsBy n t at
+abbrev pub program_fails : (t : Tokens) (n k : ℕ) (at : Place) → n ≤ 7 → length t.spots.items ≤ 200000 → at ≡ place_at t k → Stops OF_PROGRAMS (DeclsRule 1) AtEnd n t.spots.items k → FailsBy n t at
 program_fails t n k at le few e s = record {
   few = few;
   number = k;
@@ -101,7 +102,7 @@ program_fails t n k at le few e s = record {
   bad = never_good t n k s.within s.bad;
 }
 
-pub program_limit : (t : Tokens) (n k : ℕ) (at : Place) → 3 ≤ n → n ≤ 7 → length t.spots.items ≤ 200000 → at ≡ place_at t k → Stops (DeclsRule 1) AtEnd n t.spots.items k → FailsLimit n t at
+pub program_limit : (t : Tokens) (n k : ℕ) (at : Place) → 3 ≤ n → n ≤ 7 → length t.spots.items ≤ 200000 → at ≡ place_at t k → Stops OF_PROGRAMS (DeclsRule 1) AtEnd n t.spots.items k → FailsLimit n t at
 program_limit t n k at ge le few e s = record {
   least = ge;
   greatest = le;

@@ -3,6 +3,7 @@
 use Rattle.std.proofs.Common.{◌≡◌, ℕ, suc, ◌≤◌, ◌<◌, Bool, true, false, List, [], ◌∷◌, ◌++◌, length, take, drop, refl, sym, ◌∙◌, subst, arith, append_assoc, inl, inr}
 use Rattle.std.specs.declared.option.Option.{Option}
 use Rattle.std.specs.declared.option.Option.TheVariants.{None, Some}
+use Rattle.flow_tree.specs.declared.limits.Limits.{Limits}
 use Rattle.flow_base.specs.declared.place.Place.{Place}
 use Rattle.flow_tree.specs.declared.fault.Rule.TheVariants as rule
 use Rattle.flow_tree.specs.declared.fault.SourceFault.{SourceFault}
@@ -18,7 +19,7 @@ use Rattle.flow_tree.specs.declared.ty.Ident.{Ident}
 use Rattle.flow_tree.specs.Tree.{IntType}
 use Rattle.flow_tree.specs.Body.{IntoTree, Body, End, NoBranches, IfStmt, WhileStmt, ForStmt, LoopStmt, BreakStmt, ContinueStmt, ReturnStmt, ThrowStmt, TryStmt, DeclareStmt, ModifyStmt, WaitStmt, UpChange}
 use Rattle.flow_tree.specs.GrammarAnswer.{place_at}
-use Rattle.flow_tree.specs.GrammarToken.{Part, Statement, Node, Marked, opens, begin, AllInLimits, Good}
+use Rattle.flow_tree.specs.GrammarToken.{Part, Statement, Node, Marked, opens, begin, AllInLimitsOf, GoodOf}
 use Rattle.flow_tree.specs.Grammar.{sign_at, word_at, name_at, node_word, int_type}
 use Rattle.flow_tree.specs.GrammarStmt.{Counts, StartsAt, one_statement, one_state, state_parts, no_state, some_state, declared, wait, wait_next, plain_wait, PathRule, last_name, more_names, AssignRule, assign, plus, minus, up, down, InitRule, declare, declare_value, change, no_init, no_step, no_expr, if_stmt, while_stmt, for_stmt, loop_stmt, break_stmt, continue_stmt, return_stmt, throw_stmt, try_stmt, choose_stmt, init_stmt, wait_stmt, BodyRule, block_body, one_body, braces, no_stmts, no_whens}
 use Rattle.flow_exprs.proofs.Goes.{nowhere}
@@ -65,24 +66,24 @@ place_of P [] h = absurd h
 place_of P (x ∷ w) h = (x.spot.at, refl)
 
 -- one token with these parts, read of a part
-with_token : {A : Type 0} {R : List Marked → A → Type 0} (m : ℕ) (ps : List Part) (x : Token) (p : Place) (ts : List Spot) (rest : List Marked) (a : A) → AllInLimits m ps → R (opens ps x p ∷ rest) a → Good R m (take 1 (record { token = x; at = p } ∷ ts))
-with_token m ps x p ts rest a k r = record { read = opens ps x p ∷ []; rest = rest; tree = a; rule = r; is = refl; keeps = (k, tt) }
+with_token : (limits : Limits) → {A : Type 0} {R : List Marked → A → Type 0} (m : ℕ) (ps : List Part) (x : Token) (p : Place) (ts : List Spot) (rest : List Marked) (a : A) → AllInLimitsOf limits m ps → R (opens ps x p ∷ rest) a → GoodOf limits R m (take 1 (record { token = x; at = p } ∷ ts))
+with_token limits m ps x p ts rest a k r = record { read = opens ps x p ∷ []; rest = rest; tree = a; rule = r; is = refl; keeps = (k, tt) }
 
-name_with : (m d : ℕ) (n : List ℕ) (p : Place) (ts : List Spot) → Good (Assignment d) m (take 1 (record { token = token.Name n; at = p } ∷ ts))
-name_with m d n p ts =
+name_with : (limits : Limits) (m d : ℕ) (n : List ℕ) (p : Place) (ts : List Spot) → GoodOf limits (Assignment d) m (take 1 (record { token = token.Name n; at = p } ∷ ts))
+name_with limits m d n p ts =
     let x : Ident = record { name = n; at = p } in
-    with_token m [] (token.Name n) p ts (sign_at sign.PlusPlus nowhere ∷ []) (ModifyStmt p (x ∷ []) UpChange End) tt (p, up p nowhere (name_at x ∷ []) (last_name x) refl refl)
+    (with_token limits) m [] (token.Name n) p ts (sign_at sign.PlusPlus nowhere ∷ []) (ModifyStmt p (x ∷ []) UpChange End) tt (p, up p nowhere (name_at x ∷ []) (last_name x) refl refl)
 
-assignment_opens : (m d : ℕ) (ts : List Spot) → AsFirst NameToken (first_of ts) → Good (Assignment d) m (take 1 ts)
-assignment_opens m d [] h = absurd h
-assignment_opens m d (x ∷ ts) h = by_token x.token x.at h
+assignment_opens : (limits : Limits) (m d : ℕ) (ts : List Spot) → AsFirst NameToken (first_of ts) → GoodOf limits (Assignment d) m (take 1 ts)
+assignment_opens limits m d [] h = absurd h
+assignment_opens limits m d (x ∷ ts) h = by_token x.token x.at h
   where
-    by_token : (y : Token) (p : Place) → NameToken y → Good (Assignment d) m (take 1 (record { token = y; at = p } ∷ ts))
-    by_token (token.Name n) p h = name_with m d n p ts
+    by_token : (y : Token) (p : Place) → NameToken y → GoodOf limits (Assignment d) m (take 1 (record { token = y; at = p } ∷ ts))
+    by_token (token.Name n) p h = name_with limits m d n p ts
     by_token _ p h = absurd h
 
-module _ (m : ℕ) (low : m < 5) (actor : Bool) (d : ℕ) (c : Counts) where
-  state_keeps : (a : Bool) → AllInLimits m (state_parts a c)
+module _ (limits : Limits) (m : ℕ) (low : m < 5) (actor : Bool) (d : ℕ) (c : Counts) where
+  state_keeps : (a : Bool) → AllInLimitsOf limits m (state_parts a c)
   state_keeps true = ((λ l. absurd (omega arith)), tt)
   state_keeps false = tt
 
@@ -90,28 +91,28 @@ module _ (m : ℕ) (low : m < 5) (actor : Bool) (d : ℕ) (c : Counts) where
   a_name = record { name = []; at = nowhere }
 
   -- a declaration of a state variable
-  state_with : (p : Place) (ts : List Spot) → Good (Init actor d c) m (take 1 (record { token = token.Word word.State; at = p } ∷ ts))
+  state_with : (p : Place) (ts : List Spot) → GoodOf limits (Init actor d c) m (take 1 (record { token = token.Word word.State; at = p } ∷ ts))
   state_with p ts =
       let o : Out = record { body = DeclareStmt p (record { state = true; ty = IntType; name = a_name }) None End; counts = one_state actor c; ends_if = false } in
-      with_token m (state_parts actor c) (token.Word word.State) p ts (node_word d word.Int nowhere ∷ name_at a_name ∷ []) o (state_keeps actor)
+      (with_token limits) m (state_parts actor c) (token.Word word.State) p ts (node_word d word.Int nowhere ∷ name_at a_name ∷ []) o (state_keeps actor)
       (p, declare p (declared a_name (opens (state_parts actor c) (token.Word word.State) p ∷ []) (node_word d word.Int nowhere ∷ []) (some_state p) (int_type nowhere) refl) refl, refl)
 
   -- a declaration that begins with a type
-  type_init : (ts : List Spot) → AsFirst TypeToken (first_of ts) → Good (Init actor d c) m (take 1 ts)
+  type_init : (ts : List Spot) → AsFirst TypeToken (first_of ts) → GoodOf limits (Init actor d c) m (take 1 ts)
   type_init ts h =
-      let g = type_opens m d (λ l. absurd (omega arith)) ts h in
+      let g = type_opens limits m d (λ l. absurd (omega arith)) ts h in
       let w = g.read ++ (g.rest ++ name_at a_name ∷ []) in
       let e : w ≡ (g.read ++ g.rest) ++ name_at a_name ∷ [] = sym (append_assoc g.read g.rest (name_at a_name ∷ [])) in
       let s = place_of TypeToken w (starts_is TypeToken (g.read ++ g.rest) _ e (type_starts g.rule)) in
       let i : IntoTree = record { state = false; ty = g.tree; name = a_name } in
       record { read = g.read; rest = g.rest ++ name_at a_name ∷ []; tree = record { body = DeclareStmt s.0 i None End; counts = c; ends_if = false }; rule = (s.0, declare s.0 (declared a_name [] (g.read ++ g.rest) no_state g.rule e) s.1, refl); is = g.is; keeps = g.keeps }
 
-  init_name : (n : List ℕ) (p : Place) (ts : List Spot) → Good (Init actor d c) m (take 1 (record { token = token.Name n; at = p } ∷ ts))
+  init_name : (n : List ℕ) (p : Place) (ts : List Spot) → GoodOf limits (Init actor d c) m (take 1 (record { token = token.Name n; at = p } ∷ ts))
   init_name n p ts =
-      let g = name_with m d n p ts in
+      let g = name_with limits m d n p ts in
       record { read = g.read; rest = g.rest; tree = record { body = g.tree; counts = c; ends_if = false }; rule = (g.rule.0, change g.rule.0 g.rule.1, refl); is = g.is; keeps = g.keeps }
 
-  init_word : (k : Word) (p : Place) (ts : List Spot) → IntoWord k → Good (Init actor d c) m (take 1 (record { token = token.Word k; at = p } ∷ ts))
+  init_word : (k : Word) (p : Place) (ts : List Spot) → IntoWord k → GoodOf limits (Init actor d c) m (take 1 (record { token = token.Word k; at = p } ∷ ts))
   init_word word.State p ts h = state_with p ts
   init_word word.Int p ts h = type_init (record { token = token.Word word.Int; at = p } ∷ ts) tt
   init_word word.Bool p ts h = type_init (record { token = token.Word word.Bool; at = p } ∷ ts) tt
@@ -124,17 +125,17 @@ module _ (m : ℕ) (low : m < 5) (actor : Bool) (d : ℕ) (c : Counts) where
   init_word word.PromiseStream p ts h = type_init (record { token = token.Word word.PromiseStream; at = p } ∷ ts) tt
   init_word _ p ts h = absurd h
 
-  init_with : (x : Token) (p : Place) (ts : List Spot) → IntoToken x → Good (Init actor d c) m (take 1 (record { token = x; at = p } ∷ ts))
+  init_with : (x : Token) (p : Place) (ts : List Spot) → IntoToken x → GoodOf limits (Init actor d c) m (take 1 (record { token = x; at = p } ∷ ts))
   init_with (token.Name n) p ts h = init_name n p ts
   init_with (token.Word k) p ts h = init_word k p ts h
   init_with _ p ts h = absurd h
 
-  init_opens : (ts : List Spot) → AsFirst IntoToken (first_of ts) → Good (Init actor d c) m (take 1 ts)
+  init_opens : (ts : List Spot) → AsFirst IntoToken (first_of ts) → GoodOf limits (Init actor d c) m (take 1 ts)
   init_opens [] h = absurd h
   init_opens (x ∷ ts) h = init_with x.token x.at ts h
 
   -- a declaration or a change, with its semicolon
-  init_plain : (ts : List Spot) → Good (Init actor d c) m ts → Good (Plain actor d c) m ts
+  init_plain : (ts : List Spot) → GoodOf limits (Init actor d c) m ts → GoodOf limits (Plain actor d c) m ts
   init_plain ts g = record {
     read = g.read;
     rest = g.rest ++ sign_at sign.Semicolon nowhere ∷ [];
@@ -145,10 +146,10 @@ module _ (m : ℕ) (low : m < 5) (actor : Bool) (d : ℕ) (c : Counts) where
   }
 
   -- a statement that begins with a word of its own
-  word_with : (k : Word) (p : Place) (ts : List Spot) (rest : List Marked) (a : Out) → Plain actor d c (word_at k p ∷ rest) a → Good (Plain actor d c) m (take 1 (record { token = token.Word k; at = p } ∷ ts))
-  word_with k p ts rest a r = with_token m [] (token.Word k) p ts rest a tt r
+  word_with : (k : Word) (p : Place) (ts : List Spot) (rest : List Marked) (a : Out) → Plain actor d c (word_at k p ∷ rest) a → GoodOf limits (Plain actor d c) m (take 1 (record { token = token.Word k; at = p } ∷ ts))
+  word_with k p ts rest a r = with_token limits m [] (token.Word k) p ts rest a tt r
 
-  plain_word : (k : Word) (p : Place) (ts : List Spot) → StmtWord k → Good (Plain actor d c) m (take 1 (record { token = token.Word k; at = p } ∷ ts))
+  plain_word : (k : Word) (p : Place) (ts : List Spot) → StmtWord k → GoodOf limits (Plain actor d c) m (take 1 (record { token = token.Word k; at = p } ∷ ts))
   plain_word word.If p ts h =
       let e = some_expr (suc d) in
       let b = some_body actor (suc d) c in
@@ -193,24 +194,24 @@ module _ (m : ℕ) (low : m < 5) (actor : Bool) (d : ℕ) (c : Counts) where
   plain_word word.PromiseStream p ts h = init_plain _ (init_word word.PromiseStream p ts tt)
   plain_word _ p ts h = absurd h
 
-  plain_with : (x : Token) (p : Place) (ts : List Spot) → PlainToken x → Good (Plain actor d c) m (take 1 (record { token = x; at = p } ∷ ts))
+  plain_with : (x : Token) (p : Place) (ts : List Spot) → PlainToken x → GoodOf limits (Plain actor d c) m (take 1 (record { token = x; at = p } ∷ ts))
   plain_with (token.Name n) p ts h = init_plain _ (init_name n p ts)
   plain_with (token.Word k) p ts h = plain_word k p ts h
   plain_with _ p ts h = absurd h
 
-  plain_opens : (ts : List Spot) → AsFirst PlainToken (first_of ts) → Good (Plain actor d c) m (take 1 ts)
+  plain_opens : (ts : List Spot) → AsFirst PlainToken (first_of ts) → GoodOf limits (Plain actor d c) m (take 1 ts)
   plain_opens [] h = absurd h
   plain_opens (x ∷ ts) h = plain_with x.token x.at ts h
 
-  block_with : (p : Place) (ts : List Spot) → Good (Placed (Block actor d c)) m (take 1 (record { token = token.Sign sign.OpenCurly; at = p } ∷ ts))
-  block_with p ts = with_token m [] (token.Sign sign.OpenCurly) p ts (sign_at sign.CloseCurly nowhere ∷ []) (p, record { body = End; counts = c; close = nowhere }) tt (refl, (p, [], no_stmts, refl))
+  block_with : (p : Place) (ts : List Spot) → GoodOf limits (Placed (Block actor d c)) m (take 1 (record { token = token.Sign sign.OpenCurly; at = p } ∷ ts))
+  block_with p ts = with_token limits m [] (token.Sign sign.OpenCurly) p ts (sign_at sign.CloseCurly nowhere ∷ []) (p, record { body = End; counts = c; close = nowhere }) tt (refl, (p, [], no_stmts, refl))
 
-  block_opens : (ts : List Spot) → first_of ts ≡ Some (token.Sign sign.OpenCurly) → Good (Placed (Block actor d c)) m (take 1 ts)
+  block_opens : (ts : List Spot) → first_of ts ≡ Some (token.Sign sign.OpenCurly) → GoodOf limits (Placed (Block actor d c)) m (take 1 ts)
   block_opens [] h = absurd (cc)
-  block_opens (x ∷ ts) h = let e : x.token ≡ token.Sign sign.OpenCurly = cc in subst (λ y. Good (Placed (Block actor d c)) m (take 1 (record { token = y; at = x.at } ∷ ts))) (sym e) (block_with x.at ts)
+  block_opens (x ∷ ts) h = let e : x.token ≡ token.Sign sign.OpenCurly = cc in subst (λ y. GoodOf limits (Placed (Block actor d c)) m (take 1 (record { token = y; at = x.at } ∷ ts))) (sym e) (block_with x.at ts)
 
 -- there can be no statement more, whichever part it is
-module _ {A : Type 0} (R : List Marked → A → Type 0) (F : A → List Marked → Type 0) (P : Token → Type 0) (begins : (w : List Marked) (b : A) → R w b → Starts P w) (any : Inhabited R) (t : Tokens) (at : ℕ) (c : Counts) (d : ℕ) (lt : at < length t.spots.items) (good : (m : ℕ) → m < 5 → Good R m (take 1 (drop at t.spots.items))) where
+module _ (limits : Limits) {A : Type 0} (R : List Marked → A → Type 0) (F : A → List Marked → Type 0) (P : Token → Type 0) (begins : (w : List Marked) (b : A) → R w b → Starts P w) (any : Inhabited R) (t : Tokens) (at : ℕ) (c : Counts) (d : ℕ) (lt : at < length t.spots.items) (good : (m : ℕ) → m < 5 → GoodOf limits R m (take 1 (drop at t.spots.items))) where
   marks_begin : (w : List Marked) (b : A) → Marks (Node d) R w b → Starts P w
   marks_begin w b r = subst (Starts P) (sym r.2) (still r.0 (begins r.0 b r.1))
     where
@@ -218,22 +219,22 @@ module _ {A : Type 0} (R : List Marked → A → Type 0) (F : A → List Marked 
       still [] h = h
       still (x ∷ xs) h = h
 
-  begun_of : (e : SourceFault) → Fails (Marks (Statement (suc c.statements)) (Marks (Node d) R)) F t at e → Fails (Begun c d R) F t at e
-  begun_of e a = let h : at ≤ length t.spots.items = omega (arith, lt) in fails t (narrow t.spots.items refl (begun_turns R F c d (token_at t.spots.items at)) (nothing t.spots.items (Begun c d R) F at h)) e a
+  begun_of : (e : SourceFault) → Fails limits (Marks (Statement (suc c.statements)) (Marks (Node d) R)) F t at e → Fails limits (Begun c d R) F t at e
+  begun_of e a = let h : at ≤ length t.spots.items = omega (arith, lt) in fails limits t (narrow limits t.spots.items refl (begun_turns R F c d (token_at t.spots.items at)) (nothing limits t.spots.items (Begun c d R) F at h)) e a
 
-  too_many : 10000 ≤ c.statements → Fails (Begun c d R) F t at (Refused (rule.L 4) (place_at t at))
-  too_many h = begun_of (Refused (rule.L 4) (place_at t at)) (beyond_fails (Marks (Node d) R) F (Statement (suc c.statements)) 4 t at (omega arith) (omega arith) lt (λ k. omega (arith, h, k (omega arith))) (λ m l i. absurd (omega (arith, l, i))) P marks_begin
+  too_many : limits.statements ≤ c.statements → Fails limits (Begun c d R) F t at (Refused (rule.L 4) (place_at t at))
+  too_many h = begun_of (Refused (rule.L 4) (place_at t at)) (beyond_fails limits (Marks (Node d) R) F (Statement (suc c.statements)) 4 t at (omega arith) (omega arith) lt (λ k. omega (arith, h, k (omega arith))) (λ m l i. absurd (omega (arith, l, i))) P marks_begin
       (record { marked = begin (Node d) any.marked; tree = any.tree; rule = (any.marked, any.rule, refl) })
-      (λ m l. good_marks R F (Node d) m (take 1 (drop at t.spots.items)) (λ i. absurd (omega (arith, l, i))) (good m (omega (arith, l)))))
+      (λ m l. good_marks limits R F (Node d) m (take 1 (drop at t.spots.items)) (λ i. absurd (omega (arith, l, i))) (good m (omega (arith, l)))))
 
-  too_deep : c.statements < 10000 → 64 < d → Fails (Begun c d R) F t at (Refused (rule.L 5) (place_at t at))
-  too_deep f h = begun_of (Refused (rule.L 5) (place_at t at)) (marks_fails (Marks (Node d) R) F (Statement (suc c.statements)) t at (λ m l i. omega (arith, f)) (Refused (rule.L 5) (place_at t at))
-      (beyond_fails R F (Node d) 5 t at (omega arith) (omega arith) lt (λ k. omega (arith, h, k (omega arith))) (λ m l i. absurd (omega (arith, l, i))) P begins any good))
+  too_deep : c.statements < limits.statements → 64 < d → Fails limits (Begun c d R) F t at (Refused (rule.L 5) (place_at t at))
+  too_deep f h = begun_of (Refused (rule.L 5) (place_at t at)) (marks_fails limits (Marks (Node d) R) F (Statement (suc c.statements)) t at (λ m l i. omega (arith, f)) (Refused (rule.L 5) (place_at t at))
+      (beyond_fails limits R F (Node d) 5 t at (omega arith) (omega arith) lt (λ k. omega (arith, h, k (omega arith))) (λ m l i. absurd (omega (arith, l, i))) P begins any good))
 
-  begun_beyond : (e : SourceFault) → Beyond c d (place_at t at) e → Fails (Begun c d R) F t at e
+  begun_beyond : (e : SourceFault) → Beyond limits c d (place_at t at) e → Fails limits (Begun c d R) F t at e
   begun_beyond e h = elim h [
-    | inl x ↦ subst (Fails (Begun c d R) F t at) (sym x.1) (too_many x.0)
-    | inr x ↦ subst (Fails (Begun c d R) F t at) (sym x.2) (too_deep x.0 x.1)
+    | inl x ↦ subst (Fails limits (Begun c d R) F t at) (sym x.1) (too_many x.0)
+    | inr x ↦ subst (Fails limits (Begun c d R) F t at) (sym x.2) (too_deep x.0 x.1)
   ]
 
 -- a token that a statement begins with, if not a brace, begins a statement that is no block
@@ -246,54 +247,54 @@ no_brace (Some (token.Text k)) h n = absurd h
 no_brace (Some (token.Sign sign.OpenCurly)) h n = absurd (n refl)
 no_brace (Some (token.Sign _)) h n = absurd h
 
-module _ (t : Tokens) (at : ℕ) (actor : Bool) (d : ℕ) (c : Counts) where
-  plain_beyond : at < length t.spots.items → AsFirst PlainToken (token_at t.spots.items at) → (e : SourceFault) → Beyond c d (place_at t at) e → Fails (Begun c d (Plain actor d (one_statement c))) NoElse t at e
-  plain_beyond lt f e h = begun_beyond (Plain actor d (one_statement c)) NoElse PlainToken (λ w b r. plain_starts r.1) (some_plain actor d (one_statement c)) t at c d lt (λ m l. plain_opens m l actor d (one_statement c) (drop at t.spots.items) (subst (AsFirst PlainToken) (sym (next_is t.spots.items at)) f)) e h
+module _ (limits : Limits) (t : Tokens) (at : ℕ) (actor : Bool) (d : ℕ) (c : Counts) where
+  plain_beyond : at < length t.spots.items → AsFirst PlainToken (token_at t.spots.items at) → (e : SourceFault) → Beyond limits c d (place_at t at) e → Fails limits (Begun c d (Plain actor d (one_statement c))) NoElse t at e
+  plain_beyond lt f e h = begun_beyond limits (Plain actor d (one_statement c)) NoElse PlainToken (λ w b r. plain_starts r.1) (some_plain actor d (one_statement c)) t at c d lt (λ m l. plain_opens limits m l actor d (one_statement c) (drop at t.spots.items) (subst (AsFirst PlainToken) (sym (next_is t.spots.items at)) f)) e h
 
-  pub init_beyond : at < length t.spots.items → AsFirst IntoToken (token_at t.spots.items at) → (e : SourceFault) → Beyond c d (place_at t at) e → Fails (Begun c d (Init actor d (one_statement c))) (Before (token.Sign sign.Semicolon)) t at e
-  init_beyond lt f e h = begun_beyond (Init actor d (one_statement c)) (Before (token.Sign sign.Semicolon)) IntoToken (λ w b r. init_intos r.1) (some_init actor d (one_statement c)) t at c d lt (λ m l. init_opens m l actor d (one_statement c) (drop at t.spots.items) (subst (AsFirst IntoToken) (sym (next_is t.spots.items at)) f)) e h
+  pub init_beyond : at < length t.spots.items → AsFirst IntoToken (token_at t.spots.items at) → (e : SourceFault) → Beyond limits c d (place_at t at) e → Fails limits (Begun c d (Init actor d (one_statement c))) (Before (token.Sign sign.Semicolon)) t at e
+  init_beyond lt f e h = begun_beyond limits (Init actor d (one_statement c)) (Before (token.Sign sign.Semicolon)) IntoToken (λ w b r. init_intos r.1) (some_init actor d (one_statement c)) t at c d lt (λ m l. init_opens limits m l actor d (one_statement c) (drop at t.spots.items) (subst (AsFirst IntoToken) (sym (next_is t.spots.items at)) f)) e h
 
-  block_beyond : at < length t.spots.items → token_at t.spots.items at ≡ Some (token.Sign sign.OpenCurly) → (e : SourceFault) → Beyond c d (place_at t at) e → Fails (Begun c d (Placed (Block actor (suc d) (one_statement c)))) Any t at e
+  block_beyond : at < length t.spots.items → token_at t.spots.items at ≡ Some (token.Sign sign.OpenCurly) → (e : SourceFault) → Beyond limits c d (place_at t at) e → Fails limits (Begun c d (Placed (Block actor (suc d) (one_statement c)))) Any t at e
   block_beyond lt f e h =
-      begun_beyond (Placed (Block actor (suc d) (one_statement c))) Any StmtToken (λ w b r. subst (Starts StmtToken) (sym r.1.3) tt) (record { marked = sign_at sign.OpenCurly nowhere ∷ sign_at sign.CloseCurly nowhere ∷ []; tree = (nowhere, record { body = End; counts = one_statement c; close = nowhere }); rule = (refl, (nowhere, [], no_stmts, refl)) }) t at c d lt (λ m l. block_opens m l actor (suc d) (one_statement c) (drop at t.spots.items) (next_is t.spots.items at ∙ f)) e h
+      (begun_beyond limits) (Placed (Block actor (suc d) (one_statement c))) Any StmtToken (λ w b r. subst (Starts StmtToken) (sym r.1.3) tt) (record { marked = sign_at sign.OpenCurly nowhere ∷ sign_at sign.CloseCurly nowhere ∷ []; tree = (nowhere, record { body = End; counts = one_statement c; close = nowhere }); rule = (refl, (nowhere, [], no_stmts, refl)) }) t at c d lt (λ m l. block_opens limits m l actor (suc d) (one_statement c) (drop at t.spots.items) (next_is t.spots.items at ∙ f)) e h
 
-  pub one_beyond : at < length t.spots.items → AsFirst StmtToken (token_at t.spots.items at) → (e : SourceFault) → Beyond c d (place_at t at) e → Fails (One actor d c) NoElse t at e
+  pub one_beyond : at < length t.spots.items → AsFirst StmtToken (token_at t.spots.items at) → (e : SourceFault) → Beyond limits c d (place_at t at) e → Fails limits (One actor d c) NoElse t at e
   one_beyond lt f e h =
       let k : at ≤ length t.spots.items = omega (arith, lt) in
       elim (at_open_curly (token_at t.spots.items at)) [
-        | inl x ↦ fails t (narrow t.spots.items x (one_block actor d c) (nothing t.spots.items (One actor d c) NoElse at k)) e (block_beyond lt x e h)
-        | inr n ↦ fails t (narrow t.spots.items refl (one_plain actor d c (token_at t.spots.items at) n) (nothing t.spots.items (One actor d c) NoElse at k)) e (plain_beyond lt (no_brace (token_at t.spots.items at) f n) e h)
+        | inl x ↦ fails limits t (narrow limits t.spots.items x (one_block actor d c) (nothing limits t.spots.items (One actor d c) NoElse at k)) e (block_beyond lt x e h)
+        | inr n ↦ fails limits t (narrow limits t.spots.items refl (one_plain actor d c (token_at t.spots.items at) n) (nothing limits t.spots.items (One actor d c) NoElse at k)) e (plain_beyond lt (no_brace (token_at t.spots.items at) f n) e h)
       ]
 
-  pub body_beyond : at < length t.spots.items → AsFirst StmtToken (token_at t.spots.items at) → (token_at t.spots.items at ≡ Some (token.Sign sign.OpenCurly) → ⊥) → (e : SourceFault) → Beyond c d (place_at t at) e → Fails (BodyPart actor d c) NoElse t at e
+  pub body_beyond : at < length t.spots.items → AsFirst StmtToken (token_at t.spots.items at) → (token_at t.spots.items at ≡ Some (token.Sign sign.OpenCurly) → ⊥) → (e : SourceFault) → Beyond limits c d (place_at t at) e → Fails limits (BodyPart actor d c) NoElse t at e
   body_beyond lt f n e h =
       let k : at ≤ length t.spots.items = omega (arith, lt) in
-      fails t (narrow t.spots.items refl (body_plain actor d c (token_at t.spots.items at) n) (nothing t.spots.items (BodyPart actor d c) NoElse at k)) e (plain_beyond lt (no_brace (token_at t.spots.items at) f n) e h)
+      (fails limits) t (narrow limits t.spots.items refl (body_plain actor d c (token_at t.spots.items at) n) (nothing limits t.spots.items (BodyPart actor d c) NoElse at k)) e (plain_beyond lt (no_brace (token_at t.spots.items at) f n) e h)
 
   -- where none begins
-  pub one_none : (AsFirst StmtToken (token_at t.spots.items at) → ⊥) → Fails (One actor d c) NoElse t at (Refused (rule.S 5) (place_at t at))
-  one_none n = none_fails (One actor d c) NoElse t at (some_one actor d c) (λ w z b r f l. n (starts_looks StmtToken w z (token_at t.spots.items at) (stmt_starts r) l))
+  pub one_none : (AsFirst StmtToken (token_at t.spots.items at) → ⊥) → Fails limits (One actor d c) NoElse t at (Refused (rule.S 5) (place_at t at))
+  one_none n = none_fails limits (One actor d c) NoElse t at (some_one actor d c) (λ w z b r f l. n (starts_looks StmtToken w z (token_at t.spots.items at) (stmt_starts r) l))
 
   body_starts : {c' : Counts} {w : List Marked} {body : Body} {h : Bool} → BodyRule actor d c c' w body h → Starts StmtToken w
   body_starts (block_body (braces p q xs r e)) = subst (Starts StmtToken) (sym e) tt
   body_starts (one_body at xs r e) = subst (Starts StmtToken) (sym e) (starts_begun StmtToken c d xs (starts_weaken PlainToken StmtToken stmt_token xs (plain_starts r)))
 
-  pub body_none : (AsFirst StmtToken (token_at t.spots.items at) → ⊥) → Fails (BodyPart actor d c) NoElse t at (Refused (rule.S 5) (place_at t at))
-  body_none n = none_fails (BodyPart actor d c) NoElse t at (some_body actor d c) (λ w z b r f l. n (starts_looks StmtToken w z (token_at t.spots.items at) (body_starts r) l))
+  pub body_none : (AsFirst StmtToken (token_at t.spots.items at) → ⊥) → Fails limits (BodyPart actor d c) NoElse t at (Refused (rule.S 5) (place_at t at))
+  body_none n = none_fails limits (BodyPart actor d c) NoElse t at (some_body actor d c) (λ w z b r f l. n (starts_looks StmtToken w z (token_at t.spots.items at) (body_starts r) l))
 
-  pub init_none : (AsFirst IntoToken (token_at t.spots.items at) → ⊥) → Fails (Begun c d (Init actor d (one_statement c))) (Before (token.Sign sign.Semicolon)) t at (Refused (rule.S 5) (place_at t at))
-  init_none n = none_fails (Begun c d (Init actor d (one_statement c))) (Before (token.Sign sign.Semicolon)) t at (some_begun (Init actor d (one_statement c)) c d (some_init actor d (one_statement c))) (λ w z b r f l. n (starts_looks IntoToken w z (token_at t.spots.items at) (subst (Starts IntoToken) (sym r.2) (starts_begun IntoToken c d r.0 (init_intos r.1.1))) l))
+  pub init_none : (AsFirst IntoToken (token_at t.spots.items at) → ⊥) → Fails limits (Begun c d (Init actor d (one_statement c))) (Before (token.Sign sign.Semicolon)) t at (Refused (rule.S 5) (place_at t at))
+  init_none n = none_fails limits (Begun c d (Init actor d (one_statement c))) (Before (token.Sign sign.Semicolon)) t at (some_begun (Init actor d (one_statement c)) c d (some_init actor d (one_statement c))) (λ w z b r f l. n (starts_looks IntoToken w z (token_at t.spots.items at) (subst (Starts IntoToken) (sym r.2) (starts_begun IntoToken c d r.0 (init_intos r.1.1))) l))
 
-module _ (t : Tokens) (at d : ℕ) (c : Counts) where
-  pub step_beyond : at < length t.spots.items → AsFirst NameToken (token_at t.spots.items at) → (e : SourceFault) → Beyond c d (place_at t at) e → Fails (Begun c d (Assignment d)) ExprEnds t at e
-  step_beyond lt f e h = begun_beyond (Assignment d) ExprEnds NameToken (λ w b r. assign_names r.1) (some_assignment d) t at c d lt (λ m l. assignment_opens m d (drop at t.spots.items) (subst (AsFirst NameToken) (sym (next_is t.spots.items at)) f)) e h
+module _ (limits : Limits) (t : Tokens) (at d : ℕ) (c : Counts) where
+  pub step_beyond : at < length t.spots.items → AsFirst NameToken (token_at t.spots.items at) → (e : SourceFault) → Beyond limits c d (place_at t at) e → Fails limits (Begun c d (Assignment d)) ExprEnds t at e
+  step_beyond lt f e h = begun_beyond limits (Assignment d) ExprEnds NameToken (λ w b r. assign_names r.1) (some_assignment d) t at c d lt (λ m l. assignment_opens limits m d (drop at t.spots.items) (subst (AsFirst NameToken) (sym (next_is t.spots.items at)) f)) e h
 
-  pub step_none : (AsFirst NameToken (token_at t.spots.items at) → ⊥) → Fails (Begun c d (Assignment d)) ExprEnds t at (Refused (rule.S 5) (place_at t at))
-  step_none n = none_fails (Begun c d (Assignment d)) ExprEnds t at (some_begun (Assignment d) c d (some_assignment d)) (λ w z b r f l. n (starts_looks NameToken w z (token_at t.spots.items at) (subst (Starts NameToken) (sym r.2) (starts_begun NameToken c d r.0 (assign_names r.1.1))) l))
+  pub step_none : (AsFirst NameToken (token_at t.spots.items at) → ⊥) → Fails limits (Begun c d (Assignment d)) ExprEnds t at (Refused (rule.S 5) (place_at t at))
+  step_none n = none_fails limits (Begun c d (Assignment d)) ExprEnds t at (some_begun (Assignment d) c d (some_assignment d)) (λ w z b r f l. n (starts_looks NameToken w z (token_at t.spots.items at) (subst (Starts NameToken) (sym r.2) (starts_begun NameToken c d r.0 (assign_names r.1.1))) l))
 
 -- another token stands here
-pub opening_none : (ps : List Part) (x : Token) (t : Tokens) (at : ℕ) → (token_at t.spots.items at ≡ Some x → ⊥) → Fails (Opening ps x) Any t at (Refused (rule.S 5) (place_at t at))
-opening_none ps x t at n = none_fails (Opening ps x) Any t at (some_opening ps x) (λ w z b r f l. n (looks_is (token_at t.spots.items at) (opens ps x b) [] z r l))
+pub opening_none : (limits : Limits) (ps : List Part) (x : Token) (t : Tokens) (at : ℕ) → (token_at t.spots.items at ≡ Some x → ⊥) → Fails limits (Opening ps x) Any t at (Refused (rule.S 5) (place_at t at))
+opening_none limits ps x t at n = none_fails limits (Opening ps x) Any t at (some_opening ps x) (λ w z b r f l. n (looks_is (token_at t.spots.items at) (opens ps x b) [] z r l))
 
 -- no statement with a word of its own stands here
 pub no_keyword : (o : Option Token) → (o ≡ Some (token.Word word.If) → ⊥) → (o ≡ Some (token.Word word.While) → ⊥) → (o ≡ Some (token.Word word.For) → ⊥) → (o ≡ Some (token.Word word.Loop) → ⊥) → (o ≡ Some (token.Word word.Try) → ⊥) → (o ≡ Some (token.Word word.Choose) → ⊥)

@@ -3,6 +3,7 @@ use Rattle.std.proofs.Common.{◌≡◌, ℕ, suc, ◌+◌, ◌≤◌, ◌<◌, 
 use Rattle.std.proofs.lemmas.List.{append-nil}
 use Rattle.std.specs.declared.option.Option.{Option}
 use Rattle.std.specs.declared.option.Option.TheVariants.{None, Some}
+use Rattle.flow_tree.specs.declared.limits.Limits.{Limits}
 use Rattle.flow_base.specs.declared.place.Place.{Place}
 use Rattle.flow_tree.specs.declared.token.Token.TheVariants as token
 use Rattle.flow_tree.specs.declared.token.Sign.TheVariants as sign
@@ -98,23 +99,23 @@ pub assign_wait_link : (d : ℕ) → Link (Tok (token.Sign sign.Assign)) Any (λ
 assign_wait_link d = free (λ q. some_operand d)
 
 -- what stands behind a declared variable in a statement
-module _ (t : Tokens) (at d : ℕ) (p : Place) (i : IntoTree) (h : at ≤ length t.spots.items) where
-  pub no_value_reads2 : (token_at t.spots.items at ≡ Some (token.Sign sign.Assign) → ⊥) → Reads (ValuedRule d p i) (Before (token.Sign sign.Semicolon)) t.spots.items at (DeclareStmt p i None End) at
-  no_value_reads2 n = empty t.spots.items (ValuedRule d p i) _ at (DeclareStmt p i None End) (token_at t.spots.items at) h refl (declares no_value) (λ w z b r f l. not_given_back z (token_at t.spots.items at) n r l)
+module _ (limits : Limits) (t : Tokens) (at d : ℕ) (p : Place) (i : IntoTree) (h : at ≤ length t.spots.items) where
+  pub no_value_reads2 : (token_at t.spots.items at ≡ Some (token.Sign sign.Assign) → ⊥) → Reads limits (ValuedRule d p i) (Before (token.Sign sign.Semicolon)) t.spots.items at (DeclareStmt p i None End) at
+  no_value_reads2 n = empty limits t.spots.items (ValuedRule d p i) _ at (DeclareStmt p i None End) (token_at t.spots.items at) h refl (declares no_value) (λ w z b r f l. not_given_back z (token_at t.spots.items at) n r l)
 
-  pub given_left : token_at t.spots.items at ≡ Some (token.Sign sign.Assign) → Leaves (ValuedRule d p i) (Before (token.Sign sign.Semicolon)) (Then (Tok (token.Sign sign.Assign)) (λ q. Given d p i)) (λ x. Before (token.Sign sign.Semicolon) x.1) (λ x. x.1) t.spots.items at at
-  given_left e = narrow t.spots.items e (record { back = λ w z b r f l. given_back z r f l; forth = λ u x r. value_of x.0 x.1 r.rest r.back (behind r.is r.front refl) }) (nothing t.spots.items (ValuedRule d p i) _ at h)
+  pub given_left : token_at t.spots.items at ≡ Some (token.Sign sign.Assign) → Leaves limits (ValuedRule d p i) (Before (token.Sign sign.Semicolon)) (Then (Tok (token.Sign sign.Assign)) (λ q. Given d p i)) (λ x. Before (token.Sign sign.Semicolon) x.1) (λ x. x.1) t.spots.items at at
+  given_left e = narrow limits t.spots.items e (record { back = λ w z b r f l. given_back z r f l; forth = λ u x r. value_of x.0 x.1 r.rest r.back (behind r.is r.front refl) }) (nothing limits t.spots.items (ValuedRule d p i) _ at h)
     where
       value_of : {w : List Marked} (q : Place) (b : Body) (v : List Marked) → Given d p i v b → w ≡ sign_at sign.Assign q ∷ v → ValuedRule d p i w b
       value_of q b v (inl k) e = subst (ValuedRule d p i _) (sym k.is) (declares (value q v k.rule e))
       value_of q b v (inr k) e = subst (ValuedRule d p i _) (sym k.is) (waits q v k.rule e)
 
-module _ (spots : List Spot) {A : Type 0} {W : List Marked → A → Type 0} {FW : A → List Marked → Type 0} {g : Body → A} {from at : ℕ} (d : ℕ) (p : Place) (i : IntoTree) (l : Leaves W FW (Given d p i) (λ b. Before (token.Sign sign.Semicolon) b) g spots from at) where
-  pub given_wait : AsFirst WaitToken (token_at spots at) → Leaves W FW (OperandPart d) Any (λ x. g (WaitStmt p (record { into = Some i; next = x.0; operand = x.1 }) End)) spots from at
-  given_wait h = narrow spots refl (record { back = λ w z b r f k. given_wait_back z (token_at spots at) h r k; forth = λ w x r. inr (record { tree = x; rule = r; is = refl }) }) l
+module _ (limits : Limits) (spots : List Spot) {A : Type 0} {W : List Marked → A → Type 0} {FW : A → List Marked → Type 0} {g : Body → A} {from at : ℕ} (d : ℕ) (p : Place) (i : IntoTree) (l : Leaves limits W FW (Given d p i) (λ b. Before (token.Sign sign.Semicolon) b) g spots from at) where
+  pub given_wait : AsFirst WaitToken (token_at spots at) → Leaves limits W FW (OperandPart d) Any (λ x. g (WaitStmt p (record { into = Some i; next = x.0; operand = x.1 }) End)) spots from at
+  given_wait h = narrow limits spots refl (record { back = λ w z b r f k. given_wait_back z (token_at spots at) h r k; forth = λ w x r. inr (record { tree = x; rule = r; is = refl }) }) l
 
-  pub given_value : (AsFirst WaitToken (token_at spots at) → ⊥) → Leaves W FW (ExprRule 0 (suc d)) ExprEnds (λ e. g (DeclareStmt p i (Some e) End)) spots from at
-  given_value n = narrow spots refl (record { back = λ w z b r f k. given_value_back z (token_at spots at) n r f k; forth = λ w x r. inl (record { tree = x; rule = r; is = refl }) }) l
+  pub given_value : (AsFirst WaitToken (token_at spots at) → ⊥) → Leaves limits W FW (ExprRule 0 (suc d)) ExprEnds (λ e. g (DeclareStmt p i (Some e) End)) spots from at
+  given_value n = narrow limits spots refl (record { back = λ w z b r f k. given_value_back z (token_at spots at) n r f k; forth = λ w x r. inl (record { tree = x; rule = r; is = refl }) }) l
 
 -- a name, alone or as a type, is one token
 any_name_is : (d : ℕ) (w : List Marked) (x : Ident) → AnyName d w x → (m : Marked) × (w ≡ m ∷ []) × (m.spot ≡ (name_at x).spot)
@@ -137,78 +138,78 @@ module _ (d : ℕ) (c : Counts) (x : Ident) (m : Marked) (ms : m.spot ≡ (name_
             (b.tree, b.rule, out_is a (q.tree.1, c) q.is e ∙ ap (λ y. closed y c) b.is, b.follows);
       }
 
-module _ (t : Tokens) (at : ℕ) (actor : Bool) (d : ℕ) (c : Counts) where
+module _ (limits : Limits) (t : Tokens) (at : ℕ) (actor : Bool) (d : ℕ) (c : Counts) where
   -- the init of a `for`
   pub init_left : at ≤ length t.spots.items → ((m : List ℕ) → token_at t.spots.items at ≡ Some (token.Name m) → ⊥)
-      → Leaves (Init actor d c) (Before (token.Sign sign.Semicolon)) (Then (Placed (IntoPart actor d c)) (λ y. DeclaredRule d y.0 y.1.0)) (λ x. Before (token.Sign sign.Semicolon) x.1) (λ x. closed x.1 x.0.1.1) t.spots.items at at
-  init_left h n = narrow t.spots.items refl (record {
+      → Leaves limits (Init actor d c) (Before (token.Sign sign.Semicolon)) (Then (Placed (IntoPart actor d c)) (λ y. DeclaredRule d y.0 y.1.0)) (λ x. Before (token.Sign sign.Semicolon) x.1) (λ x. closed x.1 x.0.1.1) t.spots.items at at
+  init_left h n = narrow limits t.spots.items refl (record {
     back = λ w z b r f l. let q = init_into z (token_at t.spots.items at) n r.1 l in record { tree = q.tree; rule = q.rule; is = out_is b (q.tree.1, q.tree.0.1.1) q.is r.2; follows = before_same (token.Sign sign.Semicolon) b q.tree.1 z f };
     forth = λ u x r. (x.0.0, init_of r.front.1 r.back r.is (starts_is r.first r.rest x.0.0 r.is r.front.0), refl);
-  }) (nothing t.spots.items (Init actor d c) _ at h)
+  }) (nothing limits t.spots.items (Init actor d c) _ at h)
 
   pub unended_left : at ≤ length t.spots.items → (AsFirst WaitToken (token_at t.spots.items at) → ⊥) → ((m : List ℕ) → token_at t.spots.items at ≡ Some (token.Name m) → ⊥)
-      → Leaves (Unended actor d c) (Before (token.Sign sign.Semicolon)) (Then (Placed (IntoPart actor d c)) (λ y. ValuedRule d y.0 y.1.0)) (λ x. Before (token.Sign sign.Semicolon) x.1) (λ x. closed x.1 x.0.1.1) t.spots.items at at
-  unended_left h v n = narrow t.spots.items refl (record {
+      → Leaves limits (Unended actor d c) (Before (token.Sign sign.Semicolon)) (Then (Placed (IntoPart actor d c)) (λ y. ValuedRule d y.0 y.1.0)) (λ x. Before (token.Sign sign.Semicolon) x.1) (λ x. closed x.1 x.0.1.1) t.spots.items at at
+  unended_left h v n = narrow limits t.spots.items refl (record {
     back = λ w z b r f l. let q = unended_into z (token_at t.spots.items at) v n r.0 l in record { tree = q.tree; rule = q.rule; is = out_is b (q.tree.1, q.tree.0.1.1) q.is r.1; follows = before_same (token.Sign sign.Semicolon) b q.tree.1 z f };
     forth = λ u x r. (declaring x.0.0 r.first r.rest r.front.1 r.back r.is (starts_is r.first r.rest x.0.0 r.is r.front.0), refl);
-  }) (nothing t.spots.items (Unended actor d c) _ at h)
+  }) (nothing limits t.spots.items (Unended actor d c) _ at h)
 
-  pub unended_wait_left : at ≤ length t.spots.items → AsFirst WaitToken (token_at t.spots.items at) → Leaves (Unended actor d c) (Before (token.Sign sign.Semicolon)) (Placed (OperandPart d)) Any (λ x. closed (WaitStmt x.0 (record { into = None; next = x.1.0; operand = x.1.1 }) End) c) t.spots.items at at
-  unended_wait_left h v = narrow t.spots.items refl (record {
+  pub unended_wait_left : at ≤ length t.spots.items → AsFirst WaitToken (token_at t.spots.items at) → Leaves limits (Unended actor d c) (Before (token.Sign sign.Semicolon)) (Placed (OperandPart d)) Any (λ x. closed (WaitStmt x.0 (record { into = None; next = x.1.0; operand = x.1.1 }) End) c) t.spots.items at at
+  unended_wait_left h v = narrow limits t.spots.items refl (record {
     back = λ w z b r f l. let q = unended_wait z (token_at t.spots.items at) v r.0 l in record { tree = q.tree; rule = q.rule; is = out_is b (WaitStmt q.tree.0 (record { into = None; next = q.tree.1.0; operand = q.tree.1.1 }) End, c) q.is r.1; follows = tt };
     forth = λ u x r. (waiting x.0 r.1 r.0, refl);
-  }) (nothing t.spots.items (Unended actor d c) _ at h)
+  }) (nothing limits t.spots.items (Unended actor d c) _ at h)
 
   -- behind a first name
-  module _ (x : Ident) (r : Reads Named Any t.spots.items at x (at + 1)) where
+  module _ (x : Ident) (r : Reads limits Named Any t.spots.items at x (at + 1)) where
     spot_here : drop at t.spots.items ≡ (name_at x).spot ∷ drop (at + 1) t.spots.items
     spot_here = r.is ∙ ap (λ z. spots_of z ++ drop (at + 1) t.spots.items) r.rule
 
     some_here : at < length t.spots.items
     some_here = omega (arith, r.within)
 
-    pub init_named : (n : List ℕ) → d ≤ 64 → token_at t.spots.items (at + 1) ≡ Some (token.Name n) → Leaves (Init actor d c) (Before (token.Sign sign.Semicolon)) (Then Named (λ y. DeclaredRule d x.at (of_name x y))) (λ v. Before (token.Sign sign.Semicolon) v.1) (λ v. closed v.1 c) t.spots.items at (at + 1)
-    init_named n k e = behind_first (node_name d x) (Some (token.Name n))
+    pub init_named : (n : List ℕ) → d ≤ 64 → token_at t.spots.items (at + 1) ≡ Some (token.Name n) → Leaves limits (Init actor d c) (Before (token.Sign sign.Semicolon)) (Then Named (λ y. DeclaredRule d x.at (of_name x y))) (λ v. Before (token.Sign sign.Semicolon) v.1) (λ v. closed v.1 c) t.spots.items at (at + 1)
+    init_named n k e = behind_first limits (node_name d x) (Some (token.Name n))
         (λ v b s. (x.at, init_of (named_into actor d c x b.0) s.back (ap (λ z. node_name d x ∷ z) (behind s.is s.front refl)) refl, refl))
         (λ w z a s f l. split_name d c x (node_name d x) refl (Some (token.Name n)) (Then Named (λ y. DeclaredRule d x.at (of_name x y))) (λ v. Before (token.Sign sign.Semicolon) v.1) (λ v. v.1) (AfterInit d) (λ w z b u f l. named_declared_back z n u f l) w z a (init_name z x.name s.1 l) s.2 f)
         t.spots.items at some_here ((λ i. k), tt) spot_here e
 
-    pub init_change : ((m : List ℕ) → token_at t.spots.items (at + 1) ≡ Some (token.Name m) → ⊥) → Leaves (Init actor d c) (Before (token.Sign sign.Semicolon)) (Then (MoreNames x) (λ xs. ChangeRule d x.at xs)) (λ v. ExprEnds v.1) (λ v. closed v.1 c) t.spots.items at (at + 1)
-    init_change n = behind_first (name_at x) (token_at t.spots.items (at + 1))
+    pub init_change : ((m : List ℕ) → token_at t.spots.items (at + 1) ≡ Some (token.Name m) → ⊥) → Leaves limits (Init actor d c) (Before (token.Sign sign.Semicolon)) (Then (MoreNames x) (λ xs. ChangeRule d x.at xs)) (λ v. ExprEnds v.1) (λ v. closed v.1 c) t.spots.items at (at + 1)
+    init_change n = behind_first limits (name_at x) (token_at t.spots.items (at + 1))
         (λ v b s. (x.at, change x.at (assign_of s.front s.back (ap (λ z. name_at x ∷ z) s.is) refl), refl))
         (λ w z a s f l. split_name d c x (name_at x) refl (token_at t.spots.items (at + 1)) (Then (MoreNames x) (λ xs. ChangeRule d x.at xs)) (λ v. ExprEnds v.1) (λ v. v.1) (AfterInit d) (λ w z b u f l. change_init_back z (token_at t.spots.items (at + 1)) n u f l) w z a (init_name z x.name s.1 l) s.2 f)
         t.spots.items at some_here tt spot_here refl
 
-    pub unended_named : (n : List ℕ) → d ≤ 64 → token_at t.spots.items (at + 1) ≡ Some (token.Name n) → Leaves (Unended actor d c) (Before (token.Sign sign.Semicolon)) (Then Named (λ y. ValuedRule d x.at (of_name x y))) (λ v. Before (token.Sign sign.Semicolon) v.1) (λ v. closed v.1 c) t.spots.items at (at + 1)
-    unended_named n k e = behind_first (node_name d x) (Some (token.Name n))
+    pub unended_named : (n : List ℕ) → d ≤ 64 → token_at t.spots.items (at + 1) ≡ Some (token.Name n) → Leaves limits (Unended actor d c) (Before (token.Sign sign.Semicolon)) (Then Named (λ y. ValuedRule d x.at (of_name x y))) (λ v. Before (token.Sign sign.Semicolon) v.1) (λ v. closed v.1 c) t.spots.items at (at + 1)
+    unended_named n k e = behind_first limits (node_name d x) (Some (token.Name n))
         (λ v b s. (declaring x.at (node_name d x ∷ name_at b.0 ∷ []) s.rest (named_into actor d c x b.0) s.back (ap (λ z. node_name d x ∷ z) (behind s.is s.front refl)) refl, refl))
         (λ w z a s f l. split_name d c x (node_name d x) refl (Some (token.Name n)) (Then Named (λ y. ValuedRule d x.at (of_name x y))) (λ v. Before (token.Sign sign.Semicolon) v.1) (λ v. v.1) (AfterName d) (λ w z b u f l. named_value_back z n u f l) w z a (unended_name z x.name s.0 l) s.1 f)
         t.spots.items at some_here ((λ i. k), tt) spot_here e
 
-    pub unended_change : ((m : List ℕ) → token_at t.spots.items (at + 1) ≡ Some (token.Name m) → ⊥) → Leaves (Unended actor d c) (Before (token.Sign sign.Semicolon)) (Then (MoreNames x) (λ xs. ChangedRule d x.at xs)) (λ v. ExprEnds v.1) (λ v. closed v.1 c) t.spots.items at (at + 1)
-    unended_change n = behind_first (name_at x) (token_at t.spots.items (at + 1))
+    pub unended_change : ((m : List ℕ) → token_at t.spots.items (at + 1) ≡ Some (token.Name m) → ⊥) → Leaves limits (Unended actor d c) (Before (token.Sign sign.Semicolon)) (Then (MoreNames x) (λ xs. ChangedRule d x.at xs)) (λ v. ExprEnds v.1) (λ v. closed v.1 c) t.spots.items at (at + 1)
+    unended_change n = behind_first limits (name_at x) (token_at t.spots.items (at + 1))
         (λ v b s. (changing s.first s.rest s.front s.back (ap (λ z. name_at x ∷ z) s.is), refl))
         (λ w z a s f l. split_name d c x (name_at x) refl (token_at t.spots.items (at + 1)) (Then (MoreNames x) (λ xs. ChangedRule d x.at xs)) (λ v. ExprEnds v.1) (λ v. v.1) (AfterName d) (λ w z b u f l. changed_back z (token_at t.spots.items (at + 1)) n u f l) w z a (unended_name z x.name s.0 l) s.1 f)
         t.spots.items at some_here tt spot_here refl
 
-module _ (t : Tokens) (at : ℕ) (actor : Bool) (d : ℕ) (c : Counts) (h : at ≤ length t.spots.items) where
-  pub simple_left : Leaves (Simple actor d c) Any (Then (Unended actor d c) (λ o. Tok (token.Sign sign.Semicolon))) Any (λ x. x.0) t.spots.items at at
-  simple_left = narrow t.spots.items refl (record { back = λ w z b r f l. simple_back z r; forth = λ u x r. (x.1, r.first, r.front, glue _ r.is r.back) }) (nothing t.spots.items (Simple actor d c) Any at h)
+module _ (limits : Limits) (t : Tokens) (at : ℕ) (actor : Bool) (d : ℕ) (c : Counts) (h : at ≤ length t.spots.items) where
+  pub simple_left : Leaves limits (Simple actor d c) Any (Then (Unended actor d c) (λ o. Tok (token.Sign sign.Semicolon))) Any (λ x. x.0) t.spots.items at at
+  simple_left = narrow limits t.spots.items refl (record { back = λ w z b r f l. simple_back z r; forth = λ u x r. (x.1, r.first, r.front, glue _ r.is r.back) }) (nothing limits t.spots.items (Simple actor d c) Any at h)
 
-  pub plain_waiting : AsFirst WaitToken (token_at t.spots.items at) → Leaves (WaitingPart actor d c) Any (OperandPart d) Any (λ x. (record { into = None; next = x.0; operand = x.1 }, c)) t.spots.items at at
-  plain_waiting v = narrow t.spots.items refl (record { back = λ w z b r f l. plain_wait_back z (token_at t.spots.items at) v r l; forth = λ u x r. plain_wait r }) (nothing t.spots.items (WaitingPart actor d c) Any at h)
+  pub plain_waiting : AsFirst WaitToken (token_at t.spots.items at) → Leaves limits (WaitingPart actor d c) Any (OperandPart d) Any (λ x. (record { into = None; next = x.0; operand = x.1 }, c)) t.spots.items at at
+  plain_waiting v = narrow limits t.spots.items refl (record { back = λ w z b r f l. plain_wait_back z (token_at t.spots.items at) v r l; forth = λ u x r. plain_wait r }) (nothing limits t.spots.items (WaitingPart actor d c) Any at h)
 
-  pub into_waiting : (AsFirst WaitToken (token_at t.spots.items at) → ⊥) → Leaves (WaitingPart actor d c) Any (Then (IntoPart actor d c) (λ y. Then (Tok (token.Sign sign.Assign)) (λ q. OperandPart d))) Any (λ x. (record { into = Some x.0.0; next = x.1.1.0; operand = x.1.1.1 }, x.0.1)) t.spots.items at at
-  into_waiting v = narrow t.spots.items refl (record { back = λ w z b r f l. into_wait_back z (token_at t.spots.items at) v r l; forth = λ u x r. into_wait x.1.0 r.first r.back.rest r.front r.back.back (glue _ r.is (behind r.back.is r.back.front refl)) }) (nothing t.spots.items (WaitingPart actor d c) Any at h)
+  pub into_waiting : (AsFirst WaitToken (token_at t.spots.items at) → ⊥) → Leaves limits (WaitingPart actor d c) Any (Then (IntoPart actor d c) (λ y. Then (Tok (token.Sign sign.Assign)) (λ q. OperandPart d))) Any (λ x. (record { into = Some x.0.0; next = x.1.1.0; operand = x.1.1.1 }, x.0.1)) t.spots.items at at
+  into_waiting v = narrow limits t.spots.items refl (record { back = λ w z b r f l. into_wait_back z (token_at t.spots.items at) v r l; forth = λ u x r. into_wait x.1.0 r.first r.back.rest r.front r.back.back (glue _ r.is (behind r.back.is r.back.front refl)) }) (nothing limits t.spots.items (WaitingPart actor d c) Any at h)
 
-module _ (t : Tokens) (at d : ℕ) (h : at ≤ length t.spots.items) where
-  pub assignment_left : Leaves (Assignment d) ExprEnds (Then Named (λ x. Then (MoreNames x) (λ xs. ChangeRule d x.at xs))) (λ v. ExprEnds v.1.1) (λ x. x.1.1) t.spots.items at at
-  assignment_left = narrow t.spots.items refl (record {
+module _ (limits : Limits) (t : Tokens) (at d : ℕ) (h : at ≤ length t.spots.items) where
+  pub assignment_left : Leaves limits (Assignment d) ExprEnds (Then Named (λ x. Then (MoreNames x) (λ xs. ChangeRule d x.at xs))) (λ v. ExprEnds v.1.1) (λ x. x.1.1) t.spots.items at at
+  assignment_left = narrow limits t.spots.items refl (record {
     back = λ w z b r f l. assignment_back z r f;
     forth = λ u x r.
         let e = behind r.is r.front r.back.is in
         (x.0.at, assign_of r.back.front r.back.back e (subst (λ z. StartsAt z x.0.at) (sym e) refl));
-  }) (nothing t.spots.items (Assignment d) ExprEnds at h)
+  }) (nothing limits t.spots.items (Assignment d) ExprEnds at h)
 
 pub assigned_link : (d : ℕ) → Link Named Any (λ x. Then (MoreNames x) (λ xs. ChangeRule d x.at xs)) (λ v. ExprEnds v.1.1)
 assigned_link d = free (λ x. some_then (MoreNames x) (λ xs. ChangeRule d x.at xs) (some_names x) (λ xs. some_change d x.at xs))

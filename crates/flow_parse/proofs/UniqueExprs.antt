@@ -1,6 +1,7 @@
 -- Tokens have one meaning as an expression.
-use Rattle.std.proofs.Common.{◌≡◌, ℕ, zero, suc, ◌≤◌, ◌<◌, List, [], ◌∷◌, ◌++◌, length, take, drop, refl, sym, ap, ◌∙◌, subst, arith, length-append, ◌⊎◌, inl, inr}
+use Rattle.std.proofs.Common.{◌≡◌, ℕ, zero, suc, ◌≤◌, ◌<◌, List, [], ◌∷◌, ◌++◌, length, take, drop, refl, sym, ap, ◌∙◌, subst, arith, length-append, inl, inr}
 use Rattle.std.proofs.lemmas.List.{take-append-drop}
+use Rattle.flow_tree.specs.declared.limits.TheConstants.{OF_PROGRAMS}
 use Rattle.flow_tree.specs.GrammarToken.{Marked, spots_of}
 use Rattle.flow_tree.proofs.GrammarLists.{length_spots}
 use Rattle.flow_tree.specs.Tree.{ExprTree}
@@ -34,7 +35,7 @@ no_longer d w (y ∷ z) v u a b r f s e lt =
       tree = b;
       rule = subst (λ k. ExprRule 0 d k b) (sym (take-append-drop n v)) s;
       is = spots_within n v u (omega arith) ∙ ap (take n) (sym e) ∙ next_take w y z;
-      keeps = keeps_two (take n v);
+      keeps = keeps_two OF_PROGRAMS (take n v);
     })
 
 pub uniq_expr : (d k : ℕ) → Uniq k (ExprRule 0 d) ExprEnds
@@ -44,6 +45,6 @@ uniq_expr d k w z v u a b lt r f s g e = elim (three (length w) (length v)) [
     | inl l ↦ absurd (no_longer d v u w z b a s g r (sym e) l)
     | inr l ↦
         let same : spots_of v ≡ spots_of w = sym (front_take v u) ∙ ap (take (length v)) (sym e) ∙ ap (λ n. take n (spots_of (w ++ z))) (sym l) ∙ front_take w z in
-        (one_tree d 2 2 (spots_of w) a b (record { marked = w; rule = r; is = refl; keeps = keeps_two w }) (record { marked = v; rule = s; is = same; keeps = keeps_two v }), l)
+        (one_tree d 2 2 (spots_of w) a b (record { marked = w; rule = r; is = refl; keeps = keeps_two OF_PROGRAMS w }) (record { marked = v; rule = s; is = same; keeps = keeps_two OF_PROGRAMS v }), l)
   ]
 ]

@@ -1,6 +1,6 @@
 // Declarations.
 
-ghost use Rattle.std.specs.Prelude.{◌≡◌, ◌↔◌, ℕ, ◌+◌, ◌<◌, ◌≤◌, length, IfOk, IsTrue, Some};
+ghost use Rattle.std.specs.Prelude.{◌≡◌, ◌↔◌, ℕ, ◌+◌, ◌<◌, ◌≤◌, ◌^◌, length, IfOk, IsTrue, Some};
 ghost use Rattle.flow_tree.specs.declared.token.Word.TheVariants as word;
 ghost use Rattle.flow_tree.specs.declared.token.Token.TheVariants as token;
 ghost use Rattle.flow_tree.specs.DeclView.{param_of, params_of, record_of, function_of, actor_of, decl_of};
@@ -17,26 +17,27 @@ use flow_base::place::Place;
 use flow_exprs::token::place;
 use flow_tree::decl::{ActorDecl, Decl, FunctionDecl, Param, RecordDecl};
 use flow_tree::fault::{Rule, SourceFault};
-use flow_tree::limits::VARIABLES;
+use flow_tree::limits::Limits;
 use flow_tree::stmt::Stmt;
 use flow_tree::token::{Sign, Tokens, Word};
 use flow_tree::ty::Ident;
 use std::alloc::Global;
 
-// A parameter or a field, the one of this number in its declaration.
+// A parameter or a field, the one behind so many in its declaration.
 fn param(
     alloc: Global,
     tokens: &Tokens,
     at: usize,
-    number: u32,
+    before: u32,
+    limits: Limits,
 ) -> Result<(Param, usize), SourceFault>
     requires within { at ≤ length tokens.now.spots.items }
-    ensures reads { Answer (ParamRule number) Any (λ r. param_of r.0) (λ r. r.1) tokens.now at
-        result }
+    ensures reads { Answer limits (ParamRule (before + 1)) Any (λ r. param_of r.0) (λ r. r.1)
+        tokens.now at result }
     ensures moves { IfOk result (λ r. (at < r.1) × (r.1 ≤ length tokens.now.spots.items)) }
-    ensures few { IfOk result (λ r. number ≤ 1000) }
+    ensures few { IfOk result (λ r. before < limits.variables) }
 {
-    if number > VARIABLES {
+    if before >= limits.variables {
         if begins_type(tokens, at) {
             return Err(refused(tokens, Rule::L(6), at));
         }
@@ -48,60 +49,78 @@ fn param(
 }
 
 // The fields of a record, one or more, with the brace behind them.
-fn fields(alloc: Global, tokens: &Tokens, at: usize) -> Result<(Vec<Param>, usize), SourceFault>
+fn fields(
+    alloc: Global,
+    tokens: &Tokens,
+    at: usize,
+    limits: Limits,
+) -> Result<(Vec<Param>, usize), SourceFault>
     requires within { at ≤ length tokens.now.spots.items }
-    ensures reads { Answer AllFields Any (λ r. params_of r.0.items) (λ r. r.1) tokens.now at
+    ensures reads { Answer limits AllFields Any (λ r. params_of r.0.items) (λ r. r.1) tokens.now at
         result }
     ensures moves { IfOk result (λ r. (at < r.1) × (r.1 ≤ length tokens.now.spots.items)) }
 {
     let mut fields = Vec::new(alloc);
-    let (first, at) = param(alloc, tokens, at, 1)?;
+    let (first, at) = param(alloc, tokens, at, 0, limits)?;
     fields.push(first)?;
     let mut at = sign(tokens, at, Sign::Semicolon)?;
-    let mut number = 2;
+    let mut before = 1;
     'items: while !is_sign(tokens, at, Sign::CloseCurly) {
-        let (field, to) = param(alloc, tokens, at, number)?;
+        let (field, to) = param(alloc, tokens, at, before, limits)?;
         fields.push(field)?;
         at = sign(tokens, to, Sign::Semicolon)?;
-        number += 1;
+        before += 1;
     }
     Ok((fields, at + 1))
 }
 
 // The parameters of a routine, with the bracket behind them.
-fn params(alloc: Global, tokens: &Tokens, at: usize) -> Result<(Vec<Param>, usize), SourceFault>
+fn params(
+    alloc: Global,
+    tokens: &Tokens,
+    at: usize,
+    limits: Limits,
+) -> Result<(Vec<Param>, usize), SourceFault>
     requires within { at ≤ length tokens.now.spots.items }
-    ensures reads { Answer Params Any (λ r. params_of r.0.items) (λ r. r.1) tokens.now at result }
+    ensures reads { Answer limits Params Any (λ r. params_of r.0.items) (λ r. r.1) tokens.now at
+        result }
     ensures moves { IfOk result (λ r. (at < r.1) × (r.1 ≤ length tokens.now.spots.items)) }
-    ensures few { IfOk result (λ r. length r.0.items ≤ 1000) }
+    ensures few { IfOk result (λ r. length r.0.items ≤ limits.variables) }
 {
     let mut params = Vec::new(alloc);
     if is_sign(tokens, at, Sign::CloseRound) {
         return Ok((params, at + 1));
     }
-    let (first, mut at) = param(alloc, tokens, at, 1)?;
+    let (first, mut at) = param(alloc, tokens, at, 0, limits)?;
     params.push(first)?;
-    let mut number = 2;
+    let mut before = 1;
     'items: while is_sign(tokens, at, Sign::Comma) {
-        let (next, to) = param(alloc, tokens, at + 1, number)?;
+        let (next, to) = param(alloc, tokens, at + 1, before, limits)?;
         params.push(next)?;
         at = to;
-        number += 1;
+        before += 1;
     }
     let to = sign(tokens, at, Sign::CloseRound)?;
     Ok((params, to))
 }
 
-fn record(alloc: Global, tokens: &Tokens, at: usize) -> Result<(RecordDecl, usize), SourceFault>
+/// The record that begins here, and the number of the token after it. It is refused at the first token with
+/// which none begins: with S5, or with the least of L5 and L6 that can't be kept.
+pub fn record(
+    alloc: Global,
+    tokens: &Tokens,
+    at: usize,
+    limits: Limits,
+) -> Result<(RecordDecl, usize), SourceFault>
     requires within { at ≤ length tokens.now.spots.items }
     requires here { token_at tokens.now.spots.items at ≡ Some (token.Word word.Struct) }
-    ensures reads { Answer Record Any (λ r. record_of r.0) (λ r. r.1) tokens.now at result }
+    ensures reads { Answer limits Record Any (λ r. record_of r.0) (λ r. r.1) tokens.now at result }
     ensures moves { IfOk result (λ r. (at < r.1) × (r.1 ≤ length tokens.now.spots.items)) }
 {
     let here = place(tokens, at);
     let (name, at) = name(alloc, tokens, at + 1)?;
     let at = sign(tokens, at, Sign::OpenCurly)?;
-    let (fields, at) = fields(alloc, tokens, at)?;
+    let (fields, at) = fields(alloc, tokens, at, limits)?;
     let to = sign(tokens, at, Sign::Semicolon)?;
     let record = RecordDecl {
         at: here,
@@ -123,7 +142,7 @@ pub struct ReadRoutine {
 
 // How many parameters there are.
 fn count(params: &Vec<Param>) -> u32
-    requires { length params.now.items ≤ VARIABLES }
+    requires { length params.now.items < 2 ^ 32 }
     ensures { result ≡ length params.now.items }
 {
     params.len() as u32
@@ -134,14 +153,15 @@ fn routine(
     tokens: &Tokens,
     at: usize,
     actor: bool,
+    limits: Limits,
 ) -> Result<ReadRoutine, SourceFault>
     requires within { at ≤ length tokens.now.spots.items }
-    ensures reads { Answer (Routine actor) Any routine_out (λ r. r.to) tokens.now at result }
+    ensures reads { Answer limits (Routine actor) Any routine_out (λ r. r.to) tokens.now at result }
     ensures moves { IfOk result (λ r. (at < r.to) × (r.to ≤ length tokens.now.spots.items)) }
 {
     let (name, at) = name(alloc, tokens, at)?;
     let at = sign(tokens, at, Sign::OpenRound)?;
-    let (params, at) = params(alloc, tokens, at)?;
+    let (params, at) = params(alloc, tokens, at, limits)?;
     let counts = Counts {
         statements: 0,
         variables: count(&params),
@@ -150,6 +170,7 @@ fn routine(
         actor,
         depth: 2,
         counts,
+        limits,
     };
     let read = block(alloc, tokens, at, around)?;
     Ok(ReadRoutine {
@@ -161,14 +182,22 @@ fn routine(
     })
 }
 
-fn function(alloc: Global, tokens: &Tokens, at: usize) -> Result<(FunctionDecl, usize), SourceFault>
+/// The function that begins here, and the number of the token after it. It is refused at the first token
+/// with which none begins: with S5, or with the least of L4 to L7 that can't be kept.
+pub fn function(
+    alloc: Global,
+    tokens: &Tokens,
+    at: usize,
+    limits: Limits,
+) -> Result<(FunctionDecl, usize), SourceFault>
     requires within { at ≤ length tokens.now.spots.items }
-    ensures reads { Answer Function Any (λ r. function_of r.0) (λ r. r.1) tokens.now at result }
+    ensures reads { Answer limits Function Any (λ r. function_of r.0) (λ r. r.1) tokens.now at
+        result }
     ensures moves { IfOk result (λ r. (at < r.1) × (r.1 ≤ length tokens.now.spots.items)) }
 {
     let here = place(tokens, at);
     let (returns, at) = ty(alloc, tokens, at, 1)?;
-    let read = routine(alloc, tokens, at, false)?;
+    let read = routine(alloc, tokens, at, false, limits)?;
     let function = FunctionDecl {
         at: here,
         returns,
@@ -180,10 +209,15 @@ fn function(alloc: Global, tokens: &Tokens, at: usize) -> Result<(FunctionDecl, 
     Ok((function, read.to))
 }
 
-fn actor(alloc: Global, tokens: &Tokens, at: usize) -> Result<(ActorDecl, usize), SourceFault>
+fn actor(
+    alloc: Global,
+    tokens: &Tokens,
+    at: usize,
+    limits: Limits,
+) -> Result<(ActorDecl, usize), SourceFault>
     requires within { at ≤ length tokens.now.spots.items }
     requires here { token_at tokens.now.spots.items at ≡ Some (token.Word word.Actor) }
-    ensures reads { Answer Actor Any (λ r. actor_of r.0) (λ r. r.1) tokens.now at result }
+    ensures reads { Answer limits Actor Any (λ r. actor_of r.0) (λ r. r.1) tokens.now at result }
     ensures moves { IfOk result (λ r. (at < r.1) × (r.1 ≤ length tokens.now.spots.items)) }
 {
     let here = place(tokens, at);
@@ -191,7 +225,7 @@ fn actor(alloc: Global, tokens: &Tokens, at: usize) -> Result<(ActorDecl, usize)
     let at = sign(tokens, at, Sign::Less)?;
     let (returns, at) = ty(alloc, tokens, at, 2)?;
     let at = sign(tokens, at, Sign::Greater)?;
-    let read = routine(alloc, tokens, at, true)?;
+    let read = routine(alloc, tokens, at, true, limits)?;
     let actor = ActorDecl {
         at: here,
         returns,
@@ -211,19 +245,24 @@ pub fn begins_decl(tokens: &Tokens, at: usize) -> bool
 }
 
 /// The declaration that begins here, and the number of the token after it.
-pub fn decl(alloc: Global, tokens: &Tokens, at: usize) -> Result<(Decl, usize), SourceFault>
+pub fn decl(
+    alloc: Global,
+    tokens: &Tokens,
+    at: usize,
+    limits: Limits,
+) -> Result<(Decl, usize), SourceFault>
     requires within { at ≤ length tokens.now.spots.items }
-    ensures reads { Answer DeclRule Any (λ r. decl_of r.0) (λ r. r.1) tokens.now at result }
+    ensures reads { Answer limits DeclRule Any (λ r. decl_of r.0) (λ r. r.1) tokens.now at result }
     ensures moves { IfOk result (λ r. (at < r.1) × (r.1 ≤ length tokens.now.spots.items)) }
 {
     if is_word(tokens, at, Word::Struct) {
-        let (record, to) = record(alloc, tokens, at)?;
+        let (record, to) = record(alloc, tokens, at, limits)?;
         return Ok((Decl::Struct(record), to));
     }
     if is_word(tokens, at, Word::Actor) {
-        let (actor, to) = actor(alloc, tokens, at)?;
+        let (actor, to) = actor(alloc, tokens, at, limits)?;
         return Ok((Decl::Actor(actor), to));
     }
-    let (function, to) = function(alloc, tokens, at)?;
+    let (function, to) = function(alloc, tokens, at, limits)?;
     Ok((Decl::Function(function), to))
 }

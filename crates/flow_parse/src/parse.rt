@@ -6,7 +6,7 @@ use crate::decl::{begins_decl, decl};
 use crate::token::refused;
 use flow_tree::decl::Program;
 use flow_tree::fault::{Rule, SourceFault};
-use flow_tree::limits::{DECLARATIONS, TOKENS};
+use flow_tree::limits::{DECLARATIONS, OF_PROGRAMS, TOKENS};
 use flow_tree::token::Tokens;
 use std::alloc::Global;
 
@@ -30,7 +30,7 @@ pub fn parse(alloc: Global, tokens: &Tokens) -> Result<Program, SourceFault>
         if number > DECLARATIONS {
             return Err(refused(tokens, Rule::L(3), at));
         }
-        let (next, to) = decl(alloc, tokens, at)?;
+        let (next, to) = decl(alloc, tokens, at, OF_PROGRAMS)?;
         decls.push(next)?;
         at = to;
         number += 1;

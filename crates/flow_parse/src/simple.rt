@@ -9,7 +9,7 @@ ghost use Rattle.flow_tree.specs.View.{expr_of, exprs_of};
 ghost use Rattle.flow_tree.specs.StmtView.{into_of, stmt_of};
 ghost use Rattle.flow_tree.specs.Tree.{NamedType};
 ghost use Rattle.flow_tree.specs.Body.{End};
-ghost use Rattle.flow_parse.specs.Reading.{token_at, Any, Answer};
+ghost use Rattle.flow_parse.specs.Reading.{token_at, Any, Answer, AnswerAlways};
 ghost use Rattle.flow_parse.specs.Follow.{ExprEnds, Before, NotBefore};
 ghost use Rattle.flow_parse.specs.Parts.{Test, StatePart, IntoPart, OperandPart, WaitingPart, MoreNames, Args, ChangeRule, ChangedRule, DeclaredRule, ValuedRule, Unended, Init, Simple};
 ghost use Rattle.flow_parse.specs.Views.{counts_of, Within, into_out, stmt_out, waiting_out, Stands};
@@ -20,7 +20,7 @@ use flow_base::place::Place;
 use flow_exprs::token::place;
 use flow_tree::expr::Expr;
 use flow_tree::fault::{Rule, SourceFault};
-use flow_tree::limits::{DEPTH, VARIABLES};
+use flow_tree::limits::{DEPTH, Limits};
 use flow_tree::stmt::{Change, Into, Stmt, Waiting};
 use flow_tree::token::{Sign, Tokens, Word};
 use flow_tree::ty::{Ident, Ty};
@@ -33,12 +33,13 @@ pub struct Counts {
     pub variables: u32,
 }
 
-/// Where a statement stands: whether in an actor, how deep, and how many have begun in the routine before it.
+/// Where a statement stands: whether in an actor, how deep, how many have begun in the routine before it, and within which limits.
 #[derive(Clone, Copy)]
 pub struct Around {
     pub actor: bool,
     pub depth: u32,
     pub counts: Counts,
+    pub limits: Limits,
 }
 
 /// A declared variable that was read.
@@ -74,10 +75,12 @@ pub fn state(
     at: usize,
     actor: bool,
     counts: Counts,
+    limits: Limits,
 ) -> Result<(bool, usize, Counts), SourceFault>
     requires within { at ≤ length tokens.now.spots.items }
-    ensures reads { Answer (StatePart actor (counts_of counts)) (NotBefore (token.Word word.State))
-        (λ r. (r.0, counts_of r.2)) (λ r. r.1) tokens.now at result }
+    ensures reads { Answer limits (StatePart actor (counts_of counts))
+        (NotBefore (token.Word word.State)) (λ r. (r.0, counts_of r.2)) (λ r. r.1) tokens.now at
+        result }
     ensures moves { IfOk result (λ r. (at ≤ r.1) × (r.1 ≤ length tokens.now.spots.items)) }
 {
     if !is_word(tokens, at, Word::State) {
@@ -86,7 +89,7 @@ pub fn state(
     if !actor {
         return Ok((true, at + 1, counts));
     }
-    if counts.variables >= VARIABLES {
+    if counts.variables >= limits.variables {
         return Err(refused(tokens, Rule::L(6), at));
     }
     let counts = Counts {
@@ -105,10 +108,11 @@ pub fn into(
 ) -> Result<ReadInto, SourceFault>
     requires within { at ≤ length tokens.now.spots.items }
     requires shallow { around.depth ≤ DEPTH }
-    ensures reads { Answer (Within IntoPart around) Any into_out (λ r. r.to) tokens.now at result }
+    ensures reads { Answer around.limits (Within IntoPart around) Any into_out (λ r. r.to)
+        tokens.now at result }
     ensures moves { IfOk result (λ r. (at < r.to) × (r.to ≤ length tokens.now.spots.items)) }
 {
-    let (state, at, counts) = state(tokens, at, around.actor, around.counts)?;
+    let (state, at, counts) = state(tokens, at, around.actor, around.counts, around.limits)?;
     let (ty, at) = ty(alloc, tokens, at, around.depth)?;
     let (name, to) = name(alloc, tokens, at)?;
     Ok(ReadInto {
@@ -126,8 +130,8 @@ pub fn more_names(
     at: usize,
 ) -> Result<(Vec<Ident>, usize), SourceFault>
     requires within { at ≤ length tokens.now.spots.items }
-    ensures reads { Answer (MoreNames first) (NotBefore (token.Sign sign.Dot)) (λ r. r.0.items)
-        (λ r. r.1) tokens.now at result }
+    ensures reads { AnswerAlways (MoreNames first) (NotBefore (token.Sign sign.Dot))
+        (λ r. r.0.items) (λ r. r.1) tokens.now at result }
     ensures moves { IfOk result (λ r. (at ≤ r.1) × (r.1 ≤ length tokens.now.spots.items)) }
 {
     let mut path = Vec::new(alloc);
@@ -149,7 +153,8 @@ pub fn test(
     depth: u32,
 ) -> Result<(Expr, usize), SourceFault>
     requires within { at ≤ length tokens.now.spots.items }
-    ensures reads { Answer (Test depth) Any (λ r. expr_of r.0) (λ r. r.1) tokens.now at result }
+    ensures reads { AnswerAlways (Test depth) Any (λ r. expr_of r.0) (λ r. r.1) tokens.now at
+        result }
     ensures moves { IfOk result (λ r. (at < r.1) × (r.1 ≤ length tokens.now.spots.items)) }
 {
     let at = sign(tokens, at, Sign::OpenRound)?;
@@ -167,8 +172,8 @@ pub fn operand(
 ) -> Result<(bool, Expr, usize), SourceFault>
     requires within { at ≤ length tokens.now.spots.items }
     requires shallow { depth ≤ DEPTH }
-    ensures reads { Answer (OperandPart depth) Any (λ r. (r.0, expr_of r.1)) (λ r. r.2) tokens.now
-        at result }
+    ensures reads { AnswerAlways (OperandPart depth) Any (λ r. (r.0, expr_of r.1)) (λ r. r.2)
+        tokens.now at result }
     ensures moves { IfOk result (λ r. (at < r.2) × (r.2 ≤ length tokens.now.spots.items)) }
 {
     if is_word(tokens, at, Word::WaitNext) {
@@ -190,7 +195,7 @@ pub fn arguments(
     depth: u32,
 ) -> Result<(Vec<Expr>, usize), SourceFault>
     requires within { at ≤ length tokens.now.spots.items }
-    ensures reads { Answer (Args depth) Any (λ r. exprs_of r.0.items) (λ r. r.1) tokens.now at
+    ensures reads { AnswerAlways (Args depth) Any (λ r. exprs_of r.0.items) (λ r. r.1) tokens.now at
         result }
     ensures moves { IfOk result (λ r. (at < r.1) × (r.1 ≤ length tokens.now.spots.items)) }
 {
@@ -221,7 +226,7 @@ pub fn change(
 ) -> Result<(Stmt, usize), SourceFault>
     requires within { at ≤ length tokens.now.spots.items }
     requires shallow { depth ≤ DEPTH }
-    ensures reads { Answer (ChangeRule depth place path.items) ExprEnds (λ r. stmt_of r.0 End)
+    ensures reads { AnswerAlways (ChangeRule depth place path.items) ExprEnds (λ r. stmt_of r.0 End)
         (λ r. r.1) tokens.now at result }
     ensures stands { IfOk result (λ r. Stands r.0) }
     ensures moves { IfOk result (λ r. (at < r.1) × (r.1 ≤ length tokens.now.spots.items)) }
@@ -256,8 +261,8 @@ fn changed(
 ) -> Result<(Stmt, usize), SourceFault>
     requires within { at ≤ length tokens.now.spots.items }
     requires shallow { depth ≤ DEPTH }
-    ensures reads { Answer (ChangedRule depth place path.items) ExprEnds (λ r. stmt_of r.0 End)
-        (λ r. r.1) tokens.now at result }
+    ensures reads { AnswerAlways (ChangedRule depth place path.items) ExprEnds
+        (λ r. stmt_of r.0 End) (λ r. r.1) tokens.now at result }
     ensures stands { IfOk result (λ r. Stands r.0) }
     ensures moves { IfOk result (λ r. (at < r.1) × (r.1 ≤ length tokens.now.spots.items)) }
 {
@@ -279,7 +284,7 @@ pub fn declared(
 ) -> Result<(Stmt, usize), SourceFault>
     requires within { at ≤ length tokens.now.spots.items }
     requires shallow { depth ≤ DEPTH }
-    ensures reads { Answer (DeclaredRule depth place (into_of into))
+    ensures reads { AnswerAlways (DeclaredRule depth place (into_of into))
         (Before (token.Sign sign.Semicolon)) (λ r. stmt_of r.0 End) (λ r. r.1) tokens.now at
         result }
     ensures stands { IfOk result (λ r. Stands r.0) }
@@ -303,7 +308,7 @@ fn valued(
 ) -> Result<(Stmt, usize), SourceFault>
     requires within { at ≤ length tokens.now.spots.items }
     requires shallow { depth ≤ DEPTH }
-    ensures reads { Answer (ValuedRule depth place (into_of into))
+    ensures reads { AnswerAlways (ValuedRule depth place (into_of into))
         (Before (token.Sign sign.Semicolon)) (λ r. stmt_of r.0 End) (λ r. r.1) tokens.now at
         result }
     ensures stands { IfOk result (λ r. Stands r.0) }
@@ -341,7 +346,7 @@ pub fn init(
 ) -> Result<ReadStmt, SourceFault>
     requires within { at ≤ length tokens.now.spots.items }
     requires shallow { around.depth ≤ DEPTH }
-    ensures reads { Answer (Within Init around)
+    ensures reads { Answer around.limits (Within Init around)
         (Before (token.Sign sign.Semicolon)) stmt_out (λ r. r.to) tokens.now at result }
     ensures stands { IfOk result (λ r. Stands r.stmt) }
     ensures closed { IfOk result (λ r. r.ends_if ≡ false) }
@@ -379,7 +384,7 @@ fn unended(
 ) -> Result<ReadStmt, SourceFault>
     requires within { at ≤ length tokens.now.spots.items }
     requires shallow { around.depth ≤ DEPTH }
-    ensures reads { Answer (Within Unended around)
+    ensures reads { Answer around.limits (Within Unended around)
         (Before (token.Sign sign.Semicolon)) stmt_out (λ r. r.to) tokens.now at result }
     ensures stands { IfOk result (λ r. Stands r.stmt) }
     ensures closed { IfOk result (λ r. r.ends_if ≡ false) }
@@ -437,7 +442,8 @@ pub fn simple(
 ) -> Result<ReadStmt, SourceFault>
     requires within { at ≤ length tokens.now.spots.items }
     requires shallow { around.depth ≤ DEPTH }
-    ensures reads { Answer (Within Simple around) Any stmt_out (λ r. r.to) tokens.now at result }
+    ensures reads { Answer around.limits (Within Simple around) Any stmt_out (λ r. r.to) tokens.now
+        at result }
     ensures stands { IfOk result (λ r. Stands r.stmt) }
     ensures closed { IfOk result (λ r. r.ends_if ≡ false) }
     ensures moves { IfOk result (λ r. (at < r.to) × (r.to ≤ length tokens.now.spots.items)) }
@@ -462,7 +468,7 @@ pub fn waiting(
 ) -> Result<ReadWaiting, SourceFault>
     requires within { at ≤ length tokens.now.spots.items }
     requires shallow { around.depth ≤ DEPTH }
-    ensures reads { Answer (Within WaitingPart around) Any waiting_out (λ r. r.to)
+    ensures reads { Answer around.limits (Within WaitingPart around) Any waiting_out (λ r. r.to)
         tokens.now at result }
     ensures moves { IfOk result (λ r. (at < r.to) × (r.to ≤ length tokens.now.spots.items)) }
 {

@@ -11,7 +11,7 @@ ghost use Rattle.flow_tree.specs.StmtView.{stmt_of};
 ghost use Rattle.flow_tree.specs.Body.{End};
 ghost use Rattle.flow_tree.specs.GrammarStmt.{one_statement};
 ghost use Rattle.flow_tree.specs.GrammarAnswer.{place_at};
-ghost use Rattle.flow_parse.specs.Reading.{token_at, Any, Answer};
+ghost use Rattle.flow_parse.specs.Reading.{token_at, Any, Answer, AnswerAlways};
 ghost use Rattle.flow_parse.specs.Follow.{ExprEnds, NotBefore};
 ghost use Rattle.flow_parse.specs.Openers.{AsFirst, IntoToken, StmtWord, StmtToken};
 ghost use Rattle.flow_parse.specs.Beyond.{Beyond};
@@ -29,7 +29,7 @@ use flow_base::place::Place;
 use flow_exprs::token::place;
 use flow_tree::expr::Expr;
 use flow_tree::fault::{Rule, SourceFault};
-use flow_tree::limits::{BRANCHES, DEPTH, STATEMENTS};
+use flow_tree::limits::{DEPTH, Limits};
 use flow_tree::stmt::{Stmt, Waiting, When};
 use flow_tree::token::{Sign, Token, Tokens, Word};
 use flow_tree::ty::Ident;
@@ -123,13 +123,19 @@ fn begins_stmt(tokens: &Tokens, at: usize) -> bool
 }
 
 // One more statement, which begins here: L4 where it is one too many, then L5 where it is too deep.
-fn begin(tokens: &Tokens, at: usize, depth: u32, counts: Counts) -> Result<Counts, SourceFault>
-    ensures within { IfOk result (λ c. (depth ≤ DEPTH) × (counts.statements < STATEMENTS)) }
+fn begin(
+    tokens: &Tokens,
+    at: usize,
+    depth: u32,
+    counts: Counts,
+    limits: Limits,
+) -> Result<Counts, SourceFault>
+    ensures within { IfOk result (λ c. (depth ≤ DEPTH) × (counts.statements < limits.statements)) }
     ensures one { IfOk result (λ c. counts_of c ≡ one_statement (counts_of counts)) }
-    ensures beyond { IfErr result (λ e. Beyond (counts_of counts) depth (place_at tokens.now at)
-        e) }
+    ensures beyond { IfErr result (λ e. Beyond limits (counts_of counts) depth
+        (place_at tokens.now at) e) }
 {
-    if counts.statements >= STATEMENTS {
+    if counts.statements >= limits.statements {
         return Err(refused(tokens, Rule::L(4), at));
     }
     if depth > DEPTH {
@@ -146,14 +152,15 @@ fn begin(tokens: &Tokens, at: usize, depth: u32, counts: Counts) -> Result<Count
 fn stmt(alloc: Global, tokens: &Tokens, at: usize, around: Around) -> Result<ReadStmt, SourceFault>
     requires within { at ≤ length tokens.now.spots.items }
     requires shallow { around.depth ≤ 65 }
-    ensures reads { Answer (Within One around) NoElse stmt_out (λ r. r.to) tokens.now at result }
+    ensures reads { Answer around.limits (Within One around) NoElse stmt_out (λ r. r.to) tokens.now
+        at result }
     ensures stands { IfOk result (λ r. Stands r.stmt) }
     ensures moves { IfOk result (λ r. (at < r.to) × (r.to ≤ length tokens.now.spots.items)) }
 {
     if !begins_stmt(tokens, at) {
         return Err(refused(tokens, Rule::S(5), at));
     }
-    let counts = begin(tokens, at, around.depth, around.counts)?;
+    let counts = begin(tokens, at, around.depth, around.counts, around.limits)?;
     if !is_sign(tokens, at, Sign::OpenCurly) {
         let around = Around { counts, ..around };
         return plain(alloc, tokens, at, around);
@@ -173,7 +180,7 @@ fn stmt(alloc: Global, tokens: &Tokens, at: usize, around: Around) -> Result<Rea
 fn body(alloc: Global, tokens: &Tokens, at: usize, around: Around) -> Result<ReadBody, SourceFault>
     requires within { at ≤ length tokens.now.spots.items }
     requires shallow { around.depth ≤ 65 }
-    ensures reads { Answer (Within BodyPart around) NoElse body_out (λ r. r.to)
+    ensures reads { Answer around.limits (Within BodyPart around) NoElse body_out (λ r. r.to)
         tokens.now at result }
     ensures moves { IfOk result (λ r. (at < r.to) × (r.to ≤ length tokens.now.spots.items)) }
 {
@@ -189,7 +196,7 @@ fn body(alloc: Global, tokens: &Tokens, at: usize, around: Around) -> Result<Rea
     if !begins_stmt(tokens, at) {
         return Err(refused(tokens, Rule::S(5), at));
     }
-    let counts = begin(tokens, at, around.depth, around.counts)?;
+    let counts = begin(tokens, at, around.depth, around.counts, around.limits)?;
     let around = Around { counts, ..around };
     let read = plain(alloc, tokens, at, around)?;
     let mut body = Vec::new(alloc);
@@ -212,7 +219,8 @@ pub fn block(
 ) -> Result<ReadBlock, SourceFault>
     requires within { at ≤ length tokens.now.spots.items }
     requires shallow { around.depth ≤ 65 }
-    ensures reads { Answer (Within Block around) Any block_out (λ r. r.to) tokens.now at result }
+    ensures reads { Answer around.limits (Within Block around) Any block_out (λ r. r.to) tokens.now
+        at result }
     ensures moves { IfOk result (λ r. (at < r.to) × (r.to ≤ length tokens.now.spots.items)) }
 {
     let at = sign(tokens, at, Sign::OpenCurly)?;
@@ -229,7 +237,8 @@ fn stmts(
 ) -> Result<ReadBlock, SourceFault>
     requires within { at ≤ length tokens.now.spots.items }
     requires shallow { around.depth ≤ 65 }
-    ensures reads { Answer (Within Closing around) Any block_out (λ r. r.to) tokens.now at result }
+    ensures reads { Answer around.limits (Within Closing around) Any block_out (λ r. r.to)
+        tokens.now at result }
     ensures moves { IfOk result (λ r. (at < r.to) × (r.to ≤ length tokens.now.spots.items)) }
 {
     let mut body = Vec::new(alloc);
@@ -255,7 +264,8 @@ fn stmts(
 fn plain(alloc: Global, tokens: &Tokens, at: usize, around: Around) -> Result<ReadStmt, SourceFault>
     requires within { at ≤ length tokens.now.spots.items }
     requires shallow { around.depth ≤ DEPTH }
-    ensures reads { Answer (Within Plain around) NoElse stmt_out (λ r. r.to) tokens.now at result }
+    ensures reads { Answer around.limits (Within Plain around) NoElse stmt_out (λ r. r.to)
+        tokens.now at result }
     ensures stands { IfOk result (λ r. Stands r.stmt) }
     ensures moves { IfOk result (λ r. (at < r.to) × (r.to ≤ length tokens.now.spots.items)) }
 {
@@ -296,7 +306,8 @@ fn plain(alloc: Global, tokens: &Tokens, at: usize, around: Around) -> Result<Re
 fn break_stmt(tokens: &Tokens, at: usize, around: Around) -> Result<ReadStmt, SourceFault>
     requires within { at ≤ length tokens.now.spots.items }
     requires here { token_at tokens.now.spots.items at ≡ Some (token.Word word.Break) }
-    ensures reads { Answer (Within Plain around) NoElse stmt_out (λ r. r.to) tokens.now at result }
+    ensures reads { Answer around.limits (Within Plain around) NoElse stmt_out (λ r. r.to)
+        tokens.now at result }
     ensures stands { IfOk result (λ r. Stands r.stmt) }
     ensures moves { IfOk result (λ r. (at < r.to) × (r.to ≤ length tokens.now.spots.items)) }
 {
@@ -308,7 +319,8 @@ fn break_stmt(tokens: &Tokens, at: usize, around: Around) -> Result<ReadStmt, So
 fn continue_stmt(tokens: &Tokens, at: usize, around: Around) -> Result<ReadStmt, SourceFault>
     requires within { at ≤ length tokens.now.spots.items }
     requires here { token_at tokens.now.spots.items at ≡ Some (token.Word word.Continue) }
-    ensures reads { Answer (Within Plain around) NoElse stmt_out (λ r. r.to) tokens.now at result }
+    ensures reads { Answer around.limits (Within Plain around) NoElse stmt_out (λ r. r.to)
+        tokens.now at result }
     ensures stands { IfOk result (λ r. Stands r.stmt) }
     ensures moves { IfOk result (λ r. (at < r.to) × (r.to ≤ length tokens.now.spots.items)) }
 {
@@ -328,7 +340,8 @@ fn if_stmt(
     requires within { at ≤ length tokens.now.spots.items }
     requires shallow { around.depth ≤ DEPTH }
     requires here { token_at tokens.now.spots.items at ≡ Some (token.Word word.If) }
-    ensures reads { Answer (Within Plain around) NoElse stmt_out (λ r. r.to) tokens.now at result }
+    ensures reads { Answer around.limits (Within Plain around) NoElse stmt_out (λ r. r.to)
+        tokens.now at result }
     ensures stands { IfOk result (λ r. Stands r.stmt) }
     ensures moves { IfOk result (λ r. (at < r.to) × (r.to ≤ length tokens.now.spots.items)) }
 {
@@ -370,7 +383,8 @@ fn while_stmt(
     requires within { at ≤ length tokens.now.spots.items }
     requires shallow { around.depth ≤ DEPTH }
     requires here { token_at tokens.now.spots.items at ≡ Some (token.Word word.While) }
-    ensures reads { Answer (Within Plain around) NoElse stmt_out (λ r. r.to) tokens.now at result }
+    ensures reads { Answer around.limits (Within Plain around) NoElse stmt_out (λ r. r.to)
+        tokens.now at result }
     ensures stands { IfOk result (λ r. Stands r.stmt) }
     ensures moves { IfOk result (λ r. (at < r.to) × (r.to ≤ length tokens.now.spots.items)) }
 {
@@ -399,7 +413,8 @@ fn loop_stmt(
     requires within { at ≤ length tokens.now.spots.items }
     requires shallow { around.depth ≤ DEPTH }
     requires here { token_at tokens.now.spots.items at ≡ Some (token.Word word.Loop) }
-    ensures reads { Answer (Within Plain around) NoElse stmt_out (λ r. r.to) tokens.now at result }
+    ensures reads { Answer around.limits (Within Plain around) NoElse stmt_out (λ r. r.to)
+        tokens.now at result }
     ensures stands { IfOk result (λ r. Stands r.stmt) }
     ensures moves { IfOk result (λ r. (at < r.to) × (r.to ≤ length tokens.now.spots.items)) }
 {
@@ -435,7 +450,8 @@ fn start_part(
 ) -> Result<ReadPart, SourceFault>
     requires within { at ≤ length tokens.now.spots.items }
     requires shallow { around.depth ≤ 65 }
-    ensures reads { Answer (Within StartPart around) Any part_out (λ r. r.to) tokens.now at result }
+    ensures reads { Answer around.limits (Within StartPart around) Any part_out (λ r. r.to)
+        tokens.now at result }
     ensures moves { IfOk result (λ r. (at < r.to) × (r.to ≤ length tokens.now.spots.items)) }
 {
     if is_sign(tokens, at, Sign::Semicolon) {
@@ -448,7 +464,7 @@ fn start_part(
     if !begins_init(tokens, at) {
         return Err(refused(tokens, Rule::S(5), at));
     }
-    let counts = begin(tokens, at, around.depth, around.counts)?;
+    let counts = begin(tokens, at, around.depth, around.counts, around.limits)?;
     let around = Around { counts, ..around };
     let read = init(alloc, tokens, at, around)?;
     let part = boxed(alloc, read.stmt)?;
@@ -467,11 +483,12 @@ fn next_part(
     at: usize,
     depth: u32,
     counts: Counts,
+    limits: Limits,
 ) -> Result<ReadPart, SourceFault>
     requires within { at ≤ length tokens.now.spots.items }
     requires shallow { depth ≤ 65 }
-    ensures reads { Answer (NextPart depth (counts_of counts)) Any part_out (λ r. r.to) tokens.now
-        at result }
+    ensures reads { Answer limits (NextPart depth (counts_of counts)) Any part_out (λ r. r.to)
+        tokens.now at result }
     ensures moves { IfOk result (λ r. (at < r.to) × (r.to ≤ length tokens.now.spots.items)) }
 {
     if is_sign(tokens, at, Sign::CloseRound) {
@@ -484,7 +501,7 @@ fn next_part(
     if !is_name(tokens, at) {
         return Err(refused(tokens, Rule::S(5), at));
     }
-    let counts = begin(tokens, at, depth, counts)?;
+    let counts = begin(tokens, at, depth, counts, limits)?;
     let (stmt, at) = assignment(alloc, tokens, at, depth)?;
     let part = boxed(alloc, stmt)?;
     let to = sign(tokens, at, Sign::CloseRound)?;
@@ -504,8 +521,8 @@ fn assignment(
 ) -> Result<(Stmt, usize), SourceFault>
     requires within { at ≤ length tokens.now.spots.items }
     requires shallow { depth ≤ DEPTH }
-    ensures reads { Answer (Assignment depth) ExprEnds (λ r. stmt_of r.0 End) (λ r. r.1) tokens.now
-        at result }
+    ensures reads { AnswerAlways (Assignment depth) ExprEnds (λ r. stmt_of r.0 End) (λ r. r.1)
+        tokens.now at result }
     ensures moves { IfOk result (λ r. (at < r.1) × (r.1 ≤ length tokens.now.spots.items)) }
 {
     let (first, at) = name(alloc, tokens, at)?;
@@ -522,8 +539,8 @@ fn maybe_expr(
     depth: u32,
 ) -> Result<(Option<Expr>, usize), SourceFault>
     requires within { at ≤ length tokens.now.spots.items }
-    ensures reads { Answer (MaybeExpr depth) Any (λ r. option_map expr_of r.0) (λ r. r.1) tokens.now
-        at result }
+    ensures reads { AnswerAlways (MaybeExpr depth) Any (λ r. option_map expr_of r.0) (λ r. r.1)
+        tokens.now at result }
     ensures moves { IfOk result (λ r. (at < r.1) × (r.1 ≤ length tokens.now.spots.items)) }
 {
     if is_sign(tokens, at, Sign::Semicolon) {
@@ -544,7 +561,8 @@ fn for_stmt(
     requires within { at ≤ length tokens.now.spots.items }
     requires shallow { around.depth ≤ DEPTH }
     requires here { token_at tokens.now.spots.items at ≡ Some (token.Word word.For) }
-    ensures reads { Answer (Within Plain around) NoElse stmt_out (λ r. r.to) tokens.now at result }
+    ensures reads { Answer around.limits (Within Plain around) NoElse stmt_out (λ r. r.to)
+        tokens.now at result }
     ensures stands { IfOk result (λ r. Stands r.stmt) }
     ensures moves { IfOk result (λ r. (at < r.to) × (r.to ≤ length tokens.now.spots.items)) }
 {
@@ -556,7 +574,14 @@ fn for_stmt(
     };
     let start = start_part(alloc, tokens, at, deeper)?;
     let (test, at) = maybe_expr(alloc, tokens, start.to, around.depth + 1)?;
-    let next = next_part(alloc, tokens, at, around.depth + 1, start.counts)?;
+    let next = next_part(
+        alloc,
+        tokens,
+        at,
+        around.depth + 1,
+        start.counts,
+        around.limits,
+    )?;
     let deeper = Around {
         counts: next.counts,
         ..deeper
@@ -579,7 +604,8 @@ fn return_stmt(
     requires within { at ≤ length tokens.now.spots.items }
     requires shallow { around.depth ≤ DEPTH }
     requires here { token_at tokens.now.spots.items at ≡ Some (token.Word word.Return) }
-    ensures reads { Answer (Within Plain around) NoElse stmt_out (λ r. r.to) tokens.now at result }
+    ensures reads { Answer around.limits (Within Plain around) NoElse stmt_out (λ r. r.to)
+        tokens.now at result }
     ensures stands { IfOk result (λ r. Stands r.stmt) }
     ensures moves { IfOk result (λ r. (at < r.to) × (r.to ≤ length tokens.now.spots.items)) }
 {
@@ -598,7 +624,8 @@ fn throw_stmt(
     requires within { at ≤ length tokens.now.spots.items }
     requires shallow { around.depth ≤ DEPTH }
     requires here { token_at tokens.now.spots.items at ≡ Some (token.Word word.Throw) }
-    ensures reads { Answer (Within Plain around) NoElse stmt_out (λ r. r.to) tokens.now at result }
+    ensures reads { Answer around.limits (Within Plain around) NoElse stmt_out (λ r. r.to)
+        tokens.now at result }
     ensures stands { IfOk result (λ r. Stands r.stmt) }
     ensures moves { IfOk result (λ r. (at < r.to) × (r.to ≤ length tokens.now.spots.items)) }
 {
@@ -610,7 +637,7 @@ fn throw_stmt(
 // `"catch" "(" "Error" "&" name ")"`.
 fn catch(alloc: Global, tokens: &Tokens, at: usize) -> Result<(Place, Ident, usize), SourceFault>
     requires within { at ≤ length tokens.now.spots.items }
-    ensures reads { Answer Catch Any (λ r. (r.0, r.1)) (λ r. r.2) tokens.now at result }
+    ensures reads { AnswerAlways Catch Any (λ r. (r.0, r.1)) (λ r. r.2) tokens.now at result }
     ensures moves { IfOk result (λ r. (at < r.2) × (r.2 ≤ length tokens.now.spots.items)) }
 {
     let here = place(tokens, at);
@@ -633,7 +660,8 @@ fn try_stmt(
     requires within { at ≤ length tokens.now.spots.items }
     requires shallow { around.depth ≤ DEPTH }
     requires here { token_at tokens.now.spots.items at ≡ Some (token.Word word.Try) }
-    ensures reads { Answer (Within Plain around) NoElse stmt_out (λ r. r.to) tokens.now at result }
+    ensures reads { Answer around.limits (Within Plain around) NoElse stmt_out (λ r. r.to)
+        tokens.now at result }
     ensures stands { IfOk result (λ r. Stands r.stmt) }
     ensures moves { IfOk result (λ r. (at < r.to) × (r.to ≤ length tokens.now.spots.items)) }
 {
@@ -663,7 +691,8 @@ fn choose(
     requires within { at ≤ length tokens.now.spots.items }
     requires shallow { around.depth ≤ DEPTH }
     requires here { token_at tokens.now.spots.items at ≡ Some (token.Word word.Choose) }
-    ensures reads { Answer (Within Plain around) NoElse stmt_out (λ r. r.to) tokens.now at result }
+    ensures reads { Answer around.limits (Within Plain around) NoElse stmt_out (λ r. r.to)
+        tokens.now at result }
     ensures stands { IfOk result (λ r. Stands r.stmt) }
     ensures moves { IfOk result (λ r. (at < r.to) × (r.to ≤ length tokens.now.spots.items)) }
 {
@@ -687,22 +716,23 @@ fn whens(
 ) -> Result<ReadWhens, SourceFault>
     requires within { at ≤ length tokens.now.spots.items }
     requires shallow { around.depth ≤ 65 }
-    ensures reads { Answer (Within AllWhens around) Any whens_out (λ r. r.to) tokens.now at result }
+    ensures reads { Answer around.limits (Within AllWhens around) Any whens_out (λ r. r.to)
+        tokens.now at result }
     ensures moves { IfOk result (λ r. (at < r.to) × (r.to ≤ length tokens.now.spots.items)) }
 {
-    let first = when(alloc, tokens, at, 1, around)?;
+    let first = when(alloc, tokens, at, 0, around)?;
     let mut branches = Vec::new(alloc);
     let mut at = first.to;
     let mut counts = first.counts;
-    let mut number = 2;
+    let mut before = 1;
     branches.push(build::when_branch(first.at, first.waiting, first.body))?;
     'branches: while is_word(tokens, at, Word::When) {
         let around = Around { counts, ..around };
-        let read = when(alloc, tokens, at, number, around)?;
+        let read = when(alloc, tokens, at, before, around)?;
         branches.push(build::when_branch(read.at, read.waiting, read.body))?;
         at = read.to;
         counts = read.counts;
-        number += 1;
+        before += 1;
     }
     let to = sign(tokens, at, Sign::CloseCurly)?;
     Ok(ReadWhens {
@@ -712,20 +742,21 @@ fn whens(
     })
 }
 
-// The branch of this number.
+// The branch that stands behind so many.
 #[cycle(stmt)]
 fn when(
     alloc: Global,
     tokens: &Tokens,
     at: usize,
-    number: u32,
+    before: u32,
     around: Around,
 ) -> Result<ReadWhen, SourceFault>
     requires within { at ≤ length tokens.now.spots.items }
     requires shallow { around.depth ≤ 65 }
-    ensures reads { Answer (WhenPart around.actor around.depth number (counts_of around.counts))
-        (NotBefore (token.Word word.Else)) when_out (λ r. r.to) tokens.now at result }
-    ensures few { IfOk result (λ r. number ≤ BRANCHES) }
+    ensures reads { Answer around.limits (WhenPart around.actor around.depth (before + 1)
+        (counts_of around.counts)) (NotBefore (token.Word word.Else)) when_out (λ r. r.to)
+        tokens.now at result }
+    ensures few { IfOk result (λ r. before < around.limits.branches) }
     ensures moves { IfOk result (λ r. (at < r.to) × (r.to ≤ length tokens.now.spots.items)) }
 {
     if !is_word(tokens, at, Word::When) {
@@ -734,7 +765,7 @@ fn when(
     if around.depth > DEPTH {
         return Err(refused(tokens, Rule::L(5), at));
     }
-    if number > BRANCHES {
+    if before >= around.limits.branches {
         return Err(refused(tokens, Rule::L(7), at));
     }
     let here = place(tokens, at);

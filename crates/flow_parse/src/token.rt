@@ -5,7 +5,7 @@ ghost use Rattle.std.specs.Bool.{OnTrue};
 ghost use Rattle.flow_tree.specs.GrammarAnswer.{place_at};
 ghost use Rattle.flow_tree.specs.View.{type_of, expr_of};
 ghost use Rattle.flow_tree.specs.Grammar.{TypeRule, ExprRule};
-ghost use Rattle.flow_parse.specs.Reading.{token_at, Tok, Named, Any, Answer};
+ghost use Rattle.flow_parse.specs.Reading.{token_at, Tok, Named, Any, AnswerAlways};
 ghost use Rattle.flow_parse.specs.Openers.{AsFirst, NameToken, ExprToken, TypeToken, TypeWord, WaitToken};
 ghost use Rattle.flow_exprs.specs.Answer.{ident_at};
 ghost use Rattle.flow_parse.specs.Follow.{ExprEnds};
@@ -97,8 +97,8 @@ pub fn begins_wait(tokens: &Tokens, at: usize) -> bool
 
 /// The number of the token after this sign; S5 where it doesn't stand here.
 pub fn sign(tokens: &Tokens, at: usize, wanted: Sign) -> Result<usize, SourceFault>
-    ensures reads { Answer (Tok (Token.Sign wanted)) Any (λ to. place_at tokens.now at) (λ to. to)
-        tokens.now at result }
+    ensures reads { AnswerAlways (Tok (Token.Sign wanted)) Any (λ to. place_at tokens.now at)
+        (λ to. to) tokens.now at result }
     ensures moves { IfOk result (λ to. (to ≡ at + 1) × (to ≤ length tokens.now.spots.items)) }
 {
     if !is_sign(tokens, at, wanted) {
@@ -109,8 +109,8 @@ pub fn sign(tokens: &Tokens, at: usize, wanted: Sign) -> Result<usize, SourceFau
 
 /// The number of the token after this word; S5 where it doesn't stand here.
 pub fn word(tokens: &Tokens, at: usize, wanted: Word) -> Result<usize, SourceFault>
-    ensures reads { Answer (Tok (Token.Word wanted)) Any (λ to. place_at tokens.now at) (λ to. to)
-        tokens.now at result }
+    ensures reads { AnswerAlways (Tok (Token.Word wanted)) Any (λ to. place_at tokens.now at)
+        (λ to. to) tokens.now at result }
     ensures moves { IfOk result (λ to. (to ≡ at + 1) × (to ≤ length tokens.now.spots.items)) }
 {
     if !is_word(tokens, at, wanted) {
@@ -133,7 +133,7 @@ pub fn read_name(alloc: Global, tokens: &Tokens, at: usize) -> Result<Option<Ide
 /// The name that stands here, and the number of the token after it; S5 where none does.
 pub fn name(alloc: Global, tokens: &Tokens, at: usize) -> Result<(Ident, usize), SourceFault>
     requires within { at ≤ length tokens.now.spots.items }
-    ensures reads { Answer Named Any (λ r. r.0) (λ r. r.1) tokens.now at result }
+    ensures reads { AnswerAlways Named Any (λ r. r.0) (λ r. r.1) tokens.now at result }
     ensures moves { IfOk result (λ r. (r.1 ≡ at + 1) × (r.1 ≤ length tokens.now.spots.items)) }
 {
     let Some(name) = read_name(alloc, tokens, at)? else {
@@ -146,7 +146,8 @@ pub fn name(alloc: Global, tokens: &Tokens, at: usize) -> Result<(Ident, usize),
 pub fn ty(alloc: Global, tokens: &Tokens, at: usize, depth: u32) -> Result<(Ty, usize), SourceFault>
     requires within { at ≤ length tokens.now.spots.items }
     requires shallow { depth ≤ DEPTH }
-    ensures reads { Answer (TypeRule depth) Any (λ r. type_of r.0) (λ r. r.1) tokens.now at result }
+    ensures reads { AnswerAlways (TypeRule depth) Any (λ r. type_of r.0) (λ r. r.1) tokens.now at
+        result }
     ensures moves { IfOk result (λ r. (at < r.1) × (r.1 ≤ length tokens.now.spots.items)) }
 {
     parse_type(alloc, tokens, at, depth)
@@ -161,8 +162,8 @@ pub fn expr(
     depth: u32,
 ) -> Result<(Expr, usize), SourceFault>
     requires within { at ≤ length tokens.now.spots.items }
-    ensures reads { Answer (ExprRule 0 depth) ExprEnds (λ r. expr_of r.0) (λ r. r.1) tokens.now at
-        result }
+    ensures reads { AnswerAlways (ExprRule 0 depth) ExprEnds (λ r. expr_of r.0) (λ r. r.1)
+        tokens.now at result }
     ensures moves { IfOk result (λ r. (at < r.1) × (r.1 ≤ length tokens.now.spots.items)) }
 {
     if depth <= DEPTH {

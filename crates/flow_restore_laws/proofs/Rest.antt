@@ -2,3 +2,4 @@ pub mod Boots
 pub mod Onwards
 pub mod Rests
 pub mod Worlds
+pub mod Counted

@@ -1,2 +1,3 @@
 pub mod Booting
 pub mod Boundary
+pub mod Counted

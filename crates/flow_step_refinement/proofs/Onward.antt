@@ -141,7 +141,7 @@ module _ (r : RawTree) (ls : List Line) (m : Process) (p : Proc Frame) (i : ℕ)
         free = record { waits = st.free.waits; keeps = st.free.keeps };
         operands = st.operands;
       } in
-      let to : gone.LiveFrameRepresents s s.place (suc s.instruction) t = record { actor = refl; class = refl; place = refl; instruction = refl; noted = refl } in
+      let to : gone.Stands s s.place (suc s.instruction) t = record { actor = refl; class = refl; place = refl; instruction = refl; noted = refl } in
       let stood1 = subst (λ us. RepresentsActor r ls (with_refs us x) m1 q i e k) (sym same) stood in
       let over = left_over r ls m1 q i e k x s t s.place (suc s.instruction) f.state vs pace n stood1 may1 to after in
       let there = over_after r ls m m1 seen i e before k g x t (refs_in (map value_of vs)) rs pace n same over in

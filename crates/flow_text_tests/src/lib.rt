@@ -1,6 +1,6 @@
-//! Tests of what reads and writes program texts, apart from it, so that a change of one doesn't prove the others again: of
-//! `flow_lex` (`tokens`), `flow_exprs` (`expressions`, `types`, `nested`), `flow_parse` (`programs`), `flow_show` (`canonical`)
-//! and `flow_refusal` (`notes`).
+//! Tests of what reads and writes program texts, as far as only calls show it: tokens (`flow_lex`), trees of expressions and types
+//! (`flow_exprs`), lines that a sink takes (`flow_show`), and answers that no program gives (`flow_refusal`). What the program tells of
+//! texts stands in the folder cases/ at the top.
 //! In each a function that owns what is tested has one end, since it is dropped at every end.
 #![tactic(auto)]
 
@@ -12,8 +12,6 @@ mod expressions;
 mod nested;
 #[cfg(test)]
 mod notes;
-#[cfg(test)]
-mod programs;
 #[cfg(test)]
 mod reading;
 #[cfg(test)]

@@ -2,7 +2,6 @@
 
 use crate::reading::lexed;
 use flow_base::memory::NoMemory;
-use flow_tree::fault::{Rule, SourceFault};
 use flow_tree::token::{Sign, Spot, Token, Tokens, Word};
 use std::alloc::Global;
 
@@ -88,51 +87,6 @@ const READ: [(&[u8], &str); 38] = [
         b"1\"2\"3",
         "1:1 number 1  1:2 text 2  1:5 number 3  1:6 end",
     ),
-];
-
-/// Texts that are refused, each with the number of the rule, the line and the column.
-const REFUSED: [(&[u8], u8, u32, u32); 41] = [
-    (b"#include", 1, 1, 1),
-    (b"\"abc", 2, 1, 1),
-    (b"/* x", 3, 1, 1),
-    (b"9223372036854775808", 4, 1, 1),
-    (b"\"abc\r\n", 1, 1, 5),
-    (b"\"a\tb\"", 1, 1, 3),
-    (b"\"a\x7f\"", 1, 1, 3),
-    (b"\"a\x0b\"", 1, 1, 3),
-    (b"\"\\", 1, 1, 2),
-    (b"\"\\x", 1, 1, 2),
-    (b"\"\\x4", 1, 1, 2),
-    (b"\"\\x4g\"", 1, 1, 2),
-    (b"\"\\\n", 1, 1, 2),
-    (b"\"\\q\"", 1, 1, 2),
-    (b"\"\\X41\"", 1, 1, 2),
-    (b"/*/", 3, 1, 1),
-    (b"/**", 3, 1, 1),
-    (b"/* *", 3, 1, 1),
-    (b"a\x0bb", 1, 1, 2),
-    (b"a\x0cb", 1, 1, 2),
-    (b"\x00", 1, 1, 1),
-    (b"\x80", 1, 1, 1),
-    (b"a @", 1, 1, 3),
-    (b"|", 1, 1, 1),
-    (b"a | b", 1, 1, 3),
-    (b"$", 1, 1, 1),
-    (b"'a'", 1, 1, 1),
-    (b"?", 1, 1, 1),
-    (b"~", 1, 1, 1),
-    (b"^", 1, 1, 1),
-    (b":", 1, 1, 1),
-    (b"a\n  \"bc\nd\"", 2, 2, 3),
-    (b"\n\n /* a\n", 3, 3, 2),
-    (b"99999999999999999999 #", 4, 1, 1),
-    (b"# 99999999999999999999", 1, 1, 1),
-    (b"\"a\" \"b", 2, 1, 5),
-    (b"\"a\" \"b\t", 1, 1, 7),
-    (b"/*\n*/ #", 1, 2, 4),
-    (b"\"\x00\"", 1, 1, 2),
-    (b"a\\n", 1, 1, 2),
-    (b"/* */ */ *@", 1, 1, 11),
 ];
 
 fn push_bytes(out: &mut String, bytes: &[u8]) -> Result<(), NoMemory> {
@@ -229,34 +183,6 @@ fn texts_are_read(rt: HostRuntime) -> Result<(), NoMemory> {
     Ok(())
 }
 
-fn is_refusal(fault: Option<SourceFault>, number: u8, line: u32, column: u32) -> bool {
-    match fault {
-        Some(SourceFault::Refused { rule, at }) => {
-            rule == Rule::S(number) && at.line == line && at.column == column
-        }
-        _ => false,
-    }
-}
-
-// Whether a text is refused by rule S of this number at this line and column.
-fn refuses(alloc: Global, text: &[u8], number: u8, line: u32, column: u32) -> bool {
-    is_refusal(lexed(alloc, text).err(), number, line, column)
-}
-
-fn first_unrefused(alloc: Global) -> Option<&'static [u8]> {
-    for (text, number, line, column) in &REFUSED {
-        if !refuses(alloc, *text, *number, *line, *column) {
-            return Some(*text);
-        }
-    }
-    None
-}
-
-#[test]
-fn texts_are_refused(rt: HostRuntime) {
-    assert_eq!(rt; first_unrefused(rt.alloc()), None);
-}
-
 // The one token of a text.
 fn only(tokens: &Tokens) -> Option<&Token> {
     match tokens.spots.as_slice() {
@@ -319,102 +245,17 @@ fn every_word_and_sign(rt: HostRuntime) {
     assert_eq!(rt; first_unread_sign(rt.alloc()), None);
 }
 
+// A text this many times.
+fn repeated(alloc: Global, part: &[u8], count: usize) -> Result<Vec<u8>, NoMemory> {
+    let mut text = Vec::new(alloc);
+    add_times(&mut text, part, count)?;
+    Ok(text)
+}
+
 fn add_times(text: &mut Vec<u8>, part: &[u8], count: usize) -> Result<(), NoMemory> {
     for _ in 0..count {
         text.extend_from_slice(part)?;
     }
-    Ok(())
-}
-
-// A part of a text this many times, between two others.
-fn add_between(
-    text: &mut Vec<u8>,
-    (first, last): (&[u8], &[u8]),
-    part: &[u8],
-    count: usize,
-) -> Result<(), NoMemory> {
-    text.extend_from_slice(first)?;
-    add_times(text, part, count)?;
-    text.extend_from_slice(last)?;
-    Ok(())
-}
-
-fn repeated(
-    alloc: Global,
-    around: (&[u8], &[u8]),
-    part: &[u8],
-    count: usize,
-) -> Result<Vec<u8>, NoMemory> {
-    let mut text = Vec::new(alloc);
-    add_between(&mut text, around, part, count)?;
-    Ok(text)
-}
-
-// Whether a token is a name of this many bytes.
-fn is_name(token: Option<&Token>, count: usize) -> bool {
-    match token {
-        Some(Token::Name(name)) => name.bytes().len() == count,
-        _ => false,
-    }
-}
-
-// Whether a text is one name of this many bytes.
-fn is_one_name(alloc: Global, text: &[u8], count: usize) -> bool {
-    let read = lexed(alloc, text);
-    match &read {
-        Ok(tokens) => is_name(only(tokens), count),
-        Err(_) => false,
-    }
-}
-
-fn longest_name_is_read(alloc: Global) -> Result<bool, NoMemory> {
-    let text = repeated(alloc, (b"", b""), b"n", 255)?;
-    Ok(is_one_name(alloc, &text, 255))
-}
-
-fn longer_name_is_refused(alloc: Global) -> Result<bool, NoMemory> {
-    let text = repeated(alloc, (b"+ ", b""), b"n", 256)?;
-    Ok(refuses(alloc, &text, 4, 1, 3))
-}
-
-#[test]
-fn names_to_their_bound(rt: HostRuntime) -> Result<(), NoMemory> {
-    assert!(rt; longest_name_is_read(rt.alloc())?);
-    assert!(rt; longer_name_is_refused(rt.alloc())?);
-    Ok(())
-}
-
-// Whether a token is a quoted text that holds this many bytes.
-fn is_text(token: Option<&Token>, count: usize) -> bool {
-    match token {
-        Some(Token::Text(held)) => held.bytes().len() == count,
-        _ => false,
-    }
-}
-
-// Whether a text is one quoted text that holds this many bytes.
-fn holds(alloc: Global, text: &[u8], count: usize) -> bool {
-    let read = lexed(alloc, text);
-    match &read {
-        Ok(tokens) => is_text(only(tokens), count),
-        Err(_) => false,
-    }
-}
-
-fn longest_text_is_read(alloc: Global) -> Result<bool, NoMemory> {
-    let text = repeated(alloc, (b"\"", b"\""), b"\\x41", 65535)?;
-    Ok(holds(alloc, &text, 65535))
-}
-
-fn longer_text_is_refused(alloc: Global) -> Result<bool, NoMemory> {
-    let text = repeated(alloc, (b"\n\"", b"\""), b"\\x41", 65536)?;
-    Ok(refuses(alloc, &text, 4, 2, 1))
-}
-
-#[test]
-fn texts_to_their_bound(rt: HostRuntime) -> Result<(), NoMemory> {
-    assert!(rt; longest_text_is_read(rt.alloc())?);
-    assert!(rt; longer_text_is_refused(rt.alloc())?);
     Ok(())
 }
 
@@ -437,7 +278,7 @@ fn reads_mebibyte(alloc: Global, text: &[u8]) -> bool {
 }
 
 fn mebibyte_is_read(alloc: Global) -> Result<bool, NoMemory> {
-    let text = repeated(alloc, (b"", b""), PART, 16384)?;
+    let text = repeated(alloc, PART, 16384)?;
     Ok(reads_mebibyte(alloc, &text))
 }
 

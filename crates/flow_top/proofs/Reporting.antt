@@ -7,7 +7,7 @@ use Rattle.flow_base.specs.Faults.{Rose}
 use Rattle.flow_base.specs.Seen.{SinkSeen}
 use Rattle.flow_base.specs.declared.fault.OutFault.{OutFault}
 use Rattle.flow_base.specs.declared.fault.OutFault.TheVariants.{Failed, OutOfMemory}
-use Rattle.flow_trace.specs.Out.{Grows}
+use Rattle.flow_base.specs.Bytes.{Grows}
 use Rattle.flow_trace.specs.declared.line.Line.{Line}
 use Rattle.flow_world.specs.FaultedLines.{tells, whole, failed}
 use Rattle.flow_world.specs.declared.ending.Ending.{Ending}

@@ -36,7 +36,7 @@ use Rattle.flow_world.specs.declared.ending.Ending.{Ending}
 use Rattle.flow_world.specs.declared.ending.Ending.TheVariants.{Idle, Bound, Spent}
 use Rattle.flow_world.specs.Ends.{end_line, LastIs}
 use Rattle.flow_world.specs.Written.{bytes_of}
-use Rattle.flow_trace.specs.Out.{Grows}
+use Rattle.flow_base.specs.Bytes.{Grows}
 use Rattle.flow_compile_laws.specs.Frames.Framed.{SourceShown}
 use Rattle.flow_top.specs.declared.outcome.Outcome.{Outcome}
 use Rattle.flow_top.specs.declared.outcome.Outcome.TheVariants.{Answered, Run}

@@ -1,6 +1,5 @@
 // Copies of trees, seen by the text that they are written as.
 
-use crate::samples::{CALLS_A_FUNCTION, HELLO, REQUEST_SERVER};
 use flow_base::memory::NoMemory;
 use flow_lex::lex::lex;
 use flow_parse::parse::parse;
@@ -101,12 +100,62 @@ fn copied_tokens(alloc: Global, text: &[u8]) -> Result<Tokens, SourceFault> {
     Ok(tokens.copy(alloc)?)
 }
 
+// Each form of declaration, statement, expression and type, in canonical text.
+const EVERYTHING: &[u8] = b"\
+struct R {
+    int n;
+    Promise<int> q;
+    string s;
+};
+bool f(int n, bool b) {
+    if (!b) {
+        throw timed_out();
+    } else {
+        return (-n - 1) % 2 == 0 || n >= 3 && b;
+    }
+}
+ACTOR Future<Void> g(PromiseStream<R> out, FutureStream<R> in, Future<Error> e) {
+    state R r;
+    int x = 1;
+    for (int i = 0; i < x; i++) {
+        x += i;
+        continue;
+    }
+    while (true) {
+        r.n--;
+        break;
+    }
+    loop {
+        {
+            r.s = \"a\\n\";
+        }
+        try {
+            wait(delay(5));
+            state R w = waitNext(in);
+            w.q.send(2);
+            throw;
+        } catch (Error& c) {
+            x -= c.code();
+            return Void();
+        }
+        choose {
+            when (wait(e)) {
+            }
+            when (R v = waitNext(in)) {
+                out.send(v);
+            }
+        }
+    }
+}
+ACTOR Future<Void> main(int p) {
+    return Void();
+}
+";
+
 #[test]
 fn copies_trees(rt: HostRuntime) -> Result<(), SourceFault> {
     let alloc = rt.alloc();
-    for text in [HELLO, REQUEST_SERVER, CALLS_A_FUNCTION] {
-        let program = parse(alloc, &copied_tokens(alloc, text)?)?;
-        assert!(rt; is_written_so(alloc, &program, text)?);
-    }
+    let program = parse(alloc, &copied_tokens(alloc, EVERYTHING)?)?;
+    assert!(rt; is_written_so(alloc, &program, EVERYTHING)?);
     Ok(())
 }

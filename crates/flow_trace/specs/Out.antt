@@ -1,9 +1,8 @@
 -- What a put to lines in memory does.
-use Rattle.std.specs.Prelude.{◌≡◌, ℕ, List, [], ◌∷◌, ◌++◌, length, take, Some, IfSome, Result, Ok, Err, OnOk}
-use Rattle.std.specs.Option.{option_map}
+use Rattle.std.specs.Prelude.{◌≡◌, ℕ, List, [], ◌∷◌, ◌++◌, Result, Ok, Err, OnOk}
 use Rattle.std.specs.Io.KnownBytes.{Appends}
 use Rattle.std.specs.declared.option.Option.{Option}
-use Rattle.flow_base.specs.Bytes.{AppendsPart}
+use Rattle.flow_base.specs.Bytes.{AppendsPart, Grows}
 use Rattle.flow_trace.specs.Bytes.{Bytes}
 use Rattle.flow_base.specs.declared.fault.OutFault.{OutFault}
 use Rattle.flow_base.specs.declared.fault.OutFault.TheVariants.{Failed, OutOfMemory}
@@ -19,10 +18,6 @@ GainsLine old line (Err OutOfMemory) new = new ≡ old
 pub record WritesLine (before after : Option (List ℕ)) (line : Line) (answer : Result (Unit {0}) OutFault) : Type 0 where
   pub whole : OnOk answer (Appends before after (Bytes line))
   pub part : AppendsPart before after (Bytes line)
-
--- the bytes told now begin with those told before
-abbrev pub Grows : Option (List ℕ) → Option (List ℕ) → Type 0
-Grows before after = IfSome before (λ bytes. option_map (take (length bytes)) after ≡ Some bytes)
 
 -- the bytes told have grown, and then by these last ones
 abbrev pub GrowsTo : Option (List ℕ) → Option (List ℕ) → List ℕ → Type 0

@@ -3,7 +3,8 @@
 ghost use Rattle.std.specs.Prelude.{◌≡◌};
 ghost use Rattle.std.specs.Borrow.{GName};
 ghost use Rattle.std.proofs.Props.{props};
-ghost use Rattle.flow_trace.specs.Out.{Grows, WritesLine};
+ghost use Rattle.flow_base.specs.Bytes.{Grows};
+ghost use Rattle.flow_trace.specs.Out.{WritesLine};
 
 use crate::buffer::{LineBuf, print_line};
 use crate::line::Line;

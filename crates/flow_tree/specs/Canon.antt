@@ -1,5 +1,5 @@
 -- The canonical text of a program, and when two programs are equal, places aside.
-use Rattle.std.specs.Prelude.{ℕ, zero, suc, ◌+◌, ◌/◌, ◌%◌, Bool, true, false, ◌&&◌, ◌==◌, nat_lt, nat_le, List, [], ◌∷◌, ◌++◌, map, codes, if◌then◌else◌}
+use Rattle.std.specs.Prelude.{ℕ, zero, suc, Bool, true, false, List, [], ◌∷◌, ◌++◌, map, codes, if◌then◌else◌}
 use Rattle.std.specs.Fmt.{signed_decimal}
 use Rattle.std.specs.Option.{option_map}
 use Rattle.std.specs.declared.option.Option.{Option}
@@ -238,17 +238,22 @@ abbrev mutual
   placeless_body End = End
   placeless_body (BlockStmt at inner rest) = BlockStmt first_place (placeless_body inner) (placeless_body rest)
   placeless_body (IfStmt at e body rest) = IfStmt first_place (placeless_expr e) (placeless_body body) (placeless_body rest)
-  placeless_body (IfElseStmt at e body otherwise rest) = IfElseStmt first_place (placeless_expr e) (placeless_body body) (placeless_body otherwise) (placeless_body rest)
+  placeless_body (IfElseStmt at e body otherwise rest) =
+      IfElseStmt first_place (placeless_expr e) (placeless_body body) (placeless_body otherwise) (placeless_body rest)
   placeless_body (WhileStmt at e inner rest) = WhileStmt first_place (placeless_expr e) (placeless_body inner) (placeless_body rest)
-  placeless_body (ForStmt at init e step inner rest) = ForStmt first_place (placeless_body init) (option_map placeless_expr e) (placeless_body step) (placeless_body inner) (placeless_body rest)
+  placeless_body (ForStmt at init e step inner rest) =
+      ForStmt first_place (placeless_body init) (option_map placeless_expr e) (placeless_body step) (placeless_body inner)
+      (placeless_body rest)
   placeless_body (LoopStmt at inner rest) = LoopStmt first_place (placeless_body inner) (placeless_body rest)
   placeless_body (BreakStmt at rest) = BreakStmt first_place (placeless_body rest)
   placeless_body (ContinueStmt at rest) = ContinueStmt first_place (placeless_body rest)
   placeless_body (ReturnStmt at e rest) = ReturnStmt first_place (placeless_expr e) (placeless_body rest)
   placeless_body (ThrowStmt at e rest) = ThrowStmt first_place (option_map placeless_expr e) (placeless_body rest)
-  placeless_body (TryStmt at inner p x handler rest) = TryStmt first_place (placeless_body inner) first_place (placeless_ident x) (placeless_body handler) (placeless_body rest)
+  placeless_body (TryStmt at inner p x handler rest) =
+      TryStmt first_place (placeless_body inner) first_place (placeless_ident x) (placeless_body handler) (placeless_body rest)
   placeless_body (ChooseStmt at branches rest) = ChooseStmt first_place (placeless_branches branches) (placeless_body rest)
-  placeless_body (DeclareStmt at i value rest) = DeclareStmt first_place (placeless_into i) (option_map placeless_expr value) (placeless_body rest)
+  placeless_body (DeclareStmt at i value rest) =
+      DeclareStmt first_place (placeless_into i) (option_map placeless_expr value) (placeless_body rest)
   placeless_body (AssignStmt at path e rest) = AssignStmt first_place (map placeless_ident path) (placeless_expr e) (placeless_body rest)
   placeless_body (ModifyStmt at path c rest) = ModifyStmt first_place (map placeless_ident path) (placeless_change c) (placeless_body rest)
   placeless_body (CallStmt at path es rest) = CallStmt first_place (map placeless_ident path) (placeless_exprs es) (placeless_body rest)
@@ -256,7 +261,8 @@ abbrev mutual
 
   pub placeless_branches : Branches → Branches
   placeless_branches NoBranches = NoBranches
-  placeless_branches (MoreBranches at w inner more) = MoreBranches first_place (placeless_wait w) (placeless_body inner) (placeless_branches more)
+  placeless_branches (MoreBranches at w inner more) =
+      MoreBranches first_place (placeless_wait w) (placeless_body inner) (placeless_branches more)
 
 abbrev pub placeless_param : ParamTree → ParamTree
 placeless_param p = record { ty = p.ty; name = placeless_ident p.name }

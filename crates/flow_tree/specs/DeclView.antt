@@ -25,10 +25,24 @@ abbrev pub record_of : RecordDecl → RecordTree
 record_of r = record { at = r.at; name = r.name; fields = params_of r.fields.items }
 
 abbrev pub function_of : function.FunctionDecl → RoutineTree
-function_of f = record { at = f.at; returns = type_of f.returns; name = f.name; params = params_of f.params.items; body = body_of f.body.items; close = f.close }
+function_of f = record {
+  at = f.at;
+  returns = type_of f.returns;
+  name = f.name;
+  params = params_of f.params.items;
+  body = body_of f.body.items;
+  close = f.close;
+}
 
 abbrev pub actor_of : actor.ActorDecl → RoutineTree
-actor_of a = record { at = a.at; returns = type_of a.returns; name = a.name; params = params_of a.params.items; body = body_of a.body.items; close = a.close }
+actor_of a = record {
+  at = a.at;
+  returns = type_of a.returns;
+  name = a.name;
+  params = params_of a.params.items;
+  body = body_of a.body.items;
+  close = a.close;
+}
 
 abbrev pub decl_of : Decl → DeclTree
 decl_of (Struct r) = StructDecl (record_of r)

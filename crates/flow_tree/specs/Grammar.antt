@@ -23,6 +23,16 @@ word_at w p = opens [] (token.Word w) p
 abbrev pub name_at : Ident → Marked
 name_at x = opens [] (token.Name x.name) x.at
 
+-- tokens between brackets that stand at these places, and what follows
+abbrev pub in_round : Place → List Marked → Place → List Marked → List Marked
+in_round p xs q rest = sign_at sign.OpenRound p ∷ (xs ++ (sign_at sign.CloseRound q ∷ rest))
+
+abbrev pub in_curly : Place → List Marked → Place → List Marked → List Marked
+in_curly p xs q rest = sign_at sign.OpenCurly p ∷ (xs ++ (sign_at sign.CloseCurly q ∷ rest))
+
+abbrev pub in_angle : Place → List Marked → Place → List Marked → List Marked
+in_angle p xs q rest = sign_at sign.Less p ∷ (xs ++ (sign_at sign.Greater q ∷ rest))
+
 -- a sign, a word or a name with which a node of this depth begins
 abbrev pub node_sign : ℕ → Sign → Place → Marked
 node_sign d s p = opens (Node d ∷ []) (token.Sign s) p
@@ -60,8 +70,10 @@ pub data TypeRule : ℕ → List Marked → TypeTree → Type 0 where
   void_type : {d : ℕ} (p : Place) → TypeRule d (node_word d word.Void p ∷ []) VoidType
   error_type : {d : ℕ} (p : Place) → TypeRule d (node_word d word.Error p ∷ []) ErrorType
   named_type : {d : ℕ} (x : Ident) → TypeRule d (node_name d x ∷ []) (NamedType x.name)
-  wrapped_type : {d : ℕ} {t : TypeTree} {all : List Marked} (w : Wrapper) (p q r : Place) (of : List Marked) → TypeRule (suc d) of t
-      → all ≡ node_word d (wrapper_word w) p ∷ sign_at sign.Less q ∷ (of ++ sign_at sign.Greater r ∷ []) → TypeRule d all (wrapped w t)
+  wrapped_type : {d : ℕ} {t : TypeTree} {all : List Marked} (w : Wrapper) (p q r : Place) (of : List Marked)
+      → TypeRule (suc d) of t
+      → all ≡ node_word d (wrapper_word w) p ∷ in_angle q of r []
+      → TypeRule d all (wrapped w t)
 
 -- how tight a sign between two operands binds
 abbrev pub level : Op → ℕ
@@ -110,30 +122,54 @@ mutual
     text : {k d : ℕ} (t : List ℕ) (p : Place) → ExprRule k d (opens (Node d ∷ []) (token.Text t) p ∷ []) (TextExpr t)
     truth : {k d : ℕ} (p : Place) → ExprRule k d (node_word d word.Yes p ∷ []) (BoolExpr true)
     falsehood : {k d : ℕ} (p : Place) → ExprRule k d (node_word d word.No p ∷ []) (BoolExpr false)
-    void : {k d : ℕ} (p q r : Place) → ExprRule k d (node_word d word.Void p ∷ sign_at sign.OpenRound q ∷ sign_at sign.CloseRound r ∷ []) VoidExpr
+    void : {k d : ℕ} (p q r : Place) → ExprRule k d (node_word d word.Void p ∷ in_round q [] r []) VoidExpr
     variable : {k d : ℕ} (x : Ident) → ExprRule k d (node_name d x ∷ []) (VarExpr x)
-    call : {k d : ℕ} {ts : ExprTrees} {all : List Marked} (f : Ident) (p q : Place) (args : List Marked) → ArgsRule (suc d) args ts
-        → all ≡ node_name d f ∷ sign_at sign.OpenRound p ∷ (args ++ sign_at sign.CloseRound q ∷ []) → ExprRule k d all (CallExpr f ts)
-    paren : {k d : ℕ} {t : ExprTree} {all : List Marked} (p q : Place) (of : List Marked) → ExprRule 0 (suc d) of t
-        → all ≡ node_sign d sign.OpenRound p ∷ (of ++ sign_at sign.CloseRound q ∷ []) → ExprRule k d all (ParenExpr t)
-    field : {k d : ℕ} {t : ExprTree} {all : List Marked} (p : Place) (x : Ident) (of : List Marked) → ExprRule dot_level (suc d) of t
-        → all ≡ begin (Node d) of ++ (sign_at sign.Dot p ∷ name_at x ∷ []) → ExprRule k d all (FieldExpr t x)
-    method : {k d : ℕ} {t : ExprTree} {ts : ExprTrees} {all : List Marked} (p q r : Place) (f : Ident) (of args : List Marked) → ExprRule dot_level (suc d) of t → ArgsRule (suc d) args ts
-        → all ≡ begin (Node d) of ++ (sign_at sign.Dot p ∷ name_at f ∷ sign_at sign.OpenRound q ∷ (args ++ sign_at sign.CloseRound r ∷ [])) → ExprRule k d all (MethodExpr t f ts)
-    negation : {k d : ℕ} {t : ExprTree} {all : List Marked} (p : Place) (of : List Marked) → k ≤ unary_level → ExprRule unary_level (suc d) of t
-        → all ≡ node_sign d sign.Not p ∷ of → ExprRule k d all (NotExpr t)
-    minus : {k d : ℕ} {t : ExprTree} {all : List Marked} (p : Place) (of : List Marked) → k ≤ unary_level → ExprRule unary_level (suc d) of t
-        → all ≡ node_sign d sign.Minus p ∷ of → ExprRule k d all (NegExpr t)
-    binary : {k d : ℕ} {a b : ExprTree} {all : List Marked} (op : Op) (p : Place) (left right : List Marked) → k ≤ level op → ExprRule (level op) (suc d) left a → ExprRule (suc (level op)) (suc d) right b
-        → all ≡ begin (Node d) left ++ (sign_at (op_sign op) p ∷ right) → ExprRule k d all (BinaryExpr op a b)
+    -- name "(" args ")"
+    call : {k d : ℕ} {ts : ExprTrees} {all : List Marked} (f : Ident) (p q : Place) (args : List Marked)
+        → ArgsRule (suc d) args ts
+        → all ≡ node_name d f ∷ in_round p args q []
+        → ExprRule k d all (CallExpr f ts)
+    -- "(" expr ")"
+    paren : {k d : ℕ} {t : ExprTree} {all : List Marked} (p q : Place) (of : List Marked)
+        → ExprRule 0 (suc d) of t
+        → all ≡ node_sign d sign.OpenRound p ∷ (of ++ sign_at sign.CloseRound q ∷ [])
+        → ExprRule k d all (ParenExpr t)
+    -- postfix "." name
+    field : {k d : ℕ} {t : ExprTree} {all : List Marked} (p : Place) (x : Ident) (of : List Marked)
+        → ExprRule dot_level (suc d) of t
+        → all ≡ begin (Node d) of ++ (sign_at sign.Dot p ∷ name_at x ∷ [])
+        → ExprRule k d all (FieldExpr t x)
+    -- postfix "." name "(" args ")"
+    method : {k d : ℕ} {t : ExprTree} {ts : ExprTrees} {all : List Marked} (p q r : Place) (f : Ident) (of args : List Marked)
+        → ExprRule dot_level (suc d) of t → ArgsRule (suc d) args ts
+        → all ≡ begin (Node d) of ++ (sign_at sign.Dot p ∷ name_at f ∷ in_round q args r [])
+        → ExprRule k d all (MethodExpr t f ts)
+    -- ( "!" | "-" ) unary
+    negation : {k d : ℕ} {t : ExprTree} {all : List Marked} (p : Place) (of : List Marked)
+        → k ≤ unary_level → ExprRule unary_level (suc d) of t
+        → all ≡ node_sign d sign.Not p ∷ of
+        → ExprRule k d all (NotExpr t)
+    minus : {k d : ℕ} {t : ExprTree} {all : List Marked} (p : Place) (of : List Marked)
+        → k ≤ unary_level → ExprRule unary_level (suc d) of t
+        → all ≡ node_sign d sign.Minus p ∷ of
+        → ExprRule k d all (NegExpr t)
+    -- two operands with a sign between them
+    binary : {k d : ℕ} {a b : ExprTree} {all : List Marked} (op : Op) (p : Place) (left right : List Marked)
+        → k ≤ level op → ExprRule (level op) (suc d) left a → ExprRule (suc (level op)) (suc d) right b
+        → all ≡ begin (Node d) left ++ (sign_at (op_sign op) p ∷ right)
+        → ExprRule k d all (BinaryExpr op a b)
 
   -- the arguments of a call, of this depth, and those that follow a first one
   pub data ArgsRule : ℕ → List Marked → ExprTrees → Type 0 where
     no_args : {d : ℕ} → ArgsRule d [] NoExprs
-    some_args : {d : ℕ} {t : ExprTree} {ts : ExprTrees} {all : List Marked} (first more : List Marked) → ExprRule 0 d first t → MoreArgsRule d more ts
-        → all ≡ first ++ more → ArgsRule d all (MoreExprs t ts)
+    some_args : {d : ℕ} {t : ExprTree} {ts : ExprTrees} {all : List Marked} (first more : List Marked)
+        → ExprRule 0 d first t → MoreArgsRule d more ts
+        → all ≡ first ++ more
+        → ArgsRule d all (MoreExprs t ts)
 
   pub data MoreArgsRule : ℕ → List Marked → ExprTrees → Type 0 where
     end_args : {d : ℕ} → MoreArgsRule d [] NoExprs
-    more_args : {d : ℕ} {t : ExprTree} {ts : ExprTrees} {all : List Marked} (p : Place) (next more : List Marked) → ExprRule 0 d next t → MoreArgsRule d more ts
-        → all ≡ sign_at sign.Comma p ∷ (next ++ more) → MoreArgsRule d all (MoreExprs t ts)
+    more_args : {d : ℕ} {t : ExprTree} {ts : ExprTrees} {all : List Marked} (p : Place) (next more : List Marked)
+        → ExprRule 0 d next t → MoreArgsRule d more ts
+        → all ≡ sign_at sign.Comma p ∷ (next ++ more)
+        → MoreArgsRule d all (MoreExprs t ts)

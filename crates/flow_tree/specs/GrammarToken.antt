@@ -3,7 +3,8 @@ use Rattle.std.specs.Prelude.{◌≡◌, ℕ, ◌≤◌, List, [], ◌∷◌, �
 use Rattle.flow_base.specs.declared.place.Place.{Place}
 use Rattle.flow_tree.specs.declared.token.Token.{Token}
 use Rattle.flow_tree.specs.declared.token.Spot.{Spot}
-use Rattle.flow_tree.specs.declared.limits.TheConstants.{DECLARATIONS, STATEMENTS, DEPTH, VARIABLES, BRANCHES}
+use Rattle.flow_tree.specs.declared.limits.Limits.{Limits}
+use Rattle.flow_tree.specs.declared.limits.TheConstants.{DEPTH, OF_PROGRAMS}
 
 -- a part of a program: a declaration by its number in the program, a statement by its number in its
 -- function or actor, a node (a statement, a branch, an expression or a type) by its depth, a
@@ -35,37 +36,53 @@ abbrev pub spots_of : List Marked → List Spot
 spots_of [] = []
 spots_of (x ∷ xs) = x.spot ∷ spots_of xs
 
--- the part keeps the limits L3 to Ln
-abbrev pub InLimits : ℕ → Part → Type 0
-InLimits n (Declaration k) = 3 ≤ n → k ≤ DECLARATIONS
-InLimits n (Statement k) = 4 ≤ n → k ≤ STATEMENTS
-InLimits n (Node depth) = 5 ≤ n → depth ≤ DEPTH
-InLimits n (Variable k) = 6 ≤ n → k ≤ VARIABLES
-InLimits n (Branch k) = 7 ≤ n → k ≤ BRANCHES
+-- the part keeps the limits L3 to Ln, which are these and that of depth
+abbrev pub InLimitsOf : Limits → ℕ → Part → Type 0
+InLimitsOf l n (Declaration k) = 3 ≤ n → k ≤ l.declarations
+InLimitsOf l n (Statement k) = 4 ≤ n → k ≤ l.statements
+InLimitsOf l n (Node depth) = 5 ≤ n → depth ≤ DEPTH
+InLimitsOf l n (Variable k) = 6 ≤ n → k ≤ l.variables
+InLimitsOf l n (Branch k) = 7 ≤ n → k ≤ l.branches
 
-abbrev pub AllInLimits : ℕ → List Part → Type 0
-AllInLimits n [] = Unit {0}
-AllInLimits n (p ∷ ps) = InLimits n p × AllInLimits n ps
+abbrev pub AllInLimitsOf : Limits → ℕ → List Part → Type 0
+AllInLimitsOf l n [] = Unit {0}
+AllInLimitsOf l n (p ∷ ps) = InLimitsOf l n p × AllInLimitsOf l n ps
 
 -- every part that begins with one of these tokens keeps the limits L3 to Ln
-abbrev pub Keeps : ℕ → List Marked → Type 0
-Keeps n [] = Unit {0}
-Keeps n (x ∷ xs) = AllInLimits n x.parts × Keeps n xs
+abbrev pub KeepsOf : Limits → ℕ → List Marked → Type 0
+KeepsOf l n [] = Unit {0}
+KeepsOf l n (x ∷ xs) = AllInLimitsOf l n x.parts × KeepsOf l n xs
 
 -- these tokens are derived as this tree, and their parts keep the limits L3 to Ln; with n below 3
 -- there is no limit
-pub record Derives {A : Type 0} (R : List Marked → A → Type 0) (n : ℕ) (tokens : List Spot) (tree : A) : Type 0 where
+pub record DerivesOf (l : Limits) {A : Type 0} (R : List Marked → A → Type 0) (n : ℕ) (tokens : List Spot) (tree : A) : Type 0 where
   pub marked : List Marked
   pub rule : R marked tree
   pub is : spots_of marked ≡ tokens
-  pub keeps : Keeps n marked
+  pub keeps : KeepsOf l n marked
 
 -- something is derived that begins with these tokens, and the parts that begin with one of them
 -- keep the limits L3 to Ln
-pub record Good {A : Type 0} (R : List Marked → A → Type 0) (n : ℕ) (tokens : List Spot) : Type 0 where
+pub record GoodOf (l : Limits) {A : Type 0} (R : List Marked → A → Type 0) (n : ℕ) (tokens : List Spot) : Type 0 where
   pub read : List Marked
   pub rest : List Marked
   pub tree : A
   pub rule : R (read ++ rest) tree
   pub is : spots_of read ≡ tokens
-  pub keeps : Keeps n read
+  pub keeps : KeepsOf l n read
+
+-- the same by the limits of programs
+abbrev pub InLimits : ℕ → Part → Type 0
+InLimits = InLimitsOf OF_PROGRAMS
+
+abbrev pub AllInLimits : ℕ → List Part → Type 0
+AllInLimits = AllInLimitsOf OF_PROGRAMS
+
+abbrev pub Keeps : ℕ → List Marked → Type 0
+Keeps = KeepsOf OF_PROGRAMS
+
+abbrev pub Derives : {A : Type 0} → (List Marked → A → Type 0) → ℕ → List Spot → A → Type 0
+Derives R = DerivesOf OF_PROGRAMS R
+
+abbrev pub Good : {A : Type 0} → (List Marked → A → Type 0) → ℕ → List Spot → Type 0
+Good R = GoodOf OF_PROGRAMS R

@@ -54,7 +54,8 @@ abbrev pub kind_step : StmtKind-F (Place → Body → Body) (Body → Body) (Bra
 kind_step (Block fs) at rest = BlockStmt at (body_of_list fs.items) rest
 kind_step (If e fs otherwise) at rest = if_step at (expr_of e) (body_of_list fs.items) otherwise rest
 kind_step (While e fs) at rest = WhileStmt at (expr_of e) (body_of_list fs.items) rest
-kind_step (For init e step fs) at rest = ForStmt at (simple_step init) (option_map expr_of e) (simple_step step) (body_of_list fs.items) rest
+kind_step (For init e step fs) at rest =
+    ForStmt at (simple_step init) (option_map expr_of e) (simple_step step) (body_of_list fs.items) rest
 kind_step (Loop fs) at rest = LoopStmt at (body_of_list fs.items) rest
 kind_step Break at rest = BreakStmt at rest
 kind_step Continue at rest = ContinueStmt at rest

@@ -123,12 +123,15 @@ impl FunctionDecl {
     pub fn copy(&self, alloc: Global) -> Result<FunctionDecl, NoMemory>
         ensures { IfOk result (λ f. function_of f ≡ function_of self.now) }
     {
+        let name = self.name.copy(alloc)?;
+        let params = copy_params(alloc, &self.params)?;
+        let body = copy_stmts(alloc, &self.body)?;
         Ok(FunctionDecl {
             at: self.at,
             returns: self.returns.copy(alloc)?,
-            name: self.name.copy(alloc)?,
-            params: copy_params(alloc, &self.params)?,
-            body: copy_stmts(alloc, &self.body)?,
+            name,
+            params,
+            body,
             close: self.close,
         })
     }
@@ -139,12 +142,15 @@ impl ActorDecl {
     pub fn copy(&self, alloc: Global) -> Result<ActorDecl, NoMemory>
         ensures { IfOk result (λ a. actor_of a ≡ actor_of self.now) }
     {
+        let name = self.name.copy(alloc)?;
+        let params = copy_params(alloc, &self.params)?;
+        let body = copy_stmts(alloc, &self.body)?;
         Ok(ActorDecl {
             at: self.at,
             returns: self.returns.copy(alloc)?,
-            name: self.name.copy(alloc)?,
-            params: copy_params(alloc, &self.params)?,
-            body: copy_stmts(alloc, &self.body)?,
+            name,
+            params,
+            body,
             close: self.close,
         })
     }

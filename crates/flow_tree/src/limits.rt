@@ -33,3 +33,35 @@ pub const WEIGHT: u32 = 60_000;
 
 /// How deep calls of plain functions may be nested.
 pub const CALL_DEPTH: u32 = 64;
+
+/// How much of each thing a text may hold, where these limits differ by the kind of text: L3, L4, L6
+/// and L7. The greatest depth is the same in all texts.
+#[derive(Clone, Copy)]
+pub struct Limits {
+    /// The most declarations.
+    pub declarations: u32,
+    /// The most statements of one function or actor.
+    pub statements: u32,
+    /// The most parameters and state variables of one actor, parameters of one function, and fields
+    /// of one record.
+    pub variables: u32,
+    /// The most branches of one `choose`.
+    pub branches: u32,
+}
+
+/// The limits of program texts.
+pub const OF_PROGRAMS: Limits = Limits {
+    declarations: DECLARATIONS,
+    statements: STATEMENTS,
+    variables: VARIABLES,
+    branches: BRANCHES,
+};
+
+/// The limits of class texts: only depth binds there, since a class text has fewer tokens than these
+/// numbers.
+pub const OF_CLASS_TEXT: Limits = Limits {
+    declarations: u32::MAX,
+    statements: u32::MAX,
+    variables: u32::MAX,
+    branches: u32::MAX,
+};

@@ -180,21 +180,21 @@ impl StmtKind {
     {
         match self {
             StmtKind::Block(body) => Ok(StmtKind::Block(copy_stmts(alloc, body)?)),
-            StmtKind::If(test, body, otherwise) => Ok(StmtKind::If(
-                test.copy(alloc)?,
-                copy_stmts(alloc, body)?,
-                copy_else(alloc, otherwise)?,
-            )),
-            StmtKind::While(test, body) => Ok(StmtKind::While(
-                test.copy(alloc)?,
-                copy_stmts(alloc, body)?,
-            )),
-            StmtKind::For(init, test, step, body) => Ok(StmtKind::For(
-                copy_simple(alloc, init)?,
-                copy_maybe(alloc, test)?,
-                copy_simple(alloc, step)?,
-                copy_stmts(alloc, body)?,
-            )),
+            StmtKind::If(test, body, otherwise) => {
+                let body = copy_stmts(alloc, body)?;
+                let otherwise = copy_else(alloc, otherwise)?;
+                Ok(StmtKind::If(test.copy(alloc)?, body, otherwise))
+            }
+            StmtKind::While(test, body) => {
+                let body = copy_stmts(alloc, body)?;
+                Ok(StmtKind::While(test.copy(alloc)?, body))
+            }
+            StmtKind::For(init, test, step, body) => {
+                let init = copy_simple(alloc, init)?;
+                let step = copy_simple(alloc, step)?;
+                let body = copy_stmts(alloc, body)?;
+                Ok(StmtKind::For(init, copy_maybe(alloc, test)?, step, body))
+            }
             StmtKind::Loop(body) => Ok(StmtKind::Loop(copy_stmts(alloc, body)?)),
             StmtKind::Break => Ok(StmtKind::Break),
             StmtKind::Continue => Ok(StmtKind::Continue),

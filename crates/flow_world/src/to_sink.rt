@@ -10,7 +10,8 @@ ghost use Rattle.flow_world.specs.Ends.{end_line};
 ghost use Rattle.flow_world.specs.Tracing.{Traces, TracesPart};
 ghost use Rattle.flow_world.specs.StuckTraces.{TraceStuck};
 ghost use Rattle.flow_world.specs.Written.{put_bytes};
-ghost use Rattle.flow_trace.specs.Out.{Grows, GrowsTo};
+ghost use Rattle.flow_base.specs.Bytes.{Grows};
+ghost use Rattle.flow_trace.specs.Out.{GrowsTo};
 
 use crate::ending::Ending;
 use crate::trace::put_trace;

@@ -20,7 +20,7 @@ use flow_trace::line::Line;
 use flow_trace::out::LineOut;
 use flow_valid::program::ClassProgram;
 use crate::put::put;
-use crate{Event, World};
+use crate::{Event, World};
 use flow_worldfile::World0;
 use std::alloc::Global;
 

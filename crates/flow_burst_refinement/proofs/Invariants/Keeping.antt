@@ -23,7 +23,7 @@ use Rattle.flow_progress.proofs.KeptClasses.{class_rules}
 use Rattle.flow_progress.proofs.StepsKept.{steps_keep}
 use Rattle.flow_invariants.proofs.Fitting.Owned.{ports_alone, results_alone}
 use Rattle.flow_invariants.specs.Owned.{Unset}
-use Rattle.flow_invariants.proofs.Owned.Brought.{steps_unset}
+use Rattle.flow_invariants.proofs.Owned.Worlds.{steps_unset}
 use Rattle.flow_burst_refinement.specs.Invariants.Invariant as law
 use Rattle.flow_burst_refinement.specs.Invariants.Invariant.{ProcessInvariant}
 

@@ -59,12 +59,20 @@ module _ {A W : Type 0} (serves : Host W) (shows : A → Numbered ℕ → W → 
   spent_follows m n a b p w e are none (asks _ k j _ _ d _ _ tasks served more) = let x = (spent_tasks code m k next.Asks are.spent tasks).0 in absurd cc
 
   pub event_follows : law.EventFollows serves shows wrote code processes r
-  event_follows program steady now m n a b p w e is kept world clock time among bursts = by_begin (burst_begins r now m p is kept)
+  event_follows program steady now m n a b p w e is kept around bursts = by_begin (burst_begins r now m p is kept)
     where
       by_begin : BetweenTasks r [] m p ⊎ AreSpent [] m p → SimulatesBurst serves shows wrote code processes r [] a p w e n b
       by_begin (inl between) =
           program_follows serves shows wrote code processes r program steady [] m n a b p w e
-          (record { between = between; asked = is.asked; world = world; time = is.time ∙ time; clock = subst (λ t. program_time t ≡ pos t) (sym is.time) clock; among = among; poised = is.poised }) bursts
+          (record {
+            between = between;
+            asked = is.asked;
+            world = around.shown;
+            time = is.time ∙ around.time;
+            clock = subst (λ t. program_time t ≡ pos t) (sym is.time) around.clock;
+            among = around.among;
+            poised = is.poised;
+          }) bursts
       by_begin (inr are) = spent_follows m n a b p w e are is.asked bursts
 
   pub event_rests : law.EventRests serves shows wrote code processes r

@@ -1,15 +1,17 @@
 -- What is brought to a process in memory at the begin of an event leaves it as bursts need it.
 use Rattle.std.specs.Prelude.{◌≡◌, ◌⊎◌, ℕ, true, []}
 use Rattle.std.specs.declared.option.Option.TheVariants.{None}
+use Rattle.flow_base.specs.declared.ids.ProcId.{ProcId}
 use Rattle.flow_value.specs.declared.value.Value.{Value}
 use Rattle.flow_value.specs.declared.value.Kind.TheVariants as kind
 use Rattle.flow_value.specs.declared.value.Outcome.{Outcome}
 use Rattle.flow_value.specs.declared.value.Outcome.TheVariants as outcome
 use Rattle.flow_value.specs.View.{value_of, outcome_of}
 use Rattle.flow_class.specs.Classes.{RawTree}
+use Rattle.flow_meaning.specs.Class.{classes}
 use Rattle.flow_meaning.specs.Process.{Proc}
 use Rattle.flow_meaning.specs.Orderly.{UnlessStopped}
-use Rattle.flow_meaning.specs.Deliver.{begin, deliver, arrive, stop}
+use Rattle.flow_meaning.specs.Deliver.{begin, boot, deliver, arrive, stop}
 use Rattle.flow_meaning.specs.Step.{on_core}
 use Rattle.flow_meaning.specs.Frame.{Frame}
 use Rattle.flow_heap_refinement.specs.Counted.{nothing_in_hand}
@@ -31,6 +33,14 @@ pub record Resting (r : RawTree) (m : Process) (p : Proc Frame) : Type 0 where
   pub shown : ShownBetween r m p
   pub sorted : Sorted m.heap
   pub poised : NoStaleWaits m.heap
+
+-- one that doesn't hold its `main`, and keeps what it has to with its turns and after a boot
+pub record MayBoot (r : RawTree) (turns : ℕ) (me : ProcId) (memory : Process) (process : Proc Frame) : Type 0 where
+  pub resting : Resting r memory process
+  pub kept : ProcessInvariant r (on_core (begin turns) process)
+  pub no_main : process.core.main ≡ None
+  pub booted : let after = boot (classes r) me.0 (on_core (begin turns) process) in
+      UnlessStopped after.core.halted (ProcessInvariant r after)
 
 -- One to which something was brought: it shows the other, or the event is spent; it is in order, at its
 -- time, and asks nothing.

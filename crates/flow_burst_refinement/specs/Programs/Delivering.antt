@@ -19,15 +19,25 @@ use Rattle.flow_burst_refinement.specs.Bursts.{HostKeepsTime, SimulatesBurst}
 use Rattle.flow_burst_refinement.specs.Invariants.Invariant.{ProcessInvariant}
 use Rattle.flow_burst_refinement.specs.Boundaries.Delivering.{Resting, IsDelivered}
 
+-- A host in memory represents the world around a process: with the process's ports, at a time that programs can tell, as the world of
+-- one of so many processes.
+pub record HostRepresents {A W : Type 0} (serves : Host W) (shows : A → Numbered ℕ → W → Type 0) (processes now : ℕ) (host : A)
+    (process : Proc Frame) (world : W) : Type 0 where
+  pub shown : shows host process.core.ports world
+  pub clock : program_time now ≡ pos now
+  pub time : now ≡ (serves.supply world).now
+  pub among : processes ≡ (serves.supply world).processes
+
 module _ {A W : Type 0} (serves : Host W) (shows : A → Numbered ℕ → W → Type 0)
     (wrote : A → List Line → A → Type 0) (code : Code) (processes : ℕ) (r : RawTree) where
   abbrev pub EventFollows : Type 0
   EventFollows =
-      IsProgram r code → HostKeepsTime serves → (now : ℕ) (m n : Process) (a b : A) (p : Proc Frame) (w : W)
-      (e : Burst) → IsDelivered r now m p → UnlessStopped p.core.halted (ProcessInvariant r p) → shows a p.core.ports w
-      → program_time now ≡ pos now → now ≡ (serves.supply w).now → processes ≡ (serves.supply w).processes
-      → Bursts serves shows wrote code processes m a e n b
-      → SimulatesBurst serves shows wrote code processes r [] a p w e n b
+      IsProgram r code → HostKeepsTime serves
+      → (now : ℕ) (memory after : Process) (host left : A) (process : Proc Frame) (world : W) (end : Burst)
+      → IsDelivered r now memory process → UnlessStopped process.core.halted (ProcessInvariant r process)
+      → HostRepresents serves shows processes now host process world
+      → Bursts serves shows wrote code processes memory host end after left
+      → SimulatesBurst serves shows wrote code processes r [] host process world end after left
 
   -- A process in memory that rests after a burst rests for the next event, and its lines are those that were written.
   pub record RestsOn (n : Process) (b : A) (q : Proc Frame) (u : W) (ls : List Line) : Type 0 where

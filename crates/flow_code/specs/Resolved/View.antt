@@ -17,7 +17,7 @@ use Rattle.flow_code.specs.declared.expr.expr.Resolved.{Resolved}
 use Rattle.flow_code.specs.declared.expr.expr.Resolved.TheOpen.{Resolved-F, Int, Text, Bool, VoidValue, Place, Call, Record, Function, Unknown, Field, Method, Not, Neg, Binary, Nothing}
 use Rattle.flow_code.specs.declared.expr.expr.Resolved.TheFolds.{fold-Resolved}
 use Rattle.flow_code.specs.declared.expr.names.FieldNames.{FieldNames}
-use Rattle.flow_code.specs.declared.expr.evaluate.ActorViewTree as code
+use Rattle.flow_code.specs.declared.expr.evaluate.ActorView as code
 use Rattle.flow_code.specs.Resolved.Tree.{Node, Nodes, IntNode, TextNode, BoolNode, VoidNode, PlaceNode, CallNode, RecordNode, FunctionNode, UnknownNode, FieldNode, MethodNode, NotNode, NegNode, BinaryNode, NothingNode, nodes_of_list}
 use Rattle.flow_code.specs.Resolved.Evaluation.{ActorViewTree}
 
@@ -59,7 +59,7 @@ places_in names (Declared k) f = place_in names.records.items k f
 abbrev pub held_in : List (Option Value) → ℕ → Option ValueTree
 held_in places n = option_map value_of (slice_index_or places n None)
 
-abbrev pub actor_view_of : {C : Type 0} → (C → ℕ → Option OutcomeTree) → code.ActorViewTree C → ActorViewTree
+abbrev pub actor_view_of : {C : Type 0} → (C → ℕ → Option OutcomeTree) → code.ActorView C → ActorViewTree
 actor_view_of content s = record {
   setting = setting_of content s.setting;
   run = run_function (setting_of content s.setting) CALL_DEPTH;

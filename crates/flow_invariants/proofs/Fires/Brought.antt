@@ -7,7 +7,7 @@ use Rattle.flow_value.specs.declared.value.Kind.TheVariants as kind
 use Rattle.flow_value.specs.Values.{ValueTree, IntValue, OutcomeTree, GoodOutcome}
 use Rattle.flow_class.specs.Classes.{RawTree}
 use Rattle.flow_numbered.specs.Numbered.{thing}
-use Rattle.flow_meaning.specs.Process.{Drop, Halt, Core, Proc}
+use Rattle.flow_meaning.specs.Process.{Drop, Core, Proc}
 use Rattle.flow_meaning.specs.Orderly.{Rising, UnlessStopped}
 use Rattle.flow_meaning.specs.Work.{pushed, fill}
 use Rattle.flow_meaning.specs.Step.{enrol}
@@ -16,6 +16,7 @@ use Rattle.flow_meaning.specs.Frame.{Frame}
 use Rattle.flow_meaning.specs.Class.{classes}
 use Rattle.flow_meaning.proofs.Posture.{Unless, unless, after_turn}
 use Rattle.flow_invariants.specs.Fires.{is_due, Fires, Fired, StepsFire, RestsFired}
+use Rattle.flow_invariants.proofs.Invariant.{unless_all}
 use Rattle.flow_invariants.proofs.Fires.Cells.{P, fill_fired}
 use Rattle.flow_invariants.proofs.Fires.Steps.{enrolled_fired, step_fired}
 
@@ -38,7 +39,7 @@ module _ (k : ℕ) where
           after_turn (P k) (λ d. record (enrol e.main (e.label e.main) d) { main = Some (suc d.made) }) p.core p.core.left
           (λ n. unless p.core.halted (enrolled_fired k p.core up h e.main (e.label e.main) n))
 
-  stop_fired : (c : Core) → P k c → P k (stop c)
+  pub stop_fired : (c : Core) → P k c → P k (stop c)
   stop_fired c h = by_main c.main
     where
       by_main : (x : Option ℕ) → P k (stop_main x c)
@@ -47,11 +48,7 @@ module _ (k : ℕ) where
 
 -- so it is of all cells
 all_now : (c : Core) → ((k : ℕ) → Unless (P k) c) → UnlessStopped c.halted (Fired c)
-all_now c h = by_halt c.halted h
-  where
-    by_halt : (o : Option Halt) → ((k : ℕ) → UnlessStopped o (P k c)) → UnlessStopped o (Fired c)
-    by_halt None h = h
-    by_halt (Some x) h = tt
+all_now c h = unless_all (λ k. P k c) c.halted h
 
 pub steps_fire : StepsFire
 steps_fire r s p q o t h e = all_now q.0.core (λ k. step_fired k r s p q o t (h k) e)
@@ -64,9 +61,6 @@ arrived j v c h = all_now (arrive j v c) (λ k. arrive_fired k j v c (h k))
 
 pub booted : (r : RawTree) (me : ℕ) (p : Proc Frame) → Rising 0 p.core.made p.core.cells → Fired p.core → let d = (boot (classes r) me p).core in UnlessStopped d.halted (Fired d)
 booted r me p up h = all_now (boot (classes r) me p).core (λ k. boot_fired k r me p up (h k))
-
-pub stopped : (c : Core) → Fired c → UnlessStopped (stop c).halted (Fired (stop c))
-stopped c h = unless (stop c).halted (λ k. stop_fired k c (h k))
 
 -- where no task is left, nobody is due
 pub rests_fired : RestsFired

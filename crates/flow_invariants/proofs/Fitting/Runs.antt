@@ -20,9 +20,12 @@ use Rattle.flow_invariants.specs.Fitting.Laws.{AreValid, EventsKeepFitting, Neve
 use Rattle.flow_invariants.proofs.Fitting.Worlds.{starts_fit}
 use Rattle.flow_invariants.proofs.Fitting.Events as events
 
+pub rules_of : (r : RawTree) → AreValid r → ClassRules r (heads r)
+rules_of r v = class_rules r v.valid v.written (functions_kept r v.valid v.functions)
+
 module _ (r : RawTree) (sound : AreValid r) where
   rules : ClassRules r (heads r)
-  rules = class_rules r sound.valid sound.written (functions_kept r sound.valid sound.functions)
+  rules = rules_of r sound
 
   pub events_keep_fitting : EventsKeepFitting r
   events_keep_fitting w b l h e g q go = events.event_kept r sound.valid (heads r) rules (leads_on r sound.valid) (steps_keep r sound.valid (heads r) rules) w b l h g q go

@@ -50,7 +50,8 @@ module _ (r : RawTree) where
   all_others [] n active es l h = tt
   all_others (p ∷ ps) n active es l h = (h.0 (λ e. absurd (omega (arith, e, l))), all_others ps (suc n) active es (omega (arith, l)) h.1)
 
-  pub set_rest : (ps : List (Place Frame)) (n k active : ℕ) (es : List (Pending What)) (x : Place Frame) → n + k ≡ active → OthersRest n active es ps → RestsAmong r active es x → AllRest r n es (slice_set ps k x)
+  pub set_rest : (ps : List (Place Frame)) (n k active : ℕ) (es : List (Pending What)) (x : Place Frame) → n + k ≡ active → OthersRest n active es ps → RestsAmong r active es x
+      → AllRest r n es (slice_set ps k x)
   set_rest [] n k active es x e h i = tt
   set_rest (p ∷ ps) n zero active es x e h i =
       let z : active ≡ n = omega (arith, e) in (subst (λ m. RestsAmong r m es x) z i, all_others ps (suc n) active es (omega (arith, e)) h.1)
@@ -75,7 +76,8 @@ chosen x xs y b = if b then (y.0, x ∷ y.1) else (x, xs)
 
 -- what comes next names the processes of the world
 module _ (P : ℕ × Order → Type 0) where
-  sooner_all : (x : ℕ × Order) (xs : List (ℕ × Order)) (o : Option ((ℕ × Order) × List (ℕ × Order))) → P x → AllByRecursion P xs → ((s : (ℕ × Order) × List (ℕ × Order)) → o ≡ Some s → P s.0 × AllByRecursion P s.1)
+  sooner_all : (x : ℕ × Order) (xs : List (ℕ × Order)) (o : Option ((ℕ × Order) × List (ℕ × Order))) → P x → AllByRecursion P xs
+      → ((s : (ℕ × Order) × List (ℕ × Order)) → o ≡ Some s → P s.0 × AllByRecursion P s.1)
       → P (sooner x xs o).0 × AllByRecursion P (sooner x xs o).1
   sooner_all x xs None h k f = (h, k)
   sooner_all x xs (Some y) h k f = by_test (nat_lt y.0.0 x.0) (f y refl)
@@ -99,7 +101,8 @@ pub record NextIn (count : ℕ) (es : List (Pending What)) (n : Next) : Type 0 w
 pub next_in : (count : ℕ) (w : Outside) → AllByRecursion (LineNames count) w.script → NextIn count w.events.pending (next_of w)
 next_in count w h = by_script (soonest w.script) w.events.pending (λ s e. soonest_all (LineNames count) w.script s h e)
   where
-    by_script : (o : Option ((ℕ × Order) × List (ℕ × Order))) (es : List (Pending What)) → ((s : (ℕ × Order) × List (ℕ × Order)) → o ≡ Some s → LineNames count s.0 × AllByRecursion (LineNames count) s.1) → NextIn count es (first_of o es)
+    by_script : (o : Option ((ℕ × Order) × List (ℕ × Order))) (es : List (Pending What))
+        → ((s : (ℕ × Order) × List (ℕ × Order)) → o ≡ Some s → LineNames count s.0 × AllByRecursion (LineNames count) s.1) → NextIn count es (first_of o es)
     by_script None [] f = record { script = λ t x left e. absurd cc; event = λ p left e. absurd cc }
     by_script None (e ∷ es) f = record { script = λ t x left q. absurd cc; event = λ p left q. let a : e ≡ p = cc in let b : es ≡ left = cc in subst (λ z. e ∷ es ≡ z ∷ left) a (ap (λ l. e ∷ l) b) }
     by_script (Some s) [] f = record {

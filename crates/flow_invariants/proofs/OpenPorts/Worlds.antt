@@ -1,162 +1,103 @@
--- Before the first event of a world, and after each event, the streams of ports are open.
-use Rattle.std.proofs.Common.{◌≡◌, ℕ, zero, suc, ◌<◌, true, false, List, [], ◌∷◌, refl, sym, ap, subst, ◌∙◌, arith}
-use Rattle.std.specs.Prelude.{replicate, slice_index_or, slice_set}
-use Rattle.std.specs.List.{AllByRecursion}
+-- The streams of ports are open before the first event of a world, and after each event.
+use Rattle.std.proofs.Common.{◌≡◌, ℕ, suc, ◌<◌, false, List, [], ◌∷◌, subst, arith}
+use Rattle.std.specs.Prelude.{slice_index_or}
+use Rattle.std.specs.Option.{option_map}
 use Rattle.std.specs.declared.option.Option.{Option}
 use Rattle.std.specs.declared.option.Option.TheVariants.{None, Some}
-use Rattle.flow_timers.specs.Pending.{Pending}
-use Rattle.flow_worldfile.specs.declared.directive.Order.{Order}
-use Rattle.flow_worldfile.specs.declared.directive.Order.TheVariants.{Kill, Stop, Boot, Cut, Heal, DiskFail}
-use Rattle.flow_tree.specs.Decls.{RoutineTree}
-use Rattle.flow_value.specs.Values.{VoidValue, GoodOutcome}
+use Rattle.flow_value.specs.Values.{ValueTree, GoodOutcome}
 use Rattle.flow_class.specs.Classes.{RawTree}
-use Rattle.flow_valid.specs.Validity.{IsValid}
-use Rattle.flow_meaning.specs.Process.{Halt, Core, Proc}
-use Rattle.flow_meaning.specs.Orderly.{UnlessStopped}
-use Rattle.flow_meaning.specs.Burst.{Live, Burst, rests, steps, serve, advanced, advance}
-use Rattle.flow_meaning.specs.Step.{Stepped, step}
-use Rattle.flow_meaning.specs.Deliver.{idle_core, idle, stop, deliver, arrive}
-use Rattle.flow_meaning.specs.Outside.{What, Boots, Rings, Arrives, Answers, Outside, host}
-use Rattle.flow_meaning.specs.World.{Place, World, Begun, Next, Nothing, Script, Event, next_of, booted, ordered, packet, arrived, listener, happened, process_of, process_in, ready, counted, with_left, begun_by}
-use Rattle.flow_meaning.specs.Runs.{before, after}
+use Rattle.flow_numbered.specs.Numbered.{thing, added}
+use Rattle.flow_meaning.specs.Cells.{PromiseSide, Waiter, Cell, Single, Stream, filled, after_taking, with_waiter, left_by}
+use Rattle.flow_meaning.specs.Process.{Core, Proc}
+use Rattle.flow_meaning.specs.References.{in_ports}
+use Rattle.flow_meaning.specs.Deliver.{idle}
+use Rattle.flow_meaning.specs.World.{Place}
 use Rattle.flow_meaning.specs.Frame.{Frame}
-use Rattle.flow_meaning.specs.Class.{classes}
-use Rattle.flow_meaning.proofs.Posture.{unless}
-use Rattle.flow_meaning.proofs.Shifts.{same_of}
-use Rattle.flow_meaning.proofs.InOrder.{no_thing}
-use Rattle.flow_progress.specs.Rules.{ClassRules}
-use Rattle.flow_progress.specs.Ending.{LeadOn}
-use Rattle.flow_progress.specs.Alone.{StepsKeepFitting}
-use Rattle.flow_progress.specs.Written.{heads}
-use Rattle.flow_progress.proofs.Ending.{stopped}
-use Rattle.flow_progress.proofs.Functions.{functions_kept}
-use Rattle.flow_progress.proofs.KeptClasses.{class_rules}
-use Rattle.flow_progress.proofs.StepsKept.{steps_keep}
-use Rattle.flow_progress.proofs.Valid.{leads_on}
-use Rattle.flow_heap_refinement.specs.Rested.{has}
-use Rattle.flow_invariants.specs.Fitting.Due.{sets, due}
-use Rattle.flow_invariants.specs.Fitting.Among.{FitsAmong, WorldFits}
+use Rattle.flow_heap_refinement.specs.Alone.{owners_of}
+use Rattle.flow_heap_refinement.specs.CellsTied.{CellsTied}
+use Rattle.flow_heap_refinement.proofs.OwnersOnce.{ports_added, ports_removed}
 use Rattle.flow_invariants.specs.Fitting.Laws.{AreValid}
-use Rattle.flow_invariants.proofs.Fitting.Dues.{due_here, has_request, own_sets}
-use Rattle.flow_invariants.proofs.Fitting.Living.{Meant}
-use Rattle.flow_invariants.proofs.Fitting.Worlds.{NextIn, next_in, order_process}
-use Rattle.flow_invariants.proofs.Fitting.Events.{Good, next_good, event_begins, at_process}
-use Rattle.flow_invariants.specs.OpenPorts.{Open, StartOpen, EventOpen}
-use Rattle.flow_invariants.proofs.OpenPorts.Steps.{step_open}
-use Rattle.flow_invariants.proofs.OpenPorts.Brought.{deliver_open, arrive_open, boot_open, stop_open, all_now}
+use Rattle.flow_invariants.specs.Invariant.{Invariant, InPlaces}
+use Rattle.flow_invariants.specs.OpenPorts.{IsOpen, Open, StepsOpen, StartOpen, EventOpen}
+use Rattle.flow_invariants.specs.Writes.{Things, KeptByWrites}
+use Rattle.flow_invariants.proofs.Invariant.{in_place, none_ran, after_event}
+use Rattle.flow_invariants.proofs.Writes.Owners.{not_one}
+use Rattle.flow_invariants.proofs.Writes.Cells.{put_other, removed_other, put_changed, left_changed, new_cell_holds}
+use Rattle.flow_invariants.proofs.Writes.Steps.{step_kept}
+use Rattle.flow_invariants.proofs.Writes.Events.{of_writes}
 
-abbrev pub AllOpen : List (Place Frame) → Type 0
-AllOpen ps = AllByRecursion (λ (a : Place Frame). Open a.proc.core) ps
+-- an open stream stays one: an element more, an actor that leaves, an element taken, a waiter more
+more_open : (v : ValueTree) (cell : Cell) → IsOpen (Some cell) → IsOpen (Some (filled cell (GoodOutcome v)))
+more_open v (Single o ws) h = absurd h
+more_open v (Stream q None w) h = tt
+more_open v (Stream q (Some e) w) h = absurd h
 
-abbrev pub Now : Core → Type 0
-Now c = UnlessStopped c.halted (Open c)
+left_open : (i : ℕ) (x : Option Cell) → IsOpen x → IsOpen (option_map (left_by i) x)
+left_open i None h = h
+left_open i (Some (Single o ws)) h = absurd h
+left_open i (Some (Stream q None w)) h = tt
+left_open i (Some (Stream q (Some e) w)) h = absurd h
 
-idle_open : Open idle_core
-idle_open k w = absurd (omega (arith, w))
+taking_open : (cell : Cell) → IsOpen (Some cell) → IsOpen (Some (after_taking cell))
+taking_open (Single o ws) h = absurd h
+taking_open (Stream [] None w) h = tt
+taking_open (Stream (v ∷ vs) None w) h = tt
+taking_open (Stream q (Some e) w) h = absurd h
 
-pub open_at : (ps : List (Place Frame)) (k : ℕ) → AllOpen ps → Open (slice_index_or ps k (record { up = false; proc = idle })).proc.core
-open_at [] k h = idle_open
-open_at (p ∷ ps) zero h = h.0
-open_at (p ∷ ps) (suc k) h = open_at ps k h.1
+waiter_open : (cell : Cell) (w : Waiter) → IsOpen (Some cell) → IsOpen (Some (with_waiter cell w))
+waiter_open (Single o ws) w h = absurd h
+waiter_open (Stream q None x) w h = tt
+waiter_open (Stream q (Some e) x) w h = absurd h
 
-open_set : (ps : List (Place Frame)) (k : ℕ) (a : Place Frame) → AllOpen ps → Open a.proc.core → AllOpen (slice_set ps k a)
-open_set [] k a h x = tt
-open_set (p ∷ ps) zero a h x = (x, h.1)
-open_set (p ∷ ps) (suc k) a h x = (h.0, open_set ps k a h.1 x)
+abbrev PortsOpen : Things → Type 0
+PortsOpen t = (k : ℕ) → 0 < in_ports PromiseSide k t.ports → IsOpen (thing t.cells k)
 
-none_open : (n : ℕ) → AllOpen (replicate n (record { up = false; proc = idle }))
-none_open zero = tt
-none_open (suc n) = (idle_open, none_open n)
+-- the stream of a port is the process's own, and was made
+not_own : (c : Core) (j k : ℕ) → owners_of j c ≡ 0 → 0 < in_ports PromiseSide k c.ports → j ≡ k → ⊥
+not_own c j k own w q = let a = subst (λ n. owners_of n c ≡ 0) q own in omega (arith, a, w)
 
-module _ (r : RawTree) (valid : IsValid r) (actors : List RoutineTree) (rules : ClassRules r actors) (leads : LeadOn r) (steps_fit : StepsKeepFitting r) where
-  -- an event begins
-  module _ (w : World Frame) (fits : WorldFits r w) (h : AllOpen w.places) where
-    before_it : (n : ℕ) → Open (ready w n).proc.core
-    before_it n = open_at w.places n h
+unmade : (c : Core) (k : ℕ) → CellsTied c → suc c.made ≡ k → 0 < in_ports PromiseSide k c.ports → ⊥
+unmade c k tied e w =
+    let l : c.made < k = omega (arith, e) in
+    let a = (tied.once k).1 l in omega (arith, a, w)
 
-    module _ (n : ℕ) (f : FitsAmong r n w.out.events.pending (ready w n).proc) where
-      boots_open : (held : Option ℕ) → Now (booted (classes r) n (ready w n) held).proc.core
-      boots_open (Some k) = unless (ready w n).proc.core.halted (before_it n)
-      boots_open None = all_now (booted (classes r) n (ready w n) None).proc.core (λ k. boot_open k r n (ready w n).proc f.tied (before_it n k))
+other_cell : (c : Core) (cell : Cell) → CellsTied c → ((k : ℕ) → 0 < in_ports PromiseSide k c.ports → IsOpen (thing c.cells k)) → (k : ℕ) → 0 < in_ports PromiseSide k c.ports
+    → IsOpen (thing (added c.cells (suc c.made) cell) k)
+other_cell c cell tied h k w = new_cell_holds IsOpen c.cells k c.made cell tied.numbers.cells (λ q. absurd (unmade c k tied q w)) (λ o. h k w)
 
-      answer_open : (k : ℕ) (o : _) (x : Pending What) (left : List (Pending What)) → w.out.events.pending ≡ x ∷ left → sets n k x.what ≡ true → Now (deliver k o (ready w n).proc.core)
-      answer_open k o x left e own =
-          let c = (ready w n).proc.core in
-          let a = due_here n k x left own in
-          let b = ap (due n k) e in
-          let m = f.awaited k in
-          let there : has k c.requests ≡ true = has_request k c.requests (omega (arith, a, b, m)) in
-          all_now (deliver k o c) (λ j. deliver_open j k o c there f.tied.once (before_it n j))
+writes_open : KeptByWrites PortsOpen
+writes_open = record {
+  sets = λ c j old new own at h k w. put_other IsOpen c.cells k j new (not_own c j k own w) (h k w);
+  goes = λ c j own h k w. removed_other IsOpen c.cells k j (not_own c j k own w) (h k w);
+  taken = λ c j old at h k w. put_changed IsOpen c.cells k j old (after_taking old) at (taking_open old) (h k w);
+  waited = λ c j old waiter at h k w. put_changed IsOpen c.cells k j old (with_waiter old waiter) at (waiter_open old waiter) (h k w);
+  element = λ c port j old v tied heard at h k w. put_changed IsOpen c.cells k j old (filled old (GoodOutcome v)) at (more_open v old) (h k w);
+  left = λ c i h k w. left_changed IsOpen c.cells k i (left_open i (thing c.cells k)) (h k w);
+  entry = λ c i old new at becomes h. h;
+  ends = λ c i up h. h;
+  unheard = λ c port h k w. h k (let a = ports_removed k c.ports port in omega (arith, a, w));
+  answered = λ c cell there h. h;
+  makes = λ c cell tied h k w. other_cell c cell tied h k w;
+  asks = λ c tied h k w. other_cell c (Single None []) tied h k w;
+  listens = λ c port tied h k w. new_cell_holds IsOpen c.cells k c.made (Stream [] None None) tied.numbers.cells (λ q. tt)
+      (λ o. h k (let a = ports_added k c.ports port (suc c.made) in let b = not_one k (suc c.made) o in omega (arith, a, b, w)));
+  starts = λ c class tied h k w. other_cell c (Single None []) tied h k w;
+}
 
-      arrived_open : (m from port : ℕ) (text : List ℕ) (v : Outside) (l : Option ℕ) → Now (arrived m from port text (ready w n) v l).place.proc.core
-      arrived_open m from port text v None = before_it n
-      arrived_open m from port text v (Some k) =
-          all_now (arrive k (packet from port text) (ready w n).proc.core) (λ j. arrive_open j k (packet from port text) (ready w n).proc.core (before_it n j))
+abbrev OpenIn : Proc Frame → Type 0
+OpenIn p = Open p.core
 
-    by_order : (x : Order) (v : Outside) → FitsAmong r (process_of x) w.out.events.pending (ready w (process_of x)).proc → Now (ordered (classes r) x (ready w (process_of x)) v).place.proc.core
-    by_order (Boot p) v f = boots_open p f (ready w p).proc.core.main
-    by_order (Stop p) v f = all_now (stop (ready w p).proc.core) (λ k. unless (stop (ready w p).proc.core).halted (stop_open k (ready w p).proc.core (before_it p k)))
-    by_order (Kill p) v f = λ k z. absurd (omega (arith, z))
-    by_order (Cut p q) v f = before_it p
-    by_order (Heal p q) v f = before_it p
-    by_order (DiskFail p n) v f = before_it p
+keeps_open : (r : RawTree) → Invariant r OpenIn OpenIn
+keeps_open r = of_writes r PortsOpen writes_open (λ made started k w. absurd (omega (arith, w)))
 
-    by_what : (t number : ℕ) (x : What) (left : List (Pending What)) (v : Outside) → w.out.events.pending ≡ record { time = t; number = number; what = x } ∷ left → FitsAmong r (process_in x) w.out.events.pending (ready w (process_in x)).proc
-        → Now (happened (classes r) x (ready w (process_in x)) v).place.proc.core
-    by_what t number (Boots p) left v e f = boots_open p f (ready w p).proc.core.main
-    by_what t number (Rings p k) left v e f = answer_open p f k (GoodOutcome VoidValue) (record { time = t; number = number; what = Rings p k }) left e (own_sets p k)
-    by_what t number (Arrives m from to port text) left v e f = arrived_open to f m from port text v (listener (ready w to) port)
-    by_what t number (Answers p k call) left v e f = answer_open p f k _ (record { time = t; number = number; what = Answers p k call }) left e (own_sets p k)
+pub steps_open : StepsOpen
+steps_open r s p q o t alone h e = step_kept PortsOpen writes_open r s p q o t alone h e
 
-    pub begun_open : (b : Begun Frame) → begun_by (classes r) w (next_of w.out) ≡ Some b → Now b.place.proc.core
-    begun_open b g = by_next (next_of w.out) g (next_in w.out.file.processes w.out fits.script)
-      where
-        by_next : (x : Next) → begun_by (classes r) w x ≡ Some b → NextIn w.out.file.processes w.out.events.pending x → Now b.place.proc.core
-        by_next Nothing e k = absurd (no_thing e)
-        by_next (Script t o left) e k =
-            let s = k.script t o left refl in
-            let f = at_process r valid actors rules leads steps_fit w (process_of o) fits (order_process w.out.file.processes o s.0) in
-            subst (λ (z : Begun Frame). Now z.place.proc.core) (same_of e) (by_order o (counted t (process_of o) (record w.out { script = left })) f)
-        by_next (Event p left) e k =
-            let q = k.event p left refl in
-            let names = subst (AllByRecursion (λ (x : Pending What). process_in x.what < w.out.file.processes)) q fits.events in
-            let f = at_process r valid actors rules leads steps_fit w (process_in p.what) fits names.0 in
-            subst (λ (z : Begun Frame). Now z.place.proc.core) (same_of e) (by_what p.time p.number p.what left (counted p.time (process_in p.what) (with_left w.out left)) q f)
-
-  -- and goes on
-  served_open : (q : Option _) (t : Proc Frame) (v : Outside) → Now t.core → Now (serve host q t v).proc.core
-  served_open None t v h = h
-  served_open (Some q) t v h = h
-
-  module _ (places : List (Place Frame)) (count n : ℕ) where
-    pub next_open : (s l : Live Outside Frame) → Good r valid actors rules leads steps_fit places count n s → Now s.proc.core → advance (classes r) host s ≡ Some l → Now l.proc.core
-    next_open s l g h a = by_halt s.proc.core.halted refl g.own h
-      where
-        by_step : (x : Option (Stepped Frame)) → step (classes r) (host.supply s.out) s.proc ≡ x → FitsAmong r n s.out.events.pending s.proc → Open s.proc.core → advanced host s.out x ≡ Some l → Now l.proc.core
-        by_step None e f u b = absurd (no_thing b)
-        by_step (Some q) e f u b =
-            subst (λ (z : Live Outside Frame). Now z.proc.core) (same_of b)
-            (served_open q.1 q.0 s.out (all_now q.0.core (λ k. step_open k r (host.supply s.out) s.proc q f.in_place.orderly f.tied f.alone (u k) e)))
-
-        by_halt : (x : Option Halt) → s.proc.core.halted ≡ x → Meant x (FitsAmong r n s.out.events.pending s.proc) → UnlessStopped x (Open s.proc.core) → Now l.proc.core
-        by_halt None e f u = by_step (step (classes r) (host.supply s.out) s.proc) refl f u a
-        by_halt (Some x) e f u = absurd (no_thing (sym (stopped r leads host s x e) ∙ a))
-
-    burst_open : (s t : Live Outside Frame) → Burst (classes r) host s t → Good r valid actors rules leads steps_fit places count n s → Now s.proc.core → Now t.proc.core
-    burst_open s t (rests e) g h = h
-    burst_open s t (steps next e k) g h = burst_open next t k (next_good r valid actors rules leads steps_fit places count n s next g e) (next_open s next g h e)
-
-  pub event_open : (w : World Frame) (b : Begun Frame) (l : Live Outside Frame) → WorldFits r w → AllOpen w.places → begun_by (classes r) w (next_of w.out) ≡ Some b → Burst (classes r) host (before b) l → l.proc.core.halted ≡ None
-      → AllOpen (after w b l).places
-  event_open w b l fits h g q go =
-      let start = event_begins r valid actors rules leads steps_fit w b fits g in
-      let u = burst_open w.places w.out.file.processes start.process (before b) l q start.good (begun_open w fits h b g) in
-      open_set w.places l.out.active (record { up = b.place.up; proc = l.proc }) h (subst (λ x. UnlessStopped x (Open l.proc.core)) go u)
+pub open_at : (ps : List (Place Frame)) (k : ℕ) → InPlaces OpenIn ps → Open (slice_index_or ps k (record { up = false; proc = idle })).proc.core
+open_at ps k h = in_place OpenIn ps k (λ k w. absurd (omega (arith, w))) h
 
 pub start_open : StartOpen
-start_open w = none_open w.processes
+start_open w = none_ran OpenIn w.processes (λ k w. absurd (omega (arith, w)))
 
 pub valid_open : (r : RawTree) → AreValid r → EventOpen r
-valid_open r v =
-    let rules = class_rules r v.valid v.written (functions_kept r v.valid v.functions) in
-    event_open r v.valid (heads r) rules (leads_on r v.valid) (steps_keep r v.valid (heads r) rules)
+valid_open r v w b l fits h g q go = after_event r v OpenIn OpenIn (keeps_open r) w b l fits h g q go

@@ -1,5 +1,5 @@
 -- What a process does for an actor that asks leaves each cell with a reference.
-use Rattle.std.proofs.Common.{◌≡◌, ℕ, zero, suc, ◌+◌, ◌<◌, ◌≤◌, nat_eq, Bool, true, false, List, [], ◌∷◌, ◌++◌, if◌then◌else◌, refl, sym, ap, subst, ◌∙◌, arith}
+use Rattle.std.proofs.Common.{◌≡◌, ℕ, suc, ◌+◌, ◌≤◌, nat_eq, Bool, true, false, List, [], ◌∷◌, ◌++◌, if◌then◌else◌, refl, sym, ap, subst, ◌∙◌, arith}
 use Rattle.std.specs.Prelude.{ℤ, pos, ◌-ℤ◌, ◌^◌, ◌&&◌, int_le, nat_le, nat_lt}
 use Rattle.std.specs.declared.option.Option.{Option}
 use Rattle.std.specs.declared.option.Option.TheVariants.{None, Some}
@@ -14,11 +14,10 @@ use Rattle.flow_numbered.specs.Numbered.{Numbered, thing, added, put}
 use Rattle.flow_meaning.specs.Cells.{Side, PromiseSide, FutureSide, side_of, Cell, Single, Stream, is_complete, filled}
 use Rattle.flow_meaning.specs.Requests.{DiskCall, Effect, Make, Start, Draw, Delay, Never, Listen, Disk, Goal, Stored, Kept, Supply}
 use Rattle.flow_meaning.specs.Process.{Task, Run, Throw, Store, Keep, Fire, Entry, Core}
-use Rattle.flow_meaning.specs.References.{one, count, count_maybe, in_task, refs_in}
+use Rattle.flow_meaning.specs.References.{one, in_task}
 use Rattle.flow_meaning.specs.Orderly.{Rising}
-use Rattle.flow_meaning.specs.Lines.{start_line}
-use Rattle.flow_meaning.specs.Work.{turn, writes, pushed, new_cell, fill_cell, fill}
-use Rattle.flow_meaning.specs.Effects.{Reaction, throws, result_task, push_result, gives, gives_new, gives_open, empty_cell, between, draw, delay, is_port, open_port, listen, judged, ask_disk, effect, send_to}
+use Rattle.flow_meaning.specs.Work.{writes, pushed, new_cell, fill_cell, fill}
+use Rattle.flow_meaning.specs.Effects.{Reaction, throws, result_task, push_result, gives, gives_new, gives_open, empty_cell, between, is_port, open_port, judged, ask_disk, effect, send_to}
 use Rattle.flow_meaning.specs.React.{send_by, send_in, print}
 use Rattle.flow_meaning.specs.Step.{proc, entry_of, enrol, start_core}
 use Rattle.flow_meaning.specs.Frame.{Frame}
@@ -26,7 +25,7 @@ use Rattle.flow_meaning.proofs.Posture.{Unless, unless, after_turn, same_number,
 use Rattle.flow_meaning.proofs.TaskShifts.{beyond_none, thing_new}
 use Rattle.flow_meaning.proofs.Shifts.{same_of}
 use Rattle.flow_heap_refinement.proofs.Referring.{of_new_cell, of_new_actor, of_port, of_request}
-use Rattle.flow_invariants.proofs.Referenced.Onward.{IsThere, no_refs, refs, Wants, Onward, Refers, refers_on, push_onward, filling_onward, IsOpen}
+use Rattle.flow_invariants.proofs.Referenced.Onward.{IsThere, refs, Wants, Refers, refers_on, push_onward, filling_onward, IsOpen}
 
 pub one_side : (k : ℕ) (s : Side) (n : ℕ) → n ≡ k → one PromiseSide k s n + one FutureSide k s n ≡ 1
 one_side k PromiseSide n e =

@@ -1,5 +1,5 @@
 -- The end of an actor leaves each cell with a reference, where its result is unset.
-use Rattle.std.proofs.Common.{◌≡◌, ℕ, zero, suc, ◌+◌, ◌<◌, ◌≤◌, nat_eq, Bool, true, false, List, [], ◌∷◌, if◌then◌else◌, refl, sym, ap, subst, ◌∙◌, arith}
+use Rattle.std.proofs.Common.{◌≡◌, ℕ, zero, suc, ◌+◌, ◌≤◌, nat_eq, Bool, true, false, List, [], ◌∷◌, if◌then◌else◌, refl, sym, ap, subst, ◌∙◌, arith}
 use Rattle.std.specs.declared.option.Option.{Option}
 use Rattle.std.specs.declared.option.Option.TheVariants.{None, Some}
 use Rattle.flow_value.specs.Values.{OutcomeTree}
@@ -7,28 +7,27 @@ use Rattle.flow_class.specs.Classes.{RawTree}
 use Rattle.flow_numbered.specs.Numbered.{Numbered, thing, put, removed}
 use Rattle.flow_meaning.specs.Cells.{Side, PromiseSide, FutureSide, Waiter, Cell, Single, Stream, filled}
 use Rattle.flow_meaning.specs.Process.{Task, Close, Fire, Entry, Core}
-use Rattle.flow_meaning.specs.References.{reference_count, refs_in, value_in, one, count, count_maybe, count_kept, in_entries, in_task}
+use Rattle.flow_meaning.specs.References.{reference_count, refs_in, value_in, one, count, count_maybe, count_kept, in_entries}
 use Rattle.flow_meaning.specs.Orderly.{Orderly}
 use Rattle.flow_meaning.specs.Lines.{end_line}
 use Rattle.flow_meaning.specs.Work.{writes, fill_cell, fill, dropping_values}
 use Rattle.flow_meaning.specs.Dropping.{set_result, give_result, close}
-use Rattle.flow_meaning.specs.Step as steps
 use Rattle.flow_meaning.specs.Step.{proc, close_actor}
-use Rattle.flow_meaning.specs.Frame.{Frame, over}
+use Rattle.flow_meaning.specs.Frame.{Frame}
 use Rattle.flow_meaning.specs.Class.{classes}
 use Rattle.flow_meaning.proofs.Posture.{Unless, unless, after_turn, same_number, removed_none, thing_removed_other}
 use Rattle.flow_meaning.proofs.Shifts.{close_of}
 use Rattle.flow_meaning.proofs.InOrder.{no_thing}
 use Rattle.flow_heap_refinement.specs.Counted.{frames_hold}
 use Rattle.flow_heap_refinement.specs.CellsTied.{CellsTied}
-use Rattle.flow_heap_refinement.specs.References.{entry_holds, frame_holds}
+use Rattle.flow_heap_refinement.specs.References.{frame_holds}
 use Rattle.flow_heap_refinement.specs.Rested.{IsUnset}
 use Rattle.flow_heap_refinement.proofs.Keeping.{no_one}
 use Rattle.flow_heap_refinement.proofs.Referring.{of_popped, of_closed}
 use Rattle.flow_progress.specs.Alone.{ResultsAlone}
 use Rattle.flow_progress.specs.Fitting.{CellTypes, ProcessFits}
 use Rattle.flow_progress.proofs.StepFits.{Actor, actor_here}
-use Rattle.flow_invariants.proofs.Referenced.Onward.{IsThere, no_refs, refs, Wants, Refers, gone_onward, drop_onward, filling_onward, push_onward}
+use Rattle.flow_invariants.proofs.Referenced.Onward.{IsThere, refs, Wants, Refers, gone_onward, drop_onward, filling_onward, push_onward}
 use Rattle.flow_invariants.proofs.Referenced.Losses.{wants_counts}
 
 -- a cell that is unset

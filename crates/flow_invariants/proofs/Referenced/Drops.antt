@@ -1,14 +1,14 @@
 -- A drop, and a fire that ends, leave each cell with a reference.
-use Rattle.std.proofs.Common.{◌≡◌, ℕ, zero, suc, ◌+◌, ◌<◌, ◌≤◌, nat_eq, Bool, true, false, List, [], ◌∷◌, refl, sym, ap, subst, ◌∙◌, arith}
+use Rattle.std.proofs.Common.{◌≡◌, ℕ, ◌+◌, ◌≤◌, nat_eq, Bool, true, false, List, ◌∷◌, refl, sym, ap, subst, arith}
 use Rattle.std.specs.declared.option.Option.{Option}
 use Rattle.std.specs.declared.option.Option.TheVariants.{None, Some}
 use Rattle.flow_value.specs.declared.value.Kind.{Kind}
 use Rattle.flow_class.specs.Classes.{RawTree}
 use Rattle.flow_numbered.specs.Numbered.{Numbered, thing}
 use Rattle.flow_meaning.specs.Cells.{Side, PromiseSide, FutureSide, side_of, Cell}
-use Rattle.flow_meaning.specs.Process.{Task, Fire, Drop, Core}
+use Rattle.flow_meaning.specs.Process.{Task, Drop, Core}
 use Rattle.flow_meaning.specs.References.{reference_count, one, in_task}
-use Rattle.flow_meaning.specs.Orderly.{Orderly, Rising, tasks_of}
+use Rattle.flow_meaning.specs.Orderly.{Orderly, tasks_of}
 use Rattle.flow_meaning.specs.Dropping.{lose_cell, lose_ref, drop, suffer, loss, port_of}
 use Rattle.flow_meaning.specs.Work.{owner}
 use Rattle.flow_meaning.specs.Step.{proc}
@@ -20,7 +20,7 @@ use Rattle.flow_heap_refinement.proofs.Keeping.{no_one}
 use Rattle.flow_heap_refinement.proofs.Referring.{of_popped}
 use Rattle.flow_progress.specs.Alone.{ResultsAlone}
 use Rattle.flow_progress.specs.Fitting.{CellTypes, ActorAt, TasksFit, ProcessFits}
-use Rattle.flow_invariants.proofs.Referenced.Onward.{IsThere, refs, Wants, Refers}
+use Rattle.flow_invariants.proofs.Referenced.Onward.{refs, Wants, Refers}
 use Rattle.flow_invariants.proofs.Referenced.Losses.{other_lost, own_lost}
 
 module _ (k : ℕ) (r : RawTree) (types : CellTypes) (c : Core) (xs : Numbered Frame) (o : Orderly c) (p : ProcessFits r types c xs) (t : CellsTied c) (results : ResultsAlone c xs) (ts : List Task) (h : Refers k c xs) where

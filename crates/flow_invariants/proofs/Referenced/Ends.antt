@@ -1,33 +1,31 @@
 -- Operands that are kept, ends of actors, fires and drops leave each cell with a reference.
-use Rattle.std.proofs.Common.{◌≡◌, ◌⊎◌, inl, inr, ℕ, zero, suc, ◌+◌, ◌<◌, ◌≤◌, nat_eq, Bool, true, false, List, [], ◌∷◌, ◌++◌, length, if◌then◌else◌, refl, sym, ap, subst, ◌∙◌, arith}
+use Rattle.std.proofs.Common.{◌≡◌, inr, ℕ, ◌+◌, ◌≤◌, false, List, [], ◌∷◌, ◌++◌, length, refl, sym, ap, subst, ◌∙◌, arith}
 use Rattle.std.specs.declared.option.Option.{Option}
 use Rattle.std.specs.declared.option.Option.TheVariants.{None, Some}
 use Rattle.flow_base.specs.ErrorNumbers.{operation_cancelled}
 use Rattle.flow_tree.specs.Decls.{RoutineTree}
-use Rattle.flow_value.specs.declared.value.Kind.{Kind}
-use Rattle.flow_value.specs.Values.{ValueTree, OutcomeTree, GoodOutcome, BadOutcome}
+use Rattle.flow_value.specs.Values.{ValueTree, OutcomeTree}
 use Rattle.flow_class.specs.Classes.{RawTree}
-use Rattle.flow_numbered.specs.Numbered.{Numbered, thing, put, removed}
-use Rattle.flow_meaning.specs.Cells.{Side, PromiseSide, FutureSide, side_of, Ref, Waiter, Cell, Single, Stream, is_ready, waiters, held, filled, taken, after_taking}
+use Rattle.flow_numbered.specs.Numbered.{Numbered, thing, put}
+use Rattle.flow_meaning.specs.Cells.{Side, Ref, Cell, Single, Stream, taken, after_taking}
 use Rattle.flow_meaning.specs.Process.{Task, Run, Give, Throw, Catch, Store, Keep, Close, Fire, Drop, Entry, Core}
-use Rattle.flow_meaning.specs.References.{Scan, reference_count, refs_in, value_in, one, count, count_kept, count_maybe, in_task}
+use Rattle.flow_meaning.specs.References.{refs_in, count, count_kept, in_task}
 use Rattle.flow_meaning.specs.Orderly.{Orderly, Rising, tasks_of}
-use Rattle.flow_meaning.specs.Work.{turn, pushed, writes, fill, fill_cell, dropping_values, leave_for, take_branch, give, is_ready_at}
-use Rattle.flow_meaning.specs.Dropping.{port_of, lose_cell, lose_ref, drop, fire_to, fire_at, fire_cell, fire, loss, set_result, give_result, close}
-use Rattle.flow_meaning.specs.Lines.{take_line, end_line}
+use Rattle.flow_meaning.specs.Work.{writes, leave_for, take_branch, give, is_ready_at}
+use Rattle.flow_meaning.specs.Lines.{take_line}
 use Rattle.flow_meaning.specs.Step as steps
 use Rattle.flow_meaning.specs.Step.{proc, with_operand, below, OperandFate, GoesOn, Cancelled, Ready, verdict, leave_kept, keep_by, keep, close_actor}
-use Rattle.flow_meaning.specs.Frame.{Frame, over, lose}
+use Rattle.flow_meaning.specs.Frame.{Frame, lose}
 use Rattle.flow_meaning.specs.Class.{classes}
 use Rattle.flow_meaning.proofs.Order.{taking_waiters}
 use Rattle.flow_meaning.proofs.Posture.{Unless, unless, after_turn, thing_put, each_number, thing_put_other}
-use Rattle.flow_meaning.proofs.Shifts.{keep_of, close_of}
+use Rattle.flow_meaning.proofs.Shifts.{keep_of}
 use Rattle.flow_heap_refinement.specs.Counted.{Agree, frames_hold, waiters_at}
 use Rattle.flow_heap_refinement.specs.CellsTied.{CellsTied}
 use Rattle.flow_heap_refinement.specs.Leaving.{wait_kind, RightKinds}
-use Rattle.flow_heap_refinement.specs.References.{cell_holds, entry_holds}
+use Rattle.flow_heap_refinement.specs.References.{entry_holds}
 use Rattle.flow_heap_refinement.proofs.Tidy.{agree_by}
-use Rattle.flow_progress.specs.Fitting.{CellTypes, ProcessFits, OperandsFit}
+use Rattle.flow_progress.specs.Fitting.{CellTypes, ProcessFits}
 use Rattle.flow_invariants.proofs.Referenced.Onward.{IsThere, no_refs, refs, Wants, Onward, onward_on, Refers, refers_on, taking_onward, leave_onward, replaced_onward}
 
 -- a cell that is taken from has the waiters that it had, and its kind

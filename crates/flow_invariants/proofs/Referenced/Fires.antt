@@ -1,16 +1,15 @@
 -- A fire leaves each cell with a reference.
-use Rattle.std.proofs.Common.{◌≡◌, ℕ, ◌+◌, ◌≤◌, Bool, true, false, List, [], ◌∷◌, refl, sym, ap, subst, arith}
+use Rattle.std.proofs.Common.{◌≡◌, ℕ, Bool, true, false, List, [], ◌∷◌, refl, sym, ap, subst, arith}
 use Rattle.std.specs.declared.option.Option.{Option}
 use Rattle.std.specs.declared.option.Option.TheVariants.{None, Some}
 use Rattle.flow_value.specs.Values.{OutcomeTree}
 use Rattle.flow_class.specs.Classes.{RawTree}
 use Rattle.flow_numbered.specs.Numbered.{Numbered, thing, put}
-use Rattle.flow_meaning.specs.Cells.{Side, FutureSide, Waiter, Cell, is_ready, waiters, taken, after_taking}
+use Rattle.flow_meaning.specs.Cells.{FutureSide, Waiter, Cell, is_ready, waiters, taken, after_taking}
 use Rattle.flow_meaning.specs.Process.{Task, Give, Fire, Entry, Core}
-use Rattle.flow_meaning.specs.References.{in_task}
 use Rattle.flow_meaning.specs.Orderly.{Orderly, AllWait, is_suspended, tasks_of}
 use Rattle.flow_meaning.specs.Lines.{take_line}
-use Rattle.flow_meaning.specs.Work.{pushed, writes, leave_for, give, take_branch}
+use Rattle.flow_meaning.specs.Work.{writes, leave_for, give, take_branch}
 use Rattle.flow_meaning.specs.Dropping.{fire_to, fire_at, fire_cell, fire}
 use Rattle.flow_meaning.specs.Frame.{Frame}
 use Rattle.flow_meaning.proofs.Posture.{Unless, unless, after_turn}
@@ -20,7 +19,7 @@ use Rattle.flow_heap_refinement.specs.CellsTied.{CellsTied}
 use Rattle.flow_heap_refinement.specs.Leaving.{RightKinds}
 use Rattle.flow_progress.specs.Alone.{ResultsAlone}
 use Rattle.flow_progress.specs.Fitting.{CellTypes, ActorAt, PostureFits, TasksFit, ProcessFits}
-use Rattle.flow_invariants.proofs.Referenced.Onward.{no_refs, Onward, onward_on, Refers, refers_on}
+use Rattle.flow_invariants.proofs.Referenced.Onward.{Refers, refers_on}
 use Rattle.flow_invariants.proofs.Referenced.Tasks.{right_kinds, swapped}
 use Rattle.flow_invariants.proofs.Referenced.Ends.{given_onward}
 use Rattle.flow_invariants.proofs.Referenced.Drops.{off_fits, lose_refers}

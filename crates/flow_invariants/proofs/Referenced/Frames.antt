@@ -1,10 +1,10 @@
 -- What a step takes out of a frame it gives: nothing that a frame refers to is forgotten.
-use Rattle.std.proofs.Common.{◌≡◌, ◌⊎◌, inl, inr, ℕ, zero, suc, ◌+◌, ◌<◌, ◌≤◌, Bool, true, false, List, [], ◌∷◌, ◌++◌, length, refl, sym, ap, subst, ◌∙◌, arith}
-use Rattle.std.specs.Prelude.{nat_lt, slice_get, slice_set}
+use Rattle.std.proofs.Common.{◌≡◌, ◌⊎◌, inl, inr, ℕ, zero, suc, ◌+◌, ◌<◌, ◌≤◌, Bool, true, false, List, [], ◌∷◌, length, refl, sym, ap, ◌∙◌, arith}
+use Rattle.std.specs.Prelude.{nat_lt, slice_set}
 use Rattle.std.specs.declared.option.Option.{Option}
 use Rattle.std.specs.declared.option.Option.TheVariants.{None, Some}
 use Rattle.flow_tree.specs.declared.ty.Ident.{Ident}
-use Rattle.flow_tree.specs.Tree.{TypeTree, ExprTree, ExprTrees}
+use Rattle.flow_tree.specs.Tree.{ExprTree, ExprTrees}
 use Rattle.flow_tree.specs.Decls.{RecordTree}
 use Rattle.flow_value.specs.Values.{ValueTree, IntValue, BoolValue, TextValue, VoidValue, ErrorValue, RecordValue, RefValue}
 use Rattle.flow_eval.specs.Eval.{Res, Done, Fails, Spent, Meaningless}
@@ -19,13 +19,13 @@ use Rattle.flow_meaning.specs.Cells.{Side}
 use Rattle.flow_meaning.specs.Requests.{Spot, Make, Goal, Stored, Kept, Act, Drops, Waits, Returns, Effects, Ask}
 use Rattle.flow_meaning.specs.Process.{View}
 use Rattle.flow_meaning.specs.References.{count, refs_in}
-use Rattle.flow_meaning.specs.Variables.{flat, filled}
+use Rattle.flow_meaning.specs.Variables.{filled}
 use Rattle.flow_meaning.specs.Evaluating.{Names, bind, StepOf, asks, given, evaluated, Effectful, effect_in, effect_of, value, values, call_act}
-use Rattle.flow_meaning.specs.Frame.{Memory, Frame, look, read, write, everything, occ_memory, put_root, put_at, assign, spot_of, next_instr, over, lose}
+use Rattle.flow_meaning.specs.Frame.{Memory, Frame, look, read, write, everything, occ_memory, put_root, put_at, assign, spot_of, next_instr, over}
 use Rattle.flow_meaning.specs.Class as class
 use Rattle.flow_meaning.proofs.Shifts.{same_of}
 use Rattle.flow_meaning.proofs.InOrder.{no_thing}
-use Rattle.flow_heap_refinement.specs.Holding.{held, InMemory}
+use Rattle.flow_heap_refinement.specs.Holding.{InMemory}
 use Rattle.flow_heap_refinement.proofs.Holding.{of_path, of_locals, of_all_locals}
 
 module _ (s : Side) (k : ℕ) where

@@ -1,27 +1,24 @@
 -- What is handed to a frame that fits stands in it, and what it replaces is handed out.
-use Rattle.std.proofs.Common.{◌≡◌, ◌⊎◌, inl, inr, ℕ, zero, suc, ◌+◌, ◌<◌, ◌≤◌, Bool, true, false, List, [], ◌∷◌, ◌++◌, length, refl, sym, ap, subst, ◌∙◌, arith}
+use Rattle.std.proofs.Common.{◌≡◌, ℕ, ◌+◌, ◌≤◌, List, [], ◌∷◌, refl, sym, ap, subst, ◌∙◌, arith}
 use Rattle.std.specs.Option.{option_map}
 use Rattle.std.specs.declared.option.Option.{Option}
 use Rattle.std.specs.declared.option.Option.TheVariants.{None, Some}
 use Rattle.flow_tree.specs.declared.ty.Ident.{Ident}
 use Rattle.flow_tree.specs.Tree.{TypeTree, ErrorType}
-use Rattle.flow_tree.specs.Decls.{ParamTree, RecordTree, RoutineTree}
+use Rattle.flow_tree.specs.Decls.{ParamTree, RecordTree}
 use Rattle.flow_ast.specs.Typing.{param_named}
 use Rattle.flow_ast.specs.Fits.{path_type, fields_type}
 use Rattle.flow_value.specs.Values.{ValueTree, ErrorValue}
-use Rattle.flow_eval.specs.Typed.{HasType}
 use Rattle.flow_eval.proofs.TypedValues.{is_error_value}
 use Rattle.flow_class.specs.declared.class.Slotted.{Slotted}
 use Rattle.flow_class.specs.declared.class.Slotted.TheVariants.{Slot, Local}
 use Rattle.flow_class.specs.Places.{place_named}
-use Rattle.flow_class.specs.Classes.{CatcherTree, InstrTree, SetInstr, EffectInstr, NewInstr, ActInstr, DropInstr, LastTree, ChooseLast, CallbackTree, ClassTree, RawTree}
-use Rattle.flow_class.specs.Code.{type_at, Fetched, Body, Last, Nothing, fetch, callback_at, catcher_at}
+use Rattle.flow_class.specs.Classes.{CatcherTree, SetInstr, EffectInstr, NewInstr, ActInstr, DropInstr, ChooseLast, CallbackTree, ClassTree, RawTree}
+use Rattle.flow_class.specs.Code.{type_at, Fetched, Body, Last, Nothing, fetch, callback_at}
 use Rattle.flow_meaning.specs.Cells.{Side}
-use Rattle.flow_meaning.specs.Evaluating.{Names, bind}
-use Rattle.flow_meaning.specs.Variables.{filled}
-use Rattle.flow_meaning.specs.Frame.{Memory, Frame, read, write, emptied, held_in, everything, put_at, assign, with_error, raised, go, next_instr}
+use Rattle.flow_meaning.specs.Evaluating.{bind}
+use Rattle.flow_meaning.specs.Frame.{Memory, Frame, read, emptied, put_at, assign, with_error, raised}
 use Rattle.flow_meaning.specs.Class.{class_names, stored, store_at, bound, onward, take_callback, take_at}
-use Rattle.flow_meaning.proofs.Shifts.{same_of}
 use Rattle.flow_meaning.proofs.InOrder.{no_thing}
 use Rattle.flow_heap_refinement.specs.Holding.{held, InMemory}
 use Rattle.flow_heap_refinement.proofs.Holding.{of_path, of_written, of_locals}

@@ -1,5 +1,5 @@
 -- A lost reference leaves each cell with one, and each unmarked actor with a future of its result.
-use Rattle.std.proofs.Common.{◌≡◌, ◌⊎◌, inl, inr, ℕ, zero, suc, ◌+◌, ◌<◌, ◌≤◌, nat_eq, Bool, true, false, List, [], ◌∷◌, if◌then◌else◌, refl, sym, ap, subst, ◌∙◌, arith}
+use Rattle.std.proofs.Common.{◌≡◌, inl, ℕ, zero, suc, ◌+◌, ◌<◌, ◌≤◌, nat_eq, Bool, true, false, [], ◌∷◌, if◌then◌else◌, refl, sym, ap, subst, ◌∙◌, arith}
 use Rattle.std.specs.declared.option.Option.{Option}
 use Rattle.std.specs.declared.option.Option.TheVariants.{None, Some}
 use Rattle.flow_base.specs.ErrorNumbers.{broken_promise, operation_cancelled}
@@ -7,25 +7,24 @@ use Rattle.flow_value.specs.Values.{BadOutcome}
 use Rattle.flow_class.specs.Classes.{RawTree}
 use Rattle.flow_numbered.specs.Numbered.{Numbered, thing, put, removed}
 use Rattle.flow_meaning.specs.Cells.{Side, PromiseSide, FutureSide, Cell, Single, Stream, is_complete, held, filled}
-use Rattle.flow_meaning.specs.Process.{Task, Throw, Fire, Entry, Core}
-use Rattle.flow_meaning.specs.References.{one, count_maybe, count_kept, in_entries, in_ports, in_task, refs_in, count}
+use Rattle.flow_meaning.specs.Process.{Throw, Fire, Entry, Core}
+use Rattle.flow_meaning.specs.References.{one, count_maybe, count_kept, in_entries, refs_in, count}
 use Rattle.flow_meaning.specs.Orderly.{Rising, tasks_of}
 use Rattle.flow_meaning.specs.Lines.{cancel_line, broken_line}
 use Rattle.flow_meaning.specs.Work.{free_cell, free, fill_cell, fill, writes, dropping_values, owner, marked, cancel_by, cancel, pushed, leave_for}
-use Rattle.flow_meaning.specs.Dropping.{port_of, promises_gone, futures_gone, loss, suffer, break_cell, lose_cell, lose_ref}
+use Rattle.flow_meaning.specs.Dropping.{port_of, promises_gone, futures_gone, loss, suffer, break_cell}
 use Rattle.flow_meaning.specs.Step.{proc}
 use Rattle.flow_meaning.specs.Frame.{Frame}
 use Rattle.flow_meaning.proofs.Posture.{Unless, unless, after_turn, same_number, removed_none, thing_put, thing_put_other}
 use Rattle.flow_meaning.proofs.Shifts.{same_of}
 use Rattle.flow_meaning.proofs.InOrder.{no_thing}
-use Rattle.flow_heap_refinement.specs.Counted.{references, frames_hold}
 use Rattle.flow_heap_refinement.specs.CellsTied.{CellsTied}
 use Rattle.flow_heap_refinement.proofs.Owners.{entry_found, entry_unfound, one_owner}
 use Rattle.flow_heap_refinement.proofs.Referring.{of_port_gone}
 use Rattle.flow_heap_refinement.proofs.Beside.{one_each}
 use Rattle.flow_progress.specs.Fitting.{CellTypes, ActorFits, ProcessFits}
 use Rattle.flow_progress.proofs.States.{actor_of}
-use Rattle.flow_invariants.proofs.Referenced.Onward.{IsThere, no_refs, refs, Wants, Onward, onward_on, Refers, refers_on, entry_onward, replaced_onward, gone_onward, drop_onward, filling_onward, IsOpen, swap_onward, push_onward}
+use Rattle.flow_invariants.proofs.Referenced.Onward.{IsThere, no_refs, refs, Wants, Onward, onward_on, Refers, refers_on, entry_onward, replaced_onward, gone_onward, drop_onward, filling_onward, IsOpen, push_onward}
 use Rattle.flow_invariants.proofs.Referenced.Tasks.{right_kinds, agree_put}
 
 module _ (k : ℕ) (r : RawTree) (types : CellTypes) (c : Core) (xs : Numbered Frame) (p : ProcessFits r types c xs) (up : Rising 0 c.started c.entries) (t : CellsTied c) where

@@ -1,26 +1,25 @@
 -- One cell and its references, from one state of a process to a later one.
-use Rattle.std.proofs.Common.{◌≡◌, ◌⊎◌, inl, inr, ℕ, zero, suc, ◌+◌, ◌<◌, ◌≤◌, nat_eq, Bool, true, false, List, [], ◌∷◌, ◌++◌, if◌then◌else◌, refl, sym, ap, subst, ◌∙◌, arith}
+use Rattle.std.proofs.Common.{◌≡◌, ◌⊎◌, inl, inr, ℕ, ◌+◌, ◌<◌, ◌≤◌, nat_eq, Bool, true, false, List, [], ◌∷◌, refl, sym, ap, subst, ◌∙◌, arith}
 use Rattle.std.specs.Option.{option_map}
 use Rattle.std.specs.declared.option.Option.{Option}
 use Rattle.std.specs.declared.option.Option.TheVariants.{None, Some}
 use Rattle.flow_value.specs.Values.{ValueTree, OutcomeTree, GoodOutcome, BadOutcome}
-use Rattle.flow_numbered.specs.Numbered.{Numbered, thing, added, put, removed}
-use Rattle.flow_meaning.specs.Cells.{Side, PromiseSide, FutureSide, side_of, Ref, Waiter, Cell, Single, Stream, waiters, held, good, filled, taken, after_taking, left_by}
+use Rattle.flow_numbered.specs.Numbered.{Numbered, thing, put, removed}
+use Rattle.flow_meaning.specs.Cells.{Side, PromiseSide, FutureSide, Waiter, Cell, Single, Stream, waiters, held, filled, taken, after_taking, left_by}
 use Rattle.flow_meaning.specs.Process.{Task, Entry, Core, Proc}
-use Rattle.flow_meaning.specs.References.{refs_in, value_in, one, count, count_waiters, in_task}
+use Rattle.flow_meaning.specs.References.{refs_in, value_in, count, count_waiters, in_task}
 use Rattle.flow_meaning.specs.Orderly.{Rising}
-use Rattle.flow_meaning.specs.Work.{pushed, drops, dropping_values, running, leave_for, left_cells}
+use Rattle.flow_meaning.specs.Work.{pushed, dropping_values, running, leave_for, left_cells}
 use Rattle.flow_meaning.specs.Step.{proc}
 use Rattle.flow_meaning.specs.Frame.{Frame}
-use Rattle.flow_meaning.proofs.Posture.{each_number, thing_put, thing_put_other, thing_removed_other}
+use Rattle.flow_meaning.proofs.Posture.{thing_put, thing_put_other, thing_removed_other}
 use Rattle.flow_meaning.proofs.Shifts.{same_of}
-use Rattle.flow_meaning.proofs.InOrder.{no_thing}
 use Rattle.flow_heap_refinement.specs.Counted.{references, Agree}
-use Rattle.flow_heap_refinement.specs.References.{cell_holds, entry_holds, frame_holds, given_away}
+use Rattle.flow_heap_refinement.specs.References.{cell_holds, entry_holds, frame_holds}
 use Rattle.flow_heap_refinement.specs.Leaving.{RightKinds}
 use Rattle.flow_heap_refinement.proofs.Left.{found_left, put_twice}
 use Rattle.flow_heap_refinement.proofs.Sums.{refs_joined}
-use Rattle.flow_heap_refinement.proofs.Referring.{of_pushed, of_popped, of_values, of_cell, of_gone, of_taken, of_entry, of_frame, of_left}
+use Rattle.flow_heap_refinement.proofs.Referring.{of_pushed, of_popped, of_values, of_cell, of_gone, of_entry, of_frame, of_left}
 
 abbrev pub IsThere : Option Cell → Type 0
 IsThere None = ⊥

@@ -1,13 +1,12 @@
 -- An actor's own step leaves each cell with a reference.
-use Rattle.std.proofs.Common.{◌≡◌, ℕ, zero, suc, ◌+◌, ◌<◌, ◌≤◌, Bool, true, false, List, [], ◌∷◌, refl, sym, ap, subst, ◌∙◌, arith}
+use Rattle.std.proofs.Common.{◌≡◌, ℕ, suc, ◌+◌, ◌≤◌, true, List, [], ◌∷◌, sym, subst, ◌∙◌, arith}
 use Rattle.std.specs.declared.option.Option.{Option}
 use Rattle.std.specs.declared.option.Option.TheVariants.{None, Some}
 use Rattle.flow_tree.specs.Tree.{FutureType}
-use Rattle.flow_tree.specs.Decls.{RoutineTree}
 use Rattle.flow_value.specs.Values.{ValueTree, GoodOutcome}
 use Rattle.flow_class.specs.Classes.{RawTree}
 use Rattle.flow_numbered.specs.Numbered.{Numbered, thing, put}
-use Rattle.flow_meaning.specs.Cells.{Side, Cell}
+use Rattle.flow_meaning.specs.Cells.{Side}
 use Rattle.flow_meaning.specs.Requests.{Act, Goes, Pass, Drops, Effects, Operand, Waits, Sends, Cancels, Prints, SendsTo, Returns, Throws, RunsOut, Stuck, Effect, Make, Start, Draw, Delay, Never, Listen, Disk, Goal, Ask, Supply}
 use Rattle.flow_meaning.specs.Process.{Task, Run, Throw, Keep, Close, Entry, Core}
 use Rattle.flow_meaning.specs.References.{count, refs_in}
@@ -23,7 +22,7 @@ use Rattle.flow_meaning.proofs.Shifts.{run_of, same_of}
 use Rattle.flow_meaning.proofs.TaskShifts.{beyond_none}
 use Rattle.flow_heap_refinement.specs.CellsTied.{CellsTied}
 use Rattle.flow_heap_refinement.specs.Leaving.{RightKinds}
-use Rattle.flow_progress.specs.Fitting.{CellTypes, ActorAt, ActorFits, PostureFits, ProcessFits}
+use Rattle.flow_progress.specs.Fitting.{CellTypes, ActorAt, PostureFits, ProcessFits}
 use Rattle.flow_progress.proofs.CellStates.{cell_there}
 use Rattle.flow_progress.proofs.StepFits.{Actor, actor_here}
 use Rattle.flow_invariants.proofs.Referenced.Frames.{holds, all, handed, handed_by, next_gives}

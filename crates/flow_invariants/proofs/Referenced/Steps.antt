@@ -1,39 +1,31 @@
 -- Each task leaves each cell of a process that fits with a reference, and each unmarked actor with a future of its result.
-use Rattle.std.proofs.Common.{◌≡◌, ◌⊎◌, inl, inr, ℕ, zero, suc, ◌+◌, ◌<◌, ◌≤◌, nat_eq, Bool, true, false, List, [], ◌∷◌, ◌++◌, length, if◌then◌else◌, refl, sym, ap, subst, ◌∙◌, arith}
-use Rattle.std.specs.declared.option.Option.{Option}
-use Rattle.std.specs.declared.option.Option.TheVariants.{None, Some}
-use Rattle.flow_base.specs.ErrorNumbers.{operation_cancelled}
+use Rattle.std.proofs.Common.{◌≡◌, ◌⊎◌, inl, inr, ℕ, Bool, true, false, List, [], ◌∷◌, refl, sym, ap, subst, ◌∙◌, arith}
 use Rattle.flow_tree.specs.Decls.{RoutineTree}
-use Rattle.flow_value.specs.declared.value.Kind.{Kind}
 use Rattle.flow_value.specs.Values.{ValueTree, OutcomeTree, GoodOutcome, BadOutcome}
-use Rattle.flow_class.specs.Classes.{CatcherTree, EffectInstr, ChooseLast, RawTree}
-use Rattle.flow_class.specs.Code.{Body, Last, fetch, catcher_at}
-use Rattle.flow_numbered.specs.Numbered.{Numbered, thing, put, removed}
-use Rattle.flow_meaning.specs.Cells.{Side, PromiseSide, FutureSide, side_of, Ref, Waiter, Cell, Single, Stream, is_ready, waiters, taken, after_taking}
-use Rattle.flow_meaning.specs.Process.{Task, Run, Give, Throw, Catch, Store, Keep, Close, Fire, Drop, Entry, Core, Raised}
-use Rattle.flow_meaning.specs.References.{Scan, reference_count, refs_in, value_in, one, count, count_kept, in_task}
-use Rattle.flow_meaning.specs.Orderly.{Orderly, Rising, tasks_of}
-use Rattle.flow_meaning.specs.Work.{pushed, writes, dropping_values, leave_for, take_branch, give, is_ready_at}
-use Rattle.flow_meaning.specs.Dropping.{port_of, lose_cell, lose_ref, fire_to, fire_at, fire_cell, fire, loss}
-use Rattle.flow_meaning.specs.Lines.{throw_line, take_line, catch_line}
+use Rattle.flow_class.specs.Classes.{RawTree}
+use Rattle.flow_class.specs.Code.{fetch, catcher_at}
+use Rattle.flow_numbered.specs.Numbered.{Numbered, thing, put}
+use Rattle.flow_meaning.specs.Cells.{Side}
+use Rattle.flow_meaning.specs.Process.{Task, Run, Give, Throw, Catch, Store, Core}
+use Rattle.flow_meaning.specs.References.{in_task}
+use Rattle.flow_meaning.specs.Orderly.{Orderly}
+use Rattle.flow_meaning.specs.Work.{pushed, writes, dropping_values, leave_for}
+use Rattle.flow_meaning.specs.Lines.{throw_line}
 use Rattle.flow_meaning.specs.Step as steps
 use Rattle.flow_meaning.specs.Step.{proc, with_operand, below, fate, throw_core, OperandFate, GoesOn, Cancelled, Ready, verdict, keep_by, keep, handle, do_task}
-use Rattle.flow_meaning.specs.Frame.{Frame, over, raised, raise, lose}
-use Rattle.flow_meaning.specs.Class.{classes, class_names}
-use Rattle.flow_meaning.proofs.Posture.{Unless, unless, after_turn, thing_put, own_task}
-use Rattle.flow_meaning.proofs.Shifts.{give_of, throw_of, store_of, keep_of, close_of}
-use Rattle.flow_heap_refinement.specs.Counted.{Agree, frames_hold}
+use Rattle.flow_meaning.specs.Frame.{Frame, raised}
+use Rattle.flow_meaning.specs.Class.{classes}
+use Rattle.flow_meaning.proofs.Posture.{Unless, unless}
+use Rattle.flow_meaning.proofs.Shifts.{give_of, throw_of, store_of}
 use Rattle.flow_heap_refinement.specs.CellsTied.{CellsTied}
-use Rattle.flow_heap_refinement.proofs.Holding.{of_all_locals}
-use Rattle.flow_heap_refinement.proofs.Referring.{of_popped}
 use Rattle.flow_progress.specs.Places.{class_vars, HoldsTypes}
 use Rattle.flow_progress.specs.Rules.{ClassRules, KeepsRules}
-use Rattle.flow_progress.specs.Fitting.{CellTypes, typed_by, Standing, Waiting, OperandsFit, ProcessFits}
+use Rattle.flow_progress.specs.Fitting.{CellTypes, typed_by, Standing, Waiting, ProcessFits}
 use Rattle.flow_progress.proofs.Handed.{has_place}
 use Rattle.flow_progress.proofs.StepFits.{Actor, actor_here, frame_rules}
-use Rattle.flow_invariants.proofs.Referenced.Onward.{IsThere, no_refs, refs, Wants, Onward, onward_on, Refers, refers_on, pop_onward}
+use Rattle.flow_invariants.proofs.Referenced.Onward.{Refers, refers_on}
 use Rattle.flow_invariants.proofs.Referenced.Hands.{store_takes, take_takes, raise_takes}
-use Rattle.flow_invariants.proofs.Referenced.Tasks.{right_kinds, agree_put, Kept, now, swapped, handed_on, stored_on, leaves_on}
+use Rattle.flow_invariants.proofs.Referenced.Tasks.{right_kinds, Kept, now, swapped, handed_on, stored_on, leaves_on}
 
 module _ (k : ℕ) (r : RawTree) (actors : List RoutineTree) (rules : ClassRules r actors) (types : CellTypes) (c : Core) (xs : Numbered Frame) (o : Orderly c) (p : ProcessFits r types c xs) (t : CellsTied c) (ts : List Task) (h : Refers k c xs) where
   abbrev After : steps.Stepped Frame → Type 0

@@ -1,34 +1,28 @@
 -- The tasks of an actor but its next step lose no reference.
-use Rattle.std.proofs.Common.{◌≡◌, ◌⊎◌, inl, inr, ℕ, zero, suc, ◌+◌, ◌<◌, ◌≤◌, nat_eq, Bool, true, false, List, [], ◌∷◌, ◌++◌, length, if◌then◌else◌, refl, sym, ap, subst, ◌∙◌, arith}
+use Rattle.std.proofs.Common.{◌≡◌, ℕ, suc, ◌+◌, ◌≤◌, Bool, true, false, List, [], ◌∷◌, refl, sym, ap, subst, ◌∙◌, arith}
 use Rattle.std.specs.declared.option.Option.{Option}
-use Rattle.std.specs.declared.option.Option.TheVariants.{None, Some}
-use Rattle.flow_base.specs.ErrorNumbers.{operation_cancelled}
+use Rattle.std.specs.declared.option.Option.TheVariants.{Some}
 use Rattle.flow_tree.specs.Tree.{TypeTree, FutureType, FutureStreamType}
-use Rattle.flow_tree.specs.Decls.{RoutineTree}
 use Rattle.flow_value.specs.declared.value.Kind.{Kind}
 use Rattle.flow_value.specs.declared.value.Kind.TheVariants as kind
-use Rattle.flow_value.specs.Values.{ValueTree, RefValue, OutcomeTree, GoodOutcome, BadOutcome}
+use Rattle.flow_value.specs.Values.{ValueTree, RefValue}
 use Rattle.flow_class.specs.Classes.{RawTree}
 use Rattle.flow_valid.specs.Validity.{operand_type}
-use Rattle.flow_numbered.specs.Numbered.{Numbered, thing, put, removed}
-use Rattle.flow_meaning.specs.Cells.{Side, PromiseSide, FutureSide, side_of, Ref, Waiter, Cell, Single, Stream, waiters, taken, after_taking}
-use Rattle.flow_meaning.specs.Process.{Task, Run, Give, Throw, Catch, Store, Keep, Close, Fire, Drop, Entry, Core}
-use Rattle.flow_meaning.specs.References.{refs_in, value_in, one, count, count_kept, in_task}
+use Rattle.flow_numbered.specs.Numbered.{Numbered, thing, put}
+use Rattle.flow_meaning.specs.Cells.{Side, Ref, Cell, Single, Stream}
+use Rattle.flow_meaning.specs.Process.{Task, Entry, Core}
+use Rattle.flow_meaning.specs.References.{refs_in, count, in_task}
 use Rattle.flow_meaning.specs.Orderly.{is_suspended}
-use Rattle.flow_meaning.specs.Work.{pushed, writes, dropping_values, leave_for}
-use Rattle.flow_meaning.specs.Step.{proc, with_operand}
+use Rattle.flow_meaning.specs.Work.{pushed, dropping_values, leave_for}
 use Rattle.flow_meaning.specs.Frame.{Frame}
 use Rattle.flow_meaning.proofs.Posture.{each_number, thing_put, thing_put_other}
-use Rattle.flow_heap_refinement.specs.Counted.{Agree, waiters_at, waiting_of}
+use Rattle.flow_heap_refinement.specs.Counted.{Agree, waiting_of}
 use Rattle.flow_heap_refinement.specs.Leaving.{wait_kind, RightKinds}
-use Rattle.flow_heap_refinement.specs.References.{entry_holds}
 use Rattle.flow_heap_refinement.proofs.Tidy.{agree_by}
-use Rattle.flow_heap_refinement.proofs.Sums.{count_joined}
-use Rattle.flow_progress.specs.Asking.{NextOperand}
 use Rattle.flow_progress.specs.Fitting.{CellTypes, typed_by, CellFits, CellAt, OperandsFit}
 use Rattle.flow_progress.proofs.CellStates.{cell_there}
 use Rattle.flow_progress.proofs.Given.{future_ref, next_ref}
-use Rattle.flow_invariants.proofs.Referenced.Onward.{no_refs, refs, Onward, onward_on, pop_onward, push_onward, drop_onward, frame_onward, entry_onward, leave_onward, replaced_onward, swap_onward, drop_push_onward}
+use Rattle.flow_invariants.proofs.Referenced.Onward.{no_refs, Onward, onward_on, pop_onward, drop_onward, frame_onward, leave_onward, swap_onward, drop_push_onward}
 
 -- operands have the kinds of their cells, and are future references
 module _ (r : RawTree) (types : CellTypes) (c : Core) (cells : (k : ℕ) → CellAt r types (types k) (thing c.cells k)) where

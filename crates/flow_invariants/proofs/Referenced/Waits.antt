@@ -1,14 +1,13 @@
 -- Values that an actor hands out, waits and cancels leave each cell with a reference.
-use Rattle.std.proofs.Common.{◌≡◌, ℕ, zero, suc, ◌+◌, ◌<◌, ◌≤◌, Bool, true, false, List, [], ◌∷◌, inl, inr, refl, sym, ap, subst, ◌∙◌, arith}
+use Rattle.std.proofs.Common.{◌≡◌, ℕ, suc, ◌+◌, ◌≤◌, Bool, true, false, List, [], ◌∷◌, inl, inr, refl, sym, ap, subst, ◌∙◌, arith}
 use Rattle.std.specs.declared.option.Option.{Option}
 use Rattle.std.specs.declared.option.Option.TheVariants.{None, Some}
 use Rattle.flow_base.specs.ErrorNumbers.{operation_cancelled, second_waiter}
-use Rattle.flow_value.specs.declared.value.Kind.TheVariants as kind
-use Rattle.flow_value.specs.Values.{ValueTree, OutcomeTree, GoodOutcome}
+use Rattle.flow_value.specs.Values.{ValueTree, OutcomeTree}
 use Rattle.flow_numbered.specs.Numbered.{Numbered, thing, put}
 use Rattle.flow_meaning.specs.Cells.{Side, FutureSide, side_of, Ref, Waiter, Cell, Single, Stream, is_busy, with_waiter, taken, after_taking}
 use Rattle.flow_meaning.specs.Requests.{Spot}
-use Rattle.flow_meaning.specs.Process.{Task, Run, Give, Throw, Close, Entry, Core}
+use Rattle.flow_meaning.specs.Process.{Task, Give, Throw, Entry, Core}
 use Rattle.flow_meaning.specs.References.{refs_in, one, count, count_kept, in_task}
 use Rattle.flow_meaning.specs.Orderly.{Rising}
 use Rattle.flow_meaning.specs.Lines.{take_line, wait_line, cancel_line}
@@ -23,7 +22,7 @@ use Rattle.flow_heap_refinement.specs.Leaving.{wait_kind, RightKinds}
 use Rattle.flow_heap_refinement.specs.References.{cell_holds, entry_holds}
 use Rattle.flow_heap_refinement.proofs.Owners.{entry_found}
 use Rattle.flow_heap_refinement.proofs.Referring.{of_waiter}
-use Rattle.flow_invariants.proofs.Referenced.Onward.{no_refs, refs, Onward, onward_on, Refers, refers_on, entry_onward, replaced_onward, cell_onward, taking_onward, drop_onward, drop_push_onward}
+use Rattle.flow_invariants.proofs.Referenced.Onward.{no_refs, Onward, onward_on, Refers, refers_on, entry_onward, replaced_onward, cell_onward, taking_onward, drop_onward, drop_push_onward}
 use Rattle.flow_invariants.proofs.Referenced.Tasks.{agree_put}
 use Rattle.flow_invariants.proofs.Referenced.Ends.{taken_agrees, taken_kinds}
 

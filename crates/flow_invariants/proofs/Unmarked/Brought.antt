@@ -6,14 +6,15 @@ use Rattle.std.specs.declared.option.Option.TheVariants.{None, Some}
 use Rattle.flow_value.specs.declared.value.Kind.TheVariants as kind
 use Rattle.flow_value.specs.Values.{ValueTree, IntValue, OutcomeTree, GoodOutcome}
 use Rattle.flow_class.specs.Classes.{RawTree}
-use Rattle.flow_meaning.specs.Process.{Drop, Halt, Core, Proc}
+use Rattle.flow_meaning.specs.Process.{Drop, Core, Proc}
 use Rattle.flow_meaning.specs.Orderly.{UnlessStopped, Rising}
 use Rattle.flow_meaning.specs.Work.{pushed, fill}
 use Rattle.flow_meaning.specs.Step.{enrol}
 use Rattle.flow_meaning.specs.Deliver.{boot, boot_with, stop, stop_main, deliver, arrive, closed_request}
 use Rattle.flow_meaning.specs.Frame.{Frame}
 use Rattle.flow_meaning.specs.Class.{classes}
-use Rattle.flow_meaning.proofs.Posture.{Unless, unless, after_turn}
+use Rattle.flow_meaning.proofs.Posture.{Unless, unless, unless_map, after_turn}
+use Rattle.flow_invariants.proofs.Invariant.{unless_all}
 use Rattle.flow_invariants.proofs.Unmarked.Steady.{S, fill_steady}
 use Rattle.flow_invariants.proofs.Unmarked.Acts.{enrol_steady}
 use Rattle.flow_invariants.proofs.Unmarked.Steps.{Fine}
@@ -52,15 +53,7 @@ abbrev pub Now : Core → Type 0
 Now c = UnlessStopped c.halted (AllFine c)
 
 pub fine_now : (c : Core) → ((j : ℕ) → Unless (Fine j) c) → Now c
-fine_now c h = by_halt c.halted h
-  where
-    by_halt : (o : Option Halt) → ((j : ℕ) → UnlessStopped o (Fine j c)) → UnlessStopped o (AllFine c)
-    by_halt None h = h
-    by_halt (Some x) h = tt
+fine_now c h = unless_all (λ j. Fine j c) c.halted h
 
 pub steady_now : (c : Core) → ((j : ℕ) → Unless (S j) c) → Now c
-steady_now c h = by_halt c.halted h
-  where
-    by_halt : (o : Option Halt) → ((j : ℕ) → UnlessStopped o (S j c)) → UnlessStopped o (AllFine c)
-    by_halt None h = λ j. inl (h j)
-    by_halt (Some x) h = tt
+steady_now c h = fine_now c (λ j. unless_map c.halted (λ x. inl x) (h j))

@@ -93,12 +93,20 @@ module _ {A W : Type 0} (serves : Host W) (shows : A → Numbered ℕ → W → 
   spent_well m a b s breaks = spent_by Stuck m a b s refl breaks
 
   pub brought_well : law.DeliveredNeverStuck serves shows wrote broke code processes r
-  brought_well program steady sure now m a b p w is stored kept world clock time count off = by_begin (burst_begins r now m p is kept)
+  brought_well program steady sure now m a b p w is stored kept around off = by_begin (burst_begins r now m p is kept)
     where
       by_begin : BetweenTasks r [] m p ⊎ AreSpent [] m p → ⊥
       by_begin (inl between) =
           sure program steady [] m a b p w
-          (record { between = between; asked = is.asked; world = world; time = is.time ∙ time; clock = subst (λ t. program_time t ≡ pos t) (sym is.time) clock; among = count; poised = is.poised }) stored off
+          (record {
+            between = between;
+            asked = is.asked;
+            world = around.shown;
+            time = is.time ∙ around.time;
+            clock = subst (λ t. program_time t ≡ pos t) (sym is.time) around.clock;
+            among = around.among;
+            poised = is.poised;
+          }) stored off
       by_begin (inr are) = spent_well m a b are.spent off
 
   -- so what is brought and what follows of it, where bringing goes well

@@ -222,7 +222,7 @@ module _ (r : RawTree) (code : Code) (w : Supply) (ls : List Line) (x : Scan) (s
     kept = kept_by s told
 
     drawn_there : (b : Branch) (eff : Effect) (args : Vec Resolved Global) → slice_get group.branches.items kept ≡ Some b → b.operand ≡ operand.Effect eff args
-        → Drawn code own (goal.ProcessInvariant (group.first + kept)) eff args.items told → ⊥
+        → Drawn code own (goal.Kept (group.first + kept)) eff args.items told → ⊥
     drawn_there b eff args there is drawn =
         let may = choices.may_choose r code w ls x s m p i e f st number fetched in
         let of_group = choices.is_group r code w ls x s m p i e f st number fetched ends_in at may group of_number in
@@ -237,14 +237,14 @@ module _ (r : RawTree) (code : Code) (w : Supply) (ls : List Line) (x : Scan) (s
         ∙ ap (λ k. values_at (sight_in code i told) k told.left) of.resolved
         ∙ args_follow r ls x told p i e f code w at.stood inp.program st.clock inp.few of.exprs in
         by_called of.called (subst (λ z. SameEffect z of.called) drawn.is_world of.same)
-        (subst (λ z. Fits (evaluated f z (λ vs left. given f (effect_of of.called vs) (λ a. asking_for left (Effects (asks.ProcessInvariant (spot_of f.code number)) a) f)))) (sym same ∙ drawn.done) fits)
+        (subst (λ z. Fits (evaluated f z (λ vs left. given f (effect_of of.called vs) (λ a. asking_for left (Effects (asks.Kept (spot_of f.code number)) a) f)))) (sym same ∙ drawn.done) fits)
       where
         by_called : (called : Effectful) → SameEffect (effect.World drawn.called) called
-            → Fits (given f (effect_of called (args_of drawn.arguments)) (λ a. asking_for drawn.left (Effects (asks.ProcessInvariant (spot_of f.code number)) a) f)) → ⊥
+            → Fits (given f (effect_of called (args_of drawn.arguments)) (λ a. asking_for drawn.left (Effects (asks.Kept (spot_of f.code number)) a) f)) → ⊥
         by_called (Actor k) same fits = same
         by_called (World q) same fits =
             let draws : world_effect q (args_of drawn.arguments) ≡ Some (Draw drawn.lo drawn.hi) = ap (λ z. world_effect z (args_of drawn.arguments)) (sym same) ∙ drawn.draws in
-            let one = subst (λ z. Fits (given f z (λ a. asking_for drawn.left (Effects (asks.ProcessInvariant (spot_of f.code number)) a) f))) draws fits in
+            let one = subst (λ z. Fits (given f z (λ a. asking_for drawn.left (Effects (asks.Kept (spot_of f.code number)) a) f))) draws fits in
             let wanted = one.0.1 in no_number wanted.1.callback.next wanted.1.takes (sym wanted.2 ∙ wanted.1.type)
 
   asks_drawn : (n : Process) → MayStep r ls x s m p i e f → Asks code s m Off n → ServingStuck n.asked → ⊥
@@ -254,7 +254,7 @@ module _ (r : RawTree) (code : Code) (w : Supply) (ls : List Line) (x : Scan) (s
   asks_drawn n (chooses at) (by_operand number group b eff args end ends_in of_number there is does) stuck =
       let same : at.group ≡ number = let k = at.wait.last in cc (k, ends_in) in
       let fetched : fetch f.code f.block f.instr ≡ Last (ChooseLast number) = at.wait.fetched ∙ ap (λ k. Last (ChooseLast k)) same in
-      drawn_there number fetched ends_in (choices.at_told r code w ls x s m p i e f st at) group of_number b eff args there is (effect_drawn code own (goal.ProcessInvariant (group.first + kept_by own told)) eff args.items told n Off st.unasked does stuck)
+      drawn_there number fetched ends_in (choices.at_told r code w ls x s m p i e f st at) group of_number b eff args there is (effect_drawn code own (goal.Kept (group.first + kept_by own told)) eff args.items told n Off st.unasked does stuck)
   asks_drawn n (moves stale zero_state) (by_operand number group b eff args end ends_in of_number there is does) stuck =
       let here = the_end r code.classes.items s i f (coded_by inp.program) inp.standing stale.standing stale.instruction end in
       let text : here.text ≡ ChooseLast number = subst (EndOf by here.text) (sym here.coded ∙ ap end_of ends_in) (end_from by here.text) in
@@ -262,7 +262,7 @@ module _ (r : RawTree) (code : Code) (w : Supply) (ls : List Line) (x : Scan) (s
       let wait = the_wait r code.classes.items s i f (coded_by inp.program) inp.standing number stale.standing fetched in
       let go = (choices.may_choose r code w ls x s m p i e f st number fetched).go in
       drawn_there number fetched ends_in (choice_begins r ls m p i e f x s number stale wait go zero_state) group of_number b eff args there is
-      (effect_drawn code own (goal.ProcessInvariant (group.first + kept_by own told)) eff args.items told n Off st.unasked does stuck)
+      (effect_drawn code own (goal.Kept (group.first + kept_by own told)) eff args.items told n Off st.unasked does stuck)
 
 module _ (r : RawTree) (code : Code) (program : IsProgram r code) (ls : List Line) (m : Process) (p : Proc Frame) (now : BetweenTasks r ls m p) (poised : NoStaleWaits m.heap) (none : m.asked ≡ None)
     (clock : program_time m.time ≡ pos m.time) (t : stack.Task) (start n : Process) (taken : TopTaken t m start) (done : IsDone code t start n) where

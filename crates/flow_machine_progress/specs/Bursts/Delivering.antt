@@ -1,5 +1,5 @@
 -- What is brought to a process at the begin of an event doesn't go astray, nor does the burst that follows.
-use Rattle.std.specs.Prelude.{◌≡◌, ℕ, pos, true, List}
+use Rattle.std.specs.Prelude.{◌≡◌, ℕ, true, List}
 use Rattle.flow_value.specs.declared.value.Value.{Value}
 use Rattle.flow_value.specs.declared.value.Kind.TheVariants as kind
 use Rattle.flow_value.specs.declared.value.Outcome.{Outcome}
@@ -17,7 +17,6 @@ use Rattle.flow_heap_refinement.specs.Holds.{AllThere}
 use Rattle.flow_steps.specs.declared.process.Process.{Process}
 use Rattle.flow_steps.specs.Doing.{begun}
 use Rattle.flow_steps.specs.Holding.{outcome_refs}
-use Rattle.flow_steps.specs.Evaluating.{program_time}
 use Rattle.flow_steps.specs.StuckTasks.{AnswerStuck, BringStuck}
 use Rattle.flow_machine.specs.declared.host.RunFault.TheVariants.{Stuck}
 use Rattle.flow_machine.specs.Breaking.{BreaksOff}
@@ -27,6 +26,7 @@ use Rattle.flow_burst_refinement.specs.Invariants.Invariant.{ProcessInvariant}
 use Rattle.flow_burst_refinement.specs.Enabled.Tasking.{IsProgram}
 use Rattle.flow_burst_refinement.specs.Bursts.{HostKeepsTime}
 use Rattle.flow_burst_refinement.specs.Boundaries.Delivering.{Resting, IsDelivered}
+use Rattle.flow_burst_refinement.specs.Programs.Delivering.{HostRepresents}
 use Rattle.flow_machine_progress.specs.Bursts.NeverStuck.{BurstNeverStuck}
 
 module _ (r : RawTree) (m : Process) (p : Proc Frame) (now turns : ℕ) where
@@ -54,7 +54,7 @@ module _ {A W : Type 0} (serves : Host W) (shows : A → Numbered ℕ → W → 
   abbrev pub DeliveredNeverStuck : Type 0
   DeliveredNeverStuck =
       IsProgram r code → HostKeepsTime serves → BurstNeverStuck serves shows wrote broke code processes r
-      → (now : ℕ) (m : Process) (a b : A) (p : Proc Frame) (w : W) → IsDelivered r now m p → NoPromiseStored m.heap
-      → UnlessStopped p.core.halted (ProcessInvariant r p) → shows a p.core.ports w → program_time now ≡ pos now
-      → now ≡ (serves.supply w).now → processes ≡ (serves.supply w).processes
-      → BreaksOff serves shows wrote broke code processes m a Stuck b → ⊥
+      → (now : ℕ) (memory : Process) (host left : A) (process : Proc Frame) (world : W) → IsDelivered r now memory process
+      → NoPromiseStored memory.heap → UnlessStopped process.core.halted (ProcessInvariant r process)
+      → HostRepresents serves shows processes now host process world
+      → BreaksOff serves shows wrote broke code processes memory host Stuck left → ⊥

@@ -10,5 +10,5 @@ use Rattle.flow_restore_laws.specs.Rest.Booting as law
 
 module _ {A W : Type 0} (serves : Host W) (shows : A → Numbered ℕ → W → Type 0) (wrote : A → List Line → A → Type 0) where
   pub boot_follows : (code : Code) (processes : ℕ) (r : RawTree) → law.BootFollows serves shows wrote code processes r
-  boot_follows code processes r program steady now turns me m n p w a b e rest held none kept world clock time among does =
-      boot_goes serves shows wrote code processes r program steady now turns me m p w a rest held none kept world clock time among e n b does
+  boot_follows code processes r program steady now turns me m n a b p w e may around does =
+      boot_goes serves shows wrote code processes r program steady now turns me m p w a may.resting may.kept may.no_main may.booted around.shown around.clock around.time around.among e n b does

@@ -150,7 +150,7 @@ module _ {A W : Type 0} (serves : Host W) (shows : A → Numbered ℕ → W → 
         subst (λ z. Goes [] z booted w e k c) x.2
         (event_follows serves shows wrote code processes r program steady now told k b c booted w e
         (record { follows = memory.ends x.0; sorted = still_sorted n told calls x.1; poised = still_poised n told calls x.1; asked = ap (λ (z : Process). z.asked) x.1; time = at_time n told calls x.1 })
-        kept (subst (λ z. shows z booted.core.ports w) (sym x.2) world_after) clock time among bursts)
+        kept (record { shown = subst (λ z. shows z booted.core.ports w) (sym x.2) world_after; clock = clock; time = time; among = among }) bursts)
 
     -- a turn is left, and the line of the start is written: a burst begins
     line_abroad : (n told : Process) (b : A) (l : Line) → MainCalled code me start n → n.asked ≡ Some (call.Line l) → ProcessRepresents r [] nothing_in_hand n booted

@@ -106,7 +106,7 @@ module _ {A : Type 0} (puts : A → Line → Result (Unit {0}) OutFault → A �
         → Bursts host shows (wrote puts) code at.machine.processes start (inside puts p at.ports m a) e q b → Goes d e q b
     brought_goes d ready start e q b is bursts =
         event_follows host shows (wrote puts) code at.machine.processes r program host_steady m.time start q (inside puts p at.ports m a) b (done_in r turns p.0 d x).proc o e is ready.kept
-        (around d ready) ready.clock ready.outside.time ready.shows.processes_are bursts
+        (record { shown = around d ready; clock = ready.clock; time = ready.outside.time; among = ready.shows.processes_are }) bursts
 
     booting_goes : (ready : Ready r turns p Boots x o at m) (e : Burst) (q : Process) (b : Inside A)
         → MainBursts host shows (wrote puts) code at.machine.processes at.machine.me (begun m.time turns at.machine.process) (inside puts p at.ports m a) e q b → Goes Boots e q b

@@ -2,6 +2,7 @@
 use Rattle.std.proofs.Common.{◌≡◌, ℕ, ◌-◌, List, ◌++◌, length, take, drop, sym, ap, ◌∙◌, append_assoc, take-append-drop, arith}
 use Rattle.std.proofs.lemmas.List.{take_rest}
 use Rattle.std.proofs.KnownBytes.{Appends-trans}
+use Rattle.flow_base.proofs.Growing.{grows_trans}
 use Rattle.flow_base.proofs.output.write_whole.Goals as goal
 
 split_later : (piece done rest : List ℕ) (n : ℕ) → piece ≡ done ++ rest → piece ≡ (done ++ take n rest) ++ take (length rest - n) (drop n rest)
@@ -17,5 +18,6 @@ loop-rest-preserved g c =
     let n = c.in_ok-count.count in
     record {
       written = (done ++ take n rest, split_later _ done rest n split, Appends-trans _ _ _ _ _ appended c.in_ok-count.ensures.bytes);
+      handed = grows_trans _ _ _ c.loop-rest.invariant.handed c.write.ensures.handed;
       kept = omega (arith, c.loop-rest.invariant.kept, c.write.ensures.cause.kept);
     }

@@ -6,8 +6,8 @@ use Rattle.flow_parse.proofs.DeclLoops.{params_before}
 use Rattle.flow_parse.proofs.decl.params.Given as goal
 
 abbrev pub invariant-items : goal.invariant-items
-invariant-items l = (l.fn.at < l.at) × (l.at ≤ length l.tokens.spots.items) × (l.number ≡ length l.params.items + 1) × (length l.params.items ≤ 1000)
-    × Leaves Params Any (MoreParams l.number) Any (params_before l.params.items) l.tokens.spots.items l.fn.at l.at
+invariant-items l = (l.fn.at < l.at) × (l.at ≤ length l.tokens.spots.items) × (l.before ≡ length l.params.items) × (l.before ≤ l.fn.limits.variables)
+    × Leaves l.fn.limits Params Any (MoreParams (l.before + 1)) Any (params_before l.params.items) l.tokens.spots.items l.fn.at l.at
 
 abbrev pub decreases-items : goal.decreases-items
 decreases-items l = length l.tokens.spots.items - l.at

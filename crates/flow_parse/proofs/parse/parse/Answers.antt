@@ -1,5 +1,6 @@
 use Rattle.std.proofs.Common.{◌≡◌, ◌≤◌, ◌<◌, length, arith, refl, sym, ap, ◌+◌, suc, inl}
 use Rattle.std.proofs.lemmas.Result.{err_from_is_err_and}
+use Rattle.flow_tree.specs.declared.limits.TheConstants.{OF_PROGRAMS}
 use Rattle.flow_tree.specs.GrammarDecl.{DeclsRule}
 use Rattle.flow_parse.specs.Follow.{AtEnd}
 use Rattle.flow_parse.proofs.Looking.{not_true}
@@ -11,7 +12,7 @@ use Rattle.flow_parse.proofs.parse.parse.Goals as goal
 pub items-init : goal.items-init
 items-init c =
     let s = c.args.tokens.now.spots.items in
-    let l = means s (decls_before c.new-decls.result.items) (λ o. ap (λ z. decls_before z o) (sym c.new-decls.ensures.items)) (nothing s (DeclsRule 1) AtEnd 0 (omega arith)) in
+    let l = means OF_PROGRAMS s (decls_before c.new-decls.result.items) (λ o. ap (λ z. decls_before z o) (sym c.new-decls.ensures.items)) (nothing OF_PROGRAMS s (DeclsRule 1) AtEnd 0 (omega arith)) in
     (omega arith, omega arith, l)
 
 pub items-preserved : goal.items-preserved
@@ -22,7 +23,7 @@ items-preserved c =
     let e : n + 1 ≡ suc n = omega arith in
     let h : c.items.at < length s = omega (arith, c.items-test.true, c.len-in-items.ensures) in
     let x = some_at s c.items.at h in
-    let l = decls_step s c.items.at c.in_ok-next.to n (n + 1) c.items.decls.items c.push.new.self.items c.in_ok-next.next c.in_ok-push.ensures.items e c.if-number-gt-DECLARATIONS.false x.0 x.1 i.2 c.in_ok-next.ensures.reads in
+    let l = decls_step OF_PROGRAMS s c.items.at c.in_ok-next.to n (n + 1) c.items.decls.items c.push.new.self.items c.in_ok-next.next c.in_ok-push.ensures.items e c.if-number-gt-DECLARATIONS.false x.0 x.1 i.2 c.in_ok-next.ensures.reads in
     (c.in_ok-next.ensures.moves.1, omega (arith, c.if-number-gt-DECLARATIONS.false), l)
 
 pub returns-then-len-gt-TOKENS : goal.returns-then-len-gt-TOKENS
@@ -52,4 +53,4 @@ pub returns : goal.returns
 returns c =
     let t = c.args.tokens.now in
     let h : length t.spots.items ≤ c.items.at = omega (arith, c.items-test.false, c.len-in-items.ensures) in
-    (omega (arith, c.if-len-gt-TOKENS.false, c.len.ensures), program_derived t c.items.at _ h (decls_done t.spots.items c.items.at c.items.number c.items.decls.items h c.items.invariant.2))
+    (omega (arith, c.if-len-gt-TOKENS.false, c.len.ensures), program_derived t c.items.at _ h (decls_done OF_PROGRAMS t.spots.items c.items.at c.items.number c.items.decls.items h c.items.invariant.2))

@@ -13,21 +13,21 @@ use Rattle.flow_parse.proofs.Variables.{no_value_reads, value_left, value_link}
 use Rattle.flow_parse.proofs.simple.declared.Goals as goal
 
 pub returns-then-not-is_sign-clause-reads : goal.returns-then-not-is_sign-clause-reads
-returns-then-not-is_sign-clause-reads c =
+returns-then-not-is_sign-clause-reads c = λ limits.
     let t = c.args.tokens.now in
-    rw (c.declare.ensures.is End) (no_value_reads t c.args.at c.args.depth c.args.place (into_of c.args.into) c.requires.within (λ e. not_true (c.if-not-is_sign.ensures.sign.1 e)))
+    rw (c.declare.ensures.is End) (no_value_reads limits t c.args.at c.args.depth c.args.place (into_of c.args.into) c.requires.within (λ e. not_true (c.if-not-is_sign.ensures.sign.1 e)))
 
 pub returns-in_err-value-clause-reads : goal.returns-in_err-value-clause-reads
-returns-in_err-value-clause-reads c =
+returns-in_err-value-clause-reads c = λ limits.
     let t = c.args.tokens.now in
     let e = c.if-not-is_sign.ensures.sign.0 refl in
-    let l = then_reads t.spots.items (value_link (token.Sign sign.Assign) (suc c.args.depth)) (value_left t c.args.at c.args.depth c.args.place (into_of c.args.into) c.requires.within e) (tok_reads t c.args.at (token.Sign sign.Assign) e) in
+    let l = then_reads limits t.spots.items (value_link (token.Sign sign.Assign) (suc c.args.depth)) (value_left limits t c.args.at c.args.depth c.args.place (into_of c.args.into) c.requires.within e) (tok_reads limits t c.args.at (token.Sign sign.Assign) e) in
     let p = err_from_is_err_and c.from_residual.result c.from_residual.ensures.1 in
-    rw (p.1, p.2) (fails t l c.in_err-value.field-0.0 (deeper_fails (ExprRule 0) ExprEnds t (c.args.at + 1) c.args.depth c.in_err-value.field-0.0 c.in_err-value.ensures.reads))
+    rw (p.1, p.2) (fails limits t l c.in_err-value.field-0.0 (deeper_fails limits (ExprRule 0) ExprEnds t (c.args.at + 1) c.args.depth c.in_err-value.field-0.0 (c.in_err-value.ensures.reads limits)))
 
 pub returns-clause-reads : goal.returns-clause-reads
-returns-clause-reads c =
+returns-clause-reads c = λ limits.
     let t = c.args.tokens.now in
     let e = c.if-not-is_sign.ensures.sign.0 refl in
-    let l = then_reads t.spots.items (value_link (token.Sign sign.Assign) (suc c.args.depth)) (value_left t c.args.at c.args.depth c.args.place (into_of c.args.into) c.requires.within e) (tok_reads t c.args.at (token.Sign sign.Assign) e) in
-    rw (c.declare-2.ensures.is End) (done t.spots.items l (deeper (ExprRule 0) c.args.depth c.in_ok-value.ensures.reads))
+    let l = then_reads limits t.spots.items (value_link (token.Sign sign.Assign) (suc c.args.depth)) (value_left limits t c.args.at c.args.depth c.args.place (into_of c.args.into) c.requires.within e) (tok_reads limits t c.args.at (token.Sign sign.Assign) e) in
+    rw (c.declare-2.ensures.is End) (done limits t.spots.items l (deeper limits (ExprRule 0) c.args.depth (c.in_ok-value.ensures.reads limits)))

@@ -8,27 +8,27 @@ use Rattle.flow_parse.proofs.Stmts.{no_expr_left, some_expr_left, value_semicolo
 use Rattle.flow_parse.proofs.stmt.maybe_expr.Goals as goal
 
 pub returns-then-is_sign-clause-reads : goal.returns-then-is_sign-clause-reads
-returns-then-is_sign-clause-reads c =
+returns-then-is_sign-clause-reads c = λ limits.
     let t = c.args.tokens.now in
     let e = c.if-is_sign.ensures.sign.0 refl in
-    done t.spots.items (no_expr_left t c.args.at c.args.depth c.requires.within e) (tok_reads t c.args.at (token.Sign sign.Semicolon) e)
+    done limits t.spots.items (no_expr_left limits t c.args.at c.args.depth c.requires.within e) (tok_reads limits t c.args.at (token.Sign sign.Semicolon) e)
 
 pub returns-in_err-expr-clause-reads : goal.returns-in_err-expr-clause-reads
-returns-in_err-expr-clause-reads c =
+returns-in_err-expr-clause-reads c = λ limits.
     let t = c.args.tokens.now in
-    let l = some_expr_left t c.args.at c.args.depth c.requires.within (λ e. not_true (c.if-is_sign.ensures.sign.1 e)) in
+    let l = some_expr_left limits t c.args.at c.args.depth c.requires.within (λ e. not_true (c.if-is_sign.ensures.sign.1 e)) in
     let p = err_from_is_err_and c.from_residual.result c.from_residual.ensures.1 in
-    rw (p.1, p.2) (first_fails t (value_semicolon c.args.depth) l c.in_err-expr.field-0.0 c.in_err-expr.ensures.reads)
+    rw (p.1, p.2) (first_fails limits t (value_semicolon c.args.depth) l c.in_err-expr.field-0.0 (c.in_err-expr.ensures.reads limits))
 
 pub returns-in_err-to-clause-reads : goal.returns-in_err-to-clause-reads
-returns-in_err-to-clause-reads c =
+returns-in_err-to-clause-reads c = λ limits.
     let t = c.args.tokens.now in
-    let l = then_reads t.spots.items (value_semicolon c.args.depth) (some_expr_left t c.args.at c.args.depth c.requires.within (λ e. not_true (c.if-is_sign.ensures.sign.1 e))) c.in_ok-expr.ensures.reads in
+    let l = then_reads limits t.spots.items (value_semicolon c.args.depth) (some_expr_left limits t c.args.at c.args.depth c.requires.within (λ e. not_true (c.if-is_sign.ensures.sign.1 e))) (c.in_ok-expr.ensures.reads limits) in
     let p = err_from_is_err_and c.from_residual-in_err-to.result c.from_residual-in_err-to.ensures.1 in
-    rw (p.1, p.2) (fails t l c.in_err-to.field-0.0 c.in_err-to.ensures.reads)
+    rw (p.1, p.2) (fails limits t l c.in_err-to.field-0.0 (c.in_err-to.ensures.reads limits))
 
 pub returns-clause-reads : goal.returns-clause-reads
-returns-clause-reads c =
+returns-clause-reads c = λ limits.
     let t = c.args.tokens.now in
-    let l = then_reads t.spots.items (value_semicolon c.args.depth) (some_expr_left t c.args.at c.args.depth c.requires.within (λ e. not_true (c.if-is_sign.ensures.sign.1 e))) c.in_ok-expr.ensures.reads in
-    done t.spots.items l c.in_ok-to.ensures.reads
+    let l = then_reads limits t.spots.items (value_semicolon c.args.depth) (some_expr_left limits t c.args.at c.args.depth c.requires.within (λ e. not_true (c.if-is_sign.ensures.sign.1 e))) (c.in_ok-expr.ensures.reads limits) in
+    done limits t.spots.items l (c.in_ok-to.ensures.reads limits)

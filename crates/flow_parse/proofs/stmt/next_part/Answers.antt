@@ -23,51 +23,51 @@ pub returns-then-is_sign-clause-reads : goal.returns-then-is_sign-clause-reads
 returns-then-is_sign-clause-reads c =
     let t = c.args.tokens.now in
     let e = c.if-is_sign.ensures.sign.0 refl in
-    done t.spots.items (no_next t c.args.at c.args.depth (counts_of c.args.counts) c.requires.within e) (tok_reads t c.args.at (token.Sign sign.CloseRound) e)
+    done c.args.limits t.spots.items (no_next c.args.limits t c.args.at c.args.depth (counts_of c.args.counts) c.requires.within e) (tok_reads c.args.limits t c.args.at (token.Sign sign.CloseRound) e)
 
 pub returns-then-not-is_name-clause-reads : goal.returns-then-not-is_name-clause-reads
 returns-then-not-is_name-clause-reads c =
     let t = c.args.tokens.now in
     let k = counts_of c.args.counts in
-    let l = next_left t c.args.at c.args.depth k c.requires.within (λ e. not_true (c.if-is_sign.ensures.sign.1 e)) in
-    rw c.refused.ensures (first_fails t step_close l (Refused (rule.S 5) (place_at t c.args.at)) (step_none t c.args.at c.args.depth k (λ e. not_true (c.if-not-is_name.ensures.name.1 e))))
+    let l = next_left c.args.limits t c.args.at c.args.depth k c.requires.within (λ e. not_true (c.if-is_sign.ensures.sign.1 e)) in
+    rw c.refused.ensures (first_fails c.args.limits t step_close l (Refused (rule.S 5) (place_at t c.args.at)) (step_none c.args.limits t c.args.at c.args.depth k (λ e. not_true (c.if-not-is_name.ensures.name.1 e))))
 
 pub returns-in_err-counts-clause-reads : goal.returns-in_err-counts-clause-reads
 returns-in_err-counts-clause-reads c =
     let t = c.args.tokens.now in
     let k = counts_of c.args.counts in
-    let l = next_left t c.args.at c.args.depth k c.requires.within (λ e. not_true (c.if-is_sign.ensures.sign.1 e)) in
-    let b = step_beyond t c.args.at c.args.depth k c.if-not-is_name.ensures.within (c.if-not-is_name.ensures.name.0 refl) c.in_err-counts.field-0.0 c.in_err-counts.ensures.beyond in
+    let l = next_left c.args.limits t c.args.at c.args.depth k c.requires.within (λ e. not_true (c.if-is_sign.ensures.sign.1 e)) in
+    let b = step_beyond c.args.limits t c.args.at c.args.depth k c.if-not-is_name.ensures.within (c.if-not-is_name.ensures.name.0 refl) c.in_err-counts.field-0.0 c.in_err-counts.ensures.beyond in
     let p = err_from_is_err_and c.from_residual.result c.from_residual.ensures.1 in
-    rw (p.1, p.2) (first_fails t step_close l c.in_err-counts.field-0.0 b)
+    rw (p.1, p.2) (first_fails c.args.limits t step_close l c.in_err-counts.field-0.0 b)
 
 pub returns-in_err-stmt-clause-reads : goal.returns-in_err-stmt-clause-reads
 returns-in_err-stmt-clause-reads c =
     let t = c.args.tokens.now in
     let k = counts_of c.args.counts in
     let d = c.args.depth in
-    let l = next_left t c.args.at d k c.requires.within (λ e. not_true (c.if-is_sign.ensures.sign.1 e)) in
-    let b = begun_fails (Assignment d) ExprEnds t c.args.at k d c.requires.within c.in_ok-counts.ensures.within.1 c.in_ok-counts.ensures.within.0 c.in_err-stmt.field-0.0 c.in_err-stmt.ensures.reads in
+    let l = next_left c.args.limits t c.args.at d k c.requires.within (λ e. not_true (c.if-is_sign.ensures.sign.1 e)) in
+    let b = begun_fails c.args.limits (Assignment d) ExprEnds t c.args.at k d c.requires.within c.in_ok-counts.ensures.within.1 c.in_ok-counts.ensures.within.0 c.in_err-stmt.field-0.0 (c.in_err-stmt.ensures.reads c.args.limits) in
     let p = err_from_is_err_and c.from_residual-in_err-stmt.result c.from_residual-in_err-stmt.ensures.1 in
-    rw (p.1, p.2) (first_fails t step_close l c.in_err-stmt.field-0.0 b)
+    rw (p.1, p.2) (first_fails c.args.limits t step_close l c.in_err-stmt.field-0.0 b)
 
 pub returns-in_err-to-clause-reads : goal.returns-in_err-to-clause-reads
 returns-in_err-to-clause-reads c =
     let t = c.args.tokens.now in
     let k = counts_of c.args.counts in
     let d = c.args.depth in
-    let b = begun_reads (Assignment d) ExprEnds t c.args.at k d c.requires.within c.in_ok-counts.ensures.within.1 c.in_ok-counts.ensures.within.0 (stmt_of c.in_ok-stmt.stmt End) c.in_ok-stmt.at c.in_ok-stmt.ensures.reads in
-    let l = then_reads t.spots.items step_close (next_left t c.args.at d k c.requires.within (λ e. not_true (c.if-is_sign.ensures.sign.1 e))) b in
+    let b = begun_reads c.args.limits (Assignment d) ExprEnds t c.args.at k d c.requires.within c.in_ok-counts.ensures.within.1 c.in_ok-counts.ensures.within.0 (stmt_of c.in_ok-stmt.stmt End) c.in_ok-stmt.at (c.in_ok-stmt.ensures.reads c.args.limits) in
+    let l = then_reads c.args.limits t.spots.items step_close (next_left c.args.limits t c.args.at d k c.requires.within (λ e. not_true (c.if-is_sign.ensures.sign.1 e))) b in
     let p = err_from_is_err_and c.from_residual-in_err-to.result c.from_residual-in_err-to.ensures.1 in
-    rw (p.1, p.2) (fails t l c.in_err-to.field-0.0 c.in_err-to.ensures.reads)
+    rw (p.1, p.2) (fails c.args.limits t l c.in_err-to.field-0.0 (c.in_err-to.ensures.reads c.args.limits))
 
 pub returns-clause-reads : goal.returns-clause-reads
 returns-clause-reads c =
     let t = c.args.tokens.now in
     let k = counts_of c.args.counts in
     let d = c.args.depth in
-    let b = begun_reads (Assignment d) ExprEnds t c.args.at k d c.requires.within c.in_ok-counts.ensures.within.1 c.in_ok-counts.ensures.within.0 (stmt_of c.in_ok-stmt.stmt End) c.in_ok-stmt.at c.in_ok-stmt.ensures.reads in
-    let l = then_reads t.spots.items step_close (next_left t c.args.at d k c.requires.within (λ e. not_true (c.if-is_sign.ensures.sign.1 e))) b in
-    let x = done t.spots.items l c.in_ok-to.ensures.reads in
-    let y = subst (λ s. Reads (NextPart d k) Any t.spots.items c.args.at (stmt_of s End, one_statement k) c.in_ok-to.to) (sym c.in_ok-part.ensures.is) x in
-    subst (λ j. Reads (NextPart d k) Any t.spots.items c.args.at (stmt_of c.in_ok-part.part.value End, j) c.in_ok-to.to) (sym c.in_ok-counts.ensures.one) y
+    let b = begun_reads c.args.limits (Assignment d) ExprEnds t c.args.at k d c.requires.within c.in_ok-counts.ensures.within.1 c.in_ok-counts.ensures.within.0 (stmt_of c.in_ok-stmt.stmt End) c.in_ok-stmt.at (c.in_ok-stmt.ensures.reads c.args.limits) in
+    let l = then_reads c.args.limits t.spots.items step_close (next_left c.args.limits t c.args.at d k c.requires.within (λ e. not_true (c.if-is_sign.ensures.sign.1 e))) b in
+    let x = done c.args.limits t.spots.items l (c.in_ok-to.ensures.reads c.args.limits) in
+    let y = subst (λ s. Reads c.args.limits (NextPart d k) Any t.spots.items c.args.at (stmt_of s End, one_statement k) c.in_ok-to.to) (sym c.in_ok-part.ensures.is) x in
+    subst (λ j. Reads c.args.limits (NextPart d k) Any t.spots.items c.args.at (stmt_of c.in_ok-part.part.value End, j) c.in_ok-to.to) (sym c.in_ok-counts.ensures.one) y

@@ -5,7 +5,7 @@ use Rattle.flow_parse.proofs.Leaves.{tok_reads, tok_fails}
 use Rattle.flow_parse.proofs.token.sign.Goals as goal
 
 pub returns-then-not-is_sign-clause-reads : goal.returns-then-not-is_sign-clause-reads
-returns-then-not-is_sign-clause-reads c = rw c.refused.ensures (tok_fails c.args.tokens.now c.args.at (token.Sign c.args.wanted) (λ e. not_true (c.if-not-is_sign.ensures.sign.1 e)))
+returns-then-not-is_sign-clause-reads c = λ limits. rw c.refused.ensures (tok_fails limits c.args.tokens.now c.args.at (token.Sign c.args.wanted) (λ e. not_true (c.if-not-is_sign.ensures.sign.1 e)))
 
 pub returns-clause-reads : goal.returns-clause-reads
-returns-clause-reads c = tok_reads c.args.tokens.now c.args.at (token.Sign c.args.wanted) (c.if-not-is_sign.ensures.sign.0 refl)
+returns-clause-reads c = λ limits. tok_reads limits c.args.tokens.now c.args.at (token.Sign c.args.wanted) (c.if-not-is_sign.ensures.sign.0 refl)

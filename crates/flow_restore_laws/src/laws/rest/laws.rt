@@ -1,6 +1,7 @@
 // Laws of worlds in memory between events.
 
 ghost use Rattle.flow_restore_laws.specs.Rest.Boundary.{ClassesRest, ProgramsRest};
+ghost use Rattle.flow_restore_laws.specs.Rest.Counted.{ClassesCount, ProgramsCount};
 
 use flow_trace::out::LineOut;
 
@@ -10,4 +11,11 @@ use flow_trace::out::LineOut;
 pub fn boundaries_rest<L: LineOut>()
     ensures classes { ClassesRest L.puts }
     ensures programs { ProgramsRest L.puts }
+{}
+
+/// Between events the count of live actors of a world in memory that runs valid classes is the number of unfinished actors of the
+/// state of the run after as many events: of the classes by the definitions, and of a program by its text.
+pub fn live_counts_unfinished_actors<L: LineOut>()
+    ensures classes { ClassesCount L.puts }
+    ensures programs { ProgramsCount L.puts }
 {}

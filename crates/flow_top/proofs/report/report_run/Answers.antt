@@ -1,5 +1,5 @@
 use Rattle.std.proofs.Common.{◌≡◌, Err, ap, sym, ◌∙◌, subst}
-use Rattle.flow_trace.specs.Out.{Grows}
+use Rattle.flow_base.specs.Bytes.{Grows}
 use Rattle.flow_base.specs.declared.fault.OutFault.{OutFault}
 use Rattle.flow_base.specs.declared.fault.OutFault.TheVariants.{Failed}
 use Rattle.flow_machine.specs.Cause.{fault_of}

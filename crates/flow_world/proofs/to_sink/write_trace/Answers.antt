@@ -1,6 +1,6 @@
 use Rattle.std.proofs.Common.{rules, sym, ap, subst, ◌∙◌}
 use Rattle.std.proofs.lemmas.Result.{IfOk-weaker}
-use Rattle.flow_trace.specs.Out.{Grows}
+use Rattle.flow_base.specs.Bytes.{Grows}
 use Rattle.flow_world.specs.Tracing.{Traces, TracesPart}
 use Rattle.flow_world.specs.Written.{put_bytes}
 use Rattle.flow_world.specs.FaultedLines.{tells, whole, failed}

@@ -1,5 +1,4 @@
-use Rattle.flow_invariants.proofs.OpenPorts.Brought.{steps_open}
-use Rattle.flow_invariants.proofs.OpenPorts.Worlds.{start_open, valid_open}
+use Rattle.flow_invariants.proofs.OpenPorts.Worlds.{steps_open, start_open, valid_open}
 use Rattle.flow_invariants.proofs.laws.open_ports.port_streams_never_end.Goals as goal
 
 pub returns-clause-steps : goal.returns-clause-steps

@@ -1,6 +1,5 @@
-use Rattle.flow_invariants.proofs.Owned.Brought.{steps_unset}
 use Rattle.flow_invariants.proofs.Owned.Owns.{owns}
-use Rattle.flow_invariants.proofs.Owned.Worlds.{valid_own}
+use Rattle.flow_invariants.proofs.Owned.Worlds.{steps_unset, valid_own}
 use Rattle.flow_invariants.proofs.laws.owned.processes_own_their_cells.Goals as goal
 
 pub returns-clause-steps : goal.returns-clause-steps

@@ -1,0 +1,19 @@
+use Rattle.std.proofs.Common.{◌-◌, ◌++◌, length, take, drop, sym, ap, subst, ◌∙◌, arith, length-take}
+use lib.Seq.{take-add, take-take}
+use Rattle.std.specs.Io.KnownBytes.{Appends}
+use Rattle.std.proofs.KnownBytes.{Appends-trans}
+use Rattle.flow_system.proofs.gathering.send_all.Goals as goal
+
+pub loop-sent-preserved : goal.loop-sent-preserved
+loop-sent-preserved g c =
+    let done = c.loop-sent.sent in
+    let n = c.send-count.result in
+    let xs = c.args.bytes.now in
+    let before = c.loop-sent.invariant in
+    let fits = c.send-count.ensures.within in
+    let most = length-take (length xs - done) (drop done xs) in
+    let joined = ap (λ l. take done xs ++ l) (take-take n (length xs - done) (drop done xs) (omega arith)) ∙ sym (take-add done n xs) in
+    record {
+      within = omega arith;
+      written = subst (Appends _ _) joined (Appends-trans _ _ _ _ _ before.written c.send-count.ensures.bytes);
+    }
