@@ -46,7 +46,8 @@ abbrev mutual
   reaches_break (ContinueStmt at k) = false
   reaches_break (ReturnStmt at e k) = false
   reaches_break (ThrowStmt at e k) = false
-  reaches_break (TryStmt at b q x h k) = reaches_break b || (has_statement b && reaches_break h) || ((reaches_end b || reaches_end h) && reaches_break k)
+  reaches_break (TryStmt at b q x h k) = reaches_break b || (has_statement b && reaches_break h)
+      || ((reaches_end b || reaches_end h) && reaches_break k)
   reaches_break (ChooseStmt at bs k) = reaches_break k
   reaches_break (DeclareStmt at i e k) = reaches_break k
   reaches_break (AssignStmt at xs e k) = reaches_break k

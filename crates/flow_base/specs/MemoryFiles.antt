@@ -50,7 +50,12 @@ opening_of files p = record {
 
 -- what is known of files in memory: everything
 abbrev pub seen_of : FilesState → FilesSeen
-seen_of s = record { content = content_of s.files; openings = map (opening_of s.files) s.positions; asked = s.asked; faults = s.calls.faults }
+seen_of s = record {
+  content = content_of s.files;
+  openings = map (opening_of s.files) s.positions;
+  asked = s.asked;
+  faults = s.calls.faults;
+}
 
 -- the position of an opening, by its number
 abbrev pub position_at : List Position → ℕ → Position

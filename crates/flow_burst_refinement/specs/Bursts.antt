@@ -46,7 +46,8 @@ HostKeepsTime {W} h =
     (q : Request) (w : W)
     → ((h.supply (h.serve q w).1).now ≡ (h.supply w).now) × ((h.supply (h.serve q w).1).processes ≡ (h.supply w).processes)
 
-module _ {A W : Type 0} (serves : Host W) (shows : A → Numbered ℕ → W → Type 0) (wrote : A → List Line → A → Type 0) (code : Code) (processes : ℕ) (r : RawTree) where
+module _ {A W : Type 0} (serves : Host W) (shows : A → Numbered ℕ → W → Type 0) (wrote : A → List Line → A → Type 0) (code : Code)
+    (processes : ℕ) (r : RawTree) where
   -- A process in memory between two tasks and the host around it, and what they show: a process in its world, at the world's time,
   -- which programs tell, and one of as many. No actor is in the state of a wait that doesn't wait, unless it is thrown an error or ends.
   pub record RepresentsInWorld (ls : List Line) (m : Process) (a : A) (p : Proc Frame) (w : W) : Type 0 where
@@ -86,7 +87,8 @@ module _ {A W : Type 0} (serves : Host W) (shows : A → Numbered ℕ → W → 
   -- lines that were written one after another, and nothing else
   pub data Wrote : A → List Line → A → Type 0 where
     no_line : (a : A) → Wrote a [] a
-    and_more : (a b c : A) (ls more : List Line) → WroteOrQuiet serves shows wrote r nothing_in_hand a ls b → Wrote b more c → Wrote a (ls ++ more) c
+    and_more : (a b c : A) (ls more : List Line) → WroteOrQuiet serves shows wrote r nothing_in_hand a ls b → Wrote b more c
+        → Wrote a (ls ++ more) c
 
   -- the end of a burst: the process rests, or the event is spent
   abbrev pub EndsAs : List Line → Burst → Process → A → Proc Frame → W → Type 0
@@ -104,5 +106,6 @@ module _ {A W : Type 0} (serves : Host W) (shows : A → Numbered ℕ → W → 
 
   abbrev pub BurstFollows : Type 0
   BurstFollows =
-      (run : IsValidCode r code) → Branched code.classes.items → HostKeepsTime serves → TasksGo → (ls : List Line) (m n : Process) (a b : A) (p : Proc Frame) (w : W) (e : Burst)
+      (run : IsValidCode r code) → Branched code.classes.items → HostKeepsTime serves → TasksGo
+      → (ls : List Line) (m n : Process) (a b : A) (p : Proc Frame) (w : W) (e : Burst)
       → RepresentsInWorld ls m a p w → Bursts serves shows wrote code processes m a e n b → SimulatesBurst ls a p w e n b

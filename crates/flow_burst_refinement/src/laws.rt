@@ -1,6 +1,6 @@
-pub mod invariants;
-pub mod enabled;
 pub mod boundaries;
 pub mod bursts;
-pub mod requests;
+pub mod enabled;
+pub mod invariants;
 pub mod programs;
+pub mod requests;

@@ -132,7 +132,8 @@ stream_loses s port (Some c) e = by_loss (loss_of s c.references) refl e
     gone loss.LastPromise x y = absurd (cc)
     gone loss.LastFuture x y = absurd (cc)
 
-    last : (m : Loss) → m ≡ loss.LastFuture → stream_may_lose (is_none c.waiter) port (nat_eq c.references.promises 1) (Some m) ≡ true → port ≡ true → (nat_eq c.references.promises 1 ≡ true) × (is_none c.waiter ≡ true)
+    last : (m : Loss) → m ≡ loss.LastFuture → stream_may_lose (is_none c.waiter) port (nat_eq c.references.promises 1) (Some m) ≡ true → port ≡ true
+        → (nat_eq c.references.promises 1 ≡ true) × (is_none c.waiter ≡ true)
     last loss.LastFuture x y p = both (nat_eq c.references.promises 1) (is_none c.waiter) (rw p at y)
     last loss.Kept x y p = absurd (cc)
     last loss.LastPromise x y p = absurd (cc)

@@ -30,10 +30,12 @@ has_with j k (n ∷ ns) = by_order (nat_lt k n) refl (nat_eq k n) refl (has_with
     twice true b = refl
     twice false b = refl
 
-    by_order : (t : Bool) → nat_lt k n ≡ t → (u : Bool) → nat_eq k n ≡ u → has_number (with_number ns k) j ≡ (nat_eq j k || has_number ns j) → has_number (with_number (n ∷ ns) k) j ≡ (nat_eq j k || has_number (n ∷ ns) j)
+    by_order : (t : Bool) → nat_lt k n ≡ t → (u : Bool) → nat_eq k n ≡ u → has_number (with_number ns k) j ≡ (nat_eq j k || has_number ns j)
+        → has_number (with_number (n ∷ ns) k) j ≡ (nat_eq j k || has_number (n ∷ ns) j)
     by_order true e u f rest = rw e (ap (λ t. t || has_number (n ∷ ns) j) (at_number j k))
     by_order false e true f rest =
         let same : k ≡ n = grind (arith, nat_tests, f) in
-        rw (e, f) (ap (λ t. t || has_number ns j) (at_number j n) ∙ twice (nat_eq j n) (has_number ns j) ∙ ap (λ m. nat_eq j m || (nat_eq j n || has_number ns j)) (sym same) ∙ ap (λ t. nat_eq j k || (t || has_number ns j)) (sym (at_number j n)))
+        rw (e, f) (ap (λ t. t || has_number ns j) (at_number j n) ∙ twice (nat_eq j n) (has_number ns j) ∙ ap (λ m. nat_eq j m || (nat_eq j n || has_number ns j)) (sym same)
+        ∙ ap (λ t. nat_eq j k || (t || has_number ns j)) (sym (at_number j n)))
     by_order false e false f rest =
         rw (e, f) (ap (λ t. is_at (nat_cmp j) n || t) rest ∙ either_first (is_at (nat_cmp j) n) (nat_eq j k) (has_number ns j))

@@ -56,8 +56,10 @@ pub list_longer : (n key : ℕ) (at new_at : Slots Waiting) (newest new_newest :
 list_longer n key at new_at newest new_newest e d spot cell vacant writes is notes = record {
   queues = λ ends new are tells. joined_queues ends at newest are.queues n key e spot new new_at new_newest are.here cell vacant writes
       (λ m. tells m ∙ ap (λ x. with_ends n x ends m) is) notes;
-  told = λ ends are. ap (waiters_in new_at) is ∙ joined_waiters ends at newest are.queues n key e spot (with_ends n (longer e key) ends) new_at new_newest are.here cell vacant writes (λ m. refl) notes;
-  others = λ ends are m x there other. joined_others ends at newest are.queues n key e spot (with_ends n (longer e key) ends) new_at new_newest are.here cell vacant writes (λ m. refl) notes m x there other;
+  told = λ ends are. ap (waiters_in new_at) is ∙ joined_waiters ends at newest are.queues n key e spot (with_ends n (longer e key) ends) new_at new_newest are.here cell vacant writes
+      (λ m. refl) notes;
+  others = λ ends are m x there other. joined_others ends at newest are.queues n key e spot (with_ends n (longer e key) ends) new_at new_newest are.here cell vacant writes
+      (λ m. refl) notes m x there other;
 }
 
 -- a waiter less in a list
@@ -68,8 +70,10 @@ pub list_shorter : (n key : ℕ) (l : Link Waiting) (at new_at : Slots Waiting) 
 list_shorter n key l at new_at newest new_newest e d spot cell told stands writes is notes = record {
   queues = λ ends new are tells. left_queues ends at newest are.queues n key e l spot new new_at new_newest are.here cell told stands writes
       (λ m. tells m ∙ ap (λ x. with_ends n x ends m) is) notes;
-  told = λ ends are. ap (waiters_in new_at) is ∙ left_waiters ends at newest are.queues n key e l spot (with_ends n (shorter e l) ends) new_at new_newest are.here cell told stands writes (λ m. refl) notes;
-  others = λ ends are m x there other. left_others ends at newest are.queues n key e l spot (with_ends n (shorter e l) ends) new_at new_newest are.here cell told stands writes (λ m. refl) notes m x there other;
+  told = λ ends are. ap (waiters_in new_at) is ∙ left_waiters ends at newest are.queues n key e l spot (with_ends n (shorter e l) ends) new_at new_newest are.here cell told stands writes
+      (λ m. refl) notes;
+  others = λ ends are m x there other. left_others ends at newest are.queues n key e l spot (with_ends n (shorter e l) ends) new_at new_newest are.here cell told stands writes
+      (λ m. refl) notes m x there other;
 }
 
 -- one change after another

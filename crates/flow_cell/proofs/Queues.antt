@@ -198,7 +198,8 @@ some_newest : (n : ℕ) (s : Spot) (f : Spot → Option ℕ) (ps : List (ℕ × 
 some_newest n s f [] c h e = absurd (cc)
 some_newest n s f (p ∷ ps) c h e = at_head (same_spot p.1.spot s) refl (λ x. some_newest n s (newer f p) ps c h.1 x)
   where
-    at_head : (t : Bool) → same_spot p.1.spot s ≡ t → (has_waiter (waiters_of ps) (spot_waiter s) ≡ true → (k : ℕ) × (newest_in (newer f p) ps s ≡ Some k)) → (k : ℕ) × (newest_in (newer f p) ps s ≡ Some k)
+    at_head : (t : Bool) → same_spot p.1.spot s ≡ t → (has_waiter (waiters_of ps) (spot_waiter s) ≡ true → (k : ℕ) × (newest_in (newer f p) ps s ≡ Some k))
+        → (k : ℕ) × (newest_in (newer f p) ps s ≡ Some k)
     at_head true g rest = kept_newest (newer f p) ps s p.0 (rw g refl)
     at_head false g rest = rest (sym (ap (λ t. t || has_waiter (waiters_of ps) (spot_waiter s)) (waiter_test n p.1 s h.0 c ∙ g)) ∙ e)
 

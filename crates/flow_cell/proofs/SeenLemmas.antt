@@ -150,7 +150,8 @@ module _ {T : Type 0} where
           let is : m ≡ n = grind (arith, nat_tests) in
           ap (λ w. Some w) same ∙ sym (ends_are xs n old e) ∙ sym (ap (ends_in xs) is)
 
-  pub ends_added : (xs : Numbered (Cell T)) (most n : ℕ) (c : Cell T) (m : ℕ) → IsRising 0 xs most → most < n → ends_in (added xs n c) m ≡ (if nat_eq m n then Some (list_ends c.waiters) else ends_in xs m)
+  pub ends_added : (xs : Numbered (Cell T)) (most n : ℕ) (c : Cell T) (m : ℕ) → IsRising 0 xs most → most < n
+      → ends_in (added xs n c) m ≡ (if nat_eq m n then Some (list_ends c.waiters) else ends_in xs m)
   ends_added xs most n c m h l = ap ends_of (thing_added 0 xs most n c m h l) ∙ ends_if (nat_eq m n) c (thing xs m)
 
   pub no_ends : (xs : Numbered (Cell T)) (most n : ℕ) → IsRising 0 xs most → most < n → ends_in xs n ≡ None

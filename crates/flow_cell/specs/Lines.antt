@@ -56,6 +56,8 @@ Tells n a Fact = (ends : ℕ → Option Ends) → AreEnds n a ends → Fact a.wa
 
 -- who waits at a cell changes like this, and nobody else, whatever other cells there are
 pub record Becomes (n : ℕ) (change : List Waiter → List Waiter) (a b : Line) : Type 0 where
-  pub queues : (ends new : ℕ → Option Ends) → AreEnds n a ends → ((m : ℕ) → new m ≡ (if nat_eq m n then Some b.ends else ends m)) → AreQueues new b.at b.newest
+  pub queues : (ends new : ℕ → Option Ends) → AreEnds n a ends → ((m : ℕ) → new m ≡ (if nat_eq m n then Some b.ends else ends m))
+      → AreQueues new b.at b.newest
   pub told : (ends : ℕ → Option Ends) → AreEnds n a ends → b.waiters ≡ change a.waiters
-  pub others : (ends : ℕ → Option Ends) → AreEnds n a ends → (m : ℕ) (d : Ends) → ends m ≡ Some d → m ≢ n → waiters_in b.at d ≡ waiters_in a.at d
+  pub others : (ends : ℕ → Option Ends) → AreEnds n a ends → (m : ℕ) (d : Ends) → ends m ≡ Some d → m ≢ n
+      → waiters_in b.at d ≡ waiters_in a.at d

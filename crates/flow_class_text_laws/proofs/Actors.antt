@@ -146,8 +146,11 @@ DeclsSaid ds = AllByRecursion DeclSaid ds
 pub decls_said : {n : ℕ} {all : List Marked} {ds : List DeclTree} → DeclsRule n all ds → Fine all → DeclsSaid ds
 decls_said no_decls h = tt
 decls_said {n = n} (more_decls first more d ds eq) h =
-    let t = subst Fine eq h in
-    (decl_said d (unbegun (Declaration n) (begin (Node 1) first) (fine_front (begin (Declaration n) (begin (Node 1) first)) more t)), decls_said ds (fine_back (begin (Declaration n) (begin (Node 1) first)) more t))
+    let t = subst Fine eq h in (
+      decl_said d (unbegun (Declaration n) (begin (Node 1) first) (fine_front (begin (Declaration n) (begin (Node 1) first)) more t)),
+      decls_said ds
+          (fine_back (begin (Declaration n) (begin (Node 1) first)) more t),
+    )
 
 pub records_written : (ds : List DeclTree) → DeclsSaid ds → AllByRecursion (λ r. Derived (λ ts. RecordRule ts r)) (records_in ds)
 records_written [] h = tt

@@ -151,7 +151,8 @@ record Choice (n : ℕ) (bs : Branches) : Type 0 where
   few : n ≤ suc BRANCHES → n + branches_of bs ≤ suc BRANCHES
 
 mutual
-  plain : {actor : Bool} {d : ℕ} {c c' : Counts} {all : List Marked} {at : Place} {rest body : Body} {e : Bool} → PlainRule actor d c c' all at rest body e → 2 ≤ d → Fine all → BodySaid rest → BodySaid body
+  plain : {actor : Bool} {d : ℕ} {c c' : Counts} {all : List Marked} {at : Place} {rest body : Body} {e : Bool} → PlainRule actor d c c' all at rest body e → 2 ≤ d → Fine all → BodySaid rest
+      → BodySaid body
   plain (if_stmt at p q test body e b eq) l h k =
       let t = subst Fine eq h in
       (expr_said e (omega (arith, l)) (fine_front test _ t.1.1), of_body b (omega (arith, l)) (fine_back test _ t.1.1).1, k)

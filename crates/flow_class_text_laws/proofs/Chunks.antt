@@ -283,7 +283,8 @@ module _ (ns : Names) (slots : List SlotTree) (le : length slots ≤ 2 ^ 32) whe
         let v = inner w (Scoped (GotoLast j.block)) in
         joined_said w.hand
         (joined_said w.hand
-        (joined_said w.hand (ends_said w s true [] (TestLast (over slots s e) n.block m.block) tt (whole_over slots s (place_small slots s le h) e k.0)) (lowered_said b (Mark ∷ s) v (begun n) k.1 h (tt, a.1) (omega (arith, l))))
+        (joined_said w.hand (ends_said w s true [] (TestLast (over slots s e) n.block m.block) tt (whole_over slots s (place_small slots s le h) e k.0))
+        (lowered_said b (Mark ∷ s) v (begun n) k.1 h (tt, a.1) (omega (arith, l))))
         (lowered_said c (Mark ∷ s) v (begun m) k.2 h (tt, a.1) (omega (arith, l))))
         (lowered_said x s w (begun j) k.3 h a (omega (arith, l)))
     lowered_said (WhileStmt at e b x) s w n k h a l =
@@ -291,7 +292,8 @@ module _ (ns : Names) (slots : List SlotTree) (le : length slots ≤ 2 ^ 32) whe
         let m = past false b (begun g) in
         joined_said w.hand
         (joined_said w.hand
-        (joined_said w.hand (ends_said w s false [] (PassLast n.block) tt tt) (ends_said w s true [] (TestLast (over slots s e) g.block m.block) tt (whole_over slots s (place_small slots s le h) e k.0)))
+        (joined_said w.hand (ends_said w s false [] (PassLast n.block) tt tt)
+        (ends_said w s true [] (TestLast (over slots s e) g.block m.block) tt (whole_over slots s (place_small slots s le h) e k.0)))
         (lowered_said b (Mark ∷ s) (pass w 1 (PassLast n.block) m.block) (begun g) k.1 h (tt, tt) (omega (arith, l))))
         (lowered_said x s w (begun m) k.2 h a (omega (arith, l)))
     lowered_said (ForStmt at i e q b x) s w n k h a l =

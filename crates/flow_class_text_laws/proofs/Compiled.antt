@@ -123,7 +123,8 @@ classes_sized : (r : RawTree) → declarations_kept r ≡ true → AllSized (kno
 classes_sized r h =
     let kept = no_fault _ h in
     no_records (map head_of r.classes) (heads_plain r.classes) (plain_decls r)
-    (plain_sized (setting_of (all_decls r)) (plain_decls r) (neither_first (decls_refusal (setting_of (all_decls r)) [] (plain_decls r)) _ kept) (neither_second (decls_refusal (setting_of (all_decls r)) [] (plain_decls r)) _ kept))
+    (plain_sized (setting_of (all_decls r)) (plain_decls r) (neither_first (decls_refusal (setting_of (all_decls r)) [] (plain_decls r)) _ kept)
+    (neither_second (decls_refusal (setting_of (all_decls r)) [] (plain_decls r)) _ kept))
 
 -- all classes
 all_found : {A : Type 0} (P : A → Type 0) (xs : List A) → ((i : ℕ) (x : A) → slice_get xs i ≡ Some x → P x) → AllByRecursion P xs

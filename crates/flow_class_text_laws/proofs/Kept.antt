@@ -179,7 +179,8 @@ module _ (r : RawTree) (c : ClassTree) (few : IsFew c) (sized : AllSized (known 
   instr_writable (ActInstr xs es) h there fits = (called_written xs es (no_fault _ fits) h.0, h.1)
   instr_writable (DropInstr ns) h there fits = some_are ns h there
 
-  instrs_writable : (is : List InstrTree) → InstrsSaid is → list_all (λ (i : InstrTree). list_all (has_place c) (instr_places i)) is ≡ true → list_all (instr_fits c s) is ≡ true → AllByRecursion InstrWritable is
+  instrs_writable : (is : List InstrTree) → InstrsSaid is → list_all (λ (i : InstrTree). list_all (has_place c) (instr_places i)) is ≡ true → list_all (instr_fits c s) is ≡ true
+      → AllByRecursion InstrWritable is
   instrs_writable [] h there fits = tt
   instrs_writable (i ∷ is) h there fits =
       let n = both (list_all (has_place c) (instr_places i)) _ there in

@@ -22,7 +22,8 @@ bytes_same x y e = (bytes_eq-Decides x y).0 e
 -- no constant is called as a place
 constant_free : (x : List ℕ) (n : ℕ) → named constant_names x ≡ Some n → place_named x ≡ None
 constant_free x n e =
-    in_rows (bytes_eq x (codes "error_code_end_of_stream")) (bytes_eq x (codes "error_code_timed_out")) (bytes_eq x (codes "error_code_broken_promise")) (bytes_eq x (codes "error_code_operation_cancelled"))
+    in_rows (bytes_eq x (codes "error_code_end_of_stream")) (bytes_eq x (codes "error_code_timed_out")) (bytes_eq x (codes "error_code_broken_promise"))
+    (bytes_eq x (codes "error_code_operation_cancelled"))
     (bytes_eq x (codes "error_code_actor_cancelled")) refl refl refl refl refl
   where
     is : (w : List ℕ) → bytes_eq x w ≡ true → place_named w ≡ None → place_named x ≡ None

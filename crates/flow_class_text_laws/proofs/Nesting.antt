@@ -177,7 +177,8 @@ sized_record : (before : List DeclTree) (r : RecordTree) (ns : List (List ℕ ×
 sized_record before r ns kept within h = subst (Sized (known (before ++ StructDecl r ∷ []))) (sym (with_new ns r unsized)) (record { large = larger; records = sizes; only = mine })
   where
     unknown : known before r.name.name ≡ None
-    unknown = no_such (known before r.name.name) (not_or (is_predefined r.name.name) (is_there (known before r.name.name)) (holds (not (is_predefined r.name.name || is_there (known before r.name.name))) _ (no_first (name_fault (known before) r.name.name) _ kept)))
+    unknown = no_such (known before r.name.name) (not_or (is_predefined r.name.name) (is_there (known before r.name.name))
+        (holds (not (is_predefined r.name.name || is_there (known before r.name.name))) _ (no_first (name_fault (known before) r.name.name) _ kept)))
 
     unnamed : (x : List ℕ) → known before x ≡ None → named ns x ≡ None
     unnamed x e = by_size (named ns x) refl
@@ -237,12 +238,14 @@ pub record AllSized (k : List ℕ → Option Meaning) : Type 0 where
 behind_more : (before ds : List DeclTree) (d : DeclTree) → AllSized (known ((before ++ d ∷ []) ++ ds)) → AllSized (known (before ++ d ∷ ds))
 behind_more before ds d h = subst (λ l. AllSized (known l)) (append_assoc before (d ∷ []) ds) h
 
-decls_sized : (all : Bool → Setting) (before ds : List DeclTree) (ns : List (List ℕ × Size)) → decls_refusal all before ds ≡ None → first_large ns ds ≡ None → Sized (known before) ns → AllSized (known (before ++ ds))
+decls_sized : (all : Bool → Setting) (before ds : List DeclTree) (ns : List (List ℕ × Size)) → decls_refusal all before ds ≡ None → first_large ns ds ≡ None → Sized (known before) ns
+    → AllSized (known (before ++ ds))
 decls_sized all before [] ns e f h = record { sizes = ns; sized = subst (λ l. Sized (known l) ns) (sym (append-nil before)) h }
 decls_sized all before (StructDecl r ∷ ds) ns e f h =
     let kept = no_item r.at (record_fault (known before) r) (neither_first (decl_refusal all (known before) (StructDecl r)) _ e) in
     behind_more before ds (StructDecl r)
-    (decls_sized all (before ++ StructDecl r ∷ []) ds (with_size ns r) (neither_second (decl_refusal all (known before) (StructDecl r)) _ e) (neither_second (large_record (too_large (record_size ns r)) r) _ f)
+    (decls_sized all (before ++ StructDecl r ∷ []) ds (with_size ns r) (neither_second (decl_refusal all (known before) (StructDecl r)) _ e)
+    (neither_second (large_record (too_large (record_size ns r)) r) _ f)
     (sized_record before r ns kept (neither_first (large_record (too_large (record_size ns r)) r) _ f) h))
 decls_sized all before (FunctionDecl g ∷ ds) ns e f h =
     behind_more before ds (FunctionDecl g)

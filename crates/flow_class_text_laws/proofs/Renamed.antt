@@ -90,7 +90,8 @@ module _ (slots : List SlotTree) (s : Scope)
           record {
             tokens = _;
             rule = field p x inner.0.tokens inner.0.rule refl;
-            are = both_are (begin (Node c) inner.0.tokens) _ (rebegin c inner.0.tokens (omega (arith, l, deep r before)) inner.0.are) (are_back (begin (Node _) of) (sign_at sign.Dot p ∷ name_at x ∷ []) t);
+            are = both_are (begin (Node c) inner.0.tokens) _ (rebegin c inner.0.tokens (omega (arith, l, deep r before)) inner.0.are)
+                (are_back (begin (Node _) of) (sign_at sign.Dot p ∷ name_at x ∷ []) t);
           },
           inner.1,
         )

@@ -58,7 +58,13 @@ groups_written g k ((c ∷ cs) ∷ gs) few calls h =
     record {
       tokens = _;
       rule = rules.more_groups p p p p of.tokens more.tokens few.0 h.0.0 of.rule more.rule refl;
-      are = ((said_spelled (codes "group") said_group, tt), ((number_spelled g few.0, tt), ((sign_spelled sign.OpenCurly, tt), both_are of.tokens _ of.are ((sign_spelled sign.CloseCurly, tt), more.are))));
+      are = (
+        (said_spelled (codes "group") said_group, tt),
+        (
+          (number_spelled g few.0, tt),
+          ((sign_spelled sign.OpenCurly, tt), both_are of.tokens _ of.are ((sign_spelled sign.CloseCurly, tt), more.are)),
+        ),
+      );
     }
 
 some_blocks : (bs : List BlockTree) → SomeBlocks bs → (b : BlockTree) × (cs : List BlockTree) × (bs ≡ b ∷ cs) × AllByRecursion BlockWritable (b ∷ cs)

@@ -75,7 +75,11 @@ instr_written (ActInstr xs es) h =
     record {
       tokens = _;
       rule = rules.act p p p p path.tokens args.tokens path.rule args.rule h.1.1 refl;
-      are = ((said_spelled (codes "act") said_act, tt), both_are path.tokens _ path.are ((sign_spelled sign.OpenRound, tt), both_are args.tokens _ args.are ((sign_spelled sign.CloseRound, tt), ((sign_spelled sign.Semicolon, tt), tt))));
+      are = (
+        (said_spelled (codes "act") said_act, tt),
+        both_are path.tokens _ path.are
+            ((sign_spelled sign.OpenRound, tt), both_are args.tokens _ args.are ((sign_spelled sign.CloseRound, tt), ((sign_spelled sign.Semicolon, tt), tt))),
+      );
     }
 instr_written (DropInstr []) h = absurd h
 instr_written (DropInstr (n ∷ ns)) h =

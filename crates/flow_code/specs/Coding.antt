@@ -190,7 +190,8 @@ module _ (c : Coding) where
   abbrev pub coded_groups : (first : ℕ) → (homes : List ℕ) → List (List CallbackTree) → List GroupCode
   coded_groups first [] gs = []
   coded_groups first (h ∷ hs) [] = []
-  coded_groups first (h ∷ hs) (g ∷ gs) = record { block = h; first = first; branches = map coded_branch g } ∷ coded_groups (first + length g) hs gs
+  coded_groups first (h ∷ hs) (g ∷ gs) = record { block = h; first = first; branches = map coded_branch g }
+      ∷ coded_groups (first + length g) hs gs
 
   abbrev pub coded_class : ClassTree → ClassCode
   coded_class t = record {

@@ -1,8 +1,8 @@
 // Classes as they are run.
 
+use crate::expr::expr::Resolved;
 use flow_ast::predefined::{Method, Predefined};
 use flow_base::name::Name;
-use crate::expr::expr::Resolved;
 use flow_value::value::Kind;
 
 /// Where a value goes: a place of a frame, or the part of it to which the fields with names of these numbers lead.

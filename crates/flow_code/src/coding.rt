@@ -17,14 +17,14 @@ ghost use Rattle.flow_code.specs.View.{aim_of, instruction_of, end_of, catcher_o
 use crate::class::{
     Act, Aim, Block, Branch, Catcher, Class, Effect, Group, Instruction, Last, Operand,
 };
+use crate::expr::expr::Resolved;
+use crate::expr::names::Names;
+use crate::expr::resolve::{NamedPlaces, resolve, resolve_all};
 use flow_ast::predefined::{Predefined, predefined_call, predefined_method};
 use flow_base::memory::NoMemory;
 use flow_class::class as text;
 use flow_class::class::Slotted;
 use flow_class::places::place_named;
-use crate::expr::expr::Resolved;
-use crate::expr::names::Names;
-use crate::expr::resolve::{NamedPlaces, resolve, resolve_all};
 use flow_tree::expr::Expr;
 use flow_tree::stmt::Target;
 use flow_tree::ty::{Ident, Ty};

@@ -9,9 +9,9 @@ ghost use Rattle.flow_code.specs.View.{code_of, group_numbered};
 
 use crate::class::{Class, Group};
 use crate::coding::{ClassNames, Coder, small};
+use crate::expr::names::{FieldNames, Names};
 use flow_base::memory::NoMemory;
 use flow_class::class as text;
-use crate::expr::names::{FieldNames, Names};
 use flow_valid::program::ClassProgram;
 use std::alloc::Global;
 

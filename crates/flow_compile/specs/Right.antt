@@ -25,4 +25,5 @@ pub record IsRight (p : ProgramTree) (c : RawTree) : Type 0 where
   pub traces : (w : file.World) (lines : List Line) → SourceTrace p w lines → ClassTrace c w lines
   pub traces_back : (w : file.World) (lines : List Line) → ClassTrace c w lines → SourceTrace p w lines
   pub views : (w : file.World) (lines : List Line) (sights : List Observation) → SourceSeen p w lines sights → ClassSeen c w lines sights
-  pub views_back : (w : file.World) (lines : List Line) (sights : List Observation) → ClassSeen c w lines sights → SourceSeen p w lines sights
+  pub views_back : (w : file.World) (lines : List Line) (sights : List Observation) → ClassSeen c w lines sights
+      → SourceSeen p w lines sights

@@ -6,12 +6,12 @@ ghost use Rattle.flow_class.specs.View.{raw_of};
 ghost use Rattle.flow_lower.specs.Compiled.{Compiles};
 ghost use Rattle.flow_compile.specs.Right.{IsAccepted, IsRight};
 
-use flow_lowering_laws::laws::programs::compiled_classes_carry_program;
-use flow_validity_laws::laws::compiled_classes_are_valid;
-use flow_lower::{CompileFault, lower_program};
 use flow_compile_laws::laws::traces::compile_preserves_traces;
+use flow_lower::{CompileFault, lower_program};
+use flow_lowering_laws::laws::programs::compiled_classes_carry_program;
 use flow_staterule::Sound;
 use flow_valid::program::ClassProgram;
+use flow_validity_laws::laws::compiled_classes_are_valid;
 use std::alloc::Global;
 
 /// The classes of a program that the front accepts: those of its actors, in the order of the text, beside its records and

@@ -1,3 +1,3 @@
+pub mod frames;
 pub mod simulation;
 pub mod traces;
-pub mod frames;

@@ -72,19 +72,22 @@ module _ (ns : Names) (slots : List SlotTree) where
         joined_grouped w.hand (lowered_grouped b (Mark ∷ s) (inner w (Scoped (GotoLast m.block))) n h.1) (lowered_grouped k s w (begun m) h.2)
     lowered_grouped (IfStmt at e b k) s w n h =
         let m = past w.looped.tried b (begun n) in
-        joined_grouped w.hand (joined_grouped w.hand (ends_grouped w s true [] (TestLast (over slots s e) n.block m.block)) (lowered_grouped b (Mark ∷ s) (inner w (Scoped (GotoLast m.block))) (begun n) h.1)) (lowered_grouped k s w (begun m) h.2)
+        joined_grouped w.hand (joined_grouped w.hand (ends_grouped w s true [] (TestLast (over slots s e) n.block m.block))
+        (lowered_grouped b (Mark ∷ s) (inner w (Scoped (GotoLast m.block))) (begun n) h.1)) (lowered_grouped k s w (begun m) h.2)
     lowered_grouped (IfElseStmt at e b c k) s w n h =
         let m = past w.looped.tried b (begun n) in
         let j = past w.looped.tried c (begun m) in
         let v = inner w (Scoped (GotoLast j.block)) in
         joined_grouped w.hand
-        (joined_grouped w.hand (joined_grouped w.hand (ends_grouped w s true [] (TestLast (over slots s e) n.block m.block)) (lowered_grouped b (Mark ∷ s) v (begun n) h.1)) (lowered_grouped c (Mark ∷ s) v (begun m) h.2))
+        (joined_grouped w.hand (joined_grouped w.hand (ends_grouped w s true [] (TestLast (over slots s e) n.block m.block)) (lowered_grouped b (Mark ∷ s) v (begun n) h.1))
+        (lowered_grouped c (Mark ∷ s) v (begun m) h.2))
         (lowered_grouped k s w (begun j) h.3)
     lowered_grouped (WhileStmt at e b k) s w n h =
         let g = begun n in
         let m = past false b (begun g) in
         joined_grouped w.hand
-        (joined_grouped w.hand (joined_grouped w.hand (ends_grouped w s false [] (PassLast n.block)) (ends_grouped w s true [] (TestLast (over slots s e) g.block m.block))) (lowered_grouped b (Mark ∷ s) (pass w 1 (PassLast n.block) m.block) (begun g) h.1))
+        (joined_grouped w.hand (joined_grouped w.hand (ends_grouped w s false [] (PassLast n.block)) (ends_grouped w s true [] (TestLast (over slots s e) g.block m.block)))
+        (lowered_grouped b (Mark ∷ s) (pass w 1 (PassLast n.block) m.block) (begun g) h.1))
         (lowered_grouped k s w (begun m) h.2)
     lowered_grouped (ForStmt at i e p b k) s w n h =
         let t = w.looped.tried in
@@ -102,7 +105,8 @@ module _ (ns : Names) (slots : List SlotTree) where
         (dropping_grouped (scope (later p m.local r)) (lowered_grouped k s w (begun o) h.4))
     lowered_grouped (LoopStmt at b k) s w n h =
         let m = past false b (begun n) in
-        joined_grouped w.hand (joined_grouped w.hand (ends_grouped w s false [] (PassLast n.block)) (lowered_grouped b (Mark ∷ s) (pass w 1 (PassLast n.block) m.block) (begun n) h.1)) (lowered_grouped k s w (begun m) h.2)
+        joined_grouped w.hand (joined_grouped w.hand (ends_grouped w s false [] (PassLast n.block)) (lowered_grouped b (Mark ∷ s) (pass w 1 (PassLast n.block) m.block) (begun n) h.1))
+        (lowered_grouped k s w (begun m) h.2)
     lowered_grouped (BreakStmt at k) s w n h =
         let m = exited w.looped.tried n in
         rest_grouped w.hand k (exits_grouped w.looped.tried w s n (GotoLast w.looped.out)) (lowered_grouped k s w (begun m) h.1)
@@ -119,7 +123,8 @@ module _ (ns : Names) (slots : List SlotTree) where
         let d : Hand = record { block = m.block; error = m.local } in
         let exit = Scoped (GotoLast j.block) in
         joined_grouped w.hand
-        (joined_grouped w.hand (joined_grouped (Some d) (ends_grouped w s false [] (GotoLast n.block)) (lowered_grouped b (Mark ∷ s) (guarded w exit d) (begun n) h.1)) (lowered_grouped c (Var x.name m.local ∷ Mark ∷ s) (handling w exit x.name) g h.2))
+        (joined_grouped w.hand (joined_grouped (Some d) (ends_grouped w s false [] (GotoLast n.block)) (lowered_grouped b (Mark ∷ s) (guarded w exit d) (begun n) h.1))
+        (lowered_grouped c (Var x.name m.local ∷ Mark ∷ s) (handling w exit x.name) g h.2))
         (lowered_grouped k s w (begun j) h.3)
     lowered_grouped (ChooseStmt at bs k) s w n h =
         let t = w.looped.tried in

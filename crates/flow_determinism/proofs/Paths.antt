@@ -130,7 +130,8 @@ module _ (ns : Names) (slots : List SlotTree) where
         let j = past w.looped.tried c (begun m) in
         let v = inner w (Scoped (GotoLast j.block)) in
         joined_pathed w.hand
-        (joined_pathed w.hand (joined_pathed w.hand (ends_pathed w s true [] (TestLast (over slots s e) n.block m.block) tt) (lowered_pathed b (Mark ∷ s) v (begun n) h.1)) (lowered_pathed c (Mark ∷ s) v (begun m) h.2))
+        (joined_pathed w.hand (joined_pathed w.hand (ends_pathed w s true [] (TestLast (over slots s e) n.block m.block) tt) (lowered_pathed b (Mark ∷ s) v (begun n) h.1))
+        (lowered_pathed c (Mark ∷ s) v (begun m) h.2))
         (lowered_pathed k s w (begun j) h.3)
     lowered_pathed (WhileStmt at e b k) s w n h =
         let g = begun n in

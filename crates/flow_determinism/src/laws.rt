@@ -2,9 +2,9 @@
 
 ghost use Rattle.flow_determinism.specs.Laws.{CompilesWritten, ClassesRun, SourcesRun, CompilesWhole, ProgramsKeep, ProgramsRest, SourcesReferred, SourcesEnd};
 
-use flow_invariants::laws::unmarked::boundaries_have_no_marked_actor;
 use flow_compile_laws::laws::traces::compile_preserves_traces;
 use flow_invariants::laws::fitting::valid_classes_have_one_trace;
+use flow_invariants::laws::unmarked::boundaries_have_no_marked_actor;
 
 /// The classes of a program that the front accepts, and in which no use of a local is lost, are valid, and
 /// written as the grammar of class text has classes: each has a block, no path is empty, and the numbers of

@@ -101,7 +101,8 @@ port_counts : (port k : ℕ) (ps : Numbered ℕ) → thing ps port ≡ Some k �
 port_counts port k [] e = absurd (no_thing e)
 port_counts port k (x ∷ ps) e = by_test (nat_eq port x.0) e (port_counts port k ps)
   where
-    by_test : (b : Bool) → (if b then Some x.1 else thing ps port) ≡ Some k → (thing ps port ≡ Some k → 0 < in_ports PromiseSide k ps) → 0 < one PromiseSide k PromiseSide x.1 + in_ports PromiseSide k ps
+    by_test : (b : Bool) → (if b then Some x.1 else thing ps port) ≡ Some k → (thing ps port ≡ Some k → 0 < in_ports PromiseSide k ps)
+        → 0 < one PromiseSide k PromiseSide x.1 + in_ports PromiseSide k ps
     by_test true f rest = let a = ap (one PromiseSide k PromiseSide) (same_of f) in let b = one_stands k in omega (arith, a, b)
     by_test false f rest = let a = rest f in omega (arith, a)
 
@@ -327,7 +328,8 @@ module _ (r : RawTree) {A : Type 0} (puts : A → Line → Result (Unit {0}) Out
               let port = heard_up (was p).up k.0 (sym hears) in
               let there = heard_there r (ready m p.0).proc l.port k.0 g.held port in
               let sends = open_sends (was p).proc k.0 (thing (was p).proc.core.cells k.0) refl (open_at m.places p.0 up.heard k.0 (port_counts l.port k.0 (was p).proc.core.ports port)) in
-              let kept : KeptWith p (arrive k.0 (packet l.from.0 l.port l.text)) = subst (λ y. GoesOn r puts (meaning_world.arrived n l.from.0 l.port l.text (ready m p.0) (now arrives) y)) (sym hears) (kept_as arrives c) in
+              let kept : KeptWith p (arrive k.0 (packet l.from.0 l.port l.text)) =
+              subst (λ y. GoesOn r puts (meaning_world.arrived n l.from.0 l.port l.text (ready m p.0) (now arrives) y)) (sym hears) (kept_as arrives c) in
               does_sure (arrived n u) (now arrives) p arrived_begins (within arrives c) (Brings k stuck.0) b sends (subst (λ y. KeptWith p (arrive k.0 y)) (sym stuck.1) kept)
               (record { cell = there.cell; at = there.at; right = there.right }, subst (AllThere (was p).proc) (ap (λ y. refs_in (value_in (GoodOutcome y))) (sym stuck.1)) tt) stuck.2
 
@@ -336,7 +338,8 @@ module _ (r : RawTree) {A : Type 0} (puts : A → Line → Result (Unit {0}) Out
           packet_now (taken_stuck b other heard told on_way hears stuck) =
               let same : other ≡ l = same_of (sym on_way ∙ there) in
               taken b heard
-              (doing.heard_is r puts m u (now arrives) p g a a Rested u l.port heard (here u (now arrives) p g (within arrives c)) (subst (λ (y : Letter). HeardIn (slice_get u.places p.0) y.port heard) same hears))
+              (doing.heard_is r puts m u (now arrives) p g a a Rested u l.port heard (here u (now arrives) p g (within arrives c))
+              (subst (λ (y : Letter). HeardIn (slice_get u.places p.0) y.port heard) same hears))
               (subst (λ y. TakenStuck puts heard p (numbered n y) (arrived n u) b) same stuck)
 
     -- the line that comes

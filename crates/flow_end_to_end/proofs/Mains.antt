@@ -109,7 +109,8 @@ module _ {A W : Type 0} (serves : Host W) (shows : A → Numbered ℕ → W → 
       by_begin : (n told : Process) (c d : A) → MainCalled code me start n → BreaksOff serves shows wrote broke code processes told c Stuck d
           → ((l : Line) × (told ≡ unasked n) × RepresentsInWorld serves shows wrote code processes r (l ∷ []) told c booted w) ⊎ (told.spent ≡ true) → ⊥
       by_begin n told c d calls off (inl x) =
-          all_bursts_sure serves shows wrote broke code processes r program steady (x.0 ∷ []) told c d booted w x.2 (subst (λ (z : Process). NoPromiseStored z.heap) (sym x.1) (main_stores code me start n calls stored)) off
+          all_bursts_sure serves shows wrote broke code processes r program steady (x.0 ∷ []) told c d booted w x.2
+          (subst (λ (z : Process). NoPromiseStored z.heap) (sym x.1) (main_stores code me start n calls stored)) off
       by_begin n told c d calls off (inr spent) = spent_well serves shows wrote broke code processes r told c d spent off
 
       by_fault : (f : RunFault) (c : A) → f ≡ Stuck → MainBreaksOff serves shows wrote broke code processes me start a f c → ⊥
@@ -119,4 +120,4 @@ module _ {A W : Type 0} (serves : Host W) (shows : A → Numbered ℕ → W → 
       by_fault f c e (called n told d _ _ calls served off) =
           by_begin n told d c calls (subst (λ g. BreaksOff serves shows wrote broke code processes told d g c) e off)
           (main_begins serves shows wrote code processes r program steady now turns me m p w a may.resting may.kept may.no_main may.booted around.shown around.clock around.time around.among n told
-              d calls served)
+          d calls served)

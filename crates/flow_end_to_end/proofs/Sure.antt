@@ -121,7 +121,8 @@ module _ (r : RawTree) (whole : AreWhole r) where
 
 module _ {A : Type 0} (puts : A → Line → Result (Unit {0}) OutFault → A → Type 0) where
   -- each event follows, whatever else a world keeps
-  event_began : (r : RawTree) (m : World Frame) (a b : A) → EventBegan (Quiescent r) (WorldInvariant r) (IsProgram r) puts r m a b → EventBegan (Quiescent r) (MemoryWorldInvariant r) (IsProgram r) puts r m a b
+  event_began : (r : RawTree) (m : World Frame) (a b : A) → EventBegan (Quiescent r) (WorldInvariant r) (IsProgram r) puts r m a b
+      → EventBegan (Quiescent r) (MemoryWorldInvariant r) (IsProgram r) puts r m a b
   event_began r m a b e = record { begun = e.begun; left = e.left; begins = e.begins; follows = e.follows; lines = e.lines }
 
   events_follow : (r : RawTree) → EventsFollow (Quiescent r) (MemoryWorldInvariant r) (IsProgram r) puts r
@@ -150,7 +151,8 @@ module _ {A : Type 0} (puts : A → Line → Result (Unit {0}) OutFault → A �
           went (Quiescent r) Keeps (IsProgram r) puts r with_frames (events (Quiescent r) (MemoryWorldInvariant r) (IsProgram r) puts r (events_follow r))
           (keeps_on (Quiescent r) (MemoryWorldInvariant r) (IsProgram r) r (upheld_stays r whole.valid))
           (frames (Quiescent r) (MemoryWorldInvariant r) (IsProgram r) with_frames r (λ q x s. (s.resting.shown.holds.shows, s.resting.sorted)) (λ m k. k.lasting.keeps.fits.count))
-          t.first v (at_start (seen file)) t.headed b (code_first c file whole few t.first t.starts) (ap raw_of t.starts.program) first (upheld_starts r (seen file) range, start_waits (seen file)) goes
+          t.first v (at_start (seen file)) t.headed b (code_first c file whole few t.first t.starts) (ap raw_of t.starts.program) first
+          (upheld_starts r (seen file) range, start_waits (seen file)) goes
 
       by_frames : (frames_asked : Bool) (v : Seen) (m : World Frame) → raw_of v.code.program ≡ r → WorldRepresents (Quiescent r) v m → Keeps m → FramesStuckIf frames_asked v → ⊥
       by_frames true v m text s k stuck = frames_there r whole v m (ap (λ (x : RawTree). x.classes) text) s k.0.lasting k.1 stuck
@@ -161,7 +163,8 @@ module _ {A : Type 0} (puts : A → Line → Result (Unit {0}) OutFault → A �
       by_end (frames_stuck {u = u} {v = v} {b = b} {c = d} goes does stuck) =
           let x = came u b goes in
           let shown = events_follow r u v x.last b d x.code x.shows x.keeps.0 does in
-          let kept = keeps_on (Quiescent r) (MemoryWorldInvariant r) (IsProgram r) r (upheld_stays r whole.valid) x.last shown.event.begun shown.event.left x.keeps shown.event.begins shown.event.follows shown.rests in
+          let kept = keeps_on (Quiescent r) (MemoryWorldInvariant r) (IsProgram r) r (upheld_stays r whole.valid) x.last shown.event.begun shown.event.left x.keeps shown.event.begins
+          shown.event.follows shown.rests in
           by_frames with_frames v (after x.last shown.event.begun shown.event.left) (ap (λ (z : Code). raw_of z.program) (code_stays puts u v b d Rested does) ∙ x.text) shown.shows kept stuck
 
   pub program_sure : ProgramNeverStuck puts

@@ -36,10 +36,12 @@ MemoryWorldInvariantStarts r = (w : file.World) → file.IsInRange w → MemoryW
 
 abbrev pub MemoryWorldInvariantStays : RawTree → Type 0
 MemoryWorldInvariantStays r =
-    (w : World Frame) (b : Begun Frame) (l : Live Outside Frame) → MemoryWorldInvariant r w → begun_by (classes r) w (next_of w.out) ≡ Some b
+    (w : World Frame) (b : Begun Frame) (l : Live Outside Frame) → MemoryWorldInvariant r w
+    → begun_by (classes r) w (next_of w.out) ≡ Some b
     → Burst (classes r) host (before b) l → l.proc.core.halted ≡ None → MemoryWorldInvariant r (after w b l)
 
 -- And no event of a world in memory that shows such a one goes astray.
 abbrev pub EventNeverStuck : {A : Type 0} (puts : A → Line → Result (Unit {0}) OutFault → A → Type 0) → RawTree → Type 0
 EventNeverStuck {A} puts r =
-    (w : Seen) (m : World Frame) (a : A) → IsProgram r w.code → WorldRepresents (Quiescent r) w m → MemoryWorldInvariant r m → EventStuck puts w a → ⊥
+    (w : Seen) (m : World Frame) (a : A) → IsProgram r w.code → WorldRepresents (Quiescent r) w m → MemoryWorldInvariant r m
+    → EventStuck puts w a → ⊥

@@ -46,7 +46,8 @@ example_called cells now m = record {
   arguments_fit = (IntType, [], refl, refl, refl);
 }
 
-pub example_typed : (cells : ℕ → Option OutcomeTree) (now m : ℤ) → WellTyped (record { records = []; functions = countdown ∷ []; cells = cells; now = now }) (named ((codes "n", IntValue m) ∷ [])) (call_f n)
+pub example_typed : (cells : ℕ → Option OutcomeTree) (now m : ℤ) → WellTyped (record { records = []; functions = countdown ∷ []; cells = cells; now = now }) (named ((codes "n", IntValue m) ∷ []))
+    (call_f n)
 example_typed cells now m = record {
   cell_types = no_types;
   actors = [];
@@ -73,5 +74,6 @@ countdown_typed rs fs vs e m cells now r f v is =
     subst (λ (e : ExprTree). WellTyped (setting_with rs fs cells now) (named (map var_of vs)) e) (sym is)
     (subst (λ (l : Locals). WellTyped (setting_with rs fs cells now) (named l) (call_f n)) (sym v)
     (subst (λ (fs : List RoutineTree). WellTyped (record { records = map record_of rs; functions = fs; cells = cells; now = pos now }) (named ((codes "n", IntValue m) ∷ [])) (call_f n)) (sym f)
-    (subst (λ (rs : List RecordDecl). WellTyped (record { records = map record_of rs; functions = countdown ∷ []; cells = cells; now = pos now }) (named ((codes "n", IntValue m) ∷ [])) (call_f n)) (sym r)
+    (subst (λ (rs : List RecordDecl). WellTyped (record { records = map record_of rs; functions = countdown ∷ []; cells = cells; now = pos now }) (named ((codes "n", IntValue m) ∷ [])) (call_f n))
+    (sym r)
     (example_typed cells (pos now) m))))

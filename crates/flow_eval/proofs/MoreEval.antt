@@ -125,7 +125,8 @@ module _ (k : ℕ) (s : Setting) (run : Runner) (runs : RunsMore k run) where
         then_later k (λ v left. at_once (field_answer (field s.records v x.name)) left) (eval s run look e left) (eval s run look e sum) (eval_later look e left sum q)
         (λ v l m h. at_once_later k (field_answer (field s.records v x.name)) l m h)
     eval_later look (MethodExpr e m xs) left sum q =
-        then_later k (λ v left. then (eval_all s run look xs left) (λ vs left. at_once (method_called s.cells (named method_names m.name) v vs) left)) (eval s run look e left) (eval s run look e sum) (eval_later look e left sum q)
+        then_later k (λ v left. then (eval_all s run look xs left) (λ vs left. at_once (method_called s.cells (named method_names m.name) v vs) left)) (eval s run look e left) (eval s run look e sum)
+        (eval_later look e left sum q)
         (λ v l n h. then_later k (λ vs left. at_once (method_called s.cells (named method_names m.name) v vs) left) (eval_all s run look xs l) (eval_all s run look xs n) (eval_all_later look xs l n h)
         (λ vs i j g. at_once_later k (method_called s.cells (named method_names m.name) v vs) i j g))
     eval_later look (NotExpr e) left sum q =
@@ -183,7 +184,8 @@ module _ (k : ℕ) (s : Setting) (run : Runner) (runs : RunsMore k run) where
   chosen_later (Some true) main other f g vars left sum e = f vars left sum e
   chosen_later (Some false) main other f g vars left sum e = g vars left sum e
 
-  again_later : (go next : Locals → ℕ → Run) → ((vars : Locals) (left sum : ℕ) → sum ≡ left + k → LaterRun k (go vars left) (next vars sum)) → (r q : Run) → LaterRun k r q → LaterRun k (again r go) (again q next)
+  again_later : (go next : Locals → ℕ → Run) → ((vars : Locals) (left sum : ℕ) → sum ≡ left + k → LaterRun k (go vars left) (next vars sum)) → (r q : Run) → LaterRun k r q
+      → LaterRun k (again r go) (again q next)
   again_later go next f r q (inr e) = inr (ap (λ x. again x go) e)
   again_later go next f (Goes vars left) q (inl e) = subst (λ x. LaterRun k (go vars left) (again x next)) (sym e) (f vars left (left + k) refl)
   again_later go next f (Continues vars left) q (inl e) = subst (λ x. LaterRun k (go vars left) (again x next)) (sym e) (f vars left (left + k) refl)
@@ -193,7 +195,8 @@ module _ (k : ℕ) (s : Setting) (run : Runner) (runs : RunsMore k run) where
   again_later go next f SpentRun q (inl e) = inr refl
   again_later go next f NoRun q (inl e) = inl (ap (λ x. again x next) e)
 
-  passes_later : (pass : Locals → ℕ → Run) → Runs k pass → (most many : ℕ) → most ≤ many → (vars : Locals) (left sum : ℕ) → sum ≡ left + k → LaterRun k (passes pass most vars left) (passes pass many vars sum)
+  passes_later : (pass : Locals → ℕ → Run) → Runs k pass → (most many : ℕ) → most ≤ many → (vars : Locals) (left sum : ℕ) → sum ≡ left + k
+      → LaterRun k (passes pass most vars left) (passes pass many vars sum)
   passes_later pass f zero many le vars zero sum e = inr refl
   passes_later pass f zero many le vars (suc left) sum e = inr refl
   passes_later pass f (suc most) many le vars zero sum e = inr refl
@@ -246,7 +249,8 @@ module _ (k : ℕ) (s : Setting) (run : Runner) (runs : RunsMore k run) where
 
   if_later : (e : ExprTree) (main other : Locals → ℕ → Run) → Runs k main → Runs k other → Runs k (if_run s run e main other)
   if_later e main other f g vars left sum q =
-      valued_later vars (λ v left. chosen (bool_of v) main other vars left) (λ v l m h. chosen_later (bool_of v) main other f g vars l m h) (evaluated s run e vars left) (evaluated s run e vars sum) (evaluated_later e vars left sum q)
+      valued_later vars (λ v left. chosen (bool_of v) main other vars left) (λ v l m h. chosen_later (bool_of v) main other f g vars l m h) (evaluated s run e vars left) (evaluated s run e vars sum)
+      (evaluated_later e vars left sum q)
 
   skip_later : Runs k skip
   skip_later vars left sum e = goes_later vars left sum e
@@ -268,16 +272,19 @@ module _ (k : ℕ) (s : Setting) (run : Runner) (runs : RunsMore k run) where
   throw_later : (e : Option ExprTree) (caught : Option (List ℕ)) → Runs k (throw_run s run e caught)
   throw_later None caught vars left sum q = rethrown_later caught vars left sum q
   throw_later (Some e) caught vars left sum q =
-      valued_later vars (λ v left. thrown (error_of v) vars left) (λ v l m h. thrown_later (error_of v) vars l m h) (evaluated s run e vars left) (evaluated s run e vars sum) (evaluated_later e vars left sum q)
+      valued_later vars (λ v left. thrown (error_of v) vars left) (λ v l m h. thrown_later (error_of v) vars l m h) (evaluated s run e vars left) (evaluated s run e vars sum)
+      (evaluated_later e vars left sum q)
 
   declare_later : (i : IntoTree) (e : Option ExprTree) → Runs k (declare_run s run i e)
   declare_later i None vars left sum q = declared_run_later (default_value i.ty) i.name.name vars left sum q
   declare_later i (Some e) vars left sum q =
-      valued_later vars (λ v left. declared (Some v) i.name.name vars left) (λ v l m h. declared_run_later (Some v) i.name.name vars l m h) (evaluated s run e vars left) (evaluated s run e vars sum) (evaluated_later e vars left sum q)
+      valued_later vars (λ v left. declared (Some v) i.name.name vars left) (λ v l m h. declared_run_later (Some v) i.name.name vars l m h) (evaluated s run e vars left) (evaluated s run e vars sum)
+      (evaluated_later e vars left sum q)
 
   assign_later : (xs : List Ident) (e : ExprTree) → Runs k (assign_run s run xs e)
   assign_later xs e vars left sum q =
-      valued_later vars (λ v left. assigned (put_path s.records vars xs v) left) (λ v l m h. assigned_later (put_path s.records vars xs v) l m h) (evaluated s run e vars left) (evaluated s run e vars sum) (evaluated_later e vars left sum q)
+      valued_later vars (λ v left. assigned (put_path s.records vars xs v) left) (λ v l m h. assigned_later (put_path s.records vars xs v) l m h) (evaluated s run e vars left)
+      (evaluated s run e vars sum) (evaluated_later e vars left sum q)
 
   operand_later : (c : ChangeTree) (vars : Locals) (left sum : ℕ) → sum ≡ left + k → Later k (change_operand s run c vars left) (change_operand s run c vars sum)
   operand_later (PlusChange e) vars left sum q = evaluated_later e vars left sum q
@@ -305,7 +312,8 @@ module _ (k : ℕ) (s : Setting) (run : Runner) (runs : RunsMore k run) where
       (eval_all s run (named vars) es left) (eval_all s run (named vars) es sum) (eval_all_later (named vars) es left sum q)
 
   return_later : (e : ExprTree) → Runs k (return_run s run e)
-  return_later e vars left sum q = valued_later vars (λ v left. Returns v left) (λ v l m h. inl (ap (Returns v) h)) (evaluated s run e vars left) (evaluated s run e vars sum) (evaluated_later e vars left sum q)
+  return_later e vars left sum q = valued_later vars (λ v left. Returns v left) (λ v l m h. inl (ap (Returns v) h)) (evaluated s run e vars left) (evaluated s run e vars sum)
+      (evaluated_later e vars left sum q)
 
   try_later : (body : Locals → ℕ → Run) (x : List ℕ) (handler : Locals → ℕ → Run) → Runs k body → Runs k handler → Runs k (try_run body x handler)
   try_later body x handler f g vars left sum q =
@@ -317,21 +325,27 @@ module _ (k : ℕ) (s : Setting) (run : Runner) (runs : RunsMore k run) where
   exec_later : (b : Body) (caught : Option (List ℕ)) → Runs k (exec s run b caught)
   exec_later End caught = skip_later
   exec_later (BlockStmt at b n) caught = follow_later n caught (scope (exec s run b caught)) (scope_later (exec s run b caught) (exec_later b caught)) (exec_later n caught)
-  exec_later (IfStmt at e b n) caught = follow_later n caught (if_run s run e (scope (exec s run b caught)) skip) (if_later e (scope (exec s run b caught)) skip (scope_later (exec s run b caught) (exec_later b caught)) skip_later) (exec_later n caught)
+  exec_later (IfStmt at e b n) caught = follow_later n caught (if_run s run e (scope (exec s run b caught)) skip)
+      (if_later e (scope (exec s run b caught)) skip (scope_later (exec s run b caught) (exec_later b caught)) skip_later) (exec_later n caught)
   exec_later (IfElseStmt at e b c n) caught =
       follow_later n caught (if_run s run e (scope (exec s run b caught)) (scope (exec s run c caught)))
-      (if_later e (scope (exec s run b caught)) (scope (exec s run c caught)) (scope_later (exec s run b caught) (exec_later b caught)) (scope_later (exec s run c caught) (exec_later c caught))) (exec_later n caught)
-  exec_later (WhileStmt at e b n) caught = follow_later n caught (loop_run s run (Some e) skip (exec s run b caught)) (loop_later (Some e) skip (exec s run b caught) skip_later (exec_later b caught)) (exec_later n caught)
+      (if_later e (scope (exec s run b caught)) (scope (exec s run c caught)) (scope_later (exec s run b caught) (exec_later b caught)) (scope_later (exec s run c caught) (exec_later c caught)))
+      (exec_later n caught)
+  exec_later (WhileStmt at e b n) caught = follow_later n caught (loop_run s run (Some e) skip (exec s run b caught)) (loop_later (Some e) skip (exec s run b caught) skip_later (exec_later b caught))
+      (exec_later n caught)
   exec_later (ForStmt at i e t b n) caught =
       follow_later n caught (scope (for_run s run (exec s run i caught) e (exec s run t caught) (exec s run b caught)))
-      (scope_later (for_run s run (exec s run i caught) e (exec s run t caught) (exec s run b caught)) (for_later (exec s run i caught) e (exec s run t caught) (exec s run b caught) (exec_later i caught) (exec_later t caught) (exec_later b caught))) (exec_later n caught)
-  exec_later (LoopStmt at b n) caught = follow_later n caught (loop_run s run None skip (exec s run b caught)) (loop_later None skip (exec s run b caught) skip_later (exec_later b caught)) (exec_later n caught)
+      (scope_later (for_run s run (exec s run i caught) e (exec s run t caught) (exec s run b caught))
+      (for_later (exec s run i caught) e (exec s run t caught) (exec s run b caught) (exec_later i caught) (exec_later t caught) (exec_later b caught))) (exec_later n caught)
+  exec_later (LoopStmt at b n) caught = follow_later n caught (loop_run s run None skip (exec s run b caught)) (loop_later None skip (exec s run b caught) skip_later (exec_later b caught))
+      (exec_later n caught)
   exec_later (BreakStmt at n) caught = λ vars left sum q. inl (ap (Breaks vars) q)
   exec_later (ContinueStmt at n) caught = λ vars left sum q. inl (ap (Continues vars) q)
   exec_later (ReturnStmt at e n) caught = follow_later n caught (return_run s run e) (return_later e) (exec_later n caught)
   exec_later (ThrowStmt at e n) caught = follow_later n caught (throw_run s run e caught) (throw_later e caught) (exec_later n caught)
   exec_later (TryStmt at b q x h n) caught =
-      follow_later n caught (try_run (exec s run b caught) x.name (exec s run h (Some x.name))) (try_later (exec s run b caught) x.name (exec s run h (Some x.name)) (exec_later b caught) (exec_later h (Some x.name))) (exec_later n caught)
+      follow_later n caught (try_run (exec s run b caught) x.name (exec s run h (Some x.name)))
+      (try_later (exec s run b caught) x.name (exec s run h (Some x.name)) (exec_later b caught) (exec_later h (Some x.name))) (exec_later n caught)
   exec_later (ChooseStmt at bs n) caught = λ vars left sum q. inl refl
   exec_later (DeclareStmt at i e n) caught = follow_later n caught (declare_run s run i e) (declare_later i e) (exec_later n caught)
   exec_later (AssignStmt at xs e n) caught = follow_later n caught (assign_run s run xs e) (assign_later xs e) (exec_later n caught)
@@ -365,7 +379,8 @@ function_runs k s (suc nest) f vs (suc left) (suc sum) q =
 pub whole_later : (k : ℕ) (s : Setting) (look : List ℕ → Option ValueTree) (e : ExprTree) (left sum : ℕ) → sum ≡ left + k → Later k (Eval s look e left) (Eval s look e sum)
 whole_later k s look e left sum q = eval_later k s (run_function s deepest) (function_runs k s deepest) look e left sum q
 
-pub all_later : (k : ℕ) (s : Setting) (look : List ℕ → Option ValueTree) (es : ExprTrees) (left sum : ℕ) → sum ≡ left + k → Later k (eval_all s (run_function s deepest) look es left) (eval_all s (run_function s deepest) look es sum)
+pub all_later : (k : ℕ) (s : Setting) (look : List ℕ → Option ValueTree) (es : ExprTrees) (left sum : ℕ) → sum ≡ left + k
+    → Later k (eval_all s (run_function s deepest) look es left) (eval_all s (run_function s deepest) look es sum)
 all_later k s look es left sum q = eval_all_later k s (run_function s deepest) (function_runs k s deepest) look es left sum q
 
 pub call_whole_later : (k : ℕ) (s : Setting) (f : RoutineTree) (vs : List ValueTree) (left sum : ℕ) → sum ≡ left + k → Later k (Call s f vs left) (Call s f vs sum)

@@ -107,7 +107,8 @@ module _ (s : Setting) (run : Runner) where
   for_ran init o p step body q vars ws xs left l rest h e r =
       after_goes (init vars left) ws l (loop_run s run o step body) q xs rest h (subst (λ o. Ran (loop_run s run o step body ws l) q xs rest) e r)
 
-  pub for_parts_ran : (caught : Option (List ℕ)) (i i' : Option (Box Stmt Global)) (t t' : Option Expr) (u u' : Option (Box Stmt Global)) (body : Locals → ℕ → Run) (f : Flow) (q : Result Flow Halt) (vars ws xs : Locals) (left l rest : ℕ)
+  pub for_parts_ran : (caught : Option (List ℕ)) (i i' : Option (Box Stmt Global)) (t t' : Option Expr) (u u' : Option (Box Stmt Global)) (body : Locals → ℕ → Run) (f : Flow) (q : Result Flow Halt)
+      (vars ws xs : Locals) (left l rest : ℕ)
       → i' ≡ i → t' ≡ t → u' ≡ u → f ≡ flow.Next
       → Ran (exec s run (simple_of i') caught vars left) (Ok f) ws l
       → Ran (loop_run s run (option_map expr_of t') (exec s run (simple_of u') caught) body ws l) q xs rest

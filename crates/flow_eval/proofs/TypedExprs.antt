@@ -98,7 +98,8 @@ module _ (s : Setting) (typed : ℕ → TypeTree → Type 0) (actors : List Rout
   declared_good : (ro : Option Signature) (fo ao : Option RoutineTree) (x : List ℕ) (vs : List ValueTree) (ts : List TypeTree) (t : TypeTree) (left : ℕ)
       → RunnerFits s.records typed s.functions run → record_call s.records x ≡ ro → routine_named s.functions x ≡ fo
       → not (is_there ro) && not (is_there fo) && is_there ao ≡ false
-      → applied (or_else ro (or_else (option_map (λ (f : RoutineTree). record { params = param_types f.params; gives = f.returns }) fo) (option_map (λ (f : RoutineTree). record { params = param_types f.params; gives = FutureType f.returns }) ao))) ts ≡ Some t
+      → applied (or_else ro (or_else (option_map (λ (f : RoutineTree). record { params = param_types f.params; gives = f.returns }) fo)
+      (option_map (λ (f : RoutineTree). record { params = param_types f.params; gives = FutureType f.returns }) ao))) ts ≡ Some t
       → Are ts vs → Safe (Is t) (declared_called s run (record_id s.records x) x vs left)
   declared_good (Some sg) fo ao x vs ts t left runs ir fi w e h =
       let id = id_there s.records x sg ir in
@@ -210,7 +211,8 @@ module _ (s : Setting) (typed : ℕ → TypeTree → Type 0) (actors : List Rout
             let p = with_typed (types_in scope xs) (applied (call_signature scope f.name)) t e in
             then_good (Are p.0) (Is t) (eval_all s run look xs left) (λ vs left. called s run (named call_names f.name) f.name vs left)
             (all_good xs p.0 left p.1 (and_right (not (effect_call scope f.name)) (all_without_effects scope xs) w))
-            (λ vs left h. called_good (named call_names f.name) f.name vs p.0 t left runs (not_true (effect_call scope f.name) (and_left (not (effect_call scope f.name)) (all_without_effects scope xs) w)) p.2 h)
+            (λ vs left h. called_good (named call_names f.name) f.name vs p.0 t left runs
+            (not_true (effect_call scope f.name) (and_left (not (effect_call scope f.name)) (all_without_effects scope xs) w)) p.2 h)
         eval_good (FieldExpr a x) t left e w =
             let p = with_typed (type_in scope a) (λ u. field_type s.records u x.name) t e in
             then_good (Is p.0) (Is t) (eval s run look a left) (λ v left. at_once (field_answer (field s.records v x.name)) left) (eval_good a p.0 left p.1 w)

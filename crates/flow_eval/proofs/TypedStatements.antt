@@ -76,7 +76,8 @@ module _ (s : Setting) (typed : ℕ → TypeTree → Type 0) where
   Comes r G B C X SpentRun = Unit {0}
   Comes r G B C X NoRun = ⊥
 
-  comes_as : (r : TypeTree) (G B C X H D E Y : Locals → Type 0) (x : Run) → ((ls : Locals) → G ls → H ls) → ((ls : Locals) → B ls → D ls) → ((ls : Locals) → C ls → E ls) → ((ls : Locals) → X ls → Y ls)
+  comes_as : (r : TypeTree) (G B C X H D E Y : Locals → Type 0) (x : Run) → ((ls : Locals) → G ls → H ls) → ((ls : Locals) → B ls → D ls) → ((ls : Locals) → C ls → E ls)
+      → ((ls : Locals) → X ls → Y ls)
       → Comes r G B C X x → Comes r H D E Y x
   comes_as r G B C X H D E Y (Goes ls left) g b c t h = g ls h
   comes_as r G B C X H D E Y (Breaks ls left) g b c t h = b ls h
@@ -143,7 +144,8 @@ module _ (s : Setting) (typed : ℕ → TypeTree → Type 0) where
       after_comes r (Went p mid) (Went e qs) (Left loop d (Extends ps)) (Left loop true (Extends ps)) (Extends ps) x go
       (comes_as r (Went p mid) (Left loop b (Extends ps)) (Left loop true (Extends ps)) (Extends ps) (Went p mid) (Left loop d (Extends ps)) (Left loop true (Extends ps)) (Extends ps) x
       (λ ls h. h) (λ ls h. (h.0, bd h.1, h.2)) (λ ls h. h) (λ ls h. h) h)
-      (λ ls left w. comes_as r (Went q qs) (Left loop c (Extends mid)) (Left loop true (Extends mid)) (Extends mid) (Went e qs) (Left loop d (Extends ps)) (Left loop true (Extends ps)) (Extends ps) (go ls left)
+      (λ ls left w. comes_as r (Went q qs) (Left loop c (Extends mid)) (Left loop true (Extends mid)) (Extends mid) (Went e qs) (Left loop d (Extends ps)) (Left loop true (Extends ps)) (Extends ps)
+      (go ls left)
       (λ ls h. (pqe w.0 h.0, h.1)) (λ ls h. (h.0, pcd w.0 h.1, extends_on ps mid ls g h.2)) (λ ls h. (h.0, h.1, extends_on ps mid ls g h.2)) (λ ls h. extends_on ps mid ls g h) (k ls left w.1))
 
   scoped_as : (r : TypeTree) (loop : Bool) (ps : List ParamTree) (p b q c : Bool) (x : Run) → (p ≡ true → q ≡ true) → (b ≡ true → c ≡ true) → Scoped r loop ps p b x → Scoped r loop ps q c x
@@ -177,7 +179,8 @@ module _ (s : Setting) (typed : ℕ → TypeTree → Type 0) where
   stepped_comes r ps p b SpentRun step h k = tt {0}
   stepped_comes r ps p b NoRun step h k = h
 
-  again_comes : (r : TypeTree) (ps : List ParamTree) (b : Bool) (x : Run) (go : Locals → ℕ → Run) → Turned r ps b x → ((ls : Locals) (left : ℕ) → Fit ps ls → Looped r ps b (go ls left)) → Looped r ps b (again x go)
+  again_comes : (r : TypeTree) (ps : List ParamTree) (b : Bool) (x : Run) (go : Locals → ℕ → Run) → Turned r ps b x → ((ls : Locals) (left : ℕ) → Fit ps ls → Looped r ps b (go ls left))
+      → Looped r ps b (again x go)
   again_comes r ps b (Goes ls left) go h k = k ls left h
   again_comes r ps b (Breaks ls left) go h k = h
   again_comes r ps b (Continues ls left) go h k = absurd h
@@ -256,9 +259,11 @@ module _ (s : Setting) (typed : ℕ → TypeTree → Type 0) where
         subst (λ o. Goes_on r loop ps (changed s run o c xs ls left)) (sym old.1)
         (valued_comes r (λ v. HasType s.records typed v t) (Went true ps) (Left loop false (Extends ps)) (Left loop true (Extends ps)) (Extends ps) (change_operand s run c ls left) ls
         (λ w left. valued (at_once (operated (change_sign c) old.0 w) left) ls (λ u left. assigned (put_path s.records ls xs u) left)) c_good.0 (extends_same ps ls f)
-        (λ w left h. valued_comes r (λ v. HasType s.records typed v t) (Went true ps) (Left loop false (Extends ps)) (Left loop true (Extends ps)) (Extends ps) (at_once (operated (change_sign c) old.0 w) left) ls
+        (λ w left h. valued_comes r (λ v. HasType s.records typed v t) (Went true ps) (Left loop false (Extends ps)) (Left loop true (Extends ps)) (Extends ps)
+        (at_once (operated (change_sign c) old.0 w) left) ls
         (λ u left. assigned (put_path s.records ls xs u) left)
-        (once_good (λ v. HasType s.records typed v t) (operated (change_sign c) old.0 w) left (operated_typed s.records typed (change_sign c) old.0 w t t (strict c) old.2 h c_good.1)) (extends_same ps ls f)
+        (once_good (λ v. HasType s.records typed v t) (operated (change_sign c) old.0 w) left (operated_typed s.records typed (change_sign c) old.0 w t t (strict c) old.2 h c_good.1))
+        (extends_same ps ls f)
         (λ u left k. assigned_runs r loop ps ls xs t u left f e k)))
       where
         strict : (c : ChangeTree) → is_strict (change_sign c) ≡ true
@@ -267,7 +272,8 @@ module _ (s : Setting) (typed : ℕ → TypeTree → Type 0) where
         strict UpChange = refl
         strict DownChange = refl
 
-    assign_runs : (r : TypeTree) (loop : Bool) (ps : List ParamTree) (ls : Locals) (xs : List Ident) (e : ExprTree) (t : TypeTree) (left : ℕ) → Fit ps ls → path_type s.records ps xs ≡ Some t → Yield ps e t
+    assign_runs : (r : TypeTree) (loop : Bool) (ps : List ParamTree) (ls : Locals) (xs : List Ident) (e : ExprTree) (t : TypeTree) (left : ℕ) → Fit ps ls → path_type s.records ps xs ≡ Some t
+        → Yield ps e t
         → Goes_on r loop ps (assign_run s run xs e ls left)
     assign_runs r loop ps ls xs e t left f p y =
         valued_comes r (λ v. HasType s.records typed v t) (Went true ps) (Left loop false (Extends ps)) (Left loop true (Extends ps)) (Extends ps) (evaluated s run e ls left) ls
@@ -283,9 +289,11 @@ module _ (s : Setting) (typed : ℕ → TypeTree → Type 0) where
         → Runs r loop ps (ps ++ record { ty = i.ty; name = i.name } ∷ []) true false (declare_run s run i e ls left)
     declare_runs r loop ps ls i None left f y =
         let v = default_there i.ty y in
-        subst (λ o. Runs r loop ps (ps ++ record { ty = i.ty; name = i.name } ∷ []) true false (declared o i.name.name ls left)) (sym v.1) (refl, bound_fits s.records typed ps ls i.name i.ty v.0 f v.2)
+        subst (λ o. Runs r loop ps (ps ++ record { ty = i.ty; name = i.name } ∷ []) true false (declared o i.name.name ls left)) (sym v.1)
+        (refl, bound_fits s.records typed ps ls i.name i.ty v.0 f v.2)
     declare_runs r loop ps ls i (Some e) left f y =
-        valued_comes r (λ v. HasType s.records typed v i.ty) (Went true (ps ++ record { ty = i.ty; name = i.name } ∷ [])) (Left loop false (Extends ps)) (Left loop true (Extends ps)) (Extends ps) (evaluated s run e ls left) ls
+        valued_comes r (λ v. HasType s.records typed v i.ty) (Went true (ps ++ record { ty = i.ty; name = i.name } ∷ [])) (Left loop false (Extends ps)) (Left loop true (Extends ps)) (Extends ps)
+        (evaluated s run e ls left) ls
         (λ v left. declared (Some v) i.name.name ls left) (value_good ps ls e i.ty left f y) (extends_same ps ls f) (λ v left h. (refl, bound_fits s.records typed ps ls i.name i.ty v f h))
 
     return_runs : (r : TypeTree) (loop : Bool) (ps : List ParamTree) (ls : Locals) (e : ExprTree) (left : ℕ) → Fit ps ls → Yield ps e r → Runs r loop ps ps false false (return_run s run e ls left)
@@ -293,12 +301,14 @@ module _ (s : Setting) (typed : ℕ → TypeTree → Type 0) where
         valued_comes r (λ v. HasType s.records typed v r) (Went false ps) (Left loop false (Extends ps)) (Left loop true (Extends ps)) (Extends ps) (evaluated s run e ls left) ls
         (λ v left. Returns v left) (value_good ps ls e r left f y) (extends_same ps ls f) (λ v left h. h)
 
-    thrown_runs : (r : TypeTree) (loop : Bool) (ps : List ParamTree) (ls : Locals) (v : ValueTree) (left : ℕ) → Fit ps ls → HasType s.records typed v ErrorType → Runs r loop ps ps false false (thrown (error_of v) ls left)
+    thrown_runs : (r : TypeTree) (loop : Bool) (ps : List ParamTree) (ls : Locals) (v : ValueTree) (left : ℕ) → Fit ps ls → HasType s.records typed v ErrorType
+        → Runs r loop ps ps false false (thrown (error_of v) ls left)
     thrown_runs r loop ps ls v left f h =
         let e = is_error_value s.records typed v h in
         subst (λ v. Runs r loop ps ps false false (thrown (error_of v) ls left)) (sym e.1) (extends_same ps ls f)
 
-    throw_runs : (r : TypeTree) (loop : Bool) (caught : Option (List ℕ)) (ps : List ParamTree) (ls : Locals) (e : Option ExprTree) (left : ℕ) → Fit ps ls → ThrowFits s.records s.functions actors ps caught e
+    throw_runs : (r : TypeTree) (loop : Bool) (caught : Option (List ℕ)) (ps : List ParamTree) (ls : Locals) (e : Option ExprTree) (left : ℕ) → Fit ps ls
+        → ThrowFits s.records s.functions actors ps caught e
         → Runs r loop ps ps false false (throw_run s run e caught ls left)
     throw_runs r loop None ps ls None left f y = absurd y
     throw_runs r loop (Some x) ps ls None left f y =
@@ -311,12 +321,14 @@ module _ (s : Setting) (typed : ℕ → TypeTree → Type 0) where
     call_runs : (r : TypeTree) (loop : Bool) (ps : List ParamTree) (ls : Locals) (xs : List Ident) (es : ExprTrees) (left : ℕ) → Fit ps ls → CallFits s.records s.functions actors ps xs es
         → Goes_on r loop ps (call_run s run xs es ls left)
     call_runs r loop ps ls xs es left f y =
-        valued_comes r (λ vs. HaveTypes s.records typed (values_of_list vs) y.2) (Went true ps) (Left loop false (Extends ps)) (Left loop true (Extends ps)) (Extends ps) (eval_all s run (named ls) es left) ls
+        valued_comes r (λ vs. HaveTypes s.records typed (values_of_list vs) y.2) (Went true ps) (Left loop false (Extends ps)) (Left loop true (Extends ps)) (Extends ps)
+        (eval_all s run (named ls) es left) ls
         (λ vs left. valued (call_by s run xs vs left) ls (λ v left. Goes ls left))
         (all_good s typed actors run ps (named ls) (locals_look s.records typed ps ls f) cells runs es y.2 left y.5 y.7) (extends_same ps ls f)
         (λ vs left h. subst (λ xs. Goes_on r loop ps (valued (call_by s run xs vs left) ls (λ v left. Goes ls left))) (sym y.3)
         (subst (λ o. Goes_on r loop ps (valued (function_called s run o vs left) ls (λ v left. Goes ls left))) (sym y.4)
-        (valued_comes r (λ v. HasType s.records typed v y.1.returns) (Went true ps) (Left loop false (Extends ps)) (Left loop true (Extends ps)) (Extends ps) (run y.1 vs left) ls (λ v left. Goes ls left)
+        (valued_comes r (λ v. HasType s.records typed v y.1.returns) (Went true ps) (Left loop false (Extends ps)) (Left loop true (Extends ps)) (Extends ps) (run y.1 vs left) ls
+        (λ v left. Goes ls left)
         (runs y.0.name y.1 vs left y.4 (subst (HaveTypes s.records typed (values_of_list vs)) (sym (types_same (param_types y.1.params) y.2 y.6)) h)) (extends_same ps ls f)
         (λ v left h. (refl, f)))))
 
@@ -338,9 +350,12 @@ module _ (s : Setting) (typed : ℕ → TypeTree → Type 0) where
     handled_comes r loop ps qs x q c handler g k n ls left f =
         let more = ps ++ record { ty = ErrorType; name = x } ∷ [] in
         let inner = k (bound ls x.name (ErrorValue n)) left (bound_fits s.records typed ps ls x ErrorType (ErrorValue n) f refl) in
-        scoped_comes r loop ps qs q c (length ls) (handler (bound ls x.name (ErrorValue n)) left) (grows_on ps more qs (grows_by ps (record { ty = ErrorType; name = x } ∷ [])) g) (locals_count s.records typed ps ls f)
-        (comes_as r (Went q qs) (Left loop c (Extends more)) (Left loop true (Extends more)) (Extends more) (Went q qs) (Left loop c (Extends ps)) (Left loop true (Extends ps)) (Extends ps) (handler (bound ls x.name (ErrorValue n)) left)
-        (λ ls h. h) (λ ls h. (h.0, h.1, extends_on ps more ls (grows_by ps (record { ty = ErrorType; name = x } ∷ [])) h.2)) (λ ls h. (h.0, h.1, extends_on ps more ls (grows_by ps (record { ty = ErrorType; name = x } ∷ [])) h.2))
+        scoped_comes r loop ps qs q c (length ls) (handler (bound ls x.name (ErrorValue n)) left) (grows_on ps more qs (grows_by ps (record { ty = ErrorType; name = x } ∷ [])) g)
+        (locals_count s.records typed ps ls f)
+        (comes_as r (Went q qs) (Left loop c (Extends more)) (Left loop true (Extends more)) (Extends more) (Went q qs) (Left loop c (Extends ps)) (Left loop true (Extends ps)) (Extends ps)
+        (handler (bound ls x.name (ErrorValue n)) left)
+        (λ ls h. h) (λ ls h. (h.0, h.1, extends_on ps more ls (grows_by ps (record { ty = ErrorType; name = x } ∷ [])) h.2))
+        (λ ls h. (h.0, h.1, extends_on ps more ls (grows_by ps (record { ty = ErrorType; name = x } ∷ [])) h.2))
         (λ ls h. extends_on ps more ls (grows_by ps (record { ty = ErrorType; name = x } ∷ [])) h) inner)
 
     end_or_not : (b : Body) → (b ≡ End) ⊎ (has_statement b ≡ true)
@@ -348,14 +363,17 @@ module _ (s : Setting) (typed : ℕ → TypeTree → Type 0) where
     end_or_not b = inr refl
 
     try_comes : (r : TypeTree) (loop : Bool) (ps : List ParamTree) (b : Body) (caught : Option (List ℕ)) (x : Ident) (handler : Locals → ℕ → Run) (q c : Bool) (ls : Locals) (left : ℕ) → Fit ps ls
-        → Scoped r loop ps (reaches_end b) (reaches_break b) (scope (exec s run b caught) ls left) → ((n : ℕ) (ls : Locals) (left : ℕ) → Fit ps ls → Scoped r loop ps q c (handled x.name handler n ls left))
+        → Scoped r loop ps (reaches_end b) (reaches_break b) (scope (exec s run b caught) ls left)
+        → ((n : ℕ) (ls : Locals) (left : ℕ) → Fit ps ls → Scoped r loop ps q c (handled x.name handler n ls left))
         → Scoped r loop ps (reaches_end b || q) (reaches_break b || (has_statement b && c)) (try_run (exec s run b caught) x.name handler ls left)
     try_comes r loop ps b caught x handler q c ls left f h k =
         ⊎_elim
         (λ e. subst (λ b. Scoped r loop ps (reaches_end b || q) (reaches_break b || (has_statement b && c)) (try_run (exec s run b caught) x.name handler ls left)) (sym e)
         (refl, cut ps ls (length ls) (locals_count s.records typed ps ls f) (extends_same ps ls f)))
-        (λ e. caught_comes r loop ps (reaches_end b) (reaches_break b) q c (reaches_end b || q) (reaches_break b || (has_statement b && c)) (scope (exec s run b caught) ls left) (handled x.name handler) h k
-        (first_true (reaches_end b) q) (first_true (reaches_break b) (has_statement b && c)) (second_true (reaches_end b) q) (λ t. second_true (reaches_break b) (has_statement b && c) (both_true (has_statement b) c e t)))
+        (λ e. caught_comes r loop ps (reaches_end b) (reaches_break b) q c (reaches_end b || q) (reaches_break b || (has_statement b && c)) (scope (exec s run b caught) ls left)
+        (handled x.name handler) h k
+        (first_true (reaches_end b) q) (first_true (reaches_break b) (has_statement b && c)) (second_true (reaches_end b) q)
+        (λ t. second_true (reaches_break b) (has_statement b && c) (both_true (has_statement b) c e t)))
         (end_or_not b)
 
     -- the init of a `for`, and the step, leave no loop
@@ -371,17 +389,20 @@ module _ (s : Setting) (typed : ℕ → TypeTree → Type 0) where
     for_comes r loop ps qs e init step body p b ls left g f i y k h =
         scoped_runs r loop ps (is_there e || b) false (is_there e || b) false (scope (for_run s run init e step body) ls left) (λ e. e) (λ e. e)
         (scope_comes r loop ps qs (is_there e || b) false (for_run s run init e step body) ls left g f
-        (comes_as r (Went (is_there e || b) qs) Never Never (Extends ps) (Went (is_there e || b) qs) (Left loop false (Extends ps)) (Left loop true (Extends ps)) (Extends ps) (for_run s run init e step body ls left)
+        (comes_as r (Went (is_there e || b) qs) Never Never (Extends ps) (Went (is_there e || b) qs) (Left loop false (Extends ps)) (Left loop true (Extends ps)) (Extends ps)
+        (for_run s run init e step body ls left)
         (λ ls h. h) (λ ls h. absurd h) (λ ls h. absurd h) (λ ls h. h)
         (after_comes r (Fit qs) (Went (is_there e || b) qs) Never Never (Extends ps) (init ls left) (loop_run s run e step body) i
         (λ ls left f. comes_as r (Went (is_there e || b) qs) Never Never (Extends qs) (Went (is_there e || b) qs) Never Never (Extends ps) (loop_run s run e step body ls left)
         (λ ls h. h) (λ ls h. h) (λ ls h. h) (λ ls h. extends_on ps qs ls g h) (loop_comes r qs e step body p b ls left f y k h)))))
 
-    pub exec_good : (b : Body) (r : TypeTree) (loop : Bool) (caught : Option (List ℕ)) (ps : List ParamTree) (ls : Locals) (left : ℕ) → BodyFits s.records s.functions actors r loop caught ps b → Fit ps ls
+    pub exec_good : (b : Body) (r : TypeTree) (loop : Bool) (caught : Option (List ℕ)) (ps : List ParamTree) (ls : Locals) (left : ℕ) → BodyFits s.records s.functions actors r loop caught ps b
+        → Fit ps ls
         → Runs r loop ps (ps ++ declared_in b) (reaches_end b) (reaches_break b) (exec s run b caught ls left)
     exec_good End r loop caught ps ls left h f = (refl, subst (λ ps. Fit ps ls) (sym (append-nil ps)) f)
     exec_good (BlockStmt at b k) r loop caught ps ls left h f =
-        then_runs r loop ps ps (ps ++ declared_in k) (reaches_end b) (reaches_break b) (reaches_end k) (reaches_break k) (reaches_end b && reaches_end k) (reaches_break b || (reaches_end b && reaches_break k))
+        then_runs r loop ps ps (ps ++ declared_in k) (reaches_end b) (reaches_break b) (reaches_end k) (reaches_break k) (reaches_end b && reaches_end k)
+        (reaches_break b || (reaches_end b && reaches_break k))
         (scope (exec s run b caught) ls left) (exec s run k caught) (grows_same ps)
         (scoped_runs r loop ps (reaches_end b) (reaches_break b) (reaches_end b) (reaches_break b) (scope (exec s run b caught) ls left) (λ e. e) (λ e. e)
         (scope_comes r loop ps (ps ++ declared_in b) (reaches_end b) (reaches_break b) (exec s run b caught) ls left (grows_by ps (declared_in b)) f (exec_good b r loop caught ps ls left h.0 f)))
@@ -398,13 +419,17 @@ module _ (s : Setting) (typed : ℕ → TypeTree → Type 0) where
         (λ ls left f. exec_good k r loop caught ps ls left h.2 f)
         (first_true (reaches_break b) (reaches_break k)) (λ p q. q) (λ p c. second_true (reaches_break b) (reaches_break k) c)
     exec_good (IfElseStmt at e b c k) r loop caught ps ls left h f =
-        then_runs r loop ps ps (ps ++ declared_in k) (reaches_end b || reaches_end c) (reaches_break b || reaches_break c) (reaches_end k) (reaches_break k) ((reaches_end b || reaches_end c) && reaches_end k)
+        then_runs r loop ps ps (ps ++ declared_in k) (reaches_end b || reaches_end c) (reaches_break b || reaches_break c) (reaches_end k) (reaches_break k)
+        ((reaches_end b || reaches_end c) && reaches_end k)
         (reaches_break b || reaches_break c || ((reaches_end b || reaches_end c) && reaches_break k))
         (if_run s run e (scope (exec s run b caught)) (scope (exec s run c caught)) ls left) (exec s run k caught) (grows_same ps)
-        (if_comes r (Went (reaches_end b || reaches_end c) ps) (Left loop (reaches_break b || reaches_break c) (Extends ps)) (Left loop true (Extends ps)) (Extends ps) ps e (scope (exec s run b caught)) (scope (exec s run c caught)) ls left f h.0 (extends_same ps ls f)
-        (λ left. scoped_runs r loop ps (reaches_end b) (reaches_break b) (reaches_end b || reaches_end c) (reaches_break b || reaches_break c) (scope (exec s run b caught) ls left) (first_true (reaches_end b) (reaches_end c)) (first_true (reaches_break b) (reaches_break c))
+        (if_comes r (Went (reaches_end b || reaches_end c) ps) (Left loop (reaches_break b || reaches_break c) (Extends ps)) (Left loop true (Extends ps)) (Extends ps) ps e
+        (scope (exec s run b caught)) (scope (exec s run c caught)) ls left f h.0 (extends_same ps ls f)
+        (λ left. scoped_runs r loop ps (reaches_end b) (reaches_break b) (reaches_end b || reaches_end c) (reaches_break b || reaches_break c) (scope (exec s run b caught) ls left)
+        (first_true (reaches_end b) (reaches_end c)) (first_true (reaches_break b) (reaches_break c))
         (scope_comes r loop ps (ps ++ declared_in b) (reaches_end b) (reaches_break b) (exec s run b caught) ls left (grows_by ps (declared_in b)) f (exec_good b r loop caught ps ls left h.1 f)))
-        (λ left. scoped_runs r loop ps (reaches_end c) (reaches_break c) (reaches_end b || reaches_end c) (reaches_break b || reaches_break c) (scope (exec s run c caught) ls left) (second_true (reaches_end b) (reaches_end c)) (second_true (reaches_break b) (reaches_break c))
+        (λ left. scoped_runs r loop ps (reaches_end c) (reaches_break c) (reaches_end b || reaches_end c) (reaches_break b || reaches_break c) (scope (exec s run c caught) ls left)
+        (second_true (reaches_end b) (reaches_end c)) (second_true (reaches_break b) (reaches_break c))
         (scope_comes r loop ps (ps ++ declared_in c) (reaches_end c) (reaches_break c) (exec s run c caught) ls left (grows_by ps (declared_in c)) f (exec_good c r loop caught ps ls left h.2 f))))
         (λ ls left f. exec_good k r loop caught ps ls left h.3 f)
         (first_true (reaches_break b || reaches_break c) ((reaches_end b || reaches_end c) && reaches_break k)) (both_true (reaches_end b || reaches_end c) (reaches_end k))
@@ -414,18 +439,21 @@ module _ (s : Setting) (typed : ℕ → TypeTree → Type 0) where
         (loop_run s run (Some e) skip (exec s run b caught) ls left) (exec s run k caught) (grows_same ps)
         (looped_runs r loop ps true (loop_run s run (Some e) skip (exec s run b caught) ls left)
         (loop_comes r ps (Some e) skip (exec s run b caught) (reaches_end b) (reaches_break b) ls left f h.0 (λ ls left f. f)
-        (λ ls left f. scope_comes r true ps (ps ++ declared_in b) (reaches_end b) (reaches_break b) (exec s run b caught) ls left (grows_by ps (declared_in b)) f (exec_good b r true caught ps ls left h.1 f))))
+        (λ ls left f. scope_comes r true ps (ps ++ declared_in b) (reaches_end b) (reaches_break b) (exec s run b caught) ls left (grows_by ps (declared_in b)) f
+        (exec_good b r true caught ps ls left h.1 f))))
         (λ ls left f. exec_good k r loop caught ps ls left h.2 f)
         (λ b. let e = b in absurd (cc)) (λ p q. q) (λ p c. c)
     exec_good (ForStmt at i e t b k) r loop caught ps ls left h f =
         let mid = ps ++ declared_in i in
-        then_runs r loop ps ps (ps ++ declared_in k) (is_there e || reaches_break b) false (reaches_end k) (reaches_break k) ((is_there e || reaches_break b) && reaches_end k) ((is_there e || reaches_break b) && reaches_break k)
+        then_runs r loop ps ps (ps ++ declared_in k) (is_there e || reaches_break b) false (reaches_end k) (reaches_break k) ((is_there e || reaches_break b) && reaches_end k)
+        ((is_there e || reaches_break b) && reaches_break k)
         (scope (for_run s run (exec s run i caught) e (exec s run t caught) (exec s run b caught)) ls left) (exec s run k caught) (grows_same ps)
         (for_comes r loop ps mid e (exec s run i caught) (exec s run t caught) (exec s run b caught) (reaches_end b) (reaches_break b) ls left (grows_by ps (declared_in i)) f
         (inside_for r ps mid (reaches_end i) (reaches_break i) (exec s run i caught ls left) (exec_good i r false caught ps ls left h.0 f)) h.1
         (λ ls left f. inside_for r mid mid (reaches_end t) (reaches_break t) (exec s run t caught ls left)
         (subst (λ qs. Runs r false mid qs (reaches_end t) (reaches_break t) (exec s run t caught ls left)) (ap (λ l. mid ++ l) h.3 ∙ append-nil mid) (exec_good t r false caught mid ls left h.2 f)))
-        (λ ls left f. scope_comes r true mid (mid ++ declared_in b) (reaches_end b) (reaches_break b) (exec s run b caught) ls left (grows_by mid (declared_in b)) f (exec_good b r true caught mid ls left h.4 f)))
+        (λ ls left f. scope_comes r true mid (mid ++ declared_in b) (reaches_end b) (reaches_break b) (exec s run b caught) ls left (grows_by mid (declared_in b)) f
+        (exec_good b r true caught mid ls left h.4 f)))
         (λ ls left f. exec_good k r loop caught ps ls left h.5 f)
         (λ b. let e = b in absurd (cc)) (both_true (is_there e || reaches_break b) (reaches_end k)) (both_true (is_there e || reaches_break b) (reaches_break k))
     exec_good (LoopStmt at b k) r loop caught ps ls left h f =
@@ -433,7 +461,8 @@ module _ (s : Setting) (typed : ℕ → TypeTree → Type 0) where
         (loop_run s run None skip (exec s run b caught) ls left) (exec s run k caught) (grows_same ps)
         (looped_runs r loop ps (reaches_break b) (loop_run s run None skip (exec s run b caught) ls left)
         (loop_comes r ps None skip (exec s run b caught) (reaches_end b) (reaches_break b) ls left f (tt {0}) (λ ls left f. f)
-        (λ ls left f. scope_comes r true ps (ps ++ declared_in b) (reaches_end b) (reaches_break b) (exec s run b caught) ls left (grows_by ps (declared_in b)) f (exec_good b r true caught ps ls left h.0 f))))
+        (λ ls left f. scope_comes r true ps (ps ++ declared_in b) (reaches_end b) (reaches_break b) (exec s run b caught) ls left (grows_by ps (declared_in b)) f
+        (exec_good b r true caught ps ls left h.0 f))))
         (λ ls left f. exec_good k r loop caught ps ls left h.1 f)
         (λ b. let e = b in absurd (cc)) (both_true (reaches_break b) (reaches_end k)) (both_true (reaches_break b) (reaches_break k))
     exec_good (BreakStmt at k) r loop caught ps ls left h f = (h.0, refl, extends_same ps ls f)
@@ -446,28 +475,37 @@ module _ (s : Setting) (typed : ℕ → TypeTree → Type 0) where
         (throw_runs r loop caught ps ls e left f h.0) (λ ls left f. exec_good k r loop caught ps ls left h.1 f) (λ b. b) (λ p q. p) (λ p c. p)
     exec_good (TryStmt at b q x g k) r loop caught ps ls left h f =
         let more = ps ++ record { ty = ErrorType; name = x } ∷ [] in
-        then_runs r loop ps ps (ps ++ declared_in k) (reaches_end b || reaches_end g) (reaches_break b || (has_statement b && reaches_break g)) (reaches_end k) (reaches_break k) ((reaches_end b || reaches_end g) && reaches_end k)
+        then_runs r loop ps ps (ps ++ declared_in k) (reaches_end b || reaches_end g) (reaches_break b || (has_statement b && reaches_break g)) (reaches_end k) (reaches_break k)
+        ((reaches_end b || reaches_end g) && reaches_end k)
         (reaches_break b || (has_statement b && reaches_break g) || ((reaches_end b || reaches_end g) && reaches_break k))
         (try_run (exec s run b caught) x.name (exec s run g (Some x.name)) ls left) (exec s run k caught) (grows_same ps)
-        (scoped_runs r loop ps (reaches_end b || reaches_end g) (reaches_break b || (has_statement b && reaches_break g)) (reaches_end b || reaches_end g) (reaches_break b || (has_statement b && reaches_break g))
+        (scoped_runs r loop ps (reaches_end b || reaches_end g) (reaches_break b || (has_statement b && reaches_break g)) (reaches_end b || reaches_end g)
+        (reaches_break b || (has_statement b && reaches_break g))
         (try_run (exec s run b caught) x.name (exec s run g (Some x.name)) ls left) (λ e. e) (λ e. e)
         (try_comes r loop ps b caught x (exec s run g (Some x.name)) (reaches_end g) (reaches_break g) ls left f
         (scope_comes r loop ps (ps ++ declared_in b) (reaches_end b) (reaches_break b) (exec s run b caught) ls left (grows_by ps (declared_in b)) f (exec_good b r loop caught ps ls left h.0 f))
-        (handled_comes r loop ps (more ++ declared_in g) x (reaches_end g) (reaches_break g) (exec s run g (Some x.name)) (grows_by more (declared_in g)) (λ ls left f. exec_good g r loop (Some x.name) more ls left h.1 f))))
+        (handled_comes r loop ps (more ++ declared_in g) x (reaches_end g) (reaches_break g) (exec s run g (Some x.name)) (grows_by more (declared_in g))
+        (λ ls left f. exec_good g r loop (Some x.name) more ls left h.1 f))))
         (λ ls left f. exec_good k r loop caught ps ls left h.2 f)
         (first_true (reaches_break b || (has_statement b && reaches_break g)) ((reaches_end b || reaches_end g) && reaches_break k)) (both_true (reaches_end b || reaches_end g) (reaches_end k))
-        (λ p q. second_true (reaches_break b || (has_statement b && reaches_break g)) ((reaches_end b || reaches_end g) && reaches_break k) (both_true (reaches_end b || reaches_end g) (reaches_break k) p q))
+        (λ p q. second_true (reaches_break b || (has_statement b && reaches_break g)) ((reaches_end b || reaches_end g) && reaches_break k)
+        (both_true (reaches_end b || reaches_end g) (reaches_break k) p q))
     exec_good (ChooseStmt at bs k) r loop caught ps ls left h f = absurd h
     exec_good (DeclareStmt at i e k) r loop caught ps ls left h f =
-        subst (λ qs. Runs r loop ps qs (reaches_end k) (reaches_break k) (after (declare_run s run i e ls left) (exec s run k caught))) (append_assoc ps (record { ty = i.ty; name = i.name } ∷ []) (declared_in k))
-        (then_runs r loop ps (ps ++ record { ty = i.ty; name = i.name } ∷ []) ((ps ++ record { ty = i.ty; name = i.name } ∷ []) ++ declared_in k) true false (reaches_end k) (reaches_break k) (reaches_end k) (reaches_break k)
+        subst (λ qs. Runs r loop ps qs (reaches_end k) (reaches_break k) (after (declare_run s run i e ls left) (exec s run k caught)))
+        (append_assoc ps (record { ty = i.ty; name = i.name } ∷ []) (declared_in k))
+        (then_runs r loop ps (ps ++ record { ty = i.ty; name = i.name } ∷ []) ((ps ++ record { ty = i.ty; name = i.name } ∷ []) ++ declared_in k) true false (reaches_end k) (reaches_break k)
+        (reaches_end k) (reaches_break k)
         (declare_run s run i e ls left) (exec s run k caught) (grows_by ps (record { ty = i.ty; name = i.name } ∷ []))
-        (declare_runs r loop ps ls i e left f h.0) (λ ls left f. exec_good k r loop caught (ps ++ record { ty = i.ty; name = i.name } ∷ []) ls left h.1 f) (λ b. let e = b in absurd (cc)) (λ p q. q) (λ p c. c))
+        (declare_runs r loop ps ls i e left f h.0) (λ ls left f. exec_good k r loop caught (ps ++ record { ty = i.ty; name = i.name } ∷ []) ls left h.1 f) (λ b. let e = b in absurd (cc)) (λ p q. q)
+        (λ p c. c))
     exec_good (AssignStmt at xs e k) r loop caught ps ls left h f =
-        then_runs r loop ps ps (ps ++ declared_in k) true false (reaches_end k) (reaches_break k) (reaches_end k) (reaches_break k) (assign_run s run xs e ls left) (exec s run k caught) (grows_same ps)
+        then_runs r loop ps ps (ps ++ declared_in k) true false (reaches_end k) (reaches_break k) (reaches_end k) (reaches_break k) (assign_run s run xs e ls left) (exec s run k caught)
+        (grows_same ps)
         (assign_runs r loop ps ls xs e h.0.0 left f h.0.1 h.0.2) (λ ls left f. exec_good k r loop caught ps ls left h.1 f) (λ b. let e = b in absurd (cc)) (λ p q. q) (λ p c. c)
     exec_good (ModifyStmt at xs c k) r loop caught ps ls left h f =
-        then_runs r loop ps ps (ps ++ declared_in k) true false (reaches_end k) (reaches_break k) (reaches_end k) (reaches_break k) (modify_run s run xs c ls left) (exec s run k caught) (grows_same ps)
+        then_runs r loop ps ps (ps ++ declared_in k) true false (reaches_end k) (reaches_break k) (reaches_end k) (reaches_break k) (modify_run s run xs c ls left) (exec s run k caught)
+        (grows_same ps)
         (modify_runs r loop ps ls xs c h.0.0 left f h.0.1 h.0.2) (λ ls left f. exec_good k r loop caught ps ls left h.1 f) (λ b. let e = b in absurd (cc)) (λ p q. q) (λ p c. c)
     exec_good (CallStmt at xs es k) r loop caught ps ls left h f =
         then_runs r loop ps ps (ps ++ declared_in k) true false (reaches_end k) (reaches_break k) (reaches_end k) (reaches_break k) (call_run s run xs es ls left) (exec s run k caught) (grows_same ps)

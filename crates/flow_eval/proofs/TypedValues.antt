@@ -125,8 +125,12 @@ declared_field_at rs n r s x t (Some q) is er es e =
     let p = param_type (param_named q.fields x) t e in
     let at = first_there (λ (p : ParamTree). bytes_eq p.name.name x) q.fields p.0 p.1 in
     let place : field_place rs (Declared there.0) x ≡ Some at.0 = place_in_at rs there.0 q x there.2 ∙ at.1 in
-    let type : slice_get (param_types q.fields) at.0 ≡ Some t = slice_map (λ (p : ParamTree). p.ty) q.fields at.0 p.0 at.2 ∙ ap Some p.2 in
-    (at.0, subst (λ r. field_place rs r x ≡ Some at.0) one place, subst (λ (s : Signature). slice_get s.params at.0 ≡ Some t) (some_same (record { params = param_types q.fields; gives = NamedType n }) s es) type)
+    let type : slice_get (param_types q.fields) at.0 ≡ Some t = slice_map (λ (p : ParamTree). p.ty) q.fields at.0 p.0 at.2 ∙ ap Some p.2 in (
+      at.0,
+      subst (λ r. field_place rs r x ≡ Some at.0) one place,
+      subst (λ (s : Signature). slice_get s.params at.0 ≡ Some t)
+          (some_same (record { params = param_types q.fields; gives = NamedType n }) s es) type,
+    )
 
 field_by : (b : Bool) (rs : List RecordTree) (n : List ℕ) (r : RecordId) (s : Signature) (x : List ℕ) (t : TypeTree)
     → (if b then Some Packet else option_map Declared (position (λ (q : RecordTree). bytes_eq q.name.name n) rs)) ≡ Some r

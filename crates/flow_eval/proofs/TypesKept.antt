@@ -10,9 +10,11 @@ use Rattle.flow_eval.specs.WellTyped.{cell_typed, Safe, HasMeaning, CallAt, Well
 use Rattle.flow_eval.proofs.TypedExprs.{eval_good}
 use Rattle.flow_eval.proofs.TypedStatements.{function_good, runner_good}
 
-expression_safe : (s : Setting) (look : List ℕ → Option ValueTree) (e : ExprTree) (w : WellTyped s look e) (left : ℕ) → Safe (λ v. HasType s.records (cell_typed w.cell_types) v w.type) (Eval s look e left)
+expression_safe : (s : Setting) (look : List ℕ → Option ValueTree) (e : ExprTree) (w : WellTyped s look e) (left : ℕ)
+    → Safe (λ v. HasType s.records (cell_typed w.cell_types) v w.type) (Eval s look e left)
 expression_safe s look e w left =
-    eval_good s (cell_typed w.cell_types) w.actors (run_function s deepest) w.vars look w.variables_fit w.cells_fit (runner_good s (cell_typed w.cell_types) w.actors w.cells_fit w.functions_fit deepest) e w.type left w.yields.0 w.yields.1
+    eval_good s (cell_typed w.cell_types) w.actors (run_function s deepest) w.vars look w.variables_fit w.cells_fit
+    (runner_good s (cell_typed w.cell_types) w.actors w.cells_fit w.functions_fit deepest) e w.type left w.yields.0 w.yields.1
 
 call_safe : (s : Setting) (k : ℕ) (vs : List ValueTree) (w : WellTypedCall s k vs) (left : ℕ) → Safe (λ v. HasType s.records (cell_typed w.cell_types) v w.called.returns) (CallAt s k vs left)
 call_safe s k vs w left =

@@ -116,7 +116,8 @@ module _ (s : Setting) (run : Runner) where
     eval look (CallExpr f xs) left = then (eval_all look xs left) (λ vs left. called (named call_names f.name) f.name vs left)
     eval look (FieldExpr e x) left = then (eval look e left) (λ v left. at_once (field_answer (field s.records v x.name)) left)
     eval look (MethodExpr e m xs) left =
-        then (eval look e left) (λ v left. then (eval_all look xs left) (λ vs left. at_once (method_called s.cells (named method_names m.name) v vs) left))
+        then (eval look e left) (λ v left. then (eval_all look xs left)
+        (λ vs left. at_once (method_called s.cells (named method_names m.name) v vs) left))
     eval look (NotExpr e) left = then (eval look e left) (λ v left. at_once (inverted v) left)
     eval look (NegExpr e) left = then (eval look e left) (λ v left. at_once (negated v) left)
     eval look (BinaryExpr op a b) left = then (eval look a left) (λ v left. second op v (eval look b) left)

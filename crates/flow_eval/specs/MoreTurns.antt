@@ -20,7 +20,8 @@ Later k r s = (s ≡ plus k r) ⊎ (r ≡ Spent)
 
 -- with more turns an expression, arguments and a call come to the same, or they ran out of turns before
 pub record MoreTurns : Type 0 where
-  pub value : (k : ℕ) (s : Setting) (look : List ℕ → Option ValueTree) (e : ExprTree) (left : ℕ) → Later k (Eval s look e left) (Eval s look e (left + k))
+  pub value : (k : ℕ) (s : Setting) (look : List ℕ → Option ValueTree) (e : ExprTree) (left : ℕ)
+      → Later k (Eval s look e left) (Eval s look e (left + k))
   pub values : (k : ℕ) (s : Setting) (look : List ℕ → Option ValueTree) (es : ExprTrees) (left : ℕ)
       → Later k (eval_all s (run_function s deepest) look es left) (eval_all s (run_function s deepest) look es (left + k))
   pub call : (k : ℕ) (s : Setting) (f : RoutineTree) (vs : List ValueTree) (left : ℕ) → Later k (Call s f vs left) (Call s f vs (left + k))

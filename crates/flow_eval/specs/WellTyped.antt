@@ -54,5 +54,7 @@ pub record WellTypedCall (s : Setting) (k : ℕ) (vs : List ValueTree) : Type 0 
 
 -- a well-typed expression always means something, and its value has its type; so does a call
 pub record KeepsTypes : Type 0 where
-  pub of_expressions : (s : Setting) (look : List ℕ → Option ValueTree) (e : ExprTree) (w : WellTyped s look e) (left : ℕ) → Safe (λ v. HasType s.records (cell_typed w.cell_types) v w.type) (Eval s look e left)
-  pub of_calls : (s : Setting) (k : ℕ) (vs : List ValueTree) (w : WellTypedCall s k vs) (left : ℕ) → Safe (λ v. HasType s.records (cell_typed w.cell_types) v w.called.returns) (CallAt s k vs left)
+  pub of_expressions : (s : Setting) (look : List ℕ → Option ValueTree) (e : ExprTree) (w : WellTyped s look e) (left : ℕ)
+      → Safe (λ v. HasType s.records (cell_typed w.cell_types) v w.type) (Eval s look e left)
+  pub of_calls : (s : Setting) (k : ℕ) (vs : List ValueTree) (w : WellTypedCall s k vs) (left : ℕ)
+      → Safe (λ v. HasType s.records (cell_typed w.cell_types) v w.called.returns) (CallAt s k vs left)

@@ -222,27 +222,32 @@ mutual
   reads (variable x) K rest b f = refl
   reads (call h p q args r e) K rest b f =
       let c = sign_spot sign.CloseRound q in
-      let flat : spots_of (args ++ sign_at sign.CloseRound q ∷ []) ++ rest ≡ spots_of args ++ (c ∷ rest) = ap (λ z. z ++ rest) (spots_append args (sign_at sign.CloseRound q ∷ [])) ∙ append_assoc (spots_of args) (c ∷ []) rest in
+      let flat : spots_of (args ++ sign_at sign.CloseRound q ∷ []) ++ rest ≡ spots_of args ++ (c ∷ rest) =
+      ap (λ z. z ++ rest) (spots_append args (sign_at sign.CloseRound q ∷ [])) ∙ append_assoc (spots_of args) (c ∷ []) rest in
       ap (λ z. settle (feed (Want K) (spots_of z ++ rest))) e
       ∙ ap (λ z. settle (feed (WantArgs (Function h) K) z)) flat
       ∙ reads_args r (Function h) K q rest
   reads (paren p q of r e) K rest b f =
       let c = sign_spot sign.CloseRound q in
-      let flat : spots_of (of ++ sign_at sign.CloseRound q ∷ []) ++ rest ≡ spots_of of ++ (c ∷ rest) = ap (λ z. z ++ rest) (spots_append of (sign_at sign.CloseRound q ∷ [])) ∙ append_assoc (spots_of of) (c ∷ []) rest in
+      let flat : spots_of (of ++ sign_at sign.CloseRound q ∷ []) ++ rest ≡ spots_of of ++ (c ∷ rest) =
+      ap (λ z. z ++ rest) (spots_append of (sign_at sign.CloseRound q ∷ [])) ∙ append_assoc (spots_of of) (c ∷ []) rest in
       ap (λ z. settle (feed (Want K) (spots_of z ++ rest))) e
       ∙ ap (λ z. settle (feed (Want (InParen K)) z)) flat
       ∙ reads r (InParen K) (c ∷ rest) tt (tt, tt)
   reads {n} {d} (field p x of r e) K rest b f =
       let l = sign_at sign.Dot p ∷ name_at x ∷ [] in
-      let flat : spots_of (begin (Node d) of ++ l) ++ rest ≡ spots_of of ++ (spots_of l ++ rest) = ap (λ z. z ++ rest) (spots_append (begin (Node d) of) l ∙ ap (λ z. z ++ spots_of l) (spots_begin (Node d) of)) ∙ append_assoc (spots_of of) (spots_of l) rest in
+      let flat : spots_of (begin (Node d) of ++ l) ++ rest ≡ spots_of of ++ (spots_of l ++ rest) =
+      ap (λ z. z ++ rest) (spots_append (begin (Node d) of) l ∙ ap (λ z. z ++ spots_of l) (spots_begin (Node d) of)) ∙ append_assoc (spots_of of) (spots_of l) rest in
       ap (λ z. settle (feed (Want K) (spots_of z ++ rest))) e
       ∙ ap (λ z. settle (feed (Want K) z)) flat
       ∙ reads r K (spots_of l ++ rest) (below_seven K) (tt, omega arith)
   reads {n} {d} (method {t = u} p q s h of args r a e) K rest b f =
       let c = sign_spot sign.CloseRound s in
       let l = sign_at sign.Dot p ∷ name_at h ∷ sign_at sign.OpenRound q ∷ (args ++ sign_at sign.CloseRound s ∷ []) in
-      let flat : spots_of (begin (Node d) of ++ l) ++ rest ≡ spots_of of ++ (spots_of l ++ rest) = ap (λ z. z ++ rest) (spots_append (begin (Node d) of) l ∙ ap (λ z. z ++ spots_of l) (spots_begin (Node d) of)) ∙ append_assoc (spots_of of) (spots_of l) rest in
-      let flat2 : spots_of (args ++ sign_at sign.CloseRound s ∷ []) ++ rest ≡ spots_of args ++ (c ∷ rest) = ap (λ z. z ++ rest) (spots_append args (sign_at sign.CloseRound s ∷ [])) ∙ append_assoc (spots_of args) (c ∷ []) rest in
+      let flat : spots_of (begin (Node d) of ++ l) ++ rest ≡ spots_of of ++ (spots_of l ++ rest) =
+      ap (λ z. z ++ rest) (spots_append (begin (Node d) of) l ∙ ap (λ z. z ++ spots_of l) (spots_begin (Node d) of)) ∙ append_assoc (spots_of of) (spots_of l) rest in
+      let flat2 : spots_of (args ++ sign_at sign.CloseRound s ∷ []) ++ rest ≡ spots_of args ++ (c ∷ rest) =
+      ap (λ z. z ++ rest) (spots_append args (sign_at sign.CloseRound s ∷ [])) ∙ append_assoc (spots_of args) (c ∷ []) rest in
       ap (λ z. settle (feed (Want K) (spots_of z ++ rest))) e
       ∙ ap (λ z. settle (feed (Want K) z)) flat
       ∙ reads r K (spots_of l ++ rest) (below_seven K) (tt, omega arith)
@@ -258,7 +263,8 @@ mutual
       ∙ unary_same Minus t K rest (first_stops n 7 t rest (omega arith) f)
   reads {n} {d} (binary {a = x} {b = y} op p left right le r s e) K rest b f =
       let l = sign_at (op_sign op) p ∷ right in
-      let flat : spots_of (begin (Node d) left ++ l) ++ rest ≡ spots_of left ++ (spots_of l ++ rest) = ap (λ z. z ++ rest) (spots_append (begin (Node d) left) l ∙ ap (λ z. z ++ spots_of l) (spots_begin (Node d) left)) ∙ append_assoc (spots_of left) (spots_of l) rest in
+      let flat : spots_of (begin (Node d) left ++ l) ++ rest ≡ spots_of left ++ (spots_of l ++ rest) =
+      ap (λ z. z ++ rest) (spots_append (begin (Node d) left) l ∙ ap (λ z. z ++ spots_of l) (spots_begin (Node d) left)) ∙ append_assoc (spots_of left) (spots_of l) rest in
       let b' = below_more n (level op) K b le in
       ap (λ z. settle (feed (Want K) (spots_of z ++ rest))) e
       ∙ ap (λ z. settle (feed (Want K) z)) flat
@@ -267,7 +273,8 @@ mutual
       ∙ reads s (InTwo op x K) rest (omega arith) (follows_more n (suc (level op)) rest (omega arith) f)
       ∙ two_same op x y K rest (first_stops n (suc (level op)) y rest (omega arith) f)
 
-  pub reads_args : {d : ℕ} {xs : List Marked} {ts : ExprTrees} → ArgsRule d xs ts → (h : Head) (K : Stack) (q : Place) (rest : List Spot) → Same (WantArgs h K) (spots_of xs ++ (sign_spot sign.CloseRound q ∷ rest)) (Have (called h ts) K) rest
+  pub reads_args : {d : ℕ} {xs : List Marked} {ts : ExprTrees} → ArgsRule d xs ts → (h : Head) (K : Stack) (q : Place) (rest : List Spot)
+      → Same (WantArgs h K) (spots_of xs ++ (sign_spot sign.CloseRound q ∷ rest)) (Have (called h ts) K) rest
   reads_args no_args h K q rest = refl
   reads_args (some_args {t = t} first more r m e) h K q rest =
       let c = sign_spot sign.CloseRound q ∷ rest in

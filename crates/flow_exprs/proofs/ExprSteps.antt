@@ -82,15 +82,18 @@ module _ (spots : List Spot) where
   one : (i : ℕ) (S : State) (x : Spot) → slice_get spots i ≡ Some x → run i S (drop i spots) ≡ turn i S (step S x) (run (i + 1) (step S x) (drop (i + 1) spots))
   one i S x h = ap (λ z. run i S z) (drop_some spots i x h) ∙ ap (λ n. turn i S (step S x) (run n (step S x) (drop (i + 1) spots))) (sym (add-one i))
 
-  one_kind : (i : ℕ) (S : State) (k : Kind) → kind_at spots i ≡ Some k → (x : Spot) × (slice_get spots i ≡ Some x) × (run i S (drop i spots) ≡ turn i S (step_kind S k x) (run (i + 1) (step_kind S k x) (drop (i + 1) spots)))
+  one_kind : (i : ℕ) (S : State) (k : Kind) → kind_at spots i ≡ Some k
+      → (x : Spot) × (slice_get spots i ≡ Some x) × (run i S (drop i spots) ≡ turn i S (step_kind S k x) (run (i + 1) (step_kind S k x) (drop (i + 1) spots)))
   one_kind i S k h =
       let r = here spots i k h in
       (r.spot, r.is, one i S r.spot r.is ∙ ap (λ q. turn i S (step_kind S q r.spot) (run (i + 1) (step_kind S q r.spot) (drop (i + 1) spots))) r.kind_is)
 
-  go : (i : ℕ) (S T : State) (k : Kind) → kind_at spots i ≡ Some k → ((x : Spot) → slice_get spots i ≡ Some x → step_kind S k x ≡ T) → Alive T → fits T ≡ true → run i S (drop i spots) ≡ run (i + 1) T (drop (i + 1) spots)
+  go : (i : ℕ) (S T : State) (k : Kind) → kind_at spots i ≡ Some k → ((x : Spot) → slice_get spots i ≡ Some x → step_kind S k x ≡ T) → Alive T → fits T ≡ true
+      → run i S (drop i spots) ≡ run (i + 1) T (drop (i + 1) spots)
   go i S T k h t a f =
       let r = one_kind i S k h in
-      r.2 ∙ ap (λ Q. turn i S Q (run (i + 1) Q (drop (i + 1) spots))) (t r.0 r.1) ∙ turn_alive i S T (run (i + 1) T (drop (i + 1) spots)) a ∙ ap (λ b. cond b (run (i + 1) T (drop (i + 1) spots)) (DeepAt i)) f
+      r.2 ∙ ap (λ Q. turn i S Q (run (i + 1) Q (drop (i + 1) spots))) (t r.0 r.1) ∙ turn_alive i S T (run (i + 1) T (drop (i + 1) spots)) a
+      ∙ ap (λ b. cond b (run (i + 1) T (drop (i + 1) spots)) (DeepAt i)) f
 
   deep : (i : ℕ) (S : State) (k : Kind) → kind_at spots i ≡ Some k → ((x : Spot) → Alive (step_kind S k x) × (fits (step_kind S k x) ≡ false)) → run i S (drop i spots) ≡ DeepAt i
   deep i S k h t =
@@ -255,7 +258,8 @@ module _ (spots : List Spot) where
         within = omega (arith, kind_within i kind.Leaf h);
         high_is = sym s.1;
         fits_in = omega arith;
-        comes = λ K f. go i (Want K) (Have t K) kind.Leaf h (λ x e. ap (λ w. Have w K) (leaf_same x.token t (leaf_is i t x l e)).0) tt (and_true (hole K + height t) 65 (fits_stack K) (omega (arith, f.depth_is, s.1)) f.fits_is);
+        comes = λ K f. go i (Want K) (Have t K) kind.Leaf h (λ x e. ap (λ w. Have w K) (leaf_same x.token t (leaf_is i t x l e)).0) tt
+            (and_true (hole K + height t) 65 (fits_stack K) (omega (arith, f.depth_is, s.1)) f.fits_is);
         stops = stops_eight t (kind_at spots (i + 1)) (λ e. s.2);
       }
 
@@ -323,7 +327,8 @@ module _ (spots : List Spot) where
       go i (Want K) (WantOpen K) kind.Void a (λ x e. refl) tt (and_true (hole K) 64 (fits_stack K) (omega (arith, f.depth_is)) f.fits_is)
       ∙ stuck (i + 1) (WantOpen K) (λ k x e. open_only K k x (not_kind (i + 1) kind.Open k b e))
 
-  pub void_no_close : (i d : ℕ) → kind_at spots i ≡ Some kind.Void → kind_at spots (i + 1) ≡ Some kind.Open → (kind_at spots (i + 2) ≡ Some kind.Close → ⊥) → d ≤ 64 → Refuses spots i 6 d (Short (i + 2))
+  pub void_no_close : (i d : ℕ) → kind_at spots i ≡ Some kind.Void → kind_at spots (i + 1) ≡ Some kind.Open → (kind_at spots (i + 2) ≡ Some kind.Close → ⊥) → d ≤ 64
+      → Refuses spots i 6 d (Short (i + 2))
   void_no_close i d a b c le K f =
       let e1 : i + 1 + 1 ≡ i + 2 = omega arith in
       go i (Want K) (WantOpen K) kind.Void a (λ x e. refl) tt (and_true (hole K) 64 (fits_stack K) (omega (arith, f.depth_is)) f.fits_is)
@@ -374,8 +379,10 @@ module _ (spots : List Spot) where
   pub no_name : (i : ℕ) → ident_at spots i ≡ None → kind_at spots i ≡ Some kind.Name → ⊥
   no_name i h k = let r = here spots i kind.Name k in token_no_name r.spot.token r.spot.at (sym (ap ident_in r.is) ∙ h) r.kind_is
 
-  name_comes : (i d : ℕ) (v : Ident) (K : Stack) → ident_at spots i ≡ Some v → d ≤ 64 → hole K ≡ d → fits_stack K ≡ true → run i (Want K) (drop i spots) ≡ run (i + 1) (Have (VarExpr v) K) (drop (i + 1) spots)
-  name_comes i d v K h le hd fs = go i (Want K) (Have (VarExpr v) K) kind.Name (name_kind i v h) (λ x e. ap (λ w. Have (VarExpr w) K) (ident_is i v x h e)) tt (and_true (hole K + 1) 65 (fits_stack K) (omega arith) fs)
+  name_comes : (i d : ℕ) (v : Ident) (K : Stack) → ident_at spots i ≡ Some v → d ≤ 64 → hole K ≡ d → fits_stack K ≡ true
+      → run i (Want K) (drop i spots) ≡ run (i + 1) (Have (VarExpr v) K) (drop (i + 1) spots)
+  name_comes i d v K h le hd fs = go i (Want K) (Have (VarExpr v) K) kind.Name (name_kind i v h) (λ x e. ap (λ w. Have (VarExpr w) K) (ident_is i v x h e)) tt
+      (and_true (hole K + 1) 65 (fits_stack K) (omega arith) fs)
 
   pub name_reads : (i d : ℕ) (v : Ident) → ident_at spots i ≡ Some v → (kind_at spots (i + 1) ≡ Some kind.Open → ⊥) → d ≤ 64 → ReadsExpr spots i 6 d 8 (VarExpr v) 1 (i + 1)
   name_reads i d v h differs le = record {
@@ -387,7 +394,8 @@ module _ (spots : List Spot) where
     stops = stops_eight (VarExpr v) (kind_at spots (i + 1)) differs;
   }
 
-  call_comes : (i d : ℕ) (v : Ident) (K : Stack) → ident_at spots i ≡ Some v → kind_at spots (i + 1) ≡ Some kind.Open → d ≤ 64 → hole K ≡ d → fits_stack K ≡ true → run i (Want K) (drop i spots) ≡ run (i + 2) (WantArgs (Function v) K) (drop (i + 2) spots)
+  call_comes : (i d : ℕ) (v : Ident) (K : Stack) → ident_at spots i ≡ Some v → kind_at spots (i + 1) ≡ Some kind.Open → d ≤ 64 → hole K ≡ d → fits_stack K ≡ true
+      → run i (Want K) (drop i spots) ≡ run (i + 2) (WantArgs (Function v) K) (drop (i + 2) spots)
   call_comes i d v K h o le hd fs =
       let e1 : i + 1 + 1 ≡ i + 2 = omega arith in
       name_comes i d v K h le hd fs
@@ -397,7 +405,8 @@ module _ (spots : List Spot) where
   any_fit : (n m d : ℕ) (K : Stack) → m ≤ n → Fit m d K → Fit n d K
   any_fit n m d K le f = record { below = below_more m n K f.below le; depth_is = f.depth_is; fits_is = f.fits_is }
 
-  pub call_reads : (i d : ℕ) (v : Ident) (ts : ExprTrees) (high to : ℕ) → ident_at spots i ≡ Some v → kind_at spots (i + 1) ≡ Some kind.Open → d ≤ 64 → ReadsArgs spots (i + 2) d ts high to → ReadsExpr spots i 6 d 8 (CallExpr v ts) (high + 1) to
+  pub call_reads : (i d : ℕ) (v : Ident) (ts : ExprTrees) (high to : ℕ) → ident_at spots i ≡ Some v → kind_at spots (i + 1) ≡ Some kind.Open → d ≤ 64 → ReadsArgs spots (i + 2) d ts high to
+      → ReadsExpr spots i 6 d 8 (CallExpr v ts) (high + 1) to
   call_reads i d v ts high to h o le r = record {
     after = omega (arith, r.after);
     within = r.within;
@@ -408,28 +417,33 @@ module _ (spots : List Spot) where
   }
 
   pub call_refused : (i d : ℕ) (v : Ident) (s : Stop) → ident_at spots i ≡ Some v → kind_at spots (i + 1) ≡ Some kind.Open → d ≤ 64 → RefusesArgs spots (i + 2) d s → Refuses spots i 6 d s
-  call_refused i d v s h o le r K f = ends_is (run i (Want K) (drop i spots)) (run (i + 2) (WantArgs (Function v) K) (drop (i + 2) spots)) s (call_comes i d v K h o le f.depth_is f.fits_is) (r (Function v) K (any_fit 7 6 d K (omega arith) f) (omega arith))
+  call_refused i d v s h o le r K f = ends_is (run i (Want K) (drop i spots)) (run (i + 2) (WantArgs (Function v) K) (drop (i + 2) spots)) s (call_comes i d v K h o le f.depth_is f.fits_is)
+      (r (Function v) K (any_fit 7 6 d K (omega arith) f) (omega arith))
 
   -- brackets
-  bracket_comes : (i d : ℕ) (K : Stack) → kind_at spots i ≡ Some kind.Open → d ≤ 64 → hole K ≡ d → fits_stack K ≡ true → run i (Want K) (drop i spots) ≡ run (i + 1) (Want (InParen K)) (drop (i + 1) spots)
+  bracket_comes : (i d : ℕ) (K : Stack) → kind_at spots i ≡ Some kind.Open → d ≤ 64 → hole K ≡ d → fits_stack K ≡ true
+      → run i (Want K) (drop i spots) ≡ run (i + 1) (Want (InParen K)) (drop (i + 1) spots)
   bracket_comes i d K h le hd fs = go i (Want K) (Want (InParen K)) kind.Open h (λ x e. refl) tt (and_true (hole K) 64 (fits_stack K) (omega arith) fs)
 
   paren_fit : (d : ℕ) (K : Stack) → d ≤ 64 → hole K ≡ d → fits_stack K ≡ true → Fit 0 (d + 1) (InParen K)
   paren_fit d K le hd fs = record { below = tt; depth_is = omega arith; fits_is = and_true (hole K) 64 (fits_stack K) (omega arith) fs }
 
-  pub bracket_reads : (i d : ℕ) (t : ExprTree) (high to : ℕ) → kind_at spots i ≡ Some kind.Open → d ≤ 64 → ReadsExpr spots (i + 1) 0 (d + 1) 0 t high to → kind_at spots to ≡ Some kind.Close → ReadsExpr spots i 6 d 8 (ParenExpr t) (high + 1) (to + 1)
+  pub bracket_reads : (i d : ℕ) (t : ExprTree) (high to : ℕ) → kind_at spots i ≡ Some kind.Open → d ≤ 64 → ReadsExpr spots (i + 1) 0 (d + 1) 0 t high to → kind_at spots to ≡ Some kind.Close
+      → ReadsExpr spots i 6 d 8 (ParenExpr t) (high + 1) (to + 1)
   bracket_reads i d t high to h le r c = record {
     after = omega (arith, r.after);
     within = omega (arith, kind_within to kind.Close c);
     high_is = omega (arith, r.high_is);
     fits_in = omega (arith, r.fits_in);
     comes = λ K f. bracket_comes i d K h le f.depth_is f.fits_is ∙ r.comes (InParen K) (paren_fit d K le f.depth_is f.fits_is)
-        ∙ go to (Have t (InParen K)) (Have (ParenExpr t) K) kind.Close c (λ x e. refl) tt (and_true (hole K + suc (height t)) 65 (fits_stack K) (omega (arith, r.high_is, r.fits_in, f.depth_is)) f.fits_is);
+        ∙ go to (Have t (InParen K)) (Have (ParenExpr t) K) kind.Close c (λ x e. refl) tt
+        (and_true (hole K + suc (height t)) 65 (fits_stack K) (omega (arith, r.high_is, r.fits_in, f.depth_is)) f.fits_is);
     stops = stops_eight (ParenExpr t) (kind_at spots (to + 1)) (λ e. tt);
   }
 
   pub bracket_refused : (i d : ℕ) (s : Stop) → kind_at spots i ≡ Some kind.Open → d ≤ 64 → Refuses spots (i + 1) 0 (d + 1) s → Refuses spots i 6 d s
-  bracket_refused i d s h le r K f = ends_is (run i (Want K) (drop i spots)) (run (i + 1) (Want (InParen K)) (drop (i + 1) spots)) s (bracket_comes i d K h le f.depth_is f.fits_is) (r (InParen K) (paren_fit d K le f.depth_is f.fits_is))
+  bracket_refused i d s h le r K f = ends_is (run i (Want K) (drop i spots)) (run (i + 1) (Want (InParen K)) (drop (i + 1) spots)) s (bracket_comes i d K h le f.depth_is f.fits_is)
+      (r (InParen K) (paren_fit d K le f.depth_is f.fits_is))
 
   -- behind a whole expression only these go on
   base_stuck : (t : ExprTree) (K : Stack) (k : Kind) (x : Spot) → KindStops 0 t k → (k ≡ kind.Close → ⊥) → step_kind (Have t (InParen K)) k x ≡ Dead
@@ -442,19 +456,22 @@ module _ (spots : List Spot) where
   stops_at : (n : ℕ) (t : ExprTree) (i : ℕ) (k : Kind) → Stops n t (kind_at spots i) → kind_at spots i ≡ Some k → KindStops n t k
   stops_at n t i k s e = subst (Stops n t) e s
 
-  pub bracket_open : (i d : ℕ) (t : ExprTree) (high to : ℕ) → kind_at spots i ≡ Some kind.Open → d ≤ 64 → ReadsExpr spots (i + 1) 0 (d + 1) 0 t high to → (kind_at spots to ≡ Some kind.Close → ⊥) → Refuses spots i 6 d (Short to)
+  pub bracket_open : (i d : ℕ) (t : ExprTree) (high to : ℕ) → kind_at spots i ≡ Some kind.Open → d ≤ 64 → ReadsExpr spots (i + 1) 0 (d + 1) 0 t high to → (kind_at spots to ≡ Some kind.Close → ⊥)
+      → Refuses spots i 6 d (Short to)
   bracket_open i d t high to h le r c K f =
       bracket_comes i d K h le f.depth_is f.fits_is ∙ r.comes (InParen K) (paren_fit d K le f.depth_is f.fits_is)
       ∙ stuck to (Have t (InParen K)) (λ k x e. base_stuck t K k x (stops_at 0 t to k r.stops e) (not_kind to kind.Close k c e))
 
   -- a sign before an operand
-  unary_comes : (i d : ℕ) (u : Unary) (k : Kind) (K : Stack) → kind_at spots i ≡ Some k → ((x : Spot) → step_kind (Want K) k x ≡ Want (InUnary u K)) → d ≤ 64 → hole K ≡ d → fits_stack K ≡ true → run i (Want K) (drop i spots) ≡ run (i + 1) (Want (InUnary u K)) (drop (i + 1) spots)
+  unary_comes : (i d : ℕ) (u : Unary) (k : Kind) (K : Stack) → kind_at spots i ≡ Some k → ((x : Spot) → step_kind (Want K) k x ≡ Want (InUnary u K)) → d ≤ 64 → hole K ≡ d → fits_stack K ≡ true
+      → run i (Want K) (drop i spots) ≡ run (i + 1) (Want (InUnary u K)) (drop (i + 1) spots)
   unary_comes i d u k K h s le hd fs = go i (Want K) (Want (InUnary u K)) k h (λ x e. s x) tt (and_true (hole K) 64 (fits_stack K) (omega arith) fs)
 
   unary_fit : (d : ℕ) (u : Unary) (K : Stack) → d ≤ 64 → hole K ≡ d → fits_stack K ≡ true → Fit 6 (d + 1) (InUnary u K)
   unary_fit d u K le hd fs = record { below = omega arith; depth_is = omega arith; fits_is = and_true (hole K) 64 (fits_stack K) (omega arith) fs }
 
-  unary_ends : (j : ℕ) (u : Unary) (t : ExprTree) (K : Stack) (rest : List Spot) → Stops 7 t (option_map (λ s. kind_of s.token) (first rest)) → run j (Have t (InUnary u K)) rest ≡ run j (Have (unary u t) K) rest
+  unary_ends : (j : ℕ) (u : Unary) (t : ExprTree) (K : Stack) (rest : List Spot) → Stops 7 t (option_map (λ s. kind_of s.token) (first rest))
+      → run j (Have t (InUnary u K)) rest ≡ run j (Have (unary u t) K) rest
   unary_ends j u t K [] s = refl
   unary_ends j u t K (x ∷ xs) s = ap (λ Q. turn j (Have t (InUnary u K)) Q (run (suc j) Q xs)) (unary_step u t K (kind_of x.token) x s)
 
@@ -473,7 +490,8 @@ module _ (spots : List Spot) where
   stops_bare m t u None b s = tt
   stops_bare m t u (Some k) b s = kind_stops_more m m t u k (omega arith) (λ c. b) s
 
-  unary_reads : (i d : ℕ) (u : Unary) (k : Kind) (t : ExprTree) (high to : ℕ) → kind_at spots i ≡ Some k → ((K : Stack) (x : Spot) → step_kind (Want K) k x ≡ Want (InUnary u K)) → d ≤ 64 → ReadsExpr spots (i + 1) 6 (d + 1) 7 t high to → ReadsExpr spots i 6 d 7 (unary u t) (high + 1) to
+  unary_reads : (i d : ℕ) (u : Unary) (k : Kind) (t : ExprTree) (high to : ℕ) → kind_at spots i ≡ Some k → ((K : Stack) (x : Spot) → step_kind (Want K) k x ≡ Want (InUnary u K)) → d ≤ 64
+      → ReadsExpr spots (i + 1) 6 (d + 1) 7 t high to → ReadsExpr spots i 6 d 7 (unary u t) (high + 1) to
   unary_reads i d u k t high to h s le r = record {
     after = omega (arith, r.after);
     within = r.within;
@@ -487,33 +505,41 @@ module _ (spots : List Spot) where
   pub not_reads : (i d : ℕ) (t : ExprTree) (high to : ℕ) → kind_at spots i ≡ Some kind.Not → d ≤ 64 → ReadsExpr spots (i + 1) 6 (d + 1) 7 t high to → ReadsExpr spots i 6 d 7 (NotExpr t) (high + 1) to
   not_reads i d t high to h le r = unary_reads i d Negation kind.Not t high to h (λ K x. refl) le r
 
-  pub minus_reads : (i d : ℕ) (t : ExprTree) (high to : ℕ) → kind_at spots i ≡ Some (kind.Op Sub) → d ≤ 64 → ReadsExpr spots (i + 1) 6 (d + 1) 7 t high to → ReadsExpr spots i 6 d 7 (NegExpr t) (high + 1) to
+  pub minus_reads : (i d : ℕ) (t : ExprTree) (high to : ℕ) → kind_at spots i ≡ Some (kind.Op Sub) → d ≤ 64 → ReadsExpr spots (i + 1) 6 (d + 1) 7 t high to
+      → ReadsExpr spots i 6 d 7 (NegExpr t) (high + 1) to
   minus_reads i d t high to h le r = unary_reads i d Minus (kind.Op Sub) t high to h (λ K x. refl) le r
 
   pub not_refused : (i d : ℕ) (s : Stop) → kind_at spots i ≡ Some kind.Not → d ≤ 64 → Refuses spots (i + 1) 6 (d + 1) s → Refuses spots i 6 d s
-  not_refused i d s h le r K f = ends_is (run i (Want K) (drop i spots)) (run (i + 1) (Want (InUnary Negation K)) (drop (i + 1) spots)) s (unary_comes i d Negation kind.Not K h (λ x. refl) le f.depth_is f.fits_is) (r (InUnary Negation K) (unary_fit d Negation K le f.depth_is f.fits_is))
+  not_refused i d s h le r K f = ends_is (run i (Want K) (drop i spots)) (run (i + 1) (Want (InUnary Negation K)) (drop (i + 1) spots)) s
+      (unary_comes i d Negation kind.Not K h (λ x. refl) le f.depth_is f.fits_is) (r (InUnary Negation K) (unary_fit d Negation K le f.depth_is f.fits_is))
 
   pub minus_refused : (i d : ℕ) (s : Stop) → kind_at spots i ≡ Some (kind.Op Sub) → d ≤ 64 → Refuses spots (i + 1) 6 (d + 1) s → Refuses spots i 6 d s
-  minus_refused i d s h le r K f = ends_is (run i (Want K) (drop i spots)) (run (i + 1) (Want (InUnary Minus K)) (drop (i + 1) spots)) s (unary_comes i d Minus (kind.Op Sub) K h (λ x. refl) le f.depth_is f.fits_is) (r (InUnary Minus K) (unary_fit d Minus K le f.depth_is f.fits_is))
+  minus_refused i d s h le r K f = ends_is (run i (Want K) (drop i spots)) (run (i + 1) (Want (InUnary Minus K)) (drop (i + 1) spots)) s
+      (unary_comes i d Minus (kind.Op Sub) K h (λ x. refl) le f.depth_is f.fits_is) (r (InUnary Minus K) (unary_fit d Minus K le f.depth_is f.fits_is))
 
   -- a dot behind an expression
-  dot_comes : (j d : ℕ) (t : ExprTree) (K : Stack) → kind_at spots j ≡ Some kind.Dot → d + height t ≤ 64 → hole K ≡ d → fits_stack K ≡ true → run j (Have t K) (drop j spots) ≡ run (j + 1) (WantName t K) (drop (j + 1) spots)
+  dot_comes : (j d : ℕ) (t : ExprTree) (K : Stack) → kind_at spots j ≡ Some kind.Dot → d + height t ≤ 64 → hole K ≡ d → fits_stack K ≡ true
+      → run j (Have t K) (drop j spots) ≡ run (j + 1) (WantName t K) (drop (j + 1) spots)
   dot_comes j d t K h le hd fs = go j (Have t K) (WantName t K) kind.Dot h (λ x e. refl) tt (and_true (hole K + height t) 64 (fits_stack K) (omega arith) fs)
 
   pub dot_deep : (j d : ℕ) (t : ExprTree) (K : Stack) → kind_at spots j ≡ Some kind.Dot → 64 < d + height t → hole K ≡ d → run j (Have t K) (drop j spots) ≡ DeepAt j
   dot_deep j d t K h lt hd = deep j (Have t K) kind.Dot h (λ x. (tt, and_false (hole K + height t) 64 (fits_stack K) (omega arith)))
 
-  pub dot_short : (j d : ℕ) (t : ExprTree) (K : Stack) → kind_at spots j ≡ Some kind.Dot → d + height t ≤ 64 → hole K ≡ d → fits_stack K ≡ true → ident_at spots (j + 1) ≡ None → run j (Have t K) (drop j spots) ≡ ShortAt (j + 1)
+  pub dot_short : (j d : ℕ) (t : ExprTree) (K : Stack) → kind_at spots j ≡ Some kind.Dot → d + height t ≤ 64 → hole K ≡ d → fits_stack K ≡ true → ident_at spots (j + 1) ≡ None
+      → run j (Have t K) (drop j spots) ≡ ShortAt (j + 1)
   dot_short j d t K h le hd fs differs = dot_comes j d t K h le hd fs ∙ stuck (j + 1) (WantName t K) (λ k x e. name_only t K k x (not_kind (j + 1) kind.Name k (no_name (j + 1) differs) e))
 
-  field_comes : (j d : ℕ) (t : ExprTree) (v : Ident) (K : Stack) → kind_at spots j ≡ Some kind.Dot → d + height t ≤ 64 → ident_at spots (j + 1) ≡ Some v → hole K ≡ d → fits_stack K ≡ true → run j (Have t K) (drop j spots) ≡ run (j + 2) (Have (FieldExpr t v) K) (drop (j + 2) spots)
+  field_comes : (j d : ℕ) (t : ExprTree) (v : Ident) (K : Stack) → kind_at spots j ≡ Some kind.Dot → d + height t ≤ 64 → ident_at spots (j + 1) ≡ Some v → hole K ≡ d → fits_stack K ≡ true
+      → run j (Have t K) (drop j spots) ≡ run (j + 2) (Have (FieldExpr t v) K) (drop (j + 2) spots)
   field_comes j d t v K h le n hd fs =
       let e1 : j + 1 + 1 ≡ j + 2 = omega arith in
       dot_comes j d t K h le hd fs
-      ∙ go (j + 1) (WantName t K) (Have (FieldExpr t v) K) kind.Name (name_kind (j + 1) v n) (λ x e. ap (λ w. Have (FieldExpr t w) K) (ident_is (j + 1) v x n e)) tt (and_true (hole K + suc (height t)) 65 (fits_stack K) (omega arith) fs)
+      ∙ go (j + 1) (WantName t K) (Have (FieldExpr t v) K) kind.Name (name_kind (j + 1) v n) (λ x e. ap (λ w. Have (FieldExpr t w) K) (ident_is (j + 1) v x n e)) tt
+      (and_true (hole K + suc (height t)) 65 (fits_stack K) (omega arith) fs)
       ∙ ap (λ m. run m (Have (FieldExpr t v) K) (drop m spots)) e1
 
-  pub field_goes : (j d : ℕ) (t : ExprTree) (high : ℕ) (v : Ident) → kind_at spots j ≡ Some kind.Dot → high ≡ height t → d + high ≤ 64 → ident_at spots (j + 1) ≡ Some v → (kind_at spots (j + 2) ≡ Some kind.Open → ⊥) → Extends spots t j 6 d 8 (FieldExpr t v) (high + 1) (j + 2)
+  pub field_goes : (j d : ℕ) (t : ExprTree) (high : ℕ) (v : Ident) → kind_at spots j ≡ Some kind.Dot → high ≡ height t → d + high ≤ 64 → ident_at spots (j + 1) ≡ Some v
+      → (kind_at spots (j + 2) ≡ Some kind.Open → ⊥) → Extends spots t j 6 d 8 (FieldExpr t v) (high + 1) (j + 2)
   field_goes j d t high v h hi le n differs = record {
     after = omega arith;
     within = omega (arith, kind_within (j + 1) kind.Name (name_kind (j + 1) v n));
@@ -523,14 +549,16 @@ module _ (spots : List Spot) where
     stops = stops_eight (FieldExpr t v) (kind_at spots (j + 2)) differs;
   }
 
-  method_comes : (j d : ℕ) (t : ExprTree) (v : Ident) (K : Stack) → kind_at spots j ≡ Some kind.Dot → d + height t ≤ 64 → ident_at spots (j + 1) ≡ Some v → kind_at spots (j + 2) ≡ Some kind.Open → hole K ≡ d → fits_stack K ≡ true → run j (Have t K) (drop j spots) ≡ run (j + 3) (WantArgs (Method t v) K) (drop (j + 3) spots)
+  method_comes : (j d : ℕ) (t : ExprTree) (v : Ident) (K : Stack) → kind_at spots j ≡ Some kind.Dot → d + height t ≤ 64 → ident_at spots (j + 1) ≡ Some v → kind_at spots (j + 2) ≡ Some kind.Open
+      → hole K ≡ d → fits_stack K ≡ true → run j (Have t K) (drop j spots) ≡ run (j + 3) (WantArgs (Method t v) K) (drop (j + 3) spots)
   method_comes j d t v K h le n o hd fs =
       let e1 : j + 2 + 1 ≡ j + 3 = omega arith in
       field_comes j d t v K h le n hd fs
       ∙ go (j + 2) (Have (FieldExpr t v) K) (WantArgs (Method t v) K) kind.Open o (λ x e. refl) tt (and_true (hole K + height t) 64 (fits_stack K) (omega arith) fs)
       ∙ ap (λ m. run m (WantArgs (Method t v) K) (drop m spots)) e1
 
-  pub method_goes : (j d : ℕ) (t : ExprTree) (high : ℕ) (v : Ident) (ts : ExprTrees) (wide to : ℕ) → kind_at spots j ≡ Some kind.Dot → high ≡ height t → d + high ≤ 64 → ident_at spots (j + 1) ≡ Some v → kind_at spots (j + 2) ≡ Some kind.Open → ReadsArgs spots (j + 3) d ts wide to → Extends spots t j 6 d 8 (MethodExpr t v ts) (max high wide + 1) to
+  pub method_goes : (j d : ℕ) (t : ExprTree) (high : ℕ) (v : Ident) (ts : ExprTrees) (wide to : ℕ) → kind_at spots j ≡ Some kind.Dot → high ≡ height t → d + high ≤ 64 → ident_at spots (j + 1) ≡ Some v
+      → kind_at spots (j + 2) ≡ Some kind.Open → ReadsArgs spots (j + 3) d ts wide to → Extends spots t j 6 d 8 (MethodExpr t v ts) (max high wide + 1) to
   method_goes j d t high v ts wide to h hi le n o r = record {
     after = omega (arith, r.after);
     within = r.within;
@@ -540,15 +568,20 @@ module _ (spots : List Spot) where
     stops = stops_eight (MethodExpr t v ts) (kind_at spots to) (λ e. tt);
   }
 
-  pub method_refused : (j d : ℕ) (t : ExprTree) (v : Ident) (s : Stop) (K : Stack) → kind_at spots j ≡ Some kind.Dot → d + height t ≤ 64 → ident_at spots (j + 1) ≡ Some v → kind_at spots (j + 2) ≡ Some kind.Open → RefusesArgs spots (j + 3) d s → Fit 6 d K → Ends (run j (Have t K) (drop j spots)) s
-  method_refused j d t v s K h le n o r f = ends_is (run j (Have t K) (drop j spots)) (run (j + 3) (WantArgs (Method t v) K) (drop (j + 3) spots)) s (method_comes j d t v K h le n o f.depth_is f.fits_is) (r (Method t v) K (any_fit 7 6 d K (omega arith) f) (omega arith))
+  pub method_refused : (j d : ℕ) (t : ExprTree) (v : Ident) (s : Stop) (K : Stack) → kind_at spots j ≡ Some kind.Dot → d + height t ≤ 64 → ident_at spots (j + 1) ≡ Some v
+      → kind_at spots (j + 2) ≡ Some kind.Open → RefusesArgs spots (j + 3) d s → Fit 6 d K → Ends (run j (Have t K) (drop j spots)) s
+  method_refused j d t v s K h le n o r f = ends_is (run j (Have t K) (drop j spots)) (run (j + 3) (WantArgs (Method t v) K) (drop (j + 3) spots)) s
+      (method_comes j d t v K h le n o f.depth_is f.fits_is) (r (Method t v) K (any_fit 7 6 d K (omega arith) f) (omega arith))
 
   -- a sign behind an operand
   sign_is : (op : Op) (t : ExprTree) (K : Stack) (x : Spot) → Below (level op) K → step_kind (Have t K) (kind.Op op) x ≡ Want (InTwo op t K)
-  sign_is op t K x b = ap (λ w. Want (InTwo op w (closed_stack (level op) K))) (open_tree (level op) t K (level_small op) b) ∙ ap (λ Q. Want (InTwo op t Q)) (open_stack (level op) K (level_small op) b)
+  sign_is op t K x b = ap (λ w. Want (InTwo op w (closed_stack (level op) K))) (open_tree (level op) t K (level_small op) b)
+      ∙ ap (λ Q. Want (InTwo op t Q)) (open_stack (level op) K (level_small op) b)
 
-  right_comes : (j d : ℕ) (op : Op) (t : ExprTree) (K : Stack) → kind_at spots j ≡ Some (kind.Op op) → d + height t ≤ 64 → Fit (level op) d K → run j (Have t K) (drop j spots) ≡ run (j + 1) (Want (InTwo op t K)) (drop (j + 1) spots)
-  right_comes j d op t K h le f = go j (Have t K) (Want (InTwo op t K)) (kind.Op op) h (λ x e. sign_is op t K x f.below) tt (and_true (hole K + height t) 64 (fits_stack K) (omega (arith, f.depth_is)) f.fits_is)
+  right_comes : (j d : ℕ) (op : Op) (t : ExprTree) (K : Stack) → kind_at spots j ≡ Some (kind.Op op) → d + height t ≤ 64 → Fit (level op) d K
+      → run j (Have t K) (drop j spots) ≡ run (j + 1) (Want (InTwo op t K)) (drop (j + 1) spots)
+  right_comes j d op t K h le f = go j (Have t K) (Want (InTwo op t K)) (kind.Op op) h (λ x e. sign_is op t K x f.below) tt
+      (and_true (hole K + height t) 64 (fits_stack K) (omega (arith, f.depth_is)) f.fits_is)
 
   pub right_deep : (j d : ℕ) (op : Op) (t : ExprTree) (K : Stack) → kind_at spots j ≡ Some (kind.Op op) → 64 < d + height t → Fit (level op) d K → run j (Have t K) (drop j spots) ≡ DeepAt j
   right_deep j d op t K h lt f = deep j (Have t K) (kind.Op op) h (λ x. (tt, ap fits (sign_is op t K x f.below) ∙ and_false (hole K + height t) 64 (fits_stack K) (omega (arith, f.depth_is))))
@@ -556,7 +589,8 @@ module _ (spots : List Spot) where
   right_fit : (d : ℕ) (op : Op) (t : ExprTree) (K : Stack) → d + height t ≤ 64 → Fit (level op) d K → Fit (level op + 1) (d + 1) (InTwo op t K)
   right_fit d op t K le f = record { below = omega arith; depth_is = omega (arith, f.depth_is); fits_is = and_true (hole K + height t) 64 (fits_stack K) (omega (arith, f.depth_is)) f.fits_is }
 
-  two_ends : (j : ℕ) (op : Op) (l r : ExprTree) (K : Stack) (rest : List Spot) → Stops (suc (level op)) r (option_map (λ s. kind_of s.token) (first rest)) → run j (Have r (InTwo op l K)) rest ≡ run j (Have (BinaryExpr op l r) K) rest
+  two_ends : (j : ℕ) (op : Op) (l r : ExprTree) (K : Stack) (rest : List Spot) → Stops (suc (level op)) r (option_map (λ s. kind_of s.token) (first rest))
+      → run j (Have r (InTwo op l K)) rest ≡ run j (Have (BinaryExpr op l r) K) rest
   two_ends j op l r K [] s = rw (nat_lt_ge (level op) 0 (omega arith))
   two_ends j op l r K (x ∷ xs) s =
       ap (λ Q. turn j (Have r (InTwo op l K)) Q (run (suc j) Q xs)) (two_step op l r K (kind_of x.token) x s)
@@ -569,7 +603,8 @@ module _ (spots : List Spot) where
       same_turn Dead o = same_halt
       same_turn _ o = refl
 
-  pub right_goes : (j d : ℕ) (op : Op) (t u : ExprTree) (high wide to : ℕ) → kind_at spots j ≡ Some (kind.Op op) → high ≡ height t → d + high ≤ 64 → ReadsExpr spots (j + 1) (level op + 1) (d + 1) (level op + 1) u wide to → Extends spots t j (level op) d 7 (BinaryExpr op t u) (max high wide + 1) to
+  pub right_goes : (j d : ℕ) (op : Op) (t u : ExprTree) (high wide to : ℕ) → kind_at spots j ≡ Some (kind.Op op) → high ≡ height t → d + high ≤ 64
+      → ReadsExpr spots (j + 1) (level op + 1) (d + 1) (level op + 1) u wide to → Extends spots t j (level op) d 7 (BinaryExpr op t u) (max high wide + 1) to
   right_goes j d op t u high wide to h hi le r = record {
     after = omega (arith, r.after);
     within = r.within;
@@ -584,8 +619,10 @@ module _ (spots : List Spot) where
       stops_op w None s = tt
       stops_op w (Some k) s = kind_stops_more (level op + 1) 7 w (BinaryExpr op t u) k (omega (arith, level_small op)) (λ c. tt) s
 
-  pub right_refused : (j d : ℕ) (op : Op) (t : ExprTree) (s : Stop) (K : Stack) → kind_at spots j ≡ Some (kind.Op op) → d + height t ≤ 64 → Refuses spots (j + 1) (level op + 1) (d + 1) s → Fit (level op) d K → Ends (run j (Have t K) (drop j spots)) s
-  right_refused j d op t s K h le r f = ends_is (run j (Have t K) (drop j spots)) (run (j + 1) (Want (InTwo op t K)) (drop (j + 1) spots)) s (right_comes j d op t K h le f) (r (InTwo op t K) (right_fit d op t K le f))
+  pub right_refused : (j d : ℕ) (op : Op) (t : ExprTree) (s : Stop) (K : Stack) → kind_at spots j ≡ Some (kind.Op op) → d + height t ≤ 64 → Refuses spots (j + 1) (level op + 1) (d + 1) s
+      → Fit (level op) d K → Ends (run j (Have t K) (drop j spots)) s
+  right_refused j d op t s K h le r f = ends_is (run j (Have t K) (drop j spots)) (run (j + 1) (Want (InTwo op t K)) (drop (j + 1) spots)) s (right_comes j d op t K h le f)
+      (r (InTwo op t K) (right_fit d op t K le f))
 
   -- going on
   pub goes_on : (i n m d k : ℕ) (t u : ExprTree) (high to wide end : ℕ) → n ≤ m → ReadsExpr spots i n d k t high to → Extends spots t to m d k u wide end → ReadsExpr spots i n d k u wide end
@@ -598,7 +635,8 @@ module _ (spots : List Spot) where
     stops = g.stops;
   }
 
-  pub goes_refused : (i n m d k : ℕ) (t : ExprTree) (high to : ℕ) (s : Stop) → n ≤ m → ReadsExpr spots i n d k t high to → ((K : Stack) → Fit m d K → Ends (run to (Have t K) (drop to spots)) s) → Refuses spots i n d s
+  pub goes_refused : (i n m d k : ℕ) (t : ExprTree) (high to : ℕ) (s : Stop) → n ≤ m → ReadsExpr spots i n d k t high to → ((K : Stack) → Fit m d K → Ends (run to (Have t K) (drop to spots)) s)
+      → Refuses spots i n d s
   goes_refused i n m d k t high to s le r g K f = ends_is (run i (Want K) (drop i spots)) (run to (Have t K) (drop to spots)) s (r.comes K f) (g K (any_fit m n d K le f))
 
   pub looser : (i n m d k : ℕ) (t : ExprTree) (high to : ℕ) → n ≤ m → ReadsExpr spots i m d k t high to → ReadsExpr spots i n d k t high to
@@ -627,7 +665,8 @@ module _ (spots : List Spot) where
 
   args_first : (i : ℕ) (h : Head) (K : Stack) (rest : List Spot) → ((x : Spot) → first rest ≡ Some x → NotClose (kind_of x.token)) → run i (WantArgs h K) rest ≡ run i (Want (InArgs h NoExprs K)) rest
   args_first i h K [] n = refl
-  args_first i h K (x ∷ xs) n = ap (λ Q. turn i (WantArgs h K) Q (run (suc i) Q xs)) (args_want h K (kind_of x.token) x (n x refl)) ∙ same_turn (step (Want (InArgs h NoExprs K)) x) (run (suc i) (step (Want (InArgs h NoExprs K)) x) xs)
+  args_first i h K (x ∷ xs) n = ap (λ Q. turn i (WantArgs h K) Q (run (suc i) Q xs)) (args_want h K (kind_of x.token) x (n x refl))
+      ∙ same_turn (step (Want (InArgs h NoExprs K)) x) (run (suc i) (step (Want (InArgs h NoExprs K)) x) xs)
     where
       same_turn : (Q : State) (o : Outcome) → turn i (WantArgs h K) Q o ≡ turn i (Want (InArgs h NoExprs K)) Q o
       same_turn Dead o = refl
@@ -648,16 +687,23 @@ module _ (spots : List Spot) where
     within = omega (arith, kind_within i kind.Close c);
     high_is = refl;
     fits_in = omega arith;
-    comes = λ h K f b. go i (WantArgs h K) (Have (called h NoExprs) K) kind.Close c (λ x e. refl) tt (and_true (hole K + height (called h NoExprs)) 65 (fits_stack K) (omega (arith, f.depth_is, called_height h NoExprs)) f.fits_is);
+    comes = λ h K f b. go i (WantArgs h K) (Have (called h NoExprs) K) kind.Close c (λ x e. refl) tt
+        (and_true (hole K + height (called h NoExprs)) 65 (fits_stack K) (omega (arith, f.depth_is, called_height h NoExprs)) f.fits_is);
   }
 
   args_fit : (d : ℕ) (h : Head) (ts : ExprTrees) (high : ℕ) (K : Stack) → high ≡ heights ts → d + 1 + high ≤ 65 → d + head_height h ≤ 64 → Fit 7 d K → Fit 0 (d + 1) (InArgs h ts K)
-  args_fit d h ts high K hi le b f = record { below = tt; depth_is = omega (arith, f.depth_is); fits_is = and_true (hole K + max (head_height h) (heights ts)) 64 (fits_stack K) (omega (arith, f.depth_is)) f.fits_is }
+  args_fit d h ts high K hi le b f = record {
+    below = tt;
+    depth_is = omega (arith, f.depth_is);
+    fits_is = and_true (hole K + max (head_height h) (heights ts)) 64 (fits_stack K) (omega (arith, f.depth_is)) f.fits_is;
+  }
 
   pub args_refused : (i d : ℕ) (ts : ExprTrees) (high at : ℕ) (s : Stop) → Args i d ts high at → Refuses spots at 0 (d + 1) s → RefusesArgs spots i d s
-  args_refused i d ts high at s a r h K f b = ends_is (run i (WantArgs h K) (drop i spots)) (run at (Want (InArgs h ts K)) (drop at spots)) s (a.comes h K f b) (r (InArgs h ts K) (args_fit d h ts high K a.high_is a.fits_in b f))
+  args_refused i d ts high at s a r h K f b = ends_is (run i (WantArgs h K) (drop i spots)) (run at (Want (InArgs h ts K)) (drop at spots)) s (a.comes h K f b)
+      (r (InArgs h ts K) (args_fit d h ts high K a.high_is a.fits_in b f))
 
-  pub args_more : (i d : ℕ) (ts : ExprTrees) (high at : ℕ) (t : ExprTree) (wide to : ℕ) → Args i d ts high at → ReadsExpr spots at 0 (d + 1) 0 t wide to → kind_at spots to ≡ Some kind.Comma → Args i d (push ts t) (max high wide) (to + 1)
+  pub args_more : (i d : ℕ) (ts : ExprTrees) (high at : ℕ) (t : ExprTree) (wide to : ℕ) → Args i d ts high at → ReadsExpr spots at 0 (d + 1) 0 t wide to → kind_at spots to ≡ Some kind.Comma
+      → Args i d (push ts t) (max high wide) (to + 1)
   args_more i d ts high at t wide to a r c = record {
     after = omega (arith, a.after, r.after);
     within = omega (arith, kind_within to kind.Comma c);
@@ -669,7 +715,8 @@ module _ (spots : List Spot) where
         (and_true (hole K + max (head_height h) (heights (push ts t))) 64 (fits_stack K) (omega (arith, f.depth_is, a.high_is, a.fits_in, r.high_is, r.fits_in, heights_push ts t)) f.fits_is);
   }
 
-  pub args_end : (i d : ℕ) (ts : ExprTrees) (high at : ℕ) (t : ExprTree) (wide to : ℕ) → Args i d ts high at → ReadsExpr spots at 0 (d + 1) 0 t wide to → kind_at spots to ≡ Some kind.Close → ReadsArgs spots i d (push ts t) (max high wide) (to + 1)
+  pub args_end : (i d : ℕ) (ts : ExprTrees) (high at : ℕ) (t : ExprTree) (wide to : ℕ) → Args i d ts high at → ReadsExpr spots at 0 (d + 1) 0 t wide to → kind_at spots to ≡ Some kind.Close
+      → ReadsArgs spots i d (push ts t) (max high wide) (to + 1)
   args_end i d ts high at t wide to a r c = record {
     after = omega (arith, a.after, r.after);
     within = omega (arith, kind_within to kind.Close c);
@@ -678,10 +725,12 @@ module _ (spots : List Spot) where
     comes = λ h K f b.
         a.comes h K f b ∙ r.comes (InArgs h ts K) (args_fit d h ts high K a.high_is a.fits_in b f)
         ∙ go to (Have t (InArgs h ts K)) (Have (called h (push ts t)) K) kind.Close c (λ x e. refl) tt
-        (and_true (hole K + height (called h (push ts t))) 65 (fits_stack K) (omega (arith, f.depth_is, a.high_is, a.fits_in, r.high_is, r.fits_in, heights_push ts t, called_height h (push ts t))) f.fits_is);
+        (and_true (hole K + height (called h (push ts t))) 65 (fits_stack K) (omega (arith, f.depth_is, a.high_is, a.fits_in, r.high_is, r.fits_in, heights_push ts t, called_height h (push ts t)))
+        f.fits_is);
   }
 
-  args_stuck : (h : Head) (ts : ExprTrees) (t : ExprTree) (K : Stack) (k : Kind) (x : Spot) → KindStops 0 t k → (k ≡ kind.Close → ⊥) → (k ≡ kind.Comma → ⊥) → step_kind (Have t (InArgs h ts K)) k x ≡ Dead
+  args_stuck : (h : Head) (ts : ExprTrees) (t : ExprTree) (K : Stack) (k : Kind) (x : Spot) → KindStops 0 t k → (k ≡ kind.Close → ⊥) → (k ≡ kind.Comma → ⊥)
+      → step_kind (Have t (InArgs h ts K)) k x ≡ Dead
   args_stuck h ts t K kind.Close x s c d = absurd (c refl)
   args_stuck h ts t K kind.Comma x s c d = absurd (d refl)
   args_stuck h ts t K kind.Open x s c d = open_dead t (InArgs h ts K) s
@@ -689,7 +738,8 @@ module _ (spots : List Spot) where
   args_stuck h ts t K (kind.Op op) x s c d = absurd (omega arith)
   args_stuck h ts t K _ x s c d = refl
 
-  pub args_bad : (i d : ℕ) (ts : ExprTrees) (high at : ℕ) (t : ExprTree) (wide to : ℕ) → Args i d ts high at → ReadsExpr spots at 0 (d + 1) 0 t wide to → (kind_at spots to ≡ Some kind.Close → ⊥) → (kind_at spots to ≡ Some kind.Comma → ⊥) → RefusesArgs spots i d (Short to)
+  pub args_bad : (i d : ℕ) (ts : ExprTrees) (high at : ℕ) (t : ExprTree) (wide to : ℕ) → Args i d ts high at → ReadsExpr spots at 0 (d + 1) 0 t wide to → (kind_at spots to ≡ Some kind.Close → ⊥)
+      → (kind_at spots to ≡ Some kind.Comma → ⊥) → RefusesArgs spots i d (Short to)
   args_bad i d ts high at t wide to a r c m h K f b =
       a.comes h K f b ∙ r.comes (InArgs h ts K) (args_fit d h ts high K a.high_is a.fits_in b f)
       ∙ stuck to (Have t (InArgs h ts K)) (λ k x e. args_stuck h ts t K k x (stops_at 0 t to k r.stops e) (not_kind to kind.Close k c e) (not_kind to kind.Comma k m e))
@@ -699,11 +749,15 @@ exprs_push [] x = refl
 exprs_push (y ∷ ys) x = ap (MoreExprs (expr_of y)) (exprs_push ys x)
 
 module _ (spots : List Spot) where
-  pub args_more_is : (i d : ℕ) (ts : ExprTrees) (high at : ℕ) (t : ExprTree) (wide to : ℕ) (us : ExprTrees) (m : ℕ) → Args spots i d ts high at → ReadsExpr spots at 0 (d + 1) 0 t wide to → kind_at spots to ≡ Some kind.Comma → us ≡ push ts t → m ≡ max high wide → Args spots i d us m (to + 1)
-  args_more_is i d ts high at t wide to us m a r c e f = subst (λ vs. Args spots i d vs m (to + 1)) (sym e) (subst (λ n. Args spots i d (push ts t) n (to + 1)) (sym f) (args_more spots i d ts high at t wide to a r c))
+  pub args_more_is : (i d : ℕ) (ts : ExprTrees) (high at : ℕ) (t : ExprTree) (wide to : ℕ) (us : ExprTrees) (m : ℕ) → Args spots i d ts high at → ReadsExpr spots at 0 (d + 1) 0 t wide to
+      → kind_at spots to ≡ Some kind.Comma → us ≡ push ts t → m ≡ max high wide → Args spots i d us m (to + 1)
+  args_more_is i d ts high at t wide to us m a r c e f = subst (λ vs. Args spots i d vs m (to + 1)) (sym e)
+      (subst (λ n. Args spots i d (push ts t) n (to + 1)) (sym f) (args_more spots i d ts high at t wide to a r c))
 
-  pub args_end_is : (i d : ℕ) (ts : ExprTrees) (high at : ℕ) (t : ExprTree) (wide to : ℕ) (us : ExprTrees) (m : ℕ) → Args spots i d ts high at → ReadsExpr spots at 0 (d + 1) 0 t wide to → kind_at spots to ≡ Some kind.Close → us ≡ push ts t → m ≡ max high wide → ReadsArgs spots i d us m (to + 1)
-  args_end_is i d ts high at t wide to us m a r c e f = subst (λ vs. ReadsArgs spots i d vs m (to + 1)) (sym e) (subst (λ n. ReadsArgs spots i d (push ts t) n (to + 1)) (sym f) (args_end spots i d ts high at t wide to a r c))
+  pub args_end_is : (i d : ℕ) (ts : ExprTrees) (high at : ℕ) (t : ExprTree) (wide to : ℕ) (us : ExprTrees) (m : ℕ) → Args spots i d ts high at → ReadsExpr spots at 0 (d + 1) 0 t wide to
+      → kind_at spots to ≡ Some kind.Close → us ≡ push ts t → m ≡ max high wide → ReadsArgs spots i d us m (to + 1)
+  args_end_is i d ts high at t wide to us m a r c e f = subst (λ vs. ReadsArgs spots i d vs m (to + 1)) (sym e)
+      (subst (λ n. ReadsArgs spots i d (push ts t) n (to + 1)) (sym f) (args_end spots i d ts high at t wide to a r c))
 
   pub reads_is : (i n d m : ℕ) (t u : ExprTree) (high to : ℕ) → u ≡ t → ReadsExpr spots i n d m t high to → ReadsExpr spots i n d m u high to
   reads_is i n d m t u high to e r = subst (λ w. ReadsExpr spots i n d m w high to) (sym e) r
@@ -744,6 +798,8 @@ module _ (spots : List Spot) where
   top_ends i d t high to r = r.comes (Top d) (top_fit d) ∙ stuck spots to (Have t (Top d)) (λ k x e. top_stuck t d k x (stops_at spots 0 t to k r.stops e))
 
 pub refusal_answer : (t : Tokens) (from d : ℕ) (s : Stop) (e : SourceFault) → Refuses t.spots.items from 0 d s → RefusalIs t s e → ReaderAnswer (ExprRule 0 d) expr_of t from (Err e)
-refusal_answer t from d (Short k) e r q = subst (λ x. ReaderAnswer (ExprRule 0 d) expr_of t from (Err x)) (sym q) (refl, short_missing t from d (place_at t k) k (r (Top d) (top_fit t.spots.items d)) refl)
-refusal_answer t from d (Deep k) e r q = subst (λ x. ReaderAnswer (ExprRule 0 d) expr_of t from (Err x)) (sym q) (refl, deep_refused t from d (place_at t k) k (r (Top d) (top_fit t.spots.items d)) refl)
+refusal_answer t from d (Short k) e r q = subst (λ x. ReaderAnswer (ExprRule 0 d) expr_of t from (Err x)) (sym q)
+    (refl, short_missing t from d (place_at t k) k (r (Top d) (top_fit t.spots.items d)) refl)
+refusal_answer t from d (Deep k) e r q = subst (λ x. ReaderAnswer (ExprRule 0 d) expr_of t from (Err x)) (sym q)
+    (refl, deep_refused t from d (place_at t k) k (r (Top d) (top_fit t.spots.items d)) refl)
 refusal_answer t from d NoMemory e r q = subst (λ x. ReaderAnswer (ExprRule 0 d) expr_of t from (Err x)) (sym q) tt

@@ -108,7 +108,8 @@ goal_is : (d : ℕ) (t : ExprTree) (K : Stack) (j : ℕ) (rest : List Spot) (xs 
 goal_is d t K j rest xs ys e g = subst (Goal d t K j rest) (sym e) g
 
 mutual
-  pub fit : {n d : ℕ} {xs : List Marked} {t : ExprTree} → ExprRule n d xs t → (K : Stack) → Below n K → hole K ≤ d → fits_stack K ≡ true → (j : ℕ) (rest : List Spot) → Follows n rest → Goal d t K j rest xs
+  pub fit : {n d : ℕ} {xs : List Marked} {t : ExprTree} → ExprRule n d xs t → (K : Stack) → Below n K → hole K ≤ d → fits_stack K ≡ true → (j : ℕ) (rest : List Spot) → Follows n rest
+      → Goal d t K j rest xs
   fit {n} {d} (number i p) K b hd fs j rest f = λ k c. leaf_fit d (opens (Node d ∷ []) (token.Number i) p) (IntExpr i) K j rest refl refl refl hd fs k c
   fit {n} {d} (text t p) K b hd fs j rest f = λ k c. leaf_fit d (opens (Node d ∷ []) (token.Text t) p) (TextExpr t) K j rest refl refl refl hd fs k c
   fit {n} {d} (truth p) K b hd fs j rest f = λ k c. leaf_fit d (node_word d word.Yes p) (BoolExpr true) K j rest refl refl refl hd fs k c
@@ -124,23 +125,27 @@ mutual
             (along_is (suc j - 3) (j - 1 - 1) (Have VoidExpr K) rest e (c (omega arith)))),
       )
   fit {n} {d} (call h p q args r e) K b hd fs zero rest f = λ k c. tt
-  fit {n} {d} {xs} (call {ts = ts} h p q args r e) K b hd fs (suc j) rest f = goal_is d (CallExpr h ts) K (suc j) rest xs (node_name d h ∷ sign_at sign.OpenRound p ∷ (args ++ sign_at sign.CloseRound q ∷ [])) e (λ k c.
+  fit {n} {d} {xs} (call {ts = ts} h p q args r e) K b hd fs (suc j) rest f =
+      goal_is d (CallExpr h ts) K (suc j) rest xs (node_name d h ∷ sign_at sign.OpenRound p ∷ (args ++ sign_at sign.CloseRound q ∷ [])) e (λ k c.
       let le : d ≤ 64 = k.0.0 (omega arith) in
       let s = sign_spot sign.CloseRound q in
       let k1 = keep_first j (sign_at sign.OpenRound p) (args ++ sign_at sign.CloseRound q ∷ []) k.1 in
       let k2 = keep_append (j - 1) args (sign_at sign.CloseRound q ∷ []) k1.1 in
-      let flat : spots_of args ++ (s ∷ rest) ≡ spots_of (args ++ sign_at sign.CloseRound q ∷ []) ++ rest = sym (ap (λ z. z ++ rest) (spots_append args (sign_at sign.CloseRound q ∷ [])) ∙ append_assoc (spots_of args) (s ∷ []) rest) in
+      let flat : spots_of args ++ (s ∷ rest) ≡ spots_of (args ++ sign_at sign.CloseRound q ∷ []) ++ rest =
+      sym (ap (λ z. z ++ rest) (spots_append args (sign_at sign.CloseRound q ∷ [])) ∙ append_assoc (spots_of args) (s ∷ []) rest) in
       let i : suc j - suc (suc (length (args ++ sign_at sign.CloseRound q ∷ []))) ≡ j - 1 - length args - 1 = omega (arith, length-append args (sign_at sign.CloseRound q ∷ [])) in (
         and_true (hole K + 1) 65 (fits_stack K) (omega arith) fs,
         along_step j (Have (VarExpr h) K) (sign_spot sign.OpenRound p) (spots_of (args ++ sign_at sign.CloseRound q ∷ []) ++ rest) (λ z. and_true (hole K + 0) 64 (fits_stack K) (omega arith) fs)
             (subst (Along (j - 1) (WantArgs (Function h) K)) flat
-            (fit_args r (Function h) K q rest (omega arith) fs (omega arith) (omega arith) (j - 1) k2.0 (λ m. along_is (suc j - suc (suc (length (args ++ sign_at sign.CloseRound q ∷ [])))) (j - 1 - length args - 1) (Have (CallExpr h ts) K) rest i (c (omega arith))))),
+            (fit_args r (Function h) K q rest (omega arith) fs (omega arith) (omega arith) (j - 1) k2.0
+            (λ m. along_is (suc j - suc (suc (length (args ++ sign_at sign.CloseRound q ∷ [])))) (j - 1 - length args - 1) (Have (CallExpr h ts) K) rest i (c (omega arith))))),
       ))
   fit {n} {d} {xs} (paren {t = t} p q of r e) K b hd fs j rest f = goal_is d (ParenExpr t) K j rest xs (node_sign d sign.OpenRound p ∷ (of ++ sign_at sign.CloseRound q ∷ [])) e (λ k c.
       let s = sign_spot sign.CloseRound q in
       let k1 = keep_first j (node_sign d sign.OpenRound p) (of ++ sign_at sign.CloseRound q ∷ []) k in
       let k2 = keep_append (j - 1) of (sign_at sign.CloseRound q ∷ []) k1.1 in
-      let flat : spots_of of ++ (s ∷ rest) ≡ spots_of (of ++ sign_at sign.CloseRound q ∷ []) ++ rest = sym (ap (λ z. z ++ rest) (spots_append of (sign_at sign.CloseRound q ∷ [])) ∙ append_assoc (spots_of of) (s ∷ []) rest) in
+      let flat : spots_of of ++ (s ∷ rest) ≡ spots_of (of ++ sign_at sign.CloseRound q ∷ []) ++ rest =
+      sym (ap (λ z. z ++ rest) (spots_append of (sign_at sign.CloseRound q ∷ [])) ∙ append_assoc (spots_of of) (s ∷ []) rest) in
       let i : j - suc (length (of ++ sign_at sign.CloseRound q ∷ [])) ≡ j - 1 - length of - 1 = omega (arith, length-append of (sign_at sign.CloseRound q ∷ [])) in
       let in_limit : 0 < j → hole K ≤ 64 = λ z. let w : d ≤ 64 = (k1.0 z).0 (omega arith) in omega arith in
       let fs' : 0 < j → nat_le (hole K) 64 && fits_stack K ≡ true = λ z. and_true (hole K) 64 (fits_stack K) (in_limit z) fs in
@@ -154,7 +159,8 @@ mutual
   fit {n} {d} {xs} (field {t = t} p x of r e) K b hd fs j rest f =
       let l = sign_at sign.Dot p ∷ name_at x ∷ [] in
       goal_is d (FieldExpr t x) K j rest xs (begin (Node d) of ++ l) e (λ k c.
-      let flat : spots_of of ++ (spots_of l ++ rest) ≡ spots_of (begin (Node d) of ++ l) ++ rest = sym (ap (λ z. z ++ rest) (spots_append (begin (Node d) of) l ∙ ap (λ z. z ++ spots_of l) (spots_begin (Node d) of)) ∙ append_assoc (spots_of of) (spots_of l) rest) in
+      let flat : spots_of of ++ (spots_of l ++ rest) ≡ spots_of (begin (Node d) of ++ l) ++ rest =
+      sym (ap (λ z. z ++ rest) (spots_append (begin (Node d) of) l ∙ ap (λ z. z ++ spots_of l) (spots_begin (Node d) of)) ∙ append_assoc (spots_of of) (spots_of l) rest) in
       let k1 = keep_append j (begin (Node d) of) l k in
       let i : j - length (begin (Node d) of ++ l) ≡ j - length of - 1 - 1 = omega (arith, length-append (begin (Node d) of) l, length_begin (Node d) of) in
       subst (Along j (Want K)) flat
@@ -166,8 +172,10 @@ mutual
       let cl = sign_at sign.CloseRound s ∷ [] in
       let l = sign_at sign.Dot p ∷ name_at h ∷ sign_at sign.OpenRound q ∷ (args ++ cl) in
       goal_is d (MethodExpr t h ts) K j rest xs (begin (Node d) of ++ l) e (λ k c.
-      let flat : spots_of of ++ (spots_of l ++ rest) ≡ spots_of (begin (Node d) of ++ l) ++ rest = sym (ap (λ z. z ++ rest) (spots_append (begin (Node d) of) l ∙ ap (λ z. z ++ spots_of l) (spots_begin (Node d) of)) ∙ append_assoc (spots_of of) (spots_of l) rest) in
-      let flat2 : spots_of args ++ (sign_spot sign.CloseRound s ∷ rest) ≡ spots_of (args ++ cl) ++ rest = sym (ap (λ z. z ++ rest) (spots_append args cl) ∙ append_assoc (spots_of args) (sign_spot sign.CloseRound s ∷ []) rest) in
+      let flat : spots_of of ++ (spots_of l ++ rest) ≡ spots_of (begin (Node d) of ++ l) ++ rest =
+      sym (ap (λ z. z ++ rest) (spots_append (begin (Node d) of) l ∙ ap (λ z. z ++ spots_of l) (spots_begin (Node d) of)) ∙ append_assoc (spots_of of) (spots_of l) rest) in
+      let flat2 : spots_of args ++ (sign_spot sign.CloseRound s ∷ rest) ≡ spots_of (args ++ cl) ++ rest =
+      sym (ap (λ z. z ++ rest) (spots_append args cl) ∙ append_assoc (spots_of args) (sign_spot sign.CloseRound s ∷ []) rest) in
       let k1 = keep_append j (begin (Node d) of) l k in
       let w = j - length (begin (Node d) of) in
       let k2 = keep_first w (sign_at sign.Dot p) (name_at h ∷ sign_at sign.OpenRound q ∷ (args ++ cl)) k1.1 in
@@ -179,7 +187,8 @@ mutual
       subst (Along j (Want K)) flat
       (fit r K (below_seven K) (omega arith) fs j (spots_of l ++ rest) (tt, omega arith) (keep_begin j (Node d) of k1.0) (λ m.
       along_is w (j - length of) (Have t K) (spots_of l ++ rest) i0
-      (along_step w (Have t K) (sign_spot sign.Dot p) (name_spot h ∷ (sign_spot sign.OpenRound q ∷ (spots_of (args ++ cl) ++ rest))) (λ y. and_true (hole K + height t) 64 (fits_stack K) (omega arith) fs)
+      (along_step w (Have t K) (sign_spot sign.Dot p) (name_spot h ∷ (sign_spot sign.OpenRound q ∷ (spots_of (args ++ cl) ++ rest)))
+      (λ y. and_true (hole K + height t) 64 (fits_stack K) (omega arith) fs)
       (along_step (w - 1) (WantName t K) (name_spot h) (sign_spot sign.OpenRound q ∷ (spots_of (args ++ cl) ++ rest)) (λ y. and_true (hole K + suc (height t)) 65 (fits_stack K) (omega arith) fs)
       (along_step (w - 1 - 1) (Have (FieldExpr t h) K) (sign_spot sign.OpenRound q) (spots_of (args ++ cl) ++ rest) (λ y. and_true (hole K + height t) 64 (fits_stack K) (omega arith) fs)
       (subst (Along (w - 1 - 1 - 1) (WantArgs (Method t h) K)) flat2
@@ -210,7 +219,8 @@ mutual
   fit {n} {d} {xs} (binary {a = x} {b = y} op p left right le r s e) K b hd fs j rest f =
       let l = sign_at (op_sign op) p ∷ right in
       goal_is d (BinaryExpr op x y) K j rest xs (begin (Node d) left ++ l) e (λ k c.
-      let flat : spots_of left ++ (spots_of l ++ rest) ≡ spots_of (begin (Node d) left ++ l) ++ rest = sym (ap (λ z. z ++ rest) (spots_append (begin (Node d) left) l ∙ ap (λ z. z ++ spots_of l) (spots_begin (Node d) left)) ∙ append_assoc (spots_of left) (spots_of l) rest) in
+      let flat : spots_of left ++ (spots_of l ++ rest) ≡ spots_of (begin (Node d) left ++ l) ++ rest =
+      sym (ap (λ z. z ++ rest) (spots_append (begin (Node d) left) l ∙ ap (λ z. z ++ spots_of l) (spots_begin (Node d) left)) ∙ append_assoc (spots_of left) (spots_of l) rest) in
       let b' = below_more n (level op) K b le in
       let k1 = keep_append j (begin (Node d) left) l k in
       let w = j - length (begin (Node d) left) in
@@ -227,14 +237,16 @@ mutual
       along_two (w - 1 - length right) op x y K rest (first_stops n (suc (level op)) y rest (omega arith) f)
       (along_is (j - length (begin (Node d) left ++ l)) (w - 1 - length right) (Have (BinaryExpr op x y) K) rest i (c (omega arith))))))))))
 
-  fit_args : {d : ℕ} {xs : List Marked} {ts : ExprTrees} → ArgsRule d xs ts → (h : Head) (K : Stack) (q : Place) (rest : List Spot) → suc (hole K) ≤ d → fits_stack K ≡ true → d ≤ 65 → hole K + head_height h ≤ 64
+  fit_args : {d : ℕ} {xs : List Marked} {ts : ExprTrees} → ArgsRule d xs ts → (h : Head) (K : Stack) (q : Place) (rest : List Spot) → suc (hole K) ≤ d → fits_stack K ≡ true → d ≤ 65
+      → hole K + head_height h ≤ 64
       → (j : ℕ) → FirstKeep j xs → (d + heights ts ≤ 65 → Along (j - length xs - 1) (Have (called h ts) K) rest) → Along j (WantArgs h K) (spots_of xs ++ (sign_spot sign.CloseRound q ∷ rest))
   fit_args no_args h K q rest hd fs low hh j k c =
       along_step j (WantArgs h K) (sign_spot sign.CloseRound q) rest (λ y. and_true (hole K + height (called h NoExprs)) 65 (fits_stack K) (omega (arith, called_height h NoExprs)) fs)
       (let e : j - 0 - 1 ≡ j - 1 = omega arith in along_is (j - 0 - 1) (j - 1) (Have (called h NoExprs) K) rest e (c (omega arith)))
   fit_args {d} {xs} (some_args {t = t} {ts = ts} first more r m e) h K q rest hd fs low hh j k c =
       let s = sign_spot sign.CloseRound q ∷ rest in
-      let flat : spots_of first ++ (spots_of more ++ s) ≡ spots_of xs ++ s = sym (ap (λ z. spots_of z ++ s) e ∙ ap (λ z. z ++ s) (spots_append first more) ∙ append_assoc (spots_of first) (spots_of more) s) in
+      let flat : spots_of first ++ (spots_of more ++ s) ≡ spots_of xs ++ s =
+      sym (ap (λ z. spots_of z ++ s) e ∙ ap (λ z. z ++ s) (spots_append first more) ∙ append_assoc (spots_of first) (spots_of more) s) in
       let k1 = keep_append j first more (subst (FirstKeep j) e k) in
       let i : j - length xs - 1 ≡ j - length first - length more - 1 = omega (arith, ap length e, length-append first more) in
       let fs' : nat_le (hole K + max (head_height h) 0) 64 && fits_stack K ≡ true = and_true (hole K + max (head_height h) 0) 64 (fits_stack K) (omega arith) fs in
@@ -244,17 +256,21 @@ mutual
       fit_more m h NoExprs t K q rest hd fs hh (omega arith) (j - length first) k1.1 (λ v.
       along_is (j - length xs - 1) (j - length first - length more - 1) (Have (called h (MoreExprs t ts)) K) rest i (c v)))))
 
-  fit_more : {d : ℕ} {xs : List Marked} {us : ExprTrees} → MoreArgsRule d xs us → (h : Head) (ts : ExprTrees) (t : ExprTree) (K : Stack) (q : Place) (rest : List Spot) → suc (hole K) ≤ d → fits_stack K ≡ true → hole K + head_height h ≤ 64
+  fit_more : {d : ℕ} {xs : List Marked} {us : ExprTrees} → MoreArgsRule d xs us → (h : Head) (ts : ExprTrees) (t : ExprTree) (K : Stack) (q : Place) (rest : List Spot) → suc (hole K) ≤ d
+      → fits_stack K ≡ true → hole K + head_height h ≤ 64
       → d + heights (push ts t) ≤ 65 → (j : ℕ) → FirstKeep j xs → (d + heights (join (push ts t) us) ≤ 65 → Along (j - length xs - 1) (Have (called h (join (push ts t) us)) K) rest)
       → Along j (Have t (InArgs h ts K)) (spots_of xs ++ (sign_spot sign.CloseRound q ∷ rest))
   fit_more {d} end_args h ts t K q rest hd fs hh hs j k c =
       let e = join_none (push ts t) in
-      along_step j (Have t (InArgs h ts K)) (sign_spot sign.CloseRound q) rest (λ y. and_true (hole K + height (called h (push ts t))) 65 (fits_stack K) (omega (arith, called_height h (push ts t))) fs)
+      along_step j (Have t (InArgs h ts K)) (sign_spot sign.CloseRound q) rest
+      (λ y. and_true (hole K + height (called h (push ts t))) 65 (fits_stack K) (omega (arith, called_height h (push ts t))) fs)
       (let i : j - 0 - 1 ≡ j - 1 = omega arith in along_is (j - 0 - 1) (j - 1) (Have (called h (push ts t)) K) rest i
       (subst (λ vs. Along (j - 0 - 1) (Have (called h vs) K) rest) e (c (subst (λ vs. d + heights vs ≤ 65) (sym e) hs))))
   fit_more {d} {xs} (more_args {t = u} {ts = us} p next more r m e) h ts t K q rest hd fs hh hs j k c =
       let s = sign_spot sign.CloseRound q ∷ rest in
-      let flat : sign_spot sign.Comma p ∷ (spots_of next ++ (spots_of more ++ s)) ≡ spots_of xs ++ s = sym (ap (λ z. spots_of z ++ s) e ∙ ap (λ z. sign_spot sign.Comma p ∷ (z ++ s)) (spots_append next more) ∙ ap (λ z. sign_spot sign.Comma p ∷ z) (append_assoc (spots_of next) (spots_of more) s)) in
+      let flat : sign_spot sign.Comma p ∷ (spots_of next ++ (spots_of more ++ s)) ≡ spots_of xs ++ s =
+      sym (ap (λ z. spots_of z ++ s) e ∙ ap (λ z. sign_spot sign.Comma p ∷ (z ++ s)) (spots_append next more)
+      ∙ ap (λ z. sign_spot sign.Comma p ∷ z) (append_assoc (spots_of next) (spots_of more) s)) in
       let k0 = keep_first j (sign_at sign.Comma p) (next ++ more) (subst (FirstKeep j) e k) in
       let k1 = keep_append (j - 1) next more k0.1 in
       let i : j - length xs - 1 ≡ j - 1 - length next - length more - 1 = omega (arith, ap length e, length-append next more) in

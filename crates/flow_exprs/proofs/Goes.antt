@@ -34,12 +34,14 @@ good_state n base (Want K) toks f a h =
 good_state n base (Have t K) toks f a h =
     let o = f.rule (need K) (hole K) in
     let b : 5 ≤ n → hole K + height t ≤ 65 = λ i. le_true (hole K + height t) 65 (and_left (nat_le (hole K + height t) 65) (fits_stack K) (h i)) in
-    let g = plug n base K f.front f.stack (λ i. and_right (nat_le (hole K + height t) 65) (fits_stack K) (h i)) t o.marked [] (subst (λ z. ExprRule (need K) (hole K) z t) (sym (append-nil o.marked)) o.rule) (o.keeps n b) in
+    let g = plug n base K f.front f.stack (λ i. and_right (nat_le (hole K + height t) 65) (fits_stack K) (h i)) t o.marked []
+    (subst (λ z. ExprRule (need K) (hole K) z t) (sym (append-nil o.marked)) o.rule) (o.keeps n b) in
     subst (Good (ExprRule 0 base) n) (ap (λ z. f.front ++ z) o.is ∙ sym f.is) g
 good_state n base (WantArgs c K) toks f a h =
     let x = f.3 (hole K) in
     let b : 5 ≤ n → hole K + head_height c ≤ 64 = λ i. le_true (hole K + head_height c) 64 (and_left (nat_le (hole K + head_height c) 64) (fits_stack K) (h i)) in
-    let g = plug n base K f.0 f.2 (λ i. and_right (nat_le (hole K + head_height c) 64) (fits_stack K) (h i)) (called c NoExprs) x.marked (sign_at sign.CloseRound nowhere ∷ []) (x.rule (need K) nowhere [] NoExprs no_args) (x.keeps n b) in
+    let g = plug n base K f.0 f.2 (λ i. and_right (nat_le (hole K + head_height c) 64) (fits_stack K) (h i)) (called c NoExprs) x.marked (sign_at sign.CloseRound nowhere ∷ [])
+    (x.rule (need K) nowhere [] NoExprs no_args) (x.keeps n b) in
     subst (Good (ExprRule 0 base) n) (ap (λ z. f.0 ++ z) x.is ∙ sym f.4) g
 good_state n base (WantName t K) toks f a h =
     let d = hole K in
@@ -54,11 +56,13 @@ good_state n base (WantName t K) toks f a h =
     let e : spots_of (left ++ dot) ≡ f.1 ++ sign_spot sign.Dot f.2 ∷ [] = spots_append left dot ∙ ap (λ z. z ++ sign_spot sign.Dot f.2 ∷ []) (spots_begin (Node d) o.marked ∙ o.is) in
     subst (Good (ExprRule 0 base) n) (ap (λ z. f.0 ++ z) e ∙ sym f.5) g
 good_state n base (WantOpen K) toks f a h =
-    let g = plug n base K f.0 f.2 (λ i. and_right (nat_le (hole K) 64) (fits_stack K) (h i)) VoidExpr (node_word (hole K) word.Void f.1 ∷ []) (sign_at sign.OpenRound nowhere ∷ sign_at sign.CloseRound nowhere ∷ []) (void f.1 nowhere nowhere)
+    let g = plug n base K f.0 f.2 (λ i. and_right (nat_le (hole K) 64) (fits_stack K) (h i)) VoidExpr (node_word (hole K) word.Void f.1 ∷ [])
+    (sign_at sign.OpenRound nowhere ∷ sign_at sign.CloseRound nowhere ∷ []) (void f.1 nowhere nowhere)
     (((λ l. le_true (hole K) 64 (and_left (nat_le (hole K) 64) (fits_stack K) (h l))), tt), tt) in
     subst (Good (ExprRule 0 base) n) (sym f.3) g
 good_state n base (WantClose K) toks f a h =
-    let g = plug n base K f.0 f.3 (λ i. and_right (nat_le (hole K) 64) (fits_stack K) (h i)) VoidExpr (node_word (hole K) word.Void f.1 ∷ sign_at sign.OpenRound f.2 ∷ []) (sign_at sign.CloseRound nowhere ∷ []) (void f.1 f.2 nowhere)
+    let g = plug n base K f.0 f.3 (λ i. and_right (nat_le (hole K) 64) (fits_stack K) (h i)) VoidExpr (node_word (hole K) word.Void f.1 ∷ sign_at sign.OpenRound f.2 ∷ [])
+    (sign_at sign.CloseRound nowhere ∷ []) (void f.1 f.2 nowhere)
     (((λ l. le_true (hole K) 64 (and_left (nat_le (hole K) 64) (fits_stack K) (h l))), tt), (tt, tt)) in
     subst (Good (ExprRule 0 base) n) (sym f.4) g
 good_state n base Dead toks f a h = absurd a

@@ -26,7 +26,8 @@ called_callee : (h : Head) (ts : ExprTrees) (toks : List Spot) → CallOwn (call
 called_callee (Function f) ts toks = tt
 called_callee (Method t f) ts toks = tt
 
-close_step : (base : ℕ) (t : ExprTree) (K : Stack) (toks : List Spot) (x : Token) (p : Place) → x ≡ token.Sign sign.CloseRound → Closed base 0 t K toks → HasRead base (after_close t K) (toks ++ spot x p ∷ [])
+close_step : (base : ℕ) (t : ExprTree) (K : Stack) (toks : List Spot) (x : Token) (p : Place) → x ≡ token.Sign sign.CloseRound → Closed base 0 t K toks
+    → HasRead base (after_close t K) (toks ++ spot x p ∷ [])
 close_step base t (Top d) toks x p e c = tt
 close_step base t (InParen K) toks x p e c =
     let s = c.stack in
@@ -51,7 +52,8 @@ close_step base t (InArgs h ts K) toks x p e c =
       is = ap (λ y. toks ++ spot y p ∷ []) e ∙ ap (λ z. z ++ sign_spot sign.CloseRound p ∷ []) (c.is ∙ ap (λ z. z ++ c.own) s.6) ∙ simp append_assoc;
     }
 
-comma_step : (base : ℕ) (t : ExprTree) (K : Stack) (toks : List Spot) (x : Token) (p : Place) → x ≡ token.Sign sign.Comma → Closed base 0 t K toks → HasRead base (after_comma t K) (toks ++ spot x p ∷ [])
+comma_step : (base : ℕ) (t : ExprTree) (K : Stack) (toks : List Spot) (x : Token) (p : Place) → x ≡ token.Sign sign.Comma → Closed base 0 t K toks
+    → HasRead base (after_comma t K) (toks ++ spot x p ∷ [])
 comma_step base t (Top d) toks x p e c = tt
 comma_step base t (InParen K) toks x p e c = tt
 comma_step base t (InUnary u K) toks x p e c = tt
@@ -67,13 +69,15 @@ comma_step base t (InArgs h ts K) toks x p e c =
       ap (λ y. toks ++ spot y p ∷ []) e ∙ ap (λ z. z ++ sign_spot sign.Comma p ∷ []) (c.is ∙ ap (λ z. z ++ c.own) s.6) ∙ simp append_assoc,
     )
 
-open_step : (base : ℕ) (t : ExprTree) (K : Stack) (toks : List Spot) (x : Token) (p : Place) → x ≡ token.Sign sign.OpenRound → HaveRead base t K toks → HasRead base (after_open t K) (toks ++ spot x p ∷ [])
+open_step : (base : ℕ) (t : ExprTree) (K : Stack) (toks : List Spot) (x : Token) (p : Place) → x ≡ token.Sign sign.OpenRound → HaveRead base t K toks
+    → HasRead base (after_open t K) (toks ++ spot x p ∷ [])
 open_step base (VarExpr v) K toks x p e h = (
   h.front,
   name_spot v ∷ sign_spot sign.OpenRound p ∷ [],
   h.stack,
   (λ d. function_head d v p),
-  ap (λ y. toks ++ spot y p ∷ []) e ∙ ap (λ z. z ++ sign_spot sign.OpenRound p ∷ []) (h.is ∙ ap (λ z. h.front ++ z) h.callee) ∙ append_assoc h.front (name_spot v ∷ []) (sign_spot sign.OpenRound p ∷ []),
+  ap (λ y. toks ++ spot y p ∷ []) e ∙ ap (λ z. z ++ sign_spot sign.OpenRound p ∷ []) (h.is ∙ ap (λ z. h.front ++ z) h.callee)
+      ∙ append_assoc h.front (name_spot v ∷ []) (sign_spot sign.OpenRound p ∷ []),
 )
 open_step base (FieldExpr t v) K toks x p e h =
     let c = h.callee in (
@@ -112,7 +116,8 @@ want_step base K kind.Comma toks x p e f = tt
 want_step base K kind.Dot toks x p e f = tt
 want_step base K kind.Other toks x p e f = tt
 
-have_step : (base : ℕ) (t : ExprTree) (K : Stack) (k : Kind) (toks : List Spot) (x : Token) (p : Place) → KindSpot k x p → HaveRead base t K toks → HasRead base (step_kind (Have t K) k (spot x p)) (toks ++ spot x p ∷ [])
+have_step : (base : ℕ) (t : ExprTree) (K : Stack) (k : Kind) (toks : List Spot) (x : Token) (p : Place) → KindSpot k x p → HaveRead base t K toks
+    → HasRead base (step_kind (Have t K) k (spot x p)) (toks ++ spot x p ∷ [])
 have_step base t K kind.Open toks x p e h = open_step base t K toks x p e h
 have_step base t K kind.Close toks x p e h = close_step base (closed_tree 0 t K) (closed_stack 0 K) toks x p e (closed base 0 t K toks (omega arith) h)
 have_step base t K kind.Comma toks x p e h = comma_step base (closed_tree 0 t K) (closed_stack 0 K) toks x p e (closed base 0 t K toks (omega arith) h)
@@ -139,7 +144,8 @@ have_step base t K _ toks x p e h = tt
 args_front : (base : ℕ) (h : Head) (K : Stack) (toks : List Spot) → HasRead base (WantArgs h K) toks → Front base (InArgs h NoExprs K) toks
 args_front base h K toks f = (f.0, f.1, [], f.2, f.3, (λ d. first_args d), f.4 ∙ ap (λ z. f.0 ++ z) (sym (append-nil f.1)))
 
-args_step : (base : ℕ) (h : Head) (K : Stack) (k : Kind) (toks : List Spot) (x : Token) (p : Place) → KindSpot k x p → HasRead base (WantArgs h K) toks → HasRead base (step_kind (WantArgs h K) k (spot x p)) (toks ++ spot x p ∷ [])
+args_step : (base : ℕ) (h : Head) (K : Stack) (k : Kind) (toks : List Spot) (x : Token) (p : Place) → KindSpot k x p → HasRead base (WantArgs h K) toks
+    → HasRead base (step_kind (WantArgs h K) k (spot x p)) (toks ++ spot x p ∷ [])
 args_step base h K kind.Close toks x p e f = record {
   front = f.0;
   own = f.1 ++ sign_spot sign.CloseRound p ∷ [];
@@ -158,7 +164,8 @@ args_step base h K kind.Comma toks x p e f = tt
 args_step base h K kind.Dot toks x p e f = tt
 args_step base h K kind.Other toks x p e f = tt
 
-name_step : (base : ℕ) (t : ExprTree) (K : Stack) (k : Kind) (toks : List Spot) (x : Token) (p : Place) → KindSpot k x p → HasRead base (WantName t K) toks → HasRead base (step_kind (WantName t K) k (spot x p)) (toks ++ spot x p ∷ [])
+name_step : (base : ℕ) (t : ExprTree) (K : Stack) (k : Kind) (toks : List Spot) (x : Token) (p : Place) → KindSpot k x p → HasRead base (WantName t K) toks
+    → HasRead base (step_kind (WantName t K) k (spot x p)) (toks ++ spot x p ∷ [])
 name_step base t K kind.Name toks x p e f =
     let v = ident (spot x p) in
     record {
@@ -171,18 +178,28 @@ name_step base t K kind.Name toks x p e f =
     }
 name_step base t K _ toks x p e f = tt
 
-round_step : (base : ℕ) (K : Stack) (k : Kind) (toks : List Spot) (x : Token) (p : Place) → KindSpot k x p → HasRead base (WantOpen K) toks → HasRead base (step_kind (WantOpen K) k (spot x p)) (toks ++ spot x p ∷ [])
-round_step base K kind.Open toks x p e f = (f.0, f.1, p, f.2, ap (λ y. toks ++ spot y p ∷ []) e ∙ ap (λ z. z ++ sign_spot sign.OpenRound p ∷ []) f.3 ∙ append_assoc f.0 (spot (token.Word word.Void) f.1 ∷ []) (sign_spot sign.OpenRound p ∷ []))
+round_step : (base : ℕ) (K : Stack) (k : Kind) (toks : List Spot) (x : Token) (p : Place) → KindSpot k x p → HasRead base (WantOpen K) toks
+    → HasRead base (step_kind (WantOpen K) k (spot x p)) (toks ++ spot x p ∷ [])
+round_step base K kind.Open toks x p e f = (
+  f.0,
+  f.1,
+  p,
+  f.2,
+  ap (λ y. toks ++ spot y p ∷ []) e ∙ ap (λ z. z ++ sign_spot sign.OpenRound p ∷ []) f.3
+      ∙ append_assoc f.0 (spot (token.Word word.Void) f.1 ∷ []) (sign_spot sign.OpenRound p ∷ []),
+)
 round_step base K _ toks x p e f = tt
 
-shut_step : (base : ℕ) (K : Stack) (k : Kind) (toks : List Spot) (x : Token) (p : Place) → KindSpot k x p → HasRead base (WantClose K) toks → HasRead base (step_kind (WantClose K) k (spot x p)) (toks ++ spot x p ∷ [])
+shut_step : (base : ℕ) (K : Stack) (k : Kind) (toks : List Spot) (x : Token) (p : Place) → KindSpot k x p → HasRead base (WantClose K) toks
+    → HasRead base (step_kind (WantClose K) k (spot x p)) (toks ++ spot x p ∷ [])
 shut_step base K kind.Close toks x p e f = record {
   front = f.0;
   own = spot (token.Word word.Void) f.1 ∷ sign_spot sign.OpenRound f.2 ∷ sign_spot sign.CloseRound p ∷ [];
   stack = f.3;
   rule = λ m d. void_own m d f.1 f.2 p;
   callee = tt;
-  is = ap (λ y. toks ++ spot y p ∷ []) e ∙ ap (λ z. z ++ sign_spot sign.CloseRound p ∷ []) f.4 ∙ append_assoc f.0 (spot (token.Word word.Void) f.1 ∷ sign_spot sign.OpenRound f.2 ∷ []) (sign_spot sign.CloseRound p ∷ []);
+  is = ap (λ y. toks ++ spot y p ∷ []) e ∙ ap (λ z. z ++ sign_spot sign.CloseRound p ∷ []) f.4
+      ∙ append_assoc f.0 (spot (token.Word word.Void) f.1 ∷ sign_spot sign.OpenRound f.2 ∷ []) (sign_spot sign.CloseRound p ∷ []);
 }
 shut_step base K _ toks x p e f = tt
 
@@ -202,7 +219,8 @@ pub le_true : (a b : ℕ) → nat_le a b ≡ true → a ≤ b
 le_true a b h = grind arith
 
 -- what is read at the place that is wanted, put into what is open around it
-pub plug : (n base : ℕ) (K : Stack) (front : List Spot) → Front base K front → (5 ≤ n → fits_stack K ≡ true) → (t : ExprTree) (read rest : List Marked) → ExprRule (need K) (hole K) (read ++ rest) t → Keeps n read
+pub plug : (n base : ℕ) (K : Stack) (front : List Spot) → Front base K front → (5 ≤ n → fits_stack K ≡ true) → (t : ExprTree) (read rest : List Marked) → ExprRule (need K) (hole K) (read ++ rest) t
+    → Keeps n read
     → Good (ExprRule 0 base) n (front ++ spots_of read)
 plug n base (Top d) front f h t read rest r k = record {
   read = read;
@@ -253,7 +271,9 @@ plug n base (InArgs c ts K) front f h t read rest r k =
     let le : 5 ≤ n → bound ≤ 64 = λ i. le_true bound 64 (and_left (nat_le bound 64) (fits_stack K) (h i)) in
     let shut = sign_at sign.CloseRound (record { line = 0; column = 0; byte = 0 }) ∷ [] in
     let args = y.rule (read ++ rest) [] t NoExprs r end_args in
-    let args' : ArgsRule (suc (hole K)) (y.marked ++ (read ++ rest)) (push ts t) = subst (λ z. ArgsRule (suc (hole K)) (y.marked ++ z) (push ts t)) (append-nil (read ++ rest)) (subst (λ z. ArgsRule (suc (hole K)) (y.marked ++ ((read ++ rest) ++ [])) z) (join_none (push ts t)) args) in
+    let args' : ArgsRule (suc (hole K)) (y.marked ++ (read ++ rest)) (push ts t) =
+    subst (λ z. ArgsRule (suc (hole K)) (y.marked ++ z) (push ts t)) (append-nil (read ++ rest))
+    (subst (λ z. ArgsRule (suc (hole K)) (y.marked ++ ((read ++ rest) ++ [])) z) (join_none (push ts t)) args) in
     let flat : x.marked ++ ((y.marked ++ (read ++ rest)) ++ shut) ≡ (x.marked ++ (y.marked ++ read)) ++ (rest ++ shut) = simp append_assoc in
     let g = plug n base K a f.3 (λ i. and_right (nat_le bound 64) (fits_stack K) (h i)) (called c (push ts t)) (x.marked ++ (y.marked ++ read)) (rest ++ shut)
     (subst (λ z. ExprRule (need K) (hole K) z (called c (push ts t))) flat (x.rule (need K) (record { line = 0; column = 0; byte = 0 }) (y.marked ++ (read ++ rest)) (push ts t) args'))

@@ -60,7 +60,8 @@ pub record Closed (base n : ℕ) (t : ExprTree) (K : Stack) (toks : List Spot) :
   pub rule : (d : ℕ) → Own n d own t
   pub is : toks ≡ front ++ own
 
-unary_front : (base : ℕ) (u : Unary) (K : Stack) (toks : List Spot) → Front base (InUnary u K) toks → (a : List Spot) × (x : Spot) × Front base K a × (toks ≡ a ++ x ∷ []) × ((m d : ℕ) (t : ExprTree) (b : List Spot) → m ≤ 6 → Own 6 (suc d) b t → Own m d (x ∷ b) (unary u t))
+unary_front : (base : ℕ) (u : Unary) (K : Stack) (toks : List Spot) → Front base (InUnary u K) toks
+    → (a : List Spot) × (x : Spot) × Front base K a × (toks ≡ a ++ x ∷ []) × ((m d : ℕ) (t : ExprTree) (b : List Spot) → m ≤ 6 → Own 6 (suc d) b t → Own m d (x ∷ b) (unary u t))
 unary_front base Negation K toks f = (f.0, sign_spot sign.Not f.1, f.2, f.3, λ m d t b le o. not_own m d f.1 b t le o)
 unary_front base Minus K toks f = (f.0, sign_spot sign.Minus f.1, f.2, f.3, λ m d t b le o. minus_own m d f.1 b t le o)
 
@@ -119,7 +120,8 @@ pub call_some : (m d : ℕ) (h : Head) (ts : ExprTrees) (t : ExprTree) (a b c : 
     → Own m d (a ++ ((b ++ c) ++ sign_spot sign.CloseRound p ∷ [])) (called h (push ts t))
 call_some m d h ts t a b c p x y o =
     let r = y.rule o.marked [] t NoExprs o.rule end_args in
-    let r' : ArgsRule (suc d) (y.marked ++ o.marked) (push ts t) = subst (λ z. ArgsRule (suc d) (y.marked ++ z) (push ts t)) (append-nil o.marked) (subst (λ z. ArgsRule (suc d) (y.marked ++ (o.marked ++ [])) z) (join_none (push ts t)) r) in
+    let r' : ArgsRule (suc d) (y.marked ++ o.marked) (push ts t) =
+    subst (λ z. ArgsRule (suc d) (y.marked ++ z) (push ts t)) (append-nil o.marked) (subst (λ z. ArgsRule (suc d) (y.marked ++ (o.marked ++ [])) z) (join_none (push ts t)) r) in
     record {
       marked = x.marked ++ ((y.marked ++ o.marked) ++ sign_at sign.CloseRound p ∷ []);
       rule = x.rule m p (y.marked ++ o.marked) (push ts t) r';
@@ -130,7 +132,8 @@ call_some m d h ts t a b c p x y o =
           ∙ ap (λ z. a ++ ((b ++ z) ++ sign_spot sign.CloseRound p ∷ [])) o.is;
       keeps = λ n e. keeps_append n x.marked ((y.marked ++ o.marked) ++ sign_at sign.CloseRound p ∷ []) (x.keeps n (λ i. omega (arith, e i, called_height h (push ts t))))
           (keeps_append n (y.marked ++ o.marked) (sign_at sign.CloseRound p ∷ [])
-          (keeps_append n y.marked o.marked (y.keeps n (λ i. omega (arith, e i, called_height h (push ts t), heights_push ts t))) (o.keeps n (λ i. omega (arith, e i, called_height h (push ts t), heights_push ts t)))) (tt, tt));
+          (keeps_append n y.marked o.marked (y.keeps n (λ i. omega (arith, e i, called_height h (push ts t), heights_push ts t)))
+          (o.keeps n (λ i. omega (arith, e i, called_height h (push ts t), heights_push ts t)))) (tt, tt));
     }
 
 -- what is called
@@ -142,11 +145,14 @@ function_head d f p = record {
   keeps = λ n h. (((λ l. omega (arith, h l)), tt), (tt, tt));
 }
 
-pub method_head : (d : ℕ) (t : ExprTree) (f : Ident) (a : List Spot) (p q : Place) → Own 7 (suc d) a t → HeadOwn d (a ++ (sign_spot sign.Dot p ∷ name_spot f ∷ sign_spot sign.OpenRound q ∷ [])) (Method t f)
+pub method_head : (d : ℕ) (t : ExprTree) (f : Ident) (a : List Spot) (p q : Place) → Own 7 (suc d) a t
+    → HeadOwn d (a ++ (sign_spot sign.Dot p ∷ name_spot f ∷ sign_spot sign.OpenRound q ∷ [])) (Method t f)
 method_head d t f a p q o = record {
   marked = begin (Node d) o.marked ++ (sign_at sign.Dot p ∷ name_at f ∷ sign_at sign.OpenRound q ∷ []);
-  rule = λ m r args ts y. method p q r f o.marked args o.rule y (append_assoc (begin (Node d) o.marked) (sign_at sign.Dot p ∷ name_at f ∷ sign_at sign.OpenRound q ∷ []) (args ++ sign_at sign.CloseRound r ∷ []));
-  is = spots_append (begin (Node d) o.marked) (sign_at sign.Dot p ∷ name_at f ∷ sign_at sign.OpenRound q ∷ []) ∙ ap (λ z. z ++ (sign_spot sign.Dot p ∷ name_spot f ∷ sign_spot sign.OpenRound q ∷ [])) (spots_begin (Node d) o.marked ∙ o.is);
+  rule = λ m r args ts y. method p q r f o.marked args o.rule y (append_assoc (begin (Node d) o.marked) (sign_at sign.Dot p ∷ name_at f ∷ sign_at sign.OpenRound q ∷ [])
+      (args ++ sign_at sign.CloseRound r ∷ []));
+  is = spots_append (begin (Node d) o.marked) (sign_at sign.Dot p ∷ name_at f ∷ sign_at sign.OpenRound q ∷ [])
+      ∙ ap (λ z. z ++ (sign_spot sign.Dot p ∷ name_spot f ∷ sign_spot sign.OpenRound q ∷ [])) (spots_begin (Node d) o.marked ∙ o.is);
   keeps = λ n h. keeps_append n (begin (Node d) o.marked) (sign_at sign.Dot p ∷ name_at f ∷ sign_at sign.OpenRound q ∷ [])
       (keeps_begin n (Node d) o.marked (λ i. omega (arith, h i, height_some t)) (o.keeps n (λ i. omega (arith, h i)))) (tt, (tt, (tt, tt)));
 }

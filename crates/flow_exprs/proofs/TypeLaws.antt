@@ -41,7 +41,8 @@ wrapped_height FutureStreamOf t = refl
 wrapped_height PromiseOf t = refl
 wrapped_height PromiseStreamOf t = refl
 
-wrapped_own : (d : ℕ) (w : Wrapper) (p q r : Place) (toks : List Spot) (t : TypeTree) → OwnType (suc d) toks t → OwnType d (word_spot (wrapper_word w) p ∷ sign_spot sign.Less q ∷ (toks ++ sign_spot sign.Greater r ∷ [])) (wrapped w t)
+wrapped_own : (d : ℕ) (w : Wrapper) (p q r : Place) (toks : List Spot) (t : TypeTree) → OwnType (suc d) toks t
+    → OwnType d (word_spot (wrapper_word w) p ∷ sign_spot sign.Less q ∷ (toks ++ sign_spot sign.Greater r ∷ [])) (wrapped w t)
 wrapped_own d w p q r toks t o = record {
   marked = node_word d (wrapper_word w) p ∷ sign_at sign.Less q ∷ (o.marked ++ sign_at sign.Greater r ∷ []);
   rule = wrapped_type w p q r o.marked o.rule refl;
@@ -94,13 +95,19 @@ sign_type_spot sign.Greater p = refl
 sign_type_spot _ p = tt
 
 type_spot : (x : Token) (p : Place) → TypeSpot (type_kind_of x) x p
-type_spot (token.Name n) p = λ d. record { marked = node_name d (record { name = n; at = p }) ∷ []; rule = named_type (record { name = n; at = p }); is = refl; keeps = λ i h. (((λ l. omega (arith, h l)), tt), tt) }
+type_spot (token.Name n) p = λ d. record {
+  marked = node_name d (record { name = n; at = p }) ∷ [];
+  rule = named_type (record { name = n; at = p });
+  is = refl;
+  keeps = λ i h. (((λ l. omega (arith, h l)), tt), tt);
+}
 type_spot (token.Word w) p = word_type_spot w p
 type_spot (token.Sign s) p = sign_type_spot s p
 type_spot (token.Number n) p = tt
 type_spot (token.Text b) p = tt
 
-greater_step : (base : ℕ) (t : TypeTree) (K : Around) (toks : List Spot) (x : Token) (p : Place) → x ≡ token.Sign sign.Greater → TypeHave base t K toks → HasReadType base (type_greater t K) (toks ++ spot x p ∷ [])
+greater_step : (base : ℕ) (t : TypeTree) (K : Around) (toks : List Spot) (x : Token) (p : Place) → x ≡ token.Sign sign.Greater → TypeHave base t K toks
+    → HasReadType base (type_greater t K) (toks ++ spot x p ∷ [])
 greater_step base t (Bottom d) toks x p e h = tt
 greater_step base t (Inside w K) toks x p e h =
     let s = h.around in
@@ -112,14 +119,22 @@ greater_step base t (Inside w K) toks x p e h =
       is = ap (λ y. toks ++ spot y p ∷ []) e ∙ ap (λ z. z ++ sign_spot sign.Greater p ∷ []) (h.is ∙ ap (λ z. z ++ h.own) s.4) ∙ simp append_assoc;
     }
 
-type_kind_step : (base : ℕ) (S : TypeState) (k : TypeKind) (toks : List Spot) (x : Token) (p : Place) → TypeSpot k x p → HasReadType base S toks → HasReadType base (type_step_kind S k (spot x p)) (toks ++ spot x p ∷ [])
+type_kind_step : (base : ℕ) (S : TypeState) (k : TypeKind) (toks : List Spot) (x : Token) (p : Place) → TypeSpot k x p → HasReadType base S toks
+    → HasReadType base (type_step_kind S k (spot x p)) (toks ++ spot x p ∷ [])
 type_kind_step base (WantType K) Plain toks x p e f = record { front = toks; own = spot x p ∷ []; around = f; rule = e; is = refl }
 type_kind_step base (WantType K) Future toks x p e f = (toks, p, f, ap (λ y. toks ++ spot y p ∷ []) e)
 type_kind_step base (WantType K) FutureStream toks x p e f = (toks, p, f, ap (λ y. toks ++ spot y p ∷ []) e)
 type_kind_step base (WantType K) Promise toks x p e f = (toks, p, f, ap (λ y. toks ++ spot y p ∷ []) e)
 type_kind_step base (WantType K) PromiseStream toks x p e f = (toks, p, f, ap (λ y. toks ++ spot y p ∷ []) e)
 type_kind_step base (WantType K) _ toks x p e f = tt
-type_kind_step base (WantLess w K) Less toks x p e f = (f.0, f.1, p, f.2, ap (λ y. toks ++ spot y p ∷ []) e ∙ ap (λ z. z ++ sign_spot sign.Less p ∷ []) f.3 ∙ append_assoc f.0 (word_spot (wrapper_word w) f.1 ∷ []) (sign_spot sign.Less p ∷ []))
+type_kind_step base (WantLess w K) Less toks x p e f = (
+  f.0,
+  f.1,
+  p,
+  f.2,
+  ap (λ y. toks ++ spot y p ∷ []) e ∙ ap (λ z. z ++ sign_spot sign.Less p ∷ []) f.3
+      ∙ append_assoc f.0 (word_spot (wrapper_word w) f.1 ∷ []) (sign_spot sign.Less p ∷ []),
+)
 type_kind_step base (WantLess w K) _ toks x p e f = tt
 type_kind_step base (HaveType t K) Greater toks x p e f = greater_step base t K toks x p e f
 type_kind_step base (HaveType t K) _ toks x p e f = tt
@@ -135,12 +150,14 @@ feed_type S (x ∷ xs) = feed_type (type_step S x) xs
 
 feed_reads : (base : ℕ) (xs : List Spot) (S : TypeState) (toks : List Spot) → HasReadType base S toks → HasReadType base (feed_type S xs) (toks ++ xs)
 feed_reads base [] S toks h = subst (HasReadType base S) (sym (append-nil toks)) h
-feed_reads base (x ∷ xs) S toks h = subst (HasReadType base (feed_type (type_step S x) xs)) (append_assoc toks (x ∷ []) xs) (feed_reads base xs (type_step S x) (toks ++ x ∷ []) (type_kind_step base S (type_kind_of x.token) toks x.token x.at (type_spot x.token x.at) h))
+feed_reads base (x ∷ xs) S toks h = subst (HasReadType base (feed_type (type_step S x) xs)) (append_assoc toks (x ∷ []) xs)
+    (feed_reads base xs (type_step S x) (toks ++ x ∷ []) (type_kind_step base S (type_kind_of x.token) toks x.token x.at (type_spot x.token x.at) h))
 
 has_read_type : (base : ℕ) (xs : List Spot) → HasReadType base (feed_type (WantType (Bottom base)) xs) xs
 has_read_type base xs = feed_reads base xs (WantType (Bottom base)) [] (refl, refl)
 
-plug_type : (n base : ℕ) (K : Around) (front : List Spot) → FrontType base K front → (5 ≤ n → around_fits K ≡ true) → (t : TypeTree) (read rest : List Marked) → TypeRule (type_hole K) (read ++ rest) t → Keeps n read → Good (TypeRule base) n (front ++ spots_of read)
+plug_type : (n base : ℕ) (K : Around) (front : List Spot) → FrontType base K front → (5 ≤ n → around_fits K ≡ true) → (t : TypeTree) (read rest : List Marked) → TypeRule (type_hole K) (read ++ rest) t
+    → Keeps n read → Good (TypeRule base) n (front ++ spots_of read)
 plug_type n base (Bottom d) front f h t read rest r k = record {
   read = read;
   rest = rest;
@@ -155,7 +172,8 @@ plug_type n base (Inside w K) front f h t read rest r k =
     let g = plug_type n base K a f.3 (λ l. and_right (nat_le (type_hole K) 64) (around_fits K) (h l)) (wrapped w t) (head ++ read) (rest ++ sign_at sign.Greater nowhere ∷ [])
     (wrapped_type w p q nowhere (read ++ rest) r (ap (λ z. head ++ z) (sym (append_assoc read rest (sign_at sign.Greater nowhere ∷ [])))))
     (((λ l. le_true (type_hole K) 64 (and_left (nat_le (type_hole K) 64) (around_fits K) (h l))), tt), (tt, k)) in
-    let e : a ++ (word_spot (wrapper_word w) p ∷ sign_spot sign.Less q ∷ spots_of read) ≡ front ++ spots_of read = sym (ap (λ z. z ++ spots_of read) f.4 ∙ append_assoc a (word_spot (wrapper_word w) p ∷ sign_spot sign.Less q ∷ []) (spots_of read)) in
+    let e : a ++ (word_spot (wrapper_word w) p ∷ sign_spot sign.Less q ∷ spots_of read) ≡ front ++ spots_of read =
+    sym (ap (λ z. z ++ spots_of read) f.4 ∙ append_assoc a (word_spot (wrapper_word w) p ∷ sign_spot sign.Less q ∷ []) (spots_of read)) in
     subst (Good (TypeRule base) n) e g
 
 good_type : (n base : ℕ) (S : TypeState) (toks : List Spot) → HasReadType base S toks → AliveType S → (5 ≤ n → type_fits S ≡ true) → Good (TypeRule base) n toks
@@ -165,14 +183,16 @@ good_type n base (WantType K) toks f a h =
 good_type n base (WantLess w K) toks f a h =
     let d = type_hole K in
     let head = node_word d (wrapper_word w) f.1 ∷ [] in
-    let g = plug_type n base K f.0 f.2 (λ l. and_right (nat_le d 64) (around_fits K) (h l)) (wrapped w IntType) head (sign_at sign.Less nowhere ∷ node_word (suc d) word.Int nowhere ∷ sign_at sign.Greater nowhere ∷ [])
+    let g = plug_type n base K f.0 f.2 (λ l. and_right (nat_le d 64) (around_fits K) (h l)) (wrapped w IntType) head
+    (sign_at sign.Less nowhere ∷ node_word (suc d) word.Int nowhere ∷ sign_at sign.Greater nowhere ∷ [])
     (wrapped_type w f.1 nowhere nowhere (node_word (suc d) word.Int nowhere ∷ []) (int_type nowhere) refl)
     (((λ l. le_true d 64 (and_left (nat_le d 64) (around_fits K) (h l))), tt), tt) in
     subst (Good (TypeRule base) n) (sym f.3) g
 good_type n base (HaveType t K) toks f a h =
     let o = f.rule (type_hole K) in
     let b : 5 ≤ n → type_hole K + type_height t ≤ 65 = λ i. le_true (type_hole K + type_height t) 65 (and_left (nat_le (type_hole K + type_height t) 65) (around_fits K) (h i)) in
-    let g = plug_type n base K f.front f.around (λ i. and_right (nat_le (type_hole K + type_height t) 65) (around_fits K) (h i)) t o.marked [] (subst (λ z. TypeRule (type_hole K) z t) (sym (append-nil o.marked)) o.rule) (o.keeps n b) in
+    let g = plug_type n base K f.front f.around (λ i. and_right (nat_le (type_hole K + type_height t) 65) (around_fits K) (h i)) t o.marked []
+    (subst (λ z. TypeRule (type_hole K) z t) (sym (append-nil o.marked)) o.rule) (o.keeps n b) in
     subst (Good (TypeRule base) n) (ap (λ z. f.front ++ z) o.is ∙ sym f.is) g
 good_type n base DeadType toks f a h = absurd a
 
@@ -183,8 +203,11 @@ wrapper_step FutureStreamOf K p = refl
 wrapper_step PromiseOf K p = refl
 wrapper_step PromiseStreamOf K p = refl
 
-inner_flat : (w : Wrapper) (d : ℕ) (p q r : Place) (of : List Marked) (rest : List Spot) → spots_of (node_word d (wrapper_word w) p ∷ sign_at sign.Less q ∷ (of ++ sign_at sign.Greater r ∷ [])) ++ rest ≡ word_spot (wrapper_word w) p ∷ sign_spot sign.Less q ∷ (spots_of of ++ (sign_spot sign.Greater r ∷ rest))
-inner_flat w d p q r of rest = ap (λ z. word_spot (wrapper_word w) p ∷ sign_spot sign.Less q ∷ z) (ap (λ z. z ++ rest) (spots_append of (sign_at sign.Greater r ∷ [])) ∙ append_assoc (spots_of of) (sign_spot sign.Greater r ∷ []) rest)
+inner_flat : (w : Wrapper) (d : ℕ) (p q r : Place) (of : List Marked) (rest : List Spot)
+    → spots_of (node_word d (wrapper_word w) p ∷ sign_at sign.Less q ∷ (of ++ sign_at sign.Greater r ∷ [])) ++ rest ≡ word_spot (wrapper_word w) p ∷ sign_spot sign.Less q
+    ∷ (spots_of of ++ (sign_spot sign.Greater r ∷ rest))
+inner_flat w d p q r of rest = ap (λ z. word_spot (wrapper_word w) p ∷ sign_spot sign.Less q ∷ z)
+    (ap (λ z. z ++ rest) (spots_append of (sign_at sign.Greater r ∷ [])) ∙ append_assoc (spots_of of) (sign_spot sign.Greater r ∷ []) rest)
 
 reads_type : {d : ℕ} {xs : List Marked} {t : TypeTree} → TypeRule d xs t → (K : Around) (rest : List Spot) → feed_type (WantType K) (spots_of xs ++ rest) ≡ feed_type (HaveType t K) rest
 reads_type (int_type p) K rest = refl
@@ -211,7 +234,8 @@ along_step : (j : ℕ) (S : TypeState) (x : Spot) (xs : List Spot) → (0 < j �
 along_step zero S x xs f = tt
 along_step (suc j) S x xs f = let r = f (omega arith) in let e : suc j - 1 ≡ j = omega arith in (r.0, along_is (suc j - 1) j (type_step S x) xs e r.1)
 
-leaf_fit : (d : ℕ) (x : Marked) (t : TypeTree) (K : Around) (j : ℕ) (rest : List Spot) → type_step (WantType K) x.spot ≡ HaveType t K → type_height t ≡ 1 → x.parts ≡ Node d ∷ [] → type_hole K ≡ d → around_fits K ≡ true
+leaf_fit : (d : ℕ) (x : Marked) (t : TypeTree) (K : Around) (j : ℕ) (rest : List Spot) → type_step (WantType K) x.spot ≡ HaveType t K → type_height t ≡ 1 → x.parts ≡ Node d ∷ [] → type_hole K ≡ d
+    → around_fits K ≡ true
     → FirstKeep j (x ∷ []) → (d + type_height t ≤ 65 → AlongType (j - 1) (HaveType t K) rest) → AlongType j (WantType K) (x.spot ∷ rest)
 leaf_fit d x t K zero rest s one ps hd fs k c = tt
 leaf_fit d x t K (suc j) rest s one ps hd fs k c =
@@ -221,7 +245,8 @@ leaf_fit d x t K (suc j) rest s one ps hd fs k c =
     let e : suc j - 1 ≡ j = omega arith in
     subst (λ S. (type_fits S ≡ true) × AlongType j S rest) (sym s) (and_true (type_hole K + type_height t) 65 (around_fits K) (omega arith) fs, along_is (suc j - 1) j (HaveType t K) rest e a)
 
-fit_type : {d : ℕ} {xs : List Marked} {t : TypeTree} → TypeRule d xs t → (K : Around) → type_hole K ≡ d → around_fits K ≡ true → (j : ℕ) (rest : List Spot) → FirstKeep j xs → (d + type_height t ≤ 65 → AlongType (j - length xs) (HaveType t K) rest) → AlongType j (WantType K) (spots_of xs ++ rest)
+fit_type : {d : ℕ} {xs : List Marked} {t : TypeTree} → TypeRule d xs t → (K : Around) → type_hole K ≡ d → around_fits K ≡ true → (j : ℕ) (rest : List Spot) → FirstKeep j xs
+    → (d + type_height t ≤ 65 → AlongType (j - length xs) (HaveType t K) rest) → AlongType j (WantType K) (spots_of xs ++ rest)
 fit_type {d} (int_type p) K hd fs j rest k c = leaf_fit d (node_word d word.Int p) IntType K j rest refl refl refl hd fs k c
 fit_type {d} (bool_type p) K hd fs j rest k c = leaf_fit d (node_word d word.Bool p) BoolType K j rest refl refl refl hd fs k c
 fit_type {d} (string_type p) K hd fs j rest k c = leaf_fit d (node_word d word.Str p) StringType K j rest refl refl refl hd fs k c
@@ -231,7 +256,8 @@ fit_type {d} (named_type x) K hd fs j rest k c = leaf_fit d (node_name d x) (Nam
 fit_type {d} {xs} (wrapped_type {t = t} w p q r of rule e) K hd fs j rest k c =
     let tail = of ++ sign_at sign.Greater r ∷ [] in
     let whole = node_word d (wrapper_word w) p ∷ sign_at sign.Less q ∷ tail in
-    let flat : word_spot (wrapper_word w) p ∷ sign_spot sign.Less q ∷ (spots_of of ++ (sign_spot sign.Greater r ∷ rest)) ≡ spots_of xs ++ rest = sym (ap (λ z. spots_of z ++ rest) e ∙ inner_flat w d p q r of rest) in
+    let flat : word_spot (wrapper_word w) p ∷ sign_spot sign.Less q ∷ (spots_of of ++ (sign_spot sign.Greater r ∷ rest)) ≡ spots_of xs ++ rest =
+    sym (ap (λ z. spots_of z ++ rest) e ∙ inner_flat w d p q r of rest) in
     let k1 = keep_first j (node_word d (wrapper_word w) p) (sign_at sign.Less q ∷ tail) (subst (FirstKeep j) e k) in
     let k2 = keep_first (j - 1) (sign_at sign.Less q) tail k1.1 in
     let k3 = keep_append (j - 1 - 1) of (sign_at sign.Greater r ∷ []) k2.1 in
@@ -310,10 +336,12 @@ runs_type (x ∷ xs) S k a f =
           alive = l;
           fit = f;
           deep = over;
-          is = type_turn_alive k S (type_step S x) (type_run (suc k) (type_step S x) xs) l ∙ ap (λ b. cond b (type_run (suc k) (type_step S x) xs) (TypeDeep k)) over ∙ (let e : k ≡ k + 0 = omega arith in ap TypeDeep e);
+          is = type_turn_alive k S (type_step S x) (type_run (suc k) (type_step S x) xs) l ∙ ap (λ b. cond b (type_run (suc k) (type_step S x) xs) (TypeDeep k)) over
+              ∙ (let e : k ≡ k + 0 = omega arith in ap TypeDeep e);
         })
         | inl okay ↦
-            let same : type_run k S (x ∷ xs) ≡ type_run (suc k) (type_step S x) xs = type_turn_alive k S (type_step S x) (type_run (suc k) (type_step S x) xs) l ∙ ap (λ b. cond b (type_run (suc k) (type_step S x) xs) (TypeDeep k)) okay in
+            let same : type_run k S (x ∷ xs) ≡ type_run (suc k) (type_step S x) xs =
+            type_turn_alive k S (type_step S x) (type_run (suc k) (type_step S x) xs) l ∙ ap (λ b. cond b (type_run (suc k) (type_step S x) xs) (TypeDeep k)) okay in
             elim (runs_type xs (type_step S x) (suc k) l okay) [
               | inl h ↦ inl (record {
                 count = suc h.count;
@@ -345,7 +373,8 @@ dead_have t K h = cc
 dead_bad_type : (d n : ℕ) (toks : List Spot) → feed_type (WantType (Bottom d)) toks ≡ DeadType → Good (TypeRule d) n toks → ⊥
 dead_bad_type d n toks e g =
     let flat : spots_of (g.read ++ g.rest) ≡ toks ++ spots_of g.rest = spots_append g.read g.rest ∙ ap (λ z. z ++ spots_of g.rest) g.is in
-    let dead : feed_type (WantType (Bottom d)) (toks ++ spots_of g.rest) ≡ DeadType = feed_append_type toks (spots_of g.rest) (WantType (Bottom d)) ∙ ap (λ S. feed_type S (spots_of g.rest)) e ∙ feed_dead_type (spots_of g.rest) in
+    let dead : feed_type (WantType (Bottom d)) (toks ++ spots_of g.rest) ≡ DeadType =
+    feed_append_type toks (spots_of g.rest) (WantType (Bottom d)) ∙ ap (λ S. feed_type S (spots_of g.rest)) e ∙ feed_dead_type (spots_of g.rest) in
     dead_have g.tree (Bottom d) (sym (ap (feed_type (WantType (Bottom d))) flat ∙ dead) ∙ type_settles g.rule)
 
 along_feed : (ys zs : List Spot) (S : TypeState) → type_fits S ≡ true → AlongType (length ys) S (ys ++ zs) → type_fits (feed_type S ys) ≡ true
@@ -421,7 +450,8 @@ deep_same k j h = cc
 true_false : (b : Bool) → b ≡ true → b ≡ false → ⊥
 true_false b x y = cc
 
-whole_type : (base d : ℕ) (xs : List Spot) (u : TypeTree) → feed_type (WantType (Bottom base)) xs ≡ HaveType u (Bottom d) → type_fits (feed_type (WantType (Bottom base)) xs) ≡ true → Derives (TypeRule base) 5 xs u
+whole_type : (base d : ℕ) (xs : List Spot) (u : TypeTree) → feed_type (WantType (Bottom base)) xs ≡ HaveType u (Bottom d) → type_fits (feed_type (WantType (Bottom base)) xs) ≡ true
+    → Derives (TypeRule base) 5 xs u
 whole_type base d xs u e f =
     let h : TypeHave base u (Bottom d) xs = subst (λ S. HasReadType base S xs) e (has_read_type base xs) in
     let o = h.rule base in
@@ -455,7 +485,8 @@ short_type t from d at j e p =
           record {
             count = h.count;
             reads = reads_all_type d from xs _ h;
-            nothing = λ u w. let q : S ≡ HaveType u (Bottom d) = ap (feed_type (WantType (Bottom d))) (sym w.is) ∙ type_settles w.rule in ended_short u (from + h.count) j (sym (ap (type_halt (from + h.count)) q) ∙ s);
+            nothing = λ u w. let q : S ≡ HaveType u (Bottom d) = ap (feed_type (WantType (Bottom d))) (sym w.is)
+                ∙ type_settles w.rule in ended_short u (from + h.count) j (sym (ap (type_halt (from + h.count)) q) ∙ s);
             place = p ∙ ap (place_at t) (sym (halt_short (from + h.count) S j s));
           }
       | inr h ↦ absurd (deep_short (from + h.count) j (sym h.is ∙ e))

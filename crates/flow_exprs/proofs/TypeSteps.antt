@@ -42,7 +42,8 @@ none_some : (k : TypeKind) → None ≡ Some k → ⊥
 none_some k h = cc
 
 module _ (spots : List Spot) where
-  one_kind : (i : ℕ) (S : TypeState) (k : TypeKind) → type_kind_at spots i ≡ Some k → (x : Spot) × (slice_get spots i ≡ Some x) × (type_run i S (drop i spots) ≡ type_turn i S (type_step_kind S k x) (type_run (i + 1) (type_step_kind S k x) (drop (i + 1) spots)))
+  one_kind : (i : ℕ) (S : TypeState) (k : TypeKind) → type_kind_at spots i ≡ Some k
+      → (x : Spot) × (slice_get spots i ≡ Some x) × (type_run i S (drop i spots) ≡ type_turn i S (type_step_kind S k x) (type_run (i + 1) (type_step_kind S k x) (drop (i + 1) spots)))
   one_kind i S k h =
       let r = here_in (slice_get spots i) k h in
       let x = r.0 in (
@@ -52,12 +53,15 @@ module _ (spots : List Spot) where
             ∙ ap (λ q. type_turn i S (type_step_kind S q x) (type_run (i + 1) (type_step_kind S q x) (drop (i + 1) spots))) r.2,
       )
 
-  go : (i : ℕ) (S T : TypeState) (k : TypeKind) → type_kind_at spots i ≡ Some k → ((x : Spot) → slice_get spots i ≡ Some x → type_step_kind S k x ≡ T) → AliveType T → type_fits T ≡ true → type_run i S (drop i spots) ≡ type_run (i + 1) T (drop (i + 1) spots)
+  go : (i : ℕ) (S T : TypeState) (k : TypeKind) → type_kind_at spots i ≡ Some k → ((x : Spot) → slice_get spots i ≡ Some x → type_step_kind S k x ≡ T) → AliveType T → type_fits T ≡ true
+      → type_run i S (drop i spots) ≡ type_run (i + 1) T (drop (i + 1) spots)
   go i S T k h t a f =
       let r = one_kind i S k h in
-      r.2 ∙ ap (λ Q. type_turn i S Q (type_run (i + 1) Q (drop (i + 1) spots))) (t r.0 r.1) ∙ type_turn_alive i S T (type_run (i + 1) T (drop (i + 1) spots)) a ∙ ap (λ b. cond b (type_run (i + 1) T (drop (i + 1) spots)) (TypeDeep i)) f
+      r.2 ∙ ap (λ Q. type_turn i S Q (type_run (i + 1) Q (drop (i + 1) spots))) (t r.0 r.1) ∙ type_turn_alive i S T (type_run (i + 1) T (drop (i + 1) spots)) a
+      ∙ ap (λ b. cond b (type_run (i + 1) T (drop (i + 1) spots)) (TypeDeep i)) f
 
-  deep : (i : ℕ) (S : TypeState) (k : TypeKind) → type_kind_at spots i ≡ Some k → ((x : Spot) → AliveType (type_step_kind S k x) × (type_fits (type_step_kind S k x) ≡ false)) → type_run i S (drop i spots) ≡ TypeDeep i
+  deep : (i : ℕ) (S : TypeState) (k : TypeKind) → type_kind_at spots i ≡ Some k → ((x : Spot) → AliveType (type_step_kind S k x) × (type_fits (type_step_kind S k x) ≡ false))
+      → type_run i S (drop i spots) ≡ TypeDeep i
   deep i S k h t =
       let r = one_kind i S k h in
       let T = type_step_kind S k r.0 in
@@ -100,7 +104,8 @@ module _ (spots : List Spot) where
       height_word _ = omega arith
 
   pub plain_deep : (i d : ℕ) → type_kind_at spots i ≡ Some kind.Plain → 64 < d → RefusesType spots i d (Deep i)
-  plain_deep i d h lt K f = deep i (WantType K) kind.Plain h (λ x. (tt, and_false (type_hole K + type_height (type_or_void (plain_of x.token))) 65 (around_fits K) (omega (arith, f.depth_is, height_some (type_or_void (plain_of x.token))))))
+  plain_deep i d h lt K f = deep i (WantType K) kind.Plain h (λ x.
+      (tt, and_false (type_hole K + type_height (type_or_void (plain_of x.token))) 65 (around_fits K) (omega (arith, f.depth_is, height_some (type_or_void (plain_of x.token))))))
 
   plain_same : (x : Token) (t : TypeTree) → plain_of x ≡ Some t → (type_or_void (plain_of x) ≡ t) × (type_height t ≡ 1)
   plain_same (token.Name n) t h = let e : NamedType n ≡ t = cc in (e, sym (ap type_height e))
@@ -128,7 +133,8 @@ module _ (spots : List Spot) where
         after = omega arith;
         within = omega (arith, type_kind_within i kind.Plain h);
         fits_in = omega (arith, s.1);
-        comes = λ K f. go i (WantType K) (HaveType t K) kind.Plain h (λ x e. ap (λ w. HaveType w K) (plain_same x.token t (plain_is i t x l e)).0) tt (and_true (type_hole K + type_height t) 65 (around_fits K) (omega (arith, f.depth_is, s.1)) f.fits_is);
+        comes = λ K f. go i (WantType K) (HaveType t K) kind.Plain h (λ x e. ap (λ w. HaveType w K) (plain_same x.token t (plain_is i t x l e)).0) tt
+            (and_true (type_hole K + type_height t) 65 (around_fits K) (omega (arith, f.depth_is, s.1)) f.fits_is);
       }
 
   token_some : (x : Token) → type_kind_of x ≡ kind.Plain → plain_of x ≡ None → ⊥
@@ -172,7 +178,8 @@ module _ (spots : List Spot) where
     ap type_fits (wrapper_step k K x w) ∙ and_false (type_hole K) 64 (around_fits K) (omega (arith, f.depth_is)),
   ))
 
-  less_comes : (i d : ℕ) (k : TypeKind) (K : Around) → type_kind_at spots i ≡ Some k → IsWrapper k → d ≤ 64 → TypeFit d K → type_run i (WantType K) (drop i spots) ≡ type_run (i + 1) (WantLess (wrapper_of k) K) (drop (i + 1) spots)
+  less_comes : (i d : ℕ) (k : TypeKind) (K : Around) → type_kind_at spots i ≡ Some k → IsWrapper k → d ≤ 64 → TypeFit d K
+      → type_run i (WantType K) (drop i spots) ≡ type_run (i + 1) (WantLess (wrapper_of k) K) (drop (i + 1) spots)
   less_comes i d k K h w le f = go i (WantType K) (WantLess (wrapper_of k) K) k h (λ x e. wrapper_step k K x w) tt (and_true (type_hole K) 64 (around_fits K) (omega (arith, f.depth_is)) f.fits_is)
 
   less_only : (w : Wrapper) (K : Around) (k : TypeKind) (x : Spot) → (k ≡ kind.Less → ⊥) → type_step_kind (WantLess w K) k x ≡ DeadType
@@ -185,7 +192,8 @@ module _ (spots : List Spot) where
   inside_fit : (d : ℕ) (w : Wrapper) (K : Around) → d ≤ 64 → TypeFit d K → TypeFit (d + 1) (Inside w K)
   inside_fit d w K le f = record { depth_is = omega (arith, f.depth_is); fits_is = and_true (type_hole K) 64 (around_fits K) (omega (arith, f.depth_is)) f.fits_is }
 
-  inside_comes : (i d : ℕ) (k : TypeKind) (K : Around) → type_kind_at spots i ≡ Some k → IsWrapper k → d ≤ 64 → type_kind_at spots (i + 1) ≡ Some kind.Less → TypeFit d K → type_run i (WantType K) (drop i spots) ≡ type_run (i + 2) (WantType (Inside (wrapper_of k) K)) (drop (i + 2) spots)
+  inside_comes : (i d : ℕ) (k : TypeKind) (K : Around) → type_kind_at spots i ≡ Some k → IsWrapper k → d ≤ 64 → type_kind_at spots (i + 1) ≡ Some kind.Less → TypeFit d K
+      → type_run i (WantType K) (drop i spots) ≡ type_run (i + 2) (WantType (Inside (wrapper_of k) K)) (drop (i + 2) spots)
   inside_comes i d k K h w le l f =
       let e1 : i + 1 + 1 ≡ i + 2 = omega arith in
       let g = inside_fit d (wrapper_of k) K le f in
@@ -193,26 +201,31 @@ module _ (spots : List Spot) where
       ∙ go (i + 1) (WantLess (wrapper_of k) K) (WantType (Inside (wrapper_of k) K)) kind.Less l (λ x e. refl) tt g.fits_is
       ∙ ap (λ n. type_run n (WantType (Inside (wrapper_of k) K)) (drop n spots)) e1
 
-  pub argument_refused : (i d : ℕ) (k : TypeKind) (s : Stop) → type_kind_at spots i ≡ Some k → IsWrapper k → d ≤ 64 → type_kind_at spots (i + 1) ≡ Some kind.Less → RefusesType spots (i + 2) (d + 1) s → RefusesType spots i d s
-  argument_refused i d k s h w le l r K f = type_ends_is (type_run i (WantType K) (drop i spots)) (type_run (i + 2) (WantType (Inside (wrapper_of k) K)) (drop (i + 2) spots)) s (inside_comes i d k K h w le l f) (r (Inside (wrapper_of k) K) (inside_fit d (wrapper_of k) K le f))
+  pub argument_refused : (i d : ℕ) (k : TypeKind) (s : Stop) → type_kind_at spots i ≡ Some k → IsWrapper k → d ≤ 64 → type_kind_at spots (i + 1) ≡ Some kind.Less → RefusesType spots (i + 2) (d + 1) s
+      → RefusesType spots i d s
+  argument_refused i d k s h w le l r K f = type_ends_is (type_run i (WantType K) (drop i spots)) (type_run (i + 2) (WantType (Inside (wrapper_of k) K)) (drop (i + 2) spots)) s
+      (inside_comes i d k K h w le l f) (r (Inside (wrapper_of k) K) (inside_fit d (wrapper_of k) K le f))
 
   greater_only : (t : TypeTree) (K : Around) (k : TypeKind) (x : Spot) → (k ≡ kind.Greater → ⊥) → type_step_kind (HaveType t K) k x ≡ DeadType
   greater_only t K kind.Greater x h = absurd (h refl)
   greater_only t K _ x h = refl
 
-  pub argument_unclosed : (i d : ℕ) (k : TypeKind) (t : TypeTree) (to : ℕ) → type_kind_at spots i ≡ Some k → IsWrapper k → d ≤ 64 → type_kind_at spots (i + 1) ≡ Some kind.Less → ReadsType spots (i + 2) (d + 1) t to → (type_kind_at spots to ≡ Some kind.Greater → ⊥) → RefusesType spots i d (Short to)
+  pub argument_unclosed : (i d : ℕ) (k : TypeKind) (t : TypeTree) (to : ℕ) → type_kind_at spots i ≡ Some k → IsWrapper k → d ≤ 64 → type_kind_at spots (i + 1) ≡ Some kind.Less
+      → ReadsType spots (i + 2) (d + 1) t to → (type_kind_at spots to ≡ Some kind.Greater → ⊥) → RefusesType spots i d (Short to)
   argument_unclosed i d k t to h w le l r n K f =
       inside_comes i d k K h w le l f ∙ r.comes (Inside (wrapper_of k) K) (inside_fit d (wrapper_of k) K le f)
       ∙ stuck to (HaveType t (Inside (wrapper_of k) K)) (λ q x e. greater_only t (Inside (wrapper_of k) K) q x (not_kind to kind.Greater q n e))
 
-  pub argument_reads : (i d : ℕ) (k : TypeKind) (t u : TypeTree) (to : ℕ) → type_kind_at spots i ≡ Some k → IsWrapper k → d ≤ 64 → type_kind_at spots (i + 1) ≡ Some kind.Less → ReadsType spots (i + 2) (d + 1) t to → type_kind_at spots to ≡ Some kind.Greater → u ≡ wrapped_by k t → ReadsType spots i d u (to + 1)
+  pub argument_reads : (i d : ℕ) (k : TypeKind) (t u : TypeTree) (to : ℕ) → type_kind_at spots i ≡ Some k → IsWrapper k → d ≤ 64 → type_kind_at spots (i + 1) ≡ Some kind.Less
+      → ReadsType spots (i + 2) (d + 1) t to → type_kind_at spots to ≡ Some kind.Greater → u ≡ wrapped_by k t → ReadsType spots i d u (to + 1)
   argument_reads i d k t u to h w le l r n e = subst (λ v. ReadsType spots i d v (to + 1)) (sym e) (record {
     after = omega (arith, r.after);
     within = omega (arith, type_kind_within to kind.Greater n);
     fits_in = omega (arith, r.fits_in, wrapped_height (wrapper_of k) t);
     comes = λ K f.
         inside_comes i d k K h w le l f ∙ r.comes (Inside (wrapper_of k) K) (inside_fit d (wrapper_of k) K le f)
-        ∙ go to (HaveType t (Inside (wrapper_of k) K)) (HaveType (wrapped_by k t) K) kind.Greater n (λ x e. refl) tt (and_true (type_hole K + type_height (wrapped_by k t)) 65 (around_fits K) (omega (arith, r.fits_in, f.depth_is, wrapped_height (wrapper_of k) t)) f.fits_is);
+        ∙ go to (HaveType t (Inside (wrapper_of k) K)) (HaveType (wrapped_by k t) K) kind.Greater n (λ x e. refl) tt
+        (and_true (type_hole K + type_height (wrapped_by k t)) 65 (around_fits K) (omega (arith, r.fits_in, f.depth_is, wrapped_height (wrapper_of k) t)) f.fits_is);
   })
 
   -- the whole
@@ -227,6 +240,8 @@ module _ (spots : List Spot) where
   bottom_ends i d t to r = r.comes (Bottom d) (bottom_fit d) ∙ stuck to (HaveType t (Bottom d)) (λ k x e. bottom_stuck t d k x)
 
 pub type_refusal : (t : Tokens) (from d : ℕ) (s : Stop) (e : SourceFault) → RefusesType t.spots.items from d s → RefusalIs t s e → ReaderAnswer (TypeRule d) type_of t from (Err e)
-type_refusal t from d (Short k) e r q = subst (λ x. ReaderAnswer (TypeRule d) type_of t from (Err x)) (sym q) (refl, short_type t from d (place_at t k) k (r (Bottom d) (bottom_fit t.spots.items d)) refl)
-type_refusal t from d (Deep k) e r q = subst (λ x. ReaderAnswer (TypeRule d) type_of t from (Err x)) (sym q) (refl, deep_type t from d (place_at t k) k (r (Bottom d) (bottom_fit t.spots.items d)) refl)
+type_refusal t from d (Short k) e r q = subst (λ x. ReaderAnswer (TypeRule d) type_of t from (Err x)) (sym q)
+    (refl, short_type t from d (place_at t k) k (r (Bottom d) (bottom_fit t.spots.items d)) refl)
+type_refusal t from d (Deep k) e r q = subst (λ x. ReaderAnswer (TypeRule d) type_of t from (Err x)) (sym q)
+    (refl, deep_type t from d (place_at t k) k (r (Bottom d) (bottom_fit t.spots.items d)) refl)
 type_refusal t from d NoMemory e r q = subst (λ x. ReaderAnswer (TypeRule d) type_of t from (Err x)) (sym q) tt

@@ -81,7 +81,8 @@ pub record ReadsArgs (spots : List Spot) (from depth : ℕ) (ts : ExprTrees) (hi
   pub within : to ≤ length spots
   pub high_is : high ≡ heights ts
   pub fits_in : depth + high ≤ DEPTH
-  pub comes : (h : Head) (K : Stack) → Fit dot_level depth K → depth + head_height h ≤ DEPTH → run from (WantArgs h K) (drop from spots) ≡ run to (Have (called h ts) K) (drop to spots)
+  pub comes : (h : Head) (K : Stack) → Fit dot_level depth K → depth + head_height h ≤ DEPTH
+      → run from (WantArgs h K) (drop from spots) ≡ run to (Have (called h ts) K) (drop to spots)
 
 -- why nothing is read
 abbrev pub Ends : Outcome → Stop → Type 0
@@ -93,7 +94,8 @@ abbrev pub Refuses : List Spot → ℕ → ℕ → ℕ → Stop → Type 0
 Refuses spots from n depth stop = (K : Stack) → Fit n depth K → Ends (run from (Want K) (drop from spots)) stop
 
 abbrev pub RefusesArgs : List Spot → ℕ → ℕ → Stop → Type 0
-RefusesArgs spots from depth stop = (h : Head) (K : Stack) → Fit dot_level depth K → depth + head_height h ≤ DEPTH → Ends (run from (WantArgs h K) (drop from spots)) stop
+RefusesArgs spots from depth stop = (h : Head) (K : Stack) → Fit dot_level depth K → depth + head_height h ≤ DEPTH
+    → Ends (run from (WantArgs h K) (drop from spots)) stop
 
 -- the sign with which the tokens go on at this level or a higher one
 abbrev pub next_op : ℕ → Option Kind → Option Op
@@ -144,7 +146,8 @@ ArgsAnswer spots from depth (Err s) = RefusesArgs spots from depth s
 -- what is answered where an expression goes on
 abbrev pub GoesAnswer : List Spot → Read → ℕ → ℕ → ℕ → Result Read Stop → Type 0
 GoesAnswer spots left n depth m (Ok r) = Extends spots (expr_of left.expr) left.to n depth m (expr_of r.expr) r.high r.to
-GoesAnswer spots left n depth m (Err s) = (K : Stack) → Fit n depth K → Ends (run left.to (Have (expr_of left.expr) K) (drop left.to spots)) s
+GoesAnswer spots left n depth m (Err s) = (K : Stack) → Fit n depth K
+    → Ends (run left.to (Have (expr_of left.expr) K) (drop left.to spots)) s
 
 -- no sign stands before an operand
 abbrev pub NoSign : Kind → Type 0

@@ -7,7 +7,9 @@ use Rattle.flow_tree.specs.Grammar.{ExprRule, TypeRule}
 
 -- tokens are derived as one expression at most, and as one type at most
 abbrev pub OneExpr : Type 0
-OneExpr = (depth n m : ℕ) (tokens : List Spot) (t u : ExprTree) → Derives (ExprRule 0 depth) n tokens t → Derives (ExprRule 0 depth) m tokens u → t ≡ u
+OneExpr = (depth n m : ℕ) (tokens : List Spot) (t u : ExprTree) → Derives (ExprRule 0 depth) n tokens t
+    → Derives (ExprRule 0 depth) m tokens u → t ≡ u
 
 abbrev pub OneType : Type 0
-OneType = (depth n m : ℕ) (tokens : List Spot) (t u : TypeTree) → Derives (TypeRule depth) n tokens t → Derives (TypeRule depth) m tokens u → t ≡ u
+OneType = (depth n m : ℕ) (tokens : List Spot) (t u : TypeTree) → Derives (TypeRule depth) n tokens t → Derives (TypeRule depth) m tokens u
+    → t ≡ u

@@ -18,7 +18,8 @@ pub record FrameTree (T : Type 0) : Type 0 where
 
 -- how a frame is stored
 abbrev pub held_code : Coded Held
-held_code = code_by (ℕ × ℕ) (coded× coded_ℕ coded_ℕ) (λ h. (h.callback, h.cell.0)) (λ p. record { callback = p.0; cell = record { 0 = p.1 } }) (λ _. refl)
+held_code = code_by (ℕ × ℕ) (coded× coded_ℕ coded_ℕ) (λ h. (h.callback, h.cell.0))
+    (λ p. record { callback = p.0; cell = record { 0 = p.1 } }) (λ _. refl)
 
 abbrev pub frame_code : {T : Type 0} → Coded T → Coded (FrameTree T)
 frame_code {T} code =

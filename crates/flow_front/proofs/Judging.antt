@@ -19,7 +19,8 @@ without_tokens text (Refused rule at) short l = no_tokens short l
 without_tokens text (AcrossWait at declared wait) short l = l
 without_tokens text OutOfMemory short l = l
 
-pub by_tokens : (text : List ℕ) (tokens : Tokens) (answer : Result Program SourceFault) → length text ≤ PROGRAM_BYTES → Lexes text tokens.spots.items tokens.end → ParseAnswer tokens answer → Reading text answer
+pub by_tokens : (text : List ℕ) (tokens : Tokens) (answer : Result Program SourceFault) → length text ≤ PROGRAM_BYTES → Lexes text tokens.spots.items tokens.end → ParseAnswer tokens answer
+    → Reading text answer
 by_tokens text tokens (Ok p) short l a = record { tokens = tokens; has = record { short = short; lexes = l }; parsed = a }
 by_tokens text tokens (Err (Refused rule at)) short l a = no_program tokens (record { short = short; lexes = l }) a
 by_tokens text tokens (Err (AcrossWait at declared wait)) short l a = a

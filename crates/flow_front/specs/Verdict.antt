@@ -27,7 +27,8 @@ pub record HasTokens (text : List ℕ) (tokens : Tokens) : Type 0 where
 pub data IsUnread (text : List ℕ) : Rule → Place → Type 0 where
   too_long : PROGRAM_BYTES < length text → IsUnread text (L 1) first_place
   no_tokens : {rule : Rule} {at : Place} → length text ≤ PROGRAM_BYTES → LexFault text rule at → IsUnread text rule at
-  no_program : {rule : Rule} {at : Place} → (tokens : Tokens) → HasTokens text tokens → ParseAnswer tokens (Err (Refused rule at)) → IsUnread text rule at
+  no_program : {rule : Rule} {at : Place} → (tokens : Tokens) → HasTokens text tokens → ParseAnswer tokens (Err (Refused rule at))
+      → IsUnread text rule at
 
 -- the text is this program
 pub record IsProgram (text : List ℕ) (p : Program) : Type 0 where
@@ -60,7 +61,8 @@ pub record IsLost (text : List ℕ) (p : Program) (l : Lost) : Type 0 where
 -- the text is refused: it is no program, or one of the rules K1 to K12 and L8 refuses the program that it is
 pub data IsRefused (text : List ℕ) : Rule → Place → Type 0 where
   unread : {rule : Rule} {at : Place} → IsUnread text rule at → IsRefused text rule at
-  breaks : {rule : Rule} {at : Place} → (p : Program) → IsProgram text p → refusal_of (program_of p) ≡ Some (rule, at) → IsRefused text rule at
+  breaks : {rule : Rule} {at : Place} → (p : Program) → IsProgram text p → refusal_of (program_of p) ≡ Some (rule, at)
+      → IsRefused text rule at
 
 -- What the front answers; want of memory may come anywhere.
 abbrev pub AnswersText : List ℕ → Result Sound SourceFault → Type 0

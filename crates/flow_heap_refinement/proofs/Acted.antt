@@ -131,7 +131,8 @@ module _ (r : RawTree) (h : HeapTree) (p : Proc Frame) where
     });
   }
 
-  promise_more : (k : ℕ) (o : Option (CellTree Outcome)) → stored.thing h.cells.things k ≡ o → CellsRepresent spots h.cells.things h.streams.things p.core.cells → CellsRepresent spots (promised_at k o h.cells).things h.streams.things p.core.cells
+  promise_more : (k : ℕ) (o : Option (CellTree Outcome)) → stored.thing h.cells.things k ≡ o → CellsRepresent spots h.cells.things h.streams.things p.core.cells
+      → CellsRepresent spots (promised_at k o h.cells).things h.streams.things p.core.cells
   promise_more k None e all = all
   promise_more k (Some m) e all = single_kept spots h.cells.things h.streams.things p.core.cells all k m (promised m) e refl refl
 
@@ -147,10 +148,13 @@ module _ (r : RawTree) (h : HeapTree) (p : Proc Frame) where
       let i = suc p.core.started in
       let f = blank c in
       let g = entry_of class k in record {
-        cells = cells_aside spots (spot_of_actor (added p.actors i f)) i (λ j d. (other_new g f j d).0) (started class places (Some (cell_id k)) h).cells.things h.streams.things p.core.cells free.waits
+        cells = cells_aside spots (spot_of_actor (added p.actors i f)) i (λ j d. (other_new g f j d).0) (started class places (Some (cell_id k)) h).cells.things h.streams.things p.core.cells
+            free.waits
             (promise_more k (stored.thing h.cells.things k) refl s.cells);
-        actors = subst (λ x. ActorsRepresent r (stored.added h.actors.things x (new_note (Some (cell_id k)))) (stored.added h.frames.things x (fresh class places)) (added p.core.entries i g) (added p.actors i f)) (sym s.started)
-            (actor_added r h.actors.things h.frames.things p.core.entries p.actors s.actors i (none_above p.core.entries 0 p.core.started i rising (omega arith)) (new_note (Some (cell_id k))) (fresh class places) g f
+        actors = subst (λ x. ActorsRepresent r (stored.added h.actors.things x (new_note (Some (cell_id k)))) (stored.added h.frames.things x (fresh class places)) (added p.core.entries i g)
+            (added p.actors i f)) (sym s.started)
+            (actor_added r h.actors.things h.frames.things p.core.entries p.actors s.actors i (none_above p.core.entries 0 p.core.started i rising (omega arith)) (new_note (Some (cell_id k)))
+            (fresh class places) g f
             (new_actor class places k c e n));
         tasks = tasks_aside spots (spot_of_actor (added p.actors i f)) kept (λ j. kept_by (thing (added p.core.entries i g) j)) i (other_new g f) h.tasks p.core.tasks free.keeps s.tasks;
         made = same_made k (stored.thing h.cells.things k) ∙ s.made;

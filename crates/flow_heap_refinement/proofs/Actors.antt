@@ -123,7 +123,8 @@ module _ (r : RawTree) (ns : stored.Numbered Note) (ms : stored.Numbered (FrameT
       (λ j differ. rw (stored_added ns i j n differ, stored_added ms i j m differ, thing_added es i j e differ, thing_added fs i j f differ) (all j))
 
   -- an actor is gone
-  pub actor_gone : (a b c d : ℕ) → stored.IsRising 0 ns a → stored.IsRising 0 ms b → Rising 0 c es → Rising 0 d fs → ActorsRepresent r (stored.removed ns i) (stored.removed ms i) (removed es i) (removed fs i)
+  pub actor_gone : (a b c d : ℕ) → stored.IsRising 0 ns a → stored.IsRising 0 ms b → Rising 0 c es → Rising 0 d fs
+      → ActorsRepresent r (stored.removed ns i) (stored.removed ms i) (removed es i) (removed fs i)
   actor_gone a b c d nr mr er fr =
       each_number i (λ j. ActorRepresents r (stored.thing (stored.removed ns i) j) (stored.thing (stored.removed ms i) j) (thing (removed es i) j) (thing (removed fs i) j))
       (nobody (stored_gone ns a i nr) (stored_gone ms b i mr) (thing_removed es 0 c i er) (thing_removed fs 0 d i fr))

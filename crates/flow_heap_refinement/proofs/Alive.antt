@@ -28,7 +28,8 @@ use Rattle.flow_heap_refinement.proofs.Finds.{stored_other, stored_put, stored_a
 use Rattle.flow_heap_refinement.proofs.Actors.{by_entry}
 
 -- what is counted of a cell on both sides
-counted_there : (m : Option (CellTree Outcome)) (s : Option (StreamTree Value)) (spots : ℕ → _) (c : Cell) → CellRepresents spots m s (Some c) → AliveAt m s → 0 < count_at PromiseSide m s + count_at FutureSide m s
+counted_there : (m : Option (CellTree Outcome)) (s : Option (StreamTree Value)) (spots : ℕ → _) (c : Cell) → CellRepresents spots m s (Some c) → AliveAt m s
+    → 0 < count_at PromiseSide m s + count_at FutureSide m s
 counted_there (Some m) None spots (Single o ws) h a = a
 counted_there None (Some s) spots (Stream q e w) h a = a
 counted_there None None spots c h a = absurd h
@@ -39,7 +40,8 @@ counted_there (Some m) (Some s) spots c h a = absurd h
 module _ (r : RawTree) (h : HeapTree) (p : Proc Frame) where
   pub alive_shown : law.AliveShown r h p
   alive_shown s counted alive k c at =
-      let a = counted_there (stored.thing h.cells.things k) (stored.thing h.streams.things k) (spot_of_actor p.actors) c (subst (CellRepresents (spot_of_actor p.actors) (stored.thing h.cells.things k) (stored.thing h.streams.things k)) at (s.cells k)) (alive k) in
+      let a = counted_there (stored.thing h.cells.things k) (stored.thing h.streams.things k) (spot_of_actor p.actors) c
+      (subst (CellRepresents (spot_of_actor p.actors) (stored.thing h.cells.things k) (stored.thing h.streams.things k)) at (s.cells k)) (alive k) in
       let b = counted PromiseSide k in
       let d = counted FutureSide k in omega (arith, a, b, d)
 

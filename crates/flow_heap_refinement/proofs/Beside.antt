@@ -55,7 +55,8 @@ port_added j port k (x ∷ xs) = by_test (nat_eq j x.1) (port_added j port k xs)
     always true = refl
     always false = refl
 
-    by_test : (t : Bool) → is_some (port_of j (added xs port k)) ≡ (nat_eq j k || is_some (port_of j xs)) → is_some (if t then Some x.0 else port_of j (added xs port k)) ≡ (nat_eq j k || is_some (if t then Some x.0 else port_of j xs))
+    by_test : (t : Bool) → is_some (port_of j (added xs port k)) ≡ (nat_eq j k || is_some (port_of j xs))
+        → is_some (if t then Some x.0 else port_of j (added xs port k)) ≡ (nat_eq j k || is_some (if t then Some x.0 else port_of j xs))
     by_test true e = always (nat_eq j k)
     by_test false e = e
 
@@ -83,7 +84,8 @@ port_removed j port k (x ∷ xs) e n = by_test (nat_eq port x.0) e (port_removed
         sym (ap (λ t. is_some (if t then Some x.0 else port_of j xs)) g)
     by_test false f rest = on (nat_eq j x.1) (rest f n)
       where
-        on : (u : Bool) → is_some (port_of j (removed xs port)) ≡ is_some (port_of j xs) → is_some (if u then Some x.0 else port_of j (removed xs port)) ≡ is_some (if u then Some x.0 else port_of j xs)
+        on : (u : Bool) → is_some (port_of j (removed xs port)) ≡ is_some (port_of j xs)
+            → is_some (if u then Some x.0 else port_of j (removed xs port)) ≡ is_some (if u then Some x.0 else port_of j xs)
         on true i = refl
         on false i = i
 
@@ -127,7 +129,8 @@ one_each (x ∷ xs) above n h q k e = by_test (nat_eq k x.1) refl e (one_each xs
 
 module _ (r : RawTree) (h : HeapTree) (p : Proc Frame) where
   -- with another hold, other ports and other requests
-  with_others : (o : Option CellId) (ps rs : List ℕ) (m : Option ℕ) (xs : Numbered ℕ) (qs : List ℕ) → Represents r h p → m ≡ option_map cell_number o → ((k : ℕ) → has_number ps k ≡ is_some (port_of k xs)) → qs ≡ rs
+  with_others : (o : Option CellId) (ps rs : List ℕ) (m : Option ℕ) (xs : Numbered ℕ) (qs : List ℕ) → Represents r h p → m ≡ option_map cell_number o
+      → ((k : ℕ) → has_number ps k ≡ is_some (port_of k xs)) → qs ≡ rs
       → Represents r (record h { main = o; ports = ps; requests = rs }) (on_core (λ c. record c { main = m; ports = xs; requests = qs }) p)
   with_others o ps rs m xs qs s a b c =
       record { cells = s.cells; actors = s.actors; tasks = s.tasks; made = s.made; started = s.started; main = a; ports = b; requests = c }

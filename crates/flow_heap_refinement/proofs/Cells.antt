@@ -67,7 +67,8 @@ module _ (spots : ℕ → Spot) (ms : stored.Numbered (CellTree Outcome)) (ss : 
   nothing_at e = as_none spots (stored.thing ms k) (stored.thing ss k) (subst (λ o. CellRepresents spots (stored.thing ms k) (stored.thing ss k) o) e (all k))
 
   -- a single result is another, in memory and in the process
-  pub single_put : (m n : CellTree Outcome) (c d : Cell) → stored.thing ms k ≡ Some m → thing cs k ≡ Some c → CellRepresents spots (Some n) None (Some d) → CellsRepresent spots (stored.put ms k n) ss (put cs k d)
+  pub single_put : (m n : CellTree Outcome) (c d : Cell) → stored.thing ms k ≡ Some m → thing cs k ≡ Some c → CellRepresents spots (Some n) None (Some d)
+      → CellsRepresent spots (stored.put ms k n) ss (put cs k d)
   single_put m n c d e f now =
       each_number k (λ j. CellRepresents spots (stored.thing (stored.put ms k n) j) (stored.thing ss j) (thing (put cs k d) j))
       (rw (stored_put ms k m n e, (single_at m e).no_stream, thing_put cs k c d f) now)
@@ -94,7 +95,8 @@ module _ (spots : ℕ → Spot) (ms : stored.Numbered (CellTree Outcome)) (ss : 
       (λ j differ. rw (stored_removed ms k j differ, thing_removed_other cs k j differ) (all j))
 
   -- the same of a stream
-  pub stream_put : (m n : StreamTree Value) (c d : Cell) → stored.thing ss k ≡ Some m → thing cs k ≡ Some c → CellRepresents spots None (Some n) (Some d) → CellsRepresent spots ms (stored.put ss k n) (put cs k d)
+  pub stream_put : (m n : StreamTree Value) (c d : Cell) → stored.thing ss k ≡ Some m → thing cs k ≡ Some c → CellRepresents spots None (Some n) (Some d)
+      → CellsRepresent spots ms (stored.put ss k n) (put cs k d)
   stream_put m n c d e f now =
       each_number k (λ j. CellRepresents spots (stored.thing ms j) (stored.thing (stored.put ss k n) j) (thing (put cs k d) j))
       (rw (stored_put ss k m n e, (stream_at m e).no_single, thing_put cs k c d f) now)

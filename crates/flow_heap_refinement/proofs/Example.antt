@@ -28,10 +28,12 @@ one_two P a b rest = each_number 1 P a (λ k n. by_two k (other_number 1 k n))
 shown : Represents waiting_classes waiting_heap waiting_process
 shown = record {
   cells =
-      one_two (λ k. CellRepresents (spot_of_actor waiting_process.actors) (stored.thing waiting_heap.cells.things k) (stored.thing waiting_heap.streams.things k) (thing waiting_process.core.cells k)) (refl, refl) (refl, refl)
+      one_two (λ k. CellRepresents (spot_of_actor waiting_process.actors) (stored.thing waiting_heap.cells.things k) (stored.thing waiting_heap.streams.things k) (thing waiting_process.core.cells k))
+      (refl, refl) (refl, refl)
       (λ k a b. rw (a, b) tt);
   actors =
-      one_two (λ i. ActorRepresents waiting_classes (stored.thing waiting_heap.actors.things i) (stored.thing waiting_heap.frames.things i) (thing waiting_process.core.entries i) (thing waiting_process.actors i))
+      one_two (λ i. ActorRepresents waiting_classes (stored.thing waiting_heap.actors.things i) (stored.thing waiting_heap.frames.things i) (thing waiting_process.core.entries i)
+      (thing waiting_process.actors i))
       (somebody (record {
         note = _;
         memory = _;
@@ -68,7 +70,8 @@ agree i =
     one_two (λ i. (k : ℕ) → branches_of i (waiters_at (thing waiting_process.core.cells k)) ≡ branches_at k 0 (waiting_of (thing waiting_process.core.entries i)))
     (one_two (λ k. branches_of 1 (waiters_at (thing waiting_process.core.cells k)) ≡ branches_at k 0 (waiting_of (thing waiting_process.core.entries 1))) refl refl (λ k a b. rw (a, b) (not_two k b)))
     (one_two (λ k. branches_of 2 (waiters_at (thing waiting_process.core.cells k)) ≡ branches_at k 0 (waiting_of (thing waiting_process.core.entries 2))) refl refl (λ k a b. rw (a, b) refl))
-    (λ i c d. one_two (λ k. branches_of i (waiters_at (thing waiting_process.core.cells k)) ≡ branches_at k 0 (waiting_of (thing waiting_process.core.entries i))) (rw c refl) (rw (c, turned i c) refl) (λ k a b. rw (a, b, c) refl)) i
+    (λ i c d. one_two (λ k. branches_of i (waiters_at (thing waiting_process.core.cells k)) ≡ branches_at k 0 (waiting_of (thing waiting_process.core.entries i))) (rw c refl) (rw (c, turned i c) refl)
+    (λ k a b. rw (a, b, c) refl)) i
   where
     turned : (i : ℕ) → nat_eq i 1 ≡ false → nat_eq 1 i ≡ false
     turned i e = grind (arith, nat_tests)
@@ -92,7 +95,8 @@ only P one i e =
 owned : Owned waiting_process
 owned = record {
   result = λ i k e at res. only (λ i e. e.result ≡ Some k → IsUnset (thing waiting_process.core.cells k) × (references PromiseSide k waiting_process ≡ 1)) (λ e f g. its k (cc (f, g))) i e at res;
-  request = one_two (λ k. has k waiting_process.core.requests ≡ true → IsUnset (thing waiting_process.core.cells k) × (references PromiseSide k waiting_process ≡ 1)) (λ h. absurd (cc)) (λ h. (tt, refl)) (λ k a b. rw b (λ h. absurd (cc)));
+  request = one_two (λ k. has k waiting_process.core.requests ≡ true → IsUnset (thing waiting_process.core.cells k) × (references PromiseSide k waiting_process ≡ 1)) (λ h. absurd (cc))
+      (λ h. (tt, refl)) (λ k a b. rw b (λ h. absurd (cc)));
   port = λ q k h. absurd (cc);
 }
   where
@@ -113,7 +117,8 @@ waiting_rests = record {
       awake = only (λ i e. e.marked ≡ true → e.suspended ≡ false) (λ e f g. absurd (cc (f, g)));
       wanted = λ i k e at m res. only (λ i e. e.result ≡ Some k → 0 < references FutureSide k waiting_process) (λ e f g. wanted k (cc (f, g))) i e at res;
     };
-    referenced = λ k c. one_two (λ k. thing waiting_process.core.cells k ≡ Some c → 0 < references PromiseSide k waiting_process + references FutureSide k waiting_process) (λ h. omega arith) (λ h. omega arith) (λ k a b. rw (a, b) (λ h. absurd (cc))) k;
+    referenced = λ k c. one_two (λ k. thing waiting_process.core.cells k ≡ Some c → 0 < references PromiseSide k waiting_process + references FutureSide k waiting_process) (λ h. omega arith)
+        (λ h. omega arith) (λ k a b. rw (a, b) (λ h. absurd (cc))) k;
   };
   rest = record { orderly = orderly; no_tasks = refl; suspended = only (λ i e. e.suspended ≡ true) (λ e f. cc (f)) };
   referred = (refl, omega arith, tt);

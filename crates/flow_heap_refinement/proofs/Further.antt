@@ -130,7 +130,8 @@ cancel_references p s j i e at w = by_flag e.suspended
     marked_agree : Agree q.core
     marked_agree =
         agree_by p.core q.core (λ k. refl)
-        (each_number i (λ j. waiting_of (thing (put p.core.entries i (marked e)) j) ≡ waiting_of (thing p.core.entries j)) (ap waiting_of (thing_put p.core.entries i e (marked e) at) ∙ sym (ap waiting_of at))
+        (each_number i (λ j. waiting_of (thing (put p.core.entries i (marked e)) j) ≡ waiting_of (thing p.core.entries j))
+        (ap waiting_of (thing_put p.core.entries i e (marked e) at) ∙ sym (ap waiting_of at))
         (λ j n. ap waiting_of (thing_put_other p.core.entries i j (marked e) n))) w.agree
 
     by_flag : (b : Bool) → references s j (on_core (λ c. cancel_by b i e (writes (cancel_line i) c)) p) ≡ references s j p
@@ -139,7 +140,8 @@ cancel_references p s j i e at w = by_flag e.suspended
         let a = of_entry p s j i e (marked e) at in
         let t = on_core (pushed (Throw i operation_cancelled)) q in
         let b = of_left t s j i (marked e) (thing_put p.core.entries i e (marked e) at) marked_agree (w.kinds i e at) w.cells in
-        let c = ap (λ es. references s j (proc (record p.core { cells = left_cells i p.core.cells; entries = es; tasks = drops e.operands (Throw i operation_cancelled ∷ p.core.tasks) }) p.actors)) (put_twice p.core.entries i (marked e) (running (marked e))) in
+        let c = ap (λ es. references s j (proc (record p.core { cells = left_cells i p.core.cells; entries = es; tasks = drops e.operands (Throw i operation_cancelled ∷ p.core.tasks) }) p.actors))
+        (put_twice p.core.entries i (marked e) (running (marked e))) in
         omega (arith, a, b, c)
 
 module _ (r : RawTree) (h : HeapTree) (p : Proc Frame) where
@@ -183,7 +185,8 @@ module _ (r : RawTree) (h : HeapTree) (p : Proc Frame) where
   broken_done : (g : HeapTree) (kd : Kind) (k n : ℕ) (c : Cell) → Same r g p → thing p.core.cells k ≡ Some c → RightCell kd c → is_complete c ≡ false → p.core.left ≡ suc n
       → Same r (filled_in kd k (outcome.Error (record { 0 = broken_promise })) g) (on_core (suffer k Broken) p)
   broken_done g kd k n c s at t open_ left =
-      subst (λ m. Same r (filled_in kd k (outcome.Error (record { 0 = broken_promise })) g) (on_core (λ d. turn_of m d (λ d. fill k (BadOutcome broken_promise) (writes (broken_line k) d))) p)) (sym left)
+      subst (λ m. Same r (filled_in kd k (outcome.Error (record { 0 = broken_promise })) g) (on_core (λ d. turn_of m d (λ d. fill k (BadOutcome broken_promise) (writes (broken_line k) d))) p))
+      (sym left)
       (same_of (filled_in kd k (outcome.Error (record { 0 = broken_promise })) g) (on_core (fill k (BadOutcome broken_promise)) q)
       (filled_holds r g q nothing_in_hand kd k c (outcome.Error (record { 0 = broken_promise }))
       (as_many r g q nothing_in_hand (with_refs [] nothing_in_hand) (λ s j. omega arith) (record { shows = aside r g p (writes (broken_line k) p.core).lines n s.0; counted = s.1 })) at t open_))
@@ -198,7 +201,8 @@ module _ (r : RawTree) (h : HeapTree) (p : Proc Frame) where
       subst (λ y. Same r (cancelled i g) (on_core (cancel i y) p)) same
       (same_of (cancelled i g) (on_core (cancel i b.entry) p) (actor_cancelled r g p nothing_in_hand i (record { shows = s.0; counted = s.1 }) w b))
 
-  done : (kd : Kind) (k n : ℕ) (c : Cell) (x : Lost) (y : Loss) → LossMatches r p k x y → MayWait p.core → thing p.core.cells k ≡ Some c → RightCell kd c → (y ≡ Broken → is_complete c ≡ false) → p.core.left ≡ suc n
+  done : (kd : Kind) (k n : ℕ) (c : Cell) (x : Lost) (y : Loss) → LossMatches r p k x y → MayWait p.core → thing p.core.cells k ≡ Some c → RightCell kd c → (y ≡ Broken → is_complete c ≡ false)
+      → p.core.left ≡ suc n
       → Same r (lost_further kd k x) (on_core (suffer k y) p)
   done kd k n c (g, after.Nothing) Kept f w at t open_ left = f
   done kd k n c (g, after.Nothing) Freed f w at t open_ left = absurd f

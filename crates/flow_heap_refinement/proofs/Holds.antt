@@ -53,20 +53,23 @@ module _ (r : RawTree) (h : HeapTree) (p : Proc Frame) where
       memory_single (spot_of_actor p.actors) (stored.thing h.cells.things k) (stored.thing h.streams.things k) o ws
       (subst (CellRepresents (spot_of_actor p.actors) (stored.thing h.cells.things k) (stored.thing h.streams.things k)) at (s.cells k))
 
-  found_stream : (k : ℕ) (q : List ValueTree) (e : Option ℕ) (w : Option Waiter) → Represents r h p → thing p.core.cells k ≡ Some (Stream q e w) → (m : StreamTree Value) × (stored.thing h.streams.things k ≡ Some m)
+  found_stream : (k : ℕ) (q : List ValueTree) (e : Option ℕ) (w : Option Waiter) → Represents r h p → thing p.core.cells k ≡ Some (Stream q e w)
+      → (m : StreamTree Value) × (stored.thing h.streams.things k ≡ Some m)
   found_stream k q e w s at =
       memory_stream (spot_of_actor p.actors) (stored.thing h.cells.things k) (stored.thing h.streams.things k) q e w
       (subst (CellRepresents (spot_of_actor p.actors) (stored.thing h.cells.things k) (stored.thing h.streams.things k)) at (s.cells k))
 
   -- a reference counts
-  single_held : (x : Scan) (side : Side) (k : ℕ) (m : CellTree Outcome) → Holds r x h p → stored.thing h.cells.things k ≡ Some m → Holds r (λ s j. one s j side k + 0 + x s j) (held_cell (memory_side side) k (stored.thing h.cells.things k) h) p
+  single_held : (x : Scan) (side : Side) (k : ℕ) (m : CellTree Outcome) → Holds r x h p → stored.thing h.cells.things k ≡ Some m
+      → Holds r (λ s j. one s j side k + 0 + x s j) (held_cell (memory_side side) k (stored.thing h.cells.things k) h) p
   single_held x side k m hs at =
       subst (λ o. Holds r (λ s j. one s j side k + 0 + x s j) (held_cell (memory_side side) k o h) p) (sym at) (record {
         shows = cell_counted r h p k m (held (memory_side side) m.references) hs.shows at;
         counted = λ s j. let a = cell_held h s j k m side at in let b = hs.counted s j in omega (arith, a, b);
       })
 
-  stream_holds : (x : Scan) (side : Side) (k : ℕ) (m : StreamTree Value) → Holds r x h p → stored.thing h.streams.things k ≡ Some m → Holds r (λ s j. one s j side k + 0 + x s j) (held_stream (memory_side side) k (stored.thing h.streams.things k) h) p
+  stream_holds : (x : Scan) (side : Side) (k : ℕ) (m : StreamTree Value) → Holds r x h p → stored.thing h.streams.things k ≡ Some m
+      → Holds r (λ s j. one s j side k + 0 + x s j) (held_stream (memory_side side) k (stored.thing h.streams.things k) h) p
   stream_holds x side k m hs at =
       let none = (stream_at (spot_of_actor p.actors) h.cells.things h.streams.things p.core.cells hs.shows.cells k m at).no_single in
       subst (λ o. Holds r (λ s j. one s j side k + 0 + x s j) (held_stream (memory_side side) k o h) p) (sym at) (record {
@@ -102,7 +105,8 @@ module _ (r : RawTree) (h : HeapTree) (p : Proc Frame) where
   abbrev filled_proc : ℕ → Outcome → Proc Frame
   filled_proc k o = on_core (fill k (outcome_of o)) p
 
-  set_holds : (x : Scan) (k : ℕ) (c : Option OutcomeTree) (ws : List Waiter) (o : Outcome) (m : CellTree Outcome) → Holds r (with_refs (refs_in (value_in (outcome_of o))) x) h p → thing p.core.cells k ≡ Some (Single c ws) → is_complete (Single c ws) ≡ false
+  set_holds : (x : Scan) (k : ℕ) (c : Option OutcomeTree) (ws : List Waiter) (o : Outcome) (m : CellTree Outcome) → Holds r (with_refs (refs_in (value_in (outcome_of o))) x) h p
+      → thing p.core.cells k ≡ Some (Single c ws) → is_complete (Single c ws) ≡ false
       → stored.thing h.cells.things k ≡ Some m → Holds r x (set_cell k o (stored.thing h.cells.things k) h) (filled_proc k o)
   set_holds x k c ws o m hs at open_ e =
       subst (λ y. Holds r x (set_cell k o y h) (filled_proc k o)) (sym e)
@@ -130,7 +134,8 @@ module _ (r : RawTree) (h : HeapTree) (p : Proc Frame) where
   same_counts (outcome.Value v) m = refl
   same_counts (outcome.Error x) m = refl
 
-  send_holds : (x : Scan) (k : ℕ) (q : List ValueTree) (d : Option ℕ) (w : Option Waiter) (o : Outcome) (m : StreamTree Value) → Holds r (with_refs (refs_in (value_in (outcome_of o))) x) h p → thing p.core.cells k ≡ Some (Stream q d w)
+  send_holds : (x : Scan) (k : ℕ) (q : List ValueTree) (d : Option ℕ) (w : Option Waiter) (o : Outcome) (m : StreamTree Value) → Holds r (with_refs (refs_in (value_in (outcome_of o))) x) h p
+      → thing p.core.cells k ≡ Some (Stream q d w)
       → is_complete (Stream q d w) ≡ false → stored.thing h.streams.things k ≡ Some m → Holds r x (send_stream k o (stored.thing h.streams.things k) h) (filled_proc k o)
   send_holds x k q d w o m hs at open_ e =
       subst (λ y. Holds r x (send_stream k o y h) (filled_proc k o)) (sym e)
@@ -170,7 +175,8 @@ module _ (r : RawTree) (h : HeapTree) (p : Proc Frame) where
       let b = pushed_holds_from (hold_all rs h) p (with_refs rs x) (with_refs rs x) (task.Run (actor_id i)) (Run i) (λ s j. omega arith) refl a in
       pushed_holds_from (pushed (task.Run (actor_id i)) (hold_all rs h)) (on_core (work.pushed (Run i)) p) (with_refs rs x) x t u (λ s j. let e = refs s j in omega (arith, e)) same b
     where
-      pushed_holds_from : (g : HeapTree) (q : Proc Frame) (x y : Scan) (t : stack.Task) (u : Task) → ((s : Side) (j : ℕ) → x s j ≡ in_task s j u + y s j) → SameTask q t u → Holds r x g q → Holds r y (pushed t g) (on_core (work.pushed u) q)
+      pushed_holds_from : (g : HeapTree) (q : Proc Frame) (x y : Scan) (t : stack.Task) (u : Task) → ((s : Side) (j : ℕ) → x s j ≡ in_task s j u + y s j) → SameTask q t u → Holds r x g q
+          → Holds r y (pushed t g) (on_core (work.pushed u) q)
       pushed_holds_from g q x y t u e same hs = record {
         shows = pushed_shown r g q t u hs.shows same;
         counted = λ s j. let a = hs.counted s j in let b = of_pushed q s j u in let c = e s j in omega (arith, a, b, c);

@@ -54,7 +54,8 @@ module _ (h : HeapTree) (s : Side) where
   cell_other : (k j : ℕ) (n : CellTree Outcome) → (k ≡ j → ⊥) → kept_count s j (cell_put k n h) ≡ kept_count s j h
   cell_other k j n d = ap (λ o. count_at s o (stored.thing h.streams.things j)) (stored_other h.cells.things k j n d)
 
-  stream_here : (k : ℕ) (m n : StreamTree Value) → stored.thing h.cells.things k ≡ None → stored.thing h.streams.things k ≡ Some m → kept_count s k (stream_put k n h) ≡ count_of (memory_side s) n.references
+  stream_here : (k : ℕ) (m n : StreamTree Value) → stored.thing h.cells.things k ≡ None → stored.thing h.streams.things k ≡ Some m
+      → kept_count s k (stream_put k n h) ≡ count_of (memory_side s) n.references
   stream_here k m n f e = ap (λ o. count_at s o (stored.thing (stored.put h.streams.things k n) k)) f ∙ ap (count_at s None) (stored_put h.streams.things k m n e)
 
   stream_other : (k j : ℕ) (n : StreamTree Value) → (k ≡ j → ⊥) → kept_count s j (stream_put k n h) ≡ kept_count s j h
@@ -123,7 +124,8 @@ module _ (h : HeapTree) (s : Side) where
   pub new_stream_keeps : (j : ℕ) → of.NewStreamKeeps h s j
   new_stream_keeps j a b =
       each_number (next_cell h) (λ j. kept_count s j (with_stream (next_cell h) h) ≡ kept_count s j h)
-      (ap (λ o. count_at s o (stored.thing (stored.added h.streams.things (next_cell h) empty) (next_cell h))) a ∙ ap (count_at s None) (stored_new h.streams.things (next_cell h) empty b) ∙ zero_of s ∙ sym (none_kept (next_cell h) a b))
+      (ap (λ o. count_at s o (stored.thing (stored.added h.streams.things (next_cell h) empty) (next_cell h))) a ∙ ap (count_at s None) (stored_new h.streams.things (next_cell h) empty b) ∙ zero_of s
+      ∙ sym (none_kept (next_cell h) a b))
       (λ j d. ap (count_at s (stored.thing h.cells.things j)) (stored_added h.streams.things (next_cell h) j empty d)) j
     where
       none_kept : (k : ℕ) → stored.thing h.cells.things k ≡ None → stored.thing h.streams.things k ≡ None → kept_count s k h ≡ 0
@@ -132,13 +134,15 @@ module _ (h : HeapTree) (s : Side) where
   pub cell_freed : (j : ℕ) → of.CellFreed h s j
   cell_freed j k m e f c r =
       each_number k (λ j. kept_count s j (record h { cells = without h.cells k }) ≡ kept_count s j h)
-      (ap (λ o. count_at s o (stored.thing h.streams.things k)) (stored_gone h.cells.things h.cells.greatest k r) ∙ ap (count_at s None) f ∙ sym (cell_is k m e ∙ ap (count_of (memory_side s)) c ∙ zero_of s))
+      (ap (λ o. count_at s o (stored.thing h.streams.things k)) (stored_gone h.cells.things h.cells.greatest k r) ∙ ap (count_at s None) f
+      ∙ sym (cell_is k m e ∙ ap (count_of (memory_side s)) c ∙ zero_of s))
       (λ j d. ap (λ o. count_at s o (stored.thing h.streams.things j)) (stored_removed h.cells.things k j d)) j
 
   pub stream_freed : (j : ℕ) → of.StreamFreed h s j
   stream_freed j k m f e c r =
       each_number k (λ j. kept_count s j (record h { streams = without h.streams k }) ≡ kept_count s j h)
-      (ap (λ o. count_at s o (stored.thing (stored.removed h.streams.things k) k)) f ∙ ap (count_at s None) (stored_gone h.streams.things h.streams.greatest k r) ∙ sym (stream_is k m f e ∙ ap (count_of (memory_side s)) c ∙ zero_of s))
+      (ap (λ o. count_at s o (stored.thing (stored.removed h.streams.things k) k)) f ∙ ap (count_at s None) (stored_gone h.streams.things h.streams.greatest k r)
+      ∙ sym (stream_is k m f e ∙ ap (count_of (memory_side s)) c ∙ zero_of s))
       (λ j d. ap (count_at s (stored.thing h.cells.things j)) (stored_removed h.streams.things k j d)) j
 
 -- a reference to one cell is none to another

@@ -58,7 +58,8 @@ branches_less i b (w ∷ ws) = by_actor (nat_eq w.actor i) refl (has_branch ws i
     by_actor true g false e rest = by_branch (nat_eq w.branch b) refl
       where
         by_branch : (u : Bool) → nat_eq w.branch b ≡ u
-            → branches_of i (if u then ws else w ∷ ws) ≡ (if has (branches_of i ws) b then w.branch ∷ without_last (branches_of i ws) b else if nat_eq w.branch b then branches_of i ws else w.branch ∷ branches_of i ws)
+            → branches_of i (if u then ws else w ∷ ws) ≡ (if has (branches_of i ws) b then w.branch ∷ without_last (branches_of i ws) b else if nat_eq w.branch b then branches_of i ws else w.branch
+            ∷ branches_of i ws)
         by_branch true f = rw (sym e, f) refl
         by_branch false f = rw (sym e, f, g) refl
     by_actor false g true e rest = rw (g, rest) refl
@@ -115,7 +116,8 @@ no_more [] = refl
 no_more (x ∷ xs) = ap (λ zs. x ∷ zs) (no_more xs)
 
 -- of the operands at a cell some first part waits there: when each has left, from the last to the first, none waits
-none_left : (i k b n : ℕ) (rs : List Ref) (xs : List ℕ) (ws : List Waiter) → AllBelow b xs → branches_of i ws ≡ xs ++ branches_at k b (first_part n rs) → branches_of i (less i (branches_at k b rs) ws) ≡ xs
+none_left : (i k b n : ℕ) (rs : List Ref) (xs : List ℕ) (ws : List Waiter) → AllBelow b xs → branches_of i ws ≡ xs ++ branches_at k b (first_part n rs)
+    → branches_of i (less i (branches_at k b rs) ws) ≡ xs
 none_left i k b zero [] xs ws l e = e ∙ no_more xs
 none_left i k b (suc n) [] xs ws l e = e ∙ no_more xs
 none_left i k b zero (r ∷ rs) xs ws l e = by_test (nat_eq r.1 k) (none_left i k (suc b) zero rs xs ws (below_more b xs l) e)
@@ -180,7 +182,8 @@ module _ (spots : ℕ → Spot) (i b : ℕ) where
       by_actor : (t : Bool) → nat_eq w.actor i ≡ t → (nat_eq w.actor i && nat_eq ((spots w.actor).first + w.branch) ((spots i).first + b)) ≡ (nat_eq w.actor i && nat_eq w.branch b)
       by_actor true g =
           let same : w.actor ≡ i = grind (arith, nat_tests) in
-          let e : nat_eq ((spots w.actor).first + w.branch) ((spots i).first + b) ≡ nat_eq w.branch b = ap (λ a. nat_eq ((spots a).first + w.branch) ((spots i).first + b)) same ∙ shifted (spots i).first w.branch b in
+          let e : nat_eq ((spots w.actor).first + w.branch) ((spots i).first + b) ≡ nat_eq w.branch b =
+          ap (λ a. nat_eq ((spots a).first + w.branch) ((spots i).first + b)) same ∙ shifted (spots i).first w.branch b in
           ap (λ x. nat_eq w.actor i && x) e
         where
           shifted : (n x y : ℕ) → nat_eq (n + x) (n + y) ≡ nat_eq x y
@@ -194,8 +197,10 @@ module _ (spots : ℕ → Spot) (i b : ℕ) where
   pub without_as : (ws : List Waiter) → without_newest (map (waiter_in spots) ws) (waiter_in spots gone) ≡ map (waiter_in spots) (without_branch ws i b)
   without_as [] = refl
   without_as (w ∷ ws) =
-      ap (λ x. if x then waiter_in spots w ∷ without_newest (map (waiter_in spots) ws) (waiter_in spots gone) else if same_waiter (waiter_in spots w) (waiter_in spots gone) then map (waiter_in spots) ws else waiter_in spots w ∷ map (waiter_in spots) ws) (has_as ws)
-      ∙ ap (λ x. if has_branch ws i b then waiter_in spots w ∷ without_newest (map (waiter_in spots) ws) (waiter_in spots gone) else if x then map (waiter_in spots) ws else waiter_in spots w ∷ map (waiter_in spots) ws) (same_as w)
+      ap (λ x. if x then waiter_in spots w ∷ without_newest (map (waiter_in spots) ws) (waiter_in spots gone) else if same_waiter (waiter_in spots w) (waiter_in spots gone) then map
+      (waiter_in spots) ws else waiter_in spots w ∷ map (waiter_in spots) ws) (has_as ws)
+      ∙ ap (λ x. if has_branch ws i b then waiter_in spots w ∷ without_newest (map (waiter_in spots) ws) (waiter_in spots gone) else if x then map (waiter_in spots) ws else waiter_in spots w
+      ∷ map (waiter_in spots) ws) (same_as w)
       ∙ by_tests (has_branch ws i b) (is_branch i b w) (without_as ws)
     where
       by_tests : (q t : Bool) → without_newest (map (waiter_in spots) ws) (waiter_in spots gone) ≡ map (waiter_in spots) (without_branch ws i b)

@@ -41,7 +41,8 @@ pub found_left : (i : ℕ) (cs : Numbered Cell) (k : ℕ) → thing (left_cells 
 found_left i [] k = refl
 found_left i (x ∷ xs) k = by_test (nat_eq k x.0) (found_left i xs k)
   where
-    by_test : (t : Bool) → thing (left_cells i xs) k ≡ option_map (left_by i) (thing xs k) → (if t then Some (left_by i x.1) else thing (left_cells i xs) k) ≡ option_map (left_by i) (if t then Some x.1 else thing xs k)
+    by_test : (t : Bool) → thing (left_cells i xs) k ≡ option_map (left_by i) (thing xs k)
+        → (if t then Some (left_by i x.1) else thing (left_cells i xs) k) ≡ option_map (left_by i) (if t then Some x.1 else thing xs k)
     by_test true e = refl
     by_test false e = e
 
@@ -172,11 +173,14 @@ module _ (r : RawTree) (h : HeapTree) (p : Proc Frame) where
       first_is : {x y : ℕ} → x ≡ y → x ≡ y + 0
       first_is e = omega (arith, e)
 
-      whole : (d : HeapTree) → Left spots i kept d g (λ k. cell_less i (branches_at k 0 at.entry.operands) (thing p.core.cells k)) (drops at.entry.operands p.core.tasks) → Represents r d (on_core (left_wait i at.entry) p)
+      whole : (d : HeapTree) → Left spots i kept d g (λ k. cell_less i (branches_at k 0 at.entry.operands) (thing p.core.cells k)) (drops at.entry.operands p.core.tasks)
+          → Represents r d (on_core (left_wait i at.entry) p)
       whole d l = record {
-        cells = λ k. subst (λ c. CellRepresents spots (stored.thing d.cells.things k) (stored.thing d.streams.things k) c) (cell_left i k may.many at.entry.operands (thing p.core.cells k) (may.waits k) ∙ sym (found_left i p.core.cells k)) (l.cells k);
+        cells = λ k. subst (λ c. CellRepresents spots (stored.thing d.cells.things k) (stored.thing d.streams.things k) c)
+            (cell_left i k may.many at.entry.operands (thing p.core.cells k) (may.waits k) ∙ sym (found_left i p.core.cells k)) (l.cells k);
         actors = λ j. rw (l.beside.actors, l.beside.frames)
-            (entry_put r h.actors.things h.frames.things p.core.entries p.actors s.actors i at (record at.memory { callbacks = [] }) (running at.entry) (runs r at.note at.memory at.entry at.frame at.same) j);
+            (entry_put r h.actors.things h.frames.things p.core.entries p.actors s.actors i at (record at.memory { callbacks = [] }) (running at.entry)
+            (runs r at.note at.memory at.entry at.frame at.same) j);
         tasks = l.tasks;
         made = rw (l.beside.made, l.beside.cells, l.beside.streams) s.made;
         started = rw (l.beside.actors, l.beside.frames) s.started;
@@ -199,8 +203,10 @@ module _ (r : RawTree) (h : HeapTree) (p : Proc Frame) where
   mark_shown i s at =
       subst (λ o. Represents r (record h { actors = marked_in i o h.actors }) (with_mark i at.entry)) (sym at.noted) (record {
         cells = s.cells;
-        actors = note_put r h.actors.things h.frames.things p.core.entries p.actors s.actors i at (record at.note { marked = true }) (marked at.entry) (marks r at.note at.memory at.entry at.frame at.same);
-        tasks = tasks_same spots spots (λ j. kept_by (thing p.core.entries j)) (λ j. kept_by (thing (put p.core.entries i (marked at.entry)) j)) (kept_marked i at.entry at.entered) h.tasks p.core.tasks s.tasks;
+        actors = note_put r h.actors.things h.frames.things p.core.entries p.actors s.actors i at (record at.note { marked = true }) (marked at.entry)
+            (marks r at.note at.memory at.entry at.frame at.same);
+        tasks = tasks_same spots spots (λ j. kept_by (thing p.core.entries j)) (λ j. kept_by (thing (put p.core.entries i (marked at.entry)) j))
+            (kept_marked i at.entry at.entered) h.tasks p.core.tasks s.tasks;
         made = s.made;
         started = s.started;
         main = s.main;
@@ -227,7 +233,8 @@ module _ (r : RawTree) (h : HeapTree) (p : Proc Frame) where
   }
 
   gone : (i : ℕ) → Represents r h p → (at : At r h p i) → MayLeave i at.entry.operands p.core
-      → Represents r (withdrawn i (memory.pushed (thrown i) (leaving.marked i h))) (on_core (left_wait i (marked at.entry)) (on_core (pushed (Throw i operation_cancelled)) (with_mark r h p i at.entry)))
+      → Represents r (withdrawn i (memory.pushed (thrown i) (leaving.marked i h)))
+      (on_core (left_wait i (marked at.entry)) (on_core (pushed (Throw i operation_cancelled)) (with_mark r h p i at.entry)))
   gone i s at may =
       withdrawn_shown r (memory.pushed (thrown i) (leaving.marked i h)) (on_core (pushed (Throw i operation_cancelled)) (with_mark r h p i at.entry)) i
       (pushed_shown r (leaving.marked i h) (with_mark r h p i at.entry) (thrown i) (Throw i operation_cancelled) (mark_shown r h p i s at) refl)

@@ -58,11 +58,13 @@ module _ (k : ℕ) where
     act_born s i (Effects goal (Disk call)) c xs none h = refl
     act_born s i act c xs none h = tt
 
-    ask_born : (s : Supply) (i : ℕ) (ts : List Task) (x : Option Ask × Frame) (c : Core) (xs : Numbered Frame) → owners_of k c ≡ 0 → Asked (run_next (classes r) s i ts x (proc c xs)).0.core → AskMakes (spares k) c.made x.0
+    ask_born : (s : Supply) (i : ℕ) (ts : List Task) (x : Option Ask × Frame) (c : Core) (xs : Numbered Frame) → owners_of k c ≡ 0 → Asked (run_next (classes r) s i ts x (proc c xs)).0.core
+        → AskMakes (spares k) c.made x.0
     ask_born s i ts (None, f) c xs none h = tt
     ask_born s i ts (Some ask, f) c xs none h = act_born s i ask.act (record c { tasks = ts; left = ask.left }) (put xs i f) none h
 
-    frame_born : (s : Supply) (i : ℕ) (ts : List Task) (x : Option Frame) (c : Core) (xs : Numbered Frame) → owners_of k c ≡ 0 → Asked (run (classes r) s i ts x (proc c xs)).0.core → FrameMakes (spares k) r s i c x
+    frame_born : (s : Supply) (i : ℕ) (ts : List Task) (x : Option Frame) (c : Core) (xs : Numbered Frame) → owners_of k c ≡ 0 → Asked (run (classes r) s i ts x (proc c xs)).0.core
+        → FrameMakes (spares k) r s i c x
     frame_born s i ts None c xs none h = tt
     frame_born s i ts (Some f) c xs none h = ask_born s i ts ((classes r).next (view s i c) f) c xs none h
 
@@ -74,7 +76,8 @@ module _ (k : ℕ) where
     task_born s (Run i ∷ ts) c xs none h = frame_born s i ts (thing xs i) c xs none h
     task_born s _ c xs none h = tt
 
-    step_born : (s : Supply) (x : Option Halt) (c : Core) (xs : Numbered Frame) (t : Stepped Frame) → owners_of k c ≡ 0 → step_if (classes r) s x (proc c xs) ≡ Some t → Asked t.0.core → TaskMakes (spares k) r s c xs c.tasks
+    step_born : (s : Supply) (x : Option Halt) (c : Core) (xs : Numbered Frame) (t : Stepped Frame) → owners_of k c ≡ 0 → step_if (classes r) s x (proc c xs) ≡ Some t → Asked t.0.core
+        → TaskMakes (spares k) r s c xs c.tasks
     step_born s (Some x) c xs t none e h = absurd (cc)
     step_born s None c xs t none e h = task_born s c.tasks c xs none (rw e h)
 

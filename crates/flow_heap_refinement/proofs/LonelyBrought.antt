@@ -85,7 +85,8 @@ deliveries_lonely k o p t asks out h =
 pub arrivals_lonely : law.ArrivalsLonely
 arrivals_lonely k v p t out h =
     unless_map (arrive k v p.core).halted
-    (λ (u : Tidy (since p.core) (arrive k v p.core)). λ j asked. let before : Alone j p = h j (older p.core (arrive k v p.core) u.4 j asked) in (arrivals_named (spares j) k v p.core (out j) before.0, before.1))
+    (λ (u : Tidy (since p.core) (arrive k v p.core)). λ j asked. let before : Alone j p = h j
+    (older p.core (arrive k v p.core) u.4 j asked) in (arrivals_named (spares j) k v p.core (out j) before.0, before.1))
     (arrivals_since k v p.core t)
 
 pub boots_lonely : law.BootsLonely
@@ -95,7 +96,8 @@ boots_lonely r me p o t h = by_frame ((classes r).fresh (classes r).main (IntVal
     by_frame None named = tt
     by_frame (Some f) named =
         unless_map (boot_core (classes r).main ((classes r).label (classes r).main) p.core).halted
-        (λ (u : Tidy (since p.core) (boot_core (classes r).main ((classes r).label (classes r).main) p.core)). λ j asked. named j (h j (older p.core (boot_core (classes r).main ((classes r).label (classes r).main) p.core) u.4 j asked)))
+        (λ (u : Tidy (since p.core) (boot_core (classes r).main ((classes r).label (classes r).main) p.core)). λ j asked. named j
+        (h j (older p.core (boot_core (classes r).main ((classes r).label (classes r).main) p.core) u.4 j asked)))
         (boots_since (classes r).main ((classes r).label (classes r).main) p.core o t)
 
 pub stops_lonely : law.StopsLonely

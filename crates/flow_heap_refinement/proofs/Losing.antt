@@ -55,7 +55,8 @@ one_is PromiseSide k = ap (λ t. if t then 1 else 0) (same_number k)
 one_is FutureSide k = ap (λ t. if t then 1 else 0) (same_number k)
 
 -- what a released side leaves, by what was kept
-pub left_counts : (side : Side) (k a b : ℕ) (c : Counts) → c.promises ≡ a + one PromiseSide k side k → c.futures ≡ b + one FutureSide k side k → released (memory_side side) c ≡ record { promises = a; futures = b }
+pub left_counts : (side : Side) (k a b : ℕ) (c : Counts) → c.promises ≡ a + one PromiseSide k side k → c.futures ≡ b + one FutureSide k side k
+    → released (memory_side side) c ≡ record { promises = a; futures = b }
 left_counts PromiseSide k a b c e f =
     let x = one_is PromiseSide k in counts_are (released Promise c) a b (omega (arith, e, x)) (omega (arith, f))
 left_counts FutureSide k a b c e f =
@@ -65,7 +66,8 @@ pub side_counts : (side : Side) (k a b : ℕ) (c : Counts) → c.promises ≡ a 
 side_counts PromiseSide k a b c e f = let x = one_is PromiseSide k in omega (arith, e, x)
 side_counts FutureSide k a b c e f = let x = one_is FutureSide k in omega (arith, f, x)
 
-module _ (r : RawTree) (h : HeapTree) (p : Proc Frame) (kd : Kind) (k : ℕ) (o : Option OutcomeTree) (ws : List Waiter) (l : Losing r h p kd k (Single o ws)) (m : CellTree Outcome) (at : stored.thing h.cells.things k ≡ Some m) where
+module _ (r : RawTree) (h : HeapTree) (p : Proc Frame) (kd : Kind) (k : ℕ) (o : Option OutcomeTree) (ws : List Waiter) (l : Losing r h p kd k (Single o ws)) (m : CellTree Outcome)
+    (at : stored.thing h.cells.things k ≡ Some m) where
   abbrev sd : Side
   sd = side_of kd
 
@@ -214,7 +216,8 @@ module _ (r : RawTree) (h : HeapTree) (p : Proc Frame) (kd : Kind) (k : ℕ) (o 
 
   -- each case
   by_counts : (side : Side) → sd ≡ side → (a b : ℕ) → P ≡ a → F ≡ b
-      → LossMatches r p k (cell_lost k (cell_less (memory_side sd) m) h (counts.loss (memory_side side) (record { promises = a; futures = b }))) (loss side a b (Single o ws) (owner k p.core.entries) (port_of k p.core.ports))
+      → LossMatches r p k (cell_lost k (cell_less (memory_side sd) m) h (counts.loss (memory_side side) (record { promises = a; futures = b })))
+      (loss side a b (Single o ws) (owner k p.core.entries) (port_of k p.core.ports))
   by_counts PromiseSide e zero zero pz fz = goes pz fz
   by_counts FutureSide e zero zero pz fz = goes pz fz
   by_counts PromiseSide e zero (suc b) pz fz = breaks
@@ -227,7 +230,8 @@ module _ (r : RawTree) (h : HeapTree) (p : Proc Frame) (kd : Kind) (k : ℕ) (o 
   pub single_follows : LossMatches r p k (drop_cell (memory_side sd) k h (stored.thing h.cells.things k)) (loss sd P F (Single o ws) (owner k p.core.entries) (port_of k p.core.ports))
   single_follows =
       subst (λ x. LossMatches r p k (drop_cell (memory_side sd) k h x) (loss sd P F (Single o ws) (owner k p.core.entries) (port_of k p.core.ports))) (sym at)
-      (subst (λ c. LossMatches r p k (cell_lost k (cell_less (memory_side sd) m) h (counts.loss (memory_side sd) c)) (loss sd P F (Single o ws) (owner k p.core.entries) (port_of k p.core.ports))) (sym less_is)
+      (subst (λ c. LossMatches r p k (cell_lost k (cell_less (memory_side sd) m) h (counts.loss (memory_side sd) c)) (loss sd P F (Single o ws) (owner k p.core.entries) (port_of k p.core.ports)))
+      (sym less_is)
       (by_counts sd refl P F refl refl))
 
   -- and it may be dropped

@@ -41,7 +41,8 @@ use Rattle.flow_heap_refinement.proofs.Keeping.{stream_released, no_one}
 use Rattle.flow_heap_refinement.proofs.Owners.{entry_found}
 use Rattle.flow_heap_refinement.proofs.Losing.{unwaited, one_is, left_counts, side_counts}
 
-module _ (r : RawTree) (h : HeapTree) (p : Proc Frame) (kd : Kind) (k : ℕ) (q : List ValueTree) (x : Option ℕ) (w : Option Waiter) (l : Losing r h p kd k (Stream q x w)) (m : StreamTree Value) (at : stored.thing h.streams.things k ≡ Some m) where
+module _ (r : RawTree) (h : HeapTree) (p : Proc Frame) (kd : Kind) (k : ℕ) (q : List ValueTree) (x : Option ℕ) (w : Option Waiter) (l : Losing r h p kd k (Stream q x w)) (m : StreamTree Value)
+    (at : stored.thing h.streams.things k ≡ Some m) where
   abbrev sd : Side
   sd = side_of kd
 
@@ -156,7 +157,8 @@ module _ (r : RawTree) (h : HeapTree) (p : Proc Frame) (kd : Kind) (k : ℕ) (q 
     unheard : Same r (gone_heap (without_port k h)) (on_core (free_port k port) p)
     unheard = subst (Same r (gone_heap (without_port k h))) (gone_is unported l.cell) (
       values_shown r (record (without_port k h) { streams = without h.streams k }) (on_core (without_cell k) unported) m.queue
-          (stream_is_gone r (without_port k h) unported k m (port_gone r h p port k l.shows mine (one_each p.core.ports 0 p.core.made l.numbers.ports) (l.sorted.ports k)) at l.sorted.streams l.numbers.cells),
+          (stream_is_gone r (without_port k h) unported k m (port_gone r h p port k l.shows mine (one_each p.core.ports 0 p.core.made l.numbers.ports) (l.sorted.ports k)) at l.sorted.streams
+          l.numbers.cells),
       λ s j. let a = by_number s j in let b = same_references unported l.cell fz s j in omega (arith, a, b),
     )
       where
@@ -181,7 +183,8 @@ module _ (r : RawTree) (h : HeapTree) (p : Proc Frame) (kd : Kind) (k : ℕ) (q 
   orphan : F ≡ 0 → LossMatches r p k (lost.unheard k (stream_less (memory_side sd) m) h (has_number h.ports k)) (futures_gone (owner k p.core.entries) (port_of k p.core.ports))
   orphan fz =
       subst (λ y. LossMatches r p k (lost.unheard k (stream_less (memory_side sd) m) h (has_number h.ports k)) (futures_gone y (port_of k p.core.ports))) (sym (no_owner (owner k p.core.entries) refl))
-      (subst (λ b. LossMatches r p k (lost.unheard k (stream_less (memory_side sd) m) h b) (futures_gone None (port_of k p.core.ports))) (sym (l.shows.ports k)) (by_port (port_of k p.core.ports) refl))
+      (subst (λ b. LossMatches r p k (lost.unheard k (stream_less (memory_side sd) m) h b) (futures_gone None (port_of k p.core.ports))) (sym (l.shows.ports k))
+      (by_port (port_of k p.core.ports) refl))
     where
       by_port : (y : Option ℕ) → port_of k p.core.ports ≡ y → LossMatches r p k (lost.unheard k (stream_less (memory_side sd) m) h (is_some y)) (futures_gone None y)
       by_port None e = stays
@@ -189,7 +192,8 @@ module _ (r : RawTree) (h : HeapTree) (p : Proc Frame) (kd : Kind) (k : ℕ) (q 
 
   -- each case
   by_counts : (side : Side) → sd ≡ side → (a b : ℕ) → P ≡ a → F ≡ b
-      → LossMatches r p k (stream_lost k (stream_less (memory_side sd) m) h (counts.loss (memory_side side) (record { promises = a; futures = b }))) (loss side a b cell (owner k p.core.entries) (port_of k p.core.ports))
+      → LossMatches r p k (stream_lost k (stream_less (memory_side sd) m) h (counts.loss (memory_side side) (record { promises = a; futures = b })))
+      (loss side a b cell (owner k p.core.entries) (port_of k p.core.ports))
   by_counts PromiseSide e zero zero pz fz = goes pz fz
   by_counts FutureSide e zero zero pz fz = goes pz fz
   by_counts PromiseSide e zero (suc b) pz fz = breaks
@@ -202,7 +206,8 @@ module _ (r : RawTree) (h : HeapTree) (p : Proc Frame) (kd : Kind) (k : ℕ) (q 
   pub stream_follows : LossMatches r p k (drop_stream (memory_side sd) k h (stored.thing h.streams.things k)) (loss sd P F cell (owner k p.core.entries) (port_of k p.core.ports))
   stream_follows =
       subst (λ y. LossMatches r p k (drop_stream (memory_side sd) k h y) (loss sd P F cell (owner k p.core.entries) (port_of k p.core.ports))) (sym at)
-      (subst (λ c. LossMatches r p k (stream_lost k (stream_less (memory_side sd) m) h (counts.loss (memory_side sd) c)) (loss sd P F cell (owner k p.core.entries) (port_of k p.core.ports))) (sym less_is)
+      (subst (λ c. LossMatches r p k (stream_lost k (stream_less (memory_side sd) m) h (counts.loss (memory_side sd) c)) (loss sd P F cell (owner k p.core.entries) (port_of k p.core.ports)))
+      (sym less_is)
       (by_counts sd refl P F refl refl))
 
   -- and it may be dropped
@@ -238,7 +243,8 @@ module _ (r : RawTree) (h : HeapTree) (p : Proc Frame) (kd : Kind) (k : ℕ) (q 
           by_port None f = refl
           by_port (Some port) f = both_true (nat_eq m.references.promises 1) (is_none m.waiter) (ap (λ z. nat_eq z 1) (promises_are (l.owned.port port k f).1)) (alone fz)
 
-      by_case : (side : Side) → sd ≡ side → (a b : ℕ) → P ≡ a → F ≡ b → stream_may_lose (is_none m.waiter) (has_number h.ports k) (nat_eq m.references.promises 1) (Some (counts.loss (memory_side side) (record { promises = a; futures = b }))) ≡ true
+      by_case : (side : Side) → sd ≡ side → (a b : ℕ) → P ≡ a → F ≡ b
+          → stream_may_lose (is_none m.waiter) (has_number h.ports k) (nat_eq m.references.promises 1) (Some (counts.loss (memory_side side) (record { promises = a; futures = b }))) ≡ true
       by_case PromiseSide s zero zero e f = alone f
       by_case FutureSide s zero zero e f = alone f
       by_case PromiseSide s zero (suc b) e f = refl

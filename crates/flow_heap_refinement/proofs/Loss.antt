@@ -23,13 +23,15 @@ use Rattle.flow_heap_refinement.proofs.Losing.{single_follows, single_may}
 use Rattle.flow_heap_refinement.proofs.LosingStreams.{stream_follows, stream_may}
 
 -- what stands in memory where the process has a single result, or a stream
-pub memory_single : (spots : ℕ → Spot) (m : Option (CellTree Outcome)) (s : Option (StreamTree Value)) (o : Option OutcomeTree) (ws : List Waiter) → CellRepresents spots m s (Some (Single o ws)) → (x : CellTree Outcome) × (m ≡ Some x)
+pub memory_single : (spots : ℕ → Spot) (m : Option (CellTree Outcome)) (s : Option (StreamTree Value)) (o : Option OutcomeTree) (ws : List Waiter) → CellRepresents spots m s (Some (Single o ws))
+    → (x : CellTree Outcome) × (m ≡ Some x)
 memory_single spots (Some m) None o ws h = (m, refl)
 memory_single spots None None o ws h = absurd h
 memory_single spots None (Some s) o ws h = absurd h
 memory_single spots (Some m) (Some s) o ws h = absurd h
 
-pub memory_stream : (spots : ℕ → Spot) (m : Option (CellTree Outcome)) (s : Option (StreamTree Value)) (q : List ValueTree) (e : Option ℕ) (w : Option Waiter) → CellRepresents spots m s (Some (Stream q e w)) → (x : StreamTree Value) × (s ≡ Some x)
+pub memory_stream : (spots : ℕ → Spot) (m : Option (CellTree Outcome)) (s : Option (StreamTree Value)) (q : List ValueTree) (e : Option ℕ) (w : Option Waiter)
+    → CellRepresents spots m s (Some (Stream q e w)) → (x : StreamTree Value) × (s ≡ Some x)
 memory_stream spots None (Some s) q e w h = (s, refl)
 memory_stream spots None None q e w h = absurd h
 memory_stream spots (Some m) None q e w h = absurd h

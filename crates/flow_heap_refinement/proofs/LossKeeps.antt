@@ -44,7 +44,8 @@ use Rattle.flow_heap_refinement.proofs.LosingStreams as one_stream
 use Rattle.flow_heap_refinement.proofs.Loss.{single_at, stream_at}
 use Rattle.flow_heap_refinement.proofs.Owners.{note_found, note_unfound, noted_result, result_noted, one_owner}
 
-module _ (r : RawTree) (h : HeapTree) (p : Proc Frame) (kd : Kind) (k : ℕ) (o : Option OutcomeTree) (ws : List Waiter) (l : Losing r h p kd k (Single o ws)) (m : CellTree Outcome) (at : stored.thing h.cells.things k ≡ Some m) where
+module _ (r : RawTree) (h : HeapTree) (p : Proc Frame) (kd : Kind) (k : ℕ) (o : Option OutcomeTree) (ws : List Waiter) (l : Losing r h p kd k (Single o ws)) (m : CellTree Outcome)
+    (at : stored.thing h.cells.things k ≡ Some m) where
   abbrev sd : Side
   sd = side_of kd
 
@@ -69,7 +70,8 @@ module _ (r : RawTree) (h : HeapTree) (p : Proc Frame) (kd : Kind) (k : ℕ) (o 
   gone_alive : Alive h → (j : ℕ) → AliveAt (stored.thing (stored.removed h.cells.things k) j) (stored.thing h.streams.things j)
   gone_alive a =
       each_number k (λ j. AliveAt (stored.thing (stored.removed h.cells.things k) j) (stored.thing h.streams.things j))
-      (subst (λ x. AliveAt x (stored.thing h.streams.things k)) (sym (stored_gone h.cells.things h.cells.greatest k l.sorted.cells)) (subst (AliveAt None) (sym (one_cell.single r h p kd k o ws l m at).no_stream) tt))
+      (subst (λ x. AliveAt x (stored.thing h.streams.things k)) (sym (stored_gone h.cells.things h.cells.greatest k l.sorted.cells))
+      (subst (AliveAt None) (sym (one_cell.single r h p kd k o ws l m at).no_stream) tt))
       (λ j d. subst (λ x. AliveAt x (stored.thing h.streams.things j)) (sym (stored_removed h.cells.things k j d)) (a j))
 
   alive_by : (side : Side) (a b : ℕ) → P ≡ a → F ≡ b → Alive h → Alive (cell_lost k less h (counts.loss (memory_side side) (record { promises = a; futures = b }))).0
@@ -122,7 +124,8 @@ module _ (r : RawTree) (h : HeapTree) (p : Proc Frame) (kd : Kind) (k : ℕ) (o 
   other_future : (j : ℕ) → (k ≡ j → ⊥) → HasFuture j h → HasFuture j (cell_put k less h)
   other_future j d f = record { cell = f.cell; there = stored_other h.cells.things k j less d ∙ f.there; future = f.future }
 
-  wanted_put : (d : Dropped) → ((i : ℕ) (n : Note) (c : CellId) → stored.thing h.actors.things i ≡ Some n → n.marked ≡ false → n.result ≡ Some c → c.0 ≡ k → HasFuture k h → (d ≡ dropped.Cancel (actor_id i) → ⊥) → 0 < F)
+  wanted_put : (d : Dropped) → ((i : ℕ) (n : Note) (c : CellId) → stored.thing h.actors.things i ≡ Some n → n.marked ≡ false → n.result ≡ Some c → c.0 ≡ k → HasFuture k h
+      → (d ≡ dropped.Cancel (actor_id i) → ⊥) → 0 < F)
       → Wanted h → WantedBut d (cell_put k less h)
   wanted_put d here w i n c e u q x =
       by_cell (λ a. here i n c e u q a (subst (λ j. HasFuture j h) a (w i n c e u q (nothing_more i))) x) (w i n c e u q (nothing_more i))
@@ -158,7 +161,8 @@ module _ (r : RawTree) (h : HeapTree) (p : Proc Frame) (kd : Kind) (k : ℕ) (o 
   side_none s t e = ap (λ x. one FutureSide k x k) e
 
   -- the owner that is found is this actor
-  owner_is : (i : ℕ) (n : Note) (c : CellId) → stored.thing h.actors.things i ≡ Some n → n.marked ≡ false → n.result ≡ Some c → c.0 ≡ k → cancel_owner h.actors.things (heap.owner k h.actors.things) ≡ dropped.Cancel (actor_id i)
+  owner_is : (i : ℕ) (n : Note) (c : CellId) → stored.thing h.actors.things i ≡ Some n → n.marked ≡ false → n.result ≡ Some c → c.0 ≡ k
+      → cancel_owner h.actors.things (heap.owner k h.actors.things) ≡ dropped.Cancel (actor_id i)
   owner_is i n c e u q same = by_owner (heap.owner k h.actors.things) refl
     where
       mine : heap.is_result k n.result ≡ true
@@ -172,7 +176,8 @@ module _ (r : RawTree) (h : HeapTree) (p : Proc Frame) (kd : Kind) (k : ℕ) (o 
           let b = its_result_by y g.0 g.1 (noted_result k g.0.result g.2) in
           let few : in_entries PromiseSide k p.core.entries ≤ 1 = let z = a.one_promise in omega (arith, z) in
           let id : i ≡ y = one_owner k i y a.entry b.entry p.core.entries few a.there b.there a.result b.result in
-          subst (λ z. cancel_if_not z (stored.thing h.actors.things z) ≡ dropped.Cancel (actor_id i)) id (ap (cancel_if_not i) e ∙ ap (λ t. if t then dropped.Nothing else dropped.Cancel (actor_id i)) u)
+          subst (λ z. cancel_if_not z (stored.thing h.actors.things z) ≡ dropped.Cancel (actor_id i)) id
+          (ap (cancel_if_not i) e ∙ ap (λ t. if t then dropped.Nothing else dropped.Cancel (actor_id i)) u)
         where
           its_result_by : (i : ℕ) (n : Note) → stored.thing h.actors.things i ≡ Some n → option_map cell_number n.result ≡ Some k → Result i n
           its_result_by i n e q = from (n.result) refl q
@@ -182,7 +187,8 @@ module _ (r : RawTree) (h : HeapTree) (p : Proc Frame) (kd : Kind) (k : ℕ) (o 
               from (Some c) f g = its_result i n c e f (cc (g))
 
   wanted_by : (side : Side) → sd ≡ side → (a b : ℕ) → P ≡ a → F ≡ b → Wanted h
-      → WantedBut (cell_lost k less h (counts.loss (memory_side side) (record { promises = a; futures = b }))).1 (cell_lost k less h (counts.loss (memory_side side) (record { promises = a; futures = b }))).0
+      → WantedBut (cell_lost k less h (counts.loss (memory_side side) (record { promises = a; futures = b }))).1
+      (cell_lost k less h (counts.loss (memory_side side) (record { promises = a; futures = b }))).0
   wanted_by PromiseSide s zero zero e f w = λ i n c x u q z. wanted_gone (λ i n c x q same g. let a = future_in g in let d = side_none sd sd s in absurd (omega (arith, a, d, f))) w i n c x u q
   wanted_by FutureSide s zero zero e f w = λ i n c x u q z. wanted_gone (λ i n c x q same g. let a = (its_result i n c x q same).one_promise in absurd (omega (arith, a, e))) w i n c x u q
   wanted_by PromiseSide s zero (suc b) e f w = wanted_put (lost.broken_if_not (set_in m.content)) (λ i n c x u q same g z. omega (arith, f)) w
@@ -197,7 +203,8 @@ module _ (r : RawTree) (h : HeapTree) (p : Proc Frame) (kd : Kind) (k : ℕ) (o 
       subst (λ x. WantedBut (drop_cell (memory_side sd) k h x).1 (drop_cell (memory_side sd) k h x).0) (sym at)
       (subst (λ c. WantedBut (cell_lost k less h (counts.loss (memory_side sd) c)).1 (cell_lost k less h (counts.loss (memory_side sd) c)).0) (sym less_is) (wanted_by sd refl P F refl refl w))
 
-module _ (r : RawTree) (h : HeapTree) (p : Proc Frame) (kd : Kind) (k : ℕ) (q : List ValueTree) (x : Option ℕ) (w : Option Waiter) (l : Losing r h p kd k (Stream q x w)) (m : StreamTree Value) (at : stored.thing h.streams.things k ≡ Some m) where
+module _ (r : RawTree) (h : HeapTree) (p : Proc Frame) (kd : Kind) (k : ℕ) (q : List ValueTree) (x : Option ℕ) (w : Option Waiter) (l : Losing r h p kd k (Stream q x w)) (m : StreamTree Value)
+    (at : stored.thing h.streams.things k ≡ Some m) where
   abbrev side : Side
   side = side_of kd
 

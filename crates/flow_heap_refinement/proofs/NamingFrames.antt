@@ -69,7 +69,8 @@ module _ (p : Rule) where
     value_named Spent go n k = (tt, h)
     value_named Meaningless go n k = (tt, h)
 
-    values_named : (r : Res (List ValueTree)) (go : List ValueTree → ℕ → StepOf Frame) → AllResNamed p r → ((us : List ValueTree) (left : ℕ) → AllNamed p us → StepNamed (go us left)) → StepNamed (evaluated f r go)
+    values_named : (r : Res (List ValueTree)) (go : List ValueTree → ℕ → StepOf Frame) → AllResNamed p r → ((us : List ValueTree) (left : ℕ) → AllNamed p us → StepNamed (go us left))
+        → StepNamed (evaluated f r go)
     values_named (Done us left) go n k = k us left n
     values_named (Fails e left) go n k = (tt, h)
     values_named Spent go n k = (tt, h)
@@ -193,7 +194,8 @@ module _ (p : Rule) where
     call_named (x ∷ []) es = act_then (values ns v (look f.mem) es) _ (values_of es) (λ us left n. plain_named (named call_names x.name) x.name us left)
     call_named (x ∷ y ∷ ys) es =
         act_then (values ns v (look f.mem) es) _ (values_of es)
-        (λ us left n. based_named (read_in ns.records (look f.mem x.name) (before_last y ys)) (named method_names (last_of y ys).name) us left (read_in_named p ns.records (look f.mem x.name) (before_last y ys) (look_named p f.mem h x.name)) n)
+        (λ us left n. based_named (read_in ns.records (look f.mem x.name) (before_last y ys)) (named method_names (last_of y ys).name) us left
+        (read_in_named p ns.records (look f.mem x.name) (before_last y ys) (look_named p f.mem h x.name)) n)
 
     act_named : (r : Res Act) → ActRes r → StepNamed (evaluated f r (λ act left. asks left act (next_instr f.mem f)))
     act_named (Done act left) n = (n, h)
@@ -208,7 +210,8 @@ module _ (p : Rule) where
 
     instruction_named : (x : InstrTree) → StepNamed (class.instruction ns v f x)
     instruction_named (SetInstr path e) =
-        value_named (value ns v (look f.mem) e) (λ u left. given f (assign ns.records f.mem path u) (class.placed ns v f left)) (value_of e) (λ u left n. placed_named (assign ns.records f.mem path u) left (assign_named p ns.records f.mem path u h n))
+        value_named (value ns v (look f.mem) e) (λ u left. given f (assign ns.records f.mem path u) (class.placed ns v f left)) (value_of e)
+        (λ u left n. placed_named (assign ns.records f.mem path u) left (assign_named p ns.records f.mem path u h n))
     instruction_named (EffectInstr path e) = given_named (effect_in ns e) (class.effects ns v f Stored) (λ x q. effects_named Stored x)
     instruction_named (NewInstr q) = given_named (bind (type_at f.code q) class.promise_kind) (λ k. asks v.left (Effects Stored (Make k)) f) (λ k e. (tt, h))
     instruction_named (ActInstr path es) = act_named (call_act ns v (look f.mem) path es) (call_named path es)
@@ -240,7 +243,8 @@ module _ (p : Rule) where
     last_named (PassLast b) = (tt, h)
     last_named (TestLast e b c) = value_named (value ns v (look f.mem) e) (λ u left. class.test ns v f left (bool_of u) b c) (value_of e) (λ u left n. test_named left (bool_of u) b c)
     last_named (ChooseLast g) = choose_named (spot_of f.code g) (callback_at f.code g v.kept)
-    last_named (ReturnLast e) = value_named (value ns v (look f.mem) e) (λ u left. asks left (Returns u (everything f.mem)) over) (value_of e) (λ u left n. ((n, everything_named p f.mem h), record { slots = tt; locals = tt }))
+    last_named (ReturnLast e) = value_named (value ns v (look f.mem) e) (λ u left. asks left (Returns u (everything f.mem)) over) (value_of e)
+        (λ u left n. ((n, everything_named p f.mem h), record { slots = tt; locals = tt }))
     last_named (ThrowLast e) = value_named (value ns v (look f.mem) e) (λ u left. class.throw_value ns v f left (error_of u)) (value_of e) (λ u left n. throw_named left (error_of u))
 
     fetched_named : (x : Fetched) → StepNamed (class.fetched ns v f x)

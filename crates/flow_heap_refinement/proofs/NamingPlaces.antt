@@ -79,14 +79,16 @@ module _ (p : Rule) where
 
   pub held_named : (m : Memory) (ns : List ℕ) → MemoryNamed p m → AllNamed p (held_in m ns)
   held_named m [] h = tt
-  held_named m (n ∷ ns) h = both_named (filled (read m (Local n) ∷ [])) (held_in (write m (Local n) None) ns) (maybe_filled (read m (Local n)) (read_named m (Local n) h)) (held_named (write m (Local n) None) ns (write_named m (Local n) None h tt))
+  held_named m (n ∷ ns) h = both_named (filled (read m (Local n) ∷ [])) (held_in (write m (Local n) None) ns) (maybe_filled (read m (Local n)) (read_named m (Local n) h))
+      (held_named (write m (Local n) None) ns (write_named m (Local n) None h tt))
 
   pub emptied_named : (ns : List ℕ) (m : Memory) → MemoryNamed p m → MemoryNamed p (emptied ns m)
   emptied_named [] m h = h
   emptied_named (n ∷ ns) m h = emptied_named ns (write m (Local n) None) (write_named m (Local n) None h tt)
 
   pub everything_named : (m : Memory) → MemoryNamed p m → AllNamed p (everything m)
-  everything_named m h = both_named (filled (reversed m.locals)) (filled (reversed m.slots)) (filled_named (reversed m.locals) (reversed_named m.locals h.locals)) (filled_named (reversed m.slots) (reversed_named m.slots h.slots))
+  everything_named m h = both_named (filled (reversed m.locals)) (filled (reversed m.slots)) (filled_named (reversed m.locals) (reversed_named m.locals h.locals))
+      (filled_named (reversed m.slots) (reversed_named m.slots h.slots))
 
   abbrev pub PutNamed : Option (List ValueTree × Memory) → Type 0
   PutNamed None = Unit {0}

@@ -86,7 +86,8 @@ module _ (p : Rule) where
   -- sends
   send_by_named : (b : Bool) (i k : ℕ) (o : OutcomeTree) (c : Core) → OutcomeNamed p o → CoreNamed p c → CoreNamed p (send_by b i k o c)
   send_by_named true i k o c h n = push_named p (Throw i already_set) c tt n
-  send_by_named false i k o c h n = turn_named p c.left c (λ d. fill k o (pushed (Run i) d)) n (λ m. fill_named p k o (pushed (Run i) (record c { left = m })) h (push_named p (Run i) (record c { left = m }) tt n))
+  send_by_named false i k o c h n = turn_named p c.left c (λ d. fill k o (pushed (Run i) d)) n
+      (λ m. fill_named p k o (pushed (Run i) (record c { left = m })) h (push_named p (Run i) (record c { left = m }) tt n))
 
   send_in_named : (x : Option Cell) (i k : ℕ) (o : OutcomeTree) (c : Core) → OutcomeNamed p o → CoreNamed p c → CoreNamed p (send_in x i k o c)
   send_in_named None i k o c h n = n
@@ -97,7 +98,8 @@ module _ (p : Rule) where
       either (int_le (pos 0) q && nat_lt (natural q) s.processes && is_port port) _ (throws i bad_argument c) (push_named p (Run i) c tt n) (bad_named i bad_argument c n)
 
   -- waits
-  wait_by_named : (i : ℕ) (spot : Spot) (e : Entry) (vs : List ValueTree) (b : Option (ℕ × ℕ)) (c : Core) → RefsNamed p e.operands → AllNamed p vs → CoreNamed p c → CoreNamed p (wait_by i spot e vs b c)
+  wait_by_named : (i : ℕ) (spot : Spot) (e : Entry) (vs : List ValueTree) (b : Option (ℕ × ℕ)) (c : Core) → RefsNamed p e.operands → AllNamed p vs → CoreNamed p c
+      → CoreNamed p (wait_by i spot e vs b c)
   wait_by_named i spot e vs None c h a n = suspend_named p i spot e vs c h a n
   wait_by_named i spot e vs (Some b) c h a n = branch_named p i b.0 b.1 e vs c h a n
 
@@ -132,7 +134,8 @@ module _ (p : Rule) where
   start_named : (i : ℕ) (goal : Goal) (class : ℕ) (name : List ℕ) (c : Core) → p kind.Future (suc c.made) ≡ true → CoreNamed p c → CoreNamed p (start_core i goal class name c)
   start_named i goal class name c above n =
       turn_named p c.left c (λ d. enrol class name (push_result i (result_task i goal (RefValue kind.Future (suc d.made))) d)) n
-      (λ m. enrol_named class name (push_result i (result_task i goal (RefValue kind.Future (suc c.made))) (record c { left = m })) (result_named i goal (RefValue kind.Future (suc c.made)) (record c { left = m }) above n))
+      (λ m. enrol_named class name (push_result i (result_task i goal (RefValue kind.Future (suc c.made))) (record c { left = m }))
+      (result_named i goal (RefValue kind.Future (suc c.made)) (record c { left = m }) above n))
 
   thrown_named : (i err : ℕ) (x : Raised) (o : Option Entry) (c : Core) → thing c.entries i ≡ o → AllNamed p x.values → CoreNamed p c → CoreNamed p (throw_core i err x o c)
   thrown_named i err x None c at h n = n
@@ -150,7 +153,8 @@ module _ (p : Rule) where
   below_named [] h = tt
   below_named (t ∷ ts) h = h.1
 
-  leave_kept_named : (i b : ℕ) (v : OperandFate) (r : Ref) (en : Entry) (vs : List ValueTree) (c : Core) → RefsNamed p en.operands → AllNamed p vs → CoreNamed p c → CoreNamed p (leave_kept i b v r en vs c)
+  leave_kept_named : (i b : ℕ) (v : OperandFate) (r : Ref) (en : Entry) (vs : List ValueTree) (c : Core) → RefsNamed p en.operands → AllNamed p vs → CoreNamed p c
+      → CoreNamed p (leave_kept i b v r en vs c)
   leave_kept_named i b GoesOn r en vs c h a n = n
   leave_kept_named i b Cancelled r en vs c h a n = leave_named p i en vs (Throw i operation_cancelled) c h a tt n
   leave_kept_named i b Ready r en vs c h a n = branch_named p i b r.1 en vs c h a n
@@ -162,14 +166,16 @@ module _ (p : Rule) where
     frames_put : (xs : Numbered Frame) (i : ℕ) (f : Frame) → FramesNamed p xs → MemoryNamed p f.mem → FramesNamed p (put xs i f)
     frames_put xs i f h m = each_put (λ f. MemoryNamed p f.mem) xs i f h m
 
-    give_keeps : (i b : ℕ) (o : OutcomeTree) (x : Option Frame) (c : Core) (xs : Numbered Frame) → thing xs i ≡ x → OutcomeNamed p o → CoreNamed p c → FramesNamed p xs → ProcNamed p (give (classes r) i b o x (proc c xs)).0
+    give_keeps : (i b : ℕ) (o : OutcomeTree) (x : Option Frame) (c : Core) (xs : Numbered Frame) → thing xs i ≡ x → OutcomeNamed p o → CoreNamed p c → FramesNamed p xs
+        → ProcNamed p (give (classes r) i b o x (proc c xs)).0
     give_keeps i b o None c xs at h n m = (n, m)
     give_keeps i b (BadOutcome err) (Some f) c xs at h n m = (push_named p (Throw i err) c tt n, m)
     give_keeps i b (GoodOutcome v) (Some f) c xs at h n m =
         let t = take_named p (class_names r) b v f (fetch f.code f.block f.instr) (frame_at xs i f at m) h in
         (dropping_named p ((classes r).take b v f).0 (pushed (Run i) c) t.0 (push_named p (Run i) c tt n), frames_put xs i ((classes r).take b v f).1 m t.1)
 
-    store_keeps : (i : ℕ) (v : ValueTree) (x : Option Frame) (c : Core) (xs : Numbered Frame) → thing xs i ≡ x → Named p v → CoreNamed p c → FramesNamed p xs → ProcNamed p (store (classes r) i v x (proc c xs)).0
+    store_keeps : (i : ℕ) (v : ValueTree) (x : Option Frame) (c : Core) (xs : Numbered Frame) → thing xs i ≡ x → Named p v → CoreNamed p c → FramesNamed p xs
+        → ProcNamed p (store (classes r) i v x (proc c xs)).0
     store_keeps i v None c xs at h n m = (n, m)
     store_keeps i v (Some f) c xs at h n m =
         let t = store_named p (class_names r) v f (fetch f.code f.block f.instr) (frame_at xs i f at m) h in
@@ -187,36 +193,44 @@ module _ (p : Rule) where
         let t = lose_named p f k in
         (leave_kept_named i b v q en (lose f).0 (record c { tasks = below c.tasks }) h t.0 (n.0, n.1, below_named c.tasks n.2), frames_put xs i (lose f).1 m t.1)
 
-    keep_by_keeps : (i b : ℕ) (v : OperandFate) (q : Ref) (en : Entry) (f : Frame) (c : Core) (xs : Numbered Frame) → RefsNamed p en.operands → MemoryNamed p f.mem → CoreNamed p c → FramesNamed p xs → ProcNamed p (keep_by (classes r) i b v q en f (proc c xs)).0
+    keep_by_keeps : (i b : ℕ) (v : OperandFate) (q : Ref) (en : Entry) (f : Frame) (c : Core) (xs : Numbered Frame) → RefsNamed p en.operands → MemoryNamed p f.mem → CoreNamed p c → FramesNamed p xs
+        → ProcNamed p (keep_by (classes r) i b v q en f (proc c xs)).0
     keep_by_keeps i b GoesOn q en f c xs h k n m = ((n.0, each_put (λ e. RefsNamed p e.operands) c.entries i en n.1 h, n.2), m)
     keep_by_keeps i b Cancelled q en f c xs h k n m = lost_keeps i b Cancelled q en f c xs h k n m
     keep_by_keeps i b Ready q en f c xs h k n m = lost_keeps i b Ready q en f c xs h k n m
 
-    keep_keeps : (i : ℕ) (spot : Spot) (q : Ref) (x : Option Frame) (en : Option Entry) (c : Core) (xs : Numbered Frame) → thing xs i ≡ x → thing c.entries i ≡ en → RefNamed p q → CoreNamed p c → FramesNamed p xs
+    keep_keeps : (i : ℕ) (spot : Spot) (q : Ref) (x : Option Frame) (en : Option Entry) (c : Core) (xs : Numbered Frame) → thing xs i ≡ x → thing c.entries i ≡ en → RefNamed p q → CoreNamed p c
+        → FramesNamed p xs
         → ProcNamed p (keep (classes r) i spot q x en (proc c xs)).0
     keep_keeps i spot q None None c xs at en h n m = (n, m)
     keep_keeps i spot q None (Some e) c xs at en h n m = (n, m)
     keep_keeps i spot q (Some f) None c xs at en h n m = (n, m)
     keep_keeps i spot q (Some f) (Some e) c xs at en h n m =
-        keep_by_keeps i (length e.operands) (verdict e.marked (is_ready_at (thing c.cells q.1))) q (with_operand spot q e) f c xs (operands_more e.operands q (operands_named p i e c en n) h) (frame_at xs i f at m) n m
+        keep_by_keeps i (length e.operands) (verdict e.marked (is_ready_at (thing c.cells q.1))) q (with_operand spot q e) f c xs (operands_more e.operands q (operands_named p i e c en n) h)
+        (frame_at xs i f at m) n m
 
-    close_keeps : (i : ℕ) (o : OutcomeTree) (en : Option Entry) (c : Core) (xs : Numbered Frame) → OutcomeNamed p o → CoreNamed p c → FramesNamed p xs → ProcNamed p (close_actor (classes r) i o en (proc c xs)).0
+    close_keeps : (i : ℕ) (o : OutcomeTree) (en : Option Entry) (c : Core) (xs : Numbered Frame) → OutcomeNamed p o → CoreNamed p c → FramesNamed p xs
+        → ProcNamed p (close_actor (classes r) i o en (proc c xs)).0
     close_keeps i o None c xs h n m = (n, m)
     close_keeps i o (Some en) c xs h n m = (close_named p (scan_of (classes r).occ (removed xs i)) i en.result o c h n, each_removed (λ f. MemoryNamed p f.mem) xs i m)
 
-    start_keeps : (i : ℕ) (goal : Goal) (class : ℕ) (x : Option Frame) (c : Core) (xs : Numbered Frame) → p kind.Future (suc c.made) ≡ true → MaybeFrame p x → CoreNamed p c → FramesNamed p xs → ProcNamed p (start (classes r) i goal class x (proc c xs)).0
+    start_keeps : (i : ℕ) (goal : Goal) (class : ℕ) (x : Option Frame) (c : Core) (xs : Numbered Frame) → p kind.Future (suc c.made) ≡ true → MaybeFrame p x → CoreNamed p c → FramesNamed p xs
+        → ProcNamed p (start (classes r) i goal class x (proc c xs)).0
     start_keeps i goal class None c xs above h n m = (n, m)
     start_keeps i goal class (Some f) c xs above h n m = (start_named i goal class ((classes r).label class) c above n, each_added (λ f. MemoryNamed p f.mem) xs (suc c.started) f m h)
 
-    effect_keeps : (s : Supply) (i : ℕ) (goal : Goal) (eff : Effect) (c : Core) (xs : Numbered Frame) → HoldsNew p c.made eff → EffectNamed p eff → CoreNamed p c → FramesNamed p xs → ProcNamed p (answer_effect (classes r) s i goal eff (proc c xs)).0
+    effect_keeps : (s : Supply) (i : ℕ) (goal : Goal) (eff : Effect) (c : Core) (xs : Numbered Frame) → HoldsNew p c.made eff → EffectNamed p eff → CoreNamed p c → FramesNamed p xs
+        → ProcNamed p (answer_effect (classes r) s i goal eff (proc c xs)).0
     effect_keeps s i goal (Start class args) c xs above h n m = start_keeps i goal class ((classes r).fresh class args) c xs above (fresh_named p (slice_get r.classes class) args h) n m
     effect_keeps s i goal eff c xs above h n m = (react_named s i (Effects goal eff) c above h n, m)
 
-    answer_keeps : (s : Supply) (i : ℕ) (act : Act) (c : Core) (xs : Numbered Frame) → ActMakes p c.made act → ActNamed p act → CoreNamed p c → FramesNamed p xs → ProcNamed p (answer (classes r) s i act (proc c xs)).0
+    answer_keeps : (s : Supply) (i : ℕ) (act : Act) (c : Core) (xs : Numbered Frame) → ActMakes p c.made act → ActNamed p act → CoreNamed p c → FramesNamed p xs
+        → ProcNamed p (answer (classes r) s i act (proc c xs)).0
     answer_keeps s i (Effects goal eff) c xs above h n m = effect_keeps s i goal eff c xs above h n m
     answer_keeps s i act c xs above h n m = (react_named s i act c above h n, m)
 
-    next_keeps : (s : Supply) (i : ℕ) (ts : List Task) (x : Option Ask × Frame) (c : Core) (xs : Numbered Frame) → AskMakes p c.made x.0 → StepNamed p x → TasksNamed p ts → CoreNamed p c → FramesNamed p xs → ProcNamed p (run_next (classes r) s i ts x (proc c xs)).0
+    next_keeps : (s : Supply) (i : ℕ) (ts : List Task) (x : Option Ask × Frame) (c : Core) (xs : Numbered Frame) → AskMakes p c.made x.0 → StepNamed p x → TasksNamed p ts → CoreNamed p c
+        → FramesNamed p xs → ProcNamed p (run_next (classes r) s i ts x (proc c xs)).0
     next_keeps s i ts (None, f) c xs above h k n m = (n, frames_put xs i f m h.1)
     next_keeps s i ts (Some ask, f) c xs above h k n m = answer_keeps s i ask.act (record c { tasks = ts; left = ask.left }) (put xs i f) above h.0 (n.0, n.1, k) (frames_put xs i f m h.1)
 
@@ -229,7 +243,8 @@ module _ (p : Rule) where
         by_cell (Some (Single o ws)) at f = subst (λ y. CellNamed p (Single y ws)) f (each_at (CellNamed p) c.cells k (Single o ws) n.0 at)
         by_cell (Some (Stream q d w)) at f = absurd (cc)
 
-    run_keeps : (s : Supply) (i : ℕ) (ts : List Task) (x : Option Frame) (c : Core) (xs : Numbered Frame) → thing xs i ≡ x → FrameMakes p r s i c x → TasksNamed p ts → CoreNamed p c → FramesNamed p xs → ProcNamed p (run (classes r) s i ts x (proc c xs)).0
+    run_keeps : (s : Supply) (i : ℕ) (ts : List Task) (x : Option Frame) (c : Core) (xs : Numbered Frame) → thing xs i ≡ x → FrameMakes p r s i c x → TasksNamed p ts → CoreNamed p c → FramesNamed p xs
+        → ProcNamed p (run (classes r) s i ts x (proc c xs)).0
     run_keeps s i ts None c xs at above k n m = (n, m)
     run_keeps s i ts (Some f) c xs at above k n m =
         next_keeps s i ts ((classes r).next (view s i c) f) c xs above (next_named p gives (class_names r) (view s i c) (seen_named c n) f (frame_at xs i f at m)) k n m
@@ -238,7 +253,8 @@ module _ (p : Rule) where
     MaybeKeeps None = Unit {0}
     MaybeKeeps (Some t) = ProcNamed p t.0
 
-    tasks_keep : (s : Supply) (ts : List Task) (c : Core) (xs : Numbered Frame) → TaskMakes p r s c xs ts → TasksNamed p ts → CoreNamed p c → FramesNamed p xs → MaybeKeeps (step_tasks (classes r) s ts (proc c xs))
+    tasks_keep : (s : Supply) (ts : List Task) (c : Core) (xs : Numbered Frame) → TaskMakes p r s c xs ts → TasksNamed p ts → CoreNamed p c → FramesNamed p xs
+        → MaybeKeeps (step_tasks (classes r) s ts (proc c xs))
     tasks_keep s [] c xs above k n m = tt
     tasks_keep s (Run i ∷ ts) c xs above k n m = run_keeps s i ts (thing xs i) c xs refl above k.1 n m
     tasks_keep s (Give i b o ∷ ts) c xs above k n m = give_keeps i b o (thing xs i) (record c { tasks = ts }) xs refl k.0 (n.0, n.1, k.1) m

@@ -143,14 +143,20 @@ module _ (p : Rule) where
 
   -- an actor leaves its wait
   pub leave_named : (i : ℕ) (e : Entry) (vs : List ValueTree) (t : Task) (c : Core) → RefsNamed p e.operands → AllNamed p vs → TaskNamed p t → CoreNamed p c → CoreNamed p (leave_for i e vs t c)
-  leave_named i e vs t c h k m n =
-      (all_left i c.cells n.0, each_put (λ e. RefsNamed p e.operands) c.entries i (running e) n.1 tt, drops_named e.operands (drops (refs_in vs) (t ∷ c.tasks)) h (drops_named (refs_in vs) (t ∷ c.tasks) (all_refs vs k) (m, n.2)))
+  leave_named i e vs t c h k m n = (
+    all_left i c.cells n.0,
+    each_put (λ e. RefsNamed p e.operands) c.entries i (running e) n.1 tt,
+    drops_named e.operands (drops (refs_in vs) (t ∷ c.tasks)) h
+        (drops_named (refs_in vs) (t ∷ c.tasks) (all_refs vs k) (m, n.2)),
+  )
 
-  give_named : (i b : ℕ) (e : Entry) (vs : List ValueTree) (o : Option OutcomeTree) (c : Core) → RefsNamed p e.operands → AllNamed p vs → ContentNamed p o → CoreNamed p c → CoreNamed p (give i b e vs o c)
+  give_named : (i b : ℕ) (e : Entry) (vs : List ValueTree) (o : Option OutcomeTree) (c : Core) → RefsNamed p e.operands → AllNamed p vs → ContentNamed p o → CoreNamed p c
+      → CoreNamed p (give i b e vs o c)
   give_named i b e vs None c h k m n = n
   give_named i b e vs (Some o) c h k m n = leave_named i e vs (Give i b o) c h k m n
 
-  branch_at : (i b k : ℕ) (e : Entry) (vs : List ValueTree) (x : Option Cell) (c : Core) → thing c.cells k ≡ x → RefsNamed p e.operands → AllNamed p vs → CoreNamed p c → CoreNamed p (take_branch i b k e vs x c)
+  branch_at : (i b k : ℕ) (e : Entry) (vs : List ValueTree) (x : Option Cell) (c : Core) → thing c.cells k ≡ x → RefsNamed p e.operands → AllNamed p vs → CoreNamed p c
+      → CoreNamed p (take_branch i b k e vs x c)
   branch_at i b k e vs None c at h a n = n
   branch_at i b k e vs (Some cell) c at h a n =
       let cn = each_at (CellNamed p) c.cells k cell n.0 at in
@@ -206,7 +212,8 @@ module _ (p : Rule) where
   register_named i b [] q h = h
   register_named i b (r ∷ rs) q h = register_named i (suc b) rs (register_one (record { actor = i; branch = b }) r.1 q) (one_named (record { actor = i; branch = b }) r.1 q h)
 
-  pub suspend_named : (i : ℕ) (spot : Spot) (e : Entry) (vs : List ValueTree) (c : Core) → RefsNamed p e.operands → AllNamed p vs → CoreNamed p c → CoreNamed p (suspend i spot e vs (register i 0 e.operands (Registered c.cells)) c)
+  pub suspend_named : (i : ℕ) (spot : Spot) (e : Entry) (vs : List ValueTree) (c : Core) → RefsNamed p e.operands → AllNamed p vs → CoreNamed p c
+      → CoreNamed p (suspend i spot e vs (register i 0 e.operands (Registered c.cells)) c)
   suspend_named i spot e vs c h a n = by_registration (register i 0 e.operands (Registered c.cells)) (register_named i 0 e.operands (Registered c.cells) n.0)
     where
       by_registration : (q : Registration) → Registers q → CoreNamed p (suspend i spot e vs q c)
@@ -224,7 +231,8 @@ module _ (p : Rule) where
     where
       by_complete : (x : Bool) → CoreNamed p (suffer k (promises_gone x) c)
       by_complete true = n
-      by_complete false = turn_named c.left c (λ d. fill k (BadOutcome broken_promise) (writes (broken_line k) d)) n (λ m. fill_named k (BadOutcome broken_promise) (writes (broken_line k) (record c { left = m })) tt n)
+      by_complete false = turn_named c.left c (λ d. fill k (BadOutcome broken_promise) (writes (broken_line k) d)) n
+          (λ m. fill_named k (BadOutcome broken_promise) (writes (broken_line k) (record c { left = m })) tt n)
   suffer_named FutureSide k cell zero (suc b) o q c e n = n
   suffer_named PromiseSide k cell (suc a) b o q c e n = n
   suffer_named FutureSide k cell (suc a) (suc b) o q c e n = n

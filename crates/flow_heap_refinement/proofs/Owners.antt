@@ -53,12 +53,14 @@ thing_on x xs most m a h e = by_test (nat_eq m x.0) refl
     by_test false g = e
 
 -- what a scan of the notes finds
-pub note_found : (k i low most : ℕ) (xs : stored.Numbered Note) → stored.IsRising low xs most → memory.owner k xs ≡ Some i → (n : Note) × (stored.thing xs i ≡ Some n) × (memory.is_result k n.result ≡ true)
+pub note_found : (k i low most : ℕ) (xs : stored.Numbered Note) → stored.IsRising low xs most → memory.owner k xs ≡ Some i
+    → (n : Note) × (stored.thing xs i ≡ Some n) × (memory.is_result k n.result ≡ true)
 note_found k i low most [] h e = absurd (cc)
 note_found k i low most (x ∷ xs) h e = by_test (memory.is_result k x.1.result) refl e (note_found k i x.0 most xs h.1)
   where
     by_test : (t : Bool) → memory.is_result k x.1.result ≡ t → (if t then Some x.0 else memory.owner k xs) ≡ Some i
-        → (memory.owner k xs ≡ Some i → (n : Note) × (stored.thing xs i ≡ Some n) × (memory.is_result k n.result ≡ true)) → (n : Note) × (stored.thing (x ∷ xs) i ≡ Some n) × (memory.is_result k n.result ≡ true)
+        → (memory.owner k xs ≡ Some i → (n : Note) × (stored.thing xs i ≡ Some n) × (memory.is_result k n.result ≡ true))
+        → (n : Note) × (stored.thing (x ∷ xs) i ≡ Some n) × (memory.is_result k n.result ≡ true)
     by_test true g f rest =
         let same : x.0 ≡ i = cc (f) in
         let t : nat_eq i x.0 ≡ true = subst (λ m. nat_eq m x.0 ≡ true) same (same_number x.0) in (x.1, ap (λ b. if b then Some x.1 else stored.thing xs i) t, g)

@@ -103,7 +103,8 @@ module _ (k : ℕ) where
   requests_closed j [] = omega arith
   requests_closed j (x ∷ ks) = by_test (nat_eq j x) (requests_closed j ks)
     where
-      by_test : (b : Bool) → in_requests PromiseSide k (closed_request j ks) ≤ in_requests PromiseSide k ks → in_requests PromiseSide k (if b then ks else x ∷ closed_request j ks) ≤ in_requests PromiseSide k (x ∷ ks)
+      by_test : (b : Bool) → in_requests PromiseSide k (closed_request j ks) ≤ in_requests PromiseSide k ks
+          → in_requests PromiseSide k (if b then ks else x ∷ closed_request j ks) ≤ in_requests PromiseSide k (x ∷ ks)
       by_test true r = omega arith
       by_test false r = omega (arith, r)
 

@@ -166,7 +166,8 @@ module _ (s : Side) (j i : ℕ) where
   others_count k (w ∷ ws) = by_test (nat_eq w.actor i) (others_count k ws)
     where
       by_test : (t : Bool) → count_waiters s j k ws ≡ of_branches s j k (branches_of i ws) + count_waiters s j k (without ws i)
-          → one s j FutureSide k + count_waiters s j k ws ≡ of_branches s j k (if t then w.branch ∷ branches_of i ws else branches_of i ws) + count_waiters s j k (if t then without ws i else w ∷ without ws i)
+          → one s j FutureSide k + count_waiters s j k ws ≡ of_branches s j k (if t then w.branch ∷ branches_of i ws else branches_of i ws) + count_waiters s j k
+          (if t then without ws i else w ∷ without ws i)
       by_test true e = omega (arith, e)
       by_test false e = omega (arith, e)
 

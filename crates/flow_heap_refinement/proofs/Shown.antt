@@ -104,7 +104,8 @@ module _ (r : RawTree) (h : HeapTree) (p : Proc Frame) where
       let a = single_at spots h.cells.things h.streams.things p.core.cells s.cells k m e in
       fires (cell_put k (record m { content = Some o }) h) k (outcome_of o) (Single (option_map outcome_of m.content) a.waiters) a.cell
       (with_cells (cell_put k (record m { content = Some o }) h) (put p.core.cells k (Single (Some (outcome_of o)) a.waiters)) s refl refl refl refl refl refl refl
-      (single_put spots h.cells.things h.streams.things p.core.cells s.cells k m (record m { content = Some o }) (Single (option_map outcome_of m.content) a.waiters) (Single (Some (outcome_of o)) a.waiters) e a.cell
+      (single_put spots h.cells.things h.streams.things p.core.cells s.cells k m (record m { content = Some o }) (Single (option_map outcome_of m.content) a.waiters)
+      (Single (Some (outcome_of o)) a.waiters) e a.cell
       (refl, a.waiting)))
 
   map_added : (vs : List Value) (v : Value) → map value_of vs ++ value_of v ∷ [] ≡ map value_of (vs ++ v ∷ [])
@@ -199,7 +200,8 @@ module _ (r : RawTree) (h : HeapTree) (p : Proc Frame) where
   pub result_made : change.ResultMade r h p
   result_made s rising = record {
     cells = subst (λ k. CellsRepresent spots (stored.added h.cells.things k unset) h.streams.things (new_cell (Single None []) p.core).cells) (sym s.made)
-        (single_added spots h.cells.things h.streams.things p.core.cells s.cells (suc p.core.made) unset (Single None []) (none_above p.core.cells 0 p.core.made (suc p.core.made) rising (omega arith)) (refl, refl));
+        (single_added spots h.cells.things h.streams.things p.core.cells s.cells (suc p.core.made) unset (Single None []) (none_above p.core.cells 0 p.core.made (suc p.core.made) rising (omega arith))
+        (refl, refl));
     actors = s.actors;
     tasks = s.tasks;
     made = later (next_cell h) h.made h.cells.greatest h.streams.greatest refl ∙ ap suc s.made;
@@ -212,7 +214,8 @@ module _ (r : RawTree) (h : HeapTree) (p : Proc Frame) where
   pub stream_made : change.StreamMade r h p
   stream_made s rising = record {
     cells = subst (λ k. CellsRepresent spots h.cells.things (stored.added h.streams.things k empty) (new_cell (Stream [] None None) p.core).cells) (sym s.made)
-        (stream_added spots h.cells.things h.streams.things p.core.cells s.cells (suc p.core.made) empty (Stream [] None None) (none_above p.core.cells 0 p.core.made (suc p.core.made) rising (omega arith)) (refl, refl, refl));
+        (stream_added spots h.cells.things h.streams.things p.core.cells s.cells (suc p.core.made) empty (Stream [] None None)
+        (none_above p.core.cells 0 p.core.made (suc p.core.made) rising (omega arith)) (refl, refl, refl));
     actors = s.actors;
     tasks = s.tasks;
     made = latest (next_cell h) h.made h.cells.greatest h.streams.greatest refl ∙ ap suc s.made;

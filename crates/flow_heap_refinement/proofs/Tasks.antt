@@ -32,7 +32,8 @@ no_tasks spots kept [] h = refl
 no_tasks spots kept (u ∷ us) h = absurd h
 
 -- drops come on top
-pub drops_show : (spots : ℕ → Spot) (kept : ℕ → ℕ) (rs : List Ref) (ts : List stack.Task) (us : List Task) → TasksRepresent spots kept ts us → TasksRepresent spots kept (memory.drops rs ts) (drops rs us)
+pub drops_show : (spots : ℕ → Spot) (kept : ℕ → ℕ) (rs : List Ref) (ts : List stack.Task) (us : List Task) → TasksRepresent spots kept ts us
+    → TasksRepresent spots kept (memory.drops rs ts) (drops rs us)
 drops_show spots kept [] ts us h = h
 drops_show spots kept (r ∷ rs) ts us h = (refl, drops_show spots kept rs ts us h)
 
@@ -60,7 +61,8 @@ module _ (spots spots' : ℕ → Spot) (kept kept' : ℕ → ℕ) (i : ℕ) (sam
   tasks_aside (t ∷ ts) (u ∷ us) n h = (task_aside t u us n h.0, tasks_aside ts us (no_keep_rest u us n) h.1)
 
 -- nothing has changed where they are the same
-pub tasks_same : (spots spots' : ℕ → Spot) (kept kept' : ℕ → ℕ) → ((j : ℕ) → (spots' j ≡ spots j) × (kept' j ≡ kept j)) → (ts : List stack.Task) (us : List Task) → TasksRepresent spots kept ts us → TasksRepresent spots' kept' ts us
+pub tasks_same : (spots spots' : ℕ → Spot) (kept kept' : ℕ → ℕ) → ((j : ℕ) → (spots' j ≡ spots j) × (kept' j ≡ kept j)) → (ts : List stack.Task) (us : List Task) → TasksRepresent spots kept ts us
+    → TasksRepresent spots' kept' ts us
 tasks_same spots spots' kept kept' same [] [] h = tt
 tasks_same spots spots' kept kept' same [] (u ∷ us) h = h
 tasks_same spots spots' kept kept' same (t ∷ ts) [] h = h

@@ -136,7 +136,8 @@ pub new_tidy : (z : Since) → (cell : Cell) (c : Core) → waiters cell ≡ [] 
 new_tidy z cell c w t = (new_agrees z cell c w t, rising_added c.cells 0 c.made cell (omega arith) t.1, numbers_more 0 c.made c.requests t.2, ports_more 0 c.made c.ports t.3, made_once z c t.4)
 
 -- an entry changes, but not where its actor waits
-pub entry_tidy : (z : Since) → (i : ℕ) (e new : Entry) (c : Core) → thing c.entries i ≡ Some e → waiting_by new.suspended new.operands ≡ waiting_by e.suspended e.operands → new.result ≡ e.result → Tidy z c → Tidy z (record c { entries = put c.entries i new })
+pub entry_tidy : (z : Since) → (i : ℕ) (e new : Entry) (c : Core) → thing c.entries i ≡ Some e → waiting_by new.suspended new.operands ≡ waiting_by e.suspended e.operands → new.result ≡ e.result
+    → Tidy z c → Tidy z (record c { entries = put c.entries i new })
 entry_tidy z i e new c at w same t = (
   agree_by c (record c { entries = put c.entries i new }) (λ k. refl)
       (each_number i (λ j. waiting_of (thing (put c.entries i new) j) ≡ waiting_of (thing c.entries j))
@@ -192,25 +193,29 @@ pub leave_tidy : (z : Since) → (i : ℕ) (e e0 : Entry) (vs : List ValueTree) 
 leave_tidy z i e e0 vs u c at same t = (
   each_number i (λ j. (k : ℕ) → branches_of j (waiters_at (thing (left_cells i c.cells) k)) ≡ branches_at k 0 (waiting_of (thing (put c.entries i (running e)) j)))
       (λ k. ap (branches_of i) (left_waiters i k c.cells) ∙ none_left i (waiters_at (thing c.cells k)) ∙ sym (ap (λ o. branches_at k 0 (waiting_of o)) (thing_put c.entries i e0 (running e) at)))
-      (λ j n k. ap (branches_of j) (left_waiters i k c.cells) ∙ others_left i j (waiters_at (thing c.cells k)) n ∙ t.0 j k ∙ ap (λ o. branches_at k 0 (waiting_of o)) (sym (thing_put_other c.entries i j (running e) n))),
+      (λ j n k. ap (branches_of j) (left_waiters i k c.cells) ∙ others_left i j (waiters_at (thing c.cells k)) n ∙ t.0 j k
+      ∙ ap (λ o. branches_at k 0 (waiting_of o)) (sym (thing_put_other c.entries i j (running e) n))),
   rising_left i 0 c.made c.cells t.1,
   t.2,
   t.3,
   entry_once z c i e0 (running e) at same t.4,
 )
 
-give_tidy : (z : Since) → (i b : ℕ) (e e0 : Entry) (vs : List ValueTree) (o : Option OutcomeTree) (c : Core) → thing c.entries i ≡ Some e0 → e.result ≡ e0.result → Tidy z c → Unless (Tidy z) (give i b e vs o c)
+give_tidy : (z : Since) → (i b : ℕ) (e e0 : Entry) (vs : List ValueTree) (o : Option OutcomeTree) (c : Core) → thing c.entries i ≡ Some e0 → e.result ≡ e0.result → Tidy z c
+    → Unless (Tidy z) (give i b e vs o c)
 give_tidy z i b e e0 vs None c at same t = tt
 give_tidy z i b e e0 vs (Some o) c at same t = unless c.halted (leave_tidy z i e e0 vs (Give i b o) c at same t)
 
-branch_at : (z : Since) → (i b k : ℕ) (e e0 : Entry) (vs : List ValueTree) (x : Option Cell) (c : Core) → thing c.cells k ≡ x → thing c.entries i ≡ Some e0 → e.result ≡ e0.result → Tidy z c → Unless (Tidy z) (take_branch i b k e vs x c)
+branch_at : (z : Since) → (i b k : ℕ) (e e0 : Entry) (vs : List ValueTree) (x : Option Cell) (c : Core) → thing c.cells k ≡ x → thing c.entries i ≡ Some e0 → e.result ≡ e0.result → Tidy z c
+    → Unless (Tidy z) (take_branch i b k e vs x c)
 branch_at z i b k e e0 vs None c ck at same t = tt
 branch_at z i b k e e0 vs (Some cell) c ck at same t =
     after_turn (Tidy z) (λ d. give i b e vs (taken cell) (record (writes (take_line i e.spot.group b) d) { cells = put d.cells k (after_taking cell) })) c c.left
     (λ n. give_tidy z i b e e0 vs (taken cell) (record (writes (take_line i e.spot.group b) (record c { left = n })) { cells = put c.cells k (after_taking cell) }) at same
     (cell_tidy z k cell (after_taking cell) c ck (taking_waiters cell) t))
 
-pub branch_tidy : (z : Since) → (i b k : ℕ) (e e0 : Entry) (vs : List ValueTree) (c : Core) → thing c.entries i ≡ Some e0 → e.result ≡ e0.result → Tidy z c → Unless (Tidy z) (take_branch i b k e vs (thing c.cells k) c)
+pub branch_tidy : (z : Since) → (i b k : ℕ) (e e0 : Entry) (vs : List ValueTree) (c : Core) → thing c.entries i ≡ Some e0 → e.result ≡ e0.result → Tidy z c
+    → Unless (Tidy z) (take_branch i b k e vs (thing c.cells k) c)
 branch_tidy z i b k e e0 vs c at same t = branch_at z i b k e e0 vs (thing c.cells k) c refl at same t
 
 cancel_by_tidy : (z : Since) → (s : Bool) (i : ℕ) (e : Entry) (c : Core) → thing c.entries i ≡ Some e → Tidy z c → Tidy z (cancel_by s i e c)

@@ -53,14 +53,26 @@ made_tidy z i goal k cell c w t = push_tidy z i (result_task i goal (RefValue k 
 
 opened_tidy : (z : Since) → (i : ℕ) (goal : Goal) (c : Core) → Tidy z c → Unless (Tidy z) (gives_open i goal c)
 opened_tidy z i goal c t =
-    push_tidy z i (result_task i goal (RefValue kind.Future (suc c.made))) (new_cell (Single None []) (record c { requests = c.requests ++ suc c.made ∷ [] }))
-    (new_agrees z (Single None []) c refl t, rising_added c.cells 0 c.made (Single None []) (omega arith) t.1, number_added 0 c.made c.requests (omega arith) t.2, ports_more 0 c.made c.ports t.3, request_made z c t.4)
+    push_tidy z i (result_task i goal (RefValue kind.Future (suc c.made))) (new_cell (Single None []) (record c { requests = c.requests ++ suc c.made ∷ [] })) (
+      new_agrees z (Single None []) c refl t,
+      rising_added c.cells 0 c.made (Single None []) (omega arith) t.1,
+      number_added 0 c.made c.requests
+          (omega arith) t.2,
+      ports_more 0 c.made c.ports t.3,
+      request_made z c t.4,
+    )
 
 port_tidy : (z : Since) → (i : ℕ) (goal : Goal) (port : ℕ) (o : Option ℕ) (c : Core) → thing c.ports port ≡ o → Tidy z c → Unless (Tidy z) (open_port i goal port o c).0
 port_tidy z i goal port (Some cell) c e t = unless c.halted t
 port_tidy z i goal port None c e t =
-    push_tidy z i (result_task i goal (RefValue kind.FutureStream (suc c.made))) (new_cell (Stream [] None None) (record c { ports = added c.ports port (suc c.made) }))
-    (new_agrees z (Stream [] None None) c refl t, rising_added c.cells 0 c.made (Stream [] None None) (omega arith) t.1, numbers_more 0 c.made c.requests t.2, port_added 0 c.made port c.ports (omega arith) e t.3, port_made z c port t.4)
+    push_tidy z i (result_task i goal (RefValue kind.FutureStream (suc c.made))) (new_cell (Stream [] None None) (record c { ports = added c.ports port (suc c.made) })) (
+      new_agrees z (Stream [] None None) c refl t,
+      rising_added c.cells 0 c.made (Stream [] None None) (omega arith) t.1,
+      numbers_more 0 c.made c.requests t.2,
+      port_added 0 c.made port c.ports
+          (omega arith) e t.3,
+      port_made z c port t.4,
+    )
 
 disk_tidy : (z : Since) → (i : ℕ) (goal : Goal) (call : Option (DiskCall ℕ)) (c : Core) → Tidy z c → Unless (Tidy z) (ask_disk i goal call c).0
 disk_tidy z i goal None c t = unless c.halted t
@@ -89,7 +101,8 @@ send_to_tidy : (z : Since) → (s : Supply) (i : ℕ) (q port : ℤ) (text : Lis
 send_to_tidy z s i q port text c t = either (Tidy z) (int_le (pos 0) q && nat_lt (natural q) s.processes && is_port port) _ (throws i bad_argument c) (unless c.halted t) (unless c.halted t)
 
 -- waits
-wait_by_tidy : (z : Since) → (i : ℕ) (spot : Spot) (e e0 : Entry) (vs : List ValueTree) (b : Option (ℕ × ℕ)) (c : Core) → Awake i c → thing c.entries i ≡ Some e0 → e.result ≡ e0.result → Tidy z c → Unless (Tidy z) (wait_by i spot e vs b c)
+wait_by_tidy : (z : Since) → (i : ℕ) (spot : Spot) (e e0 : Entry) (vs : List ValueTree) (b : Option (ℕ × ℕ)) (c : Core) → Awake i c → thing c.entries i ≡ Some e0 → e.result ≡ e0.result → Tidy z c
+    → Unless (Tidy z) (wait_by i spot e vs b c)
 wait_by_tidy z i spot e e0 vs None c a at same t = suspend_tidy z i spot e e0 vs c a at same t
 wait_by_tidy z i spot e e0 vs (Some b) c a at same t = branch_tidy z i b.0 b.1 e e0 vs c at same t
 
@@ -128,7 +141,8 @@ start_tidy z i goal class name c r t =
     by_goal (Kept spot) n = let d = pushed (Keep i spot (kind.Future, suc c.made)) (pushed (Run i) (record c { left = n })) in unless c.halted (enrol_tidy z class name d r t)
 
 -- drops
-suffer_tidy : (z : Since) → (scan : Scan) (s : Side) (k : ℕ) (cell : Cell) (a b : ℕ) (o : Option (ℕ × Entry)) (q : Option ℕ) (c : Core) → thing c.cells k ≡ Some cell → reference_count scan FutureSide k c ≡ b → owner k c.entries ≡ o
+suffer_tidy : (z : Since) → (scan : Scan) (s : Side) (k : ℕ) (cell : Cell) (a b : ℕ) (o : Option (ℕ × Entry)) (q : Option ℕ) (c : Core) → thing c.cells k ≡ Some cell
+    → reference_count scan FutureSide k c ≡ b → owner k c.entries ≡ o
     → Rising 0 c.started c.entries → Tidy z c → Unless (Tidy z) (suffer k (loss s a b cell o q) c)
 suffer_tidy z scan PromiseSide k cell zero zero o q c at f ow r t = free_tidy z k cell c at (nobody_waits scan k cell c at f) t
 suffer_tidy z scan FutureSide k cell zero zero o q c at f ow r t = free_tidy z k cell c at (nobody_waits scan k cell c at f) t
@@ -136,7 +150,8 @@ suffer_tidy z scan PromiseSide k cell zero (suc b) o q c at f ow r t = by_comple
   where
     by_complete : (x : Bool) → Unless (Tidy z) (suffer k (promises_gone x) c)
     by_complete true = unless c.halted t
-    by_complete false = after_turn (Tidy z) (λ d. fill k (BadOutcome broken_promise) (writes (broken_line k) d)) c c.left (λ n. fill_tidy z k (BadOutcome broken_promise) (writes (broken_line k) (record c { left = n })) t)
+    by_complete false = after_turn (Tidy z) (λ d. fill k (BadOutcome broken_promise) (writes (broken_line k) d)) c c.left
+        (λ n. fill_tidy z k (BadOutcome broken_promise) (writes (broken_line k) (record c { left = n })) t)
 suffer_tidy z scan FutureSide k cell zero (suc b) o q c at f ow r t = unless c.halted t
 suffer_tidy z scan PromiseSide k cell (suc a) b o q c at f ow r t = unless c.halted t
 suffer_tidy z scan FutureSide k cell (suc a) (suc b) o q c at f ow r t = unless c.halted t
@@ -148,7 +163,8 @@ suffer_tidy z scan FutureSide k cell (suc a) zero None None c at f ow r t = unle
 
 lose_cell_tidy : (z : Since) → (scan : Scan) (s : Side) (k : ℕ) (x : Option Cell) (c : Core) → thing c.cells k ≡ x → Rising 0 c.started c.entries → Tidy z c → Unless (Tidy z) (lose_cell scan s k x c)
 lose_cell_tidy z scan s k None c at r t = tt
-lose_cell_tidy z scan s k (Some cell) c at r t = suffer_tidy z scan s k cell (reference_count scan PromiseSide k c) (reference_count scan FutureSide k c) (owner k c.entries) (port_of k c.ports) c at refl refl r t
+lose_cell_tidy z scan s k (Some cell) c at r t = suffer_tidy z scan s k cell (reference_count scan PromiseSide k c) (reference_count scan FutureSide k c) (owner k c.entries)
+    (port_of k c.ports) c at refl refl r t
 
 lose_tidy : (z : Since) → (scan : Scan) (s : Side) (k : ℕ) (c : Core) → Rising 0 c.started c.entries → Tidy z c → Unless (Tidy z) (lose_ref scan s k c)
 lose_tidy z scan s k c r t = lose_cell_tidy z scan s k (thing c.cells k) c refl r t
@@ -157,12 +173,14 @@ drop_tidy : (z : Since) → (scan : Scan) (kd : Kind) (k : ℕ) (c : Core) → R
 drop_tidy z scan kd k c r t = after_turn (Tidy z) (lose_ref scan (side_of kd) k) c c.left (λ n. lose_tidy z scan (side_of kd) k (record c { left = n }) r t)
 
 -- fires
-fire_to_tidy : (z : Since) → (k : ℕ) (cell : Cell) (w : Waiter) (x : Option Entry) (c : Core) → thing c.cells k ≡ Some cell → thing c.entries w.actor ≡ x → Tidy z c → Unless (Tidy z) (fire_to k cell w x c)
+fire_to_tidy : (z : Since) → (k : ℕ) (cell : Cell) (w : Waiter) (x : Option Entry) (c : Core) → thing c.cells k ≡ Some cell → thing c.entries w.actor ≡ x → Tidy z c
+    → Unless (Tidy z) (fire_to k cell w x c)
 fire_to_tidy z k cell w None c ck at t = tt
 fire_to_tidy z k cell w (Some e) c ck at t =
     let p = pushed (Fire k) c in subst (λ y. Unless (Tidy z) (take_branch w.actor w.branch k e [] y p)) ck (branch_tidy z w.actor w.branch k e e [] p at refl t)
 
-fire_at_tidy : (z : Since) → (scan : Scan) (k : ℕ) (cell : Cell) (b : Bool) (ws : List Waiter) (c : Core) → thing c.cells k ≡ Some cell → Rising 0 c.started c.entries → Tidy z c → Unless (Tidy z) (fire_at scan k cell b ws c)
+fire_at_tidy : (z : Since) → (scan : Scan) (k : ℕ) (cell : Cell) (b : Bool) (ws : List Waiter) (c : Core) → thing c.cells k ≡ Some cell → Rising 0 c.started c.entries → Tidy z c
+    → Unless (Tidy z) (fire_at scan k cell b ws c)
 fire_at_tidy z scan k cell b [] c ck r t = lose_tidy z scan FutureSide k c r t
 fire_at_tidy z scan k cell false (w ∷ ws) c ck r t = lose_tidy z scan FutureSide k c r t
 fire_at_tidy z scan k cell true (w ∷ ws) c ck r t = fire_to_tidy z k cell w (thing c.entries w.actor) c ck refl t
@@ -197,7 +215,8 @@ close_tidy z scan i x v c a r t =
     let d = record c { entries = removed c.entries i } in
     after_turn (Tidy z) (λ d. give_result scan x v (writes (end_line i v) d)) d c.left (λ n. given_tidy z scan x v (writes (end_line i v) (record d { left = n })) (over_tidy z i c a r t))
 
-leave_kept_tidy : (z : Since) → (i b : ℕ) (v : OperandFate) (x : Ref) (en e0 : Entry) (vs : List ValueTree) (c : Core) → thing c.entries i ≡ Some e0 → en.result ≡ e0.result → Tidy z c → Unless (Tidy z) (leave_kept i b v x en vs c)
+leave_kept_tidy : (z : Since) → (i b : ℕ) (v : OperandFate) (x : Ref) (en e0 : Entry) (vs : List ValueTree) (c : Core) → thing c.entries i ≡ Some e0 → en.result ≡ e0.result → Tidy z c
+    → Unless (Tidy z) (leave_kept i b v x en vs c)
 leave_kept_tidy z i b GoesOn x en e0 vs c at same t = unless c.halted t
 leave_kept_tidy z i b Cancelled x en e0 vs c at same t = unless c.halted (leave_tidy z i en e0 vs (Throw i operation_cancelled) c at same t)
 leave_kept_tidy z i b Ready x en e0 vs c at same t = branch_tidy z i b x.1 en e0 vs c at same t
@@ -223,12 +242,14 @@ module _ {A : Type 0} (z : Since) (e : Engine A) where
   throw_keeps i err None k xs t = tt
   throw_keeps i err (Some x) k xs t = thrown_tidy z i err (e.raise err x).0 (thing k.entries i) k refl t
 
-  keep_by_keeps : (i b : ℕ) (v : OperandFate) (spot : Spot) (r : Ref) (en : Entry) (x : A) (k : Core) (xs : Numbered A) → Awake i k → thing k.entries i ≡ Some en → Tidy z k → Keeps (keep_by e i b v r (with_operand spot r en) x (proc k xs))
+  keep_by_keeps : (i b : ℕ) (v : OperandFate) (spot : Spot) (r : Ref) (en : Entry) (x : A) (k : Core) (xs : Numbered A) → Awake i k → thing k.entries i ≡ Some en → Tidy z k
+      → Keeps (keep_by e i b v r (with_operand spot r en) x (proc k xs))
   keep_by_keeps i b GoesOn spot r en x k xs a at t = unless k.halted (kept_tidy z i spot r en k a at t)
   keep_by_keeps i b Cancelled spot r en x k xs a at t = leave_kept_tidy z i b Cancelled r (with_operand spot r en) en (e.lose x).0 (record k { tasks = below k.tasks }) at refl t
   keep_by_keeps i b Ready spot r en x k xs a at t = leave_kept_tidy z i b Ready r (with_operand spot r en) en (e.lose x).0 (record k { tasks = below k.tasks }) at refl t
 
-  keep_keeps : (i : ℕ) (spot : Spot) (r : Ref) (x : Option A) (en : Option Entry) (k : Core) (xs : Numbered A) → Awake i k → thing k.entries i ≡ en → Tidy z k → Keeps (keep e i spot r x en (proc k xs))
+  keep_keeps : (i : ℕ) (spot : Spot) (r : Ref) (x : Option A) (en : Option Entry) (k : Core) (xs : Numbered A) → Awake i k → thing k.entries i ≡ en → Tidy z k
+      → Keeps (keep e i spot r x en (proc k xs))
   keep_keeps i spot r None None k xs a at t = tt
   keep_keeps i spot r None (Some en) k xs a at t = tt
   keep_keeps i spot r (Some x) None k xs a at t = tt
@@ -270,7 +291,8 @@ module _ {A : Type 0} (z : Since) (e : Engine A) where
   tasks_keep s (Throw i err ∷ ts) c xs o top t = throw_keeps i err (thing xs i) (record c { tasks = ts }) xs t
   tasks_keep s (Catch i err ∷ ts) c xs o top t = unless c.halted t
   tasks_keep s (Store i v ∷ ts) c xs o top t = store_keeps i v (thing xs i) (record c { tasks = ts }) xs t
-  tasks_keep s (Keep i spot r ∷ ts) c xs o top t = keep_keeps i spot r (thing xs i) (thing c.entries i) (record c { tasks = ts }) xs (taken_at i (Keep i spot r) ts c o top (keep_of i spot r)).awake refl t
+  tasks_keep s (Keep i spot r ∷ ts) c xs o top t = keep_keeps i spot r (thing xs i) (thing c.entries i) (record c { tasks = ts }) xs
+      (taken_at i (Keep i spot r) ts c o top (keep_of i spot r)).awake refl t
   tasks_keep s (Close i v ∷ ts) c xs o top t = close_keeps i v (thing c.entries i) (record c { tasks = ts }) xs (taken_at i (Close i v) ts c o top (close_of i v)).awake o.3 t
   tasks_keep s (Fire n ∷ ts) c xs o top t = fire_cell_tidy z (scan_of e.occ xs) n (thing c.cells n) (record c { tasks = ts }) refl o.3 t
   tasks_keep s (Drop kd n ∷ ts) c xs o top t = drop_tidy z (scan_of e.occ xs) kd n (record c { tasks = ts }) o.3 t

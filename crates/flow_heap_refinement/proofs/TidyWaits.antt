@@ -101,7 +101,8 @@ module _ (i above made : ℕ) (cs : Numbered Cell) where
   all_registered : (own : ℕ → List ℕ) (b : ℕ) (rs : List Ref) (q : Registration) → Waits own q → Waits (λ k. own k ++ branches_at k b rs) (register i b rs q)
   all_registered own b [] q h = by_same own (λ k. own k ++ []) q (λ k. sym (no_more (own k))) h
   all_registered own b (r ∷ rs) q h =
-      by_same (λ k. (own k ++ branches_at k b (r ∷ [])) ++ branches_at k (suc b) rs) (λ k. own k ++ branches_at k b (r ∷ rs)) (register i (suc b) rs (register_one (record { actor = i; branch = b }) r.1 q))
+      by_same (λ k. (own k ++ branches_at k b (r ∷ [])) ++ branches_at k (suc b) rs) (λ k. own k ++ branches_at k b (r ∷ rs))
+      (register i (suc b) rs (register_one (record { actor = i; branch = b }) r.1 q))
       (λ k. by_test k (nat_eq r.1 k))
       (all_registered (λ k. own k ++ branches_at k b (r ∷ [])) (suc b) rs (register_one (record { actor = i; branch = b }) r.1 q) (one_registered own b r q h))
     where
@@ -150,7 +151,8 @@ enrol_tidy z class name c rise t =
     )
 
 -- one operand more
-pub kept_tidy : (z : Since) → (i : ℕ) (spot : Spot) (r : Ref) (e : Entry) (c : Core) → Awake i c → thing c.entries i ≡ Some e → Tidy z c → Tidy z (record c { entries = put c.entries i (with_operand spot r e) })
+pub kept_tidy : (z : Since) → (i : ℕ) (spot : Spot) (r : Ref) (e : Entry) (c : Core) → Awake i c → thing c.entries i ≡ Some e → Tidy z c
+    → Tidy z (record c { entries = put c.entries i (with_operand spot r e) })
 kept_tidy z i spot r e c awake at t = entry_tidy z i e (with_operand spot r e) c at (by_flag e.suspended (sym (ap is_suspended at) ∙ awake)) refl t
   where
     by_flag : (b : Bool) → Some b ≡ Some false → waiting_by b (e.operands ++ r ∷ []) ≡ waiting_by b e.operands

@@ -56,7 +56,8 @@ module _ (spots spots' : ℕ → Spot) (i : ℕ) (same : (j : ℕ) → (i ≡ j 
   cell_aside (Some m) (Some s) None n h = absurd h
   cell_aside (Some m) (Some s) (Some c) n h = absurd h
 
-  pub cells_aside : (ms : stored.Numbered (CellTree Outcome)) (ss : stored.Numbered (StreamTree Value)) (cs : Numbered Cell) → ((k : ℕ) → branches_of i (waiters_at (thing cs k)) ≡ []) → CellsRepresent spots ms ss cs → CellsRepresent spots' ms ss cs
+  pub cells_aside : (ms : stored.Numbered (CellTree Outcome)) (ss : stored.Numbered (StreamTree Value)) (cs : Numbered Cell) → ((k : ℕ) → branches_of i (waiters_at (thing cs k)) ≡ [])
+      → CellsRepresent spots ms ss cs → CellsRepresent spots' ms ss cs
   cells_aside ms ss cs n all k = cell_aside (stored.thing ms k) (stored.thing ss k) (thing cs k) (n k) (all k)
 
 -- where all stand as before, nothing has changed

@@ -59,17 +59,20 @@ module _ (spots : ℕ → Spot) (i : ℕ) where
   stream_less b None = None
   stream_less b (Some m) = if is_waiter (the_waiter b) m.waiter then Some (record m { waiter = None }) else Some m
 
-  single_leaves : (b : ℕ) (m : CellTree Outcome) (o : Option _) (ws : List Waiter) → CellRepresents spots (Some m) None (Some (Single o ws)) → CellRepresents spots (single_less b (Some m)) None (Some (Single o (without_branch ws i b)))
+  single_leaves : (b : ℕ) (m : CellTree Outcome) (o : Option _) (ws : List Waiter) → CellRepresents spots (Some m) None (Some (Single o ws))
+      → CellRepresents spots (single_less b (Some m)) None (Some (Single o (without_branch ws i b)))
   single_leaves b m o ws s = by_test (has_waiter m.waiters (the_waiter b)) refl
     where
       found : has_waiter m.waiters (the_waiter b) ≡ has_branch ws i b
       found = ap (λ vs. has_waiter vs (the_waiter b)) s.1 ∙ has_as spots i b ws
 
-      by_test : (t : Bool) → has_waiter m.waiters (the_waiter b) ≡ t → CellRepresents spots (if t then Some (record m { waiters = without_newest m.waiters (the_waiter b) }) else Some m) None (Some (Single o (without_branch ws i b)))
+      by_test : (t : Bool) → has_waiter m.waiters (the_waiter b) ≡ t
+          → CellRepresents spots (if t then Some (record m { waiters = without_newest m.waiters (the_waiter b) }) else Some m) None (Some (Single o (without_branch ws i b)))
       by_test true e = (s.0, ap (λ vs. without_newest vs (the_waiter b)) s.1 ∙ without_as spots i b ws)
       by_test false e = (s.0, s.1 ∙ ap (map (waiter_in spots)) (sym (unhad spots i b ws (sym found ∙ e))))
 
-  stream_leaves : (b : ℕ) (m : StreamTree Value) (q : List _) (x : Option ℕ) (w : Option Waiter) → CellRepresents spots None (Some m) (Some (Stream q x w)) → CellRepresents spots None (stream_less b (Some m)) (Some (Stream q x (less_one i b w)))
+  stream_leaves : (b : ℕ) (m : StreamTree Value) (q : List _) (x : Option ℕ) (w : Option Waiter) → CellRepresents spots None (Some m) (Some (Stream q x w))
+      → CellRepresents spots None (stream_less b (Some m)) (Some (Stream q x (less_one i b w)))
   stream_leaves b m q x None s = by_test (is_waiter (the_waiter b) m.waiter) (ap (is_waiter (the_waiter b)) s.2)
     where
       by_test : (t : Bool) → t ≡ false → CellRepresents spots None (if t then Some (record m { waiter = None }) else Some m) (Some (Stream q x None))
@@ -125,7 +128,8 @@ module _ (spots : ℕ → Spot) (i : ℕ) where
           by_test false = record { frames = refl; actors = refl; made = refl; cells = refl; streams = refl; main = refl; ports = refl; requests = refl }
 
   -- one branch leaves a cell
-  there : (b k : ℕ) (h : HeapTree) (o : Option (CellTree Outcome)) (x : Option (StreamTree Value)) (c : Option Cell) → stored.thing h.cells.things k ≡ o → stored.thing h.streams.things k ≡ x → CellRepresents spots o x c
+  there : (b k : ℕ) (h : HeapTree) (o : Option (CellTree Outcome)) (x : Option (StreamTree Value)) (c : Option Cell) → stored.thing h.cells.things k ≡ o → stored.thing h.streams.things k ≡ x
+      → CellRepresents spots o x c
       → CellRepresents spots (stored.thing (leave_cell_at k (the_waiter b) o h).cells.things k) (stored.thing (leave_cell_at k (the_waiter b) o h).streams.things k) (one_cell b c)
   there b k h None None None e f s = rw (f, e) (rw f tt)
   there b k h (Some m) None (Some (Single v ws)) e f s =
@@ -157,16 +161,19 @@ module _ (spots : ℕ → Spot) (i : ℕ) where
       → (stored.thing (leave_cell_at k w o h).cells.things j ≡ stored.thing h.cells.things j) × (stored.thing (leave_cell_at k w o h).streams.things j ≡ stored.thing h.streams.things j)
   elsewhere k j w h (Some m) n = by_test (has_waiter m.waiters w)
     where
-      by_test : (t : Bool) → (stored.thing (if t then stored.with_thing h.cells k (record m { waiters = without_newest m.waiters w }) else h.cells).things j ≡ stored.thing h.cells.things j) × (stored.thing h.streams.things j ≡ stored.thing h.streams.things j)
+      by_test : (t : Bool) → (stored.thing (if t then stored.with_thing h.cells k (record m { waiters = without_newest m.waiters w }) else h.cells).things j ≡ stored.thing h.cells.things j)
+          × (stored.thing h.streams.things j ≡ stored.thing h.streams.things j)
       by_test true = (stored_other h.cells.things k j (record m { waiters = without_newest m.waiters w }) n, refl)
       by_test false = (refl, refl)
   elsewhere k j w h None n = by_stream (stored.thing h.streams.things k)
     where
-      by_stream : (y : Option (StreamTree Value)) → (stored.thing h.cells.things j ≡ stored.thing h.cells.things j) × (stored.thing (leave_stream_at k w y h.streams).things j ≡ stored.thing h.streams.things j)
+      by_stream : (y : Option (StreamTree Value)) → (stored.thing h.cells.things j ≡ stored.thing h.cells.things j)
+          × (stored.thing (leave_stream_at k w y h.streams).things j ≡ stored.thing h.streams.things j)
       by_stream None = (refl, refl)
       by_stream (Some m) = by_test (is_waiter w m.waiter)
         where
-          by_test : (t : Bool) → (stored.thing h.cells.things j ≡ stored.thing h.cells.things j) × (stored.thing (if t then stored.with_thing h.streams k (record m { waiter = None }) else h.streams).things j ≡ stored.thing h.streams.things j)
+          by_test : (t : Bool) → (stored.thing h.cells.things j ≡ stored.thing h.cells.things j)
+              × (stored.thing (if t then stored.with_thing h.streams k (record m { waiter = None }) else h.streams).things j ≡ stored.thing h.streams.things j)
           by_test true = (refl, stored_other h.streams.things k j (record m { waiter = None }) n)
           by_test false = (refl, refl)
 
@@ -233,12 +240,19 @@ module _ (spots : ℕ → Spot) (i : ℕ) where
             each_number r.1 (λ k. CellRepresents spots (stored.thing d.cells.things k) (stored.thing d.streams.things k) (cell_less i (branches_at k b (r ∷ rs)) (thing cs k)))
             (subst (λ z. CellRepresents spots (stored.thing d.cells.things r.1) (stored.thing d.streams.things r.1) z) here_less
             (subst (λ m. CellRepresents spots (stored.thing (leave_cell_at r.1 (record { actor = record { 0 = i }; callback = m }) o g).cells.things r.1)
-            (stored.thing (leave_cell_at r.1 (record { actor = record { 0 = i }; callback = m }) o g).streams.things r.1) (one_cell b (cell_less i (branches_at r.1 (suc b) rs) (thing cs r.1)))) (sym e)
+            (stored.thing (leave_cell_at r.1 (record { actor = record { 0 = i }; callback = m }) o g).streams.things r.1) (one_cell b (cell_less i (branches_at r.1 (suc b) rs) (thing cs r.1))))
+            (sym e)
             (there b r.1 g o (stored.thing g.streams.things r.1) (cell_less i (branches_at r.1 (suc b) rs) (thing cs r.1)) refl refl (l.cells r.1))))
             (λ j differ. let x = elsewhere r.1 j (record { actor = record { 0 = i }; callback = n }) g o differ in
             subst (λ z. CellRepresents spots (stored.thing d.cells.things j) (stored.thing d.streams.things j) z) (other_less j differ) (rw (x.0, x.1) (l.cells j)));
-        tasks = (ap (λ z. Drop z r.1) (kinds.0 ∙ sym (less_kind (branches_at r.1 (suc b) rs) (thing cs r.1)) ∙ sym (kind_as o (stored.thing g.streams.things r.1) (cell_less i (branches_at r.1 (suc b) rs) (thing cs r.1)) (l.cells r.1))), rw (tasks_left r.1 (record { actor = record { 0 = i }; callback = n }) g o) l.tasks);
-        beside = both d g h (leave_one i (record { callback = n; cell = record { 0 = r.1 } }) g).tasks (same_left r.1 (record { actor = record { 0 = i }; callback = n }) g o (stored.thing g.streams.things r.1) refl) l.beside;
+        tasks = (
+          ap (λ z. Drop z r.1) (kinds.0 ∙ sym (less_kind (branches_at r.1 (suc b) rs) (thing cs r.1))
+              ∙ sym (kind_as o (stored.thing g.streams.things r.1) (cell_less i (branches_at r.1 (suc b) rs) (thing cs r.1)) (l.cells r.1))),
+          rw
+              (tasks_left r.1 (record { actor = record { 0 = i }; callback = n }) g o) l.tasks,
+        );
+        beside = both d g h (leave_one i (record { callback = n; cell = record { 0 = r.1 } }) g).tasks
+            (same_left r.1 (record { actor = record { 0 = i }; callback = n }) g o (stored.thing g.streams.things r.1) refl) l.beside;
       }
         where
           o : Option (CellTree Outcome)

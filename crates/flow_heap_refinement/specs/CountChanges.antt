@@ -45,13 +45,15 @@ module _ (h : HeapTree) (s : Side) (j : ℕ) where
   CellReleased =
       (k : ℕ) (m : CellTree Outcome) (side : Side) → stored.thing h.cells.things k ≡ Some m
       → 0 < count_of (memory_side side) m.references
-      → kept_count s j h ≡ one s j side k + kept_count s j (cell_put k (record m { references = released (memory_side side) m.references }) h)
+      → kept_count s j h ≡ one s j side k + kept_count s j
+      (cell_put k (record m { references = released (memory_side side) m.references }) h)
 
   abbrev pub StreamReleased : Type 0
   StreamReleased =
       (k : ℕ) (m : StreamTree Value) (side : Side) → stored.thing h.cells.things k ≡ None
       → stored.thing h.streams.things k ≡ Some m → 0 < count_of (memory_side side) m.references
-      → kept_count s j h ≡ one s j side k + kept_count s j (stream_put k (record m { references = released (memory_side side) m.references }) h)
+      → kept_count s j h ≡ one s j side k + kept_count s j
+      (stream_put k (record m { references = released (memory_side side) m.references }) h)
 
   -- a new cell has no reference, and one without a reference may go
   abbrev pub ResultKeeps : Type 0

@@ -65,4 +65,5 @@ module _ (r : RawTree) (h : HeapTree) (p : Proc Frame) where
   abbrev pub LossFollows : Type 0
   LossFollows =
       (kd : Kind) (k : ℕ) (c : Cell) → Losing r h p kd k c
-      → LossMatches r p k (dropped kd k h) (loss (side_of kd) (references PromiseSide k p) (references FutureSide k p) c (owner k p.core.entries) (port_of k p.core.ports))
+      → LossMatches r p k (dropped kd k h) (loss (side_of kd) (references PromiseSide k p) (references FutureSide k p) c
+      (owner k p.core.entries) (port_of k p.core.ports))

@@ -112,7 +112,8 @@ module _ (p : Proc Frame) (s : Side) (j : ℕ) where
   abbrev pub OfClosed : Type 0
   OfClosed =
       (i : ℕ) (e : Entry) (f : Frame) → thing p.core.entries i ≡ Some e → thing p.actors i ≡ Some f
-      → references s j p ≡ entry_holds s j e + frame_holds s j f + references s j (proc (record p.core { entries = removed p.core.entries i }) (removed p.actors i))
+      → references s j p ≡ entry_holds s j e + frame_holds s j f + references s j
+      (proc (record p.core { entries = removed p.core.entries i }) (removed p.actors i))
 
   -- the hold on the result of `main`, ports and requests
   abbrev pub OfMain : Type 0

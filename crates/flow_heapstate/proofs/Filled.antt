@@ -140,7 +140,8 @@ thing_there f (c ∷ cs) n s e = at_head (nat_eq n c.cell.0) refl (λ x. thing_t
         rw g (ap₂ (λ k d. Some (cell_counted (f k) d)) same is)
     at_head false g rest = rw g (rest (rw g at e))
 
-may : (s : ActorState) (f : ℕ → Counts) (cs : List CellState) (g : ℕ) (h : HeapTree) → h.cells ≡ cells_with f cs g → IsUnset cs s.result → IsFree f h.actors.things s.result → may_start s.result h ≡ true
+may : (s : ActorState) (f : ℕ → Counts) (cs : List CellState) (g : ℕ) (h : HeapTree) → h.cells ≡ cells_with f cs g → IsUnset cs s.result → IsFree f h.actors.things s.result
+    → may_start s.result h ≡ true
 may s f cs g h is unset free = by_result s.result unset free
   where
     by_result : (o : Option CellId) → IsUnset cs o → IsFree f h.actors.things o → may_start o h ≡ true
@@ -158,7 +159,8 @@ owner_added k (x ∷ xs) i n e d = at_head (is_result k x.1.result) refl (λ y. 
     at_head true g rest = let bad = rw g at e in absurd (cc)
     at_head false g rest = rw g (rest (rw g at e))
 
-still_free : (o : Option CellId) (f : ℕ → Counts) (notes : Numbered Note) (i : ℕ) (ss : List ActorState) → NoneLater o ss → AreFree f notes ss → AreFree (promised_counts o f) (added notes i (new_note o)) ss
+still_free : (o : Option CellId) (f : ℕ → Counts) (notes : Numbered Note) (i : ℕ) (ss : List ActorState) → NoneLater o ss → AreFree f notes ss
+    → AreFree (promised_counts o f) (added notes i (new_note o)) ss
 still_free o f notes i [] n h = tt
 still_free o f notes i (s ∷ ss) n h = (by_result o s.result n.0 h.0, still_free o f notes i ss n.1 h.1)
   where

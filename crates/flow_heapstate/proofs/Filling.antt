@@ -43,7 +43,8 @@ all_padded (x ∷ xs) = ap (λ ys. x ∷ ys) (all_padded xs)
 stands_as : (part : ActorState) → stood part.state part.callbacks.items (holding part.class (length part.places.items) part.places.items) ≡ frame_of part
 stands_as part = by_state part.state ∙ ap (λ xs. record (frame_of part) { places = xs }) (all_padded part.places.items)
   where
-    by_state : (n : ℕ) → stood n part.callbacks.items (holding part.class (length part.places.items) part.places.items) ≡ record (frame_of part) { state = n; places = padded (length part.places.items) part.places.items }
+    by_state : (n : ℕ) → stood n part.callbacks.items (holding part.class (length part.places.items) part.places.items)
+        ≡ record (frame_of part) { state = n; places = padded (length part.places.items) part.places.items }
     by_state zero = refl
     by_state (suc n) = refl
 
@@ -65,10 +66,12 @@ module _ (part : ActorState) (h one two : HeapTree) (actor places : ℕ) (above 
   stands_there = new_is one.frames two.frames actor begun_frame rising below framed
 
   pub begins : (frames : Store (FrameTree Value)) → places ≡ length part.places.items
-      → ((x : FrameTree Value) → thing two.frames.things actor ≡ Some x → frames ≡ with_thing two.frames actor (stood part.state part.callbacks.items x)) → record two { frames = frames } ≡ begun part h
+      → ((x : FrameTree Value) → thing two.frames.things actor ≡ Some x → frames ≡ with_thing two.frames actor (stood part.state part.callbacks.items x))
+      → record two { frames = frames } ≡ begun part h
   begins frames size stands =
       let now = then_new one.frames two.frames frames actor begun_frame _ rising below framed (stands begun_frame stands_there) in
-      let as_part : stood part.state part.callbacks.items begun_frame ≡ frame_of part = ap (λ n. stood part.state part.callbacks.items (holding part.class n part.places.items)) size ∙ stands_as part in
+      let as_part : stood part.state part.callbacks.items begun_frame ≡ frame_of part =
+      ap (λ n. stood part.state part.callbacks.items (holding part.class n part.places.items)) size ∙ stands_as part in
       let kept : with_new one.frames actor (stood part.state part.callbacks.items begun_frame) ≡ with_new h.frames part.actor.0 (frame_of part) =
       ap₂ (λ i f. with_new one.frames i f) same_number as_part ∙ ap (λ (x : HeapTree). with_new x.frames part.actor.0 (frame_of part)) skips in
       ap (λ (x : HeapTree). record x { frames = frames }) starts

@@ -183,12 +183,14 @@ module _ (p : Parts) where
   cell_tested c h =
       let own : c.requested ≡ true → (is_none c.content && cell_unowned p c.cell) ≡ true =
       λ g. and_from (is_none c.content) (cell_unowned p c.cell) (is_absent c.content (h.unset g))
-      (and_from (nat_eq (times Promise c.cell (results p)) 0) (nat_eq (times Promise c.cell (value_refs p)) 0) (is_same (times Promise c.cell (results p)) 0 (h.own g)) (is_same (times Promise c.cell (value_refs p)) 0 (h.unnamed g))) in
+      (and_from (nat_eq (times Promise c.cell (results p)) 0) (nat_eq (times Promise c.cell (value_refs p)) 0) (is_same (times Promise c.cell (results p)) 0 (h.own g))
+      (is_same (times Promise c.cell (value_refs p)) 0 (h.unnamed g))) in
       let fits : cell_fits p c ≡ true =
       and_from (only_if (is_some c.content) (is_empty c.waiters)) (only_if c.requested (is_none c.content && cell_unowned p c.cell))
       (if_so (is_some c.content) (is_empty c.waiters) (λ e. has_none c.waiters (h.alone e))) (if_so c.requested (is_none c.content && cell_unowned p c.cell) own) in
       and_from (is_none (stream_at p c.cell)) _ (is_absent (stream_at p c.cell) h.apart)
-      (and_from (nat_lt 0 (times Promise c.cell (references p) + times Future c.cell (references p))) _ (is_below 0 (times Promise c.cell (references p) + times Future c.cell (references p)) h.referenced)
+      (and_from (nat_lt 0 (times Promise c.cell (references p) + times Future c.cell (references p))) _
+      (is_below 0 (times Promise c.cell (references p) + times Future c.cell (references p)) h.referenced)
       (and_from (list_all (is_waiting p c.cell) c.waiters) (cell_fits p c) (all_tested (is_waiting p c.cell) (IsWaiting p c.cell) (λ w g. g) c.waiters h.waiters) fits))
 
   waiter_tested : (k : ℕ) (o : Option Waiter) → ((w : Waiter) → o ≡ Some w → IsWaiting p k w) → waiter_waits p k o ≡ true

@@ -102,7 +102,8 @@ unfolding stream_up
 stream_rises side low f ss g n h =
     as_up (thing (streams_with f ss g).things n) ∙ ap (λ xs. record { things = xs; greatest = g }) (recounted_up stream_number stream_counted side (stream_up side) (λ c s. refl) low f ss n h)
   where
-    as_up : (o : Option (StreamTree Value)) → stream_held side n o (streams_with f ss g) ≡ record { things = with_up stream_number stream_counted (stream_up side) n o (streams_with f ss g).things; greatest = g }
+    as_up : (o : Option (StreamTree Value)) → stream_held side n o (streams_with f ss g)
+        ≡ record { things = with_up stream_number stream_counted (stream_up side) n o (streams_with f ss g).things; greatest = g }
     as_up None = refl
     as_up (Some c) = refl
 
@@ -131,7 +132,8 @@ abbrev pub with_counts : HeapTree → Store (CellTree Outcome) → Store (Stream
 with_counts h a b = record h { cells = a; streams = b }
 
 module _ (cs : List CellState) (ss : List StreamState) (a b : ℕ) (cells : RisesFrom 0 (map cell_number cs)) (streams : RisesFrom 0 (map stream_number ss)) where
-  one_held : (r : Ref) (h : HeapTree) (f g : ℕ → Counts) → held_one r (with_counts h (cells_with f cs a) (streams_with g ss b)) ≡ with_counts h (cells_with (in_cells r f) cs a) (streams_with (in_streams r g) ss b)
+  one_held : (r : Ref) (h : HeapTree) (f g : ℕ → Counts) → held_one r (with_counts h (cells_with f cs a) (streams_with g ss b))
+      ≡ with_counts h (cells_with (in_cells r f) cs a) (streams_with (in_streams r g) ss b)
   one_held (kind.Promise, n) h f g = ap (λ x. with_counts h x (streams_with g ss b)) (cell_rises Promise 0 f cs a n cells)
   one_held (kind.Future, n) h f g = ap (λ x. with_counts h x (streams_with g ss b)) (cell_rises Future 0 f cs a n cells)
   one_held (kind.PromiseStream, n) h f g = ap (λ x. with_counts h (cells_with f cs a) x) (stream_rises Promise 0 g ss b n streams)
@@ -153,11 +155,13 @@ pub cells_counted : (rs : List Ref) (f : ℕ → Counts) (n : ℕ) → all_in_ce
 cells_counted [] f n = counts_same (f n) (added_counts (f n) (cell_times n [])) (omega arith) (omega arith)
 cells_counted (r ∷ rs) f n = cells_counted rs (in_cells r f) n ∙ one r
   where
-    by_test : (t : Bool) (p q : ℕ) → added_counts (if t then held Promise (f n) else f n) (record { promises = p; futures = q }) ≡ added_counts (f n) (record { promises = if t then suc p else p; futures = q })
+    by_test : (t : Bool) (p q : ℕ) → added_counts (if t then held Promise (f n) else f n) (record { promises = p; futures = q })
+        ≡ added_counts (f n) (record { promises = if t then suc p else p; futures = q })
     by_test true p q = counts_same _ _ (omega arith) (omega arith)
     by_test false p q = refl
 
-    by_test_too : (t : Bool) (p q : ℕ) → added_counts (if t then held Future (f n) else f n) (record { promises = p; futures = q }) ≡ added_counts (f n) (record { promises = p; futures = if t then suc q else q })
+    by_test_too : (t : Bool) (p q : ℕ) → added_counts (if t then held Future (f n) else f n) (record { promises = p; futures = q })
+        ≡ added_counts (f n) (record { promises = p; futures = if t then suc q else q })
     by_test_too true p q = counts_same _ _ (omega arith) (omega arith)
     by_test_too false p q = refl
 
@@ -171,11 +175,13 @@ pub streams_counted : (rs : List Ref) (f : ℕ → Counts) (n : ℕ) → all_in_
 streams_counted [] f n = counts_same (f n) (added_counts (f n) (stream_times n [])) (omega arith) (omega arith)
 streams_counted (r ∷ rs) f n = streams_counted rs (in_streams r f) n ∙ one r
   where
-    by_test : (t : Bool) (p q : ℕ) → added_counts (if t then held Promise (f n) else f n) (record { promises = p; futures = q }) ≡ added_counts (f n) (record { promises = if t then suc p else p; futures = q })
+    by_test : (t : Bool) (p q : ℕ) → added_counts (if t then held Promise (f n) else f n) (record { promises = p; futures = q })
+        ≡ added_counts (f n) (record { promises = if t then suc p else p; futures = q })
     by_test true p q = counts_same _ _ (omega arith) (omega arith)
     by_test false p q = refl
 
-    by_test_too : (t : Bool) (p q : ℕ) → added_counts (if t then held Future (f n) else f n) (record { promises = p; futures = q }) ≡ added_counts (f n) (record { promises = p; futures = if t then suc q else q })
+    by_test_too : (t : Bool) (p q : ℕ) → added_counts (if t then held Future (f n) else f n) (record { promises = p; futures = q })
+        ≡ added_counts (f n) (record { promises = p; futures = if t then suc q else q })
     by_test_too true p q = counts_same _ _ (omega arith) (omega arith)
     by_test_too false p q = refl
 

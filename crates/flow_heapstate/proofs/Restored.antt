@@ -68,7 +68,8 @@ times_both : (k : Kind) (n : ℕ) (rs qs : List Ref) → times k n (rs ++ qs) �
 times_both k n [] qs = omega arith
 times_both k n (r ∷ rs) qs = by_test (same_kind k r.0 && nat_eq n r.1) (times_both k n rs qs)
   where
-    by_test : (t : Bool) → times k n (rs ++ qs) ≡ times k n rs + times k n qs → (if t then suc (times k n (rs ++ qs)) else times k n (rs ++ qs)) ≡ (if t then suc (times k n rs) else times k n rs) + times k n qs
+    by_test : (t : Bool) → times k n (rs ++ qs) ≡ times k n rs + times k n qs
+        → (if t then suc (times k n (rs ++ qs)) else times k n (rs ++ qs)) ≡ (if t then suc (times k n rs) else times k n rs) + times k n qs
     by_test true e = omega (arith, e)
     by_test false e = e
 

@@ -67,9 +67,9 @@ module _ (i : ℕ) where
     asks = λ c tied h. h;
     listens = λ c port tied h. h;
     starts = λ c class tied h. let n = h.0 in (
-          omega (arith, n),
-          subst IsMarked (sym (thing_added c.entries (suc c.started) i _ (λ q. omega (arith, q, n)))) h.1,
-        );
+      omega (arith, n),
+      subst IsMarked (sym (thing_added c.entries (suc c.started) i _ (λ q. omega (arith, q, n)))) h.1,
+    );
   }
 
   abbrev MarkedIn : Proc Frame → Type 0

@@ -1,7 +1,7 @@
+pub mod ended;
+pub mod fires;
 pub mod fitting;
+pub mod open_ports;
 pub mod owned;
 pub mod referenced;
 pub mod unmarked;
-pub mod ended;
-pub mod open_ports;
-pub mod fires;

@@ -146,13 +146,17 @@ lays s f l m n e h g k = ap (λ x. with_body x k) h ∙ g k ∙ ap (with_body l)
 
 -- each kind of statement, with what its parts add
 pub after_block : (s : Stmt) (b : Vec Stmt Global) (items : List Stmt) (l m : LayoutTree) → s.kind ≡ kind.Block b → items ≡ b.items → m ≡ with_body l (body_of items) → LaysBefore (stmt_of s) l m
-after_block s b items l m e d h = lays s (BlockStmt s.at (body_of b.items)) l m (with_body l (body_of b.items)) (λ k. is_block s b k e) (h ∙ ap (λ x. with_body l (body_of x)) d) (one_body l (body_of b.items))
+after_block s b items l m e d h = lays s (BlockStmt s.at (body_of b.items)) l m (with_body l (body_of b.items)) (λ k. is_block s b k e) (h ∙ ap (λ x. with_body l (body_of x)) d)
+    (one_body l (body_of b.items))
 
-pub after_while : (s : Stmt) (t : Expr) (b : Vec Stmt Global) (items : List Stmt) (l m : LayoutTree) → s.kind ≡ kind.While t b → items ≡ b.items → m ≡ with_body l (body_of items) → LaysBefore (stmt_of s) l m
-after_while s t b items l m e d h = lays s (WhileStmt s.at (expr_of t) (body_of b.items)) l m (with_body l (body_of b.items)) (λ k. is_while s t b k e) (h ∙ ap (λ x. with_body l (body_of x)) d) (one_body l (body_of b.items))
+pub after_while : (s : Stmt) (t : Expr) (b : Vec Stmt Global) (items : List Stmt) (l m : LayoutTree) → s.kind ≡ kind.While t b → items ≡ b.items → m ≡ with_body l (body_of items)
+    → LaysBefore (stmt_of s) l m
+after_while s t b items l m e d h = lays s (WhileStmt s.at (expr_of t) (body_of b.items)) l m (with_body l (body_of b.items)) (λ k. is_while s t b k e) (h ∙ ap (λ x. with_body l (body_of x)) d)
+    (one_body l (body_of b.items))
 
 pub after_loop : (s : Stmt) (b : Vec Stmt Global) (items : List Stmt) (l m : LayoutTree) → s.kind ≡ kind.Loop b → items ≡ b.items → m ≡ with_body l (body_of items) → LaysBefore (stmt_of s) l m
-after_loop s b items l m e d h = lays s (LoopStmt s.at (body_of b.items)) l m (with_body l (body_of b.items)) (λ k. is_loop s b k e) (h ∙ ap (λ x. with_body l (body_of x)) d) (one_body l (body_of b.items))
+after_loop s b items l m e d h = lays s (LoopStmt s.at (body_of b.items)) l m (with_body l (body_of b.items)) (λ k. is_loop s b k e) (h ∙ ap (λ x. with_body l (body_of x)) d)
+    (one_body l (body_of b.items))
 
 with_end : (l : LayoutTree) → with_body l End ≡ l
 with_end l i = record { slots = append-nil l.slots i; locals = append-nil l.locals i; branches = append-nil l.branches i }
@@ -169,11 +173,13 @@ after_if s t b (Some c) items l m n e d h g =
 pub after_for : (s : Stmt) (i : Option (Box Stmt Global)) (t : Option Expr) (u : Option (Box Stmt Global)) (b : Vec Stmt Global) (items : List Stmt) (l m n o : LayoutTree)
     → s.kind ≡ kind.For i t u b → items ≡ b.items → m ≡ with_body l (simple_of i) → n ≡ with_body m (simple_of u) → o ≡ with_body n (body_of items) → LaysBefore (stmt_of s) l o
 after_for s i t u b items l m n o e d h g f =
-    lays s (ForStmt s.at (simple_of i) (option_map expr_of t) (simple_of u) (body_of b.items)) l o (with_body (with_body (with_body l (simple_of i)) (simple_of u)) (body_of b.items)) (λ k. is_for s i t u b k e)
+    lays s (ForStmt s.at (simple_of i) (option_map expr_of t) (simple_of u) (body_of b.items)) l o (with_body (with_body (with_body l (simple_of i)) (simple_of u)) (body_of b.items))
+    (λ k. is_for s i t u b k e)
     (f ∙ ap (λ x. with_body n (body_of x)) d ∙ ap (λ x. with_body x (body_of b.items)) (g ∙ ap (λ x. with_body x (simple_of u)) h)) (three_bodies l (simple_of i) (simple_of u) (body_of b.items))
 
 pub after_try : (s : Stmt) (b : Vec Stmt Global) (p : Place) (x : Ident) (h : Vec Stmt Global) (items hands : List Stmt) (l m n o : LayoutTree)
-    → s.kind ≡ kind.Try b p x h → items ≡ b.items → hands ≡ h.items → m ≡ with_body l (body_of items) → n ≡ with_more m [] (ErrorType ∷ []) → o ≡ with_body n (body_of hands) → LaysBefore (stmt_of s) l o
+    → s.kind ≡ kind.Try b p x h → items ≡ b.items → hands ≡ h.items → m ≡ with_body l (body_of items) → n ≡ with_more m [] (ErrorType ∷ []) → o ≡ with_body n (body_of hands)
+    → LaysBefore (stmt_of s) l o
 after_try s b p x h items hands l m n o e d c f g j =
     lays s (TryStmt s.at (body_of b.items) p x (body_of h.items)) l o (with_body (with_more (with_body l (body_of b.items)) [] (ErrorType ∷ [])) (body_of h.items)) (λ k. is_try s b p x h k e)
     (j ∙ ap (λ y. with_body n (body_of y)) c ∙ ap (λ y. with_body y (body_of h.items)) (g ∙ ap (λ y. with_more y [] (ErrorType ∷ [])) (f ∙ ap (λ y. with_body l (body_of y)) d)))

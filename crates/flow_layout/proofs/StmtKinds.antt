@@ -64,7 +64,8 @@ is_return s e k = roll (kind.Return e) (λ at rest. ReturnStmt at (expr_of e) re
 pub is_throw : (s : Stmt) (e : Option Expr) (k : Body) → s.kind ≡ kind.Throw e → stmt_of s k ≡ ThrowStmt s.at (option_map expr_of e) k
 is_throw s e k = roll (kind.Throw e) (λ at rest. ThrowStmt at (option_map expr_of e) rest) s k (kind_throw e)
 
-pub is_try : (s : Stmt) (b : Vec Stmt Global) (p : Place) (x : Ident) (h : Vec Stmt Global) (k : Body) → s.kind ≡ kind.Try b p x h → stmt_of s k ≡ TryStmt s.at (body_of b.items) p x (body_of h.items) k
+pub is_try : (s : Stmt) (b : Vec Stmt Global) (p : Place) (x : Ident) (h : Vec Stmt Global) (k : Body) → s.kind ≡ kind.Try b p x h
+    → stmt_of s k ≡ TryStmt s.at (body_of b.items) p x (body_of h.items) k
 is_try s b p x h k = roll (kind.Try b p x h) (λ at rest. TryStmt at (body_of b.items) p x (body_of h.items) rest) s k (kind_try b p x h)
 
 pub is_choose : (s : Stmt) (bs : Vec When Global) (k : Body) → s.kind ≡ kind.Choose bs → stmt_of s k ≡ ChooseStmt s.at (branches_of bs.items) k

@@ -121,7 +121,8 @@ piece_same w r w' r' b b' e (code high low x y ex ey p v) (escape c k q) =
     let t = tail_same 92 92 (120 ∷ (high ∷ (low ∷ r))) (c ∷ r') (cut w r w' r' (92 ∷ (120 ∷ (high ∷ (low ∷ [])))) (92 ∷ (c ∷ [])) e p q) in
     absurd (some_none b' (sym k ∙ ap escaped (sym (head_same 120 c (high ∷ (low ∷ r)) r' t))))
 piece_same w r w' r' b b' e (code high low x y ex ey p v) (code high' low' x' y' ex' ey' q v') =
-    let t = tail_same 120 120 (high ∷ (low ∷ r)) (high' ∷ (low' ∷ r')) (tail_same 92 92 (120 ∷ (high ∷ (low ∷ r))) (120 ∷ (high' ∷ (low' ∷ r'))) (cut w r w' r' (92 ∷ (120 ∷ (high ∷ (low ∷ [])))) (92 ∷ (120 ∷ (high' ∷ (low' ∷ [])))) e p q)) in
+    let t = tail_same 120 120 (high ∷ (low ∷ r)) (high' ∷ (low' ∷ r'))
+    (tail_same 92 92 (120 ∷ (high ∷ (low ∷ r))) (120 ∷ (high' ∷ (low' ∷ r'))) (cut w r w' r' (92 ∷ (120 ∷ (high ∷ (low ∷ [])))) (92 ∷ (120 ∷ (high' ∷ (low' ∷ [])))) e p q)) in
     let eh = head_same high high' (low ∷ r) (low' ∷ r') t in
     let u = tail_same high high' (low ∷ r) (low' ∷ r') t in
     let el = head_same low low' r r' u in

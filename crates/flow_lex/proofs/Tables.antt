@@ -32,7 +32,9 @@ find_fails p (y ∷ ys) h i d lt t = elim (p y) as (λ b. (p y ≡ b) → None �
 ] refl h
 
 abbrev pub all_words : List words.Word
-all_words = Actor ∷ (Struct ∷ (State ∷ (Wait ∷ (WaitNext ∷ (Choose ∷ (When ∷ (Loop ∷ (While ∷ (For ∷ (If ∷ (Else ∷ (Break ∷ (Continue ∷ (Return ∷ (Throw ∷ (Try ∷ (Catch ∷ (Yes ∷ (No ∷ (Int ∷ (Bool' ∷ (Str ∷ (Void ∷ (Error ∷ (Future ∷ (FutureStream ∷ (Promise ∷ (PromiseStream ∷ []))))))))))))))))))))))))))))
+all_words = Actor ∷ (Struct ∷ (State ∷ (Wait ∷ (WaitNext ∷ (Choose
+    ∷ (When ∷ (Loop ∷ (While ∷ (For ∷ (If ∷ (Else ∷ (Break ∷ (Continue
+    ∷ (Return ∷ (Throw ∷ (Try ∷ (Catch ∷ (Yes ∷ (No ∷ (Int ∷ (Bool' ∷ (Str ∷ (Void ∷ (Error ∷ (Future ∷ (FutureStream ∷ (Promise ∷ (PromiseStream ∷ []))))))))))))))))))))))))))))
 
 abbrev word_index : words.Word → ℕ
 word_index Actor = 0
@@ -83,7 +85,10 @@ word_missing w h k e =
     find_fails (λ x. bytes_eq (word_bytes x) w) all_words h (word_index k) Actor (grind (arith, nat_tests)) (ap (λ x. bytes_eq (word_bytes x) w) (word_there k) ∙ equal)
 
 abbrev pub all_signs : List signs.Sign
-all_signs = OpenRound ∷ (CloseRound ∷ (OpenCurly ∷ (CloseCurly ∷ (OpenSquare ∷ (CloseSquare ∷ (Less ∷ (Greater ∷ (Comma ∷ (Semicolon ∷ (Dot ∷ (Assign ∷ (Equal ∷ (NotEqual ∷ (LessEqual ∷ (GreaterEqual ∷ (AndAnd ∷ (OrOr ∷ (Not ∷ (Plus ∷ (Minus ∷ (Star ∷ (Slash ∷ (Percent ∷ (PlusAssign ∷ (MinusAssign ∷ (PlusPlus ∷ (MinusMinus ∷ (Amp ∷ []))))))))))))))))))))))))))))
+all_signs = OpenRound ∷ (CloseRound ∷ (OpenCurly ∷ (CloseCurly ∷ (OpenSquare
+    ∷ (CloseSquare ∷ (Less ∷ (Greater ∷ (Comma ∷ (Semicolon ∷ (Dot
+    ∷ (Assign ∷ (Equal ∷ (NotEqual ∷ (LessEqual ∷ (GreaterEqual ∷ (AndAnd
+    ∷ (OrOr ∷ (Not ∷ (Plus ∷ (Minus ∷ (Star ∷ (Slash ∷ (Percent ∷ (PlusAssign ∷ (MinusAssign ∷ (PlusPlus ∷ (MinusMinus ∷ (Amp ∷ []))))))))))))))))))))))))))))
 
 abbrev sign_index : signs.Sign → ℕ
 sign_index OpenRound = 0

@@ -13,7 +13,8 @@ use Rattle.flow_machine.specs.declared.host.Burst.{Burst}
 use Rattle.flow_machine.specs.declared.host.Burst.TheVariants.{Rested, Spent}
 use Rattle.flow_machine.specs.Serving.{ServedIf}
 
-module _ {A W : Type 0} (serves : Host W) (shows : A → Numbered ℕ → W → Type 0) (wrote : A → List Line → A → Type 0) (code : Code) (processes : ℕ) where
+module _ {A W : Type 0} (serves : Host W) (shows : A → Numbered ℕ → W → Type 0) (wrote : A → List Line → A → Type 0) (code : Code)
+    (processes : ℕ) where
   -- Tasks are done up to a step that asks something of the world, which is served, and so on: until no task is left, or a turn
   -- was wanted in vain.
   pub data Bursts : Process → A → Burst → Process → A → Type 0 where

@@ -1,4 +1,4 @@
-pub mod lookups;
-pub mod stores;
 pub mod actors;
 pub mod bursts;
+pub mod lookups;
+pub mod stores;

@@ -96,7 +96,8 @@ module _ {A B : Type 0} (e : Engine A) (d : Engine B) (R : Phase → A → B →
       )
 
   -- an operand is kept; its actor's next step is the task below
-  lost_alike : (i b : ℕ) (v : OperandFate) (spot : Spot) (r : Ref) (en e0 : Entry) (x : A) (y : B) (c k : Core) (xs : Numbered A) (ys : Numbered B) → (v ≡ GoesOn → ⊥) → thing k.entries i ≡ Some e0 → Paired c.tasks
+  lost_alike : (i b : ℕ) (v : OperandFate) (spot : Spot) (r : Ref) (en e0 : Entry) (x : A) (y : B) (c k : Core) (xs : Numbered A) (ys : Numbered B) → (v ≡ GoesOn → ⊥) → thing k.entries i ≡ Some e0
+      → Paired c.tasks
       → c.tasks ≡ Keep i spot r ∷ k.tasks → TaskOf i (Keep i spot r) c k xs ys (Some x) (Some y) → R Due x y → Matches (lost i b v r en (e.lose x) (proc k xs)) (lost i b v r en (d.lose y) (proc k ys))
   lost_alike i b v spot r en e0 x y c k xs ys n at paired top h rel =
       let s = sim.lose x y rel in
@@ -153,7 +154,8 @@ module _ {A B : Type 0} (e : Engine A) (d : Engine B) (R : Phase → A → B →
       → TaskOf i t c (record c { tasks = ts }) xs ys (thing xs i) (thing ys i)
   task_for i t ts c xs ys h o top rs = record { pop = popped_at i c.left t ts c o top h; rs = rs; first = refl; second = refl }
 
-  by_phase : (i : ℕ) (t : Task) (c k : Core) (xs : Numbered A) (ys : Numbered B) (x : Option A) (y : Option B) → TaskOf i t c k xs ys x y → BothOrNone (R (phase_first (t ∷ tasks_of i k.tasks))) (thing xs i) (thing ys i)
+  by_phase : (i : ℕ) (t : Task) (c k : Core) (xs : Numbered A) (ys : Numbered B) (x : Option A) (y : Option B) → TaskOf i t c k xs ys x y
+      → BothOrNone (R (phase_first (t ∷ tasks_of i k.tasks))) (thing xs i) (thing ys i)
   by_phase i t c k xs ys x y h = subst (λ p. BothOrNone (R p) (thing xs i) (thing ys i)) h.pop.phase (h.rs.phases i)
 
   pub task_alike : (s : Supply) (t : Task) (ts : List Task) (c : Core) (xs : Numbered A) (ys : Numbered B) → Orderly c → c.tasks ≡ t ∷ ts → Related R c xs ys → AlikeFor s t ts c xs ys
@@ -181,14 +183,16 @@ module _ {A B : Type 0} (e : Engine A) (d : Engine B) (R : Phase → A → B →
       let m = fire (scan_of e.occ xs) n k in (
         ap (λ f. fire f n k) (scans xs ys rs.all),
         refl,
-        unless_map m.halted (λ h. related_eased e d R sim c m xs ys rs (eases_on c k m (unmoved_eases c k (λ j. (refl, sym (ap (tasks_of j) top)))) h)) (fire_eases (scan_of e.occ xs) n k o.numbered o.waiting),
+        unless_map m.halted (λ h. related_eased e d R sim c m xs ys rs (eases_on c k m (unmoved_eases c k (λ j. (refl, sym (ap (tasks_of j) top)))) h))
+            (fire_eases (scan_of e.occ xs) n k o.numbered o.waiting),
       )
   task_alike s (Drop kind n) ts c xs ys o top rs =
       let k = record c { tasks = ts } in
       let m = drop (scan_of e.occ xs) kind n k in (
         ap (λ f. drop f kind n k) (scans xs ys rs.all),
         refl,
-        unless_map m.halted (λ h. related_eased e d R sim c m xs ys rs (eases_on c k m (unmoved_eases c k (λ j. (refl, sym (ap (tasks_of j) top)))) h)) (drop_eases (scan_of e.occ xs) kind n k o.numbered),
+        unless_map m.halted (λ h. related_eased e d R sim c m xs ys rs (eases_on c k m (unmoved_eases c k (λ j. (refl, sym (ap (tasks_of j) top)))) h))
+            (drop_eases (scan_of e.occ xs) kind n k o.numbered),
       )
 
   -- The process's answer to an ask of an actor, which is another afterwards.
@@ -199,7 +203,8 @@ module _ {A B : Type 0} (e : Engine A) (d : Engine B) (R : Phase → A → B →
     pub second : (b0 : B) × (thing ys i ≡ Some b0)
     pub after : R p a b
 
-  asked_related : (i : ℕ) (p : Phase) (c k m : Core) (xs : Numbered A) (ys : Numbered B) (a : A) (b : B) → Asked i p c k xs ys a b → Unless (Shifts i p k) m → Unless (λ m. Related R m (put xs i a) (put ys i b)) m
+  asked_related : (i : ℕ) (p : Phase) (c k m : Core) (xs : Numbered A) (ys : Numbered B) (a : A) (b : B) → Asked i p c k xs ys a b → Unless (Shifts i p k) m
+      → Unless (λ m. Related R m (put xs i a) (put ys i b)) m
   asked_related i p c k m xs ys a b h s =
       unless_map m.halted (λ s. related_shifts e d R sim i p c m xs ys h.first.0 a h.second.0 b h.first.1 h.second.1 h.rs s h.after) (popped_shifts i (Run i) p c k m h.pop s)
 
@@ -215,7 +220,8 @@ module _ {A B : Type 0} (e : Engine A) (d : Engine B) (R : Phase → A → B →
         refl,
         unless_map m.halted
             (λ s. let both = shifts_after i Due c k m h.pop.others s.0 in
-            related_new e d R sim n m m (put xs i a) (put ys i b) x y (related_shifts e d R sim i Due c m xs ys h.first.0 a h.second.0 b h.first.1 h.second.1 h.rs both h.after) (λ j. omega arith) s.1 r)
+            related_new e d R sim n m m (put xs i a) (put ys i b) x y (related_shifts e d R sim i Due c m xs ys h.first.0 a h.second.0 b h.first.1 h.second.1 h.rs both h.after)
+            (λ j. omega arith) s.1 r)
             (start_shifts i goal class (e.label class) k h.pop.awake h.pop.rises),
       )
 

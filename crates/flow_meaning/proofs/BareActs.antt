@@ -45,7 +45,8 @@ pub given_same : {A B C : Type 0} (f : A → B) (a : A) (go : C → StepOf A) (n
 given_same f a go next None h = refl
 given_same f a go next (Some x) h = h x
 
-pub given_through : {A B C D : Type 0} (f : A → B) (a : A) (go : C → StepOf A) (next : D → StepOf B) (g : C → D) (o : Option C) (u : Option D) → u ≡ option_map g o → ((x : C) → next (g x) ≡ through f (go x))
+pub given_through : {A B C D : Type 0} (f : A → B) (a : A) (go : C → StepOf A) (next : D → StepOf B) (g : C → D) (o : Option C) (u : Option D) → u ≡ option_map g o
+    → ((x : C) → next (g x) ≡ through f (go x))
     → given (f a) u next ≡ through f (given a o go)
 given_through {A = A} {B = B} {C = C} {D = D} f a go next g o u e h = ap (λ z. given (f a) z next) e ∙ by_thing o
   where
@@ -94,7 +95,8 @@ module _ (ns : Names) where
     based_act_bare (Some u) (Some m) vs left = refl
 
     path_act_bare : (x y : Ident) (ys : List Ident) (vs : List ValueTree) (left : ℕ)
-        → based_act (placeless_names ns) v look (read_in (map placeless_record ns.records) (look x.name) (before_last (placeless_ident y) (map placeless_ident ys))) (named method_names (last_of (placeless_ident y) (map placeless_ident ys)).name) vs left
+        → based_act (placeless_names ns) v look (read_in (map placeless_record ns.records) (look x.name) (before_last (placeless_ident y) (map placeless_ident ys)))
+        (named method_names (last_of (placeless_ident y) (map placeless_ident ys)).name) vs left
         ≡ based_act ns v look (read_in ns.records (look x.name) (before_last y ys)) (named method_names (last_of y ys).name) vs left
     path_act_bare x y ys vs left =
         ap₂ (λ zs z. based_act (placeless_names ns) v look (read_in (map placeless_record ns.records) (look x.name) zs) (named method_names z) vs left) (before_last_bare y ys) (last_of_bare y ys)
@@ -108,6 +110,7 @@ module _ (ns : Names) where
         (values (placeless_names ns) v look (placeless_exprs es)) (values ns v look es) (values_bare es) (plain_act_bare (named call_names f.name) f.name)
     call_act_bare (x ∷ y ∷ ys) es =
         then_same
-        (λ vs left. based_act (placeless_names ns) v look (read_in (map placeless_record ns.records) (look x.name) (before_last (placeless_ident y) (map placeless_ident ys))) (named method_names (last_of (placeless_ident y) (map placeless_ident ys)).name) vs left)
+        (λ vs left. based_act (placeless_names ns) v look (read_in (map placeless_record ns.records) (look x.name) (before_last (placeless_ident y) (map placeless_ident ys)))
+        (named method_names (last_of (placeless_ident y) (map placeless_ident ys)).name) vs left)
         (λ vs left. based_act ns v look (read_in ns.records (look x.name) (before_last y ys)) (named method_names (last_of y ys).name) vs left)
         (values (placeless_names ns) v look (placeless_exprs es)) (values ns v look es) (values_bare es) (path_act_bare x y ys)

@@ -65,7 +65,8 @@ module _ (c : ClassTree) where
   callback_bare : (g n : ℕ) → callback_at (placeless_class c) g n ≡ option_map placeless_callback (callback_at c g n)
   callback_bare g n = ap (option_and_then (λ cs. slice_get cs n)) (group_bare g) ∙ by_group (group_at c.groups g)
     where
-      by_group : (o : Option (List CallbackTree)) → option_and_then (λ cs. slice_get cs n) (option_map (map placeless_callback) o) ≡ option_map placeless_callback (option_and_then (λ cs. slice_get cs n) o)
+      by_group : (o : Option (List CallbackTree)) → option_and_then (λ cs. slice_get cs n) (option_map (map placeless_callback) o)
+          ≡ option_map placeless_callback (option_and_then (λ cs. slice_get cs n) o)
       by_group None = refl
       by_group (Some cs) = get-map placeless_callback cs n
 
@@ -115,7 +116,8 @@ module _ (ns : Names) (v : View) (f : Frame) where
   valued_through go next e h = evaluated_through placeless_frame f go next (value ns v (look f.mem) e) (value b v (look f.mem) (placeless_expr e)) (value_bare ns v (look f.mem) e) h
 
   placed_through : (path : List Ident) (u : ValueTree) (left : ℕ)
-      → given (placeless_frame f) (assign b.records f.mem (map placeless_ident path) u) (class.placed b v (placeless_frame f) left) ≡ through placeless_frame (given f (assign ns.records f.mem path u) (class.placed ns v f left))
+      → given (placeless_frame f) (assign b.records f.mem (map placeless_ident path) u) (class.placed b v (placeless_frame f) left)
+      ≡ through placeless_frame (given f (assign ns.records f.mem path u) (class.placed ns v f left))
   placed_through path u left =
       ap (λ o. given (placeless_frame f) o (class.placed b v (placeless_frame f) left)) (assign_bare ns.records f.mem path u)
       ∙ given_same placeless_frame f (class.placed ns v f left) (class.placed b v (placeless_frame f) left) (assign ns.records f.mem path u) (λ p. refl)
@@ -125,10 +127,12 @@ module _ (ns : Names) (v : View) (f : Frame) where
       valued_through (λ u left. given f (assign ns.records f.mem path u) (class.placed ns v f left))
       (λ u left. given (placeless_frame f) (assign b.records f.mem (map placeless_ident path) u) (class.placed b v (placeless_frame f) left)) e (placed_through path)
   instr_through (EffectInstr path e) =
-      given_through placeless_frame f (class.effects ns v f Stored) (class.effects b v (placeless_frame f) Stored) placeless_effect (effect_in ns e) (effect_in b (placeless_expr e)) (effect_in_bare ns e) (effects_through Stored)
+      given_through placeless_frame f (class.effects ns v f Stored) (class.effects b v (placeless_frame f) Stored) placeless_effect (effect_in ns e) (effect_in b (placeless_expr e))
+      (effect_in_bare ns e) (effects_through Stored)
   instr_through (NewInstr p) =
       ap (λ o. given (placeless_frame f) (bind o class.promise_kind) (λ k. asks v.left (Effects Stored (Make k)) (placeless_frame f))) (type_bare f.code p)
-      ∙ given_same placeless_frame f (λ k. asks v.left (Effects Stored (Make k)) f) (λ k. asks v.left (Effects Stored (Make k)) (placeless_frame f)) (bind (type_at f.code p) class.promise_kind) (λ k. refl)
+      ∙ given_same placeless_frame f (λ k. asks v.left (Effects Stored (Make k)) f) (λ k. asks v.left (Effects Stored (Make k)) (placeless_frame f)) (bind (type_at f.code p) class.promise_kind)
+      (λ k. refl)
   instr_through (ActInstr path es) =
       evaluated_through placeless_frame f (λ act left. asks left act (next_instr f.mem f)) (λ act left. asks left act (next_instr f.mem (placeless_frame f)))
       (call_act ns v (look f.mem) path es) (call_act b v (look f.mem) (map placeless_ident path) (placeless_exprs es)) (call_act_bare ns v (look f.mem) path es) (λ act left. refl)
@@ -143,7 +147,8 @@ module _ (ns : Names) (v : View) (f : Frame) where
   ref_through left p (RefValue k cell) = refl
   ref_through left p u = refl
 
-  operand_through : (p : Spot) (e : ExprTree) (o : Option (Effectful × ExprTrees)) → class.operand_by b v (placeless_frame f) p (placeless_expr e) (option_map placeless_effect o) ≡ through placeless_frame (class.operand_by ns v f p e o)
+  operand_through : (p : Spot) (e : ExprTree) (o : Option (Effectful × ExprTrees))
+      → class.operand_by b v (placeless_frame f) p (placeless_expr e) (option_map placeless_effect o) ≡ through placeless_frame (class.operand_by ns v f p e o)
   operand_through p e (Some x) = effects_through (Kept p) x
   operand_through p e None =
       valued_through (λ u left. class.operand_ref ns v f left p u) (λ u left. class.operand_ref b v (placeless_frame f) left p u) e (λ u left. ref_through left p u)
@@ -188,7 +193,8 @@ module _ (ns : Names) (u : ValueTree) (f : Frame) where
   bound_through k None = refl
   bound_through k (Some p) = refl
 
-  callback_through : (o : Option CallbackTree) → class.take_callback (placeless_names ns) u (placeless_frame f) (option_map placeless_callback o) ≡ through placeless_frame (class.take_callback ns u f o)
+  callback_through : (o : Option CallbackTree) → class.take_callback (placeless_names ns) u (placeless_frame f) (option_map placeless_callback o)
+      ≡ through placeless_frame (class.take_callback ns u f o)
   callback_through None = refl
   callback_through (Some c) = bound_through c.block c.into
 

@@ -123,7 +123,8 @@ module _ (s : Setting) (run other : Runner) (runs : (f : RoutineTree) (vs : List
   declare_bare i None vars left = refl
   declare_bare i (Some e) vars left = ap (λ r. valued r vars (λ v left. declared (Some v) i.name.name vars left)) (eval_bare (named vars) e left)
 
-  at_var_bare : (vars : Locals) (k : ℕ) (o : Option (List ℕ × ValueTree)) (xs : List Ident) (w : ValueTree) → put_at_var b.records vars k o (map placeless_ident xs) w ≡ put_at_var s.records vars k o xs w
+  at_var_bare : (vars : Locals) (k : ℕ) (o : Option (List ℕ × ValueTree)) (xs : List Ident) (w : ValueTree)
+      → put_at_var b.records vars k o (map placeless_ident xs) w ≡ put_at_var s.records vars k o xs w
   at_var_bare vars k None xs w = refl
   at_var_bare vars k (Some v) xs w = ap (option_map (λ u. slice_set vars k (v.0, u))) (put_in_bare s.records (Some v.1) xs w)
 
@@ -151,7 +152,8 @@ module _ (s : Setting) (run other : Runner) (runs : (f : RoutineTree) (vs : List
   operand_bare UpChange vars left = refl
   operand_bare DownChange vars left = refl
 
-  changed_bare : (o : Option ValueTree) (c : ChangeTree) (xs : List Ident) (vars : Locals) (left : ℕ) → changed b other o (placeless_change c) (map placeless_ident xs) vars left ≡ changed s run o c xs vars left
+  changed_bare : (o : Option ValueTree) (c : ChangeTree) (xs : List Ident) (vars : Locals) (left : ℕ)
+      → changed b other o (placeless_change c) (map placeless_ident xs) vars left ≡ changed s run o c xs vars left
   changed_bare None c xs vars left = refl
   changed_bare (Some v) c xs vars left =
       valued_same
@@ -183,7 +185,8 @@ module _ (s : Setting) (run other : Runner) (runs : (f : RoutineTree) (vs : List
   return_bare e vars left = ap (λ r. valued r vars (λ v left. Returns v left)) (eval_bare (named vars) e left)
 
   -- statements as a whole
-  exec_same : (x : Body) (c : Option (List ℕ)) → ((vars : Locals) (left : ℕ) → exec b other (placeless_body x) c vars left ≡ exec s run x c vars left) → exec b other (placeless_body x) c ≡ exec s run x c
+  exec_same : (x : Body) (c : Option (List ℕ)) → ((vars : Locals) (left : ℕ) → exec b other (placeless_body x) c vars left ≡ exec s run x c vars left)
+      → exec b other (placeless_body x) c ≡ exec s run x c
   exec_same x c f = fun_ext (λ vars. fun_ext (λ left. f vars left))
 
   pub exec_bare : (x : Body) (c : Option (List ℕ)) (vars : Locals) (left : ℕ) → exec b other (placeless_body x) c vars left ≡ exec s run x c vars left
@@ -199,8 +202,10 @@ module _ (s : Setting) (run other : Runner) (runs : (f : RoutineTree) (vs : List
       ap₂ (λ (g h : Go). after (loop_run b other (Some (placeless_expr e)) skip g vars left) h) (exec_same x c (exec_bare x c)) (exec_same k c (exec_bare k c))
       ∙ ap (λ (l : Go). after (l vars left) (exec s run k c)) (loop_bare (Some e) skip (exec s run x c))
   exec_bare (ForStmt at i e t x k) c vars left =
-      ap₂ (λ (g h : Go). after (scope (for_run b other g (option_map placeless_expr e) (exec b other (placeless_body t) c) h) vars left) (exec b other (placeless_body k) c)) (exec_same i c (exec_bare i c)) (exec_same x c (exec_bare x c))
-      ∙ ap₂ (λ (g h : Go). after (scope (for_run b other (exec s run i c) (option_map placeless_expr e) g (exec s run x c)) vars left) h) (exec_same t c (exec_bare t c)) (exec_same k c (exec_bare k c))
+      ap₂ (λ (g h : Go). after (scope (for_run b other g (option_map placeless_expr e) (exec b other (placeless_body t) c) h) vars left) (exec b other (placeless_body k) c))
+      (exec_same i c (exec_bare i c)) (exec_same x c (exec_bare x c))
+      ∙ ap₂ (λ (g h : Go). after (scope (for_run b other (exec s run i c) (option_map placeless_expr e) g (exec s run x c)) vars left) h) (exec_same t c (exec_bare t c))
+      (exec_same k c (exec_bare k c))
       ∙ ap (λ (l : Go). after (scope l vars left) (exec s run k c)) (for_bare (exec s run i c) e (exec s run t c) (exec s run x c))
   exec_bare (LoopStmt at x k) c vars left =
       ap₂ (λ (g h : Go). after (loop_run b other None skip g vars left) h) (exec_same x c (exec_bare x c)) (exec_same k c (exec_bare k c))

@@ -120,11 +120,13 @@ mutual
 
 -- assignments
 module _ (rs : List RecordTree) where
-  old_bare : (x : Ident) (xs : List Ident) (v : ValueTree) (vars : Vars) (old : Option ValueTree) → assign_old (map placeless_record rs) (placeless_ident x) (map placeless_ident xs) v vars old ≡ assign_old rs x xs v vars old
+  old_bare : (x : Ident) (xs : List Ident) (v : ValueTree) (vars : Vars) (old : Option ValueTree)
+      → assign_old (map placeless_record rs) (placeless_ident x) (map placeless_ident xs) v vars old ≡ assign_old rs x xs v vars old
   old_bare x [] v vars old = refl
   old_bare x (y ∷ ys) v vars old = ap₂ (λ p q. assign_root x.name p (is_there q) vars) (put_in_bare rs old (y ∷ ys) v) (read_in_bare rs old (y ∷ ys))
 
-  at_bare : (x : Ident) (xs : List Ident) (v : ValueTree) (vars : Vars) (o : Option (Option ValueTree)) → assign_at (map placeless_record rs) (placeless_ident x) (map placeless_ident xs) v vars o ≡ assign_at rs x xs v vars o
+  at_bare : (x : Ident) (xs : List Ident) (v : ValueTree) (vars : Vars) (o : Option (Option ValueTree))
+      → assign_at (map placeless_record rs) (placeless_ident x) (map placeless_ident xs) v vars o ≡ assign_at rs x xs v vars o
   at_bare x xs v vars None = refl
   at_bare x xs v vars (Some old) = old_bare x xs v vars old
 
@@ -167,7 +169,8 @@ leave_through (o ∷ os) left a = refl
 left_through : (left : ℕ) (vars : Vars) (r : List Item) → left_scope left vars (map placeless_item r) ≡ through placeless_actor (left_scope left vars r)
 left_through left vars r = leave_through (scope vars.locals) left (actor (with_locals vars (outside vars.locals)) r)
 
-exit_through : (left : ℕ) (how : step.Exit) (me : Item) (a : Actor) (r : List Item) → step.exit left how (placeless_item me) (placeless_actor a) (map placeless_item r) ≡ through placeless_actor (step.exit left how me a r)
+exit_through : (left : ℕ) (how : step.Exit) (me : Item) (a : Actor) (r : List Item)
+    → step.exit left how (placeless_item me) (placeless_actor a) (map placeless_item r) ≡ through placeless_actor (step.exit left how me a r)
 exit_through left how me a [] = refl
 exit_through left how me a (Do s x ∷ r) = refl
 exit_through left how me a (Handler x s h ∷ r) = refl
@@ -178,7 +181,8 @@ exit_through left how me a (Round l ∷ r) = refl
 exit_through left how me a (Check l ∷ r) = refl
 exit_through left how me a (Over ∷ r) = refl
 
-choose_through : (left : ℕ) (a : Actor) (o : Option Bool) (main other : Actor) → step.choose left (placeless_actor a) o (placeless_actor main) (placeless_actor other) ≡ through placeless_actor (step.choose left a o main other)
+choose_through : (left : ℕ) (a : Actor) (o : Option Bool) (main other : Actor)
+    → step.choose left (placeless_actor a) o (placeless_actor main) (placeless_actor other) ≡ through placeless_actor (step.choose left a o main other)
 choose_through left a None main other = refl
 choose_through left a (Some true) main other = refl
 choose_through left a (Some false) main other = refl
@@ -187,13 +191,16 @@ module _ (ns : Names) (v : View) where
   abbrev b : Names
   b = placeless_names ns
 
-  test_through : (a : Actor) (e : ExprTree) (main other : Actor) → step.test b v (placeless_actor a) (placeless_expr e) (placeless_actor main) (placeless_actor other) ≡ through placeless_actor (step.test ns v a e main other)
+  test_through : (a : Actor) (e : ExprTree) (main other : Actor) → step.test b v (placeless_actor a) (placeless_expr e) (placeless_actor main) (placeless_actor other)
+      ≡ through placeless_actor (step.test ns v a e main other)
   test_through a e main other =
-      evaluated_through placeless_actor a (λ u left. step.choose left a (bool_of u) main other) (λ u left. step.choose left (placeless_actor a) (bool_of u) (placeless_actor main) (placeless_actor other))
+      evaluated_through placeless_actor a (λ u left. step.choose left a (bool_of u) main other)
+      (λ u left. step.choose left (placeless_actor a) (bool_of u) (placeless_actor main) (placeless_actor other))
       (value ns v (look a.vars) e) (value b v (look a.vars) (placeless_expr e)) (value_bare ns v (look a.vars) e)
       (λ u left. choose_through left a (bool_of u) main other)
 
-  place_through : (left : ℕ) (a : Actor) (g : Target) (u : ValueTree) (r : List Item) → step.place b v left (placeless_actor a) (placeless_target g) u (map placeless_item r) ≡ through placeless_actor (step.place ns v left a g u r)
+  place_through : (left : ℕ) (a : Actor) (g : Target) (u : ValueTree) (r : List Item)
+      → step.place b v left (placeless_actor a) (placeless_target g) u (map placeless_item r) ≡ through placeless_actor (step.place ns v left a g u r)
   place_through left a g u r =
       ap (λ o. given (placeless_actor a) o (step.placed b v left (placeless_actor a) (map placeless_item r))) (goal_bare ns.records g u a.vars)
       ∙ given_same placeless_actor a (step.placed ns v left a r) (step.placed b v left (placeless_actor a) (map placeless_item r)) (put_goal ns.records g u a.vars) (λ p. refl)
@@ -213,18 +220,22 @@ module _ (ns : Names) (v : View) where
       (value ns v (look a.vars) e) (value b v (look a.vars) (placeless_expr e)) (value_bare ns v (look a.vars) e)
       (λ u left. place_through left a g u r)
 
-  store_through : (a : Actor) (g : Target) (e : ExprTree) (r : List Item) → step.store b v (placeless_actor a) (placeless_target g) (placeless_expr e) (map placeless_item r) ≡ through placeless_actor (step.store ns v a g e r)
+  store_through : (a : Actor) (g : Target) (e : ExprTree) (r : List Item)
+      → step.store b v (placeless_actor a) (placeless_target g) (placeless_expr e) (map placeless_item r) ≡ through placeless_actor (step.store ns v a g e r)
   store_through a g e r =
       ap (λ o. step.store_by b v o (placeless_actor a) (placeless_target g) (placeless_expr e) (map placeless_item r)) (effect_in_bare ns e) ∙ store_by_through (effect_in ns e) a g e r
 
-  new_through : (a : Actor) (i : IntoTree) (r : List Item) (t : TypeTree) → step.declare_new b v (placeless_actor a) (placeless_into i) (map placeless_item r) t ≡ through placeless_actor (step.declare_new ns v a i r t)
+  new_through : (a : Actor) (i : IntoTree) (r : List Item) (t : TypeTree)
+      → step.declare_new b v (placeless_actor a) (placeless_into i) (map placeless_item r) t ≡ through placeless_actor (step.declare_new ns v a i r t)
   new_through a i r (PromiseType t) = refl
   new_through a i r (PromiseStreamType t) = refl
   new_through a i r t =
-      given_same placeless_actor a (λ u. step.place ns v v.left a (Declared i) u r) (λ u. step.place b v v.left (placeless_actor a) (Declared (placeless_into i)) u (map placeless_item r)) (default_value t)
+      given_same placeless_actor a (λ u. step.place ns v v.left a (Declared i) u r) (λ u. step.place b v v.left (placeless_actor a) (Declared (placeless_into i)) u (map placeless_item r))
+      (default_value t)
       (λ u. place_through v.left a (Declared i) u r)
 
-  declares_through : (a : Actor) (i : IntoTree) (e : Option ExprTree) (r : List Item) → step.declares b v (placeless_actor a) (placeless_into i) (option_map placeless_expr e) (map placeless_item r) ≡ through placeless_actor (step.declares ns v a i e r)
+  declares_through : (a : Actor) (i : IntoTree) (e : Option ExprTree) (r : List Item)
+      → step.declares b v (placeless_actor a) (placeless_into i) (option_map placeless_expr e) (map placeless_item r) ≡ through placeless_actor (step.declares ns v a i e r)
   declares_through a i (Some e) r = store_through a (Declared i) e r
   declares_through a i None r = new_through a i r i.ty
 
@@ -244,7 +255,8 @@ module _ (ns : Names) (v : View) where
   ref_through left p a (RefValue k cell) = refl
   ref_through left p a u = refl
 
-  operand_through : (o : Option (Effectful × ExprTrees)) (a : Actor) (p : Spot) (e : ExprTree) → step.operand_by b v (option_map placeless_effect o) (placeless_actor a) p (placeless_expr e) ≡ through placeless_actor (step.operand_by ns v o a p e)
+  operand_through : (o : Option (Effectful × ExprTrees)) (a : Actor) (p : Spot) (e : ExprTree)
+      → step.operand_by b v (option_map placeless_effect o) (placeless_actor a) p (placeless_expr e) ≡ through placeless_actor (step.operand_by ns v o a p e)
   operand_through (Some x) a p e = effects_through a (Kept p) x
   operand_through None a p e =
       evaluated_through placeless_actor a (λ u left. step.operand_ref ns v left p a u) (λ u left. step.operand_ref b v left p (placeless_actor a) u)
@@ -262,24 +274,32 @@ module _ (ns : Names) (v : View) where
   abbrev in_try : Actor → Site → Body → List ℕ → Body → Body → List Item → Site → Site → StepOf Actor
   in_try a s x n h k r y z = quietly (step.in_scope a.vars s x (Handler n (record { spot = y.spot; caught = Some n }) h ∷ Do z k ∷ r))
 
-  body_through : (a : Actor) (s : Site) (x : Body) (r : List Item) → step.do_body b v (placeless_actor a) s (placeless_body x) (map placeless_item r) ≡ through placeless_actor (step.do_body ns v a s x r)
+  body_through : (a : Actor) (s : Site) (x : Body) (r : List Item)
+      → step.do_body b v (placeless_actor a) s (placeless_body x) (map placeless_item r) ≡ through placeless_actor (step.do_body ns v a s x r)
   body_through a s End r = refl
   body_through a s (BlockStmt at x k) r = ap (λ z. quietly (step.in_scope a.vars s (placeless_body x) (Do z (placeless_body k) ∷ map placeless_item r))) (site_bare x s)
   body_through a s (IfStmt at e x k) r =
-      ap (λ z. step.test b v (placeless_actor a) (placeless_expr e) (step.in_scope a.vars s (placeless_body x) (Do z (placeless_body k) ∷ map placeless_item r)) (actor a.vars (Do z (placeless_body k) ∷ map placeless_item r))) (site_bare x s)
+      ap (λ z. step.test b v (placeless_actor a) (placeless_expr e) (step.in_scope a.vars s (placeless_body x) (Do z (placeless_body k) ∷ map placeless_item r))
+      (actor a.vars (Do z (placeless_body k) ∷ map placeless_item r))) (site_bare x s)
       ∙ test_through a e (step.in_scope a.vars s x (Do (site_past x s) k ∷ r)) (actor a.vars (Do (site_past x s) k ∷ r))
   body_through a s (IfElseStmt at e x y k) r =
-      ap (λ z. step.test b v (placeless_actor a) (placeless_expr e) (step.in_scope a.vars s (placeless_body x) (Do (site_past (placeless_body y) z) (placeless_body k) ∷ map placeless_item r)) (step.in_scope a.vars z (placeless_body y) (Do (site_past (placeless_body y) z) (placeless_body k) ∷ map placeless_item r))) (site_bare x s)
-      ∙ ap (λ z. step.test b v (placeless_actor a) (placeless_expr e) (step.in_scope a.vars s (placeless_body x) (Do z (placeless_body k) ∷ map placeless_item r)) (step.in_scope a.vars (site_past x s) (placeless_body y) (Do z (placeless_body k) ∷ map placeless_item r))) (site_bare y (site_past x s))
+      ap (λ z. step.test b v (placeless_actor a) (placeless_expr e) (step.in_scope a.vars s (placeless_body x) (Do (site_past (placeless_body y) z) (placeless_body k) ∷ map placeless_item r))
+      (step.in_scope a.vars z (placeless_body y) (Do (site_past (placeless_body y) z) (placeless_body k) ∷ map placeless_item r))) (site_bare x s)
+      ∙ ap (λ z. step.test b v (placeless_actor a) (placeless_expr e) (step.in_scope a.vars s (placeless_body x) (Do z (placeless_body k) ∷ map placeless_item r))
+      (step.in_scope a.vars (site_past x s) (placeless_body y) (Do z (placeless_body k) ∷ map placeless_item r))) (site_bare y (site_past x s))
       ∙ test_through a e (step.in_scope a.vars s x (Do (site_past y (site_past x s)) k ∷ r)) (step.in_scope a.vars (site_past x s) y (Do (site_past y (site_past x s)) k ∷ r))
   body_through a s (WhileStmt at e x k) r =
-      ap (λ z. quietly (actor a.vars (Round (record { site = s; condition = Some (placeless_expr e); step = End; inner = placeless_body x }) ∷ Do z (placeless_body k) ∷ map placeless_item r))) (site_bare x s)
+      ap (λ z. quietly (actor a.vars (Round (record { site = s; condition = Some (placeless_expr e); step = End; inner = placeless_body x }) ∷ Do z (placeless_body k) ∷ map placeless_item r)))
+      (site_bare x s)
   body_through a s (LoopStmt at x k) r =
       ap (λ z. quietly (actor a.vars (Round (record { site = s; condition = None; step = End; inner = placeless_body x }) ∷ Do z (placeless_body k) ∷ map placeless_item r))) (site_bare x s)
   body_through a s (ForStmt at i e t x k) r =
-      ap (λ z. in_for a s (placeless_body i) (option_map placeless_expr e) (placeless_body t) (placeless_body x) (placeless_body k) (map placeless_item r) (site_past (placeless_body t) z) (site_past (placeless_body x) (site_past (placeless_body t) z))) (site_bare i s)
-      ∙ ap (λ z. in_for a s (placeless_body i) (option_map placeless_expr e) (placeless_body t) (placeless_body x) (placeless_body k) (map placeless_item r) z (site_past (placeless_body x) z)) (site_bare t (site_past i s))
-      ∙ ap (in_for a s (placeless_body i) (option_map placeless_expr e) (placeless_body t) (placeless_body x) (placeless_body k) (map placeless_item r) (site_past t (site_past i s))) (site_bare x (site_past t (site_past i s)))
+      ap (λ z. in_for a s (placeless_body i) (option_map placeless_expr e) (placeless_body t) (placeless_body x) (placeless_body k) (map placeless_item r) (site_past (placeless_body t) z)
+      (site_past (placeless_body x) (site_past (placeless_body t) z))) (site_bare i s)
+      ∙ ap (λ z. in_for a s (placeless_body i) (option_map placeless_expr e) (placeless_body t) (placeless_body x) (placeless_body k) (map placeless_item r) z (site_past (placeless_body x) z))
+      (site_bare t (site_past i s))
+      ∙ ap (in_for a s (placeless_body i) (option_map placeless_expr e) (placeless_body t) (placeless_body x) (placeless_body k) (map placeless_item r) (site_past t (site_past i s)))
+      (site_bare x (site_past t (site_past i s)))
   body_through a s (BreakStmt at k) r = exit_through v.left step.Breaks (Do s (BreakStmt at k)) a r
   body_through a s (ContinueStmt at k) r = exit_through v.left step.Continues (Do s (ContinueStmt at k)) a r
   body_through a s (ReturnStmt at e k) r =
@@ -293,14 +313,16 @@ module _ (ns : Names) (v : View) where
   body_through a s (DeclareStmt at i e k) r = declares_through a i e (Do s k ∷ r)
   body_through a s (AssignStmt at xs e k) r = store_through a (Path xs) e (Do s k ∷ r)
   body_through a s (ModifyStmt at xs c k) r =
-      given_through placeless_actor a (λ e. step.store ns v a (Path xs) e (Do s k ∷ r)) (λ e. step.store b v (placeless_actor a) (Path (map placeless_ident xs)) e (Do s (placeless_body k) ∷ map placeless_item r)) placeless_expr
+      given_through placeless_actor a (λ e. step.store ns v a (Path xs) e (Do s k ∷ r))
+      (λ e. step.store b v (placeless_actor a) (Path (map placeless_ident xs)) e (Do s (placeless_body k) ∷ map placeless_item r)) placeless_expr
       (change xs c) (change (map placeless_ident xs) (placeless_change c)) (change_bare xs c) (λ e. store_through a (Path xs) e (Do s k ∷ r))
   body_through a s (CallStmt at xs es k) r =
       evaluated_through placeless_actor a (λ act left. asks left act (actor a.vars (Do s k ∷ r))) (λ act left. asks left act (actor a.vars (Do s (placeless_body k) ∷ map placeless_item r)))
       (call_act ns v (look a.vars) xs es) _ (call_act_bare ns v (look a.vars) xs es) (λ act left. refl)
   body_through a s (WaitStmt at w k) r = ap (step.await b v (placeless_actor a) s.spot) (single_bare w v.kept) ∙ await_through a s.spot (operand (Single w) v.kept)
 
-  check_through : (a : Actor) (l : Loop) (o : Option ExprTree) (r : List Item) → step.check b v (placeless_actor a) (placeless_loop l) (option_map placeless_expr o) (map placeless_item r) ≡ through placeless_actor (step.check ns v a l o r)
+  check_through : (a : Actor) (l : Loop) (o : Option ExprTree) (r : List Item)
+      → step.check b v (placeless_actor a) (placeless_loop l) (option_map placeless_expr o) (map placeless_item r) ≡ through placeless_actor (step.check ns v a l o r)
   check_through a l None r = refl
   check_through a l (Some e) r = test_through a e (step.pass ns v a l r) (actor a.vars r)
 
@@ -319,7 +341,8 @@ module _ (ns : Names) where
       by_effect None = refl
       by_effect (Some x) = refl
 
-  store_if_through : (asked : Bool) (a : Actor) (r : List Item) (o : Option (List ValueTree × Vars)) → whole.store_if asked (placeless_actor a) (map placeless_item r) o ≡ through placeless_actor (whole.store_if asked a r o)
+  store_if_through : (asked : Bool) (a : Actor) (r : List Item) (o : Option (List ValueTree × Vars))
+      → whole.store_if asked (placeless_actor a) (map placeless_item r) o ≡ through placeless_actor (whole.store_if asked a r o)
   store_if_through false a r o = refl
   store_if_through true a r None = refl
   store_if_through true a r (Some p) = refl
@@ -338,18 +361,22 @@ bound_bare : (o : Option IntoTree) (u : ValueTree) (vars : Vars) → whole.bound
 bound_bare None u vars = refl
 bound_bare (Some i) u vars = refl
 
-case_through : (bs : Branches) (n : ℕ) (s : Site) (u : ValueTree) (a : Actor) (r : List Item) → whole.take_case (placeless_branches bs) n s u (placeless_actor a) (map placeless_item r) ≡ through placeless_actor (whole.take_case bs n s u a r)
+case_through : (bs : Branches) (n : ℕ) (s : Site) (u : ValueTree) (a : Actor) (r : List Item)
+    → whole.take_case (placeless_branches bs) n s u (placeless_actor a) (map placeless_item r) ≡ through placeless_actor (whole.take_case bs n s u a r)
 case_through NoBranches n s u a r = refl
 case_through (MoreBranches at w x bs) zero s u a r = ap (whole.onward (Do s (placeless_body x) ∷ Leave ∷ map placeless_item r)) (bound_bare w.into u (entered a.vars))
 case_through (MoreBranches at w x bs) (suc n) s u a r =
     ap (λ z. whole.take_case (placeless_branches bs) n (site_at z s) u (placeless_actor a) (map placeless_item r)) (past_bare x s.spot) ∙ case_through bs n (site_at (past x s.spot) s) u a r
 
 branch_through : (n : ℕ) (u : ValueTree) (a : Actor) (s : Site) (bs : Branches) (k : Body) (r : List Item)
-    → whole.take_case (placeless_branches bs) n (site_at (next_spot (branch_count (placeless_branches bs)) s.spot) s) u (placeless_actor a) (Do (site_at (past_branches (placeless_branches bs) (next_spot (branch_count (placeless_branches bs)) s.spot)) s) (placeless_body k) ∷ map placeless_item r)
+    → whole.take_case (placeless_branches bs) n (site_at (next_spot (branch_count (placeless_branches bs)) s.spot) s) u (placeless_actor a)
+    (Do (site_at (past_branches (placeless_branches bs) (next_spot (branch_count (placeless_branches bs)) s.spot)) s) (placeless_body k) ∷ map placeless_item r)
     ≡ through placeless_actor (whole.take_case bs n (site_at (next_spot (branch_count bs) s.spot) s) u a (Do (site_at (past_branches bs (next_spot (branch_count bs) s.spot)) s) k ∷ r))
 branch_through n u a s bs k r =
-    ap (λ m. whole.take_case (placeless_branches bs) n (site_at (next_spot m s.spot) s) u (placeless_actor a) (Do (site_at (past_branches (placeless_branches bs) (next_spot m s.spot)) s) (placeless_body k) ∷ map placeless_item r)) (branch_count_bare bs)
-    ∙ ap (λ z. whole.take_case (placeless_branches bs) n (site_at (next_spot (branch_count bs) s.spot) s) u (placeless_actor a) (Do (site_at z s) (placeless_body k) ∷ map placeless_item r)) (branches_bare bs (next_spot (branch_count bs) s.spot))
+    ap (λ m. whole.take_case (placeless_branches bs) n (site_at (next_spot m s.spot) s) u (placeless_actor a)
+    (Do (site_at (past_branches (placeless_branches bs) (next_spot m s.spot)) s) (placeless_body k) ∷ map placeless_item r)) (branch_count_bare bs)
+    ∙ ap (λ z. whole.take_case (placeless_branches bs) n (site_at (next_spot (branch_count bs) s.spot) s) u (placeless_actor a) (Do (site_at z s) (placeless_body k) ∷ map placeless_item r))
+    (branches_bare bs (next_spot (branch_count bs) s.spot))
     ∙ case_through bs n (site_at (next_spot (branch_count bs) s.spot) s) u a (Do (site_at (past_branches bs (next_spot (branch_count bs) s.spot)) s) k ∷ r)
 
 take_through : (n : ℕ) (u : ValueTree) (a : Actor) (r : List Item) → whole.take_at n u (placeless_actor a) (map placeless_item r) ≡ through placeless_actor (whole.take_at n u a r)
@@ -424,13 +451,15 @@ named_so x y z = record { records = x; functions = y; actors = z }
 names_bare : (p : ProgramTree) → whole.names_of (bare p) ≡ placeless_names (whole.names_of p)
 names_bare p =
     ap₂ (λ x y. named_so x y (map whole.routine_name (whole.actors_in (map placeless_decl p.decls)))) (records_bare p.decls) (functions_bare p.decls)
-    ∙ ap (named_so (map placeless_record (whole.records_in p.decls)) (map placeless_routine (whole.functions_in p.decls))) (ap (map whole.routine_name) (actors_bare p.decls) ∙ routine_names (whole.actors_in p.decls))
+    ∙ ap (named_so (map placeless_record (whole.records_in p.decls)) (map placeless_routine (whole.functions_in p.decls)))
+    (ap (map whole.routine_name) (actors_bare p.decls) ∙ routine_names (whole.actors_in p.decls))
 
 pub source_mirrors : (p : ProgramTree) → Mirrors (whole.source p) (whole.source (bare p)) placeless_actor
 source_mirrors p = record {
   main = sym_main;
   label = λ k. sym_label k;
-  fresh = λ k vs. ap (λ o. whole.fresh_from o vs) (ap (λ xs. slice_get xs k) (actors_bare p.decls) ∙ get-map placeless_routine (whole.actors_in p.decls) k) ∙ fresh_through (slice_get (whole.actors_in p.decls) k) vs;
+  fresh = λ k vs. ap (λ o. whole.fresh_from o vs) (ap (λ xs. slice_get xs k) (actors_bare p.decls) ∙ get-map placeless_routine (whole.actors_in p.decls) k)
+      ∙ fresh_through (slice_get (whole.actors_in p.decls) k) vs;
   next = λ v a. ap (λ n. step.next_step n v (placeless_actor a)) (names_bare p) ∙ item_through (whole.names_of p) v a a.rest;
   lose = λ a. refl;
   store = λ u a. ap (λ n. whole.store_at n u (placeless_actor a) (map placeless_item a.rest)) (names_bare p) ∙ stored_through (whole.names_of p) u a a.rest;

@@ -81,21 +81,25 @@ module _ {A : Type 0} (count : ℕ) (e : Engine A) where
     begins : begun_by e w (next_of w.out) ≡ Some b
     runs : Burst e host (before b) l
 
-  follows_event : (w : World A) (b : Begun A) (l : Live Outside A) → Passes w b l → l.proc.core.halted ≡ None → (rest : Option (Ran A)) → Follows (after w b l) rest → Follows w (prepended (after w b l) (lines_of b l) rest)
+  follows_event : (w : World A) (b : Begun A) (l : Live Outside A) → Passes w b l → l.proc.core.halted ≡ None → (rest : Option (Ran A)) → Follows (after w b l) rest
+      → Follows w (prepended (after w b l) (lines_of b l) rest)
   follows_event w b l p h None f r e = absurd (none_some e)
   follows_event w b l p h (Some q) f r e = moved w (after w b l ∷ q.0, lines_of b l ++ q.1) r e (event b l p.goes p.begins p.runs h (f q refl))
 
-  follows_halt : (w : World A) (b : Begun A) (l : Live Outside A) → Passes w b l → (h : Option Halt) → l.proc.core.halted ≡ h → (rest : Option (Ran A)) → Follows (after w b l) rest → Follows w (by_halt w b l h rest)
+  follows_halt : (w : World A) (b : Begun A) (l : Live Outside A) → Passes w b l → (h : Option Halt) → l.proc.core.halted ≡ h → (rest : Option (Ran A)) → Follows (after w b l) rest
+      → Follows w (by_halt w b l h rest)
   follows_halt w b l p None h rest f = follows_event w b l p h rest f
   follows_halt w b l p (Some Spent) h rest f = λ r e. moved w ([], lines_of b l ++ line.EndSpent ∷ []) r e (spent b l p.goes p.begins p.runs h)
   follows_halt w b l p (Some NoMeaning) h rest f = λ r e. absurd (none_some e)
 
-  follows_burst : (w : World A) (b : Begun A) → ending w.out (next_of w.out) ≡ None → begun_by e w (next_of w.out) ≡ Some b → (o : Option (Live Outside A)) → burst e host count (before b) ≡ o → (rest : World A → Option (Ran A)) → ((v : World A) → Follows v (rest v)) → Follows w (by_burst w b o rest)
+  follows_burst : (w : World A) (b : Begun A) → ending w.out (next_of w.out) ≡ None → begun_by e w (next_of w.out) ≡ Some b → (o : Option (Live Outside A)) → burst e host count (before b) ≡ o
+      → (rest : World A → Option (Ran A)) → ((v : World A) → Follows v (rest v)) → Follows w (by_burst w b o rest)
   follows_burst w b g k None h rest f = λ r e. absurd (none_some e)
   follows_burst w b g k (Some l) h rest f =
       follows_halt w b l (record { goes = g; begins = k; runs = burst_is e host count (before b) l h }) l.proc.core.halted refl (rest (after w b l)) (f (after w b l))
 
-  follows_begun : (w : World A) → ending w.out (next_of w.out) ≡ None → (o : Option (Begun A)) → begun_by e w (next_of w.out) ≡ o → (rest : World A → Option (Ran A)) → ((v : World A) → Follows v (rest v)) → Follows w (by_begun w o rest)
+  follows_begun : (w : World A) → ending w.out (next_of w.out) ≡ None → (o : Option (Begun A)) → begun_by e w (next_of w.out) ≡ o → (rest : World A → Option (Ran A))
+      → ((v : World A) → Follows v (rest v)) → Follows w (by_begun w o rest)
   follows_begun w g None k rest f = λ r e. absurd (none_some e)
   follows_begun w g (Some b) k rest f = follows_burst w b g k (burst e host count (before b)) refl rest f
 
@@ -111,7 +115,8 @@ module _ {A : Type 0} (count : ℕ) (e : Engine A) where
 abbrev pub lines_for : {A : Type 0} → ℕ → ℕ → Engine A → file.World → Option (List Line)
 lines_for events count e w = option_map (λ r. line.Head ∷ r.1) (run_for count e events (at_start w))
 
-a_run : {A : Type 0} (count : ℕ) (e : Engine A) (w : file.World) (lines : List Line) (o : Option (Ran A)) → Follows count e (at_start w) o → option_map (λ r. line.Head ∷ r.1) o ≡ Some lines → (states : List (World A)) × IsRun e w states lines
+a_run : {A : Type 0} (count : ℕ) (e : Engine A) (w : file.World) (lines : List Line) (o : Option (Ran A)) → Follows count e (at_start w) o → option_map (λ r. line.Head ∷ r.1) o ≡ Some lines
+    → (states : List (World A)) × IsRun e w states lines
 a_run count e w lines None f h = absurd (no_lines h)
   where
     no_lines : {ls : List Line} → None ≡ Some ls → ⊥

@@ -55,7 +55,8 @@ module _ {A : Type 0} (e : Engine A) where
       readies : Ready ≡ GoesOn → ⊥
       readies q = cc
 
-  keep_keeps : (i : ℕ) (spot : Spot) (r : Ref) (x : Option A) (en : Option Entry) (k : Core) (xs : Numbered A) → Ordered k → NextStep i k.tasks → thing k.entries i ≡ en → Keeps (keep e i spot r x en (proc k xs))
+  keep_keeps : (i : ℕ) (spot : Spot) (r : Ref) (x : Option A) (en : Option Entry) (k : Core) (xs : Numbered A) → Ordered k → NextStep i k.tasks → thing k.entries i ≡ en
+      → Keeps (keep e i spot r x en (proc k xs))
   keep_keeps i spot r None None k xs o n at = tt
   keep_keeps i spot r None (Some en) k xs o n at = tt
   keep_keeps i spot r (Some x) None k xs o n at = tt
@@ -135,7 +136,8 @@ module _ {W A : Type 0} (e : Engine A) (h : Host W) where
 
   pub advance_in_order : (s l : Live W A) → OrderlyUnlessStopped s.proc.core → advance e h s ≡ Some l → OrderlyUnlessStopped l.proc.core
   advance_in_order s l o a =
-      let k = advanced_keeps s.out (step e (h.supply s.out) s.proc) (if_keeps e (h.supply s.out) s.proc.core.halted s.proc.core s.proc.actors (unless_map s.proc.core.halted (ordered s.proc.core) o)) in
+      let k = advanced_keeps s.out (step e (h.supply s.out) s.proc) (if_keeps e (h.supply s.out) s.proc.core.halted s.proc.core s.proc.actors (unless_map s.proc.core.halted (ordered s.proc.core) o))
+      in
       unless_map l.proc.core.halted (orderly l.proc.core) (subst KeepsLive a k)
 
 -- what is delivered at the begin of an event

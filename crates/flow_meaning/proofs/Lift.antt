@@ -40,7 +40,8 @@ unfolding load
 load_put w [] i a b h lt = cc
 load_put w (x ∷ xs) i a b h lt = by_test (nat_eq i x.0) h (λ k. load_put w xs i a b k lt)
   where
-    by_test : (p : Bool) → (if p then Some x.1 else thing xs i) ≡ Some a → (thing xs i ≡ Some a → load w (put xs i b) < load w xs) → load w (if p then (x.0, b) ∷ xs else x ∷ put xs i b) < load w (x ∷ xs)
+    by_test : (p : Bool) → (if p then Some x.1 else thing xs i) ≡ Some a → (thing xs i ≡ Some a → load w (put xs i b) < load w xs)
+        → load w (if p then (x.0, b) ∷ xs else x ∷ put xs i b) < load w (x ∷ xs)
     by_test true k below = let e : x.1 ≡ a = cc in let f = ap w e in omega arith
     by_test false k below = omega (arith, below k)
 
@@ -69,21 +70,24 @@ many_of : {W A : Type 0} (e : Engine A) (h : Host W) {s t : Live W A} → Many1 
 many_of e h m = after m.0 m.1 m.2
 
 -- a process whose newest task is the step of an actor that is there
-step_runs : {A : Type 0} (d : Engine A) (s : Supply) (c : Core) (ys : Numbered A) (i : ℕ) (ts : List Task) (b : A) (p : Option Ask × A) → c.halted ≡ None → c.tasks ≡ Run i ∷ ts → thing ys i ≡ Some b → d.next (view s i c) b ≡ p → step d s (proc c ys) ≡ Some (run_next d s i ts p (proc c ys))
+step_runs : {A : Type 0} (d : Engine A) (s : Supply) (c : Core) (ys : Numbered A) (i : ℕ) (ts : List Task) (b : A) (p : Option Ask × A) → c.halted ≡ None → c.tasks ≡ Run i ∷ ts → thing ys i ≡ Some b
+    → d.next (view s i c) b ≡ p → step d s (proc c ys) ≡ Some (run_next d s i ts p (proc c ys))
 step_runs d s c ys i ts b p eh et en es =
     ap (λ k. step_if d s k (proc c ys)) eh
     ∙ ap (λ k. step_tasks d s k (proc c ys)) et
     ∙ ap (λ o. Some (run d s i ts o (proc c ys))) en
     ∙ ap (λ k. Some (run_next d s i ts k (proc c ys))) es
 
-quiet_many : {W B : Type 0} (d : Engine B) (h : Host W) (w : W) (c : Core) (i : ℕ) (ts : List Task) {b g : B} → c.halted ≡ None → c.tasks ≡ Run i ∷ ts → Quietly d (view (h.supply w) i c) b g → (ys : Numbered B) → thing ys i ≡ Some b → Many d h (live (proc c ys) w) (live (proc c (put ys i g)) w)
+quiet_many : {W B : Type 0} (d : Engine B) (h : Host W) (w : W) (c : Core) (i : ℕ) (ts : List Task) {b g : B} → c.halted ≡ None → c.tasks ≡ Run i ∷ ts → Quietly d (view (h.supply w) i c) b g
+    → (ys : Numbered B) → thing ys i ≡ Some b → Many d h (live (proc c ys) w) (live (proc c (put ys i g)) w)
 quiet_many d h w c i ts {b = b} eh et still ys k = subst (λ l. Many d h (live (proc c ys) w) (live (proc c l) w)) (sym (put_same ys i b k)) here
 quiet_many d h w c i ts {b = b} {g = g} eh et (quiet m e q) ys k =
     after (live (proc c (put ys i m)) w) (ap (advanced h w) (step_runs d (h.supply w) c ys i ts b (None, m) eh et k e))
     (subst (λ l. Many d h (live (proc c (put ys i m)) w) (live (proc c l) w)) (put_put ys i m g) (quiet_many d h w c i ts eh et q (put ys i m) (thing_put ys i b m k)))
 
 -- at least one quiet step of an actor is at least one of its process
-moves_many : {W B : Type 0} (d : Engine B) (h : Host W) (w : W) (c : Core) (i : ℕ) (ts : List Task) {b g : B} → c.halted ≡ None → c.tasks ≡ Run i ∷ ts → Moves d (view (h.supply w) i c) b g → (ys : Numbered B) → thing ys i ≡ Some b → Many1 d h (live (proc c ys) w) (live (proc c (put ys i g)) w)
+moves_many : {W B : Type 0} (d : Engine B) (h : Host W) (w : W) (c : Core) (i : ℕ) (ts : List Task) {b g : B} → c.halted ≡ None → c.tasks ≡ Run i ∷ ts → Moves d (view (h.supply w) i c) b g
+    → (ys : Numbered B) → thing ys i ≡ Some b → Many1 d h (live (proc c ys) w) (live (proc c (put ys i g)) w)
 moves_many d h w c i ts {b = b} {g = g} eh et m ys k = (
   live (proc c (put ys i m.0)) w,
   ap (advanced h w) (step_runs d (h.supply w) c ys i ts b (None, m.0) eh et k m.1),
@@ -130,19 +134,22 @@ module _ {W A B : Type 0} (e : Engine A) (d : Engine B) (h : Host W) (R : Phase 
   abbrev Does_at : Core → Numbered A → Numbered B → W → Option (Live W A) → Type 0
   Does_at c xs ys w o = Does xs (live (proc c ys) w) o
 
-  quiet_related : (i : ℕ) (ts : List Task) (c : Core) (xs : Numbered A) (ys : Numbered B) (a0 a : A) (b0 b : B) → Orderly c → c.tasks ≡ Run i ∷ ts → Related R c xs ys → thing xs i ≡ Some a0 → thing ys i ≡ Some b0
+  quiet_related : (i : ℕ) (ts : List Task) (c : Core) (xs : Numbered A) (ys : Numbered B) (a0 a : A) (b0 b : B) → Orderly c → c.tasks ≡ Run i ∷ ts → Related R c xs ys → thing xs i ≡ Some a0
+      → thing ys i ≡ Some b0
       → R Free a b → Related R c (put xs i a) (put ys i b)
   quiet_related i ts c xs ys a0 a b0 b o et rs ex en r =
       let pop = popped_at i c.left (Run i) ts c o et (run_of i) in
       related_shifts e d R sim i Free c c xs ys a0 a b0 b ex en rs (same_rank pop.phase, λ j n. omega arith) r
 
-  quiet_advances : (w : W) (c : Core) (xs : Numbered A) (ys : Numbered B) (i : ℕ) (ts : List Task) (b g : B) (a0 a : A) → c.halted ≡ None → c.tasks ≡ Run i ∷ ts → thing xs i ≡ Some a0 → thing ys i ≡ Some b
+  quiet_advances : (w : W) (c : Core) (xs : Numbered A) (ys : Numbered B) (i : ℕ) (ts : List Task) (b g : B) (a0 a : A) → c.halted ≡ None → c.tasks ≡ Run i ∷ ts → thing xs i ≡ Some a0
+      → thing ys i ≡ Some b
       → Moves d (view (h.supply w) i c) b g ⊎ (Quietly d (view (h.supply w) i c) b g × (sim.weight a < sim.weight a0))
       → Advances xs (live (proc c ys) w) (live (proc c (put xs i a)) w) (live (proc c (put ys i g)) w)
   quiet_advances w c xs ys i ts b g a0 a eh et ex en (inl m) = inl (moves_many d h w c i ts eh et m ys en)
   quiet_advances w c xs ys i ts b g a0 a eh et ex en (inr m) = inr (quiet_many d h w c i ts eh et m.0 ys en, load_put sim.weight xs i a0 a ex m.1)
 
-  answered : (w : W) (c : Core) (xs : Numbered A) (ys : Numbered B) (i : ℕ) (ts : List Task) (b : B) (k : Option Ask) (a0 a : A) → Orderly c → c.halted ≡ None → c.tasks ≡ Run i ∷ ts → Related R c xs ys
+  answered : (w : W) (c : Core) (xs : Numbered A) (ys : Numbered B) (i : ℕ) (ts : List Task) (b : B) (k : Option Ask) (a0 a : A) → Orderly c → c.halted ≡ None → c.tasks ≡ Run i ∷ ts
+      → Related R c xs ys
       → thing xs i ≡ Some a0 → thing ys i ≡ Some b → MatchesAsk R d (view (h.supply w) i c) (sim.weight a < sim.weight a0) k a b
       → Does_at c xs ys w (advanced h w (Some (run_next e (h.supply w) i ts (k, a) (proc c xs))))
   answered w c xs ys i ts b None a0 a o eh et rs ex en ans = (
@@ -170,7 +177,11 @@ module _ {W A B : Type 0} (e : Engine A) (d : Engine B) (h : Host W) (R : Phase 
       → thing xs i ≡ x → thing ys i ≡ y → BothOrNone (R Free) x y → Does_at c xs ys w (advanced h w (Some (run e (h.supply w) i ts x (proc c xs))))
   run_does w c xs ys i ts None None o eh et rs ex en k = (
     live (run d (h.supply w) i ts None (proc c ys)).0 w,
-    inl (_, ap (advanced h w) (ap (λ k. step_if d (h.supply w) k (proc c ys)) eh ∙ ap (λ k. step_tasks d (h.supply w) k (proc c ys)) et ∙ ap (λ o. Some (run d (h.supply w) i ts o (proc c ys))) en), here),
+    inl (
+      _,
+      ap (advanced h w) (ap (λ k. step_if d (h.supply w) k (proc c ys)) eh ∙ ap (λ k. step_tasks d (h.supply w) k (proc c ys)) et ∙ ap (λ o. Some (run d (h.supply w) i ts o (proc c ys))) en),
+      here,
+    ),
     (refl, refl, tt),
   )
   run_does w c xs ys i ts None (Some b) o eh et rs ex en k = absurd k
@@ -181,7 +192,8 @@ module _ {W A B : Type 0} (e : Engine A) (d : Engine B) (h : Host W) (R : Phase 
 
   -- a task but the step of an actor
   task_does : (w : W) (c : Core) (xs : Numbered A) (ys : Numbered B) (t : Task) (ts : List Task) → Orderly c → c.tasks ≡ t ∷ ts → Related R c xs ys
-      → advance d h (live (proc c ys) w) ≡ advanced h w (Some (do_task d (h.supply w) t (popped ts (proc c ys)))) → Does_at c xs ys w (advanced h w (Some (do_task e (h.supply w) t (popped ts (proc c xs)))))
+      → advance d h (live (proc c ys) w) ≡ advanced h w (Some (do_task d (h.supply w) t (popped ts (proc c ys))))
+      → Does_at c xs ys w (advanced h w (Some (do_task e (h.supply w) t (popped ts (proc c xs)))))
   task_does w c xs ys t ts o et rs eq =
       let r = do_task e (h.supply w) t (popped ts (proc c xs)) in
       let q = do_task d (h.supply w) t (popped ts (proc c ys)) in
@@ -194,7 +206,8 @@ module _ {W A B : Type 0} (e : Engine A) (d : Engine B) (h : Host W) (R : Phase 
   tasks_does w c xs ys (t ∷ ts) o eh et rs =
       task_does w c xs ys t ts o et rs (ap (advanced h w) (ap (λ k. step_if d (h.supply w) k (proc c ys)) eh ∙ ap (λ k. step_tasks d (h.supply w) k (proc c ys)) et))
 
-  halted_does : (w : W) (c : Core) (xs : Numbered A) (ys : Numbered B) (x : Option Halt) → c.halted ≡ x → UnlessStopped x (Orderly c × Related R c xs ys) → Does_at c xs ys w (advanced h w (step_if e (h.supply w) x (proc c xs)))
+  halted_does : (w : W) (c : Core) (xs : Numbered A) (ys : Numbered B) (x : Option Halt) → c.halted ≡ x → UnlessStopped x (Orderly c × Related R c xs ys)
+      → Does_at c xs ys w (advanced h w (step_if e (h.supply w) x (proc c xs)))
   halted_does w c xs ys (Some x) eh k = ap (advanced h w) (ap (λ k. step_if d (h.supply w) k (proc c ys)) eh)
   halted_does w c xs ys None eh k = tasks_does w c xs ys c.tasks k.0 eh refl k.1
 
@@ -279,7 +292,9 @@ module _ {W A B : Type 0} (e : Engine A) (d : Engine B) (h : Host W) (R : Phase 
   stepped : (s r : Live W A) (v : Live W B) → advance e h s ≡ Some r → Found r v → Found s v
   stepped s r v a f = (f.0, steps r a f.1, f.2)
 
-  back_step : (n : ℕ) (s : Live W A) (u v : Live W B) → Same R s u → BurstIn n u v → ((k : ℕ) → k < n → Back k) → ((r : Live W A) (m : Live W B) → load sim.weight r.proc.actors < load sim.weight s.proc.actors → Same R r m → BurstIn n m v → Found r v) → (o : Option (Live W A)) → advance e h s ≡ o → Steps s.proc.actors u o → Found s v
+  back_step : (n : ℕ) (s : Live W A) (u v : Live W B) → Same R s u → BurstIn n u v → ((k : ℕ) → k < n → Back k)
+      → ((r : Live W A) (m : Live W B) → load sim.weight r.proc.actors < load sim.weight s.proc.actors → Same R r m → BurstIn n m v → Found r v) → (o : Option (Live W A)) → advance e h s ≡ o
+      → Steps s.proc.actors u o → Found s v
   back_step n s u v k b prev same_n None a g = at_rest n s u v k a g b
   back_step n s u v k b prev same_n (Some r) a g = stepped s r v a (by_moves g.1)
     where

@@ -83,7 +83,8 @@ module _ {A B : Type 0} (e : Engine A) (d : Engine B) (R : Phase → A → B →
   delivered : (c k : Core) (xs : Numbered A) (ys : Numbered B) → OrderlyUnlessStopped k → Unless (Eases c) k → Related R c xs ys → SameProc R (proc k xs) (proc k ys)
   delivered c k xs ys o h rs = (refl, unless_both _ _ k.halted o (unless_map k.halted (related_eased e d R sim c k xs ys rs) h))
 
-  boot_with_same : (x : Option A) (y : Option B) (c : Core) (xs : Numbered A) (ys : Numbered B) → Orderly c → Related R c xs ys → BothOrNone (R Free) x y → SameProc R (boot_with e x (proc c xs)) (boot_with d y (proc c ys))
+  boot_with_same : (x : Option A) (y : Option B) (c : Core) (xs : Numbered A) (ys : Numbered B) → Orderly c → Related R c xs ys → BothOrNone (R Free) x y
+      → SameProc R (boot_with e x (proc c xs)) (boot_with d y (proc c ys))
   boot_with_same None None c xs ys o rs h = (refl, tt)
   boot_with_same None (Some y) c xs ys o rs h = absurd h
   boot_with_same (Some x) None c xs ys o rs h = absurd h
@@ -184,7 +185,8 @@ module _ {A B : Type 0} (e : Engine A) (d : Engine B) (R : Phase → A → B →
       let rest = burst_at_rest e host (before b) l (unless_map b.place.proc.core.halted (λ z. z.0) s.3.1) r in
       (subst (λ o. UnlessStopped o (AtRest l.proc.core)) x rest, (subst (λ o. UnlessStopped o (Orderly l.proc.core × Related R l.proc.core l.proc.actors m.proc.actors)) x t.0.1).1)
 
-  after_same : (w : World A) (v : World B) (b : Begun A) (k : Begun B) (l : Live Outside A) (m : Live Outside B) → SameWorld R w v → SameBegun b k → Same R l m → Burst e host (before b) l → l.proc.core.halted ≡ None
+  after_same : (w : World A) (v : World B) (b : Begun A) (k : Begun B) (l : Live Outside A) (m : Live Outside B) → SameWorld R w v → SameBegun b k → Same R l m → Burst e host (before b) l
+      → l.proc.core.halted ≡ None
       → SameWorld R (after w b l) (after v k m)
   after_same w v b k l m h s t r q =
       let x : Place A = record { up = b.place.up; proc = l.proc } in
@@ -248,10 +250,12 @@ module _ {A B : Type 0} (e : Engine A) (d : Engine B) (R : Phase → A → B →
   start_same : (w : file.World) → SameWorld R (at_start w) (at_start w)
   start_same w = (refl, starts_same w.processes)
 
-  traced : (w : file.World) (states : List (World A)) (later : List (World A)) (others : List (World B)) → states ≡ at_start w ∷ later → SameStates R later others → SameStates R states (at_start w ∷ others)
+  traced : (w : file.World) (states : List (World A)) (later : List (World A)) (others : List (World B)) → states ≡ at_start w ∷ later → SameStates R later others
+      → SameStates R states (at_start w ∷ others)
   traced w states later others h s = subst (λ x. SameStates R x (at_start w ∷ others)) (sym h) (start_same w, s)
 
-  traced_back : (w : file.World) (others : List (World B)) (later : List (World B)) (states : List (World A)) → others ≡ at_start w ∷ later → SameStates R states later → SameStates R (at_start w ∷ states) others
+  traced_back : (w : file.World) (others : List (World B)) (later : List (World B)) (states : List (World A)) → others ≡ at_start w ∷ later → SameStates R states later
+      → SameStates R (at_start w ∷ states) others
   traced_back w others later states h s = subst (λ x. SameStates R (at_start w ∷ states) x) (sym h) (start_same w, s)
 
   pub traces_follow : TracesFollow e d R

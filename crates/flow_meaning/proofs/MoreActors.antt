@@ -54,7 +54,8 @@ given_later : {A B : Type 0} (k : ℕ) (a : A) (o : Option B) (go next : B → S
 given_later k a None go next f = stuck_later k a (stuck a)
 given_later k a (Some x) go next f = f x
 
-evaluated_later : {A B : Type 0} (k : ℕ) (a : A) (go : B → ℕ → StepOf A) → ((x : B) (left sum : ℕ) → sum ≡ left + k → LaterStep k (go x left) (go x sum)) → (r q : Res B) → Later k r q → LaterStep k (evaluated a r go) (evaluated a q go)
+evaluated_later : {A B : Type 0} (k : ℕ) (a : A) (go : B → ℕ → StepOf A) → ((x : B) (left sum : ℕ) → sum ≡ left + k → LaterStep k (go x left) (go x sum)) → (r q : Res B) → Later k r q
+    → LaterStep k (evaluated a r go) (evaluated a q go)
 evaluated_later k a go f r q (inr e) = inr (inl (0, a, ap (λ x. evaluated a x go) e))
 evaluated_later k a go f (Done x left) q (inl e) = subst (λ y. LaterStep k (go x left) (evaluated a y go)) (sym e) (f x left (left + k) refl)
 evaluated_later k a go f (Fails err left) q (inl e) = inl (ap (λ y. evaluated a y go) e)
@@ -97,9 +98,11 @@ module _ (k : ℕ) (ns : Names) (v : View) (sum : ℕ) (e : sum ≡ v.left + k) 
   plain_act_later lk (Some code.SyncFile) f vs l m h = inl refl
   plain_act_later lk (Some code.FileSize) f vs l m h = inl refl
   plain_act_later lk (Some code.Trace) f vs l m h = done_later k (Prints (arg vs 0)) l m h
-  plain_act_later lk (Some code.SendTo) f vs l m h = act_later k (bind (int_of (arg vs 0)) (λ q. bind (int_of (arg vs 1)) (λ port. bind (text_of (arg vs 2)) (λ text. Some (SendsTo q port text))))) l m h
+  plain_act_later lk (Some code.SendTo) f vs l m h = act_later k (bind (int_of (arg vs 0)) (λ q. bind (int_of (arg vs 1)) (λ port. bind (text_of (arg vs 2)) (λ text. Some (SendsTo q port text))))) l m
+      h
 
-  based_act_later : (lk : Look) (o : Option ValueTree) (m : Option Method) (vs : List ValueTree) (l n : ℕ) → n ≡ l + k → Later k (based_act ns v lk o m vs l) (based_act ns (with_left v sum) lk o m vs n)
+  based_act_later : (lk : Look) (o : Option ValueTree) (m : Option Method) (vs : List ValueTree) (l n : ℕ) → n ≡ l + k
+      → Later k (based_act ns v lk o m vs l) (based_act ns (with_left v sum) lk o m vs n)
   based_act_later lk None None vs l n h = inl refl
   based_act_later lk None (Some m) vs l n h = inl refl
   based_act_later lk (Some u) None vs l n h = inl refl
@@ -111,7 +114,8 @@ module _ (k : ℕ) (ns : Names) (v : View) (sum : ℕ) (e : sum ≡ v.left + k) 
       then_later k (λ vs left. plain_act ns v lk (named call_names f.name) f.name vs left) (values ns v lk es) (values ns (with_left v sum) lk es) (values_later lk es)
       (λ vs l m h. plain_act_later lk (named call_names f.name) f.name vs l m h)
   call_act_later lk (x ∷ y ∷ ys) es =
-      then_later k (λ vs left. based_act ns v lk (read_in ns.records (lk x.name) (before_last y ys)) (named method_names (last_of y ys).name) vs left) (values ns v lk es) (values ns (with_left v sum) lk es) (values_later lk es)
+      then_later k (λ vs left. based_act ns v lk (read_in ns.records (lk x.name) (before_last y ys)) (named method_names (last_of y ys).name) vs left) (values ns v lk es)
+      (values ns (with_left v sum) lk es) (values_later lk es)
       (λ vs l m h. based_act_later lk (read_in ns.records (lk x.name) (before_last y ys)) (named method_names (last_of y ys).name) vs l m h)
 
   -- the source
@@ -149,7 +153,8 @@ module _ (k : ℕ) (ns : Names) (v : View) (sum : ℕ) (e : sum ≡ v.left + k) 
       (λ vs l m h. given_later k a (effect_of x.0 vs) (λ eff. asks l (Effects g eff) a) (λ eff. asks m (Effects g eff) a) (λ eff. asks_later k (Effects g eff) a l m h))
       (values ns v (look a.vars) x.1) (values ns (with_left v sum) (look a.vars) x.1) (values_later (look a.vars) x.1)
 
-  store_by_later : (o : Option (Effectful × ExprTrees)) (a : Actor) (g : Target) (x : ExprTree) (r : List Item) → LaterStep k (source_step.store_by ns v o a g x r) (source_step.store_by ns (with_left v sum) o a g x r)
+  store_by_later : (o : Option (Effectful × ExprTrees)) (a : Actor) (g : Target) (x : ExprTree) (r : List Item)
+      → LaterStep k (source_step.store_by ns v o a g x r) (source_step.store_by ns (with_left v sum) o a g x r)
   store_by_later (Some y) a g x r = effects_later a Stored y
   store_by_later None a g x r =
       evaluated_later k a (λ u left. source_step.place ns v left a g u r) (λ u l m h. place_later a g u r l m h)

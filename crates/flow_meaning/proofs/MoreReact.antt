@@ -159,7 +159,8 @@ react_fair s i Goes = quiet_fair (pushed (Run i)) (fair _ (pushed_even (Run i)))
 react_fair s i Pass = quiet_fair (λ c. turn c (λ d. pushed (Run i) d)) (after_turn (pushed (Run i)) (fair _ (pushed_even (Run i))))
 react_fair s i (Drops vs) = quiet_fair (λ c. dropping_values vs (pushed (Run i) c)) (fair _ (then_even (pushed (Run i)) (dropping (refs_in vs)) (pushed_even (Run i)) (dropping_even (refs_in vs))))
 react_fair s i (Effects g e) = effect_fair s i g e
-react_fair s i (Operand spot r) = quiet_fair (λ c. pushed (Keep i spot r) (pushed (Run i) c)) (fair _ (then_even (pushed (Run i)) (pushed (Keep i spot r)) (pushed_even (Run i)) (pushed_even (Keep i spot r))))
+react_fair s i (Operand spot r) = quiet_fair (λ c. pushed (Keep i spot r) (pushed (Run i) c))
+    (fair _ (then_even (pushed (Run i)) (pushed (Keep i spot r)) (pushed_even (Run i)) (pushed_even (Keep i spot r))))
 react_fair s i (Waits spot vs) = quiet_fair (λ c. wait i spot (thing c.entries i) vs c) (own_fair (λ e. wait i spot e vs) (λ c. thing c.entries i) (λ k c. refl) (wait_fair i spot vs))
 react_fair s i (Sends k o) = quiet_fair (λ c. send_in (thing c.cells k) i k o c) (own_fair (λ x. send_in x i k o) (λ c. thing c.cells k) (λ n c. refl) (send_in_fair i k o))
 react_fair s i (Cancels k) =

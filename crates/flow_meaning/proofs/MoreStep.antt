@@ -130,7 +130,8 @@ module _ {A : Type 0} where
   next_alike e s i ts k (Some q, a) c xs = (answer_step e s i q.act (put xs i a)).alike k (record c { tasks = ts; left = q.left })
 
   asks_ahead : (e : Engine A) (s : Supply) (i : ℕ) (ts : List Task) (k : ℕ) (act : Act) (r q : Option Ask × A) (c : Core) (xs : Numbered A) → Asks act r
-      → ((left : ℕ) (a : A) → IsHalted (answer e s i act (proc (record c { tasks = ts; left = left }) (put xs i a))).0.core × ((answer e s i act (proc (record c { tasks = ts; left = left }) (put xs i a))).1 ≡ None)
+      → ((left : ℕ) (a : A) → IsHalted (answer e s i act (proc (record c { tasks = ts; left = left }) (put xs i a))).0.core
+      × ((answer e s i act (proc (record c { tasks = ts; left = left }) (put xs i a))).1 ≡ None)
       × ((answer e s i act (proc (record c { tasks = ts; left = left }) (put xs i a))).0.core.lines ≡ c.lines))
       → AheadStep k (run_next e s i ts r (proc c xs)) (run_next e s i ts q (proc (more k c) xs))
   asks_ahead e s i ts k act r q c xs h halts =

@@ -87,10 +87,12 @@ send_in_ordered (Some cell) i k o c h a = send_by_ordered (is_complete cell) i k
 
 send_to_ordered : (s : Supply) (i : ℕ) (q port : ℤ) (text : List ℕ) (c : Core) → InHand i c → Awake i c → Unless Ordered (send_to s i q port text c).0
 send_to_ordered s i q port text c h a =
-    either Ordered (int_le (pos 0) q && nat_lt (natural q) s.processes && is_port port) _ (throws i bad_argument c) (unless c.halted (run_ordered i c h a)) (unless c.halted (throw_ordered i bad_argument c h a))
+    either Ordered (int_le (pos 0) q && nat_lt (natural q) s.processes && is_port port) _ (throws i bad_argument c) (unless c.halted (run_ordered i c h a))
+    (unless c.halted (throw_ordered i bad_argument c h a))
 
 -- waits
-wait_by_ordered : (i : ℕ) (spot : Spot) (e e0 : Entry) (vs : List ValueTree) (b : Option (ℕ × ℕ)) (c : Core) → InHand i c → Awake i c → thing c.entries i ≡ Some e0 → Unless Ordered (wait_by i spot e vs b c)
+wait_by_ordered : (i : ℕ) (spot : Spot) (e e0 : Entry) (vs : List ValueTree) (b : Option (ℕ × ℕ)) (c : Core) → InHand i c → Awake i c → thing c.entries i ≡ Some e0
+    → Unless Ordered (wait_by i spot e vs b c)
 wait_by_ordered i spot e e0 vs None c h a at = suspend_ordered i spot e e0 vs c h a at
 wait_by_ordered i spot e e0 vs (Some b) c h a at = branch_ordered i b.0 b.1 e e0 vs c h at
 
@@ -130,7 +132,8 @@ react_ordered s i Stuck c h a = tt
 -- an actor is made
 pub enrol_ordered : (class : ℕ) (name : List ℕ) (c : Core) → Ordered c → Ordered (enrol class name c)
 enrol_ordered class name c o = (
-  all_stand n d (stands_new n (is_suspended (thing d.entries n)) (tasks_of n d.tasks) runs only) (λ j m. unmoved_stands j c d (ap is_suspended (thing_added c.entries n j e m), other_task n j (Run n) c.tasks (run_of n) m) (o.0 j)),
+  all_stand n d (stands_new n (is_suspended (thing d.entries n)) (tasks_of n d.tasks) runs only)
+      (λ j m. unmoved_stands j c d (ap is_suspended (thing_added c.entries n j e m), other_task n j (Run n) c.tasks (run_of n) m) (o.0 j)),
   o.1,
   waits_by c.entries d.entries d.cells stay (waits_added c.entries c.cells (suc c.made) (Single None []) tt o.2),
   rising_added c.entries 0 c.started e (omega arith) o.3,

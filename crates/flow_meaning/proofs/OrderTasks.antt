@@ -29,7 +29,8 @@ use Rattle.flow_meaning.proofs.OrderReact.{run_ordered, enrol_ordered}
 suffer_ordered : (k : ℕ) (l : Loss) (c : Core) → Ordered c → OwnedLoss c l → Unless Ordered (suffer k l c)
 suffer_ordered k Kept c o h = unless c.halted o
 suffer_ordered k Freed c o h = free_ordered k c o
-suffer_ordered k Broken c o h = after_turn Ordered (λ d. fill k (BadOutcome broken_promise) (writes (broken_line k) d)) c c.left (λ n. fill_ordered k (BadOutcome broken_promise) (writes (broken_line k) (record c { left = n })) o)
+suffer_ordered k Broken c o h = after_turn Ordered (λ d. fill k (BadOutcome broken_promise) (writes (broken_line k) d)) c c.left
+    (λ n. fill_ordered k (BadOutcome broken_promise) (writes (broken_line k) (record c { left = n })) o)
 suffer_ordered k (Orphan i e) c o h = unless (suffer k (Orphan i e) c).halted (cancel_ordered i e c o h)
 suffer_ordered k (Unheard port) c o h = free_ordered k (record c { ports = removed c.ports port }) o
 
@@ -47,14 +48,16 @@ pub drop_ordered : (scan : Scan) (kd : Kind) (k : ℕ) (c : Core) → Ordered c 
 drop_ordered scan kd k c o = after_turn Ordered (lose_ref scan (side_of kd) k) c c.left (λ n. lose_ref_ordered scan (side_of kd) k (record c { left = n }) o)
 
 -- fires
-fire_to_ordered : (k : ℕ) (cell : Cell) (w : Waiter) (x : Option Entry) (c : Core) → Ordered c → thing c.cells k ≡ Some cell → thing c.entries w.actor ≡ x → is_suspended (thing c.entries w.actor) ≡ Some true
+fire_to_ordered : (k : ℕ) (cell : Cell) (w : Waiter) (x : Option Entry) (c : Core) → Ordered c → thing c.cells k ≡ Some cell → thing c.entries w.actor ≡ x
+    → is_suspended (thing c.entries w.actor) ≡ Some true
     → Unless Ordered (fire_to k cell w x c)
 fire_to_ordered k cell w None c o ck at h = tt
 fire_to_ordered k cell w (Some e) c o ck at h =
     let p = pushed (Fire k) c in
     subst (λ y. Unless Ordered (take_branch w.actor w.branch k e [] y p)) ck (branch_ordered w.actor w.branch k e e [] p (waits_in_hand w.actor p o h) at)
 
-fire_at_ordered : (scan : Scan) (k : ℕ) (cell : Cell) (r : Bool) (ws : List Waiter) (c : Core) → Ordered c → thing c.cells k ≡ Some cell → AllWait c.entries ws → Unless Ordered (fire_at scan k cell r ws c)
+fire_at_ordered : (scan : Scan) (k : ℕ) (cell : Cell) (r : Bool) (ws : List Waiter) (c : Core) → Ordered c → thing c.cells k ≡ Some cell → AllWait c.entries ws
+    → Unless Ordered (fire_at scan k cell r ws c)
 fire_at_ordered scan k cell r [] c o ck h = lose_ref_ordered scan FutureSide k c o
 fire_at_ordered scan k cell false (w ∷ ws) c o ck h = lose_ref_ordered scan FutureSide k c o
 fire_at_ordered scan k cell true (w ∷ ws) c o ck h = fire_to_ordered k cell w (thing c.entries w.actor) c o ck refl h.0
@@ -114,7 +117,8 @@ below_in_hand i c ts o top h = absurd h
 pub kept_ordered : (i : ℕ) (spot : Spot) (r : Ref) (e : Entry) (c : Core) → Ordered c → thing c.entries i ≡ Some e → Ordered (record c { entries = put c.entries i (with_operand spot r e) })
 kept_ordered i spot r e c o at = entry_ordered i e (with_operand spot r e) c o at refl
 
-pub leave_kept_ordered : (i b : ℕ) (v : OperandFate) (r : Ref) (en e0 : Entry) (vs : List ValueTree) (c : Core) → InHand i c → thing c.entries i ≡ Some e0 → (v ≡ GoesOn → ⊥) → Unless Ordered (leave_kept i b v r en vs c)
+pub leave_kept_ordered : (i b : ℕ) (v : OperandFate) (r : Ref) (en e0 : Entry) (vs : List ValueTree) (c : Core) → InHand i c → thing c.entries i ≡ Some e0 → (v ≡ GoesOn → ⊥)
+    → Unless Ordered (leave_kept i b v r en vs c)
 leave_kept_ordered i b GoesOn r en e0 vs c h at n = absurd (n refl)
 leave_kept_ordered i b Cancelled r en e0 vs c h at n = unless c.halted (leave_ordered i en e0 vs (Throw i operation_cancelled) c h at (throw_of i operation_cancelled) order.throws h.2)
 leave_kept_ordered i b Ready r en e0 vs c h at n = branch_ordered i b r.1 en e0 vs c h at

@@ -56,7 +56,8 @@ push_ordered i t c h a f p pair = (
     one_stands : (i : ℕ) (c : Core) (ts us : List Task) → Awake i c → tasks_of i ts ≡ us → Proceeds i us → Stands i (is_suspended (thing c.entries i)) (tasks_of i ts)
     one_stands i c ts us a e p = subst (λ o. Stands i o (tasks_of i ts)) (sym a) (subst (Proceeds i) (sym e) p)
 
-pub two_ordered : (i : ℕ) (t : Task) (c : Core) → InHand i c → Awake i c → IsOf i t → IsOf i (Run i) → Proceeds i (t ∷ Run i ∷ []) → Paired (t ∷ Run i ∷ c.tasks) → Ordered (pushed t (pushed (Run i) c))
+pub two_ordered : (i : ℕ) (t : Task) (c : Core) → InHand i c → Awake i c → IsOf i t → IsOf i (Run i) → Proceeds i (t ∷ Run i ∷ []) → Paired (t ∷ Run i ∷ c.tasks)
+    → Ordered (pushed t (pushed (Run i) c))
 two_ordered i t c h a f g p pair =
     let d = pushed t (pushed (Run i) c) in
     let own : tasks_of i d.tasks ≡ t ∷ Run i ∷ [] = own_task i t (Run i ∷ c.tasks) f ∙ ap (λ ts. t ∷ ts) (own_task i (Run i) c.tasks g ∙ ap (λ ts. Run i ∷ ts) h.0) in (
@@ -71,7 +72,8 @@ two_ordered i t c h a f g p pair =
 stays_put : (i : ℕ) (e : Entry) (c : Core) (j : ℕ) → (i ≡ j → ⊥) → is_suspended (thing c.entries j) ≡ Some true → is_suspended (thing (put c.entries i e) j) ≡ Some true
 stays_put i e c j n h = ap is_suspended (thing_put_other c.entries i j e n) ∙ h
 
-pub leave_ordered : (i : ℕ) (e e0 : Entry) (vs : List ValueTree) (t : Task) (c : Core) → InHand i c → thing c.entries i ≡ Some e0 → IsOf i t → Proceeds i (t ∷ []) → Paired (t ∷ c.tasks) → Ordered (leave_for i e vs t c)
+pub leave_ordered : (i : ℕ) (e e0 : Entry) (vs : List ValueTree) (t : Task) (c : Core) → InHand i c → thing c.entries i ≡ Some e0 → IsOf i t → Proceeds i (t ∷ []) → Paired (t ∷ c.tasks)
+    → Ordered (leave_for i e vs t c)
 leave_ordered i e e0 vs t c h at f p pair =
     let d = leave_for i e vs t c in
     let a : Awake i d = ap is_suspended (thing_put c.entries i e0 (running e) at) in
@@ -102,7 +104,8 @@ pub waits_in_hand : (i : ℕ) (c : Core) → Ordered c → is_suspended (thing c
 waits_in_hand i c o h = (subst (λ s. Stands i s (tasks_of i c.tasks)) h (o.0 i), λ j n. o.0 j, o.1, o.2, o.3)
 
 -- an entry changes, but not whether its actor is suspended
-stays_same : (i : ℕ) (e : Entry) (c : Core) → is_suspended (thing (put c.entries i e) i) ≡ is_suspended (thing c.entries i) → (j : ℕ) → is_suspended (thing c.entries j) ≡ Some true → is_suspended (thing (put c.entries i e) j) ≡ Some true
+stays_same : (i : ℕ) (e : Entry) (c : Core) → is_suspended (thing (put c.entries i e) i) ≡ is_suspended (thing c.entries i) → (j : ℕ) → is_suspended (thing c.entries j) ≡ Some true
+    → is_suspended (thing (put c.entries i e) j) ≡ Some true
 stays_same i e c own = each_number i (λ j. is_suspended (thing c.entries j) ≡ Some true → is_suspended (thing (put c.entries i e) j) ≡ Some true) (λ s. own ∙ s) (λ j n s. stays_put i e c j n s)
 
 pub entry_ordered : (i : ℕ) (e new : Entry) (c : Core) → Ordered c → thing c.entries i ≡ Some e → new.suspended ≡ e.suspended → Ordered (record c { entries = put c.entries i new })
@@ -156,7 +159,8 @@ register_waits : (fs : Numbered Entry) (i b : ℕ) (rs : List Ref) (r : Registra
 register_waits fs i b [] r s h = h
 register_waits fs i b (x ∷ rs) r s h = register_waits fs i (suc b) rs (register_one (record { actor = i; branch = b }) x.1 r) s (register_one_waits fs (record { actor = i; branch = b }) x.1 r s h)
 
-pub suspend_ordered : (i : ℕ) (spot : Spot) (e e0 : Entry) (vs : List ValueTree) (c : Core) → InHand i c → Awake i c → thing c.entries i ≡ Some e0 → Unless Ordered (suspend i spot e vs (register i 0 e.operands (Registered c.cells)) c)
+pub suspend_ordered : (i : ℕ) (spot : Spot) (e e0 : Entry) (vs : List ValueTree) (c : Core) → InHand i c → Awake i c → thing c.entries i ≡ Some e0
+    → Unless Ordered (suspend i spot e vs (register i 0 e.operands (Registered c.cells)) c)
 suspend_ordered i spot e e0 vs c h a at =
     by_registration (register i 0 e.operands (Registered c.cells))
     (register_waits fs i 0 e.operands (Registered c.cells) now (waits_by c.entries fs c.cells stay h.3))

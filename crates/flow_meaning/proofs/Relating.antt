@@ -108,7 +108,8 @@ module _ {A B : Type 0} (e : Engine A) (d : Engine B) (R : Phase → A → B →
             (related_thing (R Free) (removed xs i) (removed ys i) i all);
       }
 
-  pub related_new : (i : ℕ) (c k : Core) (xs : Numbered A) (ys : Numbered B) (a : A) (b : B) → Related R c xs ys → Eases c k → rank (phase_of k i) ≤ 0 → R Free a b → Related R k (added xs i a) (added ys i b)
+  pub related_new : (i : ℕ) (c k : Core) (xs : Numbered A) (ys : Numbered B) (a : A) (b : B) → Related R c xs ys → Eases c k → rank (phase_of k i) ≤ 0 → R Free a b
+      → Related R k (added xs i a) (added ys i b)
   related_new i c k xs ys a b rs h le r =
       let all = related_added (R Free) xs ys i a b rs.all r in record {
         all = all;

@@ -82,7 +82,8 @@ module _ {A : Type 0} (e : Engine A) where
   begun_begins (Event p left) w b h g =
       subst Begins (same_of g) (happened_begins p.what (ready w (process_in p.what)) (counted p.time (process_in p.what) (with_left w.out left)) (ready_orderly w (process_in p.what) h))
 
-  after_rests : (w : World A) (b : Begun A) (l : Live Outside A) → WorldAtRest w → begun_by e w (next_of w.out) ≡ Some b → Burst e host (before b) l → l.proc.core.halted ≡ None → WorldAtRest (after w b l)
+  after_rests : (w : World A) (b : Begun A) (l : Live Outside A) → WorldAtRest w → begun_by e w (next_of w.out) ≡ Some b → Burst e host (before b) l → l.proc.core.halted ≡ None
+      → WorldAtRest (after w b l)
   after_rests w b l h g r x =
       let rest : AtRest l.proc.core = subst (λ o. UnlessStopped o (AtRest l.proc.core)) x (burst_at_rest e host (before b) l (begun_begins (next_of w.out) w b h g) r) in
       rests_set w.places l.out.active (record { up = b.place.up; proc = l.proc }) h rest

@@ -132,7 +132,8 @@ send_in_shifts (Some cell) i k o c a = send_by_shifts (is_complete cell) i k o c
 
 send_to_shifts : (s : Supply) (i : ℕ) (q port : ℤ) (text : List ℕ) (c : Core) → Awake i c → Unless (Shifts i Risky c) (send_to s i q port text c).0
 send_to_shifts s i q port text c a =
-    either (Shifts i Risky c) (int_le (pos 0) q && nat_lt (natural q) s.processes && is_port port) _ (throws i bad_argument c) (unless c.halted (run_shifts i Risky c a)) (unless c.halted (throw_shifts i bad_argument c a))
+    either (Shifts i Risky c) (int_le (pos 0) q && nat_lt (natural q) s.processes && is_port port) _ (throws i bad_argument c) (unless c.halted (run_shifts i Risky c a))
+    (unless c.halted (throw_shifts i bad_argument c a))
 
 -- waits
 suspended_shifts : (i : ℕ) (spot : Spot) (e : Entry) (vs : List ValueTree) (cells : Numbered Cell) (c : Core) → Shifts i Waiting c (suspend i spot e vs (Registered cells) c)
@@ -223,7 +224,8 @@ react_shifts s i (Prints v) c a h = print_shifts (print_line i v)
 react_shifts s i (SendsTo q port text) c a h = send_to_shifts s i q port text c a
 react_shifts s i (Returns v vs) c a h =
     let d = pushed (Close i (GoodOutcome v)) c in
-    unless c.halted (shifts_on i Free c d (dropping_values vs d) (pushed_shifts i Free (Close i (GoodOutcome v)) c (close_of i (GoodOutcome v)) a (λ ts. omega arith)) (unmoved_eases d (dropping_values vs d) (dropping_unmoved vs d)))
+    unless c.halted (shifts_on i Free c d (dropping_values vs d) (pushed_shifts i Free (Close i (GoodOutcome v)) c (close_of i (GoodOutcome v)) a (λ ts. omega arith))
+    (unmoved_eases d (dropping_values vs d) (dropping_unmoved vs d)))
 react_shifts s i (Throws e) c a h = unless c.halted (throw_shifts i e c a)
 react_shifts s i RunsOut c a h = tt
 react_shifts s i Stuck c a h = tt
@@ -285,7 +287,8 @@ cell_waits es (x ∷ xs) k cell h e = by_test (nat_eq k x.0) e (cell_waits es xs
     by_test true e r = subst (λ y. AllWait es (waiters y)) (same_of e) h.0
     by_test false e r = r e
 
-fire_to_eases : (k : ℕ) (cell : Cell) (w : Waiter) (o : Option Entry) (c : Core) → thing c.entries w.actor ≡ o → is_suspended (thing c.entries w.actor) ≡ Some true → Unless (Eases c) (fire_to k cell w o c)
+fire_to_eases : (k : ℕ) (cell : Cell) (w : Waiter) (o : Option Entry) (c : Core) → thing c.entries w.actor ≡ o → is_suspended (thing c.entries w.actor) ≡ Some true
+    → Unless (Eases c) (fire_to k cell w o c)
 fire_to_eases k cell w None c at h = tt
 fire_to_eases k cell w (Some e) c at h =
     let p = pushed (Fire k) c in

@@ -65,7 +65,8 @@ module _ {A B : Type 0} (R : Phase → A → B → Type 0) (p : A → Spot) (q :
       waiting_same a.proc.actors b.proc.actors a.proc.core.entries (spots_same a.proc.core a.proc.actors b.proc.actors s.2 s.3)
       ∙ ap (λ (c : Core). waiting q b.proc.actors c.entries) s.1
 
-  all_unfinished : (ps : List (Place A)) (qs : List (Place B)) → SamePlaces R ps qs → map (λ a. unfinished p a.proc.actors a.proc.core.entries) ps ≡ map (λ b. unfinished q b.proc.actors b.proc.core.entries) qs
+  all_unfinished : (ps : List (Place A)) (qs : List (Place B)) → SamePlaces R ps qs
+      → map (λ a. unfinished p a.proc.actors a.proc.core.entries) ps ≡ map (λ b. unfinished q b.proc.actors b.proc.core.entries) qs
   all_unfinished [] [] h = refl
   all_unfinished [] (b ∷ bs) h = absurd h
   all_unfinished (a ∷ rest) [] h = absurd h

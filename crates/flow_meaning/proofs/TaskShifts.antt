@@ -94,7 +94,8 @@ below_unmoved i c h j n = (refl, by_tasks c.tasks h)
     by_tasks (Run k ∷ ts) h = sym (other_task k j (Run k) ts (run_of k) (λ e. n (h ∙ e)))
     by_tasks ts h = absurd h
 
-pub leave_kept_shifts : (i b : ℕ) (v : OperandFate) (r : Ref) (en e0 : Entry) (vs : List ValueTree) (c : Core) → thing c.entries i ≡ Some e0 → (v ≡ GoesOn → ⊥) → Unless (Shifts i Due c) (leave_kept i b v r en vs c)
+pub leave_kept_shifts : (i b : ℕ) (v : OperandFate) (r : Ref) (en e0 : Entry) (vs : List ValueTree) (c : Core) → thing c.entries i ≡ Some e0 → (v ≡ GoesOn → ⊥)
+    → Unless (Shifts i Due c) (leave_kept i b v r en vs c)
 leave_kept_shifts i b GoesOn r en e0 vs c at h = absurd (h refl)
 leave_kept_shifts i b Cancelled r en e0 vs c at h = unless c.halted (leave_shifts i Due en e0 vs (Throw i operation_cancelled) c (throw_of i operation_cancelled) at (λ ts. omega arith))
 leave_kept_shifts i b Ready r en e0 vs c at h = branch_shifts i b r.1 en e0 vs (thing c.cells r.1) c at

@@ -37,7 +37,8 @@ module _ (ns : Names) (c : ClassTree) where
   abbrev pub LoopAt : Scope → List Item → List Target → Option ExprTree → (block : ℕ) → (Pos → Type 0) → Type 0
   LoopAt s r ts None b inner = inner (entry b)
   LoopAt s r ts (Some e) b inner =
-      CaughtAt ns c s r ts (entry b) × (y : ℕ) × (n : ℕ) × (at ns c (entry b) ≡ Last (TestLast (over c.slots s e) y n)) × inner (entry y) × GoesOn ns c s r ts (entry n)
+      CaughtAt ns c s r ts (entry b) × (y : ℕ) × (n : ℕ) × (at ns c (entry b) ≡ Last (TestLast (over c.slots s e) y n)) × inner (entry y)
+      × GoesOn ns c s r ts (entry n)
 
   -- an error by an expression, or that of the catch around by its variable
   abbrev pub ThrowAt : Scope → Option ExprTree → Option (List ℕ) → Pos → Type 0
@@ -79,12 +80,14 @@ module _ (ns : Names) (c : ClassTree) where
     BodyAt s r ts x (WhileStmt place e b k) p =
         (h : ℕ) × (q : Pos) × PassAt ns c p h
         × LoopAt s (Do (site_past b x) k ∷ r) (At q ∷ ts) (Some e) h
-        (BodyAt (Mark ∷ s) (Leave ∷ Made (record { site = x; condition = Some e; step = End; inner = b }) ∷ Do (site_past b x) k ∷ r) (Again h ∷ At q ∷ ts) x b)
+        (BodyAt (Mark ∷ s) (Leave ∷ Made (record { site = x; condition = Some e; step = End; inner = b }) ∷ Do (site_past b x) k ∷ r)
+        (Again h ∷ At q ∷ ts) x b)
         × BodyAt s r ts (site_past b x) k q
     BodyAt s r ts x (LoopStmt place b k) p =
         (h : ℕ) × (q : Pos) × PassAt ns c p h
         × LoopAt s (Do (site_past b x) k ∷ r) (At q ∷ ts) None h
-        (BodyAt (Mark ∷ s) (Leave ∷ Made (record { site = x; condition = None; step = End; inner = b }) ∷ Do (site_past b x) k ∷ r) (Again h ∷ At q ∷ ts) x b)
+        (BodyAt (Mark ∷ s) (Leave ∷ Made (record { site = x; condition = None; step = End; inner = b }) ∷ Do (site_past b x) k ∷ r)
+        (Again h ∷ At q ∷ ts) x b)
         × BodyAt s r ts (site_past b x) k q
     BodyAt s r ts x (ForStmt place i e t b k) p =
         let y = site_past t (site_past i x) in
@@ -98,7 +101,8 @@ module _ (ns : Names) (c : ClassTree) where
     BodyAt s r ts x (BreakStmt place k) p = ExitAt Breaks s r ts p × (has_statement k ≡ true → (q : Pos) × BodyAt s r ts x k q)
     BodyAt s r ts x (ContinueStmt place k) p = ExitAt Continues s r ts p × (has_statement k ≡ true → (q : Pos) × BodyAt s r ts x k q)
     BodyAt s r ts x (ReturnStmt place e k) p =
-        CaughtAt ns c s r ts p × (at ns c p ≡ Last (ReturnLast (over c.slots s e))) × (has_statement k ≡ true → (q : Pos) × BodyAt s r ts x k q)
+        CaughtAt ns c s r ts p × (at ns c p ≡ Last (ReturnLast (over c.slots s e)))
+        × (has_statement k ≡ true → (q : Pos) × BodyAt s r ts x k q)
     BodyAt s r ts x (ThrowStmt place e k) p =
         CaughtAt ns c s r ts p × ThrowAt s e x.caught p × (has_statement k ≡ true → (q : Pos) × BodyAt s r ts x k q)
     BodyAt s r ts x (TryStmt place b w v d k) p =
@@ -116,11 +120,14 @@ module _ (ns : Names) (c : ClassTree) where
         × BranchesAt s (Do z k ∷ r) (At q ∷ ts) y bs cs
         × BodyAt s r ts z k q
     BodyAt s r ts x (DeclareStmt place i e k) p =
-        CaughtAt ns c s r ts p × EndsScope r × (to : Slotted) × (s2 : Scope) × DeclareAt ns c s to i.ty e p × DeclaredAs ns c s i to s2 × BodyAt s2 r ts x k (after p)
-    BodyAt s r ts x (AssignStmt place xs e k) p = CaughtAt ns c s r ts p × AssignAt ns c s (path_over c.slots s xs) e p × BodyAt s r ts x k (after p)
+        CaughtAt ns c s r ts p × EndsScope r × (to : Slotted) × (s2 : Scope) × DeclareAt ns c s to i.ty e p × DeclaredAs ns c s i to s2
+        × BodyAt s2 r ts x k (after p)
+    BodyAt s r ts x (AssignStmt place xs e k) p =
+        CaughtAt ns c s r ts p × AssignAt ns c s (path_over c.slots s xs) e p × BodyAt s r ts x k (after p)
     BodyAt s r ts x (ModifyStmt place xs d k) p = CaughtAt ns c s r ts p × ChangeAt ns c s xs (change xs d) p × BodyAt s r ts x k (after p)
     BodyAt s r ts x (CallStmt place xs es k) p =
-        CaughtAt ns c s r ts p × (at ns c p ≡ frame.Body (ActInstr (act_over c.slots s xs) (over_all c.slots s es))) × BodyAt s r ts x k (after p)
+        CaughtAt ns c s r ts p × (at ns c p ≡ frame.Body (ActInstr (act_over c.slots s xs) (over_all c.slots s es)))
+        × BodyAt s r ts x k (after p)
     BodyAt s r ts x (WaitStmt place w k) p =
         (d : CallbackTree) × (s2 : Scope) × CaughtAt ns c s r ts p × EndsScope r × GroupAt x.spot (d ∷ []) p × BranchAt s s w d s2
         × BodyAt s2 r ts (site_at (next_spot 1 x.spot) x) k (entry d.block)

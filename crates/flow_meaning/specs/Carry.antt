@@ -107,7 +107,8 @@ module _ (ns : Names) (c : ClassTree) where
   -- A part of a `for`, or none, from p to q, and the locals in force after it.
   abbrev pub SimpleAt : Scope → List Item → List Target → Body → Pos → Pos → Scope → Type 0
   SimpleAt s r ts End p q later = (p ≡ q) × (later ≡ s)
-  SimpleAt s r ts (AssignStmt place xs e End) p q later = CaughtAt s r ts p × AssignAt s (path_over c.slots s xs) e p × (q ≡ after p) × (later ≡ s)
+  SimpleAt s r ts (AssignStmt place xs e End) p q later =
+      CaughtAt s r ts p × AssignAt s (path_over c.slots s xs) e p × (q ≡ after p) × (later ≡ s)
   SimpleAt s r ts (ModifyStmt place xs k End) p q later = CaughtAt s r ts p × ChangeAt s xs (change xs k) p × (q ≡ after p) × (later ≡ s)
   SimpleAt s r ts (DeclareStmt place i e End) p q later =
       CaughtAt s r ts p × (to : Slotted) × DeclareAt s to i.ty e p × DeclaredAs s i to later × (q ≡ after p)
@@ -124,10 +125,12 @@ module _ (ns : Names) (c : ClassTree) where
 
   -- from p the class goes on with the items; the end of a text, which nothing reaches, throws, and nothing catches that
   abbrev pub GoesOn : Scope → List Item → List Target → Pos → Type 0
-  GoesOn s [] ts p = (h : Pos) × (f : Ident) × JumpsTo p h × (at h ≡ Last (ThrowLast (CallExpr f NoExprs))) × (f.name ≡ codes "operation_cancelled")
+  GoesOn s [] ts p = (h : Pos) × (f : Ident) × JumpsTo p h × (at h ≡ Last (ThrowLast (CallExpr f NoExprs)))
+      × (f.name ≡ codes "operation_cancelled")
       × (catcher_at c h.block ≡ None)
   GoesOn s (Leave ∷ r) ts p = DropThen (scope s) p (GoesOn (outside s) r ts)
   GoesOn s (Do site k ∷ r) (At q ∷ ts) p = JumpsTo p q
-  GoesOn s (Made l ∷ r) (Again b ∷ ts) p = (h : Pos) × (q : Pos) × JumpsTo p h × SimpleAt s (Round l ∷ r) (Again b ∷ ts) l.step h q s × PassAt q b
+  GoesOn s (Made l ∷ r) (Again b ∷ ts) p = (h : Pos) × (q : Pos) × JumpsTo p h × SimpleAt s (Round l ∷ r) (Again b ∷ ts) l.step h q s
+      × PassAt q b
   GoesOn s (Handler x site k ∷ r) (Hand b n ∷ ts) p = GoesOn s r ts p
   GoesOn s _ ts p = ⊥

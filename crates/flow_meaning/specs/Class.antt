@@ -29,7 +29,8 @@ module _ (ns : Names) (v : View) (f : Frame) where
 
   -- an effect, whose result goes into place or among the operands; the frame stays where it is
   abbrev pub effects : Goal → Effectful × ExprTrees → StepOf Frame
-  effects goal e = evaluated f (values ns v (look f.mem) e.1) (λ vs left. given f (effect_of e.0 vs) (λ eff. asks left (Effects goal eff) f))
+  effects goal e = evaluated f (values ns v (look f.mem) e.1)
+      (λ vs left. given f (effect_of e.0 vs) (λ eff. asks left (Effects goal eff) f))
 
   abbrev pub instruction : InstrTree → StepOf Frame
   instruction (SetInstr path e) = evaluated f (value ns v (look f.mem) e) (λ u left. given f (assign ns.records f.mem path u) (placed left))

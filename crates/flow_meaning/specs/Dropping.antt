@@ -60,7 +60,8 @@ suffer k (Unheard port) c = free k (record c { ports = removed c.ports port })
 abbrev pub lose_cell : Scan → Side → ℕ → Option Cell → Core → Core
 lose_cell scan s k None c = halt NoMeaning c
 lose_cell scan s k (Some cell) c =
-    suffer k (loss s (reference_count scan PromiseSide k c) (reference_count scan FutureSide k c) cell (owner k c.entries) (port_of k c.ports)) c
+    suffer k (loss s (reference_count scan PromiseSide k c) (reference_count scan FutureSide k c) cell (owner k c.entries)
+    (port_of k c.ports)) c
 
 abbrev pub lose_ref : Scan → Side → ℕ → Core → Core
 lose_ref scan s k c = lose_cell scan s k (thing c.cells k) c

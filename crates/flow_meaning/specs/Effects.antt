@@ -73,7 +73,8 @@ is_port z = between z 0 65535
 -- a port that nobody listens to yet
 abbrev pub open_port : (actor : ℕ) → Goal → (port : ℕ) → Option ℕ → Core → Reaction
 open_port i goal port (Some cell) c = throws i port_in_use c
-open_port i goal port None c = quiet (gives_new i goal kind.FutureStream (Stream [] None None) (record c { ports = added c.ports port (suc c.made) }))
+open_port i goal port None c = quiet (gives_new i goal kind.FutureStream (Stream [] None None)
+    (record c { ports = added c.ports port (suc c.made) }))
 
 abbrev pub listen : (actor : ℕ) → Goal → ℤ → Core → Reaction
 listen i goal port c = if is_port port then open_port i goal (natural port) (thing c.ports (natural port)) c else throws i bad_argument c
@@ -91,7 +92,8 @@ abbrev pub judged : DiskCall ℤ → Option (DiskCall ℕ)
 judged (ReadCall file offset count) =
     if_ok (is_file file && between offset 0 FILE_BYTES && between count 0 65535) (ReadCall file (natural offset) (natural count))
 judged (WriteCall file offset text) =
-    if_ok (is_file file && between offset 0 FILE_BYTES && nat_le (natural offset + length text) FILE_BYTES) (WriteCall file (natural offset) text)
+    if_ok (is_file file && between offset 0 FILE_BYTES && nat_le (natural offset + length text) FILE_BYTES)
+    (WriteCall file (natural offset) text)
 judged (SyncCall file) = if_ok (is_file file) (SyncCall file)
 judged (SizeCall file) = if_ok (is_file file) (SizeCall file)
 

@@ -92,9 +92,11 @@ world_effect code.Delay vs = bind (int_of (arg vs 0)) (λ n. Some (Delay n))
 world_effect code.Never vs = Some Never
 world_effect code.Listen vs = bind (int_of (arg vs 0)) (λ port. Some (Listen port))
 world_effect code.ReadFile vs =
-    bind (text_of (arg vs 0)) (λ file. bind (int_of (arg vs 1)) (λ offset. bind (int_of (arg vs 2)) (λ count. Some (Disk (ReadCall file offset count)))))
+    bind (text_of (arg vs 0)) (λ file. bind (int_of (arg vs 1))
+    (λ offset. bind (int_of (arg vs 2)) (λ count. Some (Disk (ReadCall file offset count)))))
 world_effect code.WriteFile vs =
-    bind (text_of (arg vs 0)) (λ file. bind (int_of (arg vs 1)) (λ offset. bind (text_of (arg vs 2)) (λ text. Some (Disk (WriteCall file offset text)))))
+    bind (text_of (arg vs 0)) (λ file. bind (int_of (arg vs 1))
+    (λ offset. bind (text_of (arg vs 2)) (λ text. Some (Disk (WriteCall file offset text)))))
 world_effect code.SyncFile vs = bind (text_of (arg vs 0)) (λ file. Some (Disk (SyncCall file)))
 world_effect code.FileSize vs = bind (text_of (arg vs 0)) (λ file. Some (Disk (SizeCall file)))
 world_effect _ vs = None
@@ -149,7 +151,8 @@ module _ (ns : Names) (v : View) (look : Look) where
   abbrev pub plain_act : Option Predefined → List ℕ → List ValueTree → ℕ → Res Act
   plain_act (Some code.Trace) f vs left = Done (Prints (arg vs 0)) left
   plain_act (Some code.SendTo) f vs left =
-      done (bind (int_of (arg vs 0)) (λ q. bind (int_of (arg vs 1)) (λ port. bind (text_of (arg vs 2)) (λ text. Some (SendsTo q port text))))) left
+      done (bind (int_of (arg vs 0)) (λ q. bind (int_of (arg vs 1))
+      (λ port. bind (text_of (arg vs 2)) (λ text. Some (SendsTo q port text))))) left
   plain_act (Some _) f vs left = Meaningless
   plain_act None f vs left = function_act (routine_named ns.functions f) vs left
 
@@ -163,4 +166,5 @@ module _ (ns : Names) (v : View) (look : Look) where
   call_act [] es = Meaningless
   call_act (f ∷ []) es = then (values es) (λ vs left. plain_act (named call_names f.name) f.name vs left)
   call_act (x ∷ y ∷ ys) es =
-      then (values es) (λ vs left. based_act (read_in ns.records (look x.name) (before_last y ys)) (named method_names (last_of y ys).name) vs left)
+      then (values es) (λ vs left. based_act (read_in ns.records (look x.name) (before_last y ys))
+      (named method_names (last_of y ys).name) vs left)

@@ -27,7 +27,8 @@ observation spot w = record {
 }
 
 -- what is seen of a run from the start of a world
-pub record Seen {A : Type 0} (e : Engine A) (spot : A → Spot) (w : file.World) (lines : List Line) (sights : List Observation) : Type 0 where
+pub record Seen {A : Type 0} (e : Engine A) (spot : A → Spot) (w : file.World) (lines : List Line)
+    (sights : List Observation) : Type 0 where
   pub states : List (World A)
   pub run : IsRun e w states lines
   pub boundaries : sights ≡ map (observation spot) states

@@ -46,22 +46,34 @@ placeless_class c = record {
 
 -- classes with every place the first one
 abbrev pub placeless_classes : RawTree → RawTree
-placeless_classes r = record { records = map placeless_record r.records; functions = map placeless_routine r.functions; classes = map placeless_class r.classes }
+placeless_classes r = record {
+  records = map placeless_record r.records;
+  functions = map placeless_routine r.functions;
+  classes = map placeless_class r.classes;
+}
 
 -- what is the same throughout an evaluation, with every place the first one
 abbrev pub placeless_setting : Setting → Setting
-placeless_setting s = record { records = map placeless_record s.records; functions = map placeless_routine s.functions; cells = s.cells; now = s.now }
+placeless_setting s = record {
+  records = map placeless_record s.records;
+  functions = map placeless_routine s.functions;
+  cells = s.cells;
+  now = s.now;
+}
 
 -- An expression comes to the same with every place the first one.
 abbrev pub EvaluatesAlike : Type 0
 EvaluatesAlike =
-    (s : Setting) (look : List ℕ → Option ValueTree) (e : ExprTree) (left : ℕ) → Eval (placeless_setting s) look (placeless_expr e) left ≡ Eval s look e left
+    (s : Setting) (look : List ℕ → Option ValueTree) (e : ExprTree) (left : ℕ)
+    → Eval (placeless_setting s) look (placeless_expr e) left ≡ Eval s look e left
 
 -- Of programs that are equal but for places the same is seen in every world, and so of classes.
 abbrev pub ProgramsAlike : Type 0
 ProgramsAlike =
-    (p q : ProgramTree) (w : file.World) (lines : List Line) (sights : List Observation) → bare p ≡ bare q → SourceSeen p w lines sights → SourceSeen q w lines sights
+    (p q : ProgramTree) (w : file.World) (lines : List Line) (sights : List Observation) → bare p ≡ bare q → SourceSeen p w lines sights
+    → SourceSeen q w lines sights
 
 abbrev pub ClassesAlike : Type 0
 ClassesAlike =
-    (r s : RawTree) (w : file.World) (lines : List Line) (sights : List Observation) → placeless_classes r ≡ placeless_classes s → ClassSeen r w lines sights → ClassSeen s w lines sights
+    (r s : RawTree) (w : file.World) (lines : List Line) (sights : List Observation) → placeless_classes r ≡ placeless_classes s
+    → ClassSeen r w lines sights → ClassSeen s w lines sights

@@ -36,7 +36,8 @@ abbrev pub suspend : (actor : ℕ) → Spot → Entry → List ValueTree → Reg
 suspend i spot e vs Missing c = halt NoMeaning c
 suspend i spot e vs Refused c = leave_for i e vs (Throw i second_waiter) c
 suspend i spot e vs (Registered cells) c =
-    dropping_values vs (record (writes (wait_line i spot.group) c) { cells = cells; entries = put c.entries i (record e { suspended = true }) })
+    dropping_values vs (record (writes (wait_line i spot.group) c)
+    { cells = cells; entries = put c.entries i (record e { suspended = true }) })
 
 abbrev pub wait_by : (actor : ℕ) → Spot → Entry → List ValueTree → Option (ℕ × ℕ) → Core → Core
 wait_by i spot e vs (Some b) c = take_branch i b.0 b.1 e vs (thing c.cells b.1) c

@@ -58,7 +58,9 @@ WorldAtRest w = AllByRecursion (λ a. AtRest a.proc.core) w.places
 
 -- a run from a world at rest passes through such worlds, and so does a run from the start of any world
 abbrev pub RunsRest : {A : Type 0} → Engine A → Type 0
-RunsRest {A} e = (w : World A) (states : List (World A)) (lines : List Line) → WorldAtRest w → Runs e w states lines → AllByRecursion WorldAtRest states
+RunsRest {A} e = (w : World A) (states : List (World A)) (lines : List Line) → WorldAtRest w → Runs e w states lines
+    → AllByRecursion WorldAtRest states
 
 abbrev pub TracesRest : {A : Type 0} → Engine A → Type 0
-TracesRest {A} e = (w : file.World) (states : List (World A)) (lines : List Line) → IsRun e w states lines → AllByRecursion WorldAtRest states
+TracesRest {A} e = (w : file.World) (states : List (World A)) (lines : List Line) → IsRun e w states lines
+    → AllByRecursion WorldAtRest states

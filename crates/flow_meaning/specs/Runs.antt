@@ -57,4 +57,5 @@ ClassTrace c w lines = (states : List (World Frame)) × IsRun (classes c) w stat
 -- a run from a world has one list of states and one list of lines
 abbrev pub RunsOnce : {A : Type 0} → Engine A → Type 0
 RunsOnce {A} e =
-    (w : World A) (states others : List (World A)) (lines more : List Line) → Runs e w states lines → Runs e w others more → (states ≡ others) × (lines ≡ more)
+    (w : World A) (states others : List (World A)) (lines more : List Line) → Runs e w states lines → Runs e w others more
+    → (states ≡ others) × (lines ≡ more)

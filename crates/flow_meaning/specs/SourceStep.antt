@@ -58,7 +58,8 @@ module _ (ns : Names) (v : View) where
 
   -- an effect, whose result goes into place or among the operands; the actor stays where it is
   abbrev pub effects : Actor → Goal → Effectful × ExprTrees → StepOf Actor
-  effects a goal g = evaluated a (values ns v (look a.vars) g.1) (λ vs left. given a (effect_of g.0 vs) (λ eff. asks left (Effects goal eff) a))
+  effects a goal g = evaluated a (values ns v (look a.vars) g.1)
+      (λ vs left. given a (effect_of g.0 vs) (λ eff. asks left (Effects goal eff) a))
 
   -- an assignment or a declaration of an expression, or of an effect
   abbrev pub store_by : Option (Effectful × ExprTrees) → Actor → Target → ExprTree → List Item → StepOf Actor
@@ -121,7 +122,8 @@ module _ (ns : Names) (v : View) where
   do_body a s (ForStmt at i e t b k) r =
       let s_t = site_past i s in
       let s_b = site_past t s_t in
-      quietly (actor (entered a.vars) (Do s i ∷ Round (record { site = s_b; condition = e; step = t; inner = b }) ∷ Leave ∷ Do (site_past b s_b) k ∷ r))
+      quietly (actor (entered a.vars) (Do s i ∷ Round (record { site = s_b; condition = e; step = t; inner = b }) ∷ Leave
+      ∷ Do (site_past b s_b) k ∷ r))
   do_body a s (BreakStmt at k) r = exit v.left Breaks (Do s (BreakStmt at k)) a r
   do_body a s (ContinueStmt at k) r = exit v.left Continues (Do s (ContinueStmt at k)) a r
   do_body a s (ReturnStmt at e k) r = evaluated a (value ns v (look a.vars) e) (λ u left. asks left (Returns u (everything a.vars)) over)
@@ -134,7 +136,8 @@ module _ (ns : Names) (v : View) where
   do_body a s (DeclareStmt at i e k) r = declares a i e (Do s k ∷ r)
   do_body a s (AssignStmt at xs e k) r = store a (Path xs) e (Do s k ∷ r)
   do_body a s (ModifyStmt at xs c k) r = given a (change xs c) (λ e. store a (Path xs) e (Do s k ∷ r))
-  do_body a s (CallStmt at xs es k) r = evaluated a (call_act ns v (look a.vars) xs es) (λ act left. asks left act (actor a.vars (Do s k ∷ r)))
+  do_body a s (CallStmt at xs es k) r = evaluated a (call_act ns v (look a.vars) xs es)
+      (λ act left. asks left act (actor a.vars (Do s k ∷ r)))
   do_body a s (WaitStmt at w k) r = await a s.spot (operand (Single w) v.kept)
 
   -- a pass of a loop, if the condition holds

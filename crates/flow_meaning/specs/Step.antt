@@ -39,7 +39,14 @@ view s i c = record { cells = λ k. outcome (thing c.cells k); now = s.now; left
 
 -- An actor is made: its result and the actor get their numbers, the line is written, and its task comes on top.
 abbrev pub entry_of : (class cell : ℕ) → Entry
-entry_of class cell = record { class = class; result = Some cell; marked = false; suspended = false; spot = record { group = 0; first = 0 }; operands = [] }
+entry_of class cell = record {
+  class = class;
+  result = Some cell;
+  marked = false;
+  suspended = false;
+  spot = record { group = 0; first = 0 };
+  operands = [];
+}
 
 abbrev pub enrol : (class : ℕ) → List ℕ → Core → Core
 enrol class name c =

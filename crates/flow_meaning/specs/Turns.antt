@@ -34,7 +34,8 @@ IsOut r = Asks RunsOut r ⊎ Asks Stuck r
 
 -- Actors that see of their turns only whether there are enough: with more turns they ask the same, or they ran out.
 pub record Thrifty {A : Type 0} (e : Engine A) : Type 0 where
-  pub same : (k sum : ℕ) (v : View) (a : A) → sum ≡ v.left + k → (e.next (record v { left = sum }) a ≡ later k (e.next v a)) ⊎ IsOut (e.next v a)
+  pub same : (k sum : ℕ) (v : View) (a : A) → sum ≡ v.left + k
+      → (e.next (record v { left = sum }) a ≡ later k (e.next v a)) ⊎ IsOut (e.next v a)
 
 -- the event was stopped
 abbrev pub IsHalted : Core → Type 0
@@ -43,4 +44,5 @@ IsHalted c = (h : Halt) × (c.halted ≡ Some h)
 -- A burst that was stopped, for want of turns say, has written a first part of what is written with more turns.
 abbrev pub WritesFirst : {W A : Type 0} → Engine A → Host W → Type 0
 WritesFirst {W} {A} e h =
-    (k : ℕ) (s t u : Live W A) → Burst e h s t → IsHalted t.proc.core → Burst e h (more_live k s) u → Starts t.proc.core.lines u.proc.core.lines
+    (k : ℕ) (s t u : Live W A) → Burst e h s t → IsHalted t.proc.core → Burst e h (more_live k s) u
+    → Starts t.proc.core.lines u.proc.core.lines

@@ -41,7 +41,11 @@ outside_at_start w = record {
   ran = 0;
   sent = 0;
   drawn = 0;
-  events = record { made = w.processes; pending = map (λ p. record { time = 0; number = suc p; what = Boots p }) (range_with_len 0 w.processes) };
+  events = record {
+    made = w.processes;
+    pending = map (λ p. record { time = 0; number = suc p; what = Boots p })
+        (range_with_len 0 w.processes);
+  };
   script = w.script;
   cuts = [];
   disks = replicate w.processes (record { fails = 0; files = [] });
@@ -123,7 +127,8 @@ abbrev pub lost : {A : Type 0} → List Line → ℕ → Place A → Outside →
 lost head p at w l = record {
   head = head ++ map kept_line l.fates;
   place = record { up = false; proc = vanish at.proc };
-  out = with_disk (record (with_left w (without_requests p w.events.pending)) { drawn = l.taken }) p (record { fails = (disk_of w p).fails; files = l.left });
+  out = with_disk (record (with_left w (without_requests p w.events.pending)) { drawn = l.taken }) p
+      (record { fails = (disk_of w p).fails; files = l.left });
 }
 
 -- a kill: the disk loses what it may, and the process is gone

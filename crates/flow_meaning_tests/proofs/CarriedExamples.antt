@@ -17,22 +17,149 @@ use Rattle.flow_meaning.specs.Carries.{CarriesProgram}
 use Rattle.flow_meaning_tests.proofs.RowTerms.{nowhere, id, nothing}
 
 abbrev overflow_caught_program : ProgramTree
-overflow_caught_program = record { decls = ((ActorDecl (record { at = nowhere; returns = VoidType; name = (id (codes "main")); params = ((record { ty = IntType; name = (id (codes "p")) }) ∷ []); body = (TryStmt nowhere (DeclareStmt nowhere (record { state = false; ty = IntType; name = (id (codes "x")) }) (Some (IntExpr (pos 9223372036854775807))) (CallStmt nowhere ((id (codes "trace")) ∷ []) (MoreExprs (BinaryExpr Add (VarExpr (id (codes "x"))) (IntExpr (pos 1))) NoExprs) End)) nowhere (id (codes "e")) (CallStmt nowhere ((id (codes "trace")) ∷ []) (MoreExprs (MethodExpr (VarExpr (id (codes "e"))) (id (codes "code")) NoExprs) NoExprs) End) (ReturnStmt nowhere VoidExpr End)); close = nowhere })) ∷ []); end = nowhere }
+overflow_caught_program = record {
+  decls = ((ActorDecl (record {
+    at = nowhere;
+    returns = VoidType;
+    name = (id (codes "main"));
+    params = ((record { ty = IntType; name = (id (codes "p")) }) ∷ []);
+    body = (TryStmt nowhere (DeclareStmt nowhere (record { state = false; ty = IntType; name = (id (codes "x")) }) (Some (IntExpr (pos 9223372036854775807)))
+        (CallStmt nowhere ((id (codes "trace")) ∷ []) (MoreExprs (BinaryExpr Add (VarExpr (id (codes "x"))) (IntExpr (pos 1))) NoExprs) End)) nowhere (id (codes "e"))
+        (CallStmt nowhere ((id (codes "trace")) ∷ []) (MoreExprs (MethodExpr (VarExpr (id (codes "e"))) (id (codes "code")) NoExprs) NoExprs) End) (ReturnStmt nowhere VoidExpr End));
+    close = nowhere;
+  }))
+      ∷ []);
+  end = nowhere;
+}
 
 abbrev overflow_caught_classes : RawTree
-overflow_caught_classes = record { records = []; functions = []; classes = ((record { name = (codes "main"); returns = VoidType; params = 1; slots = ((record { ty = IntType; name = (codes "p") }) ∷ []); locals = (IntType ∷ ErrorType ∷ []); blocks = ((record { catcher = None; body = []; last = (GotoLast 1) }) ∷ (record { catcher = (Some (record { block = 2; error = (Some 1); drops = (0 ∷ []) })); body = ((SetInstr ((id (codes "l0")) ∷ []) (IntExpr (pos 9223372036854775807))) ∷ (ActInstr ((id (codes "trace")) ∷ []) (MoreExprs (BinaryExpr Add (VarExpr (id (codes "l0"))) (IntExpr (pos 1))) NoExprs)) ∷ (DropInstr (0 ∷ [])) ∷ []); last = (GotoLast 3) }) ∷ (record { catcher = None; body = ((ActInstr ((id (codes "trace")) ∷ []) (MoreExprs (MethodExpr (VarExpr (id (codes "l1"))) (id (codes "code")) NoExprs) NoExprs)) ∷ (DropInstr (1 ∷ [])) ∷ []); last = (GotoLast 3) }) ∷ (record { catcher = None; body = []; last = (ReturnLast VoidExpr) }) ∷ []); groups = [] }) ∷ []) }
+overflow_caught_classes = record {
+  records = [];
+  functions = [];
+  classes = ((record {
+    name = (codes "main");
+    returns = VoidType;
+    params = 1;
+    slots = ((record { ty = IntType; name = (codes "p") }) ∷ []);
+    locals = (IntType ∷ ErrorType ∷ []);
+    blocks = ((record { catcher = None; body = []; last = (GotoLast 1) })
+        ∷ (record {
+          catcher = (Some (record { block = 2; error = (Some 1); drops = (0 ∷ []) }));
+          body = ((SetInstr ((id (codes "l0")) ∷ []) (IntExpr (pos 9223372036854775807)))
+              ∷ (ActInstr ((id (codes "trace")) ∷ []) (MoreExprs (BinaryExpr Add (VarExpr (id (codes "l0"))) (IntExpr (pos 1))) NoExprs)) ∷ (DropInstr (0 ∷ [])) ∷ []);
+          last = (GotoLast 3);
+        })
+        ∷ (record {
+          catcher = None;
+          body = ((ActInstr ((id (codes "trace")) ∷ []) (MoreExprs (MethodExpr (VarExpr (id (codes "l1"))) (id (codes "code")) NoExprs) NoExprs)) ∷ (DropInstr (1 ∷ [])) ∷ []);
+          last = (GotoLast 3);
+        }) ∷ (record { catcher = None; body = []; last = (ReturnLast VoidExpr) }) ∷ []);
+    groups = [];
+  }) ∷ []);
+}
 
 abbrev state_in_loop_program : ProgramTree
-state_in_loop_program = record { decls = ((ActorDecl (record { at = nowhere; returns = VoidType; name = (id (codes "main")); params = ((record { ty = IntType; name = (id (codes "p")) }) ∷ []); body = (DeclareStmt nowhere (record { state = true; ty = IntType; name = (id (codes "n")) }) (Some (IntExpr (pos 0))) (WhileStmt nowhere (BinaryExpr Lt (VarExpr (id (codes "n"))) (IntExpr (pos 2))) (DeclareStmt nowhere (record { state = true; ty = IntType; name = (id (codes "i")) }) (Some (BinaryExpr Mul (VarExpr (id (codes "n"))) (IntExpr (pos 10)))) (WaitStmt nowhere (record { into = None; next = false; operand = (CallExpr (id (codes "delay")) (MoreExprs (IntExpr (pos 1)) NoExprs)) }) (CallStmt nowhere ((id (codes "trace")) ∷ []) (MoreExprs (VarExpr (id (codes "i"))) NoExprs) (AssignStmt nowhere ((id (codes "n")) ∷ []) (BinaryExpr Add (VarExpr (id (codes "n"))) (IntExpr (pos 1))) End)))) (ReturnStmt nowhere VoidExpr End))); close = nowhere })) ∷ []); end = nowhere }
+state_in_loop_program = record {
+  decls = ((ActorDecl (record {
+    at = nowhere;
+    returns = VoidType;
+    name = (id (codes "main"));
+    params = ((record { ty = IntType; name = (id (codes "p")) }) ∷ []);
+    body = (DeclareStmt nowhere (record { state = true; ty = IntType; name = (id (codes "n")) }) (Some (IntExpr (pos 0)))
+        (WhileStmt nowhere (BinaryExpr Lt (VarExpr (id (codes "n"))) (IntExpr (pos 2)))
+        (DeclareStmt nowhere (record { state = true; ty = IntType; name = (id (codes "i")) }) (Some (BinaryExpr Mul (VarExpr (id (codes "n"))) (IntExpr (pos 10))))
+        (WaitStmt nowhere (record { into = None; next = false; operand = (CallExpr (id (codes "delay")) (MoreExprs (IntExpr (pos 1)) NoExprs)) })
+        (CallStmt nowhere ((id (codes "trace")) ∷ []) (MoreExprs (VarExpr (id (codes "i"))) NoExprs)
+        (AssignStmt nowhere ((id (codes "n")) ∷ []) (BinaryExpr Add (VarExpr (id (codes "n"))) (IntExpr (pos 1))) End)))) (ReturnStmt nowhere VoidExpr End)));
+    close = nowhere;
+  })) ∷ []);
+  end = nowhere;
+}
 
 abbrev state_in_loop_classes : RawTree
-state_in_loop_classes = record { records = []; functions = []; classes = ((record { name = (codes "main"); returns = VoidType; params = 1; slots = ((record { ty = IntType; name = (codes "p") }) ∷ (record { ty = IntType; name = (codes "n") }) ∷ (record { ty = IntType; name = (codes "i") }) ∷ []); locals = []; blocks = ((record { catcher = None; body = ((SetInstr ((id (codes "s1")) ∷ []) (IntExpr (pos 0))) ∷ []); last = (PassLast 1) }) ∷ (record { catcher = None; body = []; last = (TestLast (BinaryExpr Lt (VarExpr (id (codes "s1"))) (IntExpr (pos 2))) 2 4) }) ∷ (record { catcher = None; body = ((SetInstr ((id (codes "s2")) ∷ []) (BinaryExpr Mul (VarExpr (id (codes "s1"))) (IntExpr (pos 10)))) ∷ []); last = (ChooseLast 1) }) ∷ (record { catcher = None; body = ((ActInstr ((id (codes "trace")) ∷ []) (MoreExprs (VarExpr (id (codes "s2"))) NoExprs)) ∷ (SetInstr ((id (codes "s1")) ∷ []) (BinaryExpr Add (VarExpr (id (codes "s1"))) (IntExpr (pos 1)))) ∷ []); last = (PassLast 1) }) ∷ (record { catcher = None; body = []; last = (ReturnLast VoidExpr) }) ∷ []); groups = (((record { next = false; operand = (CallExpr (id (codes "delay")) (MoreExprs (IntExpr (pos 1)) NoExprs)); into = None; block = 3 }) ∷ []) ∷ []) }) ∷ []) }
+state_in_loop_classes = record {
+  records = [];
+  functions = [];
+  classes = ((record {
+    name = (codes "main");
+    returns = VoidType;
+    params = 1;
+    slots = ((record { ty = IntType; name = (codes "p") }) ∷ (record { ty = IntType; name = (codes "n") })
+        ∷ (record { ty = IntType; name = (codes "i") }) ∷ []);
+    locals = [];
+    blocks = ((record { catcher = None; body = ((SetInstr ((id (codes "s1")) ∷ []) (IntExpr (pos 0))) ∷ []); last = (PassLast 1) })
+        ∷ (record { catcher = None; body = []; last = (TestLast (BinaryExpr Lt (VarExpr (id (codes "s1"))) (IntExpr (pos 2))) 2 4) })
+        ∷ (record { catcher = None; body = ((SetInstr ((id (codes "s2")) ∷ []) (BinaryExpr Mul (VarExpr (id (codes "s1"))) (IntExpr (pos 10)))) ∷ []); last = (ChooseLast 1) })
+        ∷ (record {
+          catcher = None;
+          body = ((ActInstr ((id (codes "trace")) ∷ []) (MoreExprs (VarExpr (id (codes "s2"))) NoExprs))
+              ∷ (SetInstr ((id (codes "s1")) ∷ []) (BinaryExpr Add (VarExpr (id (codes "s1"))) (IntExpr (pos 1)))) ∷ []);
+          last = (PassLast 1);
+        })
+        ∷ (record { catcher = None; body = []; last = (ReturnLast VoidExpr) }) ∷ []);
+    groups = (((record { next = false; operand = (CallExpr (id (codes "delay")) (MoreExprs (IntExpr (pos 1)) NoExprs)); into = None; block = 3 }) ∷ []) ∷ []);
+  }) ∷ []);
+}
 
 abbrev second_operand_never_starts_program : ProgramTree
-second_operand_never_starts_program = record { decls = ((ActorDecl (record { at = nowhere; returns = IntType; name = (id (codes "one")); params = ((record { ty = IntType; name = (id (codes "v")) }) ∷ []); body = (ReturnStmt nowhere (VarExpr (id (codes "v"))) End); close = nowhere })) ∷ (ActorDecl (record { at = nowhere; returns = VoidType; name = (id (codes "main")); params = ((record { ty = IntType; name = (id (codes "p")) }) ∷ []); body = (ChooseStmt nowhere (MoreBranches nowhere (record { into = (Some (record { state = false; ty = IntType; name = (id (codes "x")) })); next = false; operand = (CallExpr (id (codes "one")) (MoreExprs (IntExpr (pos 7)) NoExprs)) }) (CallStmt nowhere ((id (codes "trace")) ∷ []) (MoreExprs (VarExpr (id (codes "x"))) NoExprs) End) (MoreBranches nowhere (record { into = (Some (record { state = false; ty = IntType; name = (id (codes "y")) })); next = false; operand = (CallExpr (id (codes "one")) (MoreExprs (IntExpr (pos 8)) NoExprs)) }) (CallStmt nowhere ((id (codes "trace")) ∷ []) (MoreExprs (VarExpr (id (codes "y"))) NoExprs) End) NoBranches)) (ReturnStmt nowhere VoidExpr End)); close = nowhere })) ∷ []); end = nowhere }
+second_operand_never_starts_program = record {
+  decls = ((ActorDecl
+      (record {
+        at = nowhere;
+        returns = IntType;
+        name = (id (codes "one"));
+        params = ((record { ty = IntType; name = (id (codes "v")) }) ∷ []);
+        body = (ReturnStmt nowhere (VarExpr (id (codes "v"))) End);
+        close = nowhere;
+      }))
+      ∷ (ActorDecl (record {
+        at = nowhere;
+        returns = VoidType;
+        name = (id (codes "main"));
+        params = ((record { ty = IntType; name = (id (codes "p")) }) ∷ []);
+        body = (ChooseStmt nowhere (MoreBranches nowhere (record {
+          into = (Some (record { state = false; ty = IntType; name = (id (codes "x")) }));
+          next = false;
+          operand = (CallExpr (id (codes "one")) (MoreExprs (IntExpr (pos 7)) NoExprs));
+        }) (CallStmt nowhere ((id (codes "trace")) ∷ []) (MoreExprs (VarExpr (id (codes "x"))) NoExprs) End)
+            (MoreBranches nowhere (record {
+              into = (Some (record { state = false; ty = IntType; name = (id (codes "y")) }));
+              next = false;
+              operand = (CallExpr (id (codes "one")) (MoreExprs (IntExpr (pos 8)) NoExprs));
+            }) (CallStmt nowhere ((id (codes "trace")) ∷ []) (MoreExprs (VarExpr (id (codes "y"))) NoExprs) End) NoBranches))
+            (ReturnStmt nowhere VoidExpr End));
+        close = nowhere;
+      })) ∷ []);
+  end = nowhere;
+}
 
 abbrev second_operand_never_starts_classes : RawTree
-second_operand_never_starts_classes = record { records = []; functions = []; classes = ((record { name = (codes "one"); returns = IntType; params = 1; slots = ((record { ty = IntType; name = (codes "v") }) ∷ []); locals = []; blocks = ((record { catcher = None; body = []; last = (ReturnLast (VarExpr (id (codes "s0")))) }) ∷ []); groups = [] }) ∷ (record { name = (codes "main"); returns = VoidType; params = 1; slots = ((record { ty = IntType; name = (codes "p") }) ∷ []); locals = (IntType ∷ IntType ∷ []); blocks = ((record { catcher = None; body = []; last = (ChooseLast 1) }) ∷ (record { catcher = None; body = ((ActInstr ((id (codes "trace")) ∷ []) (MoreExprs (VarExpr (id (codes "l0"))) NoExprs)) ∷ (DropInstr (0 ∷ [])) ∷ []); last = (GotoLast 3) }) ∷ (record { catcher = None; body = ((ActInstr ((id (codes "trace")) ∷ []) (MoreExprs (VarExpr (id (codes "l1"))) NoExprs)) ∷ (DropInstr (1 ∷ [])) ∷ []); last = (GotoLast 3) }) ∷ (record { catcher = None; body = []; last = (ReturnLast VoidExpr) }) ∷ []); groups = (((record { next = false; operand = (CallExpr (id (codes "one")) (MoreExprs (IntExpr (pos 7)) NoExprs)); into = (Some (Local 0)); block = 1 }) ∷ (record { next = false; operand = (CallExpr (id (codes "one")) (MoreExprs (IntExpr (pos 8)) NoExprs)); into = (Some (Local 1)); block = 2 }) ∷ []) ∷ []) }) ∷ []) }
+second_operand_never_starts_classes = record {
+  records = [];
+  functions = [];
+  classes = ((record {
+    name = (codes "one");
+    returns = IntType;
+    params = 1;
+    slots = ((record { ty = IntType; name = (codes "v") }) ∷ []);
+    locals = [];
+    blocks = ((record { catcher = None; body = []; last = (ReturnLast (VarExpr (id (codes "s0")))) }) ∷ []);
+    groups = [];
+  })
+      ∷ (record {
+        name = (codes "main");
+        returns = VoidType;
+        params = 1;
+        slots = ((record { ty = IntType; name = (codes "p") }) ∷ []);
+        locals = (IntType ∷ IntType ∷ []);
+        blocks = ((record { catcher = None; body = []; last = (ChooseLast 1) })
+            ∷ (record { catcher = None; body = ((ActInstr ((id (codes "trace")) ∷ []) (MoreExprs (VarExpr (id (codes "l0"))) NoExprs)) ∷ (DropInstr (0 ∷ [])) ∷ []); last = (GotoLast 3) })
+            ∷ (record { catcher = None; body = ((ActInstr ((id (codes "trace")) ∷ []) (MoreExprs (VarExpr (id (codes "l1"))) NoExprs)) ∷ (DropInstr (1 ∷ [])) ∷ []); last = (GotoLast 3) })
+            ∷ (record { catcher = None; body = []; last = (ReturnLast VoidExpr) }) ∷ []);
+        groups = (((record { next = false; operand = (CallExpr (id (codes "one")) (MoreExprs (IntExpr (pos 7)) NoExprs)); into = (Some (Local 0)); block = 1 })
+            ∷ (record { next = false; operand = (CallExpr (id (codes "one")) (MoreExprs (IntExpr (pos 8)) NoExprs)); into = (Some (Local 1)); block = 2 }) ∷ []) ∷ []);
+      }) ∷ []);
+}
 
 -- The body of the try stands in block 1, the handler in block 2, and what follows in block 3.
 overflow_caught_carried : CarriesProgram overflow_caught_program overflow_caught_classes

@@ -243,9 +243,11 @@ module _ (cells : ℕ → Option OutcomeTree) (now left : ℕ) where
   next_at (Chosen t) kept x y err st = (_, inr (still, shorter (source_at (ChosenLeaves t) x y err).rest), (ChosenLeaves t, x, y, err, st, tt, refl, refl))
   next_at (ChosenLeaves t) kept x y err st = (_, inr (still, shorter (source_at (ChosenDone t) x y err).rest), (ChosenDone t, x, y, err, st, tt, refl, refl))
   next_at (ChosenDone true) kept x y err st =
-      answered (seen kept) (source_at (ChosenDone true) x y err) (framed x y None 7 0 0) (frame_at (ChosenDone true) x y err st) (quiet (framed x y None 7 0 0) refl still) (returns kept true x y err 0)
+      answered (seen kept) (source_at (ChosenDone true) x y err) (framed x y None 7 0 0) (frame_at (ChosenDone true) x y err st) (quiet (framed x y None 7 0 0) refl still)
+      (returns kept true x y err 0)
   next_at (ChosenDone false) kept x y err st =
-      answered (seen kept) (source_at (ChosenDone false) x y err) (framed x y None 7 0 0) (frame_at (ChosenDone false) x y err st) (quiet (framed x y None 7 0 0) refl still) (returns kept false x y err 0)
+      answered (seen kept) (source_at (ChosenDone false) x y err) (framed x y None 7 0 0) (frame_at (ChosenDone false) x y err st) (quiet (framed x y None 7 0 0) refl still)
+      (returns kept false x y err 0)
   next_at Ended kept x y err st = (_, _, still, refl, (Ended, x, y, err, st, tt, refl, refl))
 
 -- what is handed to an actor that asked
@@ -255,14 +257,16 @@ lose_at Awaits x y err st h = (refl, (Awaits, x, y, err, st, tt, refl, refl))
 lose_at Chooses x y err st h = (refl, (Chooses, x, y, err, st, tt, refl, refl))
 lose_at s x y err st h = absurd h
 
-store_at : (s : Stage) (u : ValueTree) (x y : Option ValueTree) (err st : ℕ) → AsksAt s → Alike (Stands Free) ((source small_program).store u (source_at s x y err)) ((classes small_classes).store u (frame_at s x y err st))
+store_at : (s : Stage) (u : ValueTree) (x y : Option ValueTree) (err st : ℕ) → AsksAt s
+    → Alike (Stands Free) ((source small_program).store u (source_at s x y err)) ((classes small_classes).store u (frame_at s x y err st))
 unfolding digits
 store_at Starts u x y err st h = (refl, (Tries, x, Some u, err, st, tt, refl, refl))
 store_at Awaits u x y err st h = (refl, (Awaits, x, y, err, st, tt, refl, refl))
 store_at Chooses u x y err st h = (refl, (Chooses, x, y, err, st, tt, refl, refl))
 store_at s u x y err st h = absurd h
 
-take_at : (s : Stage) (n : ℕ) (u : ValueTree) (x y : Option ValueTree) (err st : ℕ) → AsksAt s → Alike (Stands Free) ((source small_program).take n u (source_at s x y err)) ((classes small_classes).take n u (frame_at s x y err st))
+take_at : (s : Stage) (n : ℕ) (u : ValueTree) (x y : Option ValueTree) (err st : ℕ) → AsksAt s
+    → Alike (Stands Free) ((source small_program).take n u (source_at s x y err)) ((classes small_classes).take n u (frame_at s x y err st))
 unfolding digits
 take_at Starts zero u x y err st h = (refl, (Starts, x, y, err, st, tt, refl, refl))
 take_at Starts (suc n) u x y err st h = (refl, (Starts, x, y, err, st, tt, refl, refl))
@@ -273,7 +277,8 @@ take_at Chooses (suc zero) u x y err st h = (refl, (Chosen false, x, y, err, 0, 
 take_at Chooses (suc (suc n)) u x y err st h = (refl, (Chooses, x, y, err, st, tt, refl, refl))
 take_at s n u x y err st h = absurd h
 
-raise_at : (s : Stage) (e : ℕ) (x y : Option ValueTree) (err st : ℕ) → AsksAt s → Alike (Stands Free) ((source small_program).raise e (source_at s x y err)) ((classes small_classes).raise e (frame_at s x y err st))
+raise_at : (s : Stage) (e : ℕ) (x y : Option ValueTree) (err st : ℕ) → AsksAt s
+    → Alike (Stands Free) ((source small_program).raise e (source_at s x y err)) ((classes small_classes).raise e (frame_at s x y err st))
 raise_at Starts e x y err st h = (refl, (Ended, None, None, 0, 0, tt, refl, refl))
 raise_at Awaits e x y err st h = (refl, (Caught, x, y, e, 0, tt, refl, refl))
 raise_at Chooses e x y err st h = (refl, (Ended, None, None, 0, 0, tt, refl, refl))

@@ -17,7 +17,17 @@ use Rattle.rand_pcg.specs.Lcg.{state_after}
 
 -- a timer whose event would need a sixth turn: the drop of the timer's own promise reference
 timer_turns_5_program : ProgramTree
-timer_turns_5_program = record { decls = ((ActorDecl (record { at = nowhere; returns = VoidType; name = (id (codes "main")); params = ((record { ty = IntType; name = (id (codes "p")) }) ∷ []); body = (WaitStmt nowhere (record { into = None; next = false; operand = (CallExpr (id (codes "delay")) (MoreExprs (IntExpr (pos 1)) NoExprs)) }) (ReturnStmt nowhere VoidExpr End)); close = nowhere })) ∷ []); end = nowhere }
+timer_turns_5_program = record {
+  decls = ((ActorDecl (record {
+    at = nowhere;
+    returns = VoidType;
+    name = (id (codes "main"));
+    params = ((record { ty = IntType; name = (id (codes "p")) }) ∷ []);
+    body = (WaitStmt nowhere (record { into = None; next = false; operand = (CallExpr (id (codes "delay")) (MoreExprs (IntExpr (pos 1)) NoExprs)) }) (ReturnStmt nowhere VoidExpr End));
+    close = nowhere;
+  })) ∷ []);
+  end = nowhere;
+}
 
 timer_turns_5_world : World
 timer_turns_5_world = record { seed = 0; words = []; processes = 1; events = 1000; turns = 5; latency = (1, 2); loss = 0; diskdelay = (1, 2); script = [] }
@@ -39,7 +49,17 @@ timer_turns_5 = source_trace 20 400 timer_turns_5_program timer_turns_5_world ti
 
 -- the same timer with six turns
 timer_turns_6_program : ProgramTree
-timer_turns_6_program = record { decls = ((ActorDecl (record { at = nowhere; returns = VoidType; name = (id (codes "main")); params = ((record { ty = IntType; name = (id (codes "p")) }) ∷ []); body = (WaitStmt nowhere (record { into = None; next = false; operand = (CallExpr (id (codes "delay")) (MoreExprs (IntExpr (pos 1)) NoExprs)) }) (ReturnStmt nowhere VoidExpr End)); close = nowhere })) ∷ []); end = nowhere }
+timer_turns_6_program = record {
+  decls = ((ActorDecl (record {
+    at = nowhere;
+    returns = VoidType;
+    name = (id (codes "main"));
+    params = ((record { ty = IntType; name = (id (codes "p")) }) ∷ []);
+    body = (WaitStmt nowhere (record { into = None; next = false; operand = (CallExpr (id (codes "delay")) (MoreExprs (IntExpr (pos 1)) NoExprs)) }) (ReturnStmt nowhere VoidExpr End));
+    close = nowhere;
+  })) ∷ []);
+  end = nowhere;
+}
 
 timer_turns_6_world : World
 timer_turns_6_world = record { seed = 0; words = []; processes = 1; events = 1000; turns = 6; latency = (1, 2); loss = 0; diskdelay = (1, 2); script = [] }
@@ -61,7 +81,30 @@ timer_turns_6 = source_trace 20 400 timer_turns_6_program timer_turns_6_world ti
 
 -- no branch is ready at its own test, and the second operand makes the first branch ready: the second test takes it
 second_test_program : ProgramTree
-second_test_program = record { decls = ((ActorDecl (record { at = nowhere; returns = VoidType; name = (id (codes "starter")); params = ((record { ty = (PromiseType VoidType); name = (id (codes "q")) }) ∷ []); body = (CallStmt nowhere ((id (codes "q")) ∷ (id (codes "send")) ∷ []) (MoreExprs VoidExpr NoExprs) (WaitStmt nowhere (record { into = None; next = false; operand = (CallExpr (id (codes "Never")) NoExprs) }) (ReturnStmt nowhere VoidExpr End))); close = nowhere })) ∷ (ActorDecl (record { at = nowhere; returns = VoidType; name = (id (codes "main")); params = ((record { ty = IntType; name = (id (codes "p")) }) ∷ []); body = (DeclareStmt nowhere (record { state = true; ty = (PromiseType VoidType); name = (id (codes "q")) }) None (ChooseStmt nowhere (MoreBranches nowhere (record { into = None; next = false; operand = (MethodExpr (VarExpr (id (codes "q"))) (id (codes "getFuture")) NoExprs) }) (CallStmt nowhere ((id (codes "trace")) ∷ []) (MoreExprs (TextExpr (codes "first")) NoExprs) End) (MoreBranches nowhere (record { into = None; next = false; operand = (CallExpr (id (codes "starter")) (MoreExprs (VarExpr (id (codes "q"))) NoExprs)) }) (CallStmt nowhere ((id (codes "trace")) ∷ []) (MoreExprs (TextExpr (codes "second")) NoExprs) End) NoBranches)) (ReturnStmt nowhere VoidExpr End))); close = nowhere })) ∷ []); end = nowhere }
+second_test_program = record {
+  decls = ((ActorDecl (record {
+    at = nowhere;
+    returns = VoidType;
+    name = (id (codes "starter"));
+    params = ((record { ty = (PromiseType VoidType); name = (id (codes "q")) }) ∷ []);
+    body = (CallStmt nowhere ((id (codes "q")) ∷ (id (codes "send")) ∷ []) (MoreExprs VoidExpr NoExprs)
+        (WaitStmt nowhere (record { into = None; next = false; operand = (CallExpr (id (codes "Never")) NoExprs) }) (ReturnStmt nowhere VoidExpr End)));
+    close = nowhere;
+  }))
+      ∷ (ActorDecl (record {
+        at = nowhere;
+        returns = VoidType;
+        name = (id (codes "main"));
+        params = ((record { ty = IntType; name = (id (codes "p")) }) ∷ []);
+        body = (DeclareStmt nowhere (record { state = true; ty = (PromiseType VoidType); name = (id (codes "q")) }) None
+            (ChooseStmt nowhere (MoreBranches nowhere (record { into = None; next = false; operand = (MethodExpr (VarExpr (id (codes "q"))) (id (codes "getFuture")) NoExprs) })
+            (CallStmt nowhere ((id (codes "trace")) ∷ []) (MoreExprs (TextExpr (codes "first")) NoExprs) End)
+            (MoreBranches nowhere (record { into = None; next = false; operand = (CallExpr (id (codes "starter")) (MoreExprs (VarExpr (id (codes "q"))) NoExprs)) })
+            (CallStmt nowhere ((id (codes "trace")) ∷ []) (MoreExprs (TextExpr (codes "second")) NoExprs) End) NoBranches)) (ReturnStmt nowhere VoidExpr End)));
+        close = nowhere;
+      })) ∷ []);
+  end = nowhere;
+}
 
 second_test_world : World
 second_test_world = record { seed = 0; words = []; processes = 1; events = 1000; turns = 100000; latency = (1, 2); loss = 0; diskdelay = (1, 2); script = [] }
@@ -87,7 +130,29 @@ second_test = source_trace 20 400 second_test_program second_test_world second_t
 
 -- a later operand that is ready at its own test is taken before an earlier branch that became ready meanwhile
 own_test_before_second_program : ProgramTree
-own_test_before_second_program = record { decls = ((ActorDecl (record { at = nowhere; returns = VoidType; name = (id (codes "quick")); params = ((record { ty = (PromiseType VoidType); name = (id (codes "q")) }) ∷ []); body = (CallStmt nowhere ((id (codes "q")) ∷ (id (codes "send")) ∷ []) (MoreExprs VoidExpr NoExprs) (ReturnStmt nowhere VoidExpr End)); close = nowhere })) ∷ (ActorDecl (record { at = nowhere; returns = VoidType; name = (id (codes "main")); params = ((record { ty = IntType; name = (id (codes "p")) }) ∷ []); body = (DeclareStmt nowhere (record { state = true; ty = (PromiseType VoidType); name = (id (codes "q")) }) None (ChooseStmt nowhere (MoreBranches nowhere (record { into = None; next = false; operand = (MethodExpr (VarExpr (id (codes "q"))) (id (codes "getFuture")) NoExprs) }) (CallStmt nowhere ((id (codes "trace")) ∷ []) (MoreExprs (TextExpr (codes "first")) NoExprs) End) (MoreBranches nowhere (record { into = None; next = false; operand = (CallExpr (id (codes "quick")) (MoreExprs (VarExpr (id (codes "q"))) NoExprs)) }) (CallStmt nowhere ((id (codes "trace")) ∷ []) (MoreExprs (TextExpr (codes "second")) NoExprs) End) NoBranches)) (ReturnStmt nowhere VoidExpr End))); close = nowhere })) ∷ []); end = nowhere }
+own_test_before_second_program = record {
+  decls = ((ActorDecl (record {
+    at = nowhere;
+    returns = VoidType;
+    name = (id (codes "quick"));
+    params = ((record { ty = (PromiseType VoidType); name = (id (codes "q")) }) ∷ []);
+    body = (CallStmt nowhere ((id (codes "q")) ∷ (id (codes "send")) ∷ []) (MoreExprs VoidExpr NoExprs) (ReturnStmt nowhere VoidExpr End));
+    close = nowhere;
+  }))
+      ∷ (ActorDecl (record {
+        at = nowhere;
+        returns = VoidType;
+        name = (id (codes "main"));
+        params = ((record { ty = IntType; name = (id (codes "p")) }) ∷ []);
+        body = (DeclareStmt nowhere (record { state = true; ty = (PromiseType VoidType); name = (id (codes "q")) }) None
+            (ChooseStmt nowhere (MoreBranches nowhere (record { into = None; next = false; operand = (MethodExpr (VarExpr (id (codes "q"))) (id (codes "getFuture")) NoExprs) })
+            (CallStmt nowhere ((id (codes "trace")) ∷ []) (MoreExprs (TextExpr (codes "first")) NoExprs) End)
+            (MoreBranches nowhere (record { into = None; next = false; operand = (CallExpr (id (codes "quick")) (MoreExprs (VarExpr (id (codes "q"))) NoExprs)) })
+            (CallStmt nowhere ((id (codes "trace")) ∷ []) (MoreExprs (TextExpr (codes "second")) NoExprs) End) NoBranches)) (ReturnStmt nowhere VoidExpr End)));
+        close = nowhere;
+      })) ∷ []);
+  end = nowhere;
+}
 
 own_test_before_second_world : World
 own_test_before_second_world = record { seed = 0; words = []; processes = 1; events = 1000; turns = 100000; latency = (1, 2); loss = 0; diskdelay = (1, 2); script = [] }
@@ -110,7 +175,32 @@ own_test_before_second = source_trace 20 400 own_test_before_second_program own_
 
 -- an error in an operand: the operands kept are dropped, then the locals of the try body, and no other local
 error_in_second_operand_program : ProgramTree
-error_in_second_operand_program = record { decls = ((ActorDecl (record { at = nowhere; returns = VoidType; name = (id (codes "leaf")); params = ((record { ty = IntType; name = (id (codes "n")) }) ∷ []); body = (WaitStmt nowhere (record { into = None; next = false; operand = (CallExpr (id (codes "Never")) NoExprs) }) (ReturnStmt nowhere VoidExpr End)); close = nowhere })) ∷ (ActorDecl (record { at = nowhere; returns = VoidType; name = (id (codes "main")); params = ((record { ty = IntType; name = (id (codes "p")) }) ∷ []); body = (DeclareStmt nowhere (record { state = false; ty = (FutureType VoidType); name = (id (codes "out")) }) (Some (CallExpr (id (codes "leaf")) (MoreExprs (IntExpr (pos 1)) NoExprs))) (TryStmt nowhere (DeclareStmt nowhere (record { state = false; ty = (FutureType VoidType); name = (id (codes "in")) }) (Some (CallExpr (id (codes "leaf")) (MoreExprs (IntExpr (pos 2)) NoExprs))) (ChooseStmt nowhere (MoreBranches nowhere (record { into = None; next = false; operand = (CallExpr (id (codes "leaf")) (MoreExprs (IntExpr (pos 3)) NoExprs)) }) End (MoreBranches nowhere (record { into = None; next = false; operand = (CallExpr (id (codes "delay")) (MoreExprs (BinaryExpr Div (IntExpr (pos 1)) (VarExpr (id (codes "p")))) NoExprs)) }) End NoBranches)) End)) nowhere (id (codes "e")) (CallStmt nowhere ((id (codes "trace")) ∷ []) (MoreExprs (MethodExpr (VarExpr (id (codes "e"))) (id (codes "code")) NoExprs) NoExprs) End) (ReturnStmt nowhere VoidExpr End))); close = nowhere })) ∷ []); end = nowhere }
+error_in_second_operand_program = record {
+  decls = ((ActorDecl (record {
+    at = nowhere;
+    returns = VoidType;
+    name = (id (codes "leaf"));
+    params = ((record { ty = IntType; name = (id (codes "n")) }) ∷ []);
+    body = (WaitStmt nowhere (record { into = None; next = false; operand = (CallExpr (id (codes "Never")) NoExprs) }) (ReturnStmt nowhere VoidExpr End));
+    close = nowhere;
+  }))
+      ∷ (ActorDecl (record {
+        at = nowhere;
+        returns = VoidType;
+        name = (id (codes "main"));
+        params = ((record { ty = IntType; name = (id (codes "p")) }) ∷ []);
+        body = (DeclareStmt nowhere (record { state = false; ty = (FutureType VoidType); name = (id (codes "out")) }) (Some (CallExpr (id (codes "leaf")) (MoreExprs (IntExpr (pos 1)) NoExprs)))
+            (TryStmt nowhere (DeclareStmt nowhere (record { state = false; ty = (FutureType VoidType); name = (id (codes "in")) })
+                (Some (CallExpr (id (codes "leaf")) (MoreExprs (IntExpr (pos 2)) NoExprs)))
+            (ChooseStmt nowhere (MoreBranches nowhere (record { into = None; next = false; operand = (CallExpr (id (codes "leaf")) (MoreExprs (IntExpr (pos 3)) NoExprs)) }) End
+            (MoreBranches nowhere (record { into = None; next = false; operand = (CallExpr (id (codes "delay")) (MoreExprs (BinaryExpr Div (IntExpr (pos 1)) (VarExpr (id (codes "p")))) NoExprs)) })
+                End
+            NoBranches)) End)) nowhere (id (codes "e")) (CallStmt nowhere ((id (codes "trace")) ∷ []) (MoreExprs (MethodExpr (VarExpr (id (codes "e"))) (id (codes "code")) NoExprs) NoExprs) End)
+            (ReturnStmt nowhere VoidExpr End)));
+        close = nowhere;
+      })) ∷ []);
+  end = nowhere;
+}
 
 error_in_second_operand_world : World
 error_in_second_operand_world = record { seed = 0; words = []; processes = 1; events = 1000; turns = 100000; latency = (1, 2); loss = 0; diskdelay = (1, 2); script = [] }
@@ -147,7 +237,39 @@ error_in_second_operand = source_trace 20 400 error_in_second_operand_program er
 
 -- a second waiter at one stream: all operands are dropped, then all locals, and then 9003 is thrown
 refused_registration_program : ProgramTree
-refused_registration_program = record { decls = ((ActorDecl (record { at = nowhere; returns = VoidType; name = (id (codes "leaf")); params = ((record { ty = IntType; name = (id (codes "n")) }) ∷ []); body = (WaitStmt nowhere (record { into = None; next = false; operand = (CallExpr (id (codes "Never")) NoExprs) }) (ReturnStmt nowhere VoidExpr End)); close = nowhere })) ∷ (ActorDecl (record { at = nowhere; returns = VoidType; name = (id (codes "main")); params = ((record { ty = IntType; name = (id (codes "p")) }) ∷ []); body = (DeclareStmt nowhere (record { state = true; ty = (PromiseStreamType IntType); name = (id (codes "q")) }) None (DeclareStmt nowhere (record { state = false; ty = (FutureType VoidType); name = (id (codes "local")) }) (Some (CallExpr (id (codes "leaf")) (MoreExprs (IntExpr (pos 1)) NoExprs))) (TryStmt nowhere (ChooseStmt nowhere (MoreBranches nowhere (record { into = None; next = false; operand = (CallExpr (id (codes "leaf")) (MoreExprs (IntExpr (pos 2)) NoExprs)) }) End (MoreBranches nowhere (record { into = (Some (record { state = false; ty = IntType; name = (id (codes "a")) })); next = true; operand = (MethodExpr (VarExpr (id (codes "q"))) (id (codes "getFuture")) NoExprs) }) End (MoreBranches nowhere (record { into = (Some (record { state = false; ty = IntType; name = (id (codes "b")) })); next = true; operand = (MethodExpr (VarExpr (id (codes "q"))) (id (codes "getFuture")) NoExprs) }) End NoBranches))) End) nowhere (id (codes "e")) (CallStmt nowhere ((id (codes "trace")) ∷ []) (MoreExprs (MethodExpr (VarExpr (id (codes "e"))) (id (codes "code")) NoExprs) NoExprs) End) (ReturnStmt nowhere VoidExpr End)))); close = nowhere })) ∷ []); end = nowhere }
+refused_registration_program = record {
+  decls = ((ActorDecl (record {
+    at = nowhere;
+    returns = VoidType;
+    name = (id (codes "leaf"));
+    params = ((record { ty = IntType; name = (id (codes "n")) }) ∷ []);
+    body = (WaitStmt nowhere (record { into = None; next = false; operand = (CallExpr (id (codes "Never")) NoExprs) }) (ReturnStmt nowhere VoidExpr End));
+    close = nowhere;
+  }))
+      ∷ (ActorDecl (record {
+        at = nowhere;
+        returns = VoidType;
+        name = (id (codes "main"));
+        params = ((record { ty = IntType; name = (id (codes "p")) }) ∷ []);
+        body = (DeclareStmt nowhere (record { state = true; ty = (PromiseStreamType IntType); name = (id (codes "q")) }) None
+            (DeclareStmt nowhere (record { state = false; ty = (FutureType VoidType); name = (id (codes "local")) }) (Some (CallExpr (id (codes "leaf")) (MoreExprs (IntExpr (pos 1)) NoExprs)))
+            (TryStmt nowhere (ChooseStmt nowhere (MoreBranches nowhere (record { into = None; next = false; operand = (CallExpr (id (codes "leaf")) (MoreExprs (IntExpr (pos 2)) NoExprs)) }) End
+            (MoreBranches nowhere (record {
+              into = (Some (record { state = false; ty = IntType; name = (id (codes "a")) }));
+              next = true;
+              operand = (MethodExpr (VarExpr (id (codes "q"))) (id (codes "getFuture")) NoExprs);
+            }) End
+            (MoreBranches nowhere (record {
+              into = (Some (record { state = false; ty = IntType; name = (id (codes "b")) }));
+              next = true;
+              operand = (MethodExpr (VarExpr (id (codes "q"))) (id (codes "getFuture")) NoExprs);
+            }) End NoBranches))) End) nowhere (id (codes "e"))
+            (CallStmt nowhere ((id (codes "trace")) ∷ []) (MoreExprs (MethodExpr (VarExpr (id (codes "e"))) (id (codes "code")) NoExprs) NoExprs) End) (ReturnStmt nowhere VoidExpr End))));
+        close = nowhere;
+      }))
+      ∷ []);
+  end = nowhere;
+}
 
 refused_registration_world : World
 refused_registration_world = record { seed = 0; words = []; processes = 1; events = 1000; turns = 100000; latency = (1, 2); loss = 0; diskdelay = (1, 2); script = [] }
@@ -179,7 +301,63 @@ refused_registration = source_trace 20 400 refused_registration_program refused_
 
 -- an actor that is cancelled while an operand of its wait starts: it leaves the wait before the next test
 cancelled_while_starting_program : ProgramTree
-cancelled_while_starting_program = record { decls = ((ActorDecl (record { at = nowhere; returns = VoidType; name = (id (codes "victim")); params = ((record { ty = (FutureType VoidType); name = (id (codes "go")) }) ∷ (record { ty = (PromiseType VoidType); name = (id (codes "tell")) }) ∷ []); body = (WaitStmt nowhere (record { into = None; next = false; operand = (VarExpr (id (codes "go"))) }) (ChooseStmt nowhere (MoreBranches nowhere (record { into = None; next = false; operand = (CallExpr (id (codes "leaf")) (MoreExprs (IntExpr (pos 1)) NoExprs)) }) End (MoreBranches nowhere (record { into = None; next = false; operand = (CallExpr (id (codes "poke")) (MoreExprs (VarExpr (id (codes "tell"))) NoExprs)) }) End NoBranches)) (ReturnStmt nowhere VoidExpr End))); close = nowhere })) ∷ (ActorDecl (record { at = nowhere; returns = VoidType; name = (id (codes "poke")); params = ((record { ty = (PromiseType VoidType); name = (id (codes "tell")) }) ∷ []); body = (CallStmt nowhere ((id (codes "tell")) ∷ (id (codes "send")) ∷ []) (MoreExprs VoidExpr NoExprs) (WaitStmt nowhere (record { into = None; next = false; operand = (CallExpr (id (codes "Never")) NoExprs) }) (ReturnStmt nowhere VoidExpr End))); close = nowhere })) ∷ (ActorDecl (record { at = nowhere; returns = VoidType; name = (id (codes "leaf")); params = ((record { ty = IntType; name = (id (codes "n")) }) ∷ []); body = (WaitStmt nowhere (record { into = None; next = false; operand = (CallExpr (id (codes "Never")) NoExprs) }) (ReturnStmt nowhere VoidExpr End)); close = nowhere })) ∷ (ActorDecl (record { at = nowhere; returns = VoidType; name = (id (codes "main")); params = ((record { ty = IntType; name = (id (codes "p")) }) ∷ []); body = (DeclareStmt nowhere (record { state = true; ty = (PromiseType VoidType); name = (id (codes "go")) }) None (DeclareStmt nowhere (record { state = true; ty = (PromiseType VoidType); name = (id (codes "tell")) }) None (DeclareStmt nowhere (record { state = true; ty = (FutureType VoidType); name = (id (codes "v")) }) (Some (CallExpr (id (codes "victim")) (MoreExprs (MethodExpr (VarExpr (id (codes "go"))) (id (codes "getFuture")) NoExprs) (MoreExprs (VarExpr (id (codes "tell"))) NoExprs)))) (DeclareStmt nowhere (record { state = true; ty = (FutureType VoidType); name = (id (codes "k")) }) (Some (CallExpr (id (codes "killer")) (MoreExprs (MethodExpr (VarExpr (id (codes "tell"))) (id (codes "getFuture")) NoExprs) (MoreExprs (VarExpr (id (codes "v"))) NoExprs)))) (AssignStmt nowhere ((id (codes "v")) ∷ []) (CallExpr (id (codes "Never")) NoExprs) (CallStmt nowhere ((id (codes "go")) ∷ (id (codes "send")) ∷ []) (MoreExprs VoidExpr NoExprs) (CallStmt nowhere ((id (codes "trace")) ∷ []) (MoreExprs (TextExpr (codes "after")) NoExprs) (ReturnStmt nowhere VoidExpr End)))))))); close = nowhere })) ∷ (ActorDecl (record { at = nowhere; returns = VoidType; name = (id (codes "killer")); params = ((record { ty = (FutureType VoidType); name = (id (codes "told")) }) ∷ (record { ty = (FutureType VoidType); name = (id (codes "v")) }) ∷ []); body = (WaitStmt nowhere (record { into = None; next = false; operand = (VarExpr (id (codes "told"))) }) (AssignStmt nowhere ((id (codes "v")) ∷ []) (CallExpr (id (codes "Never")) NoExprs) (CallStmt nowhere ((id (codes "trace")) ∷ []) (MoreExprs (TextExpr (codes "dropped")) NoExprs) (ReturnStmt nowhere VoidExpr End)))); close = nowhere })) ∷ []); end = nowhere }
+cancelled_while_starting_program = record {
+  decls = ((ActorDecl (record {
+    at = nowhere;
+    returns = VoidType;
+    name = (id (codes "victim"));
+    params = ((record { ty = (FutureType VoidType); name = (id (codes "go")) }) ∷ (record { ty = (PromiseType VoidType); name = (id (codes "tell")) }) ∷ []);
+    body = (WaitStmt nowhere (record { into = None; next = false; operand = (VarExpr (id (codes "go"))) })
+        (ChooseStmt nowhere (MoreBranches nowhere (record { into = None; next = false; operand = (CallExpr (id (codes "leaf")) (MoreExprs (IntExpr (pos 1)) NoExprs)) }) End
+        (MoreBranches nowhere (record { into = None; next = false; operand = (CallExpr (id (codes "poke")) (MoreExprs (VarExpr (id (codes "tell"))) NoExprs)) }) End NoBranches))
+        (ReturnStmt nowhere VoidExpr End)));
+    close = nowhere;
+  })) ∷ (ActorDecl
+      (record {
+        at = nowhere;
+        returns = VoidType;
+        name = (id (codes "poke"));
+        params = ((record { ty = (PromiseType VoidType); name = (id (codes "tell")) }) ∷ []);
+        body = (CallStmt nowhere ((id (codes "tell")) ∷ (id (codes "send")) ∷ []) (MoreExprs VoidExpr NoExprs)
+            (WaitStmt nowhere (record { into = None; next = false; operand = (CallExpr (id (codes "Never")) NoExprs) }) (ReturnStmt nowhere VoidExpr End)));
+        close = nowhere;
+      }))
+      ∷ (ActorDecl (record {
+        at = nowhere;
+        returns = VoidType;
+        name = (id (codes "leaf"));
+        params = ((record { ty = IntType; name = (id (codes "n")) }) ∷ []);
+        body = (WaitStmt nowhere (record { into = None; next = false; operand = (CallExpr (id (codes "Never")) NoExprs) }) (ReturnStmt nowhere VoidExpr End));
+        close = nowhere;
+      }))
+      ∷ (ActorDecl (record {
+        at = nowhere;
+        returns = VoidType;
+        name = (id (codes "main"));
+        params = ((record { ty = IntType; name = (id (codes "p")) }) ∷ []);
+        body = (DeclareStmt nowhere (record { state = true; ty = (PromiseType VoidType); name = (id (codes "go")) }) None
+            (DeclareStmt nowhere (record { state = true; ty = (PromiseType VoidType); name = (id (codes "tell")) }) None
+            (DeclareStmt nowhere (record { state = true; ty = (FutureType VoidType); name = (id (codes "v")) })
+            (Some (CallExpr (id (codes "victim")) (MoreExprs (MethodExpr (VarExpr (id (codes "go"))) (id (codes "getFuture")) NoExprs) (MoreExprs (VarExpr (id (codes "tell"))) NoExprs))))
+            (DeclareStmt nowhere (record { state = true; ty = (FutureType VoidType); name = (id (codes "k")) })
+            (Some (CallExpr (id (codes "killer")) (MoreExprs (MethodExpr (VarExpr (id (codes "tell"))) (id (codes "getFuture")) NoExprs) (MoreExprs (VarExpr (id (codes "v"))) NoExprs))))
+            (AssignStmt nowhere ((id (codes "v")) ∷ []) (CallExpr (id (codes "Never")) NoExprs)
+            (CallStmt nowhere ((id (codes "go")) ∷ (id (codes "send")) ∷ []) (MoreExprs VoidExpr NoExprs)
+            (CallStmt nowhere ((id (codes "trace")) ∷ []) (MoreExprs (TextExpr (codes "after")) NoExprs) (ReturnStmt nowhere VoidExpr End))))))));
+        close = nowhere;
+      }))
+      ∷ (ActorDecl (record {
+        at = nowhere;
+        returns = VoidType;
+        name = (id (codes "killer"));
+        params = ((record { ty = (FutureType VoidType); name = (id (codes "told")) }) ∷ (record { ty = (FutureType VoidType); name = (id (codes "v")) }) ∷ []);
+        body = (WaitStmt nowhere (record { into = None; next = false; operand = (VarExpr (id (codes "told"))) })
+            (AssignStmt nowhere ((id (codes "v")) ∷ []) (CallExpr (id (codes "Never")) NoExprs)
+            (CallStmt nowhere ((id (codes "trace")) ∷ []) (MoreExprs (TextExpr (codes "dropped")) NoExprs) (ReturnStmt nowhere VoidExpr End))));
+        close = nowhere;
+      })) ∷ []);
+  end = nowhere;
+}
 
 cancelled_while_starting_world : World
 cancelled_while_starting_world = record { seed = 0; words = []; processes = 1; events = 1000; turns = 100000; latency = (1, 2); loss = 0; diskdelay = (1, 2); script = [] }
@@ -220,7 +398,31 @@ cancelled_while_starting = source_trace 20 400 cancelled_while_starting_program 
 
 -- a state variable that is declared again: the new cell is numbered first, then the old one is broken
 promise_again_in_loop_program : ProgramTree
-promise_again_in_loop_program = record { decls = ((ActorDecl (record { at = nowhere; returns = VoidType; name = (id (codes "watch")); params = ((record { ty = (FutureType VoidType); name = (id (codes "f")) }) ∷ []); body = (TryStmt nowhere (WaitStmt nowhere (record { into = None; next = false; operand = (VarExpr (id (codes "f"))) }) End) nowhere (id (codes "e")) (CallStmt nowhere ((id (codes "trace")) ∷ []) (MoreExprs (MethodExpr (VarExpr (id (codes "e"))) (id (codes "code")) NoExprs) NoExprs) End) (ReturnStmt nowhere VoidExpr End)); close = nowhere })) ∷ (ActorDecl (record { at = nowhere; returns = VoidType; name = (id (codes "main")); params = ((record { ty = IntType; name = (id (codes "p")) }) ∷ []); body = (DeclareStmt nowhere (record { state = true; ty = IntType; name = (id (codes "i")) }) (Some (IntExpr (pos 0))) (DeclareStmt nowhere (record { state = true; ty = (FutureType VoidType); name = (id (codes "w")) }) (Some (CallExpr (id (codes "Never")) NoExprs)) (WhileStmt nowhere (BinaryExpr Lt (VarExpr (id (codes "i"))) (IntExpr (pos 2))) (DeclareStmt nowhere (record { state = true; ty = (PromiseType VoidType); name = (id (codes "q")) }) None (AssignStmt nowhere ((id (codes "w")) ∷ []) (CallExpr (id (codes "watch")) (MoreExprs (MethodExpr (VarExpr (id (codes "q"))) (id (codes "getFuture")) NoExprs) NoExprs)) (ModifyStmt nowhere ((id (codes "i")) ∷ []) UpChange End))) (ReturnStmt nowhere VoidExpr End)))); close = nowhere })) ∷ []); end = nowhere }
+promise_again_in_loop_program = record {
+  decls = ((ActorDecl (record {
+    at = nowhere;
+    returns = VoidType;
+    name = (id (codes "watch"));
+    params = ((record { ty = (FutureType VoidType); name = (id (codes "f")) }) ∷ []);
+    body = (TryStmt nowhere (WaitStmt nowhere (record { into = None; next = false; operand = (VarExpr (id (codes "f"))) }) End) nowhere (id (codes "e"))
+        (CallStmt nowhere ((id (codes "trace")) ∷ []) (MoreExprs (MethodExpr (VarExpr (id (codes "e"))) (id (codes "code")) NoExprs) NoExprs) End) (ReturnStmt nowhere VoidExpr End));
+    close = nowhere;
+  }))
+      ∷ (ActorDecl (record {
+        at = nowhere;
+        returns = VoidType;
+        name = (id (codes "main"));
+        params = ((record { ty = IntType; name = (id (codes "p")) }) ∷ []);
+        body = (DeclareStmt nowhere (record { state = true; ty = IntType; name = (id (codes "i")) }) (Some (IntExpr (pos 0)))
+            (DeclareStmt nowhere (record { state = true; ty = (FutureType VoidType); name = (id (codes "w")) }) (Some (CallExpr (id (codes "Never")) NoExprs))
+            (WhileStmt nowhere (BinaryExpr Lt (VarExpr (id (codes "i"))) (IntExpr (pos 2)))
+            (DeclareStmt nowhere (record { state = true; ty = (PromiseType VoidType); name = (id (codes "q")) }) None
+            (AssignStmt nowhere ((id (codes "w")) ∷ []) (CallExpr (id (codes "watch")) (MoreExprs (MethodExpr (VarExpr (id (codes "q"))) (id (codes "getFuture")) NoExprs) NoExprs))
+            (ModifyStmt nowhere ((id (codes "i")) ∷ []) UpChange End))) (ReturnStmt nowhere VoidExpr End))));
+        close = nowhere;
+      })) ∷ []);
+  end = nowhere;
+}
 
 promise_again_in_loop_world : World
 promise_again_in_loop_world = record { seed = 0; words = []; processes = 1; events = 1000; turns = 100000; latency = (1, 2); loss = 0; diskdelay = (1, 2); script = [] }
@@ -255,7 +457,33 @@ promise_again_in_loop = source_trace 20 400 promise_again_in_loop_program promis
 
 -- a suspended actor whose dropped local holds its own last future: it is cancelled at once
 own_future_in_a_local_program : ProgramTree
-own_future_in_a_local_program = record { decls = ((ActorDecl (record { at = nowhere; returns = VoidType; name = (id (codes "self")); params = ((record { ty = (FutureStreamType (FutureType VoidType)); name = (id (codes "box")) }) ∷ []); body = (WaitStmt nowhere (record { into = (Some (record { state = false; ty = (FutureType VoidType); name = (id (codes "me")) })); next = true; operand = (VarExpr (id (codes "box"))) }) (CallStmt nowhere ((id (codes "trace")) ∷ []) (MoreExprs (MethodExpr (VarExpr (id (codes "me"))) (id (codes "isReady")) NoExprs) NoExprs) (WaitStmt nowhere (record { into = None; next = false; operand = (CallExpr (id (codes "Never")) NoExprs) }) (ReturnStmt nowhere VoidExpr End)))); close = nowhere })) ∷ (ActorDecl (record { at = nowhere; returns = VoidType; name = (id (codes "main")); params = ((record { ty = IntType; name = (id (codes "p")) }) ∷ []); body = (DeclareStmt nowhere (record { state = true; ty = (PromiseStreamType (FutureType VoidType)); name = (id (codes "box")) }) None (DeclareStmt nowhere (record { state = false; ty = (FutureType VoidType); name = (id (codes "f")) }) (Some (CallExpr (id (codes "self")) (MoreExprs (MethodExpr (VarExpr (id (codes "box"))) (id (codes "getFuture")) NoExprs) NoExprs))) (CallStmt nowhere ((id (codes "box")) ∷ (id (codes "send")) ∷ []) (MoreExprs (VarExpr (id (codes "f"))) NoExprs) (CallStmt nowhere ((id (codes "trace")) ∷ []) (MoreExprs (TextExpr (codes "sent")) NoExprs) (WaitStmt nowhere (record { into = None; next = false; operand = (CallExpr (id (codes "delay")) (MoreExprs (IntExpr (pos 1)) NoExprs)) }) (CallStmt nowhere ((id (codes "trace")) ∷ []) (MoreExprs (TextExpr (codes "later")) NoExprs) (ReturnStmt nowhere VoidExpr End))))))); close = nowhere })) ∷ []); end = nowhere }
+own_future_in_a_local_program = record {
+  decls = ((ActorDecl (record {
+    at = nowhere;
+    returns = VoidType;
+    name = (id (codes "self"));
+    params = ((record { ty = (FutureStreamType (FutureType VoidType)); name = (id (codes "box")) }) ∷ []);
+    body = (WaitStmt nowhere (record { into = (Some (record { state = false; ty = (FutureType VoidType); name = (id (codes "me")) })); next = true; operand = (VarExpr (id (codes "box"))) })
+        (CallStmt nowhere ((id (codes "trace")) ∷ []) (MoreExprs (MethodExpr (VarExpr (id (codes "me"))) (id (codes "isReady")) NoExprs) NoExprs)
+        (WaitStmt nowhere (record { into = None; next = false; operand = (CallExpr (id (codes "Never")) NoExprs) }) (ReturnStmt nowhere VoidExpr End))));
+    close = nowhere;
+  }))
+      ∷ (ActorDecl (record {
+        at = nowhere;
+        returns = VoidType;
+        name = (id (codes "main"));
+        params = ((record { ty = IntType; name = (id (codes "p")) }) ∷ []);
+        body = (DeclareStmt nowhere (record { state = true; ty = (PromiseStreamType (FutureType VoidType)); name = (id (codes "box")) }) None
+            (DeclareStmt nowhere (record { state = false; ty = (FutureType VoidType); name = (id (codes "f")) })
+            (Some (CallExpr (id (codes "self")) (MoreExprs (MethodExpr (VarExpr (id (codes "box"))) (id (codes "getFuture")) NoExprs) NoExprs)))
+            (CallStmt nowhere ((id (codes "box")) ∷ (id (codes "send")) ∷ []) (MoreExprs (VarExpr (id (codes "f"))) NoExprs)
+            (CallStmt nowhere ((id (codes "trace")) ∷ []) (MoreExprs (TextExpr (codes "sent")) NoExprs)
+            (WaitStmt nowhere (record { into = None; next = false; operand = (CallExpr (id (codes "delay")) (MoreExprs (IntExpr (pos 1)) NoExprs)) })
+            (CallStmt nowhere ((id (codes "trace")) ∷ []) (MoreExprs (TextExpr (codes "later")) NoExprs) (ReturnStmt nowhere VoidExpr End)))))));
+        close = nowhere;
+      })) ∷ []);
+  end = nowhere;
+}
 
 own_future_in_a_local_world : World
 own_future_in_a_local_world = record { seed = 0; words = []; processes = 1; events = 1000; turns = 100000; latency = (1, 2); loss = 0; diskdelay = (1, 2); script = [] }
@@ -287,7 +515,29 @@ own_future_in_a_local = source_trace 20 400 own_future_in_a_local_program own_fu
 
 -- a branch is taken: what the other branches waited for is dropped and cancelled before the branch runs
 withdrawal_before_branch_program : ProgramTree
-withdrawal_before_branch_program = record { decls = ((ActorDecl (record { at = nowhere; returns = VoidType; name = (id (codes "leaf")); params = ((record { ty = IntType; name = (id (codes "n")) }) ∷ []); body = (WaitStmt nowhere (record { into = None; next = false; operand = (CallExpr (id (codes "Never")) NoExprs) }) (ReturnStmt nowhere VoidExpr End)); close = nowhere })) ∷ (ActorDecl (record { at = nowhere; returns = VoidType; name = (id (codes "main")); params = ((record { ty = IntType; name = (id (codes "p")) }) ∷ []); body = (ChooseStmt nowhere (MoreBranches nowhere (record { into = None; next = false; operand = (CallExpr (id (codes "leaf")) (MoreExprs (IntExpr (pos 1)) NoExprs)) }) End (MoreBranches nowhere (record { into = None; next = false; operand = (CallExpr (id (codes "delay")) (MoreExprs (IntExpr (pos 1)) NoExprs)) }) (CallStmt nowhere ((id (codes "trace")) ∷ []) (MoreExprs (TextExpr (codes "branch")) NoExprs) End) (MoreBranches nowhere (record { into = None; next = false; operand = (CallExpr (id (codes "leaf")) (MoreExprs (IntExpr (pos 2)) NoExprs)) }) End NoBranches))) (ReturnStmt nowhere VoidExpr End)); close = nowhere })) ∷ []); end = nowhere }
+withdrawal_before_branch_program = record {
+  decls = ((ActorDecl (record {
+    at = nowhere;
+    returns = VoidType;
+    name = (id (codes "leaf"));
+    params = ((record { ty = IntType; name = (id (codes "n")) }) ∷ []);
+    body = (WaitStmt nowhere (record { into = None; next = false; operand = (CallExpr (id (codes "Never")) NoExprs) }) (ReturnStmt nowhere VoidExpr End));
+    close = nowhere;
+  }))
+      ∷ (ActorDecl (record {
+        at = nowhere;
+        returns = VoidType;
+        name = (id (codes "main"));
+        params = ((record { ty = IntType; name = (id (codes "p")) }) ∷ []);
+        body = (ChooseStmt nowhere (MoreBranches nowhere (record { into = None; next = false; operand = (CallExpr (id (codes "leaf")) (MoreExprs (IntExpr (pos 1)) NoExprs)) }) End
+            (MoreBranches nowhere (record { into = None; next = false; operand = (CallExpr (id (codes "delay")) (MoreExprs (IntExpr (pos 1)) NoExprs)) })
+            (CallStmt nowhere ((id (codes "trace")) ∷ []) (MoreExprs (TextExpr (codes "branch")) NoExprs) End)
+            (MoreBranches nowhere (record { into = None; next = false; operand = (CallExpr (id (codes "leaf")) (MoreExprs (IntExpr (pos 2)) NoExprs)) }) End NoBranches)))
+                (ReturnStmt nowhere VoidExpr End));
+        close = nowhere;
+      })) ∷ []);
+  end = nowhere;
+}
 
 withdrawal_before_branch_world : World
 withdrawal_before_branch_world = record { seed = 0; words = []; processes = 1; events = 1000; turns = 100000; latency = (1, 2); loss = 0; diskdelay = (1, 2); script = [] }
@@ -320,7 +570,62 @@ withdrawal_before_branch = source_trace 20 400 withdrawal_before_branch_program 
 
 -- an actor that is cancelled while its variables are dropped at its end: it still ends well
 cancelled_while_closing_program : ProgramTree
-cancelled_while_closing_program = record { decls = ((ActorDecl (record { at = nowhere; returns = VoidType; name = (id (codes "noisy")); params = ((record { ty = (PromiseType VoidType); name = (id (codes "tell")) }) ∷ []); body = (TryStmt nowhere (WaitStmt nowhere (record { into = None; next = false; operand = (CallExpr (id (codes "Never")) NoExprs) }) End) nowhere (id (codes "e")) (CallStmt nowhere ((id (codes "tell")) ∷ (id (codes "send")) ∷ []) (MoreExprs VoidExpr NoExprs) End) (ReturnStmt nowhere VoidExpr End)); close = nowhere })) ∷ (ActorDecl (record { at = nowhere; returns = IntType; name = (id (codes "closing")); params = ((record { ty = (FutureType VoidType); name = (id (codes "go")) }) ∷ (record { ty = (PromiseType VoidType); name = (id (codes "tell")) }) ∷ []); body = (DeclareStmt nowhere (record { state = true; ty = (FutureType VoidType); name = (id (codes "n")) }) (Some (CallExpr (id (codes "noisy")) (MoreExprs (VarExpr (id (codes "tell"))) NoExprs))) (WaitStmt nowhere (record { into = None; next = false; operand = (VarExpr (id (codes "go"))) }) (ReturnStmt nowhere (IntExpr (pos 7)) End))); close = nowhere })) ∷ (ActorDecl (record { at = nowhere; returns = VoidType; name = (id (codes "holder")); params = ((record { ty = (FutureType VoidType); name = (id (codes "told")) }) ∷ (record { ty = (FutureType IntType); name = (id (codes "c")) }) ∷ []); body = (WaitStmt nowhere (record { into = None; next = false; operand = (VarExpr (id (codes "told"))) }) (AssignStmt nowhere ((id (codes "c")) ∷ []) (CallExpr (id (codes "never")) (MoreExprs (IntExpr (pos 1)) NoExprs)) (CallStmt nowhere ((id (codes "trace")) ∷ []) (MoreExprs (TextExpr (codes "gone")) NoExprs) (ReturnStmt nowhere VoidExpr End)))); close = nowhere })) ∷ (ActorDecl (record { at = nowhere; returns = IntType; name = (id (codes "never")); params = ((record { ty = IntType; name = (id (codes "n")) }) ∷ []); body = (WaitStmt nowhere (record { into = None; next = false; operand = (CallExpr (id (codes "Never")) NoExprs) }) (ReturnStmt nowhere (VarExpr (id (codes "n"))) End)); close = nowhere })) ∷ (ActorDecl (record { at = nowhere; returns = VoidType; name = (id (codes "main")); params = ((record { ty = IntType; name = (id (codes "p")) }) ∷ []); body = (DeclareStmt nowhere (record { state = true; ty = (PromiseType VoidType); name = (id (codes "go")) }) None (DeclareStmt nowhere (record { state = true; ty = (PromiseType VoidType); name = (id (codes "tell")) }) None (DeclareStmt nowhere (record { state = true; ty = (FutureType IntType); name = (id (codes "c")) }) (Some (CallExpr (id (codes "closing")) (MoreExprs (MethodExpr (VarExpr (id (codes "go"))) (id (codes "getFuture")) NoExprs) (MoreExprs (VarExpr (id (codes "tell"))) NoExprs)))) (DeclareStmt nowhere (record { state = true; ty = (FutureType VoidType); name = (id (codes "h")) }) (Some (CallExpr (id (codes "holder")) (MoreExprs (MethodExpr (VarExpr (id (codes "tell"))) (id (codes "getFuture")) NoExprs) (MoreExprs (VarExpr (id (codes "c"))) NoExprs)))) (AssignStmt nowhere ((id (codes "c")) ∷ []) (CallExpr (id (codes "never")) (MoreExprs (IntExpr (pos 2)) NoExprs)) (CallStmt nowhere ((id (codes "go")) ∷ (id (codes "send")) ∷ []) (MoreExprs VoidExpr NoExprs) (CallStmt nowhere ((id (codes "trace")) ∷ []) (MoreExprs (TextExpr (codes "end")) NoExprs) (ReturnStmt nowhere VoidExpr End)))))))); close = nowhere })) ∷ []); end = nowhere }
+cancelled_while_closing_program = record {
+  decls = ((ActorDecl (record {
+    at = nowhere;
+    returns = VoidType;
+    name = (id (codes "noisy"));
+    params = ((record { ty = (PromiseType VoidType); name = (id (codes "tell")) }) ∷ []);
+    body = (TryStmt nowhere (WaitStmt nowhere (record { into = None; next = false; operand = (CallExpr (id (codes "Never")) NoExprs) }) End) nowhere (id (codes "e"))
+        (CallStmt nowhere ((id (codes "tell")) ∷ (id (codes "send")) ∷ []) (MoreExprs VoidExpr NoExprs) End) (ReturnStmt nowhere VoidExpr End));
+    close = nowhere;
+  }))
+      ∷ (ActorDecl (record {
+        at = nowhere;
+        returns = IntType;
+        name = (id (codes "closing"));
+        params = ((record { ty = (FutureType VoidType); name = (id (codes "go")) }) ∷ (record { ty = (PromiseType VoidType); name = (id (codes "tell")) }) ∷ []);
+        body = (DeclareStmt nowhere (record { state = true; ty = (FutureType VoidType); name = (id (codes "n")) })
+            (Some (CallExpr (id (codes "noisy")) (MoreExprs (VarExpr (id (codes "tell"))) NoExprs)))
+            (WaitStmt nowhere (record { into = None; next = false; operand = (VarExpr (id (codes "go"))) }) (ReturnStmt nowhere (IntExpr (pos 7)) End)));
+        close = nowhere;
+      }))
+      ∷ (ActorDecl (record {
+        at = nowhere;
+        returns = VoidType;
+        name = (id (codes "holder"));
+        params = ((record { ty = (FutureType VoidType); name = (id (codes "told")) }) ∷ (record { ty = (FutureType IntType); name = (id (codes "c")) }) ∷ []);
+        body = (WaitStmt nowhere (record { into = None; next = false; operand = (VarExpr (id (codes "told"))) })
+            (AssignStmt nowhere ((id (codes "c")) ∷ []) (CallExpr (id (codes "never")) (MoreExprs (IntExpr (pos 1)) NoExprs))
+            (CallStmt nowhere ((id (codes "trace")) ∷ []) (MoreExprs (TextExpr (codes "gone")) NoExprs) (ReturnStmt nowhere VoidExpr End))));
+        close = nowhere;
+      }))
+      ∷ (ActorDecl (record {
+        at = nowhere;
+        returns = IntType;
+        name = (id (codes "never"));
+        params = ((record { ty = IntType; name = (id (codes "n")) }) ∷ []);
+        body = (WaitStmt nowhere (record { into = None; next = false; operand = (CallExpr (id (codes "Never")) NoExprs) }) (ReturnStmt nowhere (VarExpr (id (codes "n"))) End));
+        close = nowhere;
+      }))
+      ∷ (ActorDecl (record {
+        at = nowhere;
+        returns = VoidType;
+        name = (id (codes "main"));
+        params = ((record { ty = IntType; name = (id (codes "p")) }) ∷ []);
+        body = (DeclareStmt nowhere (record { state = true; ty = (PromiseType VoidType); name = (id (codes "go")) }) None
+            (DeclareStmt nowhere (record { state = true; ty = (PromiseType VoidType); name = (id (codes "tell")) }) None
+            (DeclareStmt nowhere (record { state = true; ty = (FutureType IntType); name = (id (codes "c")) })
+            (Some (CallExpr (id (codes "closing")) (MoreExprs (MethodExpr (VarExpr (id (codes "go"))) (id (codes "getFuture")) NoExprs) (MoreExprs (VarExpr (id (codes "tell"))) NoExprs))))
+            (DeclareStmt nowhere (record { state = true; ty = (FutureType VoidType); name = (id (codes "h")) })
+            (Some (CallExpr (id (codes "holder")) (MoreExprs (MethodExpr (VarExpr (id (codes "tell"))) (id (codes "getFuture")) NoExprs) (MoreExprs (VarExpr (id (codes "c"))) NoExprs))))
+            (AssignStmt nowhere ((id (codes "c")) ∷ []) (CallExpr (id (codes "never")) (MoreExprs (IntExpr (pos 2)) NoExprs))
+            (CallStmt nowhere ((id (codes "go")) ∷ (id (codes "send")) ∷ []) (MoreExprs VoidExpr NoExprs)
+            (CallStmt nowhere ((id (codes "trace")) ∷ []) (MoreExprs (TextExpr (codes "end")) NoExprs) (ReturnStmt nowhere VoidExpr End))))))));
+        close = nowhere;
+      })) ∷ []);
+  end = nowhere;
+}
 
 cancelled_while_closing_world : World
 cancelled_while_closing_world = record { seed = 0; words = []; processes = 1; events = 1000; turns = 100000; latency = (1, 2); loss = 0; diskdelay = (1, 2); script = [] }
@@ -366,7 +671,22 @@ cancelled_while_closing = source_trace 20 400 cancelled_while_closing_program ca
 
 -- an error of an argument of `send` comes before the error of a second send
 argument_before_9004_program : ProgramTree
-argument_before_9004_program = record { decls = ((ActorDecl (record { at = nowhere; returns = VoidType; name = (id (codes "main")); params = ((record { ty = IntType; name = (id (codes "p")) }) ∷ []); body = (DeclareStmt nowhere (record { state = true; ty = (PromiseType IntType); name = (id (codes "q")) }) None (CallStmt nowhere ((id (codes "q")) ∷ (id (codes "send")) ∷ []) (MoreExprs (IntExpr (pos 1)) NoExprs) (TryStmt nowhere (CallStmt nowhere ((id (codes "q")) ∷ (id (codes "send")) ∷ []) (MoreExprs (BinaryExpr Div (IntExpr (pos 1)) (VarExpr (id (codes "p")))) NoExprs) End) nowhere (id (codes "e")) (CallStmt nowhere ((id (codes "trace")) ∷ []) (MoreExprs (MethodExpr (VarExpr (id (codes "e"))) (id (codes "code")) NoExprs) NoExprs) End) (TryStmt nowhere (CallStmt nowhere ((id (codes "q")) ∷ (id (codes "send")) ∷ []) (MoreExprs (IntExpr (pos 2)) NoExprs) End) nowhere (id (codes "e")) (CallStmt nowhere ((id (codes "trace")) ∷ []) (MoreExprs (MethodExpr (VarExpr (id (codes "e"))) (id (codes "code")) NoExprs) NoExprs) End) (ReturnStmt nowhere VoidExpr End))))); close = nowhere })) ∷ []); end = nowhere }
+argument_before_9004_program = record {
+  decls = ((ActorDecl (record {
+    at = nowhere;
+    returns = VoidType;
+    name = (id (codes "main"));
+    params = ((record { ty = IntType; name = (id (codes "p")) }) ∷ []);
+    body = (DeclareStmt nowhere (record { state = true; ty = (PromiseType IntType); name = (id (codes "q")) }) None
+        (CallStmt nowhere ((id (codes "q")) ∷ (id (codes "send")) ∷ []) (MoreExprs (IntExpr (pos 1)) NoExprs)
+        (TryStmt nowhere (CallStmt nowhere ((id (codes "q")) ∷ (id (codes "send")) ∷ []) (MoreExprs (BinaryExpr Div (IntExpr (pos 1)) (VarExpr (id (codes "p")))) NoExprs) End) nowhere (id (codes "e"))
+        (CallStmt nowhere ((id (codes "trace")) ∷ []) (MoreExprs (MethodExpr (VarExpr (id (codes "e"))) (id (codes "code")) NoExprs) NoExprs) End)
+        (TryStmt nowhere (CallStmt nowhere ((id (codes "q")) ∷ (id (codes "send")) ∷ []) (MoreExprs (IntExpr (pos 2)) NoExprs) End) nowhere (id (codes "e"))
+        (CallStmt nowhere ((id (codes "trace")) ∷ []) (MoreExprs (MethodExpr (VarExpr (id (codes "e"))) (id (codes "code")) NoExprs) NoExprs) End) (ReturnStmt nowhere VoidExpr End)))));
+    close = nowhere;
+  })) ∷ []);
+  end = nowhere;
+}
 
 argument_before_9004_world : World
 argument_before_9004_world = record { seed = 0; words = []; processes = 1; events = 1000; turns = 100000; latency = (1, 2); loss = 0; diskdelay = (1, 2); script = [] }
@@ -391,7 +711,30 @@ argument_before_9004 = source_trace 20 400 argument_before_9004_program argument
 
 -- a port whose stream fires is not free until the fire is over
 listen_while_firing_program : ProgramTree
-listen_while_firing_program = record { decls = ((ActorDecl (record { at = nowhere; returns = VoidType; name = (id (codes "main")); params = ((record { ty = IntType; name = (id (codes "p")) }) ∷ []); body = (CallStmt nowhere ((id (codes "sendTo")) ∷ []) (MoreExprs (IntExpr (pos 0)) (MoreExprs (IntExpr (pos 7)) (MoreExprs (TextExpr (codes "x")) NoExprs))) (WaitStmt nowhere (record { into = (Some (record { state = false; ty = (NamedType (codes "Packet")); name = (id (codes "k")) })); next = true; operand = (CallExpr (id (codes "listen")) (MoreExprs (IntExpr (pos 7)) NoExprs)) }) (CallStmt nowhere ((id (codes "trace")) ∷ []) (MoreExprs (FieldExpr (VarExpr (id (codes "k"))) (id (codes "text"))) NoExprs) (TryStmt nowhere (DeclareStmt nowhere (record { state = true; ty = (FutureStreamType (NamedType (codes "Packet"))); name = (id (codes "again")) }) (Some (CallExpr (id (codes "listen")) (MoreExprs (IntExpr (pos 7)) NoExprs))) (CallStmt nowhere ((id (codes "trace")) ∷ []) (MoreExprs (TextExpr (codes "free")) NoExprs) End)) nowhere (id (codes "e")) (CallStmt nowhere ((id (codes "trace")) ∷ []) (MoreExprs (MethodExpr (VarExpr (id (codes "e"))) (id (codes "code")) NoExprs) NoExprs) End) (WaitStmt nowhere (record { into = None; next = false; operand = (CallExpr (id (codes "delay")) (MoreExprs (IntExpr (pos 1)) NoExprs)) }) (DeclareStmt nowhere (record { state = true; ty = (FutureStreamType (NamedType (codes "Packet"))); name = (id (codes "later")) }) (Some (CallExpr (id (codes "listen")) (MoreExprs (IntExpr (pos 7)) NoExprs))) (CallStmt nowhere ((id (codes "trace")) ∷ []) (MoreExprs (TextExpr (codes "later")) NoExprs) (ReturnStmt nowhere VoidExpr End)))))))); close = nowhere })) ∷ []); end = nowhere }
+listen_while_firing_program = record {
+  decls = ((ActorDecl (record {
+    at = nowhere;
+    returns = VoidType;
+    name = (id (codes "main"));
+    params = ((record { ty = IntType; name = (id (codes "p")) }) ∷ []);
+    body = (CallStmt nowhere ((id (codes "sendTo")) ∷ []) (MoreExprs (IntExpr (pos 0)) (MoreExprs (IntExpr (pos 7)) (MoreExprs (TextExpr (codes "x")) NoExprs)))
+        (WaitStmt nowhere (record {
+          into = (Some (record { state = false; ty = (NamedType (codes "Packet")); name = (id (codes "k")) }));
+          next = true;
+          operand = (CallExpr (id (codes "listen")) (MoreExprs (IntExpr (pos 7)) NoExprs));
+        })
+        (CallStmt nowhere ((id (codes "trace")) ∷ []) (MoreExprs (FieldExpr (VarExpr (id (codes "k"))) (id (codes "text"))) NoExprs)
+        (TryStmt nowhere (DeclareStmt nowhere (record { state = true; ty = (FutureStreamType (NamedType (codes "Packet"))); name = (id (codes "again")) })
+        (Some (CallExpr (id (codes "listen")) (MoreExprs (IntExpr (pos 7)) NoExprs))) (CallStmt nowhere ((id (codes "trace")) ∷ []) (MoreExprs (TextExpr (codes "free")) NoExprs) End)) nowhere
+        (id (codes "e")) (CallStmt nowhere ((id (codes "trace")) ∷ []) (MoreExprs (MethodExpr (VarExpr (id (codes "e"))) (id (codes "code")) NoExprs) NoExprs) End)
+        (WaitStmt nowhere (record { into = None; next = false; operand = (CallExpr (id (codes "delay")) (MoreExprs (IntExpr (pos 1)) NoExprs)) })
+        (DeclareStmt nowhere (record { state = true; ty = (FutureStreamType (NamedType (codes "Packet"))); name = (id (codes "later")) })
+        (Some (CallExpr (id (codes "listen")) (MoreExprs (IntExpr (pos 7)) NoExprs)))
+        (CallStmt nowhere ((id (codes "trace")) ∷ []) (MoreExprs (TextExpr (codes "later")) NoExprs) (ReturnStmt nowhere VoidExpr End))))))));
+    close = nowhere;
+  })) ∷ []);
+  end = nowhere;
+}
 
 listen_while_firing_world : World
 listen_while_firing_world = record { seed = 0; words = []; processes = 1; events = 1000; turns = 100000; latency = (1, 2); loss = 0; diskdelay = (1, 2); script = [] }
@@ -422,7 +765,33 @@ listen_while_firing = source_trace 20 400 listen_while_firing_program listen_whi
 
 -- an actor that takes further elements of a stream by itself while the stream fires
 stream_fire_takes_more_program : ProgramTree
-stream_fire_takes_more_program = record { decls = ((ActorDecl (record { at = nowhere; returns = VoidType; name = (id (codes "eat")); params = ((record { ty = (FutureStreamType IntType); name = (id (codes "s")) }) ∷ (record { ty = (PromiseStreamType IntType); name = (id (codes "q")) }) ∷ []); body = (LoopStmt nowhere (WaitStmt nowhere (record { into = (Some (record { state = false; ty = IntType; name = (id (codes "x")) })); next = true; operand = (VarExpr (id (codes "s"))) }) (CallStmt nowhere ((id (codes "trace")) ∷ []) (MoreExprs (VarExpr (id (codes "x"))) NoExprs) (IfStmt nowhere (BinaryExpr Gt (VarExpr (id (codes "x"))) (IntExpr (pos 0))) (CallStmt nowhere ((id (codes "q")) ∷ (id (codes "send")) ∷ []) (MoreExprs (BinaryExpr Sub (VarExpr (id (codes "x"))) (IntExpr (pos 1))) NoExprs) (CallStmt nowhere ((id (codes "q")) ∷ (id (codes "send")) ∷ []) (MoreExprs (BinaryExpr Sub (IntExpr (pos 0)) (VarExpr (id (codes "x")))) NoExprs) End)) End))) End); close = nowhere })) ∷ (ActorDecl (record { at = nowhere; returns = VoidType; name = (id (codes "main")); params = ((record { ty = IntType; name = (id (codes "p")) }) ∷ []); body = (DeclareStmt nowhere (record { state = true; ty = (PromiseStreamType IntType); name = (id (codes "q")) }) None (DeclareStmt nowhere (record { state = true; ty = (FutureType VoidType); name = (id (codes "e")) }) (Some (CallExpr (id (codes "eat")) (MoreExprs (MethodExpr (VarExpr (id (codes "q"))) (id (codes "getFuture")) NoExprs) (MoreExprs (VarExpr (id (codes "q"))) NoExprs)))) (CallStmt nowhere ((id (codes "q")) ∷ (id (codes "send")) ∷ []) (MoreExprs (IntExpr (pos 2)) NoExprs) (CallStmt nowhere ((id (codes "trace")) ∷ []) (MoreExprs (TextExpr (codes "sent")) NoExprs) (ReturnStmt nowhere VoidExpr End))))); close = nowhere })) ∷ []); end = nowhere }
+stream_fire_takes_more_program = record {
+  decls = ((ActorDecl (record {
+    at = nowhere;
+    returns = VoidType;
+    name = (id (codes "eat"));
+    params = ((record { ty = (FutureStreamType IntType); name = (id (codes "s")) }) ∷ (record { ty = (PromiseStreamType IntType); name = (id (codes "q")) }) ∷ []);
+    body = (LoopStmt nowhere (WaitStmt nowhere (record { into = (Some (record { state = false; ty = IntType; name = (id (codes "x")) })); next = true; operand = (VarExpr (id (codes "s"))) })
+        (CallStmt nowhere ((id (codes "trace")) ∷ []) (MoreExprs (VarExpr (id (codes "x"))) NoExprs)
+        (IfStmt nowhere (BinaryExpr Gt (VarExpr (id (codes "x"))) (IntExpr (pos 0)))
+        (CallStmt nowhere ((id (codes "q")) ∷ (id (codes "send")) ∷ []) (MoreExprs (BinaryExpr Sub (VarExpr (id (codes "x"))) (IntExpr (pos 1))) NoExprs)
+        (CallStmt nowhere ((id (codes "q")) ∷ (id (codes "send")) ∷ []) (MoreExprs (BinaryExpr Sub (IntExpr (pos 0)) (VarExpr (id (codes "x")))) NoExprs) End)) End))) End);
+    close = nowhere;
+  }))
+      ∷ (ActorDecl (record {
+        at = nowhere;
+        returns = VoidType;
+        name = (id (codes "main"));
+        params = ((record { ty = IntType; name = (id (codes "p")) }) ∷ []);
+        body = (DeclareStmt nowhere (record { state = true; ty = (PromiseStreamType IntType); name = (id (codes "q")) }) None
+            (DeclareStmt nowhere (record { state = true; ty = (FutureType VoidType); name = (id (codes "e")) })
+            (Some (CallExpr (id (codes "eat")) (MoreExprs (MethodExpr (VarExpr (id (codes "q"))) (id (codes "getFuture")) NoExprs) (MoreExprs (VarExpr (id (codes "q"))) NoExprs))))
+            (CallStmt nowhere ((id (codes "q")) ∷ (id (codes "send")) ∷ []) (MoreExprs (IntExpr (pos 2)) NoExprs)
+            (CallStmt nowhere ((id (codes "trace")) ∷ []) (MoreExprs (TextExpr (codes "sent")) NoExprs) (ReturnStmt nowhere VoidExpr End)))));
+        close = nowhere;
+      })) ∷ []);
+  end = nowhere;
+}
 
 stream_fire_takes_more_world : World
 stream_fire_takes_more_world = record { seed = 0; words = []; processes = 1; events = 1000; turns = 100000; latency = (1, 2); loss = 0; diskdelay = (1, 2); script = [] }
@@ -458,7 +827,47 @@ stream_fire_takes_more = source_trace 20 400 stream_fire_takes_more_program stre
 
 -- a waiter of a firing cell that cancels the next one
 waiter_cancels_the_next_waiter_program : ProgramTree
-waiter_cancels_the_next_waiter_program = record { decls = ((ActorDecl (record { at = nowhere; returns = VoidType; name = (id (codes "first")); params = ((record { ty = (FutureType VoidType); name = (id (codes "go")) }) ∷ (record { ty = (FutureType (FutureType VoidType)); name = (id (codes "box")) }) ∷ []); body = (WaitStmt nowhere (record { into = None; next = false; operand = (VarExpr (id (codes "go"))) }) (DeclareStmt nowhere (record { state = false; ty = (FutureType VoidType); name = (id (codes "victim")) }) (Some (MethodExpr (VarExpr (id (codes "box"))) (id (codes "get")) NoExprs)) (CallStmt nowhere ((id (codes "victim")) ∷ (id (codes "cancel")) ∷ []) NoExprs (CallStmt nowhere ((id (codes "trace")) ∷ []) (MoreExprs (TextExpr (codes "cancelled")) NoExprs) (ReturnStmt nowhere VoidExpr End))))); close = nowhere })) ∷ (ActorDecl (record { at = nowhere; returns = VoidType; name = (id (codes "second")); params = ((record { ty = (FutureType VoidType); name = (id (codes "go")) }) ∷ []); body = (WaitStmt nowhere (record { into = None; next = false; operand = (VarExpr (id (codes "go"))) }) (CallStmt nowhere ((id (codes "trace")) ∷ []) (MoreExprs (TextExpr (codes "never")) NoExprs) (ReturnStmt nowhere VoidExpr End))); close = nowhere })) ∷ (ActorDecl (record { at = nowhere; returns = VoidType; name = (id (codes "main")); params = ((record { ty = IntType; name = (id (codes "p")) }) ∷ []); body = (DeclareStmt nowhere (record { state = true; ty = (PromiseType VoidType); name = (id (codes "go")) }) None (DeclareStmt nowhere (record { state = true; ty = (PromiseType (FutureType VoidType)); name = (id (codes "box")) }) None (DeclareStmt nowhere (record { state = true; ty = (FutureType VoidType); name = (id (codes "a")) }) (Some (CallExpr (id (codes "first")) (MoreExprs (MethodExpr (VarExpr (id (codes "go"))) (id (codes "getFuture")) NoExprs) (MoreExprs (MethodExpr (VarExpr (id (codes "box"))) (id (codes "getFuture")) NoExprs) NoExprs)))) (DeclareStmt nowhere (record { state = true; ty = (FutureType VoidType); name = (id (codes "b")) }) (Some (CallExpr (id (codes "second")) (MoreExprs (MethodExpr (VarExpr (id (codes "go"))) (id (codes "getFuture")) NoExprs) NoExprs))) (CallStmt nowhere ((id (codes "box")) ∷ (id (codes "send")) ∷ []) (MoreExprs (VarExpr (id (codes "b"))) NoExprs) (CallStmt nowhere ((id (codes "go")) ∷ (id (codes "send")) ∷ []) (MoreExprs VoidExpr NoExprs) (CallStmt nowhere ((id (codes "trace")) ∷ []) (MoreExprs (TextExpr (codes "sent")) NoExprs) (ReturnStmt nowhere VoidExpr End)))))))); close = nowhere })) ∷ []); end = nowhere }
+waiter_cancels_the_next_waiter_program = record {
+  decls = ((ActorDecl
+      (record {
+        at = nowhere;
+        returns = VoidType;
+        name = (id (codes "first"));
+        params = ((record { ty = (FutureType VoidType); name = (id (codes "go")) }) ∷ (record { ty = (FutureType (FutureType VoidType)); name = (id (codes "box")) }) ∷ []);
+        body = (WaitStmt nowhere (record { into = None; next = false; operand = (VarExpr (id (codes "go"))) })
+            (DeclareStmt nowhere (record { state = false; ty = (FutureType VoidType); name = (id (codes "victim")) }) (Some (MethodExpr (VarExpr (id (codes "box"))) (id (codes "get")) NoExprs))
+            (CallStmt nowhere ((id (codes "victim")) ∷ (id (codes "cancel")) ∷ []) NoExprs
+            (CallStmt nowhere ((id (codes "trace")) ∷ []) (MoreExprs (TextExpr (codes "cancelled")) NoExprs) (ReturnStmt nowhere VoidExpr End)))));
+        close = nowhere;
+      }))
+      ∷ (ActorDecl (record {
+        at = nowhere;
+        returns = VoidType;
+        name = (id (codes "second"));
+        params = ((record { ty = (FutureType VoidType); name = (id (codes "go")) }) ∷ []);
+        body = (WaitStmt nowhere (record { into = None; next = false; operand = (VarExpr (id (codes "go"))) })
+            (CallStmt nowhere ((id (codes "trace")) ∷ []) (MoreExprs (TextExpr (codes "never")) NoExprs) (ReturnStmt nowhere VoidExpr End)));
+        close = nowhere;
+      }))
+      ∷ (ActorDecl (record {
+        at = nowhere;
+        returns = VoidType;
+        name = (id (codes "main"));
+        params = ((record { ty = IntType; name = (id (codes "p")) }) ∷ []);
+        body = (DeclareStmt nowhere (record { state = true; ty = (PromiseType VoidType); name = (id (codes "go")) }) None
+            (DeclareStmt nowhere (record { state = true; ty = (PromiseType (FutureType VoidType)); name = (id (codes "box")) }) None
+            (DeclareStmt nowhere (record { state = true; ty = (FutureType VoidType); name = (id (codes "a")) })
+            (Some (CallExpr (id (codes "first")) (MoreExprs (MethodExpr (VarExpr (id (codes "go"))) (id (codes "getFuture")) NoExprs)
+            (MoreExprs (MethodExpr (VarExpr (id (codes "box"))) (id (codes "getFuture")) NoExprs) NoExprs))))
+            (DeclareStmt nowhere (record { state = true; ty = (FutureType VoidType); name = (id (codes "b")) })
+            (Some (CallExpr (id (codes "second")) (MoreExprs (MethodExpr (VarExpr (id (codes "go"))) (id (codes "getFuture")) NoExprs) NoExprs)))
+            (CallStmt nowhere ((id (codes "box")) ∷ (id (codes "send")) ∷ []) (MoreExprs (VarExpr (id (codes "b"))) NoExprs)
+            (CallStmt nowhere ((id (codes "go")) ∷ (id (codes "send")) ∷ []) (MoreExprs VoidExpr NoExprs)
+            (CallStmt nowhere ((id (codes "trace")) ∷ []) (MoreExprs (TextExpr (codes "sent")) NoExprs) (ReturnStmt nowhere VoidExpr End))))))));
+        close = nowhere;
+      })) ∷ []);
+  end = nowhere;
+}
 
 waiter_cancels_the_next_waiter_world : World
 waiter_cancels_the_next_waiter_world = record { seed = 0; words = []; processes = 1; events = 1000; turns = 100000; latency = (1, 2); loss = 0; diskdelay = (1, 2); script = [] }
@@ -488,10 +897,43 @@ waiter_cancels_the_next_waiter = source_trace 20 400 waiter_cancels_the_next_wai
 
 -- a write past the end of a file, of which a loss of power keeps nothing: the file stays empty
 size_after_cut_to_nothing_program : ProgramTree
-size_after_cut_to_nothing_program = record { decls = ((ActorDecl (record { at = nowhere; returns = VoidType; name = (id (codes "main")); params = ((record { ty = IntType; name = (id (codes "p")) }) ∷ []); body = (IfElseStmt nowhere (BinaryExpr Eq (CallExpr (id (codes "now")) NoExprs) (IntExpr (pos 0))) (WaitStmt nowhere (record { into = None; next = false; operand = (CallExpr (id (codes "writeFile")) (MoreExprs (TextExpr (codes "f")) (MoreExprs (IntExpr (pos 3)) (MoreExprs (TextExpr (codes "ab")) NoExprs)))) }) (WaitStmt nowhere (record { into = None; next = false; operand = (CallExpr (id (codes "Never")) NoExprs) }) End)) (WaitStmt nowhere (record { into = (Some (record { state = false; ty = IntType; name = (id (codes "n")) })); next = false; operand = (CallExpr (id (codes "fileSize")) (MoreExprs (TextExpr (codes "f")) NoExprs)) }) (CallStmt nowhere ((id (codes "trace")) ∷ []) (MoreExprs (VarExpr (id (codes "n"))) NoExprs) End)) (ReturnStmt nowhere VoidExpr End)); close = nowhere })) ∷ []); end = nowhere }
+size_after_cut_to_nothing_program = record {
+  decls = ((ActorDecl (record {
+    at = nowhere;
+    returns = VoidType;
+    name = (id (codes "main"));
+    params = ((record { ty = IntType; name = (id (codes "p")) }) ∷ []);
+    body = (IfElseStmt nowhere (BinaryExpr Eq (CallExpr (id (codes "now")) NoExprs) (IntExpr (pos 0)))
+        (WaitStmt nowhere (record {
+          into = None;
+          next = false;
+          operand = (CallExpr (id (codes "writeFile"))
+              (MoreExprs (TextExpr (codes "f")) (MoreExprs (IntExpr (pos 3)) (MoreExprs (TextExpr (codes "ab")) NoExprs))));
+        })
+        (WaitStmt nowhere (record { into = None; next = false; operand = (CallExpr (id (codes "Never")) NoExprs) }) End))
+        (WaitStmt nowhere (record {
+          into = (Some (record { state = false; ty = IntType; name = (id (codes "n")) }));
+          next = false;
+          operand = (CallExpr (id (codes "fileSize")) (MoreExprs (TextExpr (codes "f")) NoExprs));
+        }) (CallStmt nowhere ((id (codes "trace")) ∷ []) (MoreExprs (VarExpr (id (codes "n"))) NoExprs) End))
+        (ReturnStmt nowhere VoidExpr End));
+    close = nowhere;
+  })) ∷ []);
+  end = nowhere;
+}
 
 size_after_cut_to_nothing_world : World
-size_after_cut_to_nothing_world = record { seed = 0; words = (0 ∷ 2 ∷ 0 ∷ []); processes = 1; events = 1000; turns = 100000; latency = (1, 2); loss = 0; diskdelay = (1, 2); script = ((10, (order.Kill 0)) ∷ (10, (order.Boot 0)) ∷ []) }
+size_after_cut_to_nothing_world = record {
+  seed = 0;
+  words = (0 ∷ 2 ∷ 0 ∷ []);
+  processes = 1;
+  events = 1000;
+  turns = 100000;
+  latency = (1, 2);
+  loss = 0;
+  diskdelay = (1, 2);
+  script = ((10, (order.Kill 0)) ∷ (10, (order.Boot 0)) ∷ []);
+}
 
 size_after_cut_to_nothing_lines : List Line
 size_after_cut_to_nothing_lines =
@@ -519,10 +961,40 @@ size_after_cut_to_nothing = source_trace 20 400 size_after_cut_to_nothing_progra
 
 -- a stop, and a second boot: numbers of cells and actors go on
 stop_then_boot_program : ProgramTree
-stop_then_boot_program = record { decls = ((ActorDecl (record { at = nowhere; returns = VoidType; name = (id (codes "leaf")); params = ((record { ty = IntType; name = (id (codes "n")) }) ∷ []); body = (WaitStmt nowhere (record { into = None; next = false; operand = (CallExpr (id (codes "Never")) NoExprs) }) (ReturnStmt nowhere VoidExpr End)); close = nowhere })) ∷ (ActorDecl (record { at = nowhere; returns = VoidType; name = (id (codes "main")); params = ((record { ty = IntType; name = (id (codes "p")) }) ∷ []); body = (DeclareStmt nowhere (record { state = true; ty = (FutureStreamType (NamedType (codes "Packet"))); name = (id (codes "in")) }) (Some (CallExpr (id (codes "listen")) (MoreExprs (IntExpr (pos 7)) NoExprs))) (WaitStmt nowhere (record { into = None; next = false; operand = (CallExpr (id (codes "Never")) NoExprs) }) (ReturnStmt nowhere VoidExpr End))); close = nowhere })) ∷ []); end = nowhere }
+stop_then_boot_program = record {
+  decls = ((ActorDecl (record {
+    at = nowhere;
+    returns = VoidType;
+    name = (id (codes "leaf"));
+    params = ((record { ty = IntType; name = (id (codes "n")) }) ∷ []);
+    body = (WaitStmt nowhere (record { into = None; next = false; operand = (CallExpr (id (codes "Never")) NoExprs) }) (ReturnStmt nowhere VoidExpr End));
+    close = nowhere;
+  }))
+      ∷ (ActorDecl (record {
+        at = nowhere;
+        returns = VoidType;
+        name = (id (codes "main"));
+        params = ((record { ty = IntType; name = (id (codes "p")) }) ∷ []);
+        body = (DeclareStmt nowhere (record { state = true; ty = (FutureStreamType (NamedType (codes "Packet"))); name = (id (codes "in")) })
+            (Some (CallExpr (id (codes "listen")) (MoreExprs (IntExpr (pos 7)) NoExprs)))
+            (WaitStmt nowhere (record { into = None; next = false; operand = (CallExpr (id (codes "Never")) NoExprs) }) (ReturnStmt nowhere VoidExpr End)));
+        close = nowhere;
+      })) ∷ []);
+  end = nowhere;
+}
 
 stop_then_boot_world : World
-stop_then_boot_world = record { seed = 0; words = []; processes = 1; events = 1000; turns = 100000; latency = (1, 2); loss = 0; diskdelay = (1, 2); script = ((3, (order.Stop 0)) ∷ (4, (order.Boot 0)) ∷ (5, (order.Boot 0)) ∷ (6, (order.Kill 0)) ∷ (6, (order.Stop 0)) ∷ []) }
+stop_then_boot_world = record {
+  seed = 0;
+  words = [];
+  processes = 1;
+  events = 1000;
+  turns = 100000;
+  latency = (1, 2);
+  loss = 0;
+  diskdelay = (1, 2);
+  script = ((3, (order.Stop 0)) ∷ (4, (order.Boot 0)) ∷ (5, (order.Boot 0)) ∷ (6, (order.Kill 0)) ∷ (6, (order.Stop 0)) ∷ []);
+}
 
 stop_then_boot_lines : List Line
 stop_then_boot_lines =
@@ -547,7 +1019,25 @@ unfolding stop_then_boot_program stop_then_boot_world stop_then_boot_lines state
 stop_then_boot = source_trace 20 400 stop_then_boot_program stop_then_boot_world stop_then_boot_lines refl
 
 promise_in_a_dropped_stream_program : ProgramTree
-promise_in_a_dropped_stream_program = record { decls = ((StructDecl (record { at = nowhere; name = (id (codes "Ask")); fields = ((record { ty = IntType; name = (id (codes "n")) }) ∷ (record { ty = (PromiseType IntType); name = (id (codes "reply")) }) ∷ []) })) ∷ (ActorDecl (record { at = nowhere; returns = VoidType; name = (id (codes "main")); params = ((record { ty = IntType; name = (id (codes "p")) }) ∷ []); body = (DeclareStmt nowhere (record { state = false; ty = (PromiseStreamType (NamedType (codes "Ask"))); name = (id (codes "q")) }) None (DeclareStmt nowhere (record { state = false; ty = (PromiseType IntType); name = (id (codes "r")) }) None (DeclareStmt nowhere (record { state = true; ty = (FutureType IntType); name = (id (codes "f")) }) (Some (MethodExpr (VarExpr (id (codes "r"))) (id (codes "getFuture")) NoExprs)) (CallStmt nowhere ((id (codes "q")) ∷ (id (codes "send")) ∷ []) (MoreExprs (CallExpr (id (codes "Ask")) (MoreExprs (IntExpr (pos 1)) (MoreExprs (VarExpr (id (codes "r"))) NoExprs))) NoExprs) (WaitStmt nowhere (record { into = (Some (record { state = false; ty = IntType; name = (id (codes "x")) })); next = false; operand = (VarExpr (id (codes "f"))) }) (CallStmt nowhere ((id (codes "trace")) ∷ []) (MoreExprs (VarExpr (id (codes "x"))) NoExprs) (ReturnStmt nowhere VoidExpr End))))))); close = nowhere })) ∷ []); end = nowhere }
+promise_in_a_dropped_stream_program = record {
+  decls = ((StructDecl
+      (record { at = nowhere; name = (id (codes "Ask")); fields = ((record { ty = IntType; name = (id (codes "n")) }) ∷ (record { ty = (PromiseType IntType); name = (id (codes "reply")) }) ∷ []) }))
+      ∷ (ActorDecl (record {
+        at = nowhere;
+        returns = VoidType;
+        name = (id (codes "main"));
+        params = ((record { ty = IntType; name = (id (codes "p")) }) ∷ []);
+        body = (DeclareStmt nowhere (record { state = false; ty = (PromiseStreamType (NamedType (codes "Ask"))); name = (id (codes "q")) }) None
+            (DeclareStmt nowhere (record { state = false; ty = (PromiseType IntType); name = (id (codes "r")) }) None
+            (DeclareStmt nowhere (record { state = true; ty = (FutureType IntType); name = (id (codes "f")) }) (Some (MethodExpr (VarExpr (id (codes "r"))) (id (codes "getFuture")) NoExprs))
+            (CallStmt nowhere ((id (codes "q")) ∷ (id (codes "send")) ∷ [])
+                (MoreExprs (CallExpr (id (codes "Ask")) (MoreExprs (IntExpr (pos 1)) (MoreExprs (VarExpr (id (codes "r"))) NoExprs))) NoExprs)
+            (WaitStmt nowhere (record { into = (Some (record { state = false; ty = IntType; name = (id (codes "x")) })); next = false; operand = (VarExpr (id (codes "f"))) })
+            (CallStmt nowhere ((id (codes "trace")) ∷ []) (MoreExprs (VarExpr (id (codes "x"))) NoExprs) (ReturnStmt nowhere VoidExpr End)))))));
+        close = nowhere;
+      })) ∷ []);
+  end = nowhere;
+}
 
 promise_in_a_dropped_stream_world : World
 promise_in_a_dropped_stream_world = record { seed = 0; words = []; processes = 1; events = 1000; turns = 100000; latency = (1, 2); loss = 0; diskdelay = (1, 2); script = [] }

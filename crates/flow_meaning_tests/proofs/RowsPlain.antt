@@ -16,7 +16,17 @@ use Rattle.flow_class.specs.Classes.{RawTree, SetInstr, ActInstr, DropInstr, Got
 
 -- an actor that prints and returns
 unfoldable pub hello_program : ProgramTree
-hello_program = record { decls = ((ActorDecl (record { at = nowhere; returns = VoidType; name = (id (codes "main")); params = ((record { ty = IntType; name = (id (codes "p")) }) ∷ []); body = (CallStmt nowhere ((id (codes "trace")) ∷ []) (MoreExprs (TextExpr (codes "hello")) NoExprs) (ReturnStmt nowhere VoidExpr End)); close = nowhere })) ∷ []); end = nowhere }
+hello_program = record {
+  decls = ((ActorDecl (record {
+    at = nowhere;
+    returns = VoidType;
+    name = (id (codes "main"));
+    params = ((record { ty = IntType; name = (id (codes "p")) }) ∷ []);
+    body = (CallStmt nowhere ((id (codes "trace")) ∷ []) (MoreExprs (TextExpr (codes "hello")) NoExprs) (ReturnStmt nowhere VoidExpr End));
+    close = nowhere;
+  })) ∷ []);
+  end = nowhere;
+}
 
 unfoldable pub hello_world : World
 hello_world = record { seed = 0; words = []; processes = 1; events = 1000; turns = 100000; latency = (1, 2); loss = 0; diskdelay = (1, 2); script = [] }
@@ -35,7 +45,19 @@ unfolding hello_program hello_world hello_lines
 hello = source_trace 20 400 hello_program hello_world hello_lines refl
 
 unfoldable pub hello_classes : RawTree
-hello_classes = record { records = []; functions = []; classes = ((record { name = (codes "main"); returns = VoidType; params = 1; slots = ((record { ty = IntType; name = (codes "p") }) ∷ []); locals = []; blocks = ((record { catcher = None; body = ((ActInstr ((id (codes "trace")) ∷ []) (MoreExprs (TextExpr (codes "hello")) NoExprs)) ∷ []); last = (ReturnLast VoidExpr) }) ∷ []); groups = [] }) ∷ []) }
+hello_classes = record {
+  records = [];
+  functions = [];
+  classes = ((record {
+    name = (codes "main");
+    returns = VoidType;
+    params = 1;
+    slots = ((record { ty = IntType; name = (codes "p") }) ∷ []);
+    locals = [];
+    blocks = ((record { catcher = None; body = ((ActInstr ((id (codes "trace")) ∷ []) (MoreExprs (TextExpr (codes "hello")) NoExprs)) ∷ []); last = (ReturnLast VoidExpr) }) ∷ []);
+    groups = [];
+  }) ∷ []);
+}
 
 hello_by_classes : ClassTrace hello_classes hello_world hello_lines
 unfolding hello_classes hello_world hello_lines
@@ -43,7 +65,22 @@ hello_by_classes = class_trace 20 400 hello_classes hello_world hello_lines refl
 
 -- a state variable that is declared again in each pass of a loop
 unfoldable pub state_in_loop_program : ProgramTree
-state_in_loop_program = record { decls = ((ActorDecl (record { at = nowhere; returns = VoidType; name = (id (codes "main")); params = ((record { ty = IntType; name = (id (codes "p")) }) ∷ []); body = (DeclareStmt nowhere (record { state = true; ty = IntType; name = (id (codes "n")) }) (Some (IntExpr (pos 0))) (WhileStmt nowhere (BinaryExpr Lt (VarExpr (id (codes "n"))) (IntExpr (pos 2))) (DeclareStmt nowhere (record { state = true; ty = IntType; name = (id (codes "i")) }) (Some (BinaryExpr Mul (VarExpr (id (codes "n"))) (IntExpr (pos 10)))) (WaitStmt nowhere (record { into = None; next = false; operand = (CallExpr (id (codes "delay")) (MoreExprs (IntExpr (pos 1)) NoExprs)) }) (CallStmt nowhere ((id (codes "trace")) ∷ []) (MoreExprs (VarExpr (id (codes "i"))) NoExprs) (AssignStmt nowhere ((id (codes "n")) ∷ []) (BinaryExpr Add (VarExpr (id (codes "n"))) (IntExpr (pos 1))) End)))) (ReturnStmt nowhere VoidExpr End))); close = nowhere })) ∷ []); end = nowhere }
+state_in_loop_program = record {
+  decls = ((ActorDecl (record {
+    at = nowhere;
+    returns = VoidType;
+    name = (id (codes "main"));
+    params = ((record { ty = IntType; name = (id (codes "p")) }) ∷ []);
+    body = (DeclareStmt nowhere (record { state = true; ty = IntType; name = (id (codes "n")) }) (Some (IntExpr (pos 0)))
+        (WhileStmt nowhere (BinaryExpr Lt (VarExpr (id (codes "n"))) (IntExpr (pos 2)))
+        (DeclareStmt nowhere (record { state = true; ty = IntType; name = (id (codes "i")) }) (Some (BinaryExpr Mul (VarExpr (id (codes "n"))) (IntExpr (pos 10))))
+        (WaitStmt nowhere (record { into = None; next = false; operand = (CallExpr (id (codes "delay")) (MoreExprs (IntExpr (pos 1)) NoExprs)) })
+        (CallStmt nowhere ((id (codes "trace")) ∷ []) (MoreExprs (VarExpr (id (codes "i"))) NoExprs)
+        (AssignStmt nowhere ((id (codes "n")) ∷ []) (BinaryExpr Add (VarExpr (id (codes "n"))) (IntExpr (pos 1))) End)))) (ReturnStmt nowhere VoidExpr End)));
+    close = nowhere;
+  })) ∷ []);
+  end = nowhere;
+}
 
 unfoldable pub state_in_loop_world : World
 state_in_loop_world = record { seed = 0; words = []; processes = 1; events = 1000; turns = 100000; latency = (1, 2); loss = 0; diskdelay = (1, 2); script = [] }
@@ -69,7 +106,29 @@ unfolding state_in_loop_program state_in_loop_world state_in_loop_lines
 state_in_loop = source_trace 20 400 state_in_loop_program state_in_loop_world state_in_loop_lines refl
 
 unfoldable pub state_in_loop_classes : RawTree
-state_in_loop_classes = record { records = []; functions = []; classes = ((record { name = (codes "main"); returns = VoidType; params = 1; slots = ((record { ty = IntType; name = (codes "p") }) ∷ (record { ty = IntType; name = (codes "n") }) ∷ (record { ty = IntType; name = (codes "i") }) ∷ []); locals = []; blocks = ((record { catcher = None; body = ((SetInstr ((id (codes "s1")) ∷ []) (IntExpr (pos 0))) ∷ []); last = (PassLast 1) }) ∷ (record { catcher = None; body = []; last = (TestLast (BinaryExpr Lt (VarExpr (id (codes "s1"))) (IntExpr (pos 2))) 2 4) }) ∷ (record { catcher = None; body = ((SetInstr ((id (codes "s2")) ∷ []) (BinaryExpr Mul (VarExpr (id (codes "s1"))) (IntExpr (pos 10)))) ∷ []); last = (ChooseLast 1) }) ∷ (record { catcher = None; body = ((ActInstr ((id (codes "trace")) ∷ []) (MoreExprs (VarExpr (id (codes "s2"))) NoExprs)) ∷ (SetInstr ((id (codes "s1")) ∷ []) (BinaryExpr Add (VarExpr (id (codes "s1"))) (IntExpr (pos 1)))) ∷ []); last = (PassLast 1) }) ∷ (record { catcher = None; body = []; last = (ReturnLast VoidExpr) }) ∷ []); groups = (((record { next = false; operand = (CallExpr (id (codes "delay")) (MoreExprs (IntExpr (pos 1)) NoExprs)); into = None; block = 3 }) ∷ []) ∷ []) }) ∷ []) }
+state_in_loop_classes = record {
+  records = [];
+  functions = [];
+  classes = ((record {
+    name = (codes "main");
+    returns = VoidType;
+    params = 1;
+    slots = ((record { ty = IntType; name = (codes "p") }) ∷ (record { ty = IntType; name = (codes "n") })
+        ∷ (record { ty = IntType; name = (codes "i") }) ∷ []);
+    locals = [];
+    blocks = ((record { catcher = None; body = ((SetInstr ((id (codes "s1")) ∷ []) (IntExpr (pos 0))) ∷ []); last = (PassLast 1) })
+        ∷ (record { catcher = None; body = []; last = (TestLast (BinaryExpr Lt (VarExpr (id (codes "s1"))) (IntExpr (pos 2))) 2 4) })
+        ∷ (record { catcher = None; body = ((SetInstr ((id (codes "s2")) ∷ []) (BinaryExpr Mul (VarExpr (id (codes "s1"))) (IntExpr (pos 10)))) ∷ []); last = (ChooseLast 1) })
+        ∷ (record {
+          catcher = None;
+          body = ((ActInstr ((id (codes "trace")) ∷ []) (MoreExprs (VarExpr (id (codes "s2"))) NoExprs))
+              ∷ (SetInstr ((id (codes "s1")) ∷ []) (BinaryExpr Add (VarExpr (id (codes "s1"))) (IntExpr (pos 1)))) ∷ []);
+          last = (PassLast 1);
+        })
+        ∷ (record { catcher = None; body = []; last = (ReturnLast VoidExpr) }) ∷ []);
+    groups = (((record { next = false; operand = (CallExpr (id (codes "delay")) (MoreExprs (IntExpr (pos 1)) NoExprs)); into = None; block = 3 }) ∷ []) ∷ []);
+  }) ∷ []);
+}
 
 state_in_loop_by_classes : ClassTrace state_in_loop_classes state_in_loop_world state_in_loop_lines
 unfolding state_in_loop_classes state_in_loop_world state_in_loop_lines
@@ -77,7 +136,20 @@ state_in_loop_by_classes = class_trace 20 400 state_in_loop_classes state_in_loo
 
 -- a number out of range, caught
 unfoldable pub overflow_caught_program : ProgramTree
-overflow_caught_program = record { decls = ((ActorDecl (record { at = nowhere; returns = VoidType; name = (id (codes "main")); params = ((record { ty = IntType; name = (id (codes "p")) }) ∷ []); body = (TryStmt nowhere (DeclareStmt nowhere (record { state = false; ty = IntType; name = (id (codes "x")) }) (Some (IntExpr (pos 9223372036854775807))) (CallStmt nowhere ((id (codes "trace")) ∷ []) (MoreExprs (BinaryExpr Add (VarExpr (id (codes "x"))) (IntExpr (pos 1))) NoExprs) End)) nowhere (id (codes "e")) (CallStmt nowhere ((id (codes "trace")) ∷ []) (MoreExprs (MethodExpr (VarExpr (id (codes "e"))) (id (codes "code")) NoExprs) NoExprs) End) (ReturnStmt nowhere VoidExpr End)); close = nowhere })) ∷ []); end = nowhere }
+overflow_caught_program = record {
+  decls = ((ActorDecl (record {
+    at = nowhere;
+    returns = VoidType;
+    name = (id (codes "main"));
+    params = ((record { ty = IntType; name = (id (codes "p")) }) ∷ []);
+    body = (TryStmt nowhere (DeclareStmt nowhere (record { state = false; ty = IntType; name = (id (codes "x")) }) (Some (IntExpr (pos 9223372036854775807)))
+        (CallStmt nowhere ((id (codes "trace")) ∷ []) (MoreExprs (BinaryExpr Add (VarExpr (id (codes "x"))) (IntExpr (pos 1))) NoExprs) End)) nowhere (id (codes "e"))
+        (CallStmt nowhere ((id (codes "trace")) ∷ []) (MoreExprs (MethodExpr (VarExpr (id (codes "e"))) (id (codes "code")) NoExprs) NoExprs) End) (ReturnStmt nowhere VoidExpr End));
+    close = nowhere;
+  }))
+      ∷ []);
+  end = nowhere;
+}
 
 unfoldable pub overflow_caught_world : World
 overflow_caught_world = record { seed = 0; words = []; processes = 1; events = 1000; turns = 100000; latency = (1, 2); loss = 0; diskdelay = (1, 2); script = [] }
@@ -98,7 +170,30 @@ unfolding overflow_caught_program overflow_caught_world overflow_caught_lines
 overflow_caught = source_trace 20 400 overflow_caught_program overflow_caught_world overflow_caught_lines refl
 
 unfoldable pub overflow_caught_classes : RawTree
-overflow_caught_classes = record { records = []; functions = []; classes = ((record { name = (codes "main"); returns = VoidType; params = 1; slots = ((record { ty = IntType; name = (codes "p") }) ∷ []); locals = (IntType ∷ ErrorType ∷ []); blocks = ((record { catcher = None; body = []; last = (GotoLast 1) }) ∷ (record { catcher = (Some (record { block = 2; error = (Some 1); drops = (0 ∷ []) })); body = ((SetInstr ((id (codes "l0")) ∷ []) (IntExpr (pos 9223372036854775807))) ∷ (ActInstr ((id (codes "trace")) ∷ []) (MoreExprs (BinaryExpr Add (VarExpr (id (codes "l0"))) (IntExpr (pos 1))) NoExprs)) ∷ (DropInstr (0 ∷ [])) ∷ []); last = (GotoLast 3) }) ∷ (record { catcher = None; body = ((ActInstr ((id (codes "trace")) ∷ []) (MoreExprs (MethodExpr (VarExpr (id (codes "l1"))) (id (codes "code")) NoExprs) NoExprs)) ∷ (DropInstr (1 ∷ [])) ∷ []); last = (GotoLast 3) }) ∷ (record { catcher = None; body = []; last = (ReturnLast VoidExpr) }) ∷ []); groups = [] }) ∷ []) }
+overflow_caught_classes = record {
+  records = [];
+  functions = [];
+  classes = ((record {
+    name = (codes "main");
+    returns = VoidType;
+    params = 1;
+    slots = ((record { ty = IntType; name = (codes "p") }) ∷ []);
+    locals = (IntType ∷ ErrorType ∷ []);
+    blocks = ((record { catcher = None; body = []; last = (GotoLast 1) })
+        ∷ (record {
+          catcher = (Some (record { block = 2; error = (Some 1); drops = (0 ∷ []) }));
+          body = ((SetInstr ((id (codes "l0")) ∷ []) (IntExpr (pos 9223372036854775807)))
+              ∷ (ActInstr ((id (codes "trace")) ∷ []) (MoreExprs (BinaryExpr Add (VarExpr (id (codes "l0"))) (IntExpr (pos 1))) NoExprs)) ∷ (DropInstr (0 ∷ [])) ∷ []);
+          last = (GotoLast 3);
+        })
+        ∷ (record {
+          catcher = None;
+          body = ((ActInstr ((id (codes "trace")) ∷ []) (MoreExprs (MethodExpr (VarExpr (id (codes "l1"))) (id (codes "code")) NoExprs) NoExprs)) ∷ (DropInstr (1 ∷ [])) ∷ []);
+          last = (GotoLast 3);
+        }) ∷ (record { catcher = None; body = []; last = (ReturnLast VoidExpr) }) ∷ []);
+    groups = [];
+  }) ∷ []);
+}
 
 overflow_caught_by_classes : ClassTrace overflow_caught_classes overflow_caught_world overflow_caught_lines
 unfolding overflow_caught_classes overflow_caught_world overflow_caught_lines
@@ -106,7 +201,33 @@ overflow_caught_by_classes = class_trace 20 400 overflow_caught_classes overflow
 
 -- two timers at one time, the second of a negative delay
 unfoldable pub waits_for_a_doubled_value_program : ProgramTree
-waits_for_a_doubled_value_program = record { decls = ((ActorDecl (record { at = nowhere; returns = IntType; name = (id (codes "twice")); params = ((record { ty = IntType; name = (id (codes "v")) }) ∷ []); body = (WaitStmt nowhere (record { into = None; next = false; operand = (CallExpr (id (codes "delay")) (MoreExprs (IntExpr (pos 2)) NoExprs)) }) (ReturnStmt nowhere (BinaryExpr Mul (VarExpr (id (codes "v"))) (IntExpr (pos 2))) End)); close = nowhere })) ∷ (ActorDecl (record { at = nowhere; returns = VoidType; name = (id (codes "main")); params = ((record { ty = IntType; name = (id (codes "p")) }) ∷ []); body = (WaitStmt nowhere (record { into = (Some (record { state = false; ty = IntType; name = (id (codes "x")) })); next = false; operand = (CallExpr (id (codes "twice")) (MoreExprs (IntExpr (pos 4)) NoExprs)) }) (CallStmt nowhere ((id (codes "trace")) ∷ []) (MoreExprs (VarExpr (id (codes "x"))) NoExprs) (WaitStmt nowhere (record { into = None; next = false; operand = (CallExpr (id (codes "delay")) (MoreExprs (NegExpr (IntExpr (pos 3))) NoExprs)) }) (CallStmt nowhere ((id (codes "trace")) ∷ []) (MoreExprs (TextExpr (codes "end")) NoExprs) (ReturnStmt nowhere VoidExpr End))))); close = nowhere })) ∷ []); end = nowhere }
+waits_for_a_doubled_value_program = record {
+  decls = ((ActorDecl (record {
+    at = nowhere;
+    returns = IntType;
+    name = (id (codes "twice"));
+    params = ((record { ty = IntType; name = (id (codes "v")) }) ∷ []);
+    body = (WaitStmt nowhere (record { into = None; next = false; operand = (CallExpr (id (codes "delay")) (MoreExprs (IntExpr (pos 2)) NoExprs)) })
+        (ReturnStmt nowhere (BinaryExpr Mul (VarExpr (id (codes "v"))) (IntExpr (pos 2))) End));
+    close = nowhere;
+  }))
+      ∷ (ActorDecl (record {
+        at = nowhere;
+        returns = VoidType;
+        name = (id (codes "main"));
+        params = ((record { ty = IntType; name = (id (codes "p")) }) ∷ []);
+        body = (WaitStmt nowhere (record {
+          into = (Some (record { state = false; ty = IntType; name = (id (codes "x")) }));
+          next = false;
+          operand = (CallExpr (id (codes "twice")) (MoreExprs (IntExpr (pos 4)) NoExprs));
+        })
+            (CallStmt nowhere ((id (codes "trace")) ∷ []) (MoreExprs (VarExpr (id (codes "x"))) NoExprs)
+            (WaitStmt nowhere (record { into = None; next = false; operand = (CallExpr (id (codes "delay")) (MoreExprs (NegExpr (IntExpr (pos 3))) NoExprs)) })
+            (CallStmt nowhere ((id (codes "trace")) ∷ []) (MoreExprs (TextExpr (codes "end")) NoExprs) (ReturnStmt nowhere VoidExpr End)))));
+        close = nowhere;
+      })) ∷ []);
+  end = nowhere;
+}
 
 unfoldable pub waits_for_a_doubled_value_world : World
 waits_for_a_doubled_value_world = record { seed = 0; words = []; processes = 1; events = 1000; turns = 100000; latency = (1, 2); loss = 0; diskdelay = (1, 2); script = [] }

@@ -17,7 +17,36 @@ use Rattle.flow_class.specs.Classes.{RawTree, EffectInstr, NewInstr, ActInstr, D
 
 -- a choose whose first branch is ready: the second operand is never evaluated
 unfoldable pub second_operand_never_starts_program : ProgramTree
-second_operand_never_starts_program = record { decls = ((ActorDecl (record { at = nowhere; returns = IntType; name = (id (codes "one")); params = ((record { ty = IntType; name = (id (codes "v")) }) ∷ []); body = (ReturnStmt nowhere (VarExpr (id (codes "v"))) End); close = nowhere })) ∷ (ActorDecl (record { at = nowhere; returns = VoidType; name = (id (codes "main")); params = ((record { ty = IntType; name = (id (codes "p")) }) ∷ []); body = (ChooseStmt nowhere (MoreBranches nowhere (record { into = (Some (record { state = false; ty = IntType; name = (id (codes "x")) })); next = false; operand = (CallExpr (id (codes "one")) (MoreExprs (IntExpr (pos 7)) NoExprs)) }) (CallStmt nowhere ((id (codes "trace")) ∷ []) (MoreExprs (VarExpr (id (codes "x"))) NoExprs) End) (MoreBranches nowhere (record { into = (Some (record { state = false; ty = IntType; name = (id (codes "y")) })); next = false; operand = (CallExpr (id (codes "one")) (MoreExprs (IntExpr (pos 8)) NoExprs)) }) (CallStmt nowhere ((id (codes "trace")) ∷ []) (MoreExprs (VarExpr (id (codes "y"))) NoExprs) End) NoBranches)) (ReturnStmt nowhere VoidExpr End)); close = nowhere })) ∷ []); end = nowhere }
+second_operand_never_starts_program = record {
+  decls = ((ActorDecl
+      (record {
+        at = nowhere;
+        returns = IntType;
+        name = (id (codes "one"));
+        params = ((record { ty = IntType; name = (id (codes "v")) }) ∷ []);
+        body = (ReturnStmt nowhere (VarExpr (id (codes "v"))) End);
+        close = nowhere;
+      }))
+      ∷ (ActorDecl (record {
+        at = nowhere;
+        returns = VoidType;
+        name = (id (codes "main"));
+        params = ((record { ty = IntType; name = (id (codes "p")) }) ∷ []);
+        body = (ChooseStmt nowhere (MoreBranches nowhere (record {
+          into = (Some (record { state = false; ty = IntType; name = (id (codes "x")) }));
+          next = false;
+          operand = (CallExpr (id (codes "one")) (MoreExprs (IntExpr (pos 7)) NoExprs));
+        }) (CallStmt nowhere ((id (codes "trace")) ∷ []) (MoreExprs (VarExpr (id (codes "x"))) NoExprs) End)
+            (MoreBranches nowhere (record {
+              into = (Some (record { state = false; ty = IntType; name = (id (codes "y")) }));
+              next = false;
+              operand = (CallExpr (id (codes "one")) (MoreExprs (IntExpr (pos 8)) NoExprs));
+            }) (CallStmt nowhere ((id (codes "trace")) ∷ []) (MoreExprs (VarExpr (id (codes "y"))) NoExprs) End) NoBranches))
+            (ReturnStmt nowhere VoidExpr End));
+        close = nowhere;
+      })) ∷ []);
+  end = nowhere;
+}
 
 unfoldable pub second_operand_never_starts_world : World
 second_operand_never_starts_world = record { seed = 0; words = []; processes = 1; events = 1000; turns = 100000; latency = (1, 2); loss = 0; diskdelay = (1, 2); script = [] }
@@ -39,7 +68,32 @@ unfolding second_operand_never_starts_program second_operand_never_starts_world 
 second_operand_never_starts = source_trace 20 400 second_operand_never_starts_program second_operand_never_starts_world second_operand_never_starts_lines refl
 
 unfoldable pub second_operand_never_starts_classes : RawTree
-second_operand_never_starts_classes = record { records = []; functions = []; classes = ((record { name = (codes "one"); returns = IntType; params = 1; slots = ((record { ty = IntType; name = (codes "v") }) ∷ []); locals = []; blocks = ((record { catcher = None; body = []; last = (ReturnLast (VarExpr (id (codes "s0")))) }) ∷ []); groups = [] }) ∷ (record { name = (codes "main"); returns = VoidType; params = 1; slots = ((record { ty = IntType; name = (codes "p") }) ∷ []); locals = (IntType ∷ IntType ∷ []); blocks = ((record { catcher = None; body = []; last = (ChooseLast 1) }) ∷ (record { catcher = None; body = ((ActInstr ((id (codes "trace")) ∷ []) (MoreExprs (VarExpr (id (codes "l0"))) NoExprs)) ∷ (DropInstr (0 ∷ [])) ∷ []); last = (GotoLast 3) }) ∷ (record { catcher = None; body = ((ActInstr ((id (codes "trace")) ∷ []) (MoreExprs (VarExpr (id (codes "l1"))) NoExprs)) ∷ (DropInstr (1 ∷ [])) ∷ []); last = (GotoLast 3) }) ∷ (record { catcher = None; body = []; last = (ReturnLast VoidExpr) }) ∷ []); groups = (((record { next = false; operand = (CallExpr (id (codes "one")) (MoreExprs (IntExpr (pos 7)) NoExprs)); into = (Some (Local 0)); block = 1 }) ∷ (record { next = false; operand = (CallExpr (id (codes "one")) (MoreExprs (IntExpr (pos 8)) NoExprs)); into = (Some (Local 1)); block = 2 }) ∷ []) ∷ []) }) ∷ []) }
+second_operand_never_starts_classes = record {
+  records = [];
+  functions = [];
+  classes = ((record {
+    name = (codes "one");
+    returns = IntType;
+    params = 1;
+    slots = ((record { ty = IntType; name = (codes "v") }) ∷ []);
+    locals = [];
+    blocks = ((record { catcher = None; body = []; last = (ReturnLast (VarExpr (id (codes "s0")))) }) ∷ []);
+    groups = [];
+  })
+      ∷ (record {
+        name = (codes "main");
+        returns = VoidType;
+        params = 1;
+        slots = ((record { ty = IntType; name = (codes "p") }) ∷ []);
+        locals = (IntType ∷ IntType ∷ []);
+        blocks = ((record { catcher = None; body = []; last = (ChooseLast 1) })
+            ∷ (record { catcher = None; body = ((ActInstr ((id (codes "trace")) ∷ []) (MoreExprs (VarExpr (id (codes "l0"))) NoExprs)) ∷ (DropInstr (0 ∷ [])) ∷ []); last = (GotoLast 3) })
+            ∷ (record { catcher = None; body = ((ActInstr ((id (codes "trace")) ∷ []) (MoreExprs (VarExpr (id (codes "l1"))) NoExprs)) ∷ (DropInstr (1 ∷ [])) ∷ []); last = (GotoLast 3) })
+            ∷ (record { catcher = None; body = []; last = (ReturnLast VoidExpr) }) ∷ []);
+        groups = (((record { next = false; operand = (CallExpr (id (codes "one")) (MoreExprs (IntExpr (pos 7)) NoExprs)); into = (Some (Local 0)); block = 1 })
+            ∷ (record { next = false; operand = (CallExpr (id (codes "one")) (MoreExprs (IntExpr (pos 8)) NoExprs)); into = (Some (Local 1)); block = 2 }) ∷ []) ∷ []);
+      }) ∷ []);
+}
 
 second_operand_never_starts_by_classes : ClassTrace second_operand_never_starts_classes second_operand_never_starts_world second_operand_never_starts_lines
 unfolding second_operand_never_starts_classes second_operand_never_starts_world second_operand_never_starts_lines
@@ -47,7 +101,30 @@ second_operand_never_starts_by_classes = class_trace 20 400 second_operand_never
 
 -- two branches of one choose wait for one future
 unfoldable pub choose_twice_on_one_future_program : ProgramTree
-choose_twice_on_one_future_program = record { decls = ((ActorDecl (record { at = nowhere; returns = IntType; name = (id (codes "both")); params = ((record { ty = (FutureType IntType); name = (id (codes "f")) }) ∷ []); body = (ChooseStmt nowhere (MoreBranches nowhere (record { into = (Some (record { state = false; ty = IntType; name = (id (codes "x")) })); next = false; operand = (VarExpr (id (codes "f"))) }) (CallStmt nowhere ((id (codes "trace")) ∷ []) (MoreExprs (VarExpr (id (codes "x"))) NoExprs) End) (MoreBranches nowhere (record { into = (Some (record { state = false; ty = IntType; name = (id (codes "y")) })); next = false; operand = (VarExpr (id (codes "f"))) }) (CallStmt nowhere ((id (codes "trace")) ∷ []) (MoreExprs (BinaryExpr Add (VarExpr (id (codes "y"))) (IntExpr (pos 100))) NoExprs) End) NoBranches)) (ReturnStmt nowhere (IntExpr (pos 0)) End)); close = nowhere })) ∷ (ActorDecl (record { at = nowhere; returns = VoidType; name = (id (codes "main")); params = ((record { ty = IntType; name = (id (codes "p")) }) ∷ []); body = (DeclareStmt nowhere (record { state = true; ty = (PromiseType IntType); name = (id (codes "q")) }) None (DeclareStmt nowhere (record { state = true; ty = (FutureType IntType); name = (id (codes "b")) }) (Some (CallExpr (id (codes "both")) (MoreExprs (MethodExpr (VarExpr (id (codes "q"))) (id (codes "getFuture")) NoExprs) NoExprs))) (CallStmt nowhere ((id (codes "q")) ∷ (id (codes "send")) ∷ []) (MoreExprs (IntExpr (pos 5)) NoExprs) (ReturnStmt nowhere VoidExpr End)))); close = nowhere })) ∷ []); end = nowhere }
+choose_twice_on_one_future_program = record {
+  decls = ((ActorDecl (record {
+    at = nowhere;
+    returns = IntType;
+    name = (id (codes "both"));
+    params = ((record { ty = (FutureType IntType); name = (id (codes "f")) }) ∷ []);
+    body = (ChooseStmt nowhere (MoreBranches nowhere (record { into = (Some (record { state = false; ty = IntType; name = (id (codes "x")) })); next = false; operand = (VarExpr (id (codes "f"))) })
+        (CallStmt nowhere ((id (codes "trace")) ∷ []) (MoreExprs (VarExpr (id (codes "x"))) NoExprs) End)
+        (MoreBranches nowhere (record { into = (Some (record { state = false; ty = IntType; name = (id (codes "y")) })); next = false; operand = (VarExpr (id (codes "f"))) })
+        (CallStmt nowhere ((id (codes "trace")) ∷ []) (MoreExprs (BinaryExpr Add (VarExpr (id (codes "y"))) (IntExpr (pos 100))) NoExprs) End) NoBranches)) (ReturnStmt nowhere (IntExpr (pos 0)) End));
+    close = nowhere;
+  })) ∷ (ActorDecl (record {
+    at = nowhere;
+    returns = VoidType;
+    name = (id (codes "main"));
+    params = ((record { ty = IntType; name = (id (codes "p")) }) ∷ []);
+    body = (DeclareStmt nowhere (record { state = true; ty = (PromiseType IntType); name = (id (codes "q")) }) None
+        (DeclareStmt nowhere (record { state = true; ty = (FutureType IntType); name = (id (codes "b")) })
+        (Some (CallExpr (id (codes "both")) (MoreExprs (MethodExpr (VarExpr (id (codes "q"))) (id (codes "getFuture")) NoExprs) NoExprs)))
+        (CallStmt nowhere ((id (codes "q")) ∷ (id (codes "send")) ∷ []) (MoreExprs (IntExpr (pos 5)) NoExprs) (ReturnStmt nowhere VoidExpr End))));
+    close = nowhere;
+  })) ∷ []);
+  end = nowhere;
+}
 
 unfoldable pub choose_twice_on_one_future_world : World
 choose_twice_on_one_future_world = record { seed = 0; words = []; processes = 1; events = 1000; turns = 100000; latency = (1, 2); loss = 0; diskdelay = (1, 2); script = [] }
@@ -70,7 +147,41 @@ unfolding choose_twice_on_one_future_program choose_twice_on_one_future_world ch
 choose_twice_on_one_future = source_trace 20 400 choose_twice_on_one_future_program choose_twice_on_one_future_world choose_twice_on_one_future_lines refl
 
 unfoldable pub choose_twice_on_one_future_classes : RawTree
-choose_twice_on_one_future_classes = record { records = []; functions = []; classes = ((record { name = (codes "both"); returns = IntType; params = 1; slots = ((record { ty = (FutureType IntType); name = (codes "f") }) ∷ []); locals = (IntType ∷ IntType ∷ []); blocks = ((record { catcher = None; body = []; last = (ChooseLast 1) }) ∷ (record { catcher = None; body = ((ActInstr ((id (codes "trace")) ∷ []) (MoreExprs (VarExpr (id (codes "l0"))) NoExprs)) ∷ (DropInstr (0 ∷ [])) ∷ []); last = (GotoLast 3) }) ∷ (record { catcher = None; body = ((ActInstr ((id (codes "trace")) ∷ []) (MoreExprs (BinaryExpr Add (VarExpr (id (codes "l1"))) (IntExpr (pos 100))) NoExprs)) ∷ (DropInstr (1 ∷ [])) ∷ []); last = (GotoLast 3) }) ∷ (record { catcher = None; body = []; last = (ReturnLast (IntExpr (pos 0))) }) ∷ []); groups = (((record { next = false; operand = (VarExpr (id (codes "s0"))); into = (Some (Local 0)); block = 1 }) ∷ (record { next = false; operand = (VarExpr (id (codes "s0"))); into = (Some (Local 1)); block = 2 }) ∷ []) ∷ []) }) ∷ (record { name = (codes "main"); returns = VoidType; params = 1; slots = ((record { ty = IntType; name = (codes "p") }) ∷ (record { ty = (PromiseType IntType); name = (codes "q") }) ∷ (record { ty = (FutureType IntType); name = (codes "b") }) ∷ []); locals = []; blocks = ((record { catcher = None; body = ((NewInstr (Slot 1)) ∷ (EffectInstr ((id (codes "s2")) ∷ []) (CallExpr (id (codes "both")) (MoreExprs (MethodExpr (VarExpr (id (codes "s1"))) (id (codes "getFuture")) NoExprs) NoExprs))) ∷ (ActInstr ((id (codes "s1")) ∷ (id (codes "send")) ∷ []) (MoreExprs (IntExpr (pos 5)) NoExprs)) ∷ []); last = (ReturnLast VoidExpr) }) ∷ []); groups = [] }) ∷ []) }
+choose_twice_on_one_future_classes = record {
+  records = [];
+  functions = [];
+  classes = ((record {
+    name = (codes "both");
+    returns = IntType;
+    params = 1;
+    slots = ((record { ty = (FutureType IntType); name = (codes "f") }) ∷ []);
+    locals = (IntType ∷ IntType ∷ []);
+    blocks = ((record { catcher = None; body = []; last = (ChooseLast 1) })
+        ∷ (record { catcher = None; body = ((ActInstr ((id (codes "trace")) ∷ []) (MoreExprs (VarExpr (id (codes "l0"))) NoExprs)) ∷ (DropInstr (0 ∷ [])) ∷ []); last = (GotoLast 3) })
+        ∷ (record {
+          catcher = None;
+          body = ((ActInstr ((id (codes "trace")) ∷ []) (MoreExprs (BinaryExpr Add (VarExpr (id (codes "l1"))) (IntExpr (pos 100))) NoExprs)) ∷ (DropInstr (1 ∷ [])) ∷ []);
+          last = (GotoLast 3);
+        }) ∷ (record { catcher = None; body = []; last = (ReturnLast (IntExpr (pos 0))) }) ∷ []);
+    groups = (((record { next = false; operand = (VarExpr (id (codes "s0"))); into = (Some (Local 0)); block = 1 })
+        ∷ (record { next = false; operand = (VarExpr (id (codes "s0"))); into = (Some (Local 1)); block = 2 }) ∷ []) ∷ []);
+  })
+      ∷ (record {
+        name = (codes "main");
+        returns = VoidType;
+        params = 1;
+        slots = ((record { ty = IntType; name = (codes "p") }) ∷ (record { ty = (PromiseType IntType); name = (codes "q") }) ∷ (record { ty = (FutureType IntType); name = (codes "b") }) ∷ []);
+        locals = [];
+        blocks = ((record {
+          catcher = None;
+          body = ((NewInstr (Slot 1))
+              ∷ (EffectInstr ((id (codes "s2")) ∷ []) (CallExpr (id (codes "both")) (MoreExprs (MethodExpr (VarExpr (id (codes "s1"))) (id (codes "getFuture")) NoExprs) NoExprs)))
+              ∷ (ActInstr ((id (codes "s1")) ∷ (id (codes "send")) ∷ []) (MoreExprs (IntExpr (pos 5)) NoExprs)) ∷ []);
+          last = (ReturnLast VoidExpr);
+        }) ∷ []);
+        groups = [];
+      }) ∷ []);
+}
 
 choose_twice_on_one_future_by_classes : ClassTrace choose_twice_on_one_future_classes choose_twice_on_one_future_world choose_twice_on_one_future_lines
 unfolding choose_twice_on_one_future_classes choose_twice_on_one_future_world choose_twice_on_one_future_lines
@@ -78,7 +189,36 @@ choose_twice_on_one_future_by_classes = class_trace 20 400 choose_twice_on_one_f
 
 -- an actor whose wait drops the last promise of what it waits for
 unfoldable pub promise_broken_at_wait_program : ProgramTree
-promise_broken_at_wait_program = record { decls = ((ActorDecl (record { at = nowhere; returns = IntType; name = (id (codes "hold")); params = ((record { ty = IntType; name = (id (codes "n")) }) ∷ []); body = (DeclareStmt nowhere (record { state = false; ty = (PromiseType IntType); name = (id (codes "q")) }) None (WaitStmt nowhere (record { into = (Some (record { state = false; ty = IntType; name = (id (codes "x")) })); next = false; operand = (MethodExpr (VarExpr (id (codes "q"))) (id (codes "getFuture")) NoExprs) }) (ReturnStmt nowhere (VarExpr (id (codes "x"))) End))); close = nowhere })) ∷ (ActorDecl (record { at = nowhere; returns = VoidType; name = (id (codes "main")); params = ((record { ty = IntType; name = (id (codes "p")) }) ∷ []); body = (TryStmt nowhere (WaitStmt nowhere (record { into = (Some (record { state = false; ty = IntType; name = (id (codes "v")) })); next = false; operand = (CallExpr (id (codes "hold")) (MoreExprs (IntExpr (pos 1)) NoExprs)) }) (CallStmt nowhere ((id (codes "trace")) ∷ []) (MoreExprs (VarExpr (id (codes "v"))) NoExprs) End)) nowhere (id (codes "e")) (CallStmt nowhere ((id (codes "trace")) ∷ []) (MoreExprs (MethodExpr (VarExpr (id (codes "e"))) (id (codes "code")) NoExprs) NoExprs) End) (ReturnStmt nowhere VoidExpr End)); close = nowhere })) ∷ []); end = nowhere }
+promise_broken_at_wait_program = record {
+  decls = ((ActorDecl (record {
+    at = nowhere;
+    returns = IntType;
+    name = (id (codes "hold"));
+    params = ((record { ty = IntType; name = (id (codes "n")) }) ∷ []);
+    body = (DeclareStmt nowhere (record { state = false; ty = (PromiseType IntType); name = (id (codes "q")) }) None
+        (WaitStmt nowhere (record {
+          into = (Some (record { state = false; ty = IntType; name = (id (codes "x")) }));
+          next = false;
+          operand = (MethodExpr (VarExpr (id (codes "q"))) (id (codes "getFuture")) NoExprs);
+        }) (ReturnStmt nowhere (VarExpr (id (codes "x"))) End)));
+    close = nowhere;
+  }))
+      ∷ (ActorDecl (record {
+        at = nowhere;
+        returns = VoidType;
+        name = (id (codes "main"));
+        params = ((record { ty = IntType; name = (id (codes "p")) }) ∷ []);
+        body = (TryStmt nowhere (WaitStmt nowhere (record {
+          into = (Some (record { state = false; ty = IntType; name = (id (codes "v")) }));
+          next = false;
+          operand = (CallExpr (id (codes "hold")) (MoreExprs (IntExpr (pos 1)) NoExprs));
+        }) (CallStmt nowhere ((id (codes "trace")) ∷ []) (MoreExprs (VarExpr (id (codes "v"))) NoExprs) End)) nowhere
+            (id (codes "e")) (CallStmt nowhere ((id (codes "trace")) ∷ []) (MoreExprs (MethodExpr (VarExpr (id (codes "e"))) (id (codes "code")) NoExprs) NoExprs) End)
+                (ReturnStmt nowhere VoidExpr End));
+        close = nowhere;
+      })) ∷ []);
+  end = nowhere;
+}
 
 unfoldable pub promise_broken_at_wait_world : World
 promise_broken_at_wait_world = record { seed = 0; words = []; processes = 1; events = 1000; turns = 100000; latency = (1, 2); loss = 0; diskdelay = (1, 2); script = [] }
@@ -106,7 +246,38 @@ unfolding promise_broken_at_wait_program promise_broken_at_wait_world promise_br
 promise_broken_at_wait = source_trace 20 400 promise_broken_at_wait_program promise_broken_at_wait_world promise_broken_at_wait_lines refl
 
 unfoldable pub promise_broken_at_wait_classes : RawTree
-promise_broken_at_wait_classes = record { records = []; functions = []; classes = ((record { name = (codes "hold"); returns = IntType; params = 1; slots = ((record { ty = IntType; name = (codes "n") }) ∷ []); locals = ((PromiseType IntType) ∷ IntType ∷ []); blocks = ((record { catcher = None; body = ((NewInstr (Local 0)) ∷ []); last = (ChooseLast 1) }) ∷ (record { catcher = None; body = []; last = (ReturnLast (VarExpr (id (codes "l1")))) }) ∷ []); groups = (((record { next = false; operand = (MethodExpr (VarExpr (id (codes "l0"))) (id (codes "getFuture")) NoExprs); into = (Some (Local 1)); block = 1 }) ∷ []) ∷ []) }) ∷ (record { name = (codes "main"); returns = VoidType; params = 1; slots = ((record { ty = IntType; name = (codes "p") }) ∷ []); locals = (IntType ∷ ErrorType ∷ []); blocks = ((record { catcher = None; body = []; last = (GotoLast 1) }) ∷ (record { catcher = (Some (record { block = 3; error = (Some 1); drops = [] })); body = []; last = (ChooseLast 1) }) ∷ (record { catcher = (Some (record { block = 3; error = (Some 1); drops = (0 ∷ []) })); body = ((ActInstr ((id (codes "trace")) ∷ []) (MoreExprs (VarExpr (id (codes "l0"))) NoExprs)) ∷ (DropInstr (0 ∷ [])) ∷ []); last = (GotoLast 4) }) ∷ (record { catcher = None; body = ((ActInstr ((id (codes "trace")) ∷ []) (MoreExprs (MethodExpr (VarExpr (id (codes "l1"))) (id (codes "code")) NoExprs) NoExprs)) ∷ (DropInstr (1 ∷ [])) ∷ []); last = (GotoLast 4) }) ∷ (record { catcher = None; body = []; last = (ReturnLast VoidExpr) }) ∷ []); groups = (((record { next = false; operand = (CallExpr (id (codes "hold")) (MoreExprs (IntExpr (pos 1)) NoExprs)); into = (Some (Local 0)); block = 2 }) ∷ []) ∷ []) }) ∷ []) }
+promise_broken_at_wait_classes = record {
+  records = [];
+  functions = [];
+  classes = ((record {
+    name = (codes "hold");
+    returns = IntType;
+    params = 1;
+    slots = ((record { ty = IntType; name = (codes "n") }) ∷ []);
+    locals = ((PromiseType IntType) ∷ IntType ∷ []);
+    blocks = ((record { catcher = None; body = ((NewInstr (Local 0)) ∷ []); last = (ChooseLast 1) }) ∷ (record { catcher = None; body = []; last = (ReturnLast (VarExpr (id (codes "l1")))) }) ∷ []);
+    groups = (((record { next = false; operand = (MethodExpr (VarExpr (id (codes "l0"))) (id (codes "getFuture")) NoExprs); into = (Some (Local 1)); block = 1 }) ∷ []) ∷ []);
+  })
+      ∷ (record {
+        name = (codes "main");
+        returns = VoidType;
+        params = 1;
+        slots = ((record { ty = IntType; name = (codes "p") }) ∷ []);
+        locals = (IntType ∷ ErrorType ∷ []);
+        blocks = ((record { catcher = None; body = []; last = (GotoLast 1) }) ∷ (record { catcher = (Some (record { block = 3; error = (Some 1); drops = [] })); body = []; last = (ChooseLast 1) })
+            ∷ (record {
+              catcher = (Some (record { block = 3; error = (Some 1); drops = (0 ∷ []) }));
+              body = ((ActInstr ((id (codes "trace")) ∷ []) (MoreExprs (VarExpr (id (codes "l0"))) NoExprs)) ∷ (DropInstr (0 ∷ [])) ∷ []);
+              last = (GotoLast 4);
+            })
+            ∷ (record {
+              catcher = None;
+              body = ((ActInstr ((id (codes "trace")) ∷ []) (MoreExprs (MethodExpr (VarExpr (id (codes "l1"))) (id (codes "code")) NoExprs) NoExprs)) ∷ (DropInstr (1 ∷ [])) ∷ []);
+              last = (GotoLast 4);
+            }) ∷ (record { catcher = None; body = []; last = (ReturnLast VoidExpr) }) ∷ []);
+        groups = (((record { next = false; operand = (CallExpr (id (codes "hold")) (MoreExprs (IntExpr (pos 1)) NoExprs)); into = (Some (Local 0)); block = 2 }) ∷ []) ∷ []);
+      }) ∷ []);
+}
 
 promise_broken_at_wait_by_classes : ClassTrace promise_broken_at_wait_classes promise_broken_at_wait_world promise_broken_at_wait_lines
 unfolding promise_broken_at_wait_classes promise_broken_at_wait_world promise_broken_at_wait_lines
@@ -114,7 +285,27 @@ promise_broken_at_wait_by_classes = class_trace 20 400 promise_broken_at_wait_cl
 
 -- a second waiter at one stream is refused
 unfoldable pub second_waiter_on_a_stream_program : ProgramTree
-second_waiter_on_a_stream_program = record { decls = ((ActorDecl (record { at = nowhere; returns = VoidType; name = (id (codes "main")); params = ((record { ty = IntType; name = (id (codes "p")) }) ∷ []); body = (DeclareStmt nowhere (record { state = true; ty = (PromiseStreamType IntType); name = (id (codes "q")) }) None (TryStmt nowhere (ChooseStmt nowhere (MoreBranches nowhere (record { into = (Some (record { state = false; ty = IntType; name = (id (codes "a")) })); next = true; operand = (MethodExpr (VarExpr (id (codes "q"))) (id (codes "getFuture")) NoExprs) }) (CallStmt nowhere ((id (codes "trace")) ∷ []) (MoreExprs (VarExpr (id (codes "a"))) NoExprs) End) (MoreBranches nowhere (record { into = (Some (record { state = false; ty = IntType; name = (id (codes "b")) })); next = true; operand = (MethodExpr (VarExpr (id (codes "q"))) (id (codes "getFuture")) NoExprs) }) (CallStmt nowhere ((id (codes "trace")) ∷ []) (MoreExprs (VarExpr (id (codes "b"))) NoExprs) End) NoBranches)) End) nowhere (id (codes "e")) (CallStmt nowhere ((id (codes "trace")) ∷ []) (MoreExprs (MethodExpr (VarExpr (id (codes "e"))) (id (codes "code")) NoExprs) NoExprs) End) (ReturnStmt nowhere VoidExpr End))); close = nowhere })) ∷ []); end = nowhere }
+second_waiter_on_a_stream_program = record {
+  decls = ((ActorDecl (record {
+    at = nowhere;
+    returns = VoidType;
+    name = (id (codes "main"));
+    params = ((record { ty = IntType; name = (id (codes "p")) }) ∷ []);
+    body = (DeclareStmt nowhere (record { state = true; ty = (PromiseStreamType IntType); name = (id (codes "q")) }) None
+        (TryStmt nowhere (ChooseStmt nowhere (MoreBranches nowhere (record
+        { into = (Some (record { state = false; ty = IntType; name = (id (codes "a")) })); next = true; operand = (MethodExpr (VarExpr (id (codes "q"))) (id (codes "getFuture")) NoExprs) })
+        (CallStmt nowhere ((id (codes "trace")) ∷ []) (MoreExprs (VarExpr (id (codes "a"))) NoExprs) End)
+        (MoreBranches nowhere (record {
+          into = (Some (record { state = false; ty = IntType; name = (id (codes "b")) }));
+          next = true;
+          operand = (MethodExpr (VarExpr (id (codes "q"))) (id (codes "getFuture")) NoExprs);
+        }) (CallStmt nowhere ((id (codes "trace")) ∷ []) (MoreExprs (VarExpr (id (codes "b"))) NoExprs) End) NoBranches))
+        End) nowhere (id (codes "e")) (CallStmt nowhere ((id (codes "trace")) ∷ []) (MoreExprs (MethodExpr (VarExpr (id (codes "e"))) (id (codes "code")) NoExprs) NoExprs) End)
+        (ReturnStmt nowhere VoidExpr End)));
+    close = nowhere;
+  })) ∷ []);
+  end = nowhere;
+}
 
 unfoldable pub second_waiter_on_a_stream_world : World
 second_waiter_on_a_stream_world = record { seed = 0; words = []; processes = 1; events = 1000; turns = 100000; latency = (1, 2); loss = 0; diskdelay = (1, 2); script = [] }

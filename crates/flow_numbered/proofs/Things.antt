@@ -27,7 +27,8 @@ module _ {A : Type 0} where
           let same : n ≡ x.0 = grind (arith, nat_tests) in
           rw g (at_same (nat_eq m x.0) refl (ap (nat_eq m) same))
         where
-          at_same : (t : Bool) → nat_eq m x.0 ≡ t → nat_eq m n ≡ nat_eq m x.0 → (if nat_eq m x.0 then Some a else thing xs m) ≡ (if nat_eq m n then Some a else (if nat_eq m x.0 then Some x.1 else thing xs m))
+          at_same : (t : Bool) → nat_eq m x.0 ≡ t → nat_eq m n ≡ nat_eq m x.0
+              → (if nat_eq m x.0 then Some a else thing xs m) ≡ (if nat_eq m n then Some a else (if nat_eq m x.0 then Some x.1 else thing xs m))
           at_same true f s = rw (s, f) refl
           at_same false f s = rw (s, f) refl
       at_head false g rest = rw g (at_other (nat_eq m x.0) refl (rest (rw g at e)))

@@ -50,12 +50,14 @@ use Rattle.flow_operation_refinement.proofs.Working.{changed, as_many_shown, tur
 
 -- what stands in memory at the number of a cell
 module _ (r : RawTree) (h : HeapTree) (p : Proc Frame) where
-  pub found_single : (k : ℕ) (o : Option OutcomeTree) (ws : List Waiter) → Represents r h p → thing p.core.cells k ≡ Some (Single o ws) → (m : CellTree Outcome) × (stored.thing h.cells.things k ≡ Some m)
+  pub found_single : (k : ℕ) (o : Option OutcomeTree) (ws : List Waiter) → Represents r h p → thing p.core.cells k ≡ Some (Single o ws)
+      → (m : CellTree Outcome) × (stored.thing h.cells.things k ≡ Some m)
   found_single k o ws s at =
       memory_single (spot_of_actor p.actors) (stored.thing h.cells.things k) (stored.thing h.streams.things k) o ws
       (subst (CellRepresents (spot_of_actor p.actors) (stored.thing h.cells.things k) (stored.thing h.streams.things k)) at (s.cells k))
 
-  pub found_stream : (k : ℕ) (q : List ValueTree) (e : Option ℕ) (w : Option Waiter) → Represents r h p → thing p.core.cells k ≡ Some (Stream q e w) → (m : StreamTree Value) × (stored.thing h.streams.things k ≡ Some m)
+  pub found_stream : (k : ℕ) (q : List ValueTree) (e : Option ℕ) (w : Option Waiter) → Represents r h p → thing p.core.cells k ≡ Some (Stream q e w)
+      → (m : StreamTree Value) × (stored.thing h.streams.things k ≡ Some m)
   found_stream k q e w s at =
       memory_stream (spot_of_actor p.actors) (stored.thing h.cells.things k) (stored.thing h.streams.things k) q e w
       (subst (CellRepresents (spot_of_actor p.actors) (stored.thing h.cells.things k) (stored.thing h.streams.things k)) at (s.cells k))
@@ -88,7 +90,8 @@ module _ (r : RawTree) (ls : List Line) (x : Scan) (m : Process) (p : Proc Frame
   request_follows k s open_ =
       let q : Proc Frame = on_core (λ c. record c { requests = closed_request k c.requests }) p in
       changed r ls x x m p (on_core (pushed (Drop kind.Promise k)) q) (answered k m.heap) s (record {
-        shows = pushed_shown r (record m.heap { requests = without_number m.heap.requests k }) q (task.Drop kind.Promise (cell_id k)) (Drop kind.Promise k) (request_closed r m.heap p k s.holds.shows) refl;
+        shows = pushed_shown r (record m.heap { requests = without_number m.heap.requests k }) q (task.Drop kind.Promise (cell_id k)) (Drop kind.Promise k)
+            (request_closed r m.heap p k s.holds.shows) refl;
         counted = λ z j. let a = of_answered p z j k open_ in let b = of_pushed q z j (Drop kind.Promise k) in let c = s.holds.counted z j in omega (arith, a, b, c);
       }) refl refl refl
 
@@ -122,17 +125,21 @@ module _ (r : RawTree) (ls : List Line) (x : Scan) (m : Process) (p : Proc Frame
   ended_same None = refl
   ended_same (Some e) = refl
 
-  single_complete : (k : ℕ) (o : Option OutcomeTree) (ws : List Waiter) → ProcessRepresents r ls x m p → thing p.core.cells k ≡ Some (Single o ws) → is_set (stored.thing m.heap.cells.things k) ≡ cells.is_some o
+  single_complete : (k : ℕ) (o : Option OutcomeTree) (ws : List Waiter) → ProcessRepresents r ls x m p → thing p.core.cells k ≡ Some (Single o ws)
+      → is_set (stored.thing m.heap.cells.things k) ≡ cells.is_some o
   single_complete k o ws s at =
       let f = found_single r m.heap p k o ws s.holds.shows at in
-      let a = as_single (spot_of_actor p.actors) f.0 (stored.thing m.heap.streams.things k) (thing p.core.cells k) (subst (λ c. CellRepresents (spot_of_actor p.actors) c (stored.thing m.heap.streams.things k) (thing p.core.cells k)) f.1 (s.holds.shows.cells k)) in
+      let a = as_single (spot_of_actor p.actors) f.0 (stored.thing m.heap.streams.things k) (thing p.core.cells k)
+      (subst (λ c. CellRepresents (spot_of_actor p.actors) c (stored.thing m.heap.streams.things k) (thing p.core.cells k)) f.1 (s.holds.shows.cells k)) in
       let same : (Single (option_map outcome_of f.0.content) a.waiters) ≡ Single o ws = let b = a.cell in cc (b, at) in
       ap is_set f.1 ∙ set_same f.0.content ∙ ap cells.is_some (cc (same))
 
-  stream_complete : (k : ℕ) (q : List ValueTree) (d : Option ℕ) (w : Option Waiter) → ProcessRepresents r ls x m p → thing p.core.cells k ≡ Some (Stream q d w) → is_ended (stored.thing m.heap.streams.things k) ≡ cells.is_some d
+  stream_complete : (k : ℕ) (q : List ValueTree) (d : Option ℕ) (w : Option Waiter) → ProcessRepresents r ls x m p → thing p.core.cells k ≡ Some (Stream q d w)
+      → is_ended (stored.thing m.heap.streams.things k) ≡ cells.is_some d
   stream_complete k q d w s at =
       let f = found_stream r m.heap p k q d w s.holds.shows at in
-      let a = as_stream (spot_of_actor p.actors) f.0 (stored.thing m.heap.cells.things k) (thing p.core.cells k) (subst (λ c. CellRepresents (spot_of_actor p.actors) (stored.thing m.heap.cells.things k) c (thing p.core.cells k)) f.1 (s.holds.shows.cells k)) in
+      let a = as_stream (spot_of_actor p.actors) f.0 (stored.thing m.heap.cells.things k) (thing p.core.cells k)
+      (subst (λ c. CellRepresents (spot_of_actor p.actors) (stored.thing m.heap.cells.things k) c (thing p.core.cells k)) f.1 (s.holds.shows.cells k)) in
       let same : (Stream (map value_of f.0.queue) (option_map error_number f.0.end) a.waiter) ≡ Stream q d w = let b = a.cell in cc (b, at) in
       ap is_ended f.1 ∙ ended_same f.0.end ∙ ap cells.is_some (cc (same))
 
@@ -147,7 +154,8 @@ module _ (r : RawTree) (ls : List Line) (x : Scan) (m : Process) (p : Proc Frame
   complete_same kind.FutureStream k (Single o ws) s at t = absurd t
 
 -- a task that holds nothing
-nothing_held : (r : RawTree) (ls : List Line) (x : Scan) (m : Process) (p : Proc Frame) (u : Task) → ((z : Side) (j : ℕ) → in_task z j u ≡ 0) → ProcessRepresents r ls x m p → ProcessRepresents r ls (with_task u x) m p
+nothing_held : (r : RawTree) (ls : List Line) (x : Scan) (m : Process) (p : Proc Frame) (u : Task) → ((z : Side) (j : ℕ) → in_task z j u ≡ 0) → ProcessRepresents r ls x m p
+    → ProcessRepresents r ls (with_task u x) m p
 nothing_held r ls x m p u none s = as_many_shown r ls x (with_task u x) m p (λ z j. let a = none z j in omega (arith, a)) s
 
 module _ (r : RawTree) (ls : List Line) (x : Scan) (m : Process) (p : Proc Frame) where
@@ -170,10 +178,12 @@ module _ (r : RawTree) (ls : List Line) (x : Scan) (m : Process) (p : Proc Frame
           → Matches r ls x (if complete_at kd k m.heap then doing (task.Throw i (record { 0 = already_set })) m else if nat_lt 0 m.left then on_heap (sent_into i kd k o) (turned m) else turned m)
           (on_core (send_by b i.0 k (outcome_of o)) p)
       by_complete true e f =
-          subst (λ b. Matches r ls x (if b then doing (task.Throw i (record { 0 = already_set })) m else if nat_lt 0 m.left then on_heap (sent_into i kd k o) (turned m) else turned m) (on_core (send_by true i.0 k (outcome_of o)) p)) (sym e)
+          subst (λ b. Matches r ls x (if b then doing (task.Throw i (record { 0 = already_set })) m else if nat_lt 0 m.left then on_heap (sent_into i kd k o) (turned m) else turned m)
+          (on_core (send_by true i.0 k (outcome_of o)) p)) (sym e)
           (shows (task_done r ls x m p (task.Throw i (record { 0 = already_set })) (Throw i.0 already_set) (nothing_held r ls x m p (Throw i.0 already_set) (λ z j. refl) s) refl))
       by_complete false e f =
-          subst (λ b. Matches r ls x (if b then doing (task.Throw i (record { 0 = already_set })) m else if nat_lt 0 m.left then on_heap (sent_into i kd k o) (turned m) else turned m) (on_core (send_by false i.0 k (outcome_of o)) p)) (sym e)
+          subst (λ b. Matches r ls x (if b then doing (task.Throw i (record { 0 = already_set })) m else if nat_lt 0 m.left then on_heap (sent_into i kd k o) (turned m) else turned m)
+          (on_core (send_by false i.0 k (outcome_of o)) p)) (sym e)
           (turn_taken r ls x m p x (on_heap (sent_into i kd k o)) (λ d. fill k (outcome_of o) (pushed (Run i.0) d)) s (λ n e s.
           let q : Proc Frame = on_core (λ c. record c { left = n }) p in
           shows (sent_at_once r ls x (turned m) q i kd k o s (all_there_by p q (outcome_refs o) refl t) (record { cell = to.cell; at = to.at; right = to.right; incomplete = f }))))

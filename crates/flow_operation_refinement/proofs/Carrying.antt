@@ -106,14 +106,16 @@ module _ (r : RawTree) (ls : List Line) (m : Process) (p : Proc Frame) (i : ℕ)
   drop_step x s w ns pace n st has there after =
       let g : Frame = next_instr (emptied ns f.mem) f in
       let out : Proc Frame = proc (work.dropping (refs_in (held_in f.mem ns)) (pushed (Run i) p.core)) (put p.actors i g) in
-      let dropped = locals_dropped r ls m (put_frame i (stale st.block st.instr st.state f) p) i e (stale st.block st.instr st.state f) x s ns f.state pace n st.stood (may r ls m p i e f x s st) has after in
+      let dropped = locals_dropped r ls m (put_frame i (stale st.block st.instr st.state f) p) i e (stale st.block st.instr st.state f) x s ns f.state pace n st.stood
+      (may r ls m p i e f x s st) has after in
       let here : record f { mem = emptied ns f.mem; block = s.place; instr = suc s.instruction; state = f.state } ≡ g =
       ap (λ b. record f { mem = emptied ns f.mem; block = b; instr = suc s.instruction }) st.standing.place ∙ ap (λ k. record f { mem = emptied ns f.mem; instr = suc k }) st.instruction in
       record {
         after = out;
         steps = stepped r ls m p i e f x s st w (Body (DropInstr ns)) there;
         carries = subst (λ k. Carries r ls x i e pace n (proc (work.dropping (refs_in (held_in f.mem ns)) (pushed (Run i) p.core)) (put p.actors i k))) here
-            (after_values r ls m p i e f x s st (next_stand s) (refs_in (held_in f.mem ns)) (record f { mem = emptied ns f.mem; block = s.place; instr = suc s.instruction; state = f.state }) pace n dropped);
+            (after_values r ls m p i e f x s st (next_stand s) (refs_in (held_in f.mem ns)) (record f { mem = emptied ns f.mem; block = s.place; instr = suc s.instruction; state = f.state }) pace n
+            dropped);
       }
 
   pub goto_step : law.GotoStep r ls m p i e f
@@ -160,7 +162,8 @@ module _ (r : RawTree) (ls : List Line) (m : Process) (p : Proc Frame) (i : ℕ)
           (subst (λ xs. RepresentsActor r ls x (on_heap (gone i f.block f.instr) m) (proc p.core xs) i e f) (put_over p.actors i (stale st.block st.instr st.state f) f ∙ same) gone_there))))
 
 -- with other turns
-pub with_turns : (r : RawTree) (ls : List Line) (m : Process) (p : Proc Frame) (i : ℕ) (e : Entry) (f : Frame) (x : Scan) (n : ℕ) → RepresentsActor r ls x m p i e f → RepresentsActor r ls x (with_left n m) (on_core (λ c. record c { left = n }) p) i e f
+pub with_turns : (r : RawTree) (ls : List Line) (m : Process) (p : Proc Frame) (i : ℕ) (e : Entry) (f : Frame) (x : Scan) (n : ℕ) → RepresentsActor r ls x m p i e f
+    → RepresentsActor r ls x (with_left n m) (on_core (λ c. record c { left = n }) p) i e f
 with_turns r ls m p i e f x n st = record {
   shown = record { holds = holds_aside r x m.heap p p.core.lines n st.shown.holds; left = refl; lines = st.shown.lines; unspent = st.shown.unspent; goes = st.shown.goes };
   acts = acts_by r m.heap m.heap p (on_core (λ c. record c { left = n }) p) i e f refl refl refl refl st.acts;

@@ -18,7 +18,8 @@ stored_over : {A : Type 0} (xs : stored.Numbered A) (i : ℕ) (a b : A) → stor
 stored_over [] i a b = refl
 stored_over (x ∷ xs) i a b = by_test (nat_eq i x.0) refl (stored_over xs i a b)
   where
-    by_test : (t : Bool) → nat_eq i x.0 ≡ t → stored.put (stored.put xs i a) i b ≡ stored.put xs i b → stored.put (if t then (x.0, a) ∷ xs else x ∷ stored.put xs i a) i b ≡ (if t then (x.0, b) ∷ xs else x ∷ stored.put xs i b)
+    by_test : (t : Bool) → nat_eq i x.0 ≡ t → stored.put (stored.put xs i a) i b ≡ stored.put xs i b
+        → stored.put (if t then (x.0, a) ∷ xs else x ∷ stored.put xs i a) i b ≡ (if t then (x.0, b) ∷ xs else x ∷ stored.put xs i b)
     by_test true e k = ap (λ t. if t then (x.0, b) ∷ xs else (x.0, a) ∷ stored.put xs i b) e
     by_test false e k = ap (λ t. if t then (x.0, b) ∷ stored.put xs i a else x ∷ stored.put (stored.put xs i a) i b) e ∙ ap (λ ys. x ∷ ys) k
 

@@ -47,10 +47,12 @@ top_follows r ls m p t start s taken =
 
 module _ (r : RawTree) (ls : List Line) (s : Supply) (p : Proc Frame) where
   -- a step does the newest task
-  stepped : (u : Task) (below : List Task) (q : Proc Frame) → p.core.halted ≡ None → p.core.tasks ≡ u ∷ below → step_tasks (classes r) s (u ∷ below) p ≡ Some (silent q) → step (classes r) s p ≡ Some (silent q)
+  stepped : (u : Task) (below : List Task) (q : Proc Frame) → p.core.halted ≡ None → p.core.tasks ≡ u ∷ below → step_tasks (classes r) s (u ∷ below) p ≡ Some (silent q)
+      → step (classes r) s p ≡ Some (silent q)
   stepped u below q h t e = ap (λ k. step_if (classes r) s k p) h ∙ ap (λ us. step_tasks (classes r) s us p) t ∙ e
 
-  by_task : (code : Code) (t : stack.Task) (start n : Process) → p.core.halted ≡ None → start.asked ≡ None → (o : TopOff r ls t start p) → IsEnabled code r start (popped o.below p) t → IsDone code t start n → Steps r ls s p n
+  by_task : (code : Code) (t : stack.Task) (start n : Process) → p.core.halted ≡ None → start.asked ≡ None → (o : TopOff r ls t start p) → IsEnabled code r start (popped o.below p) t
+      → IsDone code t start n → Steps r ls s p n
   by_task code (task.Drop kd k) start n goes none o may done =
       let q = popped o.below p in
       let u = Drop kd k.0 in
@@ -66,7 +68,8 @@ module _ (r : RawTree) (ls : List Line) (s : Supply) (p : Proc Frame) where
       let shown = subst (λ v. ProcessRepresents r ls (with_task v nothing_in_hand) start q) o.same o.shown in record {
         after = _;
         steps = stepped u o.below _ goes (o.tasks ∙ ap (λ v. v ∷ o.below) o.same) refl;
-        follows = fire_done r ls start q code k.0 n (as_many_shown r ls (with_task u nothing_in_hand) (λ z j. one z j FutureSide k.0) start q (λ z j. omega arith) shown) none may.sound may.sorted may.may done;
+        follows = fire_done r ls start q code k.0 n (as_many_shown r ls (with_task u nothing_in_hand) (λ z j. one z j FutureSide k.0) start q (λ z j. omega arith) shown) none may.sound may.sorted
+            may.may done;
       }
   by_task code (task.Catch i err) start n goes none o may done =
       let q = popped o.below p in
@@ -97,7 +100,8 @@ module _ (r : RawTree) (ls : List Line) (s : Supply) (p : Proc Frame) where
       let noted : done.note ≡ may_close.actor.note = let a = done.noted in let b = may_close.actor.noted in cc (a, b) in record {
         after = _;
         steps = stepped u o.below _ goes (o.tasks ∙ ap (λ w. w ∷ o.below) o.same) (ap (λ a. Some (close_actor (classes r) i.0 (outcome_of v.value) a q)) may_close.actor.entered);
-        follows = subst (λ z. Matches r ls nothing_in_hand z (proc (close (frames_hold (removed q.actors i.0)) i.0 may_close.actor.entry.result (outcome_of v.value) q.core) (removed q.actors i.0))) (sym (done.closes ∙ ap (λ (k : Note). closed i v.value k.result start) noted))
+        follows = subst (λ z. Matches r ls nothing_in_hand z (proc (close (frames_hold (removed q.actors i.0)) i.0 may_close.actor.entry.result (outcome_of v.value) q.core) (removed q.actors i.0)))
+            (sym (done.closes ∙ ap (λ (k : Note). closed i v.value k.result start) noted))
             (actor_closed r ls start q i v.value shown none may.sound may.sorted may_close);
       }
   by_task code (task.Run i) start n goes none o may done = absurd may.may

@@ -56,7 +56,8 @@ module _ (r : RawTree) (ls : List Line) (m : Process) (p : Proc Frame) (i : ℕ)
       let count : length s.acts.memory.places - length f.code.slots ≡ length f.mem.locals =
       let a = all_places r s.acts.memory e f s.acts.stands in let b = s.acts.stands.slots in omega (arith, a, b) in
       let first : length f.code.slots + 0 ≡ length f.code.slots = omega arith in
-      subst (λ o. RepresentsActor r ls x (on_heap (losing_from i (length f.code.slots) o) m) (proc (work.dropping_values (lose f).0 p.core) (put p.actors i (lose f).1)) i e (lose f).1) (sym s.acts.framed)
+      subst (λ o. RepresentsActor r ls x (on_heap (losing_from i (length f.code.slots) o) m) (proc (work.dropping_values (lose f).0 p.core) (put p.actors i (lose f).1)) i e (lose f).1)
+      (sym s.acts.framed)
       (subst (λ n. RepresentsActor r ls x (on_heap (places_lost i (length f.code.slots) n) m) (proc (work.dropping_values (lose f).0 p.core) (put p.actors i (lose f).1)) i e (lose f).1) (sym count)
       (subst (λ n. RepresentsActor r ls x (on_heap (places_lost i n (length f.mem.locals)) m) (proc (work.dropping_values (lose f).0 p.core) (put p.actors i (lose f).1)) i e (lose f).1) first
       (locals_from r ls i e x f.mem.locals [] m p f s refl)))
@@ -81,7 +82,8 @@ module _ (r : RawTree) (ls : List Line) (m : Process) (p : Proc Frame) (i : ℕ)
       (subst (λ h. RepresentsActor r ls x (record m { heap = h }) done i e none) (sym (lost_after i (length f.mem.slots) (length f.mem.locals) 0 m.heap))
       (subst (λ k. RepresentsActor r ls x (on_heap (places_lost i k (length f.mem.locals)) n) done i e none) first
       (subst (λ ts. RepresentsActor r ls x (on_heap (places_lost i (length f.code.slots + 0) (length f.mem.locals)) n) (proc (record p.core { tasks = ts }) (put p.actors i none)) i e none) order
-      (subst (λ xs. RepresentsActor r ls x (on_heap (places_lost i (length f.code.slots + 0) (length f.mem.locals)) n) (proc (work.dropping (refs_in (filled (reversed f.mem.locals))) q.core) xs) i e none) (put_over p.actors i slotless none) two)))))
+      (subst (λ xs. RepresentsActor r ls x (on_heap (places_lost i (length f.code.slots + 0) (length f.mem.locals)) n)
+      (proc (work.dropping (refs_in (filled (reversed f.mem.locals))) q.core) xs) i e none) (put_over p.actors i slotless none) two)))))
 
 -- values that can't refer hold no reference
 no_refs : (v : ValueTree) → may_refer v ≡ false → refs_of v ≡ []
@@ -127,7 +129,9 @@ locals_taken r ls m p i e f x (n ∷ ns) s h =
           ∙ ap (λ rs. rs ++ refs_in (map value_of later)) (referring_refs held ∙ ap (λ o. refs_in (filled (o ∷ []))) (place_seen r ls m p i e f x q s h.0))
           ∙ ap (λ rs. one ++ rs) rest.0
           ∙ sym (all_refs_joined (filled (read f.mem q ∷ [])) (held_in g.mem ns)),
-      as_many_stood r ls (with_refs (refs_in (held_in g.mem ns)) (with_refs one x)) (with_refs (refs_in (held_in f.mem (n ∷ ns))) x) (on_heap (places_emptied i (map (λ k. length f.code.slots + k) (n ∷ ns))) m) (put_frame i k p) i e k
+      as_many_stood r ls (with_refs (refs_in (held_in g.mem ns)) (with_refs one x)) (with_refs (refs_in (held_in f.mem (n ∷ ns))) x)
+          (on_heap (places_emptied i (map (λ k. length f.code.slots + k) (n ∷ ns))) m) (put_frame i k p) i e k
           (λ z j. let a = refs_joined z j (filled (read f.mem q ∷ [])) (held_in g.mem ns) in omega (arith, a))
-          (subst (λ xs. RepresentsActor r ls (with_refs (refs_in (held_in g.mem ns)) (with_refs one x)) (on_heap (places_emptied i (map (λ k. length f.code.slots + k) (n ∷ ns))) m) (proc p.core xs) i e k) (put_over p.actors i g k) rest.1),
+          (subst (λ xs. RepresentsActor r ls (with_refs (refs_in (held_in g.mem ns)) (with_refs one x)) (on_heap (places_emptied i (map (λ k. length f.code.slots + k) (n ∷ ns))) m)
+          (proc p.core xs) i e k) (put_over p.actors i g k) rest.1),
     )

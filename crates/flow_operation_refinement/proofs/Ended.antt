@@ -74,7 +74,8 @@ set_after k o n = on_heap (filled_in kind.Future k o) (on_heap (without_promise 
 set_told : (k : ℕ) (o : Outcome) (l : Line) (n : Process) → result_set k o (telling l n) ≡ telling l (result_set k o n)
 set_told k o l n = by_test (nat_lt 0 n.left)
   where
-    by_test : (b : Bool) → (if b then set_after k o (if b then record (telling l n) { left = n.left - 1 } else record (telling l n) { spent = true }) else if b then record (telling l n) { left = n.left - 1 } else record (telling l n) { spent = true })
+    by_test : (b : Bool) → (if b then set_after k o (if b then record (telling l n) { left = n.left - 1 } else record (telling l n) { spent = true }) else if b then record (telling l n)
+        { left = n.left - 1 } else record (telling l n) { spent = true })
         ≡ telling l (if b then set_after k o (if b then record n { left = n.left - 1 } else record n { spent = true }) else if b then record n { left = n.left - 1 } else record n { spent = true })
     by_test true = refl
     by_test false = refl
@@ -195,14 +196,17 @@ module _ (r : RawTree) (ls : List Line) (l : Line) (o : Outcome) (n : Process) (
       by_count zero e =
           let t : nat_lt 0 (futures_of (stored.thing n.heap.cells.things k)) ≡ false = let a = futures_seen r ls o k (telling l n) q s lone ∙ e in grind (arith, nat_tests, a) in
           subst (λ f. Matches r ls nothing_in_hand (telling l (ended_in k o n)) (proc (set_result k (outcome_of o) f q.core) q.actors)) (sym e)
-          (subst (λ b. Matches r ls nothing_in_hand (telling l (if b then result_set k o n else on_heap (refs_dropped (outcome_refs o)) (lost kind.Promise k n))) (proc (set_result k (outcome_of o) zero q.core) q.actors)) (sym t)
-          (subst (λ g. Matches r ls nothing_in_hand (telling l (on_heap (refs_dropped (outcome_refs o)) g)) (proc (set_result k (outcome_of o) zero q.core) q.actors)) (sym (lost_is r ls o k (telling l n) q s lone e sorted n refl))
+          (subst (λ b. Matches r ls nothing_in_hand (telling l (if b then result_set k o n else on_heap (refs_dropped (outcome_refs o)) (lost kind.Promise k n)))
+          (proc (set_result k (outcome_of o) zero q.core) q.actors)) (sym t)
+          (subst (λ g. Matches r ls nothing_in_hand (telling l (on_heap (refs_dropped (outcome_refs o)) g)) (proc (set_result k (outcome_of o) zero q.core) q.actors))
+          (sym (lost_is r ls o k (telling l n) q s lone e sorted n refl))
           (shows (refs_dropped_shown r ls nothing_in_hand (on_heap (λ h. record h { cells = without h.cells k }) (telling l n)) (on_core (without_cell k) q) (outcome_refs o)
           (gone_shown r ls o k (telling l n) q s lone e sorted)))))
       by_count (suc f) e =
           let t : nat_lt 0 (futures_of (stored.thing n.heap.cells.things k)) ≡ true = let a = futures_seen r ls o k (telling l n) q s lone ∙ e in grind (arith, nat_tests, a) in
           subst (λ f. Matches r ls nothing_in_hand (telling l (ended_in k o n)) (proc (set_result k (outcome_of o) f q.core) q.actors)) (sym e)
-          (subst (λ b. Matches r ls nothing_in_hand (telling l (if b then result_set k o n else on_heap (refs_dropped (outcome_refs o)) (lost kind.Promise k n))) (proc (set_result k (outcome_of o) (suc f) q.core) q.actors)) (sym t)
+          (subst (λ b. Matches r ls nothing_in_hand (telling l (if b then result_set k o n else on_heap (refs_dropped (outcome_refs o)) (lost kind.Promise k n)))
+          (proc (set_result k (outcome_of o) (suc f) q.core) q.actors)) (sym t)
           (result_follows k s lone))
 
   -- where it has one
@@ -213,7 +217,8 @@ module _ (r : RawTree) (ls : List Line) (l : Line) (o : Outcome) (n : Process) (
       (as_many_shown r ls (in_hand o None) (with_refs (outcome_refs o) nothing_in_hand) (telling l n) q (λ z j. omega arith) s))
   with_follows (Some c) (Some k) e s lone sorted =
       let same : c.0 ≡ k = cc (e) in
-      subst (λ j. Matches r ls nothing_in_hand (telling l (ended_in j o n)) (proc (give_result (frames_hold q.actors) (Some k) (outcome_of o) q.core) q.actors)) (sym same) (in_follows k s (lone k refl) sorted)
+      subst (λ j. Matches r ls nothing_in_hand (telling l (ended_in j o n)) (proc (give_result (frames_hold q.actors) (Some k) (outcome_of o) q.core) q.actors)) (sym same)
+      (in_follows k s (lone k refl) sorted)
   with_follows None (Some k) e s lone sorted = absurd (cc)
   with_follows (Some c) None e s lone sorted = absurd (cc)
 
@@ -240,7 +245,8 @@ none_kept : (s : Side) (j : ℕ) (b : Bool) (e : Entry) → e.operands ≡ [] �
 none_kept s j true e f = refl
 none_kept s j false e f = ap (count s j) f
 
-module _ (r : RawTree) (ls : List Line) (m : Process) (p : Proc Frame) (i : ActorId) (o : Outcome) (s : ProcessRepresents r ls (with_refs (outcome_refs o) nothing_in_hand) m p) (sound : Sound p) (sorted : Sorted m.heap) (may : MayClose r m.heap p i.0 o) where
+module _ (r : RawTree) (ls : List Line) (m : Process) (p : Proc Frame) (i : ActorId) (o : Outcome) (s : ProcessRepresents r ls (with_refs (outcome_refs o) nothing_in_hand) m p) (sound : Sound p)
+    (sorted : Sorted m.heap) (may : MayClose r m.heap p i.0 o) where
   abbrev entry : Entry
   entry = may.actor.entry
 
@@ -288,6 +294,8 @@ actor_closed r ls m p i o s none sound sorted may =
     let t : Proc Frame = on_core (λ c. record c { left = n }) q in
     let line = lines.end_line i.0 (outcome_of o) in
     let told = telling_shown r ls (in_hand o result) line (turned gone) t now (still_unasked gone none) in
-    subst (λ (l : Line). Matches r ls nothing_in_hand (telling l (ended_with may.actor.note.result o (turned gone))) (proc (give_result (frames_hold t.actors) result (outcome_of o) (writes line t.core)) t.actors)) (sym (end_lines i o))
-    (with_follows r ls line o (turned gone) (on_core (writes line) t) may.actor.note.result result may.actor.same.result told (λ k f. lone_by q (on_core (writes line) t) o k refl refl refl (lone r ls m p i o s sound sorted may k f))
+    subst (λ (l : Line). Matches r ls nothing_in_hand (telling l (ended_with may.actor.note.result o (turned gone)))
+    (proc (give_result (frames_hold t.actors) result (outcome_of o) (writes line t.core)) t.actors)) (sym (end_lines i o))
+    (with_follows r ls line o (turned gone) (on_core (writes line) t) may.actor.note.result result may.actor.same.result told
+    (λ k f. lone_by q (on_core (writes line) t) o k refl refl refl (lone r ls m p i o s sound sorted may k f))
     (still_sorted gone sorted.cells)))

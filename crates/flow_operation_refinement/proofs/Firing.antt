@@ -93,7 +93,8 @@ module _ (r : RawTree) (h : HeapTree) (p : Proc Frame) (s : Represents r h p) (k
   only_of true None = refl
   only_of true (Some w) = refl
 
-  by_memory : (kd : Kind) (a : Option (CellTree Outcome)) (b : Option (StreamTree Value)) (c : Cell) → stored.thing h.cells.things k ≡ a → stored.thing h.streams.things k ≡ b → thing p.core.cells k ≡ Some c
+  by_memory : (kd : Kind) (a : Option (CellTree Outcome)) (b : Option (StreamTree Value)) (c : Cell) → stored.thing h.cells.things k ≡ a → stored.thing h.streams.things k ≡ b
+      → thing p.core.cells k ≡ Some c
       → CellRepresents spots a b (Some c) → kind_in a b ≡ Some kd → (next_waiter kd k h ≡ next_of spots (is_ready c) (waiters c)) × RightCell kd c × (side_of kd ≡ FutureSide)
   by_memory kind.Future (Some m) None (Single o ws) ea eb ec t e = (
     ap (λ y. if y then cell_waiter (stored.thing h.cells.things k) else None) (ready_same r h p s k ∙ ap is_ready_at ec)
@@ -169,7 +170,8 @@ module _ (r : RawTree) (ls : List Line) (m : Process) (p : Proc Frame) where
       (subst (λ d. Matches r ls nothing_in_hand (lost kd k m) (on_core (lose_ref (frames_hold p.actors) d k) p)) side
       (ref_lost r ls m p kd k (subst (λ d. ProcessRepresents r ls (λ z j. one z j d k) m p) (sym side) s) none sound sorted (record { cell = c; at = t.at; right = right })))
 
-  fire_by : (code : Code) (k : ℕ) (n : Process) (c : Cell) (kd : Kind) (b : Bool) (ws : List Waiter) → ProcessRepresents r ls (λ s j. one s j FutureSide k) m p → m.asked ≡ None → Sound p → Sorted m.heap
+  fire_by : (code : Code) (k : ℕ) (n : Process) (c : Cell) (kd : Kind) (b : Bool) (ws : List Waiter) → ProcessRepresents r ls (λ s j. one s j FutureSide k) m p → m.asked ≡ None → Sound p
+      → Sorted m.heap
       → Takeable p k c → RightCell kd c → side_of kd ≡ FutureSide → ((w : Waiter) (us : List Waiter) → ws ≡ w ∷ us → Suspended code r m p w)
       → FiresAt code kd (cell_id k) (next_of (spot_of_actor p.actors) b ws) m n
       → Matches r ls nothing_in_hand n (on_core (fire_at (frames_hold p.actors) k c b ws) p)

@@ -79,7 +79,8 @@ module _ (r : RawTree) (ls : List Line) (m : Process) (p : Proc Frame) (i : ℕ)
       (subst (λ y. RepresentsActor r ls x (on_heap (gone i b y) m) (put_frame i g p) i e g) (sym to.instruction) told)))
 
   -- or it isn't yet
-  pub moved : (x : Scan) (s t : ControlPoint) (b n k : ℕ) → RepresentsActor r ls x m p i e f → MayMove s p i e f → Stands s b n t → ContinuesAt r ls x t m p i e (record f { block = b; instr = n; state = k })
+  pub moved : (x : Scan) (s t : ControlPoint) (b n k : ℕ) → RepresentsActor r ls x m p i e f → MayMove s p i e f → Stands s b n t
+      → ContinuesAt r ls x t m p i e (record f { block = b; instr = n; state = k })
   moved x s t b n k st may to =
       let g : Frame = record f { block = b; instr = n; state = k } in
       let back : put (put p.actors i g) i f ≡ p.actors = put_over p.actors i g f ∙ same_put p.actors i f st.acts.acting in record {
@@ -99,7 +100,8 @@ module _ (r : RawTree) (ls : List Line) (m : Process) (p : Proc Frame) (i : ℕ)
   gone_on x s t b n k st may to = moved x s t b n k st may (goes_stands s b n t to)
 
   -- values are left over
-  pub left_over : (x : Scan) (s t : ControlPoint) (b j k : ℕ) (vs : List Value) (pace : Pace) (n : Process) → RepresentsActor r ls (with_refs (refs_in (map value_of vs)) x) m p i e f → MayMove s p i e f → Stands s b j t → OnAfter t vs m pace n
+  pub left_over : (x : Scan) (s t : ControlPoint) (b j k : ℕ) (vs : List Value) (pace : Pace) (n : Process) → RepresentsActor r ls (with_refs (refs_in (map value_of vs)) x) m p i e f
+      → MayMove s p i e f → Stands s b j t → OnAfter t vs m pace n
       → law.AfterValues r ls m p i e f x t (refs_in (map value_of vs)) (record f { block = b; instr = j; state = k }) pace n
   left_over x s t b j k [] pace n st may to after =
       let g : Frame = record f { block = b; instr = j; state = k } in
@@ -116,12 +118,14 @@ module _ (r : RawTree) (ls : List Line) (m : Process) (p : Proc Frame) (i : ℕ)
       let m1 : Process = noted t m in
       let q1 : Proc Frame = put_frame i g p in
       let actor : t.actor ≡ actor_id i = to.actor ∙ may.actor in
-      let ran = task_done r ls (with_refs rs x) m1 q1 (task.Run (actor_id i)) (Run i) (as_many_shown r ls (with_refs rs x) (with_task (Run i) (with_refs rs x)) m1 q1 (λ z y. omega arith) went.shown) refl in
+      let ran = task_done r ls (with_refs rs x) m1 q1 (task.Run (actor_id i)) (Run i) (as_many_shown r ls (with_refs rs x) (with_task (Run i) (with_refs rs x)) m1 q1 (λ z y. omega arith) went.shown)
+      refl in
       let dropped = refs_dropped_shown r ls x (doing (task.Run (actor_id i)) m1) (on_core (pushed (Run i)) q1) rs ran in
       subst (λ q. law.AfterValues r ls m p i e f x t rs g q n) (sym after.0)
       (subst (λ q. ProcessRepresents r ls x q (proc (work.dropping rs (pushed (Run i) p.core)) (put p.actors i g))) (sym after.1)
       (subst (λ (a : ActorId). ProcessRepresents r ls x (on_heap (dropping.dropping (v ∷ vs)) (doing (task.Run a) m1)) (proc (work.dropping rs (pushed (Run i) p.core)) (put p.actors i g))) (sym actor)
-      (subst (λ us. ProcessRepresents r ls x (on_heap (refs_dropped us) (doing (task.Run (actor_id i)) m1)) (proc (work.dropping rs (pushed (Run i) p.core)) (put p.actors i g))) (sym (refs_same (v ∷ vs))) dropped)))
+      (subst (λ us. ProcessRepresents r ls x (on_heap (refs_dropped us) (doing (task.Run (actor_id i)) m1)) (proc (work.dropping rs (pushed (Run i) p.core)) (put p.actors i g)))
+      (sym (refs_same (v ∷ vs))) dropped)))
 
   pub values_left : law.ValuesLeft r ls m p i e f
   values_left x s t b j k vs pace n st may to after = left_over x s t b j k vs pace n st may (goes_stands s b j t to) after
@@ -133,7 +137,8 @@ module _ (r : RawTree) (ls : List Line) (m : Process) (p : Proc Frame) (i : ℕ)
       (subst (λ q. ContinuesAt r ls x to.0 q p i e (go b f.mem f)) (sym to.3) (gone_on x s to.0 b 0 0 st may to.1))
 
 -- the same actor, put twice
-pub over_after : (r : RawTree) (ls : List Line) (m n1 : Process) (p : Proc Frame) (i : ℕ) (e : Entry) (f h g : Frame) (x : Scan) (t : ControlPoint) (rs qs : List Ref) (pace : Pace) (n : Process) → rs ≡ qs
+pub over_after : (r : RawTree) (ls : List Line) (m n1 : Process) (p : Proc Frame) (i : ℕ) (e : Entry) (f h g : Frame) (x : Scan) (t : ControlPoint) (rs qs : List Ref) (pace : Pace) (n : Process)
+    → rs ≡ qs
     → law.AfterValues r ls n1 (put_frame i h p) i e h x t rs g pace n → law.AfterValues r ls m p i e f x t qs g pace n
 over_after r ls m n1 p i e f h g x t rs qs (On u) n same a = (
   a.0,
@@ -213,7 +218,8 @@ module _ (r : RawTree) (ls : List Line) (m : Process) (p : Proc Frame) (i : ℕ)
       by_place None None same after =
           let rs = referring_refs (Some v) in
           let hand : (z : Side) (j : ℕ) → with_refs (value_refs v) x z j ≡ with_refs (refs_in (value_of v ∷ [])) x z j = λ z j. ap (λ k. k + x z j) (appended z j (value_refs v)) in
-          let st1 = subst (λ us. RepresentsActor r ls (with_refs us x) m p i e f) (sym rs) (as_many_stood r ls (with_refs (value_refs v) x) (with_refs (refs_in (value_of v ∷ [])) x) m p i e f hand st) in
+          let st1 = subst (λ us. RepresentsActor r ls (with_refs us x) m p i e f) (sym rs) (as_many_stood r ls (with_refs (value_refs v) x) (with_refs (refs_in (value_of v ∷ [])) x) m p i e f hand st)
+          in
           same_refs r ls m p i e f (go b f.mem f) x t (refs_in (map value_of (referring (Some v)))) (refs_in (value_of v ∷ [])) pace n rs
           (left_over r ls m p i e f x s t b 0 0 (referring (Some v)) pace n st1 may goes after)
       by_place (Some k) (Some q) same after =

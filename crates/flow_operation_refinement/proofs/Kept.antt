@@ -77,7 +77,8 @@ module _ (r : RawTree) (h : HeapTree) (p : Proc Frame) (s : Represents r h p) (k
   by_memory None (Some m) None t = absurd t
   by_memory (Some m) None (Some (Single o ws)) t = content_ready m.content ∙ ap cells.is_some (sym t.0)
   by_memory (Some m) None (Some (Stream q d w)) t = absurd t
-  by_memory None (Some m) (Some (Stream q d w)) t = queue_ready m.queue m.end w ∙ ap (λ u. is_ready (Stream u (option_map error_number m.end) w)) (sym t.0) ∙ ap (λ u. is_ready (Stream q u w)) (sym t.1)
+  by_memory None (Some m) (Some (Stream q d w)) t = queue_ready m.queue m.end w ∙ ap (λ u. is_ready (Stream u (option_map error_number m.end) w)) (sym t.0)
+      ∙ ap (λ u. is_ready (Stream q u w)) (sym t.1)
   by_memory None (Some m) (Some (Single o ws)) t = absurd t
 
   pub ready_same : ready_at k h ≡ is_ready_at (thing p.core.cells k)
@@ -148,7 +149,8 @@ module _ (r : RawTree) (ls : List Line) (m : Process) (p : Proc Frame) (i : ℕ)
   go_with_one q a awake go right = record {
     agree = agree_by p.core (law.kept_in r ls m p i e f q).core (λ k. refl)
         (each_number i (λ j. waiting_of (thing (put p.core.entries i (with_one e f q)) j) ≡ waiting_of (thing p.core.entries j))
-        (ap waiting_of (thing_put p.core.entries i e (with_one e f q) a.entered) ∙ ap (λ b. waiting_by b (e.operands ++ q ∷ [])) awake ∙ sym (ap waiting_of a.entered ∙ ap (λ b. waiting_by b e.operands) awake))
+        (ap waiting_of (thing_put p.core.entries i e (with_one e f q) a.entered) ∙ ap (λ b. waiting_by b (e.operands ++ q ∷ [])) awake
+        ∙ sym (ap waiting_of a.entered ∙ ap (λ b. waiting_by b e.operands) awake))
         (λ j d. ap waiting_of (thing_put_other p.core.entries i j (with_one e f q) d))) go.agree;
     cells = go.cells;
     kinds = kinds_more p.core.cells e.operands q right go.kinds;
@@ -196,8 +198,10 @@ module _ (r : RawTree) (ls : List Line) (m : Process) (p : Proc Frame) (i : ℕ)
           let left = left_for_task r ls n1 kept i en f x s t u (as_many_stood r ls x (with_task u x) n1 kept i en f (λ z j. omega arith) one_more) may.standing may.wait.end same go1 tt in
           subst (λ v. Matches r ls x n (keep_by (classes r) i (length e.operands) v q en f (on_core (pushed (Run i)) p)).0) (sym (ap (λ b. verdict b (is_ready_at (thing p.core.cells q.1))) mk))
           (subst (λ z. Matches r ls x z (proc (leave_for i en (lose f).0 u p.core) (put p.actors i (lose f).1))) (sym is)
-          (subst (λ (a : ActorId). Matches r ls x (on_heap (left_for s t) (on_heap (waiting.operand_kept a.0 (callback_of e f q)) m)) (proc (leave_for i en (lose f).0 u p.core) (put p.actors i (lose f).1))) (sym may.standing.actor)
-          (subst (λ xs. Matches r ls x (on_heap (left_for s t) n1) (proc (record (leave_for i en (lose f).0 u p.core) { entries = xs }) (put p.actors i (lose f).1))) (put_over p.core.entries i en (running en))
+          (subst (λ (a : ActorId). Matches r ls x (on_heap (left_for s t) (on_heap (waiting.operand_kept a.0 (callback_of e f q)) m))
+          (proc (leave_for i en (lose f).0 u p.core) (put p.actors i (lose f).1))) (sym may.standing.actor)
+          (subst (λ xs. Matches r ls x (on_heap (left_for s t) n1) (proc (record (leave_for i en (lose f).0 u p.core) { entries = xs }) (put p.actors i (lose f).1)))
+          (put_over p.core.entries i en (running en))
           (shows left.shown))))
       by_case pace (kept_ready k b unmarked ready at takes) =
           let mk : e.marked ≡ false = sym (marked_is s.actor may.standing.actor) ∙ unmarked in
@@ -210,6 +214,7 @@ module _ (r : RawTree) (ls : List Line) (m : Process) (p : Proc Frame) (i : ℕ)
           subst (λ (a : ActorId). TakesBranch s b (record { 0 = q.1 }) (on_heap (waiting.operand_kept a.0 (callback_of e f q)) m) n) may.standing.actor takes in
           let out = branch_follows r ls n1 kept i en f x s group b q.1 may.cell n p.core.entries one_more (sym (put_over p.core.entries i en (running en))) none may.standing may.wait spot go1
           (record { at = may.takeable.at; there = λ o h. all_there_by p kept (refs_in (value_in o)) refl (may.takeable.there o h) }) taken in
-          subst (λ v. Matches r ls x n (keep_by (classes r) i (length e.operands) v q en f (on_core (pushed (Run i)) p)).0) (sym (ap (λ c. verdict c (is_ready_at (thing p.core.cells q.1))) mk ∙ ap (verdict false) rd))
+          subst (λ v. Matches r ls x n (keep_by (classes r) i (length e.operands) v q en f (on_core (pushed (Run i)) p)).0)
+          (sym (ap (λ c. verdict c (is_ready_at (thing p.core.cells q.1))) mk ∙ ap (verdict false) rd))
           (subst (λ c. Matches r ls x n (proc (take_branch i (length e.operands) q.1 en (lose f).0 c p.core) (put p.actors i (lose f).1))) (sym may.takeable.at)
           (subst (λ c. Matches r ls x n (proc (take_branch i c q.1 en (lose f).0 (Some may.cell) p.core) (put p.actors i (lose f).1))) branch out))

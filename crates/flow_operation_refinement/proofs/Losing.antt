@@ -63,12 +63,15 @@ unlisten_shown r ls k m p s none = record {
   goes = s.goes;
 }
 
-module _ (r : RawTree) (ls : List Line) (m : Process) (p : Proc Frame) (kd : Kind) (k : ℕ) (c : Cell) (s : ProcessRepresents r ls (λ s j. one s j (side_of kd) k) m p) (none : m.asked ≡ None) (sound : Sound p)
+module _ (r : RawTree) (ls : List Line) (m : Process) (p : Proc Frame) (kd : Kind) (k : ℕ) (c : Cell) (s : ProcessRepresents r ls (λ s j. one s j (side_of kd) k) m p) (none : m.asked ≡ None)
+    (sound : Sound p)
     (at : thing p.core.cells k ≡ Some c) (right : RightCell kd c) where
-  same_shown : (h : HeapTree) (q : Proc Frame) → Same r h q → q.core.lines ≡ p.core.lines → q.core.left ≡ p.core.left → q.core.halted ≡ p.core.halted → ProcessRepresents r ls nothing_in_hand (with_heap h m) q
+  same_shown : (h : HeapTree) (q : Proc Frame) → Same r h q → q.core.lines ≡ p.core.lines → q.core.left ≡ p.core.left → q.core.halted ≡ p.core.halted
+      → ProcessRepresents r ls nothing_in_hand (with_heap h m) q
   same_shown h q same = changed r ls (λ s j. one s j (side_of kd) k) nothing_in_hand m p q h s (record { shows = same.0; counted = same.1 })
 
-  freed_shown : (h : HeapTree) (f : Core → Core) → ((d : Core) → (f d).cells ≡ d.cells) → ((d : Core) → (f d).lines ≡ d.lines) → ((d : Core) → (f d).left ≡ d.left) → ((d : Core) → (f d).halted ≡ d.halted)
+  freed_shown : (h : HeapTree) (f : Core → Core) → ((d : Core) → (f d).cells ≡ d.cells) → ((d : Core) → (f d).lines ≡ d.lines) → ((d : Core) → (f d).left ≡ d.left)
+      → ((d : Core) → (f d).halted ≡ d.halted)
       → Same r h (on_core (λ d. free k (f d)) p) → ProcessRepresents r ls nothing_in_hand (with_heap h m) (on_core (λ d. free k (f d)) p)
   freed_shown h f cs a b g same =
       let there : thing (f p.core).cells k ≡ Some c = ap (λ xs. thing xs k) (cs p.core) ∙ at in

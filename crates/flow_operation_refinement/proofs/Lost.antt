@@ -96,9 +96,12 @@ module _ (r : RawTree) (ls : List Line) (i : ℕ) (e : Entry) (x : Scan) where
   further m p f g k n1 n2 count o os a ao nn gk s =
       subst (λ h. RepresentsActor r ls x (on_heap (places_lost i n2 count) m) (proc (work.dropping (refs_in (filled (reversed os ++ o ∷ []))) p.core) (put p.actors i h)) i e h) gk
       (subst (λ n. RepresentsActor r ls x (on_heap (places_lost i n count) m) (proc (work.dropping (refs_in (filled (reversed os ++ o ∷ []))) p.core) (put p.actors i g)) i e g) nn
-      (subst (λ ts. RepresentsActor r ls x (on_heap (places_lost i n1 count) m) (proc (record p.core { tasks = ts }) (put p.actors i g)) i e g) (sym (drops_in_order (reversed os) (o ∷ []) p.core.tasks))
-      (subst (λ b. RepresentsActor r ls x (on_heap (places_lost i n1 count) m) (proc (work.dropping (refs_in (filled (reversed os))) (work.dropping (refs_in (filled (b ∷ []))) p.core)) (put p.actors i g)) i e g) ao
-      (subst (λ xs. RepresentsActor r ls x (on_heap (places_lost i n1 count) m) (proc (work.dropping (refs_in (filled (reversed os))) (work.dropping (refs_in (filled (a ∷ []))) p.core)) xs) i e g) (put_over p.actors i f g) s))))
+      (subst (λ ts. RepresentsActor r ls x (on_heap (places_lost i n1 count) m) (proc (record p.core { tasks = ts }) (put p.actors i g)) i e g)
+      (sym (drops_in_order (reversed os) (o ∷ []) p.core.tasks))
+      (subst (λ b. RepresentsActor r ls x (on_heap (places_lost i n1 count) m)
+      (proc (work.dropping (refs_in (filled (reversed os))) (work.dropping (refs_in (filled (b ∷ []))) p.core)) (put p.actors i g)) i e g) ao
+      (subst (λ xs. RepresentsActor r ls x (on_heap (places_lost i n1 count) m) (proc (work.dropping (refs_in (filled (reversed os))) (work.dropping (refs_in (filled (a ∷ []))) p.core)) xs) i e g)
+      (put_over p.actors i f g) s))))
 
   pub locals_from : (os ds : List (Option ValueTree)) (m : Process) (p : Proc Frame) (f : Frame) → RepresentsActor r ls x m p i e f → f.mem.locals ≡ ds ++ os
       → RepresentsActor r ls x (on_heap (places_lost i (length f.code.slots + length ds) (length os)) m)
@@ -110,7 +113,8 @@ module _ (r : RawTree) (ls : List Line) (i : ℕ) (e : Entry) (x : Scan) where
       let t = one_lost r ls m p i e f x q s there in
       let g : Frame = with_memory (write f.mem q None) f in
       let now : g.mem.locals ≡ (ds ++ None ∷ []) ++ os = ap (λ l. set l (length ds) None) h ∙ set_after ds o os in
-      let rest = locals_from os (ds ++ None ∷ []) (on_heap (place_lost i (length f.code.slots + length ds)) m) (on_core (work.dropping (refs_in (filled (read f.mem q ∷ [])))) (put_frame i g p)) g t now in
+      let rest = locals_from os (ds ++ None ∷ []) (on_heap (place_lost i (length f.code.slots + length ds)) m) (on_core (work.dropping (refs_in (filled (read f.mem q ∷ [])))) (put_frame i g p)) g t
+      now in
       further (on_heap (place_lost i (length f.code.slots + length ds)) m) p g (with_locals ((ds ++ None ∷ []) ++ blanks os) g) (with_locals (ds ++ None ∷ blanks os) f)
       (length f.code.slots + length (ds ++ None ∷ [])) (suc (length f.code.slots + length ds)) (length os) o os (read f.mem q)
       (ap (λ l. flat (slice_get l (length ds))) h ∙ got_after ds o os) (length_more (length f.code.slots) ds None)

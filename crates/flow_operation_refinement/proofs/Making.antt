@@ -77,7 +77,8 @@ module _ (r : RawTree) (ls : List Line) (x : Scan) (m : Process) (p : Proc Frame
   not_there : Rising 0 p.core.made p.core.cells → thing p.core.cells (suc p.core.made) ≡ None
   not_there rising = none_above p.core.cells 0 p.core.made (suc p.core.made) rising (omega arith)
 
-  nothing_there : ProcessRepresents r ls x m p → Rising 0 p.core.made p.core.cells → (stored.thing m.heap.cells.things (next_cell m.heap) ≡ None) × (stored.thing m.heap.streams.things (next_cell m.heap) ≡ None)
+  nothing_there : ProcessRepresents r ls x m p → Rising 0 p.core.made p.core.cells
+      → (stored.thing m.heap.cells.things (next_cell m.heap) ≡ None) × (stored.thing m.heap.streams.things (next_cell m.heap) ≡ None)
   nothing_there s rising =
       nothing_at (spot_of_actor p.actors) m.heap.cells.things m.heap.streams.things p.core.cells s.holds.shows.cells (next_cell m.heap)
       (ap (thing p.core.cells) s.holds.shows.made ∙ not_there rising)
@@ -142,7 +143,8 @@ module _ (r : RawTree) (ls : List Line) (x : Scan) (m : Process) (p : Proc Frame
       let held = ref_held r ls x m q (kind.Promise, k) s (there_then kind.Promise v) in
       let l : p.core.made < k = omega (arith, number) in
       subst (λ c. ProcessRepresents r ls x (on_heap (requested k) (on_heap (hold kind.Promise k) m)) (on_core (λ d. record d { requests = d.requests ++ c ∷ [] }) q)) number
-      (changed r ls (with_refs ((kind.Promise, k) ∷ []) x) x (on_heap (hold kind.Promise k) m) q (on_core (λ d. record d { requests = d.requests ++ k ∷ [] }) q) (requested k (hold kind.Promise k m.heap)) held (record {
+      (changed r ls (with_refs ((kind.Promise, k) ∷ []) x) x (on_heap (hold kind.Promise k) m) q (on_core (λ d. record d { requests = d.requests ++ k ∷ [] }) q)
+      (requested k (hold kind.Promise k m.heap)) held (record {
         shows = request_shown r (hold kind.Promise k m.heap) q k 0 p.core.made held.holds.shows numbers.requests l;
         counted = λ z j. let a = of_request q z j k in let b = held.holds.counted z j in omega (arith, a, b);
       }) refl refl refl)
@@ -155,7 +157,8 @@ module _ (r : RawTree) (ls : List Line) (x : Scan) (m : Process) (p : Proc Frame
       let q = given_by (Stream [] None None) v in
       let held = ref_held r ls x m q (kind.PromiseStream, k) s (there_then kind.PromiseStream v) in
       subst (λ c. ProcessRepresents r ls x (on_heap (heard k) (on_heap (hold kind.PromiseStream k) m)) (on_core (λ d. record d { ports = added d.ports port c }) q)) number
-      (changed r ls (with_refs ((kind.PromiseStream, k) ∷ []) x) x (on_heap (hold kind.PromiseStream k) m) q (on_core (λ d. record d { ports = added d.ports port k }) q) (heard k (hold kind.PromiseStream k m.heap)) held (record {
+      (changed r ls (with_refs ((kind.PromiseStream, k) ∷ []) x) x (on_heap (hold kind.PromiseStream k) m) q (on_core (λ d. record d { ports = added d.ports port k }) q)
+      (heard k (hold kind.PromiseStream k m.heap)) held (record {
         shows = port_shown r (hold kind.PromiseStream k m.heap) q port k held.holds.shows;
         counted = λ z j. let a = of_port q z j port k in let b = held.holds.counted z j in omega (arith, a, b);
       }) refl refl refl)
@@ -167,7 +170,8 @@ module _ (r : RawTree) (ls : List Line) (x : Scan) (m : Process) (p : Proc Frame
       let a = cell_given r ls x m p g h i kind.Future k og.between s numbers.cells same og.number og.given in (
         number,
         subst (λ q. ProcessRepresents r ls x q (on_core (gives_open i.0 h) p)) (sym og.requested_then)
-            (with_request r ls x og.between p numbers i.0 k.0 number (result_task i.0 h (RefValue kind.Future (suc p.core.made))) (given_task i.0 h kind.Future (suc p.core.made)) (given_as i.0 h kind.Future (suc p.core.made)) a),
+            (with_request r ls x og.between p numbers i.0 k.0 number (result_task i.0 h (RefValue kind.Future (suc p.core.made))) (given_task i.0 h kind.Future (suc p.core.made))
+            (given_as i.0 h kind.Future (suc p.core.made)) a),
       )
 
   pub stream_given : law.StreamGiven r ls x m p
@@ -177,5 +181,6 @@ module _ (r : RawTree) (ls : List Line) (x : Scan) (m : Process) (p : Proc Frame
         number,
         subst (λ o. ProcessRepresents r ls x n (on_core (λ c. (open_port i.0 h port o c).0) p)) (sym none)
             (subst (λ q. ProcessRepresents r ls x q (on_core (λ c. (open_port i.0 h port None c).0) p)) (sym og.heard_then)
-            (with_port r ls x og.between p numbers i.0 k.0 number port (result_task i.0 h (RefValue kind.FutureStream (suc p.core.made))) (given_task i.0 h kind.FutureStream (suc p.core.made)) (given_as i.0 h kind.FutureStream (suc p.core.made)) a)),
+            (with_port r ls x og.between p numbers i.0 k.0 number port (result_task i.0 h (RefValue kind.FutureStream (suc p.core.made))) (given_task i.0 h kind.FutureStream (suc p.core.made))
+            (given_as i.0 h kind.FutureStream (suc p.core.made)) a)),
       )

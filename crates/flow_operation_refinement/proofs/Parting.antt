@@ -46,7 +46,8 @@ use Rattle.flow_operation_refinement.proofs.Places.{at_of, framed_anew}
 use Rattle.flow_operation_refinement.proofs.Emptied.{locals_lost}
 
 -- An actor stands as before where memory has the same frame of it, and the process the same entry.
-pub acts_by : (r : RawTree) (h g : HeapTree) (p q : Proc Frame) (i : ℕ) (e : Entry) (f : Frame) → g.frames ≡ h.frames → g.actors ≡ h.actors → q.core.entries ≡ p.core.entries → q.actors ≡ p.actors → Acts r h p i e f → Acts r g q i e f
+pub acts_by : (r : RawTree) (h g : HeapTree) (p q : Proc Frame) (i : ℕ) (e : Entry) (f : Frame) → g.frames ≡ h.frames → g.actors ≡ h.actors → q.core.entries ≡ p.core.entries → q.actors ≡ p.actors
+    → Acts r h p i e f → Acts r g q i e f
 acts_by r h g p q i e f a b c d s = record {
   note = s.note;
   memory = s.memory;
@@ -204,7 +205,11 @@ module _ (r : RawTree) (ls : List Line) (m : Process) (p : Proc Frame) (i : ℕ)
       } in
       let three = actor_withdrawn r ls n2 q2 i e (lose f).1 x two go2 in
       let four = frame_told r ls (on_heap (withdrawn i) n2) (on_core (left_wait i e) q2) i (running e) (lose f).1 x three refl refl in
-      subst (λ a. RepresentsActor r ls x (on_heap (λ h. gone a.0 s.place (length s.block.now.body.items) (withdrawn a.0 (lost_from a.0 s.class.now.slots (pushed t h)))) m) (on_core (left_wait i e) q2) i (running e) (lose f).1) (sym standing.actor)
-      (subst (λ n. RepresentsActor r ls x (on_heap (λ h. gone i s.place (length s.block.now.body.items) (withdrawn i (lost_from i n (pushed t h)))) m) (on_core (left_wait i e) q2) i (running e) (lose f).1) (sym standing.slots)
-      (subst (λ b. RepresentsActor r ls x (on_heap (λ h. gone i b (length s.block.now.body.items) (withdrawn i (lost_from i (length f.code.slots) (pushed t h)))) m) (on_core (left_wait i e) q2) i (running e) (lose f).1) (sym standing.place)
-      (subst (λ n. RepresentsActor r ls x (on_heap (λ h. gone i f.block n (withdrawn i (lost_from i (length f.code.slots) (pushed t h)))) m) (on_core (left_wait i e) q2) i (running e) (lose f).1) (sym end) four)))
+      subst (λ a. RepresentsActor r ls x (on_heap (λ h. gone a.0 s.place (length s.block.now.body.items) (withdrawn a.0 (lost_from a.0 s.class.now.slots (pushed t h)))) m)
+      (on_core (left_wait i e) q2) i (running e) (lose f).1) (sym standing.actor)
+      (subst (λ n. RepresentsActor r ls x (on_heap (λ h. gone i s.place (length s.block.now.body.items) (withdrawn i (lost_from i n (pushed t h)))) m) (on_core (left_wait i e) q2) i (running e)
+      (lose f).1) (sym standing.slots)
+      (subst (λ b. RepresentsActor r ls x (on_heap (λ h. gone i b (length s.block.now.body.items) (withdrawn i (lost_from i (length f.code.slots) (pushed t h)))) m) (on_core (left_wait i e) q2) i
+      (running e) (lose f).1) (sym standing.place)
+      (subst (λ n. RepresentsActor r ls x (on_heap (λ h. gone i f.block n (withdrawn i (lost_from i (length f.code.slots) (pushed t h)))) m) (on_core (left_wait i e) q2) i (running e) (lose f).1)
+      (sym end) four)))

@@ -107,7 +107,8 @@ module _ (r : RawTree) (h : HeapTree) (p : Proc Frame) (i : ℕ) where
         ∙ ap (λ t. branches_of i (waiters_at (thing ds q.1)) ++ (if t then b ∷ branches_at q.1 (suc b) (first_part a.many rs) else branches_at q.1 (suc b) (first_part a.many rs))) (sym (itself q.1)))
         (λ n differ.
         ap (λ o. branches_of i (waiters_at o) ++ branches_at n (suc b) (first_part a.many rs)) (thing_put_other ds q.1 n (with_waiter c (waiter r h p i b)) differ)
-        ∙ ap (λ t. branches_of i (waiters_at (thing ds n)) ++ (if t then b ∷ branches_at n (suc b) (first_part a.many rs) else branches_at n (suc b) (first_part a.many rs))) (sym (not_itself q.1 n differ))) n;
+        ∙ ap (λ t. branches_of i (waiters_at (thing ds n)) ++ (if t then b ∷ branches_at n (suc b) (first_part a.many rs) else branches_at n (suc b) (first_part a.many rs)))
+        (sym (not_itself q.1 n differ))) n;
     frames = a.frames;
     actors = a.actors;
   }

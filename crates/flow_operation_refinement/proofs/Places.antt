@@ -54,7 +54,8 @@ at_of r h p i e f a = record {
 }
 
 -- other references in hand, as many
-pub as_many_stood : (r : RawTree) (ls : List Line) (x y : Scan) (m : Process) (p : Proc Frame) (i : ℕ) (e : Entry) (f : Frame) → ((s : Side) (j : ℕ) → x s j ≡ y s j) → RepresentsActor r ls x m p i e f → RepresentsActor r ls y m p i e f
+pub as_many_stood : (r : RawTree) (ls : List Line) (x y : Scan) (m : Process) (p : Proc Frame) (i : ℕ) (e : Entry) (f : Frame) → ((s : Side) (j : ℕ) → x s j ≡ y s j) → RepresentsActor r ls x m p i e f
+    → RepresentsActor r ls y m p i e f
 as_many_stood r ls x y m p i e f same s = record { shown = as_many_shown r ls x y m p same s.shown; acts = s.acts }
 
 module _ (r : RawTree) (ls : List Line) (x y : Scan) (m : Process) (p : Proc Frame) (i : ℕ) (e : Entry) (f : Frame) where

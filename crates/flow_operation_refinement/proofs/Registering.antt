@@ -69,7 +69,8 @@ module _ (r : RawTree) (h : HeapTree) (p : Proc Frame) (i : ℕ) where
   -- one operand: it waits, or a stream refuses it
   abbrev pub OneWaits : HeapTree → Numbered Cell → List Ref → Ref → (branch : ℕ) → Cell → Type 0
   OneWaits g ds done q b c =
-      (is_busy c ≡ false) × ((k : HeapTree) × (waiting.register i (record { callback = first + b; cell = cell_id q.1 }) g ≡ (true, k)) × Waited r h p k (put ds q.1 (with_waiter c (waiter b))) (done ++ q ∷ []))
+      (is_busy c ≡ false) × ((k : HeapTree) × (waiting.register i (record { callback = first + b; cell = cell_id q.1 }) g ≡ (true, k))
+      × Waited r h p k (put ds q.1 (with_waiter c (waiter b))) (done ++ q ∷ []))
 
   abbrev pub OneRefused : HeapTree → Ref → (branch : ℕ) → Cell → Type 0
   OneRefused g q b c = (is_busy c ≡ true) × (waiting.register i (record { callback = first + b; cell = cell_id q.1 }) g ≡ (false, g))
@@ -94,7 +95,8 @@ module _ (r : RawTree) (h : HeapTree) (p : Proc Frame) (i : ℕ) where
     actors = actors ∙ w.actors;
   }
 
-  single_waits : (g : HeapTree) (ds : Numbered Cell) (done : List Ref) (q : Ref) (b : ℕ) (o : Option OutcomeTree) (ws : List Waiter) → Waited r h p g ds done → thing ds q.1 ≡ Some (Single o ws) → q.0 ≡ wait_kind (Some (Single o ws))
+  single_waits : (g : HeapTree) (ds : Numbered Cell) (done : List Ref) (q : Ref) (b : ℕ) (o : Option OutcomeTree) (ws : List Waiter) → Waited r h p g ds done → thing ds q.1 ≡ Some (Single o ws)
+      → q.0 ≡ wait_kind (Some (Single o ws))
       → OneWaits g ds done q b (Single o ws)
   single_waits g ds done q b o ws w at right =
       let f = found_single r g (with_cells ds p) q.1 o ws w.shows at in
@@ -108,7 +110,8 @@ module _ (r : RawTree) (h : HeapTree) (p : Proc Frame) (i : ℕ) where
         ),
       )
 
-  module _ (g : HeapTree) (ds : Numbered Cell) (done : List Ref) (q : Ref) (b : ℕ) (u : List ValueTree) (d : Option ℕ) (v : Option Waiter) (w : Waited r h p g ds done) (at : thing ds q.1 ≡ Some (Stream u d v)) (right : q.0 ≡ wait_kind (Some (Stream u d v))) where
+  module _ (g : HeapTree) (ds : Numbered Cell) (done : List Ref) (q : Ref) (b : ℕ) (u : List ValueTree) (d : Option ℕ) (v : Option Waiter) (w : Waited r h p g ds done)
+      (at : thing ds q.1 ≡ Some (Stream u d v)) (right : q.0 ≡ wait_kind (Some (Stream u d v))) where
     abbrev held : Held
     held = record { callback = first + b; cell = cell_id q.1 }
 
@@ -116,7 +119,8 @@ module _ (r : RawTree) (h : HeapTree) (p : Proc Frame) (i : ℕ) where
     found = found_stream r g (with_cells ds p) q.1 u d v w.shows at
 
     no_cell : stored.thing g.cells.things q.1 ≡ None
-    no_cell = (as_stream (spot_of_actor p.actors) found.0 (stored.thing g.cells.things q.1) (thing ds q.1) (subst (λ c. CellRepresents (spot_of_actor p.actors) (stored.thing g.cells.things q.1) c (thing ds q.1)) found.1 (w.shows.cells q.1))).no_single
+    no_cell = (as_stream (spot_of_actor p.actors) found.0 (stored.thing g.cells.things q.1) (thing ds q.1)
+        (subst (λ c. CellRepresents (spot_of_actor p.actors) (stored.thing g.cells.things q.1) c (thing ds q.1)) found.1 (w.shows.cells q.1))).no_single
 
     registers : waiting.register i held g ≡ waiting.stream_awaited q.1 (leaving.waiter_of i held) found.0 found.0.waiter g
     registers =
@@ -129,7 +133,8 @@ module _ (r : RawTree) (h : HeapTree) (p : Proc Frame) (i : ℕ) where
         let x = subst (λ c. CellRepresents (spot_of_actor p.actors) c (Some found.0) (thing ds q.1)) no_cell a in
         (subst (λ c. CellRepresents (spot_of_actor p.actors) None (Some found.0) c) at x).2
 
-  stream_waits : (g : HeapTree) (ds : Numbered Cell) (done : List Ref) (q : Ref) (b : ℕ) (u : List ValueTree) (d : Option ℕ) (v : Option Waiter) (w : Waited r h p g ds done) (at : thing ds q.1 ≡ Some (Stream u d v)) → q.0 ≡ wait_kind (Some (Stream u d v))
+  stream_waits : (g : HeapTree) (ds : Numbered Cell) (done : List Ref) (q : Ref) (b : ℕ) (u : List ValueTree) (d : Option ℕ) (v : Option Waiter) (w : Waited r h p g ds done)
+      (at : thing ds q.1 ≡ Some (Stream u d v)) → q.0 ≡ wait_kind (Some (Stream u d v))
       → OneWaits g ds done q b (Stream u d v) ⊎ OneRefused g q b (Stream u d v)
   stream_waits g ds done q b u d None w at right =
       let f = found g ds done q b u d None w at right in
@@ -146,9 +151,14 @@ module _ (r : RawTree) (h : HeapTree) (p : Proc Frame) (i : ℕ) where
       )
   stream_waits g ds done q b u d (Some v) w at right =
       let f = found g ds done q b u d (Some v) w at right in
-      inr (refl, registers g ds done q b u d (Some v) w at right ∙ ap (λ x. waiting.stream_awaited q.1 (leaving.waiter_of i (record { callback = first + b; cell = cell_id q.1 })) f.0 x g) (same_waiter g ds done q b u d (Some v) w at right))
+      inr (
+        refl,
+        registers g ds done q b u d (Some v) w at right ∙ ap (λ x. waiting.stream_awaited q.1 (leaving.waiter_of i (record { callback = first + b; cell = cell_id q.1 })) f.0 x g)
+            (same_waiter g ds done q b u d (Some v) w at right),
+      )
 
-  pub one_waits : (g : HeapTree) (ds : Numbered Cell) (done : List Ref) (q : Ref) (b : ℕ) (c : Cell) → Waited r h p g ds done → thing ds q.1 ≡ Some c → q.0 ≡ wait_kind (Some c) → OneWaits g ds done q b c ⊎ OneRefused g q b c
+  pub one_waits : (g : HeapTree) (ds : Numbered Cell) (done : List Ref) (q : Ref) (b : ℕ) (c : Cell) → Waited r h p g ds done → thing ds q.1 ≡ Some c → q.0 ≡ wait_kind (Some c)
+      → OneWaits g ds done q b c ⊎ OneRefused g q b c
   one_waits g ds done q b (Single o ws) w at right = inl (single_waits g ds done q b o ws w at right)
   one_waits g ds done q b (Stream u d v) w at right = stream_waits g ds done q b u d v w at right
 
@@ -203,7 +213,8 @@ module _ (r : RawTree) (h : HeapTree) (p : Proc Frame) (i : ℕ) where
       x = record { callback = first + b; cell = cell_id q.1 }
 
       registers : (t : Bool) → is_busy c ≡ t → register i b (q ∷ rs) (Registered ds) ≡ register i (suc b) rs (if t then Refused else Registered (put ds q.1 (with_waiter c (waiter b))))
-      registers t e = ap (λ o. register i (suc b) rs (register_at (waiter b) q.1 ds o)) at ∙ ap (λ u. register i (suc b) rs (if u then Refused else Registered (put ds q.1 (with_waiter c (waiter b))))) e
+      registers t e = ap (λ o. register i (suc b) rs (register_at (waiter b) q.1 ds o)) at
+          ∙ ap (λ u. register i (suc b) rs (if u then Refused else Registered (put ds q.1 (with_waiter c (waiter b))))) e
 
       by_rest : (k : HeapTree) → is_busy c ≡ false → waiting.register i x g ≡ (true, k) → AllWait k (put ds q.1 (with_waiter c (waiter b))) (done ++ q ∷ []) rs (suc b) → AllWait g ds done (q ∷ rs) b
       by_rest k free reg (all_wait l es m n v) =

@@ -102,7 +102,8 @@ same_catcher k (Some c) (Some t) e =
 same_catcher k None (Some t) e = absurd (cc (e))
 same_catcher k (Some c) None e = absurd (cc (e))
 
-module _ (r : RawTree) (classes : List Class) (m : Process) (p : Proc Frame) (i : ℕ) (e : Entry) (f : Frame) (s : ControlPoint) (c : CodedBy r classes) (home : AtHome f.code) (a : Acts r m.heap p i e f) (now : IsAtPoint classes (actor_id i) m s) where
+module _ (r : RawTree) (classes : List Class) (m : Process) (p : Proc Frame) (i : ℕ) (e : Entry) (f : Frame) (s : ControlPoint) (c : CodedBy r classes) (home : AtHome f.code)
+    (a : Acts r m.heap p i e f) (now : IsAtPoint classes (actor_id i) m s) where
   abbrev code : Coding
   code = coding c.names c.class (length f.code.slots)
 
@@ -137,7 +138,8 @@ module _ (r : RawTree) (classes : List Class) (m : Process) (p : Proc Frame) (i 
       let ends = at_end f.code f.block f.instr (ChooseLast (suc g)) fetched in
       by_group g (slice_get s.class.now.groups.items g) refl y (home f.block g ends.block ends.there ends.ends)
     where
-      by_group : (g : ℕ) (o : Option Group) → slice_get s.class.now.groups.items g ≡ o → option_map (λ (x : Group). x.block) o ≡ Some s.place → slice_get (homes_of f.code) g ≡ Some f.block → s.place ≡ f.block
+      by_group : (g : ℕ) (o : Option Group) → slice_get s.class.now.groups.items g ≡ o → option_map (λ (x : Group). x.block) o ≡ Some s.place → slice_get (homes_of f.code) g ≡ Some f.block
+          → s.place ≡ f.block
       by_group g None at y h = absurd (cc (y))
       by_group g (Some x) at y h = let k = (group_is g x at).0 in let u : x.block ≡ s.place = cc (y) in let v : x.block ≡ f.block = cc (k, h) in sym u ∙ v
 
@@ -161,7 +163,8 @@ module _ (r : RawTree) (classes : List Class) (m : Process) (p : Proc Frame) (i 
 
       by_block : (o : Option BlockTree) → slice_get f.code.blocks f.block ≡ o → TheBlock
       by_block None e = let x : Some (block_of s.block.now) ≡ None = sym at ∙ blocks ∙ ap (option_map (coded_block code f.code)) e in absurd (cc (x))
-      by_block (Some b) e = let x : Some (block_of s.block.now) ≡ Some (coded_block code f.code b) = sym at ∙ blocks ∙ ap (option_map (coded_block code f.code)) e in record { block = b; there = e; same = cc (x) }
+      by_block (Some b) e = let x : Some (block_of s.block.now) ≡ Some (coded_block code f.code b) =
+          sym at ∙ blocks ∙ ap (option_map (coded_block code f.code)) e in record { block = b; there = e; same = cc (x) }
 
   at_wait_of : (g : ℕ) → fetch f.code f.block f.instr ≡ Last (ChooseLast g) → AtWait s f g
   at_wait_of g fetched =
@@ -190,7 +193,8 @@ module _ (r : RawTree) (classes : List Class) (m : Process) (p : Proc Frame) (i 
     block = the_block.block;
     there = the_block.there;
     same = the_block.same;
-    catcher = subst (λ o. SameCatcher (length f.code.slots) s.block.now.catcher (catcher_in o)) (sym the_block.there) (same_catcher code s.block.now.catcher the_block.block.catcher (ap (λ (k : BlockCode). k.catcher) the_block.same));
+    catcher = subst (λ o. SameCatcher (length f.code.slots) s.block.now.catcher (catcher_in o)) (sym the_block.there)
+        (same_catcher code s.block.now.catcher the_block.block.catcher (ap (λ (k : BlockCode). k.catcher) the_block.same));
     waits = at_wait_of;
   }
 

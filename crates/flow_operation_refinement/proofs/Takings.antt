@@ -77,32 +77,39 @@ nothing_is (outcome.Error y) e = cc
 
 module _ (r : RawTree) (ls : List Line) (x : Scan) (m : Process) (p : Proc Frame) where
   -- a single result gives a copy
-  copy_taken : (k : ℕ) (o : Outcome) (c : Option OutcomeTree) (ws : List Waiter) (n : Process) → ProcessRepresents r ls x m p → Takeable p k (Single c ws) → content_in m.heap.cells k ≡ Some (outcome_of o) → n ≡ on_heap (hold_all (outcome_refs o)) m
+  copy_taken : (k : ℕ) (o : Outcome) (c : Option OutcomeTree) (ws : List Waiter) (n : Process) → ProcessRepresents r ls x m p → Takeable p k (Single c ws)
+      → content_in m.heap.cells k ≡ Some (outcome_of o) → n ≡ on_heap (hold_all (outcome_refs o)) m
       → (c ≡ Some (outcome_of o)) × ProcessRepresents r ls (with_refs (outcome_refs o) x) n (on_core (put_cell k (Single c ws)) p)
   copy_taken k o c ws n s t seen is =
       let f = found_single r m.heap p k c ws s.holds.shows t.at in
-      let a = as_single (spot_of_actor p.actors) f.0 (stored.thing m.heap.streams.things k) (thing p.core.cells k) (subst (λ y. CellRepresents (spot_of_actor p.actors) y (stored.thing m.heap.streams.things k) (thing p.core.cells k)) f.1 (s.holds.shows.cells k)) in
+      let a = as_single (spot_of_actor p.actors) f.0 (stored.thing m.heap.streams.things k) (thing p.core.cells k)
+      (subst (λ y. CellRepresents (spot_of_actor p.actors) y (stored.thing m.heap.streams.things k) (thing p.core.cells k)) f.1 (s.holds.shows.cells k)) in
       let same : (Single (option_map outcome_of f.0.content) a.waiters) ≡ Single c ws = let b = a.cell in let d = t.at in cc (b, d) in
       let content : c ≡ Some (outcome_of o) = sym (let z : option_map outcome_of f.0.content ≡ c = cc (same) in z) ∙ sym (ap content_of f.1) ∙ seen in (
         content,
         subst (λ q. ProcessRepresents r ls (with_refs (outcome_refs o) x) q (on_core (put_cell k (Single c ws)) p)) (sym is)
-            (subst (λ cs. ProcessRepresents r ls (with_refs (outcome_refs o) x) (on_heap (hold_all (outcome_refs o)) m) (proc (record p.core { cells = cs }) p.actors)) (sym (same_put p.core.cells k (Single c ws) t.at))
+            (subst (λ cs. ProcessRepresents r ls (with_refs (outcome_refs o) x) (on_heap (hold_all (outcome_refs o)) m) (proc (record p.core { cells = cs }) p.actors))
+            (sym (same_put p.core.cells k (Single c ws) t.at))
             (refs_held r ls x m p (outcome_refs o) s (t.there (outcome_of o) content))),
       )
 
   -- a stream gives its first element, or else its end
-  module _ (k : ℕ) (q : List ValueTree) (d : Option ℕ) (w : Option Waiter) (s : ProcessRepresents r ls x m p) (t : Takeable p k (Stream q d w)) (y : StreamTree Value) (at : stored.thing m.heap.streams.things k ≡ Some y) where
+  module _ (k : ℕ) (q : List ValueTree) (d : Option ℕ) (w : Option Waiter) (s : ProcessRepresents r ls x m p) (t : Takeable p k (Stream q d w)) (y : StreamTree Value)
+      (at : stored.thing m.heap.streams.things k ≡ Some y) where
     picture : AsStream (spot_of_actor p.actors) y (stored.thing m.heap.cells.things k) (thing p.core.cells k)
-    picture = as_stream (spot_of_actor p.actors) y (stored.thing m.heap.cells.things k) (thing p.core.cells k) (subst (λ c. CellRepresents (spot_of_actor p.actors) (stored.thing m.heap.cells.things k) c (thing p.core.cells k)) at (s.holds.shows.cells k))
+    picture = as_stream (spot_of_actor p.actors) y (stored.thing m.heap.cells.things k) (thing p.core.cells k)
+        (subst (λ c. CellRepresents (spot_of_actor p.actors) (stored.thing m.heap.cells.things k) c (thing p.core.cells k)) at (s.holds.shows.cells k))
 
     same_cell : Stream (map value_of y.queue) (option_map error_number y.end) picture.waiter ≡ Stream q d w
     same_cell = let b = picture.cell in let c = t.at in cc (b, c)
 
     element_goes : (o : Outcome) (v : Value) (vs : List Value) → y.queue ≡ v ∷ vs → o ≡ outcome.Value v
-        → (taken (Stream q d w) ≡ Some (outcome_of o)) × ProcessRepresents r ls (with_refs (outcome_refs o) x) (on_heap (stream_put k (record y { queue = vs })) m) (on_core (put_cell k (after_taking (Stream q d w))) p)
+        → (taken (Stream q d w) ≡ Some (outcome_of o)) × ProcessRepresents r ls (with_refs (outcome_refs o) x) (on_heap (stream_put k (record y { queue = vs })) m)
+        (on_core (put_cell k (after_taking (Stream q d w))) p)
     element_goes o v vs e is =
         let a = element_taken r m.heap p k y v vs (Stream q d w) s.holds.shows at e t.at in
-        subst (λ z. (taken (Stream q d w) ≡ Some (outcome_of z)) × ProcessRepresents r ls (with_refs (outcome_refs z) x) (on_heap (stream_put k (record y { queue = vs })) m) (on_core (put_cell k (after_taking (Stream q d w))) p)) (sym is) (
+        subst (λ z. (taken (Stream q d w) ≡ Some (outcome_of z)) × ProcessRepresents r ls (with_refs (outcome_refs z) x) (on_heap (stream_put k (record y { queue = vs })) m)
+        (on_core (put_cell k (after_taking (Stream q d w))) p)) (sym is) (
           a.0,
           changed r ls x (with_refs (outcome_refs (outcome.Value v)) x) m p (on_core (put_cell k (after_taking (Stream q d w))) p) (stream_put k (record y { queue = vs }) m.heap) s (record {
             shows = a.1;
@@ -114,7 +121,8 @@ module _ (r : RawTree) (ls : List Line) (x : Scan) (m : Process) (p : Proc Frame
         )
 
     end_given : (o : Outcome) (z : ErrorCode) → y.queue ≡ [] → y.end ≡ Some z → o ≡ outcome.Error z
-        → (taken (Stream q d w) ≡ Some (outcome_of o)) × ProcessRepresents r ls (with_refs (outcome_refs o) x) (on_heap (stream_put k (record y { queue = [] })) m) (on_core (put_cell k (after_taking (Stream q d w))) p)
+        → (taken (Stream q d w) ≡ Some (outcome_of o)) × ProcessRepresents r ls (with_refs (outcome_refs o) x) (on_heap (stream_put k (record y { queue = [] })) m)
+        (on_core (put_cell k (after_taking (Stream q d w))) p)
     end_given o z e f is =
         let c : Cell = Stream [] (Some z.0) picture.waiter in
         let cell_is : c ≡ Stream q d w =
@@ -124,8 +132,10 @@ module _ (r : RawTree) (ls : List Line) (x : Scan) (m : Process) (p : Proc Frame
         let same_stream : stream_put k (record y { queue = [] }) m.heap ≡ m.heap =
         ap (λ vs. stream_put k (record y { queue = vs }) m.heap) (sym e)
         ∙ ap (λ ss. record m.heap { streams = record m.heap.streams { things = ss } }) (put_same m.heap.streams.things k y at) in
-        subst (λ u. (taken (Stream q d w) ≡ Some (outcome_of u)) × ProcessRepresents r ls (with_refs (outcome_refs u) x) (on_heap (stream_put k (record y { queue = [] })) m) (on_core (put_cell k (after_taking (Stream q d w))) p)) (sym is)
-        (subst (λ u. (taken u ≡ Some (BadOutcome z.0)) × ProcessRepresents r ls (with_refs [] x) (on_heap (stream_put k (record y { queue = [] })) m) (on_core (put_cell k (after_taking u)) p)) cell_is (
+        subst (λ u. (taken (Stream q d w) ≡ Some (outcome_of u)) × ProcessRepresents r ls (with_refs (outcome_refs u) x) (on_heap (stream_put k (record y { queue = [] })) m)
+        (on_core (put_cell k (after_taking (Stream q d w))) p)) (sym is)
+        (subst (λ u. (taken u ≡ Some (BadOutcome z.0)) × ProcessRepresents r ls (with_refs [] x) (on_heap (stream_put k (record y { queue = [] })) m) (on_core (put_cell k (after_taking u)) p)) cell_is
+            (
           refl,
           subst (λ h. ProcessRepresents r ls (with_refs [] x) (record m { heap = h }) (on_core (put_cell k c) p)) (sym same_stream)
               (subst (λ cs. ProcessRepresents r ls (with_refs [] x) m (proc (record p.core { cells = cs }) p.actors)) (sym (same_put p.core.cells k c (t.at ∙ ap Some (sym cell_is))))
@@ -133,7 +143,8 @@ module _ (r : RawTree) (ls : List Line) (x : Scan) (m : Process) (p : Proc Frame
         ))
 
     by_queue : (o : Outcome) (vs : List Value) (u : Option ErrorCode) → y.queue ≡ vs → y.end ≡ u → head vs u ≡ head_of o
-        → (taken (Stream q d w) ≡ Some (outcome_of o)) × ProcessRepresents r ls (with_refs (outcome_refs o) x) (on_heap (stream_put k (record y { queue = tail vs })) m) (on_core (put_cell k (after_taking (Stream q d w))) p)
+        → (taken (Stream q d w) ≡ Some (outcome_of o)) × ProcessRepresents r ls (with_refs (outcome_refs o) x) (on_heap (stream_put k (record y { queue = tail vs })) m)
+        (on_core (put_cell k (after_taking (Stream q d w))) p)
     by_queue o (v ∷ vs) u e f h = element_goes o v vs e (item_is o v h)
     by_queue o [] (Some z) e f h = end_given o z e f (end_is o z h)
     by_queue o [] None e f h = absurd (nothing_is o h)
@@ -150,7 +161,8 @@ module _ (r : RawTree) (ls : List Line) (x : Scan) (m : Process) (p : Proc Frame
           (by_queue k q d w s t y at o y.queue y.end refl refl h)
       by_cell (Stream q d w) t (copied seen is) =
           let f = found_stream r m.heap p k q d w s.holds.shows t.at in
-          let a = as_stream (spot_of_actor p.actors) f.0 (stored.thing m.heap.cells.things k) (thing p.core.cells k) (subst (λ y. CellRepresents (spot_of_actor p.actors) (stored.thing m.heap.cells.things k) y (thing p.core.cells k)) f.1 (s.holds.shows.cells k)) in
+          let a = as_stream (spot_of_actor p.actors) f.0 (stored.thing m.heap.cells.things k) (thing p.core.cells k)
+          (subst (λ y. CellRepresents (spot_of_actor p.actors) (stored.thing m.heap.cells.things k) y (thing p.core.cells k)) f.1 (s.holds.shows.cells k)) in
           let none = ap content_of a.no_single in absurd (cc (none, seen))
 
 -- a cell from which something was taken has the waiters and the kind that it had
@@ -268,9 +280,11 @@ module _ (r : RawTree) (ls : List Line) (m : Process) (p : Proc Frame) (i : ℕ)
       subst (λ z. RepresentsActor r ls x z (gives_there es left e.spot.group b k c (taken c)) i (running e) (lose f).1) (sym bt.leaves)
       (subst (λ g. RepresentsActor r ls x (telling (line.Take s.actor bt.group b) after) (gives_there es left g b k c (taken c)) i (running e) (lose f).1) (sym spot)
       (subst (λ o. RepresentsActor r ls x (telling (line.Take s.actor bt.group b) after) (gives_there es left group b k c o) i (running e) (lose f).1) (sym ct.0)
-      (subst (λ xs. RepresentsActor r ls x (telling (line.Take s.actor bt.group b) after) (proc (record (leave_for i e (lose f).0 u q2.core) { entries = xs }) (put p.actors i (lose f).1)) i (running e) (lose f).1) (sym over)
+      (subst (λ xs. RepresentsActor r ls x (telling (line.Take s.actor bt.group b) after) (proc (record (leave_for i e (lose f).0 u q2.core) { entries = xs }) (put p.actors i (lose f).1)) i
+      (running e) (lose f).1) (sym over)
       (subst (λ g. RepresentsActor r ls x (telling (line.Take s.actor g b) after) (proc (leave_for i e (lose f).0 u q2.core) (put p.actors i (lose f).1)) i (running e) (lose f).1) (sym number)
-      (subst (λ a. RepresentsActor r ls x (telling (line.Take a group b) after) (proc (leave_for i e (lose f).0 u q2.core) (put p.actors i (lose f).1)) i (running e) (lose f).1) (sym standing.actor) done)))))
+      (subst (λ a. RepresentsActor r ls x (telling (line.Take a group b) after) (proc (leave_for i e (lose f).0 u q2.core) (put p.actors i (lose f).1)) i (running e) (lose f).1)
+      (sym standing.actor) done)))))
 
   pub branch_follows : law.BranchFollows r ls m p i e f
   branch_follows x s group b k c n es st over none standing wait spot go t takes = by_case takes

@@ -92,13 +92,15 @@ module _ (r : RawTree) (ls : List Line) (x : Scan) (i : ℕ) (e : Entry) (f : Fr
 
 module _ (r : RawTree) (ls : List Line) (x : Scan) (i : ℕ) (e : Entry) (f : Frame) where
   -- the error goes into its local
-  error_put : (m : Process) (p : Proc Frame) (err : ErrorCode) (o : Option ℕ) → RepresentsActor r ls x m p i e f → ((n : ℕ) → o ≡ Some n → (n < length f.mem.locals) × ((z : Side) (j : ℕ) → held z j (read f.mem (Local n)) ≡ 0))
+  error_put : (m : Process) (p : Proc Frame) (err : ErrorCode) (o : Option ℕ) → RepresentsActor r ls x m p i e f
+      → ((n : ℕ) → o ≡ Some n → (n < length f.mem.locals) × ((z : Side) (j : ℕ) → held z j (read f.mem (Local n)) ≡ 0))
       → RepresentsActor r ls x (on_heap (tasks.with_error i (option_map (λ n. length f.code.slots + n) o) err) m)
       (proc p.core (put p.actors i (with_memory (with_error o err.0 f.mem) f))) i e (with_memory (with_error o err.0 f.mem) f)
   error_put m p err None s there = unchanged r ls i e x m p f s
   error_put m p err (Some n) s there =
       let a = there n refl in
-      subst (λ v. RepresentsActor r ls x (on_heap (place_put i (length f.code.slots + n) (Some (Error err))) m) (proc p.core (put p.actors i (with_memory (write f.mem (Local n) (Some v)) f))) i e (with_memory (write f.mem (Local n) (Some v)) f)) (error_seen err)
+      subst (λ v. RepresentsActor r ls x (on_heap (place_put i (length f.code.slots + n) (Some (Error err))) m) (proc p.core (put p.actors i (with_memory (write f.mem (Local n) (Some v)) f))) i e
+      (with_memory (write f.mem (Local n) (Some v)) f)) (error_seen err)
       (place_changed r ls m p i e f x x (Local n) (Some (Error err)) s a.0 (λ z j.
       let b = a.1 z j in
       let c = ap (λ v. held z j (Some v)) (error_seen err) in omega (arith, b, c)))
@@ -136,9 +138,13 @@ module _ (r : RawTree) (ls : List Line) (x : Scan) (m : Process) (p : Proc Frame
       let actors : put (put (put p.actors i.0 f2) i.0 f3) i.0 f4 ≡ put p.actors i.0 f4 =
       put_over (put p.actors i.0 f2) i.0 f3 f4 ∙ put_over p.actors i.0 f2 f4 in
       let done = subst (λ xs. ProcessRepresents r ls x (on_heap (gone i.0 t.block 0) (on_heap (withdrawn i.0) n3)) (proc (left_wait i.0 e core2) xs)) actors five.shown in
-      subst (λ b. ProcessRepresents r ls x (on_heap (λ h. gone i.0 b 0 (withdrawn i.0 (tasks.with_error i.0 c.error err (dropped_places i.0 c.drops.items (pushed (task.Catch i err) h))))) m) (proc (left_wait i.0 e core2) (put p.actors i.0 f4))) (sym same.0)
-      (subst (λ o. ProcessRepresents r ls x (on_heap (λ h. gone i.0 t.block 0 (withdrawn i.0 (tasks.with_error i.0 o err (dropped_places i.0 c.drops.items (pushed (task.Catch i err) h))))) m) (proc (left_wait i.0 e core2) (put p.actors i.0 f4))) (sym same.1)
-      (subst (λ ns. ProcessRepresents r ls x (on_heap (λ h. gone i.0 t.block 0 (withdrawn i.0 (tasks.with_error i.0 (option_map (λ n. length f.code.slots + n) t.error) err (dropped_places i.0 ns (pushed (task.Catch i err) h))))) m) (proc (left_wait i.0 e core2) (put p.actors i.0 f4))) (sym same.2) done))
+      subst (λ b. ProcessRepresents r ls x (on_heap (λ h. gone i.0 b 0 (withdrawn i.0 (tasks.with_error i.0 c.error err (dropped_places i.0 c.drops.items (pushed (task.Catch i err) h))))) m)
+      (proc (left_wait i.0 e core2) (put p.actors i.0 f4))) (sym same.0)
+      (subst (λ o. ProcessRepresents r ls x (on_heap (λ h. gone i.0 t.block 0 (withdrawn i.0 (tasks.with_error i.0 o err (dropped_places i.0 c.drops.items (pushed (task.Catch i err) h))))) m)
+      (proc (left_wait i.0 e core2) (put p.actors i.0 f4))) (sym same.1)
+      (subst (λ ns. ProcessRepresents r ls x (on_heap (λ h. gone i.0 t.block 0
+      (withdrawn i.0 (tasks.with_error i.0 (option_map (λ n. length f.code.slots + n) t.error) err (dropped_places i.0 ns (pushed (task.Catch i err) h))))) m)
+      (proc (left_wait i.0 e core2) (put p.actors i.0 f4))) (sym same.2) done))
 
 -- the task by which an actor is closed
 pub close_same : (p : Proc Frame) (i : ActorId) (o : Outcome) (t : stack.Task) → IsClose i o t → SameTask p t (Close i.0 (outcome_of o))
@@ -189,14 +195,16 @@ throw_done r ls m p x code i err e f n s none may thrown =
     let go1 : MayGo i.0 e q.core = record { agree = may.go.agree; cells = may.go.cells; kinds = may.go.kinds; keeps = may.go.keeps } in
     let now = may.stands thrown.stand thrown.stands in
     subst (λ z. ProcessRepresents r ls x z (throw_with i.0 err.0 (raise err.0 f) p).0) (sym thrown.told)
-    (subst (λ o. ProcessRepresents r ls x (telling (line.Throw i err) thrown.between) (proc (throw_core i.0 err.0 (raise err.0 f).0 o p.core) (put p.actors i.0 (raise err.0 f).1))) (sym s.acts.entered)
+    (subst (λ o. ProcessRepresents r ls x (telling (line.Throw i err) thrown.between) (proc (throw_core i.0 err.0 (raise err.0 f).0 o p.core) (put p.actors i.0 (raise err.0 f).1)))
+    (sym s.acts.entered)
     (by_catcher st go1 thrown.stand.block.now.catcher (catcher_at f.code f.block) refl now.1 thrown.raises))
   where
     by_catcher : RepresentsActor r ls x (telling (throw_line i.0 err.0) m) (on_core (writes (throw_line i.0 err.0)) p) i.0 e f → MayGo i.0 e (writes (throw_line i.0 err.0) p.core)
         → (a : Option Catcher) (b : Option CatcherTree) → catcher_at f.code f.block ≡ b → SameCatcher (length f.code.slots) a b → Raises i a err m thrown.between
         → ProcessRepresents r ls x (telling (line.Throw i err) thrown.between) (proc (throw_core i.0 err.0 (raised err.0 f b).0 (Some e) p.core) (put p.actors i.0 (raised err.0 f b).1))
     by_catcher st go1 (Some c) (Some t) at same raises =
-        subst (λ z. ProcessRepresents r ls x (telling (line.Throw i err) z) (proc (throw_core i.0 err.0 (raised err.0 f (Some t)).0 (Some e) p.core) (put p.actors i.0 (raised err.0 f (Some t)).1))) (sym raises)
+        subst (λ z. ProcessRepresents r ls x (telling (line.Throw i err) z) (proc (throw_core i.0 err.0 (raised err.0 f (Some t)).0 (Some e) p.core) (put p.actors i.0 (raised err.0 f (Some t)).1)))
+        (sym raises)
         (handler_begins r ls x (telling (throw_line i.0 err.0) m) (on_core (writes (throw_line i.0 err.0)) p) i err e f c t st go1 same (may.fits t at))
     by_catcher st go1 None None at same raises =
         actor_fails r ls x (telling (throw_line i.0 err.0) m) (on_core (writes (throw_line i.0 err.0)) p) i err e f (telling (throw_line i.0 err.0) thrown.between) st go1

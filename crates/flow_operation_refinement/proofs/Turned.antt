@@ -87,7 +87,8 @@ module _ (r : RawTree) (ls : List Line) (m : Process) (p : Proc Frame) (i : ℕ)
       }
 
 module _ (r : RawTree) (ls : List Line) (m : Process) (p : Proc Frame) (i : ℕ) (e : Entry) (f : Frame) where
-  pub left_refused : (x : Scan) (s : ControlPoint) (t : stack.Task) (u : Task) (k : HeapTree) → RepresentsActor r ls (with_task u x) m p i e f → PointMatches s i f → length s.block.now.body.items ≡ f.instr
+  pub left_refused : (x : Scan) (s : ControlPoint) (t : stack.Task) (u : Task) (k : HeapTree) → RepresentsActor r ls (with_task u x) m p i e f → PointMatches s i f
+      → length s.block.now.body.items ≡ f.instr
       → SameTask p t u → MayGo i e p.core → NoKeep i (u ∷ []) → e.suspended ≡ false → Waitable p.core.cells e.operands
       → waiting.register_all i (held_from ((wait_spot f).first + 0) e.operands) m.heap ≡ (false, k)
       → RepresentsActor r ls x (on_heap (left_for s t) (with_heap k m)) (proc (leave_for i e (lose f).0 u p.core) (put p.actors i (lose f).1)) i (running e) (lose f).1
@@ -117,7 +118,9 @@ module _ (r : RawTree) (ls : List Line) (m : Process) (p : Proc Frame) (i : ℕ)
       let four = frame_told r ls (on_heap (withdrawn i) (with_heap k2 n2)) (on_core (left_wait i e) q2) i (running e) g x three refl refl in
       let km : Process = with_heap k m in
       let out : Proc Frame = on_core (left_wait i e) q2 in
-      subst (λ a. RepresentsActor r ls x (on_heap (λ h. gone a.0 s.place (length s.block.now.body.items) (withdrawn a.0 (lost_from a.0 s.class.now.slots (pushed t h)))) km) out i (running e) g) (sym standing.actor)
+      subst (λ a. RepresentsActor r ls x (on_heap (λ h. gone a.0 s.place (length s.block.now.body.items) (withdrawn a.0 (lost_from a.0 s.class.now.slots (pushed t h)))) km) out i (running e) g)
+      (sym standing.actor)
       (subst (λ n. RepresentsActor r ls x (on_heap (λ h. gone i s.place (length s.block.now.body.items) (withdrawn i (lost_from i n (pushed t h)))) km) out i (running e) g) (sym standing.slots)
-      (subst (λ b. RepresentsActor r ls x (on_heap (λ h. gone i b (length s.block.now.body.items) (withdrawn i (lost_from i (length f.code.slots) (pushed t h)))) km) out i (running e) g) (sym standing.place)
+      (subst (λ b. RepresentsActor r ls x (on_heap (λ h. gone i b (length s.block.now.body.items) (withdrawn i (lost_from i (length f.code.slots) (pushed t h)))) km) out i (running e) g)
+      (sym standing.place)
       (subst (λ n. RepresentsActor r ls x (on_heap (λ h. gone i f.block n (withdrawn i (lost_from i (length f.code.slots) (pushed t h)))) km) out i (running e) g) (sym end) four)))

@@ -104,7 +104,8 @@ first_same : (r : RawTree) (h : HeapTree) (p : Proc Frame) (first : ℕ) → Rep
 first_same r h p first s [] b = tt
 first_same r h p first s (q ∷ rs) b = by_test (ready_at q.1 h) (is_ready_at (thing p.core.cells q.1)) (ready_same r h p s q.1) refl (first_same r h p first s rs (suc b))
   where
-    by_test : (t u : Bool) → t ≡ u → is_ready_at (thing p.core.cells q.1) ≡ u → FirstSame first p.core.cells (waiting.first_ready h (held_from (first + suc b) rs)) (work.first_ready p.core.cells (suc b) rs)
+    by_test : (t u : Bool) → t ≡ u → is_ready_at (thing p.core.cells q.1) ≡ u
+        → FirstSame first p.core.cells (waiting.first_ready h (held_from (first + suc b) rs)) (work.first_ready p.core.cells (suc b) rs)
         → FirstSame first p.core.cells (if t then Some (record { callback = first + b; cell = cell_id q.1 }) else waiting.first_ready h (held_from (suc (first + b)) rs))
         (if u then Some (b, q.1) else work.first_ready p.core.cells (suc b) rs)
     by_test true true e ready rest = (refl, refl, ready)
@@ -114,7 +115,8 @@ first_same r h p first s (q ∷ rs) b = by_test (ready_at q.1 h) (is_ready_at (t
     by_test true false e ready rest = absurd (cc)
     by_test false true e ready rest = absurd (cc)
 
-module _ (r : RawTree) (ls : List Line) (m : Process) (p : Proc Frame) (x : Scan) (s : ControlPoint) (i group : ℕ) (e : Entry) (f : Frame) (st : RepresentsActor r ls x m p i e f) (none : m.asked ≡ None) (may : MayAwait s p i group e f) where
+module _ (r : RawTree) (ls : List Line) (m : Process) (p : Proc Frame) (x : Scan) (s : ControlPoint) (i group : ℕ) (e : Entry) (f : Frame) (st : RepresentsActor r ls x m p i e f)
+    (none : m.asked ≡ None) (may : MayAwait s p i group e f) where
   abbrev spotted : Entry
   spotted = at_spot (wait_spot f) e
 
@@ -153,10 +155,12 @@ module _ (r : RawTree) (ls : List Line) (m : Process) (p : Proc Frame) (x : Scan
 
   there : RepresentsActor r ls x m (put_actor i spotted waiting_frame p) i spotted waiting_frame
   there =
-      let same : frame_put i st.acts.memory m.heap ≡ m.heap = ap (λ ms. record m.heap { frames = record m.heap.frames { things = ms } }) (put_same m.heap.frames.things i st.acts.memory st.acts.framed) in record {
+      let same : frame_put i st.acts.memory m.heap ≡ m.heap = ap (λ ms. record m.heap { frames = record m.heap.frames { things = ms } }) (put_same m.heap.frames.things i st.acts.memory st.acts.framed)
+      in record {
         shown = record {
           holds = record {
-            shows = subst (λ h. Represents r h (put_actor i spotted waiting_frame p)) same (restated_shows r m.heap p i e spotted f waiting_frame st.acts.memory st.shown.holds.shows st.acts stands_there refl refl refl refl refl refl);
+            shows = subst (λ h. Represents r h (put_actor i spotted waiting_frame p)) same
+                (restated_shows r m.heap p i e spotted f waiting_frame st.acts.memory st.shown.holds.shows st.acts stands_there refl refl refl refl refl refl);
             counted = λ z j.
                 let a = restated_refs r m.heap p i e spotted f waiting_frame st.acts.memory st.shown.holds.shows st.acts stands_there refl refl refl refl z j in
                 let b = st.shown.holds.counted z j in omega (arith, a, b);
@@ -166,7 +170,8 @@ module _ (r : RawTree) (ls : List Line) (m : Process) (p : Proc Frame) (x : Scan
           unspent = st.shown.unspent;
           goes = st.shown.goes;
         };
-        acts = subst (λ h. Acts r h (put_actor i spotted waiting_frame p) i spotted waiting_frame) same (restated_acts r m.heap p i e spotted f waiting_frame st.acts.memory st.shown.holds.shows st.acts stands_there refl refl refl refl);
+        acts = subst (λ h. Acts r h (put_actor i spotted waiting_frame p) i spotted waiting_frame) same
+            (restated_acts r m.heap p i e spotted f waiting_frame st.acts.memory st.shown.holds.shows st.acts stands_there refl refl refl refl);
       }
 
   abbrev out_of : Option (ℕ × ℕ) → Proc Frame
@@ -190,7 +195,8 @@ module _ (r : RawTree) (ls : List Line) (m : Process) (p : Proc Frame) (x : Scan
   }
 
   -- the first that is ready is taken
-  first_taken : (n : Process) (y : Held) (b : ℕ) (z : ℕ × ℕ) → FirstSame first p.core.cells (Some y) (Some z) → waiting.BranchOf s y.callback b → TakesBranch s b y.cell m n → Matches r ls x n (out_of (Some z))
+  first_taken : (n : Process) (y : Held) (b : ℕ) (z : ℕ × ℕ) → FirstSame first p.core.cells (Some y) (Some z) → waiting.BranchOf s y.callback b → TakesBranch s b y.cell m n
+      → Matches r ls x n (out_of (Some z))
   first_taken n y b z same at takes = by_cell (thing p.core.cells z.1) refl
     where
       number : at.number ≡ suc group
@@ -243,7 +249,8 @@ module _ (r : RawTree) (ls : List Line) (m : Process) (p : Proc Frame) (x : Scan
         let n = in_state (suc group) told_acts.memory in
         let sh = restated_shows r k told_proc i e asleep f waiting_frame n told_shows told_acts stands_asleep refl refl refl refl refl refl in
         let line_told = telling_shown r ls x said m p st.shown none in
-        subst (λ o. RepresentsActor r ls x (telling said (with_heap (reframed (in_state (suc group)) i o k) m)) (put_actor i asleep waiting_frame told_proc) i asleep waiting_frame) (sym told_acts.framed) (record {
+        subst (λ o. RepresentsActor r ls x (telling said (with_heap (reframed (in_state (suc group)) i o k) m)) (put_actor i asleep waiting_frame told_proc) i asleep waiting_frame)
+        (sym told_acts.framed) (record {
           shown = record {
             holds = record {
               shows = sh;
@@ -267,15 +274,20 @@ module _ (r : RawTree) (ls : List Line) (m : Process) (p : Proc Frame) (x : Scan
     all_asleep reg =
         let lost = locals_lost r ls (telling said (with_heap (suspended_at i (suc group) k) m)) (put_actor i asleep waiting_frame told_proc) i asleep waiting_frame x fallen in
         let ended : Frame = record (lose f).1 { state = suc group } in
-        subst (λ q. ProcessRepresents r ls x (telling said (on_heap (λ g. suspended_at i (suc group) (lost_from i (length f.code.slots) g)) (with_heap k m))) (proc (suspend i (wait_spot f) spotted (lose f).0 q p.core) (put p.actors i ended))) (sym reg)
+        subst (λ q. ProcessRepresents r ls x (telling said (on_heap (λ g. suspended_at i (suc group) (lost_from i (length f.code.slots) g)) (with_heap k m)))
+        (proc (suspend i (wait_spot f) spotted (lose f).0 q p.core) (put p.actors i ended))) (sym reg)
         (subst (λ g. ProcessRepresents r ls x (telling said (on_heap (λ g. suspended_at i (suc group) (lost_from i (length f.code.slots) g)) (with_heap k m)))
         (proc (dropping_values (lose f).0 (record (writes (wait_line i g) p.core) { cells = es; entries = put p.core.entries i asleep })) (put p.actors i ended))) (sym spot_group)
-        (subst (λ h. ProcessRepresents r ls x (telling said (with_heap h m)) (proc (dropping_values (lose f).0 (record (writes said p.core) { cells = es; entries = put p.core.entries i asleep })) (put p.actors i ended))) (sym (suspended_first i group (length f.code.slots) k))
-        (subst (λ xs. ProcessRepresents r ls x (telling said (with_heap (lost_from i (length f.code.slots) (suspended_at i (suc group) k)) m)) (proc (dropping_values (lose f).0 (record (writes said p.core) { cells = es; entries = put p.core.entries i asleep })) xs))
+        (subst (λ h. ProcessRepresents r ls x (telling said (with_heap h m))
+        (proc (dropping_values (lose f).0 (record (writes said p.core) { cells = es; entries = put p.core.entries i asleep })) (put p.actors i ended)))
+        (sym (suspended_first i group (length f.code.slots) k))
+        (subst (λ xs. ProcessRepresents r ls x (telling said (with_heap (lost_from i (length f.code.slots) (suspended_at i (suc group) k)) m))
+        (proc (dropping_values (lose f).0 (record (writes said p.core) { cells = es; entries = put p.core.entries i asleep })) xs))
         (put_over p.actors i waiting_frame ended) lost.shown)))
 
   by_registration : (n : Process) (h : HeapTree) → waiting.register_all i (held_from (first + 0) e.operands) m.heap ≡ (true, h)
-      → n ≡ telling (wait_line i (suc group)) (on_heap (λ g. suspended_at i (suc group) (lost_from i (length f.code.slots) g)) (with_heap h m)) → AllWait r m.heap p i m.heap p.core.cells [] e.operands 0
+      → n ≡ telling (wait_line i (suc group)) (on_heap (λ g. suspended_at i (suc group) (lost_from i (length f.code.slots) g)) (with_heap h m))
+      → AllWait r m.heap p i m.heap p.core.cells [] e.operands 0
       → Matches r ls x n (out_of None)
   by_registration n h reg is (one_refused k mem refused) =
       let mem2 = ap (λ u. waiting.register_all i (held_from (u + 0) e.operands) m.heap) (sym spots_first) ∙ mem in
@@ -310,12 +322,15 @@ module _ (r : RawTree) (ls : List Line) (m : Process) (p : Proc Frame) (x : Scan
       (as_many_stood r ls x (with_task u x) m q i spotted waiting_frame (λ z j. omega arith) there) standing_there may.wait.end task_same go_there tt may.awake may.waitable reg in
       subst (λ y. Matches r ls x n (proc (suspend i (wait_spot f) spotted (lose f).0 y p.core) (put p.actors i (record (lose f).1 { state = suc group })))) (sym (refused_there h reg registration))
       (subst (λ z. Matches r ls x z (proc (leave_for i spotted (lose f).0 u p.core) (put p.actors i (record (lose f).1 { state = suc group })))) (sym is)
-      (subst (λ xs. Matches r ls x (on_heap (left_for s (task.Throw s.actor (record { 0 = second_waiter }))) (with_heap h m)) (proc (record (leave_for i spotted (lose f).0 u p.core) { entries = xs }) (put p.actors i (record (lose f).1 { state = suc group })))) (put_over p.core.entries i spotted (running spotted))
-      (subst (λ xs. Matches r ls x (on_heap (left_for s (task.Throw s.actor (record { 0 = second_waiter }))) (with_heap h m)) (proc (leave_for i spotted (lose f).0 u q.core) xs)) (put_over p.actors i waiting_frame (record (lose f).1 { state = suc group }))
+      (subst (λ xs. Matches r ls x (on_heap (left_for s (task.Throw s.actor (record { 0 = second_waiter }))) (with_heap h m))
+      (proc (record (leave_for i spotted (lose f).0 u p.core) { entries = xs }) (put p.actors i (record (lose f).1 { state = suc group })))) (put_over p.core.entries i spotted (running spotted))
+      (subst (λ xs. Matches r ls x (on_heap (left_for s (task.Throw s.actor (record { 0 = second_waiter }))) (with_heap h m)) (proc (leave_for i spotted (lose f).0 u q.core) xs))
+      (put_over p.actors i waiting_frame (record (lose f).1 { state = suc group }))
       (shows left.shown))))
 
   -- each way
-  ready_way : (n : Process) (y : Held) (b : ℕ) (o : Option (ℕ × ℕ)) → FirstSame first p.core.cells (Some y) o → waiting.BranchOf s y.callback b → TakesBranch s b y.cell m n → Matches r ls x n (out_of o)
+  ready_way : (n : Process) (y : Held) (b : ℕ) (o : Option (ℕ × ℕ)) → FirstSame first p.core.cells (Some y) o → waiting.BranchOf s y.callback b → TakesBranch s b y.cell m n
+      → Matches r ls x n (out_of o)
   ready_way n y b None same at takes = absurd same
   ready_way n y b (Some z) same at takes = first_taken n y b z same at takes
 

@@ -67,7 +67,8 @@ module _ (r : RawTree) (ls : List Line) (x : Scan) (m : Process) (p : Proc Frame
         goes = s.goes;
       })
 
-  pub without_turn : (act : Core → Core) (c : Core) (xs : Numbered Frame) → m.left ≡ 0 → c.left ≡ p.core.left → c.lines ≡ p.core.lines → ProcessRepresents r ls x m p → AreSpent ls (turned m) (proc (turn c act) xs)
+  pub without_turn : (act : Core → Core) (c : Core) (xs : Numbered Frame) → m.left ≡ 0 → c.left ≡ p.core.left → c.lines ≡ p.core.lines → ProcessRepresents r ls x m p
+      → AreSpent ls (turned m) (proc (turn c act) xs)
   without_turn act c xs e same lines s =
       subst (λ k. AreSpent ls k (proc (turn c act) xs)) (sym (turned_none m e))
       (subst (λ n. AreSpent ls (record m { spent = true }) (proc (turn_of n c act) xs)) (sym (same ∙ s.left ∙ e)) (record {
@@ -130,7 +131,8 @@ no_more [] = refl
 no_more (y ∷ ys) = ap (λ l. y ∷ l) (no_more ys)
 
 -- a line is told
-pub telling_shown : (r : RawTree) (ls : List Line) (x : Scan) (l : Line) (m : Process) (p : Proc Frame) → ProcessRepresents r ls x m p → m.asked ≡ None → ProcessRepresents r ls x (telling l m) (on_core (writes l) p)
+pub telling_shown : (r : RawTree) (ls : List Line) (x : Scan) (l : Line) (m : Process) (p : Proc Frame) → ProcessRepresents r ls x m p → m.asked ≡ None
+    → ProcessRepresents r ls x (telling l m) (on_core (writes l) p)
 telling_shown r ls x l m p s none = record {
   holds = holds_aside r x m.heap p (p.core.lines ++ l ∷ []) p.core.left s.holds;
   left = s.left;
@@ -151,7 +153,8 @@ module _ (r : RawTree) (ls : List Line) (x : Scan) (m : Process) (p : Proc Frame
   pub cell_broken : law.CellBroken r ls x m p
   cell_broken kd k s none t =
       turn_taken r ls x m p x (filled_broken kd k) (λ d. fill k (BadOutcome broken_promise) (writes (broken_line k) d)) s
-      (λ n e s. shows (broken_filled r ls x (turned m) (on_core (λ c. record c { left = n }) p) kd k s (still m none) (record { cell = t.cell; at = t.at; right = t.right; incomplete = t.incomplete })))
+      (λ n e s. shows (broken_filled r ls x (turned m) (on_core (λ c. record c { left = n }) p) kd k s (still m none)
+      (record { cell = t.cell; at = t.at; right = t.right; incomplete = t.incomplete })))
     where
       still : (m : Process) → m.asked ≡ None → (turned m).asked ≡ None
       still m none = by_test (nat_lt 0 m.left)

@@ -45,7 +45,8 @@ abbrev pub stale : (block instr state : ℕ) → Frame → Frame
 stale b n k f = record f { block = b; instr = n; state = k }
 
 -- Memory shows the process but for where an actor stands, which its frame there need not say yet.
-pub record MayBeStale (r : RawTree) (ls : List Line) (x : Scan) (s : ControlPoint) (m : Process) (p : Proc Frame) (i : ℕ) (e : Entry) (f : Frame)
+pub record MayBeStale (r : RawTree) (ls : List Line) (x : Scan) (s : ControlPoint) (m : Process) (p : Proc Frame) (i : ℕ) (e : Entry)
+    (f : Frame)
     : Type 0 where
   pub block : ℕ
   pub instr : ℕ

@@ -42,7 +42,8 @@ module _ (r : RawTree) (ls : List Line) (x : Scan) (m : Process) (p : Proc Frame
   abbrev pub RequestAnswered : Type 0
   RequestAnswered =
       (k : ℕ) → ProcessRepresents r ls x m p → has k p.core.requests ≡ true
-      → ProcessRepresents r ls x (on_heap (answered k) m) (on_core (λ c. pushed (Drop kind.Promise k) (record c { requests = closed_request k c.requests })) p)
+      → ProcessRepresents r ls x (on_heap (answered k) m)
+      (on_core (λ c. pushed (Drop kind.Promise k) (record c { requests = closed_request k c.requests })) p)
 
   -- the hold on the result of `main` is dropped
   abbrev pub MainDropped : Type 0

@@ -23,7 +23,8 @@ use Rattle.flow_operation_refinement.specs.Continuing.{MayBeStale}
 use Rattle.flow_operation_refinement.specs.Carried.{StepsAs}
 
 -- A value was given, with these turns left, and memory goes on with it.
-pub record GivesValue {A B : Type 0} (seen : B → A) (comes_to : Res A) (m : Process) (goal : B → Process → Pace → Process → Type 0) (pace : Pace) (n : Process) : Type 0 where
+pub record GivesValue {A B : Type 0} (seen : B → A) (comes_to : Res A) (m : Process) (goal : B → Process → Pace → Process → Type 0)
+    (pace : Pace) (n : Process) : Type 0 where
   pub value : B
   pub left : ℕ
   pub done : comes_to ≡ Done (seen value) left

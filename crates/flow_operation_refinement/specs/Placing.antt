@@ -106,7 +106,8 @@ module _ (r : RawTree) (ls : List Line) (m : Process) (p : Proc Frame) (i : ℕ)
   AllLost =
       (x : Scan) → RepresentsActor r ls x m p i e f
       → RepresentsActor r ls x (on_heap (lost_from i 0) m)
-      (proc (dropping_values (everything f.mem) p.core) (put p.actors i (with_memory (nothing_in f.mem) f))) i e (with_memory (nothing_in f.mem) f)
+      (proc (dropping_values (everything f.mem) p.core) (put p.actors i (with_memory (nothing_in f.mem) f))) i e
+      (with_memory (nothing_in f.mem) f)
 
 -- a law on each actor of each process in memory and of each of the definitions, whatever was written before
 abbrev pub ForActors : (RawTree → List Line → Process → Proc Frame → ℕ → Entry → Frame → Type 0) → Type 0

@@ -45,4 +45,5 @@ abbrev pub WaitDone : RawTree → List Line → Process → Proc Frame → Type 
 WaitDone r ls m p =
     (x : Scan) (s : ControlPoint) (i group : ℕ) (e : Entry) (f : Frame) (n : Process) → RepresentsActor r ls x m p i e f
     → m.asked ≡ None → MayAwait s p i group e f → Waits s (suc group) m n
-    → Matches r ls x n (proc (wait i (wait_spot f) (thing p.core.entries i) (lose f).0 p.core) (put p.actors i (record (lose f).1 { state = suc group })))
+    → Matches r ls x n (proc (wait i (wait_spot f) (thing p.core.entries i) (lose f).0 p.core)
+    (put p.actors i (record (lose f).1 { state = suc group })))

@@ -34,67 +34,101 @@ pub param_starts : {n : ℕ} {w : List Marked} {f : ParamTree} → ParamRule n w
 param_starts {n = n} (param x of r e) = subst (Starts TypeToken) (sym e) (starts_marked TypeToken (Variable n) (of ++ name_at x ∷ []) (starts_is TypeToken of (name_at x ∷ []) refl (type_starts r)))
 
 -- parameters
-pub no_params_back : {w : List Marked} {fs : List ParamTree} (z : List Marked) → Params w fs → Looks (Some (token.Sign sign.CloseRound)) (w ++ z) → Back Params Any (Tok (token.Sign sign.CloseRound)) Any (λ p. []) w z fs
+pub no_params_back : {w : List Marked} {fs : List ParamTree} (z : List Marked) → Params w fs → Looks (Some (token.Sign sign.CloseRound)) (w ++ z)
+    → Back Params Any (Tok (token.Sign sign.CloseRound)) Any (λ p. []) w z fs
 no_params_back z r l = by_rule z r.0 r.1 r.2 r.3 l
   where
-    by_rule : {w : List Marked} {fs : List ParamTree} (z : List Marked) (q : Place) (of : List Marked) → ParamsRule of fs → w ≡ of ++ sign_at sign.CloseRound q ∷ [] → Looks (Some (token.Sign sign.CloseRound)) (w ++ z) → Back Params Any (Tok (token.Sign sign.CloseRound)) Any (λ p. []) w z fs
+    by_rule : {w : List Marked} {fs : List ParamTree} (z : List Marked) (q : Place) (of : List Marked) → ParamsRule of fs → w ≡ of ++ sign_at sign.CloseRound q ∷ []
+        → Looks (Some (token.Sign sign.CloseRound)) (w ++ z) → Back Params Any (Tok (token.Sign sign.CloseRound)) Any (λ p. []) w z fs
     by_rule z q of no_params e l = record { tree = q; rule = e; is = refl; follows = tt }
-    by_rule {w = w} z q of (some_params first more p m f) e l = absurd (starts_looks TypeToken w z (Some (token.Sign sign.CloseRound)) (starts_is TypeToken first (more ++ sign_at sign.CloseRound q ∷ []) (e ∙ ap (λ k. k ++ sign_at sign.CloseRound q ∷ []) f ∙ append_assoc first more _) (param_starts p)) l)
+    by_rule {w = w} z q of (some_params first more p m f) e l = absurd
+        (starts_looks TypeToken w z (Some (token.Sign sign.CloseRound))
+        (starts_is TypeToken first (more ++ sign_at sign.CloseRound q ∷ []) (e ∙ ap (λ k. k ++ sign_at sign.CloseRound q ∷ []) f ∙ append_assoc first more _) (param_starts p)) l)
 
-pub params_back : {w : List Marked} {fs : List ParamTree} (z : List Marked) (o : Option Token) → (o ≡ Some (token.Sign sign.CloseRound) → ⊥) → Params w fs → Looks o (w ++ z) → Back Params Any (Then (ParamRule 1) (λ f. MoreParams 2)) Any (λ x. x.0 ∷ x.1) w z fs
+pub params_back : {w : List Marked} {fs : List ParamTree} (z : List Marked) (o : Option Token) → (o ≡ Some (token.Sign sign.CloseRound) → ⊥) → Params w fs → Looks o (w ++ z)
+    → Back Params Any (Then (ParamRule 1) (λ f. MoreParams 2)) Any (λ x. x.0 ∷ x.1) w z fs
 params_back z o n r l = by_rule z o n r.0 r.1 r.2 r.3 l
   where
-    by_rule : {w : List Marked} {fs : List ParamTree} (z : List Marked) (o : Option Token) → (o ≡ Some (token.Sign sign.CloseRound) → ⊥) → (q : Place) (of : List Marked) → ParamsRule of fs → w ≡ of ++ sign_at sign.CloseRound q ∷ [] → Looks o (w ++ z) → Back Params Any (Then (ParamRule 1) (λ f. MoreParams 2)) Any (λ x. x.0 ∷ x.1) w z fs
+    by_rule : {w : List Marked} {fs : List ParamTree} (z : List Marked) (o : Option Token) → (o ≡ Some (token.Sign sign.CloseRound) → ⊥) → (q : Place) (of : List Marked) → ParamsRule of fs
+        → w ≡ of ++ sign_at sign.CloseRound q ∷ [] → Looks o (w ++ z) → Back Params Any (Then (ParamRule 1) (λ f. MoreParams 2)) Any (λ x. x.0 ∷ x.1) w z fs
     by_rule z o n q of no_params e l = absurd (n (looks_is o (sign_at sign.CloseRound q) [] z e l))
-    by_rule z o n q of (some_params {f = g} {fs = gs} first more p m f) e l = record { tree = (g, gs); rule = front (ParamRule 1) g gs first (more ++ sign_at sign.CloseRound q ∷ []) (e ∙ ap (λ k. k ++ sign_at sign.CloseRound q ∷ []) f ∙ append_assoc first more _) p (q, more, m, refl); is = refl; follows = tt }
+    by_rule z o n q of (some_params {f = g} {fs = gs} first more p m f) e l =
+        record {
+          tree = (g, gs);
+          rule = front (ParamRule 1) g gs first (more ++ sign_at sign.CloseRound q ∷ []) (e ∙ ap (λ k. k ++ sign_at sign.CloseRound q ∷ []) f ∙ append_assoc first more _) p
+              (q, more, m, refl);
+          is = refl;
+          follows = tt;
+        }
 
-pub more_params_back : {n : ℕ} {w : List Marked} {fs : List ParamTree} (z : List Marked) → MoreParams n w fs → Looks (Some (token.Sign sign.Comma)) (w ++ z) → Back (MoreParams n) Any (Then (Tok (token.Sign sign.Comma)) (λ p. Then (ParamRule n) (λ f. MoreParams (suc n)))) Any (λ x. x.1.0 ∷ x.1.1) w z fs
+pub more_params_back : {n : ℕ} {w : List Marked} {fs : List ParamTree} (z : List Marked) → MoreParams n w fs → Looks (Some (token.Sign sign.Comma)) (w ++ z)
+    → Back (MoreParams n) Any (Then (Tok (token.Sign sign.Comma)) (λ p. Then (ParamRule n) (λ f. MoreParams (suc n)))) Any (λ x. x.1.0 ∷ x.1.1) w z fs
 more_params_back z r l = by_rule z r.0 r.1 r.2 r.3 l
   where
-    by_rule : {n : ℕ} {w : List Marked} {fs : List ParamTree} (z : List Marked) (q : Place) (of : List Marked) → MoreParamsRule n of fs → w ≡ of ++ sign_at sign.CloseRound q ∷ [] → Looks (Some (token.Sign sign.Comma)) (w ++ z) → Back (MoreParams n) Any (Then (Tok (token.Sign sign.Comma)) (λ p. Then (ParamRule n) (λ f. MoreParams (suc n)))) Any (λ x. x.1.0 ∷ x.1.1) w z fs
+    by_rule : {n : ℕ} {w : List Marked} {fs : List ParamTree} (z : List Marked) (q : Place) (of : List Marked) → MoreParamsRule n of fs → w ≡ of ++ sign_at sign.CloseRound q ∷ []
+        → Looks (Some (token.Sign sign.Comma)) (w ++ z) → Back (MoreParams n) Any (Then (Tok (token.Sign sign.Comma)) (λ p. Then (ParamRule n) (λ f. MoreParams (suc n)))) Any
+        (λ x. x.1.0 ∷ x.1.1) w z fs
     by_rule z q of end_params e l = let k = looks_is (Some (token.Sign sign.Comma)) (sign_at sign.CloseRound q) [] z e l in absurd (cc)
     by_rule {n = n} z q of (more_params {f = g} {fs = gs} p xs more r m f) e l = record {
       tree = (p, (g, gs));
-      rule = tok_front (token.Sign sign.Comma) p (g, gs) (xs ++ (more ++ sign_at sign.CloseRound q ∷ [])) (e ∙ ap (λ k. k ++ sign_at sign.CloseRound q ∷ []) f ∙ ap (λ k. sign_at sign.Comma p ∷ k) (append_assoc xs more (sign_at sign.CloseRound q ∷ []))) (front (ParamRule n) g gs xs (more ++ sign_at sign.CloseRound q ∷ []) refl r (q, more, m, refl));
+      rule = tok_front (token.Sign sign.Comma) p (g, gs) (xs ++ (more ++ sign_at sign.CloseRound q ∷ []))
+          (e ∙ ap (λ k. k ++ sign_at sign.CloseRound q ∷ []) f ∙ ap (λ k. sign_at sign.Comma p ∷ k) (append_assoc xs more (sign_at sign.CloseRound q ∷ [])))
+          (front (ParamRule n) g gs xs (more ++ sign_at sign.CloseRound q ∷ []) refl r (q, more, m, refl));
       is = refl;
       follows = tt;
     }
 
-pub end_params_back : {n : ℕ} {w : List Marked} {fs : List ParamTree} (z : List Marked) (o : Option Token) → (o ≡ Some (token.Sign sign.Comma) → ⊥) → MoreParams n w fs → Looks o (w ++ z) → Back (MoreParams n) Any (Tok (token.Sign sign.CloseRound)) Any (λ p. []) w z fs
+pub end_params_back : {n : ℕ} {w : List Marked} {fs : List ParamTree} (z : List Marked) (o : Option Token) → (o ≡ Some (token.Sign sign.Comma) → ⊥) → MoreParams n w fs → Looks o (w ++ z)
+    → Back (MoreParams n) Any (Tok (token.Sign sign.CloseRound)) Any (λ p. []) w z fs
 end_params_back z o n r l = by_rule z o n r.0 r.1 r.2 r.3 l
   where
-    by_rule : {n : ℕ} {w : List Marked} {fs : List ParamTree} (z : List Marked) (o : Option Token) → (o ≡ Some (token.Sign sign.Comma) → ⊥) → (q : Place) (of : List Marked) → MoreParamsRule n of fs → w ≡ of ++ sign_at sign.CloseRound q ∷ [] → Looks o (w ++ z) → Back (MoreParams n) Any (Tok (token.Sign sign.CloseRound)) Any (λ p. []) w z fs
+    by_rule : {n : ℕ} {w : List Marked} {fs : List ParamTree} (z : List Marked) (o : Option Token) → (o ≡ Some (token.Sign sign.Comma) → ⊥) → (q : Place) (of : List Marked) → MoreParamsRule n of fs
+        → w ≡ of ++ sign_at sign.CloseRound q ∷ [] → Looks o (w ++ z) → Back (MoreParams n) Any (Tok (token.Sign sign.CloseRound)) Any (λ p. []) w z fs
     by_rule z o h q of end_params e l = record { tree = q; rule = e; is = refl; follows = tt }
-    by_rule z o h q of (more_params p xs more r m f) e l = absurd (h (looks_is o (sign_at sign.Comma p) ((xs ++ more) ++ sign_at sign.CloseRound q ∷ []) z (e ∙ ap (λ k. k ++ sign_at sign.CloseRound q ∷ []) f) l))
+    by_rule z o h q of (more_params p xs more r m f) e l = absurd (h
+        (looks_is o (sign_at sign.Comma p) ((xs ++ more) ++ sign_at sign.CloseRound q ∷ []) z (e ∙ ap (λ k. k ++ sign_at sign.CloseRound q ∷ []) f) l))
 
 -- fields
-pub end_fields_back : {n : ℕ} {w : List Marked} {fs : List ParamTree} (z : List Marked) → FieldsPart n w fs → Looks (Some (token.Sign sign.CloseCurly)) (w ++ z) → Back (FieldsPart n) Any (Tok (token.Sign sign.CloseCurly)) Any (λ p. []) w z fs
+pub end_fields_back : {n : ℕ} {w : List Marked} {fs : List ParamTree} (z : List Marked) → FieldsPart n w fs → Looks (Some (token.Sign sign.CloseCurly)) (w ++ z)
+    → Back (FieldsPart n) Any (Tok (token.Sign sign.CloseCurly)) Any (λ p. []) w z fs
 end_fields_back z r l = by_rule z r.0 r.1 r.2 r.3 l
   where
-    by_rule : {n : ℕ} {w : List Marked} {fs : List ParamTree} (z : List Marked) (q : Place) (of : List Marked) → FieldsRule n of fs → w ≡ of ++ sign_at sign.CloseCurly q ∷ [] → Looks (Some (token.Sign sign.CloseCurly)) (w ++ z) → Back (FieldsPart n) Any (Tok (token.Sign sign.CloseCurly)) Any (λ p. []) w z fs
+    by_rule : {n : ℕ} {w : List Marked} {fs : List ParamTree} (z : List Marked) (q : Place) (of : List Marked) → FieldsRule n of fs → w ≡ of ++ sign_at sign.CloseCurly q ∷ []
+        → Looks (Some (token.Sign sign.CloseCurly)) (w ++ z) → Back (FieldsPart n) Any (Tok (token.Sign sign.CloseCurly)) Any (λ p. []) w z fs
     by_rule z q of no_fields e l = record { tree = q; rule = e; is = refl; follows = tt }
-    by_rule {w = w} z q of (more_fields p xs more r m f) e l = absurd (starts_looks TypeToken w z (Some (token.Sign sign.CloseCurly)) (starts_is TypeToken xs _ (e ∙ ap (λ k. k ++ sign_at sign.CloseCurly q ∷ []) f ∙ append_assoc xs (sign_at sign.Semicolon p ∷ more) _) (param_starts r)) l)
+    by_rule {w = w} z q of (more_fields p xs more r m f) e l = absurd
+        (starts_looks TypeToken w z (Some (token.Sign sign.CloseCurly))
+        (starts_is TypeToken xs _ (e ∙ ap (λ k. k ++ sign_at sign.CloseCurly q ∷ []) f ∙ append_assoc xs (sign_at sign.Semicolon p ∷ more) _) (param_starts r)) l)
 
-pub more_fields_back : {n : ℕ} {w : List Marked} {fs : List ParamTree} (z : List Marked) (o : Option Token) → (o ≡ Some (token.Sign sign.CloseCurly) → ⊥) → FieldsPart n w fs → Looks o (w ++ z) → Back (FieldsPart n) Any (Then (ParamRule n) (λ f. Then (Tok (token.Sign sign.Semicolon)) (λ p. FieldsPart (suc n)))) Any (λ x. x.0 ∷ x.1.1) w z fs
+pub more_fields_back : {n : ℕ} {w : List Marked} {fs : List ParamTree} (z : List Marked) (o : Option Token) → (o ≡ Some (token.Sign sign.CloseCurly) → ⊥) → FieldsPart n w fs → Looks o (w ++ z)
+    → Back (FieldsPart n) Any (Then (ParamRule n) (λ f. Then (Tok (token.Sign sign.Semicolon)) (λ p. FieldsPart (suc n)))) Any (λ x. x.0 ∷ x.1.1) w z fs
 more_fields_back z o n r l = by_rule z o n r.0 r.1 r.2 r.3 l
   where
-    by_rule : {n : ℕ} {w : List Marked} {fs : List ParamTree} (z : List Marked) (o : Option Token) → (o ≡ Some (token.Sign sign.CloseCurly) → ⊥) → (q : Place) (of : List Marked) → FieldsRule n of fs → w ≡ of ++ sign_at sign.CloseCurly q ∷ [] → Looks o (w ++ z) → Back (FieldsPart n) Any (Then (ParamRule n) (λ f. Then (Tok (token.Sign sign.Semicolon)) (λ p. FieldsPart (suc n)))) Any (λ x. x.0 ∷ x.1.1) w z fs
+    by_rule : {n : ℕ} {w : List Marked} {fs : List ParamTree} (z : List Marked) (o : Option Token) → (o ≡ Some (token.Sign sign.CloseCurly) → ⊥) → (q : Place) (of : List Marked) → FieldsRule n of fs
+        → w ≡ of ++ sign_at sign.CloseCurly q ∷ [] → Looks o (w ++ z)
+        → Back (FieldsPart n) Any (Then (ParamRule n) (λ f. Then (Tok (token.Sign sign.Semicolon)) (λ p. FieldsPart (suc n)))) Any (λ x. x.0 ∷ x.1.1) w z fs
     by_rule z o h q of no_fields e l = absurd (h (looks_is o (sign_at sign.CloseCurly q) [] z e l))
     by_rule {n = n} z o h q of (more_fields {f = g} {fs = gs} p xs more r m f) e l = record {
       tree = (g, (p, gs));
-      rule = front (ParamRule n) g (p, gs) xs (sign_at sign.Semicolon p ∷ (more ++ sign_at sign.CloseCurly q ∷ [])) (e ∙ ap (λ k. k ++ sign_at sign.CloseCurly q ∷ []) f ∙ append_assoc xs (sign_at sign.Semicolon p ∷ more) _) r (tok_front (token.Sign sign.Semicolon) p gs (more ++ sign_at sign.CloseCurly q ∷ []) refl (q, more, m, refl));
+      rule = front (ParamRule n) g (p, gs) xs (sign_at sign.Semicolon p ∷ (more ++ sign_at sign.CloseCurly q ∷ []))
+          (e ∙ ap (λ k. k ++ sign_at sign.CloseCurly q ∷ []) f ∙ append_assoc xs (sign_at sign.Semicolon p ∷ more) _) r
+          (tok_front (token.Sign sign.Semicolon) p gs (more ++ sign_at sign.CloseCurly q ∷ []) refl (q, more, m, refl));
       is = refl;
       follows = tt;
     }
 
-pub all_fields_back : {w : List Marked} {fs : List ParamTree} (z : List Marked) → AllFields w fs → Back AllFields Any (Then (ParamRule 1) (λ f. Then (Tok (token.Sign sign.Semicolon)) (λ p. FieldsPart 2))) Any (λ x. x.0 ∷ x.1.1) w z fs
+pub all_fields_back : {w : List Marked} {fs : List ParamTree} (z : List Marked) → AllFields w fs
+    → Back AllFields Any (Then (ParamRule 1) (λ f. Then (Tok (token.Sign sign.Semicolon)) (λ p. FieldsPart 2))) Any (λ x. x.0 ∷ x.1.1) w z fs
 all_fields_back z r = by_rule z r.0.0 r.0.1 r.0.2 r.0.3 r.1
   where
-    by_rule : {w : List Marked} {fs : List ParamTree} (z : List Marked) (q : Place) (of : List Marked) → FieldsRule 1 of fs → w ≡ of ++ sign_at sign.CloseCurly q ∷ [] → 0 < length fs → Back AllFields Any (Then (ParamRule 1) (λ f. Then (Tok (token.Sign sign.Semicolon)) (λ p. FieldsPart 2))) Any (λ x. x.0 ∷ x.1.1) w z fs
+    by_rule : {w : List Marked} {fs : List ParamTree} (z : List Marked) (q : Place) (of : List Marked) → FieldsRule 1 of fs → w ≡ of ++ sign_at sign.CloseCurly q ∷ [] → 0 < length fs
+        → Back AllFields Any (Then (ParamRule 1) (λ f. Then (Tok (token.Sign sign.Semicolon)) (λ p. FieldsPart 2))) Any (λ x. x.0 ∷ x.1.1) w z fs
     by_rule z q of no_fields e h = absurd (omega arith)
     by_rule z q of (more_fields {f = g} {fs = gs} p xs more r m f) e h = record {
       tree = (g, (p, gs));
-      rule = front (ParamRule 1) g (p, gs) xs (sign_at sign.Semicolon p ∷ (more ++ sign_at sign.CloseCurly q ∷ [])) (e ∙ ap (λ k. k ++ sign_at sign.CloseCurly q ∷ []) f ∙ append_assoc xs (sign_at sign.Semicolon p ∷ more) _) r (tok_front (token.Sign sign.Semicolon) p gs (more ++ sign_at sign.CloseCurly q ∷ []) refl (q, more, m, refl));
+      rule = front (ParamRule 1) g (p, gs) xs (sign_at sign.Semicolon p ∷ (more ++ sign_at sign.CloseCurly q ∷ []))
+          (e ∙ ap (λ k. k ++ sign_at sign.CloseCurly q ∷ []) f ∙ append_assoc xs (sign_at sign.Semicolon p ∷ more) _) r
+          (tok_front (token.Sign sign.Semicolon) p gs (more ++ sign_at sign.CloseCurly q ∷ []) refl (q, more, m, refl));
       is = refl;
       follows = tt;
     }
@@ -109,8 +143,11 @@ RecordSeq w x = Then (Tok (token.Word word.Struct)) (λ p. Then Named (λ x. The
 record_form : {w : List Marked} {r : RecordTree} → RecordRule w r → Formed RecordSeq (λ x. record { at = x.0; name = x.1.0; fields = x.1.1.1.0 }) w r
 record_form (fields {f = f} {fs = fs} at p q r x xs g e) = record {
   tree = (at, (x, (p, (f ∷ fs, r))));
-  rule = tok_front (token.Word word.Struct) at (x, (p, (f ∷ fs, r))) (name_at x ∷ sign_at sign.OpenCurly p ∷ (xs ++ (sign_at sign.CloseCurly q ∷ sign_at sign.Semicolon r ∷ []))) e (front Named x (p, (f ∷ fs, r)) (name_at x ∷ []) (sign_at sign.OpenCurly p ∷ (xs ++ (sign_at sign.CloseCurly q ∷ sign_at sign.Semicolon r ∷ []))) refl refl
-      (tok_front (token.Sign sign.OpenCurly) p (f ∷ fs, r) (xs ++ (sign_at sign.CloseCurly q ∷ sign_at sign.Semicolon r ∷ [])) refl (front AllFields (f ∷ fs) r (xs ++ sign_at sign.CloseCurly q ∷ []) (sign_at sign.Semicolon r ∷ []) (sym (append_assoc xs (sign_at sign.CloseCurly q ∷ []) (sign_at sign.Semicolon r ∷ []))) ((q, xs, g, refl), some_field f fs) refl)));
+  rule = tok_front (token.Word word.Struct) at (x, (p, (f ∷ fs, r))) (name_at x ∷ sign_at sign.OpenCurly p ∷ (xs ++ (sign_at sign.CloseCurly q ∷ sign_at sign.Semicolon r ∷ []))) e
+      (front Named x (p, (f ∷ fs, r)) (name_at x ∷ []) (sign_at sign.OpenCurly p ∷ (xs ++ (sign_at sign.CloseCurly q ∷ sign_at sign.Semicolon r ∷ []))) refl refl
+      (tok_front (token.Sign sign.OpenCurly) p (f ∷ fs, r) (xs ++ (sign_at sign.CloseCurly q ∷ sign_at sign.Semicolon r ∷ [])) refl
+      (front AllFields (f ∷ fs) r (xs ++ sign_at sign.CloseCurly q ∷ []) (sign_at sign.Semicolon r ∷ []) (sym (append_assoc xs (sign_at sign.CloseCurly q ∷ []) (sign_at sign.Semicolon r ∷ [])))
+      ((q, xs, g, refl), some_field f fs) refl)));
   is = refl;
 }
 
@@ -120,23 +157,28 @@ RoutineSeq actor w x = Then Named (λ x. Then (Tok (token.Sign sign.OpenRound)) 
 abbrev pub out_of : RoutineTree → RoutineOut
 out_of f = record { name = f.name; params = f.params; body = f.body; close = f.close }
 
-routine_form : {actor : Bool} {at : Place} {t : TypeTree} {w : List Marked} {f : RoutineTree} → RoutineRule actor at t w f → Formed (RoutineSeq actor) (λ x. record { at = at; returns = t; name = x.0; params = x.1.1.0; body = x.1.1.1.body; close = x.1.1.1.close }) w f
+routine_form : {actor : Bool} {at : Place} {t : TypeTree} {w : List Marked} {f : RoutineTree} → RoutineRule actor at t w f
+    → Formed (RoutineSeq actor) (λ x. record { at = at; returns = t; name = x.0; params = x.1.1.0; body = x.1.1.1.body; close = x.1.1.1.close }) w f
 routine_form {actor = actor} (routine {c = c} {ps = ps} {body = body} p q r close x params xs g ss e) =
     let b : BlockOut = record { body = body; counts = c; close = close } in
     record {
       tree = (x, (p, (ps, b)));
-      rule = front Named x (p, (ps, b)) (name_at x ∷ []) (sign_at sign.OpenRound p ∷ (params ++ (sign_at sign.CloseRound q ∷ sign_at sign.OpenCurly r ∷ (xs ++ sign_at sign.CloseCurly close ∷ [])))) e refl (tok_front (token.Sign sign.OpenRound) p (ps, b) (params ++ (sign_at sign.CloseRound q ∷ sign_at sign.OpenCurly r ∷ (xs ++ sign_at sign.CloseCurly close ∷ []))) refl
-          (front Params ps b (params ++ sign_at sign.CloseRound q ∷ []) (sign_at sign.OpenCurly r ∷ (xs ++ sign_at sign.CloseCurly close ∷ [])) (sym (append_assoc params (sign_at sign.CloseRound q ∷ []) (sign_at sign.OpenCurly r ∷ (xs ++ sign_at sign.CloseCurly close ∷ [])))) (q, params, g, refl) (r, xs, ss, refl)));
+      rule = front Named x (p, (ps, b)) (name_at x ∷ []) (sign_at sign.OpenRound p ∷ (params ++ (sign_at sign.CloseRound q ∷ sign_at sign.OpenCurly r ∷ (xs ++ sign_at sign.CloseCurly close ∷ [])))) e
+          refl (tok_front (token.Sign sign.OpenRound) p (ps, b) (params ++ (sign_at sign.CloseRound q ∷ sign_at sign.OpenCurly r ∷ (xs ++ sign_at sign.CloseCurly close ∷ []))) refl
+          (front Params ps b (params ++ sign_at sign.CloseRound q ∷ []) (sign_at sign.OpenCurly r ∷ (xs ++ sign_at sign.CloseCurly close ∷ []))
+          (sym (append_assoc params (sign_at sign.CloseRound q ∷ []) (sign_at sign.OpenCurly r ∷ (xs ++ sign_at sign.CloseCurly close ∷ [])))) (q, params, g, refl) (r, xs, ss, refl)));
       is = refl;
     }
 
 routine_any : {actor : Bool} {at : Place} {t : TypeTree} {w : List Marked} {f : RoutineTree} → RoutineRule actor at t w f → Routine actor w (out_of f)
 routine_any (routine p q r close x params xs g ss e) = λ at t. routine p q r close x params xs g ss e
 
-routine_same : {actor : Bool} {at : Place} {t : TypeTree} {w : List Marked} {f : RoutineTree} → RoutineRule actor at t w f → f ≡ record { at = at; returns = t; name = f.name; params = f.params; body = f.body; close = f.close }
+routine_same : {actor : Bool} {at : Place} {t : TypeTree} {w : List Marked} {f : RoutineTree} → RoutineRule actor at t w f
+    → f ≡ record { at = at; returns = t; name = f.name; params = f.params; body = f.body; close = f.close }
 routine_same (routine p q r close x params xs g ss e) = refl
 
-pub routine_back : {actor : Bool} {w : List Marked} {u : RoutineOut} (z : List Marked) → Routine actor w u → Back (Routine actor) Any (RoutineSeq actor) Any (λ x. record { name = x.0; params = x.1.1.0; body = x.1.1.1.body; close = x.1.1.1.close }) w z u
+pub routine_back : {actor : Bool} {w : List Marked} {u : RoutineOut} (z : List Marked) → Routine actor w u
+    → Back (Routine actor) Any (RoutineSeq actor) Any (λ x. record { name = x.0; params = x.1.1.0; body = x.1.1.1.body; close = x.1.1.1.close }) w z u
 routine_back {u = u} z r =
     let k = routine_form (r u.close VoidType) in
     record { tree = k.tree; rule = k.rule; is = ap out_of k.is; follows = tt }
@@ -152,7 +194,8 @@ abbrev pub function_tree : (Place × TypeTree) × RoutineOut → RoutineTree
 function_tree x = record { at = x.0.0; returns = x.0.1; name = x.1.name; params = x.1.params; body = x.1.body; close = x.1.close }
 
 abbrev pub ActorSeq : List Marked → Place × (Place × (Place × (TypeTree × (Place × RoutineOut)))) → Type 0
-ActorSeq w x = Then (Tok (token.Word word.Actor)) (λ p. Then (Tok (token.Word word.Future)) (λ q. Then (Tok (token.Sign sign.Less)) (λ s. Then (TypeRule 2) (λ y. Then (Tok (token.Sign sign.Greater)) (λ v. Routine true))))) w x
+ActorSeq w x = Then (Tok (token.Word word.Actor)) (λ p. Then (Tok (token.Word word.Future))
+    (λ q. Then (Tok (token.Sign sign.Less)) (λ s. Then (TypeRule 2) (λ y. Then (Tok (token.Sign sign.Greater)) (λ v. Routine true))))) w x
 
 abbrev pub actor_tree : Place × (Place × (Place × (TypeTree × (Place × RoutineOut)))) → RoutineTree
 actor_tree x = record { at = x.0; returns = x.1.1.1.0; name = x.1.1.1.1.1.name; params = x.1.1.1.1.1.params; body = x.1.1.1.1.1.body; close = x.1.1.1.1.1.close }
@@ -163,23 +206,28 @@ struct_actor o e f = cc
 record_looks : {w : List Marked} {r : RecordTree} (z : List Marked) (o : Option Token) → RecordRule w r → Looks o (w ++ z) → o ≡ Some (token.Word word.Struct)
 record_looks z o (fields at p q r x xs g e) l = looks_is o (word_at word.Struct at) _ z e l
 
-pub record_back : {w : List Marked} {t : DeclTree} (z : List Marked) → DeclRule w t → Looks (Some (token.Word word.Struct)) (w ++ z) → Back DeclRule Any RecordSeq Any (λ x. StructDecl (record { at = x.0; name = x.1.0; fields = x.1.1.1.0 })) w z t
+pub record_back : {w : List Marked} {t : DeclTree} (z : List Marked) → DeclRule w t → Looks (Some (token.Word word.Struct)) (w ++ z)
+    → Back DeclRule Any RecordSeq Any (λ x. StructDecl (record { at = x.0; name = x.1.0; fields = x.1.1.1.0 })) w z t
 record_back z (record_decl r) l = let k = record_form r in record { tree = k.tree; rule = k.rule; is = ap StructDecl k.is; follows = tt }
 record_back {w = w} z (function_decl at of xs t r e s) l = absurd (starts_looks TypeToken w z (Some (token.Word word.Struct)) (starts_is TypeToken of xs e (type_starts t)) l)
 record_back z (actor_decl at p q r of xs t u e) l = absurd (struct_actor (Some (token.Word word.Struct)) refl (looks_is (Some (token.Word word.Struct)) (word_at word.Actor at) _ z e l))
 
-pub actor_back : {w : List Marked} {t : DeclTree} (z : List Marked) → DeclRule w t → Looks (Some (token.Word word.Actor)) (w ++ z) → Back DeclRule Any ActorSeq Any (λ x. ActorDecl (actor_tree x)) w z t
+pub actor_back : {w : List Marked} {t : DeclTree} (z : List Marked) → DeclRule w t → Looks (Some (token.Word word.Actor)) (w ++ z)
+    → Back DeclRule Any ActorSeq Any (λ x. ActorDecl (actor_tree x)) w z t
 actor_back z (record_decl r) l = absurd (struct_actor (Some (token.Word word.Actor)) (record_looks z (Some (token.Word word.Actor)) r l) refl)
 actor_back {w = w} z (function_decl at of xs t r e s) l = absurd (starts_looks TypeToken w z (Some (token.Word word.Actor)) (starts_is TypeToken of xs e (type_starts t)) l)
 actor_back z (actor_decl {t = y} {f = f} at p q r of xs t u e) l = record {
   tree = (at, (p, (q, (y, (r, out_of f)))));
-  rule = tok_front (token.Word word.Actor) at (p, (q, (y, (r, out_of f)))) (word_at word.Future p ∷ sign_at sign.Less q ∷ (of ++ (sign_at sign.Greater r ∷ xs))) e (tok_front (token.Word word.Future) p (q, (y, (r, out_of f))) (sign_at sign.Less q ∷ (of ++ (sign_at sign.Greater r ∷ xs))) refl
-      (tok_front (token.Sign sign.Less) q (y, (r, out_of f)) (of ++ (sign_at sign.Greater r ∷ xs)) refl (front (TypeRule 2) y (r, out_of f) of (sign_at sign.Greater r ∷ xs) refl t (tok_front (token.Sign sign.Greater) r (out_of f) xs refl (routine_any u)))));
+  rule = tok_front (token.Word word.Actor) at (p, (q, (y, (r, out_of f)))) (word_at word.Future p ∷ sign_at sign.Less q ∷ (of ++ (sign_at sign.Greater r ∷ xs))) e
+      (tok_front (token.Word word.Future) p (q, (y, (r, out_of f))) (sign_at sign.Less q ∷ (of ++ (sign_at sign.Greater r ∷ xs))) refl
+      (tok_front (token.Sign sign.Less) q (y, (r, out_of f)) (of ++ (sign_at sign.Greater r ∷ xs)) refl
+      (front (TypeRule 2) y (r, out_of f) of (sign_at sign.Greater r ∷ xs) refl t (tok_front (token.Sign sign.Greater) r (out_of f) xs refl (routine_any u)))));
   is = ap ActorDecl (routine_same u);
   follows = tt;
 }
 
-pub function_back : {w : List Marked} {t : DeclTree} (z : List Marked) (o : Option Token) → (o ≡ Some (token.Word word.Struct) → ⊥) → (o ≡ Some (token.Word word.Actor) → ⊥) → DeclRule w t → Looks o (w ++ z) → Back DeclRule Any FunctionSeq Any (λ x. FunctionDecl (function_tree x)) w z t
+pub function_back : {w : List Marked} {t : DeclTree} (z : List Marked) (o : Option Token) → (o ≡ Some (token.Word word.Struct) → ⊥) → (o ≡ Some (token.Word word.Actor) → ⊥) → DeclRule w t
+    → Looks o (w ++ z) → Back DeclRule Any FunctionSeq Any (λ x. FunctionDecl (function_tree x)) w z t
 function_back z o n m (record_decl r) l = absurd (n (record_looks z o r l))
 function_back z o n m (function_decl {t = y} {f = f} at of xs t r e s) l = record {
   tree = ((at, y), out_of f);
@@ -207,8 +255,10 @@ function_part_back z (function_decl {t = y} {f = f} at of xs t r e s) = record {
 pub actor_part_back : {w : List Marked} {f : RoutineTree} (z : List Marked) → Actor w f → Back Actor Any ActorSeq Any actor_tree w z f
 actor_part_back z (actor_decl {t = y} {f = f} at p q r of xs t u e) = record {
   tree = (at, (p, (q, (y, (r, out_of f)))));
-  rule = tok_front (token.Word word.Actor) at (p, (q, (y, (r, out_of f)))) (word_at word.Future p ∷ sign_at sign.Less q ∷ (of ++ (sign_at sign.Greater r ∷ xs))) e (tok_front (token.Word word.Future) p (q, (y, (r, out_of f))) (sign_at sign.Less q ∷ (of ++ (sign_at sign.Greater r ∷ xs))) refl
-      (tok_front (token.Sign sign.Less) q (y, (r, out_of f)) (of ++ (sign_at sign.Greater r ∷ xs)) refl (front (TypeRule 2) y (r, out_of f) of (sign_at sign.Greater r ∷ xs) refl t (tok_front (token.Sign sign.Greater) r (out_of f) xs refl (routine_any u)))));
+  rule = tok_front (token.Word word.Actor) at (p, (q, (y, (r, out_of f)))) (word_at word.Future p ∷ sign_at sign.Less q ∷ (of ++ (sign_at sign.Greater r ∷ xs))) e
+      (tok_front (token.Word word.Future) p (q, (y, (r, out_of f))) (sign_at sign.Less q ∷ (of ++ (sign_at sign.Greater r ∷ xs))) refl
+      (tok_front (token.Sign sign.Less) q (y, (r, out_of f)) (of ++ (sign_at sign.Greater r ∷ xs)) refl
+      (front (TypeRule 2) y (r, out_of f) of (sign_at sign.Greater r ∷ xs) refl t (tok_front (token.Sign sign.Greater) r (out_of f) xs refl (routine_any u)))));
   is = routine_same u;
   follows = tt;
 }
@@ -220,7 +270,8 @@ record_kind_back z r l = let k = record_back z r l in record { tree = record_tre
 pub actor_kind_back : {w : List Marked} {t : DeclTree} (z : List Marked) → DeclRule w t → Looks (Some (token.Word word.Actor)) (w ++ z) → Back DeclRule Any Actor Any ActorDecl w z t
 actor_kind_back z r l = let k = actor_back z r l in record { tree = actor_tree k.tree; rule = subst (DeclRule _) k.is r; is = k.is; follows = tt }
 
-pub function_kind_back : {w : List Marked} {t : DeclTree} (z : List Marked) (o : Option Token) → (o ≡ Some (token.Word word.Struct) → ⊥) → (o ≡ Some (token.Word word.Actor) → ⊥) → DeclRule w t → Looks o (w ++ z) → Back DeclRule Any Function Any FunctionDecl w z t
+pub function_kind_back : {w : List Marked} {t : DeclTree} (z : List Marked) (o : Option Token) → (o ≡ Some (token.Word word.Struct) → ⊥) → (o ≡ Some (token.Word word.Actor) → ⊥) → DeclRule w t
+    → Looks o (w ++ z) → Back DeclRule Any Function Any FunctionDecl w z t
 function_kind_back z o n m r l = let k = function_back z o n m r l in record { tree = function_tree k.tree; rule = subst (DeclRule _) k.is r; is = k.is; follows = tt }
 
 type_decl : (w : List Marked) → Starts TypeToken w → Starts DeclToken w
@@ -241,13 +292,17 @@ abbrev pub DeclMarks : ℕ → List Marked → DeclTree → Type 0
 DeclMarks n w t = Marks (Declaration n) (Marks (Node 1) DeclRule) w t
 
 pub decl_marks_starts : {n : ℕ} {w : List Marked} {t : DeclTree} → DeclMarks n w t → Starts DeclToken w
-decl_marks_starts {n = n} r = subst (Starts DeclToken) (sym r.2) (starts_marked DeclToken (Declaration n) r.0 (subst (Starts DeclToken) (sym r.1.2) (starts_marked DeclToken (Node 1) r.1.0 (decl_starts r.1.1))))
+decl_marks_starts {n = n} r = subst (Starts DeclToken) (sym r.2) (starts_marked DeclToken (Declaration n) r.0
+    (subst (Starts DeclToken) (sym r.1.2) (starts_marked DeclToken (Node 1) r.1.0 (decl_starts r.1.1))))
 
 pub end_decls_back : {n : ℕ} {w : List Marked} {ts : List DeclTree} (z : List Marked) → DeclsRule n w ts → Looks None (w ++ z) → (ts ≡ []) × (w ≡ [])
 end_decls_back z no_decls l = (refl, refl)
-end_decls_back {n = n} {w = w} z (more_decls first more r m e) l = absurd (starts_looks DeclToken w z None (starts_is DeclToken (begin (Declaration n) (begin (Node 1) first)) more e (starts_marked DeclToken (Declaration n) (begin (Node 1) first) (starts_marked DeclToken (Node 1) first (decl_starts r)))) l)
+end_decls_back {n = n} {w = w} z (more_decls first more r m e) l =
+    absurd (starts_looks DeclToken w z None (starts_is DeclToken (begin (Declaration n) (begin (Node 1) first)) more e
+    (starts_marked DeclToken (Declaration n) (begin (Node 1) first) (starts_marked DeclToken (Node 1) first (decl_starts r)))) l)
 
-pub decls_back : {n : ℕ} {w : List Marked} {ts : List DeclTree} (z : List Marked) (t : Token) → DeclsRule n w ts → AtEnd ts z → Looks (Some t) (w ++ z) → Back (DeclsRule n) AtEnd (Then (DeclMarks n) (λ x. DeclsRule (suc n))) (λ x. AtEnd x.1) (λ x. x.0 ∷ x.1) w z ts
+pub decls_back : {n : ℕ} {w : List Marked} {ts : List DeclTree} (z : List Marked) (t : Token) → DeclsRule n w ts → AtEnd ts z → Looks (Some t) (w ++ z)
+    → Back (DeclsRule n) AtEnd (Then (DeclMarks n) (λ x. DeclsRule (suc n))) (λ x. AtEnd x.1) (λ x. x.0 ∷ x.1) w z ts
 decls_back z t no_decls f l = absurd (subst (Looks (Some t)) f l)
 decls_back {n = n} z t (more_decls {x = x} {xs = xs} first more r m e) f l = record {
   tree = (x, xs);

@@ -58,7 +58,8 @@ module _ (limits : Limits) (t : Tokens) (at n : ℕ) (h : at ≤ length t.spots.
   -- with a number that is too great
   pub param_beyond : limits.variables < n → at < length t.spots.items → AsFirst TypeToken (token_at t.spots.items at) → Fails limits (ParamRule n) Any t at (Refused (rule.L 6) (place_at t at))
   param_beyond g lt b = fails limits t (param_left limits t at h n) (Refused (rule.L 6) (place_at t at))
-      (beyond_fails limits TypeName Any (Variable n) 6 t at (omega arith) (omega arith) lt (λ k. let x = k (omega arith) in omega arith) (λ m l k. absurd (omega arith)) TypeToken type_name_begins some_type_name (λ m l. param_opens limits m (drop at t.spots.items) (next_first TypeToken t.spots.items at b)))
+      (beyond_fails limits TypeName Any (Variable n) 6 t at (omega arith) (omega arith) lt (λ k. let x = k (omega arith) in omega arith)
+      (λ m l k. absurd (omega arith)) TypeToken type_name_begins some_type_name (λ m l. param_opens limits m (drop at t.spots.items) (next_first TypeToken t.spots.items at b)))
 
   pub no_param : (AsFirst TypeToken (token_at t.spots.items at) → ⊥) → Fails limits (ParamRule n) Any t at (Refused (rule.S 5) (place_at t at))
   no_param b = none_fails limits (ParamRule n) Any t at (some_param n) (λ w z x r f l. b (starts_looks TypeToken w z (token_at t.spots.items at) (param_starts r) l))
@@ -140,22 +141,28 @@ node_begins w x r = starts_marks r.0 (decl_starts r.1) r.2
 
 -- what `parse` answers where declarations are refused
 program_refused : (t : Tokens) → length t.spots.items ≤ 200000 → (f : SourceFault) → Fails OF_PROGRAMS (DeclsRule 1) AtEnd t 0 f → ParseAnswer t (Err f)
-program_refused t few (Refused (rule.S n) p) a = let s = a.1 in let e : 0 + s.number ≡ s.number = omega arith in (a.0, program_fails t 2 s.number p (omega arith) few (s.place ∙ ap (place_at t) e) s.stops)
+program_refused t few (Refused (rule.S n) p) a = let s = a.1 in let e : 0 + s.number ≡ s.number =
+    omega arith in (a.0, program_fails t 2 s.number p (omega arith) few (s.place ∙ ap (place_at t) e) s.stops)
 program_refused t few (Refused (rule.L n) p) a = let s = a.2 in let e : 0 + s.number ≡ s.number = omega arith in inr (program_limit t n s.number p a.0 a.1 few (s.place ∙ ap (place_at t) e) s.stops)
 program_refused t few (Refused (rule.K n) p) a = a
 program_refused t few (AcrossWait p q r) a = a
 program_refused t few OutOfMemory a = tt
 
-module _ (t : Tokens) (few : length t.spots.items ≤ 200000) {at n : ℕ} {g : List DeclTree → List DeclTree} (l : Leaves OF_PROGRAMS (DeclsRule 1) AtEnd (DeclsRule n) AtEnd g t.spots.items 0 at) (x : Token) (e : token_at t.spots.items at ≡ Some x) where
+module _ (t : Tokens) (few : length t.spots.items ≤ 200000) {at n : ℕ} {g : List DeclTree → List DeclTree} (l : Leaves OF_PROGRAMS (DeclsRule 1) AtEnd (DeclsRule n) AtEnd g t.spots.items 0 at)
+    (x : Token) (e : token_at t.spots.items at ≡ Some x) where
   -- one declaration more than there may be
   pub decl_beyond : 4096 < n → at < length t.spots.items → AsFirst DeclToken (token_at t.spots.items at) → ParseAnswer t (Err (Refused (rule.L 3) (place_at t at)))
-  decl_beyond k lt b = program_refused t few (Refused (rule.L 3) (place_at t at)) (first_fails OF_PROGRAMS t (decls_link n) (decl_left OF_PROGRAMS t.spots.items x e l) (Refused (rule.L 3) (place_at t at))
-      (beyond_fails OF_PROGRAMS (Marks (Node 1) DeclRule) Any (Declaration n) 3 t at (omega arith) (omega arith) lt (λ h. let y = h (omega arith) in omega arith) (λ m i h. absurd (omega arith)) DeclToken node_begins (some_marks DeclRule (Node 1) (some_decl OF_PROGRAMS)) (λ m i. node_opens OF_PROGRAMS m (drop at t.spots.items) (next_first DeclToken t.spots.items at b))))
+  decl_beyond k lt b = program_refused t few (Refused (rule.L 3) (place_at t at))
+      (first_fails OF_PROGRAMS t (decls_link n) (decl_left OF_PROGRAMS t.spots.items x e l) (Refused (rule.L 3) (place_at t at))
+      (beyond_fails OF_PROGRAMS (Marks (Node 1) DeclRule) Any (Declaration n) 3 t at (omega arith) (omega arith) lt (λ h. let y = h (omega arith) in omega arith)
+      (λ m i h. absurd (omega arith)) DeclToken node_begins (some_marks DeclRule (Node 1) (some_decl OF_PROGRAMS))
+      (λ m i. node_opens OF_PROGRAMS m (drop at t.spots.items) (next_first DeclToken t.spots.items at b))))
 
   -- no declaration begins here
   pub no_decl : (AsFirst DeclToken (token_at t.spots.items at) → ⊥) → ParseAnswer t (Err (Refused (rule.S 5) (place_at t at)))
   no_decl b = program_refused t few (Refused (rule.S 5) (place_at t at)) (first_fails OF_PROGRAMS t (decls_link n) (decl_left OF_PROGRAMS t.spots.items x e l) (Refused (rule.S 5) (place_at t at))
-      (none_fails OF_PROGRAMS (DeclMarks n) Any t at (some_marks (Marks (Node 1) DeclRule) (Declaration n) (some_marks DeclRule (Node 1) (some_decl OF_PROGRAMS))) (λ w z y r f k. b (starts_looks DeclToken w z (token_at t.spots.items at) (decl_marks_starts r) k))))
+      (none_fails OF_PROGRAMS (DeclMarks n) Any t at (some_marks (Marks (Node 1) DeclRule) (Declaration n) (some_marks DeclRule (Node 1) (some_decl OF_PROGRAMS)))
+      (λ w z y r f k. b (starts_looks DeclToken w z (token_at t.spots.items at) (decl_marks_starts r) k))))
 
   -- the declaration that begins here is refused
   pub decl_fails : n ≤ 4096 → (f : SourceFault) → Fails OF_PROGRAMS DeclRule Any t at f → ParseAnswer t (Err f)

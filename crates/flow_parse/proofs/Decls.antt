@@ -75,13 +75,15 @@ pub routine_params_link : (actor : Bool) → Link Params Any (λ ps. Block actor
 routine_params_link actor = free (λ ps. some_block actor 2 (record { statements = 0; variables = length ps }))
 
 some_routine_params : (actor : Bool) → Inhabited (Then Params (λ ps. Block actor 2 (record { statements = 0; variables = length ps })))
-some_routine_params actor = some_then Params (λ ps. Block actor 2 (record { statements = 0; variables = length ps })) params_inhabited (λ ps. some_block actor 2 (record { statements = 0; variables = length ps }))
+some_routine_params actor = some_then Params (λ ps. Block actor 2 (record { statements = 0; variables = length ps })) params_inhabited
+    (λ ps. some_block actor 2 (record { statements = 0; variables = length ps }))
 
 pub routine_open_link : (actor : Bool) → Link (Tok (token.Sign sign.OpenRound)) Any (λ p. Then Params (λ ps. Block actor 2 (record { statements = 0; variables = length ps }))) Any
 routine_open_link actor = free (λ p. some_routine_params actor)
 
 pub routine_name_link : (actor : Bool) → Link Named Any (λ x. Then (Tok (token.Sign sign.OpenRound)) (λ p. Then Params (λ ps. Block actor 2 (record { statements = 0; variables = length ps })))) Any
-routine_name_link actor = free (λ x. some_then (Tok (token.Sign sign.OpenRound)) (λ p. Then Params (λ ps. Block actor 2 (record { statements = 0; variables = length ps }))) (some_opening [] (token.Sign sign.OpenRound)) (λ p. some_routine_params actor))
+routine_name_link actor = free (λ x. some_then (Tok (token.Sign sign.OpenRound)) (λ p. Then Params (λ ps. Block actor 2 (record { statements = 0; variables = length ps })))
+    (some_opening [] (token.Sign sign.OpenRound)) (λ p. some_routine_params actor))
 
 -- type routine
 pub function_link : Link (Placed (TypeRule 1)) Any (λ y. Routine false) Any
@@ -109,8 +111,10 @@ some_less = some_then (Tok (token.Sign sign.Less)) (λ s. Then (TypeRule 2) (λ 
 pub future_link : Link (Tok (token.Word word.Future)) Any (λ q. Then (Tok (token.Sign sign.Less)) (λ s. Then (TypeRule 2) (λ y. Then (Tok (token.Sign sign.Greater)) (λ v. Routine true)))) Any
 future_link = free (λ q. some_less)
 
-pub actor_link : Link (Tok (token.Word word.Actor)) Any (λ p. Then (Tok (token.Word word.Future)) (λ q. Then (Tok (token.Sign sign.Less)) (λ s. Then (TypeRule 2) (λ y. Then (Tok (token.Sign sign.Greater)) (λ v. Routine true))))) Any
-actor_link = free (λ p. some_then (Tok (token.Word word.Future)) (λ q. Then (Tok (token.Sign sign.Less)) (λ s. Then (TypeRule 2) (λ y. Then (Tok (token.Sign sign.Greater)) (λ v. Routine true)))) (some_opening [] (token.Word word.Future)) (λ q. some_less))
+pub actor_link : Link (Tok (token.Word word.Actor)) Any (λ p. Then (Tok (token.Word word.Future))
+    (λ q. Then (Tok (token.Sign sign.Less)) (λ s. Then (TypeRule 2) (λ y. Then (Tok (token.Sign sign.Greater)) (λ v. Routine true))))) Any
+actor_link = free (λ p. some_then (Tok (token.Word word.Future)) (λ q. Then (Tok (token.Sign sign.Less)) (λ s. Then (TypeRule 2) (λ y. Then (Tok (token.Sign sign.Greater)) (λ v. Routine true))))
+    (some_opening [] (token.Word word.Future)) (λ q. some_less))
 
 -- declarations one after another
 pub decls_link : (n : ℕ) → Link (DeclMarks n) Any (λ x. DeclsRule (suc n)) (λ x. AtEnd x.1)
@@ -118,31 +122,50 @@ decls_link n = free (λ x. some_decls (suc n))
 
 module _ (limits : Limits) (t : Tokens) (at : ℕ) (h : at ≤ length t.spots.items) where
   pub param_left : (n : ℕ) → Leaves limits (ParamRule n) Any (Marks (Variable n) TypeName) Any (λ x. record { ty = x.0; name = x.1 }) t.spots.items at at
-  param_left n = narrow limits t.spots.items refl (record { back = λ w z b r f l. param_back z r; forth = λ u x r. param x.1 r.1.first r.1.front (r.2 ∙ ap (begin (Variable n)) (glue _ r.1.is r.1.back)) }) (nothing limits t.spots.items (ParamRule n) Any at h)
+  param_left n = narrow limits t.spots.items refl (record {
+    back = λ w z b r f l. param_back z r;
+    forth = λ u x r. param x.1 r.1.first r.1.front (r.2 ∙ ap (begin (Variable n)) (glue _ r.1.is r.1.back));
+  }) (nothing limits t.spots.items (ParamRule n) Any at h)
 
   pub no_params_left : token_at t.spots.items at ≡ Some (token.Sign sign.CloseRound) → Leaves limits Params Any (Tok (token.Sign sign.CloseRound)) Any (λ p. []) t.spots.items at at
   no_params_left e = narrow limits t.spots.items e (record { back = λ w z b r f l. no_params_back z r l; forth = λ u p r. (p, [], no_params, r) }) (nothing limits t.spots.items Params Any at h)
 
   pub params_left : (token_at t.spots.items at ≡ Some (token.Sign sign.CloseRound) → ⊥) → Leaves limits Params Any (Then (ParamRule 1) (λ f. MoreParams 2)) Any (λ x. x.0 ∷ x.1) t.spots.items at at
-  params_left n = narrow limits t.spots.items refl (record { back = λ w z b r f l. params_back z (token_at t.spots.items at) n r l; forth = λ u x r. (r.back.0, r.first ++ r.back.1, some_params r.first r.back.1 r.front r.back.2 refl, glue _ r.is r.back.3 ∙ sym (append_assoc r.first r.back.1 _)) }) (nothing limits t.spots.items Params Any at h)
+  params_left n = narrow limits t.spots.items refl (record {
+    back = λ w z b r f l. params_back z (token_at t.spots.items at) n r l;
+    forth = λ u x r. (r.back.0, r.first ++ r.back.1, some_params r.first r.back.1 r.front r.back.2 refl, glue _ r.is r.back.3 ∙ sym (append_assoc r.first r.back.1 _));
+  })
+      (nothing limits t.spots.items Params Any at h)
 
   pub fields_left : Leaves limits AllFields Any (Then (ParamRule 1) (λ f. Then (Tok (token.Sign sign.Semicolon)) (λ p. FieldsPart 2))) Any (λ x. x.0 ∷ x.1.1) t.spots.items at at
   fields_left = narrow limits t.spots.items refl (record {
     back = λ w z b r f l. all_fields_back z r;
     forth = λ u x r.
-        let k = r.back.back in
-        ((k.0, r.first ++ (sign_at sign.Semicolon x.1.0 ∷ k.1), more_fields x.1.0 r.first k.1 r.front k.2 refl, glue _ r.is (behind r.back.is r.back.front k.3) ∙ sym (append_assoc r.first (sign_at sign.Semicolon x.1.0 ∷ k.1) _)), some_more x.0 x.1.1);
+        let k = r.back.back in (
+          (
+            k.0,
+            r.first ++ (sign_at sign.Semicolon x.1.0 ∷ k.1),
+            more_fields x.1.0 r.first k.1 r.front k.2 refl,
+            glue _ r.is (behind r.back.is r.back.front k.3)
+                ∙ sym (append_assoc r.first (sign_at sign.Semicolon x.1.0 ∷ k.1) _),
+          ),
+          some_more x.0 x.1.1,
+        );
   }) (nothing limits t.spots.items AllFields Any at h)
 
-  pub record_left : Leaves limits Record Any (Then (Tok (token.Word word.Struct)) (λ p. Then Named (λ x. Then (Tok (token.Sign sign.OpenCurly)) (λ q. Then AllFields (λ fs. Tok (token.Sign sign.Semicolon)))))) Any record_tree t.spots.items at at
+  pub record_left : Leaves limits Record Any (Then (Tok (token.Word word.Struct))
+      (λ p. Then Named (λ x. Then (Tok (token.Sign sign.OpenCurly)) (λ q. Then AllFields (λ fs. Tok (token.Sign sign.Semicolon)))))) Any record_tree t.spots.items at at
   record_left = narrow limits t.spots.items refl (record {
     back = λ w z b r f l. record_part_back z r;
     forth = λ u x r.
         let k = r.back.back.back in
-        record_decl (record_rule x.0 x.1.1.0 k.front.0.0 x.1.1.1.1 x.1.0 k.front.0.1 u x.1.1.1.0 k.front.0.2 k.front.1 (behind r.is r.front (behind r.back.is r.back.front (behind r.back.back.is r.back.back.front (closed_by _ _ k.is k.front.0.3 k.back)))));
+        record_decl (record_rule x.0 x.1.1.0 k.front.0.0 x.1.1.1.1 x.1.0 k.front.0.1 u x.1.1.1.0 k.front.0.2 k.front.1
+        (behind r.is r.front (behind r.back.is r.back.front (behind r.back.back.is r.back.back.front (closed_by _ _ k.is k.front.0.3 k.back)))));
   }) (nothing limits t.spots.items Record Any at h)
 
-  pub routine_left : (actor : Bool) → Leaves limits (Routine actor) Any (Then Named (λ x. Then (Tok (token.Sign sign.OpenRound)) (λ p. Then Params (λ ps. Block actor 2 (record { statements = 0; variables = length ps }))))) Any (λ x. record { name = x.0; params = x.1.1.0; body = x.1.1.1.body; close = x.1.1.1.close }) t.spots.items at at
+  pub routine_left : (actor : Bool) → Leaves limits (Routine actor) Any
+      (Then Named (λ x. Then (Tok (token.Sign sign.OpenRound)) (λ p. Then Params (λ ps. Block actor 2 (record { statements = 0; variables = length ps }))))) Any
+      (λ x. record { name = x.0; params = x.1.1.0; body = x.1.1.1.body; close = x.1.1.1.close }) t.spots.items at at
   routine_left actor = narrow limits t.spots.items refl (record {
     back = λ w z b r f l. routine_back z r;
     forth = λ u x r p y.
@@ -156,19 +179,26 @@ module _ (limits : Limits) (t : Tokens) (at : ℕ) (h : at ≤ length t.spots.it
     forth = λ u x r. function_decl x.0.0 r.first r.rest r.front.1 (r.back x.0.0 x.0.1) r.is (subst (λ z. StartsAt z x.0.0) (sym r.is) (starts_append r.first r.rest x.0.0 r.front.0));
   }) (nothing limits t.spots.items Function Any at h)
 
-  pub actor_left : Leaves limits Actor Any (Then (Tok (token.Word word.Actor)) (λ p. Then (Tok (token.Word word.Future)) (λ q. Then (Tok (token.Sign sign.Less)) (λ s. Then (TypeRule 2) (λ y. Then (Tok (token.Sign sign.Greater)) (λ v. Routine true)))))) Any actor_tree t.spots.items at at
+  pub actor_left : Leaves limits Actor Any (Then (Tok (token.Word word.Actor))
+      (λ p. Then (Tok (token.Word word.Future)) (λ q. Then (Tok (token.Sign sign.Less)) (λ s. Then (TypeRule 2) (λ y. Then (Tok (token.Sign sign.Greater)) (λ v. Routine true)))))) Any actor_tree
+      t.spots.items at at
   actor_left = narrow limits t.spots.items refl (record {
     back = λ w z b r f l. actor_part_back z r;
     forth = λ u x r.
         let k = r.back.back.back in
-        actor_decl x.0 x.1.0 x.1.1.0 x.1.1.1.1.0 k.first k.back.rest k.front (k.back.back x.0 x.1.1.1.0) (behind r.is r.front (behind r.back.is r.back.front (behind r.back.back.is r.back.back.front (glue _ k.is (behind k.back.is k.back.front refl)))));
+        actor_decl x.0 x.1.0 x.1.1.0 x.1.1.1.1.0 k.first k.back.rest k.front (k.back.back x.0 x.1.1.1.0)
+        (behind r.is r.front (behind r.back.is r.back.front (behind r.back.back.is r.back.back.front (glue _ k.is (behind k.back.is k.back.front refl)))));
   }) (nothing limits t.spots.items Actor Any at h)
 
   -- behind the word that begins it
-  pub struct_read : token_at t.spots.items at ≡ Some (token.Word word.Struct) → Leaves limits Record Any (Then Named (λ x. Then (Tok (token.Sign sign.OpenCurly)) (λ q. Then AllFields (λ fs. Tok (token.Sign sign.Semicolon))))) Any (λ x. record_tree (place_at t at, x)) t.spots.items at (at + 1)
+  pub struct_read : token_at t.spots.items at ≡ Some (token.Word word.Struct)
+      → Leaves limits Record Any (Then Named (λ x. Then (Tok (token.Sign sign.OpenCurly)) (λ q. Then AllFields (λ fs. Tok (token.Sign sign.Semicolon))))) Any
+      (λ x. record_tree (place_at t at, x)) t.spots.items at (at + 1)
   struct_read e = then_reads limits t.spots.items struct_link record_left (tok_reads limits t at (token.Word word.Struct) e)
 
-  pub actor_read : token_at t.spots.items at ≡ Some (token.Word word.Actor) → Leaves limits Actor Any (Then (Tok (token.Word word.Future)) (λ q. Then (Tok (token.Sign sign.Less)) (λ s. Then (TypeRule 2) (λ y. Then (Tok (token.Sign sign.Greater)) (λ v. Routine true))))) Any (λ x. actor_tree (place_at t at, x)) t.spots.items at (at + 1)
+  pub actor_read : token_at t.spots.items at ≡ Some (token.Word word.Actor)
+      → Leaves limits Actor Any (Then (Tok (token.Word word.Future)) (λ q. Then (Tok (token.Sign sign.Less)) (λ s. Then (TypeRule 2) (λ y. Then (Tok (token.Sign sign.Greater)) (λ v. Routine true)))))
+      Any (λ x. actor_tree (place_at t at, x)) t.spots.items at (at + 1)
   actor_read e = then_reads limits t.spots.items actor_link actor_left (tok_reads limits t at (token.Word word.Actor) e)
 
 -- which kind of declaration it is
@@ -182,31 +212,53 @@ pub function_turns : (o : Option Token) → (o ≡ Some (token.Word word.Struct)
 function_turns o n m = record { back = λ w z b r f l. function_kind_back z o n m r l; forth = λ w c r. r }
 
 module _ (limits : Limits) (spots : List Spot) where
-  pub more_params_left : {A : Type 0} {W : List Marked → A → Type 0} {FW : A → List Marked → Type 0} {g : List ParamTree → A} {from at n : ℕ} → token_at spots at ≡ Some (token.Sign sign.Comma) → Leaves limits W FW (MoreParams n) Any g spots from at
+  pub more_params_left : {A : Type 0} {W : List Marked → A → Type 0} {FW : A → List Marked → Type 0} {g : List ParamTree → A} {from at n : ℕ} → token_at spots at ≡ Some (token.Sign sign.Comma)
+      → Leaves limits W FW (MoreParams n) Any g spots from at
       → Leaves limits W FW (Then (Tok (token.Sign sign.Comma)) (λ p. Then (ParamRule n) (λ f. MoreParams (suc n)))) Any (λ x. g (x.1.0 ∷ x.1.1)) spots from at
-  more_params_left e l = narrow limits spots e (record { back = λ w z b r f k. more_params_back z r k; forth = λ u x r. (r.back.back.0, _, more_params x.0 r.back.first r.back.back.1 r.back.front r.back.back.2 refl, behind r.is r.front (glue r.back.first r.back.is r.back.back.3 ∙ sym (append_assoc r.back.first r.back.back.1 _))) }) l
+  more_params_left e l = narrow limits spots e (record {
+    back = λ w z b r f k. more_params_back z r k;
+    forth = λ u x r. (
+      r.back.back.0,
+      _,
+      more_params x.0 r.back.first r.back.back.1 r.back.front r.back.back.2 refl,
+      behind r.is r.front
+          (glue r.back.first r.back.is r.back.back.3 ∙ sym (append_assoc r.back.first r.back.back.1 _)),
+    );
+  }) l
 
-  pub end_params_left : {A : Type 0} {W : List Marked → A → Type 0} {FW : A → List Marked → Type 0} {g : List ParamTree → A} {from at n : ℕ} → (token_at spots at ≡ Some (token.Sign sign.Comma) → ⊥) → Leaves limits W FW (MoreParams n) Any g spots from at
+  pub end_params_left : {A : Type 0} {W : List Marked → A → Type 0} {FW : A → List Marked → Type 0} {g : List ParamTree → A} {from at n : ℕ} → (token_at spots at ≡ Some (token.Sign sign.Comma) → ⊥)
+      → Leaves limits W FW (MoreParams n) Any g spots from at
       → Leaves limits W FW (Tok (token.Sign sign.CloseRound)) Any (λ p. g []) spots from at
   end_params_left {at = at} n l = narrow limits spots refl (record { back = λ w z b r f k. end_params_back z (token_at spots at) n r k; forth = λ u p r. (p, [], end_params, r) }) l
 
-  pub more_fields_left : {A : Type 0} {W : List Marked → A → Type 0} {FW : A → List Marked → Type 0} {g : List ParamTree → A} {from at n : ℕ} → (token_at spots at ≡ Some (token.Sign sign.CloseCurly) → ⊥) → Leaves limits W FW (FieldsPart n) Any g spots from at
+  pub more_fields_left : {A : Type 0} {W : List Marked → A → Type 0} {FW : A → List Marked → Type 0} {g : List ParamTree → A} {from at n : ℕ}
+      → (token_at spots at ≡ Some (token.Sign sign.CloseCurly) → ⊥) → Leaves limits W FW (FieldsPart n) Any g spots from at
       → Leaves limits W FW (Then (ParamRule n) (λ f. Then (Tok (token.Sign sign.Semicolon)) (λ p. FieldsPart (suc n)))) Any (λ x. g (x.0 ∷ x.1.1)) spots from at
   more_fields_left {at = at} n l = narrow limits spots refl (record {
     back = λ w z b r f k. more_fields_back z (token_at spots at) n r k;
     forth = λ u x r.
-        let k = r.back.back in
-        (k.0, r.first ++ (sign_at sign.Semicolon x.1.0 ∷ k.1), more_fields x.1.0 r.first k.1 r.front k.2 refl, glue _ r.is (behind r.back.is r.back.front k.3) ∙ sym (append_assoc r.first (sign_at sign.Semicolon x.1.0 ∷ k.1) _));
+        let k = r.back.back in (
+          k.0,
+          r.first ++ (sign_at sign.Semicolon x.1.0 ∷ k.1),
+          more_fields x.1.0 r.first k.1 r.front k.2 refl,
+          glue _ r.is (behind r.back.is r.back.front k.3)
+              ∙ sym (append_assoc r.first (sign_at sign.Semicolon x.1.0 ∷ k.1) _),
+        );
   }) l
 
-  pub end_fields_left : {A : Type 0} {W : List Marked → A → Type 0} {FW : A → List Marked → Type 0} {g : List ParamTree → A} {from at n : ℕ} → token_at spots at ≡ Some (token.Sign sign.CloseCurly) → Leaves limits W FW (FieldsPart n) Any g spots from at
+  pub end_fields_left : {A : Type 0} {W : List Marked → A → Type 0} {FW : A → List Marked → Type 0} {g : List ParamTree → A} {from at n : ℕ} → token_at spots at ≡ Some (token.Sign sign.CloseCurly)
+      → Leaves limits W FW (FieldsPart n) Any g spots from at
       → Leaves limits W FW (Tok (token.Sign sign.CloseCurly)) Any (λ p. g []) spots from at
   end_fields_left e l = narrow limits spots e (record { back = λ w z b r f k. end_fields_back z r k; forth = λ u p r. (p, [], no_fields, r) }) l
 
   -- there is one more declaration
-  pub decl_left : {A : Type 0} {W : List Marked → A → Type 0} {FW : A → List Marked → Type 0} {g : List DeclTree → A} {from at n : ℕ} (x : Token) → token_at spots at ≡ Some x → Leaves limits W FW (DeclsRule n) AtEnd g spots from at
+  pub decl_left : {A : Type 0} {W : List Marked → A → Type 0} {FW : A → List Marked → Type 0} {g : List DeclTree → A} {from at n : ℕ} (x : Token) → token_at spots at ≡ Some x
+      → Leaves limits W FW (DeclsRule n) AtEnd g spots from at
       → Leaves limits W FW (Then (DeclMarks n) (λ x. DeclsRule (suc n))) (λ x. AtEnd x.1) (λ x. g (x.0 ∷ x.1)) spots from at
-  decl_left x e l = narrow limits spots e (record { back = λ w z b r f k. decls_back z x r f k; forth = λ u y r. more_decls r.front.1.0 r.rest r.front.1.1 r.back (r.is ∙ ap (λ z. z ++ r.rest) (r.front.2 ∙ ap (begin (Declaration _)) r.front.1.2)) }) l
+  decl_left x e l = narrow limits spots e (record {
+    back = λ w z b r f k. decls_back z x r f k;
+    forth = λ u y r. more_decls r.front.1.0 r.rest r.front.1.1 r.back (r.is ∙ ap (λ z. z ++ r.rest) (r.front.2 ∙ ap (begin (Declaration _)) r.front.1.2));
+  }) l
 
   -- and here there is none
   pub no_decl_reads : (at n : ℕ) → at ≤ length spots → token_at spots at ≡ None → Reads limits (DeclsRule n) AtEnd spots at [] at

@@ -22,7 +22,8 @@ sees_past limits n (suc j) (t ∷ ts) (x ∷ w) z lt s =
     subst (λ k. Sees limits n k (drop (length w) ts) z) (sym e) (sees_past limits n j ts w z (omega arith) s.2)
 sees_past limits n zero ts w z lt s = absurd (omega arith)
 
-module _ (limits : Limits) {A B : Type 0} (R : List Marked → A → Type 0) (FR : A → List Marked → Type 0) (S : A → List Marked → B → Type 0) (F : A × B → List Marked → Type 0) (fol : (a : A) (b : B) (v z : List Marked) → S a v b → F (a, b) z → FR a (v ++ z)) where
+module _ (limits : Limits) {A B : Type 0} (R : List Marked → A → Type 0) (FR : A → List Marked → Type 0) (S : A → List Marked → B → Type 0) (F : A × B → List Marked → Type 0)
+    (fol : (a : A) (b : B) (v z : List Marked) → S a v b → F (a, b) z → FR a (v ++ z)) where
   split : (n j : ℕ) (ts : List Spot) (w z : List Marked) (x : A × B) → (r : Then R S w x) → Sees limits n j ts (w ++ z) → Sees limits n j ts (r.first ++ (r.rest ++ z))
   split n j ts w z x r s = subst (λ k. Sees limits n j ts k) (ap (λ k. k ++ z) r.is ∙ append_assoc r.first r.rest z) s
 
@@ -61,7 +62,8 @@ sees_looks limits n (suc j) (t ∷ ts) [] lt s = absurd s
 sees_looks limits n (suc j) (t ∷ ts) (x ∷ m) lt s = ap (λ y. y.token) s.0
 
 -- where the next token says that a part is another one
-module _ (limits : Limits) {B C : Type 0} (V : List Marked → B → Type 0) (FV : B → List Marked → Type 0) (U : List Marked → C → Type 0) (FU : C → List Marked → Type 0) (h : C → B) (o : Option Token) (back : (w z : List Marked) (b : B) → V w b → FV b z → Looks o (w ++ z) → Back V FV U FU h w z b) where
+module _ (limits : Limits) {B C : Type 0} (V : List Marked → B → Type 0) (FV : B → List Marked → Type 0) (U : List Marked → C → Type 0) (FU : C → List Marked → Type 0) (h : C → B) (o : Option Token)
+    (back : (w z : List Marked) (b : B) → V w b → FV b z → Looks o (w ++ z) → Back V FV U FU h w z b) where
   pub never_narrow : (n j : ℕ) (ts : List Spot) → first_of ts ≡ o → 0 < j → Never limits U FU n j ts → Never limits V FV n j ts
   never_narrow n j ts e lt f w z b r g s =
       let k = back w z b r g (subst (λ x. Looks x (w ++ z)) e (sees_looks limits n j ts (w ++ z) lt s)) in

@@ -14,13 +14,15 @@ use Rattle.flow_parse.proofs.Begins.{Starts}
 use Rattle.flow_exprs.proofs.Fits.{length_begin}
 
 -- a part that is empty where the next token says so
-pub nil_only : (limits : Limits) → {A : Type 0} (R : List Marked → A → Type 0) (F : A → List Marked → Type 0) (a : A) (o : Option Token) (ts : List Spot) → first_of ts ≡ o → ((w z : List Marked) (b : A) → R w b → F b z → Looks o (w ++ z) → (b ≡ a) × (w ≡ [])) → Only limits R F a 0 ts
+pub nil_only : (limits : Limits) → {A : Type 0} (R : List Marked → A → Type 0) (F : A → List Marked → Type 0) (a : A) (o : Option Token) (ts : List Spot) → first_of ts ≡ o
+    → ((w z : List Marked) (b : A) → R w b → F b z → Looks o (w ++ z) → (b ≡ a) × (w ≡ [])) → Only limits R F a 0 ts
 nil_only limits R F a o ts e f n j w z b r g lt s =
     let k = f w z b r g (subst (λ x. Looks x (w ++ z)) e (sees_looks limits n j ts (w ++ z) (omega arith) s)) in
     (k.0, ap length k.1)
 
 -- a part that can't begin with the next token
-pub none_never : (limits : Limits) → {A : Type 0} (R : List Marked → A → Type 0) (F : A → List Marked → Type 0) (o : Option Token) (n j : ℕ) (ts : List Spot) → 0 < j → first_of ts ≡ o → ((w z : List Marked) (b : A) → R w b → F b z → Looks o (w ++ z) → ⊥) → Never limits R F n j ts
+pub none_never : (limits : Limits) → {A : Type 0} (R : List Marked → A → Type 0) (F : A → List Marked → Type 0) (o : Option Token) (n j : ℕ) (ts : List Spot) → 0 < j → first_of ts ≡ o
+    → ((w z : List Marked) (b : A) → R w b → F b z → Looks o (w ++ z) → ⊥) → Never limits R F n j ts
 none_never limits R F o n j ts h e f w z b r g s = f w z b r g (subst (λ x. Looks x (w ++ z)) e (sees_looks limits n j ts (w ++ z) h s))
 
 -- a part that is marked by another part that begins with it
@@ -40,7 +42,8 @@ module _ (limits : Limits) {A : Type 0} (R : List Marked → A → Type 0) (F : 
       (k.0, ap length r.2 ∙ length_begin p r.0 ∙ k.1)
 
   -- no part with this number or of this depth keeps the limit
-  pub marks_beyond : (n j : ℕ) (ts : List Spot) → 0 < j → (AllInLimitsOf limits n (p ∷ []) → ⊥) → (P : Token → Type 0) → ((w : List Marked) (b : A) → R w b → Starts P w) → Never limits (Marks p R) F n j ts
+  pub marks_beyond : (n j : ℕ) (ts : List Spot) → 0 < j → (AllInLimitsOf limits n (p ∷ []) → ⊥) → (P : Token → Type 0) → ((w : List Marked) (b : A) → R w b → Starts P w)
+      → Never limits (Marks p R) F n j ts
   marks_beyond n j ts h out P begins w z b r g s = beyond j ts r.0 h (begins r.0 b r.1) (subst (λ k. Sees limits n j ts (k ++ z)) r.2 s)
     where
       beyond : (j : ℕ) (ts : List Spot) (w : List Marked) → 0 < j → Starts P w → Sees limits n j ts (begin p w ++ z) → ⊥

@@ -33,15 +33,30 @@ take_front : (w : List Marked) (k : ℕ) (ts : List Spot) → take (length w + k
 take_front [] k ts = let e : 0 + k ≡ k = omega arith in ap (λ n. take n ts) e
 take_front (x ∷ w) k ts = let e : suc (length w) + k ≡ suc (length w + k) = omega arith in ap (λ n. take n (x.spot ∷ (spots_of w ++ ts))) e ∙ ap (λ y. x.spot ∷ y) (take_front w k ts)
 
-module _ (limits : Limits) {A B : Type 0} (R : List Marked → A → Type 0) (FR : A → List Marked → Type 0) (S : A → List Marked → B → Type 0) (F : A × B → List Marked → Type 0) (fol : (a : A) (b : B) (v z : List Marked) → S a v b → F (a, b) z → FR a (v ++ z)) where
+module _ (limits : Limits) {A B : Type 0} (R : List Marked → A → Type 0) (FR : A → List Marked → Type 0) (S : A → List Marked → B → Type 0) (F : A × B → List Marked → Type 0)
+    (fol : (a : A) (b : B) (v z : List Marked) → S a v b → F (a, b) z → FR a (v ++ z)) where
   pub good_first : (n : ℕ) (ts : List Spot) → ((a : A) → Inhabited (S a)) → GoodOf limits R n ts → GoodOf limits (Then R S) n ts
   good_first n ts more g =
       let x = more g.tree in
-      record { read = g.read; rest = g.rest ++ x.marked; tree = (g.tree, x.tree); rule = record { first = g.read ++ g.rest; rest = x.marked; is = sym (append_assoc g.read g.rest x.marked); front = g.rule; back = x.rule }; is = g.is; keeps = g.keeps }
+      record {
+        read = g.read;
+        rest = g.rest ++ x.marked;
+        tree = (g.tree, x.tree);
+        rule = record { first = g.read ++ g.rest; rest = x.marked; is = sym (append_assoc g.read g.rest x.marked); front = g.rule; back = x.rule };
+        is = g.is;
+        keeps = g.keeps;
+      }
 
   pub good_then : (n : ℕ) (w : List Marked) (a : A) (ts : List Spot) → R w a → KeepsOf limits n w → GoodOf limits (S a) n ts → GoodOf limits (Then R S) n (spots_of w ++ ts)
   good_then n w a ts r k g =
-      record { read = w ++ g.read; rest = g.rest; tree = (a, g.tree); rule = record { first = w; rest = g.read ++ g.rest; is = append_assoc w g.read g.rest; front = r; back = g.rule }; is = spots_append w g.read ∙ ap (λ y. spots_of w ++ y) g.is; keeps = keeps_append_of limits n w g.read k g.keeps }
+      record {
+        read = w ++ g.read;
+        rest = g.rest;
+        tree = (a, g.tree);
+        rule = record { first = w; rest = g.read ++ g.rest; is = append_assoc w g.read g.rest; front = r; back = g.rule };
+        is = spots_append w g.read ∙ ap (λ y. spots_of w ++ y) g.is;
+        keeps = keeps_append_of limits n w g.read k g.keeps;
+      }
 
   -- the first part stops
   pub stops_first : (n k : ℕ) (ts : List Spot) → ((a : A) → Inhabited (S a)) → Stops limits R FR n ts k → Stops limits (Then R S) F n ts k
@@ -54,7 +69,8 @@ module _ (limits : Limits) {A B : Type 0} (R : List Marked → A → Type 0) (FR
   }
 
   -- the first part is read, and the second stops
-  pub stops_then : (n k : ℕ) (w : List Marked) (a : A) (ts : List Spot) → n ≤ 7 → R w a → KeepsOf limits 7 w → Only limits R FR a (length w) (spots_of w ++ ts) → Stops limits (S a) (λ b. F (a, b)) n ts k → Stops limits (Then R S) F n (spots_of w ++ ts) (length w + k)
+  pub stops_then : (n k : ℕ) (w : List Marked) (a : A) (ts : List Spot) → n ≤ 7 → R w a → KeepsOf limits 7 w → Only limits R FR a (length w) (spots_of w ++ ts)
+      → Stops limits (S a) (λ b. F (a, b)) n ts k → Stops limits (Then R S) F n (spots_of w ++ ts) (length w + k)
   stops_then n k w a ts le r keep o s =
       let i = length w in
       let e : suc (i + k) - i ≡ suc k = omega arith in
@@ -62,13 +78,16 @@ module _ (limits : Limits) {A B : Type 0} (R : List Marked → A → Type 0) (FR
       record {
         within = omega (arith, s.within, length-append (spots_of w) ts, length_spots w);
         token = λ h. omega (arith, s.token h, length-append (spots_of w) ts, length_spots w);
-        bad = never_then limits R FR S F fol n i (suc (i + k)) (spots_of w ++ ts) a (omega arith) o (subst (λ j. Never limits (S a) (λ b. F (a, b)) n j (drop i (spots_of w ++ ts))) (sym e) (subst (Never limits (S a) (λ b. F (a, b)) n (suc k)) (sym (drop_front w ts)) s.bad));
+        bad = never_then limits R FR S F fol n i (suc (i + k)) (spots_of w ++ ts) a (omega arith) o
+            (subst (λ j. Never limits (S a) (λ b. F (a, b)) n j (drop i (spots_of w ++ ts))) (sym e) (subst (Never limits (S a) (λ b. F (a, b)) n (suc k)) (sym (drop_front w ts)) s.bad));
         good = subst (GoodOf limits (Then R S) 7) (sym (take_front w k ts)) (good_then 7 w a (take k ts) r keep s.good);
-        below = λ m lt h. subst (λ j. GoodOf limits (Then R S) m (take j (spots_of w ++ ts))) f (subst (GoodOf limits (Then R S) m) (sym (take_front w (suc k) ts)) (good_then m w a (take (suc k) ts) r (fewer limits m 7 w (omega arith) keep) (s.below m lt h)));
+        below = λ m lt h. subst (λ j. GoodOf limits (Then R S) m (take j (spots_of w ++ ts))) f
+            (subst (GoodOf limits (Then R S) m) (sym (take_front w (suc k) ts)) (good_then m w a (take (suc k) ts) r (fewer limits m 7 w (omega arith) keep) (s.below m lt h)));
       }
 
 -- a part that is another one by the next token
-pub stops_narrow : (limits : Limits) → {B C : Type 0} (V : List Marked → B → Type 0) (FV : B → List Marked → Type 0) (U : List Marked → C → Type 0) (FU : C → List Marked → Type 0) (h : C → B) (o : Option Token) (n k : ℕ) (ts : List Spot) → first_of ts ≡ o
+pub stops_narrow : (limits : Limits) → {B C : Type 0} (V : List Marked → B → Type 0) (FV : B → List Marked → Type 0) (U : List Marked → C → Type 0) (FU : C → List Marked → Type 0) (h : C → B)
+    (o : Option Token) (n k : ℕ) (ts : List Spot) → first_of ts ≡ o
     → ((w z : List Marked) (b : B) → V w b → FV b z → Looks o (w ++ z) → Back V FV U FU h w z b) → ((w : List Marked) (c : C) → U w c → V w (h c)) → Stops limits U FU n ts k → Stops limits V FV n ts k
 stops_narrow limits V FV U FU h o n k ts e back forth s = record {
   within = s.within;
@@ -110,7 +129,8 @@ module _ (limits : Limits) {A : Type 0} (R : List Marked → A → Type 0) (F : 
   }
 
   -- the part can begin here, but not with this number or at this depth
-  pub stops_beyond : (n : ℕ) (ts : List Spot) → 0 < length ts → (InLimitsOf limits n p → ⊥) → ((m : ℕ) → m < n → InLimitsOf limits m p) → (P : Token → Type 0) → ((w : List Marked) (b : A) → R w b → Starts P w) → Inhabited R → ((m : ℕ) → m < n → GoodOf limits R m (take 1 ts)) → Stops limits (Marks p R) F n ts 0
+  pub stops_beyond : (n : ℕ) (ts : List Spot) → 0 < length ts → (InLimitsOf limits n p → ⊥) → ((m : ℕ) → m < n → InLimitsOf limits m p) → (P : Token → Type 0)
+      → ((w : List Marked) (b : A) → R w b → Starts P w) → Inhabited R → ((m : ℕ) → m < n → GoodOf limits R m (take 1 ts)) → Stops limits (Marks p R) F n ts 0
   stops_beyond n ts some out keep P begins any here = record {
     within = omega arith;
     token = λ h. some;
@@ -120,7 +140,8 @@ module _ (limits : Limits) {A : Type 0} (R : List Marked → A → Type 0) (F : 
   }
 
 -- no such part begins with the next token
-pub stops_none : (limits : Limits) → {A : Type 0} (R : List Marked → A → Type 0) (F : A → List Marked → Type 0) (o : Option Token) (ts : List Spot) → first_of ts ≡ o → Inhabited R → ((w z : List Marked) (b : A) → R w b → F b z → Looks o (w ++ z) → ⊥) → Stops limits R F 2 ts 0
+pub stops_none : (limits : Limits) → {A : Type 0} (R : List Marked → A → Type 0) (F : A → List Marked → Type 0) (o : Option Token) (ts : List Spot) → first_of ts ≡ o → Inhabited R
+    → ((w z : List Marked) (b : A) → R w b → F b z → Looks o (w ++ z) → ⊥) → Stops limits R F 2 ts 0
 stops_none limits R F o ts e any f = record {
   within = omega arith;
   token = λ h. absurd (omega arith);

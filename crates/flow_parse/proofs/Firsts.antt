@@ -81,7 +81,8 @@ begins_looks : (w z : List Marked) (t : Token) → Begins w → Looks (Some t) (
 begins_looks [] z t b l = absurd b
 begins_looks (x ∷ w) z t b l = subst StartsSimple l b
 
-pub opener_is : {actor : Bool} {d : ℕ} {c c' : Counts} {w : List Marked} {p : Place} {rest body : Body} {b : Bool} (z : List Marked) (t : Token) → (r : PlainRule actor d c c' w p rest body b) → Looks (Some t) (w ++ z) → OpenerIs (opener r) t
+pub opener_is : {actor : Bool} {d : ℕ} {c c' : Counts} {w : List Marked} {p : Place} {rest body : Body} {b : Bool} (z : List Marked) (t : Token) → (r : PlainRule actor d c c' w p rest body b)
+    → Looks (Some t) (w ++ z) → OpenerIs (opener r) t
 opener_is z t (if_stmt at p q test body e b f) l = sym (subst (λ x. Looks (Some t) (x ++ z)) f l)
 opener_is z t (if_else_stmt at p q r test body other e b o f) l = sym (subst (λ x. Looks (Some t) (x ++ z)) f l)
 opener_is z t (while_stmt at p q test body e b f) l = sym (subst (λ x. Looks (Some t) (x ++ z)) f l)

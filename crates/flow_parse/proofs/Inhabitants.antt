@@ -46,16 +46,28 @@ pub some_expr : (d : ℕ) → Inhabited (ExprRule 0 d)
 some_expr d = record { marked = node_word d word.Yes nowhere ∷ []; tree = BoolExpr true; rule = truth nowhere }
 
 pub some_test : (d : ℕ) → Inhabited (Test d)
-some_test d = let e = some_expr d in record { marked = sign_at sign.OpenRound nowhere ∷ (e.marked ++ sign_at sign.CloseRound nowhere ∷ []); tree = e.tree; rule = (nowhere, nowhere, e.marked, e.rule, refl) }
+some_test d = let e = some_expr d in record {
+  marked = sign_at sign.OpenRound nowhere ∷ (e.marked ++ sign_at sign.CloseRound nowhere ∷ []);
+  tree = e.tree;
+  rule = (nowhere, nowhere, e.marked, e.rule, refl);
+}
 
 pub some_state : (actor : Bool) (c : Counts) → Inhabited (StatePart actor c)
 some_state actor c = record { marked = []; tree = (false, c); rule = no_state }
 
 pub some_into : (actor : Bool) (d : ℕ) (c : Counts) → Inhabited (IntoPart actor d c)
-some_into actor d c = let t = some_type d in record { marked = [] ++ (t.marked ++ name_at name ∷ []); tree = (record { state = false; ty = t.tree; name = name }, c); rule = declared name [] t.marked no_state t.rule refl }
+some_into actor d c = let t = some_type d in record {
+  marked = [] ++ (t.marked ++ name_at name ∷ []);
+  tree = (record { state = false; ty = t.tree; name = name }, c);
+  rule = declared name [] t.marked no_state t.rule refl;
+}
 
 pub some_operand : (d : ℕ) → Inhabited (OperandPart d)
-some_operand d = let e = some_expr (suc d) in record { marked = word_at word.Wait nowhere ∷ sign_at sign.OpenRound nowhere ∷ (e.marked ++ sign_at sign.CloseRound nowhere ∷ []); tree = (false, e.tree); rule = wait nowhere nowhere nowhere e.marked e.rule refl }
+some_operand d = let e = some_expr (suc d) in record {
+  marked = word_at word.Wait nowhere ∷ sign_at sign.OpenRound nowhere ∷ (e.marked ++ sign_at sign.CloseRound nowhere ∷ []);
+  tree = (false, e.tree);
+  rule = wait nowhere nowhere nowhere e.marked e.rule refl;
+}
 
 pub some_waiting : (actor : Bool) (d : ℕ) (c : Counts) → Inhabited (WaitingPart actor d c)
 some_waiting actor d c = let o = some_operand d in record { marked = o.marked; tree = (record { into = None; next = o.tree.0; operand = o.tree.1 }, c); rule = plain_wait o.rule }
@@ -82,7 +94,11 @@ pub some_valued : (d : ℕ) (at : Place) (i : IntoTree) → Inhabited (ValuedRul
 some_valued d at i = record { marked = []; tree = DeclareStmt at i None End; rule = declares no_value }
 
 pub some_assignment : (d : ℕ) → Inhabited (Assignment d)
-some_assignment d = record { marked = name_at name ∷ sign_at sign.PlusPlus nowhere ∷ []; tree = ModifyStmt nowhere (name ∷ []) UpChange End; rule = (nowhere, up nowhere nowhere (name_at name ∷ []) (last_name name) refl refl) }
+some_assignment d = record {
+  marked = name_at name ∷ sign_at sign.PlusPlus nowhere ∷ [];
+  tree = ModifyStmt nowhere (name ∷ []) UpChange End;
+  rule = (nowhere, up nowhere nowhere (name_at name ∷ []) (last_name name) refl refl);
+}
 
 pub some_init : (actor : Bool) (d : ℕ) (c : Counts) → Inhabited (Init actor d c)
 some_init actor d c = let x = some_assignment d in record { marked = x.marked; tree = record { body = x.tree; counts = c; ends_if = false }; rule = (x.rule.0, change x.rule.0 x.rule.1, refl) }
@@ -106,7 +122,11 @@ pub some_else : (actor : Bool) (d : ℕ) (o : Out) → Inhabited (ElsePart actor
 some_else actor d o = record { marked = []; tree = None; rule = refl }
 
 pub some_plain : (actor : Bool) (d : ℕ) (c : Counts) → Inhabited (Plain actor d c)
-some_plain actor d c = record { marked = word_at word.Break nowhere ∷ sign_at sign.Semicolon nowhere ∷ []; tree = record { body = BreakStmt nowhere End; counts = c; ends_if = false }; rule = (nowhere, break_stmt nowhere nowhere) }
+some_plain actor d c = record {
+  marked = word_at word.Break nowhere ∷ sign_at sign.Semicolon nowhere ∷ [];
+  tree = record { body = BreakStmt nowhere End; counts = c; ends_if = false };
+  rule = (nowhere, break_stmt nowhere nowhere);
+}
 
 pub some_one : (actor : Bool) (d : ℕ) (c : Counts) → Inhabited (One actor d c)
 some_one actor d c = let x = some_plain actor d (one_statement c) in record { marked = begin_statement c d x.marked; tree = x.tree; rule = plain_stmt x.rule.0 x.marked x.rule.1 refl }
@@ -115,13 +135,26 @@ pub some_closing : (actor : Bool) (d : ℕ) (c : Counts) → Inhabited (Closing 
 some_closing actor d c = record { marked = sign_at sign.CloseCurly nowhere ∷ []; tree = record { body = End; counts = c; close = nowhere }; rule = ([], no_stmts, refl) }
 
 pub some_block : (actor : Bool) (d : ℕ) (c : Counts) → Inhabited (Block actor d c)
-some_block actor d c = record { marked = sign_at sign.OpenCurly nowhere ∷ sign_at sign.CloseCurly nowhere ∷ []; tree = record { body = End; counts = c; close = nowhere }; rule = (nowhere, [], no_stmts, refl) }
+some_block actor d c = record {
+  marked = sign_at sign.OpenCurly nowhere ∷ sign_at sign.CloseCurly nowhere ∷ [];
+  tree = record { body = End; counts = c; close = nowhere };
+  rule = (nowhere, [], no_stmts, refl);
+}
 
 pub some_body : (actor : Bool) (d : ℕ) (c : Counts) → Inhabited (BodyPart actor d c)
-some_body actor d c = record { marked = sign_at sign.OpenCurly nowhere ∷ sign_at sign.CloseCurly nowhere ∷ []; tree = record { body = End; counts = c; ends_if = false }; rule = block_body (braces nowhere nowhere [] no_stmts refl) }
+some_body actor d c = record {
+  marked = sign_at sign.OpenCurly nowhere ∷ sign_at sign.CloseCurly nowhere ∷ [];
+  tree = record { body = End; counts = c; ends_if = false };
+  rule = block_body (braces nowhere nowhere [] no_stmts refl);
+}
 
 pub some_catch : Inhabited Catch
-some_catch = record { marked = word_at word.Catch nowhere ∷ sign_at sign.OpenRound nowhere ∷ word_at word.Error nowhere ∷ sign_at sign.Amp nowhere ∷ name_at name ∷ sign_at sign.CloseRound nowhere ∷ []; tree = (nowhere, name); rule = (nowhere, nowhere, nowhere, nowhere, refl) }
+some_catch = record {
+  marked = word_at word.Catch nowhere ∷ sign_at sign.OpenRound nowhere ∷ word_at word.Error nowhere ∷ sign_at sign.Amp nowhere ∷ name_at name ∷ sign_at sign.CloseRound nowhere
+      ∷ [];
+  tree = (nowhere, name);
+  rule = (nowhere, nowhere, nowhere, nowhere, refl);
+}
 
 pub some_when : (actor : Bool) (d n : ℕ) (c : Counts) → Inhabited (WhenPart actor d n c)
 some_when actor d n c =
@@ -161,7 +194,11 @@ some_decls n = record { marked = []; tree = []; rule = no_decls }
 pub some_all_fields : Inhabited AllFields
 some_all_fields =
     let x = some_param 1 in
-    record { marked = (x.marked ++ sign_at sign.Semicolon nowhere ∷ []) ++ sign_at sign.CloseCurly nowhere ∷ []; tree = x.tree ∷ []; rule = ((nowhere, x.marked ++ sign_at sign.Semicolon nowhere ∷ [], more_fields nowhere x.marked [] x.rule no_fields refl, refl), one x.tree) }
+    record {
+      marked = (x.marked ++ sign_at sign.Semicolon nowhere ∷ []) ++ sign_at sign.CloseCurly nowhere ∷ [];
+      tree = x.tree ∷ [];
+      rule = ((nowhere, x.marked ++ sign_at sign.Semicolon nowhere ∷ [], more_fields nowhere x.marked [] x.rule no_fields refl, refl), one x.tree);
+    }
   where
     one : {A : Type 0} (x : A) → 0 < length (x ∷ [])
     one x = omega arith
@@ -169,13 +206,25 @@ some_all_fields =
 pub some_all_whens : (actor : Bool) (d : ℕ) (c : Counts) → Inhabited (AllWhens actor d c)
 some_all_whens actor d c =
     let x = some_when actor d 1 c in
-    record { marked = x.marked ++ ([] ++ sign_at sign.CloseCurly nowhere ∷ []); tree = (MoreBranches x.tree.at x.tree.waiting x.tree.body NoBranches, x.tree.counts); rule = (nowhere, x.marked, [], x.tree.counts, NoBranches, x.rule NoBranches, no_whens, refl) }
+    record {
+      marked = x.marked ++ ([] ++ sign_at sign.CloseCurly nowhere ∷ []);
+      tree = (MoreBranches x.tree.at x.tree.waiting x.tree.body NoBranches, x.tree.counts);
+      rule = (nowhere, x.marked, [], x.tree.counts, NoBranches, x.rule NoBranches, no_whens, refl);
+    }
 
 pub some_after_name : (d : ℕ) (x : Ident) → Inhabited (AfterName d x)
-some_after_name d x = let y = some_changed d x.at (x ∷ []) in record { marked = y.marked; tree = y.tree; rule = inr (record { tree = (x ∷ [], y.tree); rule = record { first = []; rest = y.marked; is = refl; front = last_name x; back = y.rule }; is = refl }) }
+some_after_name d x = let y = some_changed d x.at (x ∷ []) in record {
+  marked = y.marked;
+  tree = y.tree;
+  rule = inr (record { tree = (x ∷ [], y.tree); rule = record { first = []; rest = y.marked; is = refl; front = last_name x; back = y.rule }; is = refl });
+}
 
 pub some_after_init : (d : ℕ) (x : Ident) → Inhabited (AfterInit d x)
-some_after_init d x = let y = some_change d x.at (x ∷ []) in record { marked = y.marked; tree = y.tree; rule = inr (record { tree = (x ∷ [], y.tree); rule = record { first = []; rest = y.marked; is = refl; front = last_name x; back = y.rule }; is = refl }) }
+some_after_init d x = let y = some_change d x.at (x ∷ []) in record {
+  marked = y.marked;
+  tree = y.tree;
+  rule = inr (record { tree = (x ∷ [], y.tree); rule = record { first = []; rest = y.marked; is = refl; front = last_name x; back = y.rule }; is = refl });
+}
 
 pub some_given : (d : ℕ) (at : Place) (i : IntoTree) → Inhabited (Given d at i)
 some_given d at i = let e = some_expr (suc d) in record { marked = e.marked; tree = DeclareStmt at i (Some e.tree) End; rule = inl (record { tree = e.tree; rule = e.rule; is = refl }) }

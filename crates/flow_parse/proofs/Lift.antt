@@ -18,7 +18,8 @@ lift_init rest (declare at i s) = declare at i s
 lift_init rest (declare_value at p left value i e f s) = declare_value at p left value i e f s
 lift_init rest (change at r) = change at (lift_assign rest r)
 
-lift_plain : {actor : Bool} {d : ℕ} {c c' : Counts} {w : List Marked} {p : Place} {s : Body} {b : Bool} (rest : Body) → PlainRule actor d c c' w p End s b → PlainRule actor d c c' w p rest (put_before s rest) b
+lift_plain : {actor : Bool} {d : ℕ} {c c' : Counts} {w : List Marked} {p : Place} {s : Body} {b : Bool} (rest : Body) → PlainRule actor d c c' w p End s b
+    → PlainRule actor d c c' w p rest (put_before s rest) b
 lift_plain rest (if_stmt at p q test body e b f) = if_stmt at p q test body e b f
 lift_plain rest (if_else_stmt at p q r test body other e b o f) = if_else_stmt at p q r test body other e b o f
 lift_plain rest (while_stmt at p q test body e b f) = while_stmt at p q test body e b f

@@ -18,7 +18,8 @@ first_of [] = None
 first_of (t ∷ ts) = Some t.token
 
 -- where the next token says that a part is another one
-pub record Back {B C : Type 0} (V : List Marked → B → Type 0) (FV : B → List Marked → Type 0) (U : List Marked → C → Type 0) (FU : C → List Marked → Type 0) (h : C → B) (w z : List Marked) (b : B) : Type 0 where
+pub record Back {B C : Type 0} (V : List Marked → B → Type 0) (FV : B → List Marked → Type 0) (U : List Marked → C → Type 0) (FU : C → List Marked → Type 0) (h : C → B) (w z : List Marked)
+    (b : B) : Type 0 where
   pub tree : C
   pub rule : U w tree
   pub is : b ≡ h tree

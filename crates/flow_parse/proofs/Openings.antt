@@ -25,10 +25,12 @@ opening_never : (limits : Limits) (ps : List Part) (x : Token) (n : ℕ) (ts : L
 opening_never limits ps x n [] out w z b r f s = subst (λ u. Sees limits n 1 [] (u ++ z)) r s
 opening_never limits ps x n (t ∷ ts) out w z b r f s = out (subst (λ u. Sees limits n 1 (t ∷ ts) (u ++ z)) r s).1
 
-opening_good : (limits : Limits) (ps : List Part) (x : Token) (p : Place) (m : ℕ) (ts : List Spot) → AllInLimitsOf limits m ps → GoodOf limits (Opening ps x) m (take 1 (record { token = x; at = p } ∷ ts))
+opening_good : (limits : Limits) (ps : List Part) (x : Token) (p : Place) (m : ℕ) (ts : List Spot) → AllInLimitsOf limits m ps
+    → GoodOf limits (Opening ps x) m (take 1 (record { token = x; at = p } ∷ ts))
 opening_good limits ps x p m ts k = record { read = opens ps x p ∷ []; rest = []; tree = p; rule = refl; is = refl; keeps = (k, tt) }
 
-pub opening_beyond : (limits : Limits) (ps : List Part) (x : Token) (n : ℕ) (t : Tokens) (at : ℕ) → 3 ≤ n → n ≤ 7 → token_at t.spots.items at ≡ Some x → (AllInLimitsOf limits n ps → ⊥) → ((m : ℕ) → m < n → AllInLimitsOf limits m ps) → Fails limits (Opening ps x) Any t at (Refused (rule.L n) (place_at t at))
+pub opening_beyond : (limits : Limits) (ps : List Part) (x : Token) (n : ℕ) (t : Tokens) (at : ℕ) → 3 ≤ n → n ≤ 7 → token_at t.spots.items at ≡ Some x → (AllInLimitsOf limits n ps → ⊥)
+    → ((m : ℕ) → m < n → AllInLimitsOf limits m ps) → Fails limits (Opening ps x) Any t at (Refused (rule.L n) (place_at t at))
 opening_beyond limits ps x n t at l h e out keep =
     let k = here t at x e in
     let i : at ≡ at + 0 = omega arith in (
@@ -48,5 +50,8 @@ opening_beyond limits ps x n t at l h e out keep =
     )
 
 -- one state variable too many
-pub state_fails : (limits : Limits) (t : Tokens) (at : ℕ) (c : Counts) → at ≤ length t.spots.items → token_at t.spots.items at ≡ Some (token.Word word.State) → limits.variables ≤ c.variables → Fails limits (StatePart true c) (NotBefore (token.Word word.State)) t at (Refused (rule.L 6) (place_at t at))
-state_fails limits t at c h e k = fails limits t (narrow limits t.spots.items e (state_turns limits t at true c) (nothing limits t.spots.items (StatePart true c) _ at h)) (Refused (rule.L 6) (place_at t at)) (opening_beyond limits (Variable (suc c.variables) ∷ []) (token.Word word.State) 6 t at (omega arith) (omega arith) e (λ l. omega (arith, l.0 (omega arith), k)) (λ m lt. ((λ l. absurd (omega arith)), tt)))
+pub state_fails : (limits : Limits) (t : Tokens) (at : ℕ) (c : Counts) → at ≤ length t.spots.items → token_at t.spots.items at ≡ Some (token.Word word.State) → limits.variables ≤ c.variables
+    → Fails limits (StatePart true c) (NotBefore (token.Word word.State)) t at (Refused (rule.L 6) (place_at t at))
+state_fails limits t at c h e k = fails limits t (narrow limits t.spots.items e (state_turns limits t at true c) (nothing limits t.spots.items (StatePart true c) _ at h))
+    (Refused (rule.L 6) (place_at t at)) (opening_beyond limits (Variable (suc c.variables) ∷ []) (token.Word word.State) 6 t at (omega arith) (omega arith) e
+    (λ l. omega (arith, l.0 (omega arith), k)) (λ m lt. ((λ l. absurd (omega arith)), tt)))

@@ -14,4 +14,5 @@ use Rattle.flow_tree.specs.StmtView.{kind_of, kind_step, stmt_step, branch_step,
 use Rattle.flow_tree.specs.Body.{Body, Branches, IfElseStmt}
 
 pub kind_if_else : (e : Expr) (b o : Vec Stmt Global) → kind_of (kind.If e b (Some o)) ≡ (λ at rest. IfElseStmt at (expr_of e) (body_of b.items) (body_of o.items) rest)
-kind_if_else e b o = ap kind_of (sym (kind.rolls-If e b (Some o))) ∙ fold-roll-StmtKind (Place → Body → Body) (Body → Body) (Branches → Branches) kind_step stmt_step branch_step (layer.If e b (Some o))
+kind_if_else e b o = ap kind_of (sym (kind.rolls-If e b (Some o)))
+    ∙ fold-roll-StmtKind (Place → Body → Body) (Body → Body) (Branches → Branches) kind_step stmt_step branch_step (layer.If e b (Some o))

@@ -59,12 +59,15 @@ never_good t n k h f (begun l g) =
     let ts = t.spots.items in
     let d = decls_of g.rule in
     let e : length (spots_of g.read) ≡ suc k = ap length g.is ∙ length_take (suc k) ts (omega arith) in
-    let same : take (suc k) ts ≡ take (suc k) (spots_of g.read ++ spots_of g.rest) = sym g.is ∙ sym (take_all (spots_of g.read) (spots_of g.rest)) ∙ ap (λ n. take n (spots_of g.read ++ spots_of g.rest)) e in
-    let s : Sees OF_PROGRAMS n (suc k) ts (g.read ++ g.rest) = sees_more n (suc k) ts (spots_of g.read ++ spots_of g.rest) (g.read ++ g.rest) (omega arith) same (subst (λ j. Sees OF_PROGRAMS n j (spots_of g.read ++ spots_of g.rest) (g.read ++ g.rest)) e (sees_begun n g.read g.rest g.keeps)) in
+    let same : take (suc k) ts ≡ take (suc k) (spots_of g.read ++ spots_of g.rest) =
+    sym g.is ∙ sym (take_all (spots_of g.read) (spots_of g.rest)) ∙ ap (λ n. take n (spots_of g.read ++ spots_of g.rest)) e in
+    let s : Sees OF_PROGRAMS n (suc k) ts (g.read ++ g.rest) = sees_more n (suc k) ts (spots_of g.read ++ spots_of g.rest) (g.read ++ g.rest) (omega arith) same
+    (subst (λ j. Sees OF_PROGRAMS n j (spots_of g.read ++ spots_of g.rest) (g.read ++ g.rest)) e (sees_begun n g.read g.rest g.keeps)) in
     f (g.read ++ g.rest) [] d.0 d.1 refl (subst (Sees OF_PROGRAMS n (suc k) ts) (sym (append-nil (g.read ++ g.rest))) s)
 never_good t n k h f (whole p d) =
     let x = decls_of d.rule in
-    f d.marked [] x.0 x.1 refl (subst (Sees OF_PROGRAMS n (suc k) t.spots.items) (sym (append-nil d.marked)) (subst (λ ts. Sees OF_PROGRAMS n (suc k) ts d.marked) d.is (sees_whole n (suc k) d.marked d.keeps)))
+    f d.marked [] x.0 x.1 refl (subst (Sees OF_PROGRAMS n (suc k) t.spots.items) (sym (append-nil d.marked))
+    (subst (λ ts. Sees OF_PROGRAMS n (suc k) ts d.marked) d.is (sees_whole n (suc k) d.marked d.keeps)))
 
 pub good_program : (t : Tokens) (n : ℕ) (ts : List Spot) → Good (DeclsRule 1) n ts → Good (ProgramRule t.end) n ts
 good_program t n ts g = record { read = g.read; rest = g.rest; tree = record { decls = g.tree; end = t.end }; rule = program g.rule; is = g.is; keeps = g.keeps }
@@ -102,7 +105,8 @@ program_fails t n k at le few e s = record {
   bad = never_good t n k s.within s.bad;
 }
 
-pub program_limit : (t : Tokens) (n k : ℕ) (at : Place) → 3 ≤ n → n ≤ 7 → length t.spots.items ≤ 200000 → at ≡ place_at t k → Stops OF_PROGRAMS (DeclsRule 1) AtEnd n t.spots.items k → FailsLimit n t at
+pub program_limit : (t : Tokens) (n k : ℕ) (at : Place) → 3 ≤ n → n ≤ 7 → length t.spots.items ≤ 200000 → at ≡ place_at t k → Stops OF_PROGRAMS (DeclsRule 1) AtEnd n t.spots.items k
+    → FailsLimit n t at
 program_limit t n k at ge le few e s = record {
   least = ge;
   greatest = le;

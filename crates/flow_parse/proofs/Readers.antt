@@ -43,7 +43,8 @@ take_all [] = refl
 take_all (x ∷ xs) = ap (λ z. x ∷ z) (take_all xs)
 
 -- what is seen of a marked list
-pub sees_take : (limits : Limits) (n j k : ℕ) (ts : List Spot) (w z : List Marked) → k ≤ length w → k ≤ j → Sees limits n j ts (w ++ z) → (take k ts ≡ spots_of (take k w)) × KeepsOf limits n (take k w)
+pub sees_take : (limits : Limits) (n j k : ℕ) (ts : List Spot) (w z : List Marked) → k ≤ length w → k ≤ j → Sees limits n j ts (w ++ z)
+    → (take k ts ≡ spots_of (take k w)) × KeepsOf limits n (take k w)
 sees_take limits n j zero ts w z a b s = (refl, tt)
 sees_take limits n zero (suc k) ts w z a b s = absurd (omega arith)
 sees_take limits n (suc j) (suc k) ts [] z a b s = absurd (omega arith)
@@ -137,7 +138,8 @@ module _ (limits : Limits) {A : Type 0} (R : List Marked → A → Type 0) (F : 
       longer n (suc j) zero (t ∷ ts) (x ∷ w) z a b s = omega arith
       longer n (suc j) (suc i) (t ∷ ts) (x ∷ w) z a b s = omega (arith, longer n j i ts w z (omega arith) (omega arith) s.2)
 
-  pub reader_only : (one : (n m : ℕ) (toks : List Spot) (a b : A) → Derives R n toks a → Derives R m toks b → a ≡ b) (a : A) (i : ℕ) (ts : List Spot) → ReadsAll R ts i → Derives R 5 (take i ts) a → Only limits R F a i ts
+  pub reader_only : (one : (n m : ℕ) (toks : List Spot) (a b : A) → Derives R n toks a → Derives R m toks b → a ≡ b) (a : A) (i : ℕ) (ts : List Spot) → ReadsAll R ts i → Derives R 5 (take i ts) a
+      → Only limits R F a i ts
   reader_only one a i ts all d n j w z b r f lt s =
       elim (three (length w) i) [
         | inl l ↦ absurd (not_before n 5 i j ts w z b r f l all.within (omega arith) all.good s)

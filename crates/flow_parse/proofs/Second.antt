@@ -20,10 +20,12 @@ pub record Split {A B : Type 0} (V : List Marked → B → Type 0) (FV : B → L
   pub is : w ≡ first ∷ rest
   pub same : first.spot ≡ m.spot → Looks o (rest ++ z) → (b : B) × V rest b × (a ≡ g b) × FV b z
 
-module _ (limits : Limits) {A B : Type 0} {W : List Marked → A → Type 0} {FW : A → List Marked → Type 0} {V : List Marked → B → Type 0} {FV : B → List Marked → Type 0} {g : B → A} (m : Marked) (o : Option Token)
+module _ (limits : Limits) {A B : Type 0} {W : List Marked → A → Type 0} {FW : A → List Marked → Type 0} {V : List Marked → B → Type 0} {FV : B → List Marked → Type 0} {g : B → A} (m : Marked)
+    (o : Option Token)
     (sound : (v : List Marked) (b : B) → V v b → W (m ∷ v) (g b)) (back : (w z : List Marked) (a : A) → W w a → FW a z → Looks (Some m.spot.token) (w ++ z) → Split V FV g m o w z a) where
   -- what is seen of the whole is seen of what follows the first token
-  seen : (n j : ℕ) (ts : List Spot) (w z : List Marked) (a : A) → W w a → FW a z → first_of ts ≡ o → 1 < j → Sees limits n j (m.spot ∷ ts) (w ++ z) → (b : B) × (v : List Marked) × V v b × FV b z × (a ≡ g b) × (length w ≡ suc (length v)) × Sees limits n (j - 1) ts (v ++ z)
+  seen : (n j : ℕ) (ts : List Spot) (w z : List Marked) (a : A) → W w a → FW a z → first_of ts ≡ o → 1 < j → Sees limits n j (m.spot ∷ ts) (w ++ z)
+      → (b : B) × (v : List Marked) × V v b × FV b z × (a ≡ g b) × (length w ≡ suc (length v)) × Sees limits n (j - 1) ts (v ++ z)
   seen n zero ts w z a r f e lt s = absurd (omega arith)
   seen n (suc j) ts w z a r f e lt s =
       let k = back w z a r f (sees_looks limits n (suc j) (m.spot ∷ ts) (w ++ z) (omega arith) s) in
@@ -47,7 +49,8 @@ module _ (limits : Limits) {A B : Type 0} {W : List Marked → A → Type 0} {FW
   good_behind : (n k : ℕ) (ts : List Spot) → AllInLimitsOf limits n m.parts → GoodOf limits V n (take k ts) → GoodOf limits W n (take (suc k) (m.spot ∷ ts))
   good_behind n k ts l x = record { read = m ∷ x.read; rest = x.rest; tree = g x.tree; rule = sound (x.read ++ x.rest) x.tree x.rule; is = ap (λ u. m.spot ∷ u) x.is; keeps = (l, x.keeps) }
 
-  pub behind_first : (spots : List Spot) (at : ℕ) → at < length spots → AllInLimitsOf limits 7 m.parts → drop at spots ≡ m.spot ∷ drop (at + 1) spots → token_at spots (at + 1) ≡ o → Leaves limits W FW V FV g spots at (at + 1)
+  pub behind_first : (spots : List Spot) (at : ℕ) → at < length spots → AllInLimitsOf limits 7 m.parts → drop at spots ≡ m.spot ∷ drop (at + 1) spots → token_at spots (at + 1) ≡ o
+      → Leaves limits W FW V FV g spots at (at + 1)
   behind_first spots at lt l d e =
       let ts = drop (at + 1) spots in
       let f : first_of ts ≡ o = next_is spots (at + 1) ∙ e in
@@ -59,7 +62,8 @@ module _ (limits : Limits) {A B : Type 0} {W : List Marked → A → Type 0} {FW
         is = d;
         keeps = (l, tt);
         sound = sound;
-        only = λ b i p. let c : suc i ≡ at + 1 - at + i = omega arith in subst (λ h. Only limits W FW (g b) h (drop at spots)) c (subst (Only limits W FW (g b) (suc i)) (sym d) (only_behind b i ts f p));
+        only = λ b i p. let c : suc i ≡ at + 1 - at + i = omega arith in subst (λ h. Only limits W FW (g b) h (drop at spots)) c
+            (subst (Only limits W FW (g b) (suc i)) (sym d) (only_behind b i ts f p));
         stops = λ n k h s. let c : suc k ≡ at + 1 - at + k = omega arith in subst (Stops limits W FW n (drop at spots)) c (subst (λ u. Stops limits W FW n u (suc k)) (sym d) (record {
           within = omega (arith, s.within);
           token = λ u. omega (arith, s.token u);

@@ -66,7 +66,8 @@ place_of P [] h = absurd h
 place_of P (x ∷ w) h = (x.spot.at, refl)
 
 -- one token with these parts, read of a part
-with_token : (limits : Limits) → {A : Type 0} {R : List Marked → A → Type 0} (m : ℕ) (ps : List Part) (x : Token) (p : Place) (ts : List Spot) (rest : List Marked) (a : A) → AllInLimitsOf limits m ps → R (opens ps x p ∷ rest) a → GoodOf limits R m (take 1 (record { token = x; at = p } ∷ ts))
+with_token : (limits : Limits) → {A : Type 0} {R : List Marked → A → Type 0} (m : ℕ) (ps : List Part) (x : Token) (p : Place) (ts : List Spot) (rest : List Marked) (a : A) → AllInLimitsOf limits m ps
+    → R (opens ps x p ∷ rest) a → GoodOf limits R m (take 1 (record { token = x; at = p } ∷ ts))
 with_token limits m ps x p ts rest a k r = record { read = opens ps x p ∷ []; rest = rest; tree = a; rule = r; is = refl; keeps = (k, tt) }
 
 name_with : (limits : Limits) (m d : ℕ) (n : List ℕ) (p : Place) (ts : List Spot) → GoodOf limits (Assignment d) m (take 1 (record { token = token.Name n; at = p } ∷ ts))
@@ -105,7 +106,14 @@ module _ (limits : Limits) (m : ℕ) (low : m < 5) (actor : Bool) (d : ℕ) (c :
       let e : w ≡ (g.read ++ g.rest) ++ name_at a_name ∷ [] = sym (append_assoc g.read g.rest (name_at a_name ∷ [])) in
       let s = place_of TypeToken w (starts_is TypeToken (g.read ++ g.rest) _ e (type_starts g.rule)) in
       let i : IntoTree = record { state = false; ty = g.tree; name = a_name } in
-      record { read = g.read; rest = g.rest ++ name_at a_name ∷ []; tree = record { body = DeclareStmt s.0 i None End; counts = c; ends_if = false }; rule = (s.0, declare s.0 (declared a_name [] (g.read ++ g.rest) no_state g.rule e) s.1, refl); is = g.is; keeps = g.keeps }
+      record {
+        read = g.read;
+        rest = g.rest ++ name_at a_name ∷ [];
+        tree = record { body = DeclareStmt s.0 i None End; counts = c; ends_if = false };
+        rule = (s.0, declare s.0 (declared a_name [] (g.read ++ g.rest) no_state g.rule e) s.1, refl);
+        is = g.is;
+        keeps = g.keeps;
+      }
 
   init_name : (n : List ℕ) (p : Place) (ts : List Spot) → GoodOf limits (Init actor d c) m (take 1 (record { token = token.Name n; at = p } ∷ ts))
   init_name n p ts =
@@ -146,7 +154,8 @@ module _ (limits : Limits) (m : ℕ) (low : m < 5) (actor : Bool) (d : ℕ) (c :
   }
 
   -- a statement that begins with a word of its own
-  word_with : (k : Word) (p : Place) (ts : List Spot) (rest : List Marked) (a : Out) → Plain actor d c (word_at k p ∷ rest) a → GoodOf limits (Plain actor d c) m (take 1 (record { token = token.Word k; at = p } ∷ ts))
+  word_with : (k : Word) (p : Place) (ts : List Spot) (rest : List Marked) (a : Out) → Plain actor d c (word_at k p ∷ rest) a
+      → GoodOf limits (Plain actor d c) m (take 1 (record { token = token.Word k; at = p } ∷ ts))
   word_with k p ts rest a r = with_token limits m [] (token.Word k) p ts rest a tt r
 
   plain_word : (k : Word) (p : Place) (ts : List Spot) → StmtWord k → GoodOf limits (Plain actor d c) m (take 1 (record { token = token.Word k; at = p } ∷ ts))
@@ -157,10 +166,12 @@ module _ (limits : Limits) (m : ℕ) (low : m < 5) (actor : Bool) (d : ℕ) (c :
   plain_word word.While p ts h =
       let e = some_expr (suc d) in
       let b = some_body actor (suc d) c in
-      word_with word.While p ts _ (record { body = WhileStmt p e.tree b.tree.body End; counts = b.tree.counts; ends_if = b.tree.ends_if }) (p, while_stmt p nowhere nowhere e.marked b.marked e.rule b.rule refl)
+      word_with word.While p ts _ (record { body = WhileStmt p e.tree b.tree.body End; counts = b.tree.counts; ends_if = b.tree.ends_if })
+      (p, while_stmt p nowhere nowhere e.marked b.marked e.rule b.rule refl)
   plain_word word.For p ts h =
       let b = some_body actor (suc d) c in
-      word_with word.For p ts _ (record { body = ForStmt p End None End b.tree.body End; counts = b.tree.counts; ends_if = b.tree.ends_if }) (p, for_stmt p nowhere nowhere nowhere nowhere [] [] [] b.marked no_init no_expr no_step b.rule refl)
+      word_with word.For p ts _ (record { body = ForStmt p End None End b.tree.body End; counts = b.tree.counts; ends_if = b.tree.ends_if })
+      (p, for_stmt p nowhere nowhere nowhere nowhere [] [] [] b.marked no_init no_expr no_step b.rule refl)
   plain_word word.Loop p ts h =
       let b = some_body actor (suc d) c in
       word_with word.Loop p ts b.marked (record { body = LoopStmt p b.tree.body End; counts = b.tree.counts; ends_if = b.tree.ends_if }) (p, loop_stmt p b.marked b.rule refl)
@@ -172,16 +183,19 @@ module _ (limits : Limits) (m : ℕ) (low : m < 5) (actor : Bool) (d : ℕ) (c :
   plain_word word.Throw p ts h = word_with word.Throw p ts _ (record { body = ThrowStmt p None End; counts = c; ends_if = false }) (p, throw_stmt p nowhere [] no_expr refl)
   plain_word word.Try p ts h =
       let b = sign_at sign.OpenCurly nowhere ∷ sign_at sign.CloseCurly nowhere ∷ [] in
-      word_with word.Try p ts _ (record { body = TryStmt p End nowhere a_name End End; counts = c; ends_if = false }) (p, try_stmt p nowhere nowhere nowhere nowhere nowhere a_name b b (braces nowhere nowhere [] no_stmts refl) (braces nowhere nowhere [] no_stmts refl) refl)
+      word_with word.Try p ts _ (record { body = TryStmt p End nowhere a_name End End; counts = c; ends_if = false })
+      (p, try_stmt p nowhere nowhere nowhere nowhere nowhere a_name b b (braces nowhere nowhere [] no_stmts refl) (braces nowhere nowhere [] no_stmts refl) refl)
   plain_word word.Choose p ts h =
       let x = some_when actor (suc d) 1 c in
       word_with word.Choose p ts _ _ (p, choose_stmt p nowhere nowhere x.marked [] (x.rule NoBranches) no_whens refl)
   plain_word word.Wait p ts h =
       let e = some_expr (suc d) in
-      word_with word.Wait p ts _ (record { body = WaitStmt p (record { into = None; next = false; operand = e.tree }) End; counts = c; ends_if = false }) (p, wait_stmt p nowhere _ (plain_wait (wait p nowhere nowhere e.marked e.rule refl)) refl refl)
+      word_with word.Wait p ts _ (record { body = WaitStmt p (record { into = None; next = false; operand = e.tree }) End; counts = c; ends_if = false })
+      (p, wait_stmt p nowhere _ (plain_wait (wait p nowhere nowhere e.marked e.rule refl)) refl refl)
   plain_word word.WaitNext p ts h =
       let e = some_expr (suc d) in
-      word_with word.WaitNext p ts _ (record { body = WaitStmt p (record { into = None; next = true; operand = e.tree }) End; counts = c; ends_if = false }) (p, wait_stmt p nowhere _ (plain_wait (wait_next p nowhere nowhere e.marked e.rule refl)) refl refl)
+      word_with word.WaitNext p ts _ (record { body = WaitStmt p (record { into = None; next = true; operand = e.tree }) End; counts = c; ends_if = false })
+      (p, wait_stmt p nowhere _ (plain_wait (wait_next p nowhere nowhere e.marked e.rule refl)) refl refl)
   plain_word word.State p ts h = init_plain _ (init_word word.State p ts tt)
   plain_word word.Int p ts h = init_plain _ (init_word word.Int p ts tt)
   plain_word word.Bool p ts h = init_plain _ (init_word word.Bool p ts tt)
@@ -204,14 +218,17 @@ module _ (limits : Limits) (m : ℕ) (low : m < 5) (actor : Bool) (d : ℕ) (c :
   plain_opens (x ∷ ts) h = plain_with x.token x.at ts h
 
   block_with : (p : Place) (ts : List Spot) → GoodOf limits (Placed (Block actor d c)) m (take 1 (record { token = token.Sign sign.OpenCurly; at = p } ∷ ts))
-  block_with p ts = with_token limits m [] (token.Sign sign.OpenCurly) p ts (sign_at sign.CloseCurly nowhere ∷ []) (p, record { body = End; counts = c; close = nowhere }) tt (refl, (p, [], no_stmts, refl))
+  block_with p ts = with_token limits m [] (token.Sign sign.OpenCurly) p ts (sign_at sign.CloseCurly nowhere ∷ []) (p, record { body = End; counts = c; close = nowhere }) tt
+      (refl, (p, [], no_stmts, refl))
 
   block_opens : (ts : List Spot) → first_of ts ≡ Some (token.Sign sign.OpenCurly) → GoodOf limits (Placed (Block actor d c)) m (take 1 ts)
   block_opens [] h = absurd (cc)
-  block_opens (x ∷ ts) h = let e : x.token ≡ token.Sign sign.OpenCurly = cc in subst (λ y. GoodOf limits (Placed (Block actor d c)) m (take 1 (record { token = y; at = x.at } ∷ ts))) (sym e) (block_with x.at ts)
+  block_opens (x ∷ ts) h = let e : x.token ≡ token.Sign sign.OpenCurly =
+      cc in subst (λ y. GoodOf limits (Placed (Block actor d c)) m (take 1 (record { token = y; at = x.at } ∷ ts))) (sym e) (block_with x.at ts)
 
 -- there can be no statement more, whichever part it is
-module _ (limits : Limits) {A : Type 0} (R : List Marked → A → Type 0) (F : A → List Marked → Type 0) (P : Token → Type 0) (begins : (w : List Marked) (b : A) → R w b → Starts P w) (any : Inhabited R) (t : Tokens) (at : ℕ) (c : Counts) (d : ℕ) (lt : at < length t.spots.items) (good : (m : ℕ) → m < 5 → GoodOf limits R m (take 1 (drop at t.spots.items))) where
+module _ (limits : Limits) {A : Type 0} (R : List Marked → A → Type 0) (F : A → List Marked → Type 0) (P : Token → Type 0) (begins : (w : List Marked) (b : A) → R w b → Starts P w) (any : Inhabited R)
+    (t : Tokens) (at : ℕ) (c : Counts) (d : ℕ) (lt : at < length t.spots.items) (good : (m : ℕ) → m < 5 → GoodOf limits R m (take 1 (drop at t.spots.items))) where
   marks_begin : (w : List Marked) (b : A) → Marks (Node d) R w b → Starts P w
   marks_begin w b r = subst (Starts P) (sym r.2) (still r.0 (begins r.0 b r.1))
     where
@@ -220,15 +237,18 @@ module _ (limits : Limits) {A : Type 0} (R : List Marked → A → Type 0) (F : 
       still (x ∷ xs) h = h
 
   begun_of : (e : SourceFault) → Fails limits (Marks (Statement (suc c.statements)) (Marks (Node d) R)) F t at e → Fails limits (Begun c d R) F t at e
-  begun_of e a = let h : at ≤ length t.spots.items = omega (arith, lt) in fails limits t (narrow limits t.spots.items refl (begun_turns R F c d (token_at t.spots.items at)) (nothing limits t.spots.items (Begun c d R) F at h)) e a
+  begun_of e a = let h : at ≤ length t.spots.items = omega (arith, lt) in fails limits t
+      (narrow limits t.spots.items refl (begun_turns R F c d (token_at t.spots.items at)) (nothing limits t.spots.items (Begun c d R) F at h)) e a
 
   too_many : limits.statements ≤ c.statements → Fails limits (Begun c d R) F t at (Refused (rule.L 4) (place_at t at))
-  too_many h = begun_of (Refused (rule.L 4) (place_at t at)) (beyond_fails limits (Marks (Node d) R) F (Statement (suc c.statements)) 4 t at (omega arith) (omega arith) lt (λ k. omega (arith, h, k (omega arith))) (λ m l i. absurd (omega (arith, l, i))) P marks_begin
+  too_many h = begun_of (Refused (rule.L 4) (place_at t at)) (beyond_fails limits (Marks (Node d) R) F (Statement (suc c.statements)) 4 t at (omega arith) (omega arith) lt
+      (λ k. omega (arith, h, k (omega arith))) (λ m l i. absurd (omega (arith, l, i))) P marks_begin
       (record { marked = begin (Node d) any.marked; tree = any.tree; rule = (any.marked, any.rule, refl) })
       (λ m l. good_marks limits R F (Node d) m (take 1 (drop at t.spots.items)) (λ i. absurd (omega (arith, l, i))) (good m (omega (arith, l)))))
 
   too_deep : c.statements < limits.statements → 64 < d → Fails limits (Begun c d R) F t at (Refused (rule.L 5) (place_at t at))
-  too_deep f h = begun_of (Refused (rule.L 5) (place_at t at)) (marks_fails limits (Marks (Node d) R) F (Statement (suc c.statements)) t at (λ m l i. omega (arith, f)) (Refused (rule.L 5) (place_at t at))
+  too_deep f h = begun_of (Refused (rule.L 5) (place_at t at)) (marks_fails limits (Marks (Node d) R) F (Statement (suc c.statements)) t at (λ m l i. omega (arith, f))
+      (Refused (rule.L 5) (place_at t at))
       (beyond_fails limits R F (Node d) 5 t at (omega arith) (omega arith) lt (λ k. omega (arith, h, k (omega arith))) (λ m l i. absurd (omega (arith, l, i))) P begins any good))
 
   begun_beyond : (e : SourceFault) → Beyond limits c d (place_at t at) e → Fails limits (Begun c d R) F t at e
@@ -248,28 +268,41 @@ no_brace (Some (token.Sign sign.OpenCurly)) h n = absurd (n refl)
 no_brace (Some (token.Sign _)) h n = absurd h
 
 module _ (limits : Limits) (t : Tokens) (at : ℕ) (actor : Bool) (d : ℕ) (c : Counts) where
-  plain_beyond : at < length t.spots.items → AsFirst PlainToken (token_at t.spots.items at) → (e : SourceFault) → Beyond limits c d (place_at t at) e → Fails limits (Begun c d (Plain actor d (one_statement c))) NoElse t at e
-  plain_beyond lt f e h = begun_beyond limits (Plain actor d (one_statement c)) NoElse PlainToken (λ w b r. plain_starts r.1) (some_plain actor d (one_statement c)) t at c d lt (λ m l. plain_opens limits m l actor d (one_statement c) (drop at t.spots.items) (subst (AsFirst PlainToken) (sym (next_is t.spots.items at)) f)) e h
+  plain_beyond : at < length t.spots.items → AsFirst PlainToken (token_at t.spots.items at) → (e : SourceFault) → Beyond limits c d (place_at t at) e
+      → Fails limits (Begun c d (Plain actor d (one_statement c))) NoElse t at e
+  plain_beyond lt f e h = begun_beyond limits (Plain actor d (one_statement c)) NoElse PlainToken (λ w b r. plain_starts r.1) (some_plain actor d (one_statement c)) t at c d lt
+      (λ m l. plain_opens limits m l actor d (one_statement c) (drop at t.spots.items) (subst (AsFirst PlainToken) (sym (next_is t.spots.items at)) f)) e h
 
-  pub init_beyond : at < length t.spots.items → AsFirst IntoToken (token_at t.spots.items at) → (e : SourceFault) → Beyond limits c d (place_at t at) e → Fails limits (Begun c d (Init actor d (one_statement c))) (Before (token.Sign sign.Semicolon)) t at e
-  init_beyond lt f e h = begun_beyond limits (Init actor d (one_statement c)) (Before (token.Sign sign.Semicolon)) IntoToken (λ w b r. init_intos r.1) (some_init actor d (one_statement c)) t at c d lt (λ m l. init_opens limits m l actor d (one_statement c) (drop at t.spots.items) (subst (AsFirst IntoToken) (sym (next_is t.spots.items at)) f)) e h
+  pub init_beyond : at < length t.spots.items → AsFirst IntoToken (token_at t.spots.items at) → (e : SourceFault) → Beyond limits c d (place_at t at) e
+      → Fails limits (Begun c d (Init actor d (one_statement c))) (Before (token.Sign sign.Semicolon)) t at e
+  init_beyond lt f e h = begun_beyond limits (Init actor d (one_statement c)) (Before (token.Sign sign.Semicolon)) IntoToken (λ w b r. init_intos r.1) (some_init actor d (one_statement c)) t at c d lt
+      (λ m l. init_opens limits m l actor d (one_statement c) (drop at t.spots.items) (subst (AsFirst IntoToken) (sym (next_is t.spots.items at)) f)) e h
 
-  block_beyond : at < length t.spots.items → token_at t.spots.items at ≡ Some (token.Sign sign.OpenCurly) → (e : SourceFault) → Beyond limits c d (place_at t at) e → Fails limits (Begun c d (Placed (Block actor (suc d) (one_statement c)))) Any t at e
+  block_beyond : at < length t.spots.items → token_at t.spots.items at ≡ Some (token.Sign sign.OpenCurly) → (e : SourceFault) → Beyond limits c d (place_at t at) e
+      → Fails limits (Begun c d (Placed (Block actor (suc d) (one_statement c)))) Any t at e
   block_beyond lt f e h =
-      (begun_beyond limits) (Placed (Block actor (suc d) (one_statement c))) Any StmtToken (λ w b r. subst (Starts StmtToken) (sym r.1.3) tt) (record { marked = sign_at sign.OpenCurly nowhere ∷ sign_at sign.CloseCurly nowhere ∷ []; tree = (nowhere, record { body = End; counts = one_statement c; close = nowhere }); rule = (refl, (nowhere, [], no_stmts, refl)) }) t at c d lt (λ m l. block_opens limits m l actor (suc d) (one_statement c) (drop at t.spots.items) (next_is t.spots.items at ∙ f)) e h
+      (begun_beyond limits) (Placed (Block actor (suc d) (one_statement c))) Any StmtToken (λ w b r. subst (Starts StmtToken) (sym r.1.3) tt)
+      (record {
+        marked = sign_at sign.OpenCurly nowhere ∷ sign_at sign.CloseCurly nowhere ∷ [];
+        tree = (nowhere, record { body = End; counts = one_statement c; close = nowhere });
+        rule = (refl, (nowhere, [], no_stmts, refl));
+      }) t at c d lt (λ m l. block_opens limits m l actor (suc d) (one_statement c) (drop at t.spots.items) (next_is t.spots.items at ∙ f)) e h
 
   pub one_beyond : at < length t.spots.items → AsFirst StmtToken (token_at t.spots.items at) → (e : SourceFault) → Beyond limits c d (place_at t at) e → Fails limits (One actor d c) NoElse t at e
   one_beyond lt f e h =
       let k : at ≤ length t.spots.items = omega (arith, lt) in
       elim (at_open_curly (token_at t.spots.items at)) [
         | inl x ↦ fails limits t (narrow limits t.spots.items x (one_block actor d c) (nothing limits t.spots.items (One actor d c) NoElse at k)) e (block_beyond lt x e h)
-        | inr n ↦ fails limits t (narrow limits t.spots.items refl (one_plain actor d c (token_at t.spots.items at) n) (nothing limits t.spots.items (One actor d c) NoElse at k)) e (plain_beyond lt (no_brace (token_at t.spots.items at) f n) e h)
+        | inr n ↦ fails limits t (narrow limits t.spots.items refl (one_plain actor d c (token_at t.spots.items at) n) (nothing limits t.spots.items (One actor d c) NoElse at k)) e
+            (plain_beyond lt (no_brace (token_at t.spots.items at) f n) e h)
       ]
 
-  pub body_beyond : at < length t.spots.items → AsFirst StmtToken (token_at t.spots.items at) → (token_at t.spots.items at ≡ Some (token.Sign sign.OpenCurly) → ⊥) → (e : SourceFault) → Beyond limits c d (place_at t at) e → Fails limits (BodyPart actor d c) NoElse t at e
+  pub body_beyond : at < length t.spots.items → AsFirst StmtToken (token_at t.spots.items at) → (token_at t.spots.items at ≡ Some (token.Sign sign.OpenCurly) → ⊥) → (e : SourceFault)
+      → Beyond limits c d (place_at t at) e → Fails limits (BodyPart actor d c) NoElse t at e
   body_beyond lt f n e h =
       let k : at ≤ length t.spots.items = omega (arith, lt) in
-      (fails limits) t (narrow limits t.spots.items refl (body_plain actor d c (token_at t.spots.items at) n) (nothing limits t.spots.items (BodyPart actor d c) NoElse at k)) e (plain_beyond lt (no_brace (token_at t.spots.items at) f n) e h)
+      (fails limits) t (narrow limits t.spots.items refl (body_plain actor d c (token_at t.spots.items at) n) (nothing limits t.spots.items (BodyPart actor d c) NoElse at k)) e
+      (plain_beyond lt (no_brace (token_at t.spots.items at) f n) e h)
 
   -- where none begins
   pub one_none : (AsFirst StmtToken (token_at t.spots.items at) → ⊥) → Fails limits (One actor d c) NoElse t at (Refused (rule.S 5) (place_at t at))
@@ -282,22 +315,30 @@ module _ (limits : Limits) (t : Tokens) (at : ℕ) (actor : Bool) (d : ℕ) (c :
   pub body_none : (AsFirst StmtToken (token_at t.spots.items at) → ⊥) → Fails limits (BodyPart actor d c) NoElse t at (Refused (rule.S 5) (place_at t at))
   body_none n = none_fails limits (BodyPart actor d c) NoElse t at (some_body actor d c) (λ w z b r f l. n (starts_looks StmtToken w z (token_at t.spots.items at) (body_starts r) l))
 
-  pub init_none : (AsFirst IntoToken (token_at t.spots.items at) → ⊥) → Fails limits (Begun c d (Init actor d (one_statement c))) (Before (token.Sign sign.Semicolon)) t at (Refused (rule.S 5) (place_at t at))
-  init_none n = none_fails limits (Begun c d (Init actor d (one_statement c))) (Before (token.Sign sign.Semicolon)) t at (some_begun (Init actor d (one_statement c)) c d (some_init actor d (one_statement c))) (λ w z b r f l. n (starts_looks IntoToken w z (token_at t.spots.items at) (subst (Starts IntoToken) (sym r.2) (starts_begun IntoToken c d r.0 (init_intos r.1.1))) l))
+  pub init_none : (AsFirst IntoToken (token_at t.spots.items at) → ⊥)
+      → Fails limits (Begun c d (Init actor d (one_statement c))) (Before (token.Sign sign.Semicolon)) t at (Refused (rule.S 5) (place_at t at))
+  init_none n = none_fails limits (Begun c d (Init actor d (one_statement c))) (Before (token.Sign sign.Semicolon)) t at
+      (some_begun (Init actor d (one_statement c)) c d (some_init actor d (one_statement c)))
+      (λ w z b r f l. n (starts_looks IntoToken w z (token_at t.spots.items at) (subst (Starts IntoToken) (sym r.2) (starts_begun IntoToken c d r.0 (init_intos r.1.1))) l))
 
 module _ (limits : Limits) (t : Tokens) (at d : ℕ) (c : Counts) where
-  pub step_beyond : at < length t.spots.items → AsFirst NameToken (token_at t.spots.items at) → (e : SourceFault) → Beyond limits c d (place_at t at) e → Fails limits (Begun c d (Assignment d)) ExprEnds t at e
-  step_beyond lt f e h = begun_beyond limits (Assignment d) ExprEnds NameToken (λ w b r. assign_names r.1) (some_assignment d) t at c d lt (λ m l. assignment_opens limits m d (drop at t.spots.items) (subst (AsFirst NameToken) (sym (next_is t.spots.items at)) f)) e h
+  pub step_beyond : at < length t.spots.items → AsFirst NameToken (token_at t.spots.items at) → (e : SourceFault) → Beyond limits c d (place_at t at) e
+      → Fails limits (Begun c d (Assignment d)) ExprEnds t at e
+  step_beyond lt f e h = begun_beyond limits (Assignment d) ExprEnds NameToken (λ w b r. assign_names r.1) (some_assignment d) t at c d lt
+      (λ m l. assignment_opens limits m d (drop at t.spots.items) (subst (AsFirst NameToken) (sym (next_is t.spots.items at)) f)) e h
 
   pub step_none : (AsFirst NameToken (token_at t.spots.items at) → ⊥) → Fails limits (Begun c d (Assignment d)) ExprEnds t at (Refused (rule.S 5) (place_at t at))
-  step_none n = none_fails limits (Begun c d (Assignment d)) ExprEnds t at (some_begun (Assignment d) c d (some_assignment d)) (λ w z b r f l. n (starts_looks NameToken w z (token_at t.spots.items at) (subst (Starts NameToken) (sym r.2) (starts_begun NameToken c d r.0 (assign_names r.1.1))) l))
+  step_none n = none_fails limits (Begun c d (Assignment d)) ExprEnds t at (some_begun (Assignment d) c d (some_assignment d))
+      (λ w z b r f l. n (starts_looks NameToken w z (token_at t.spots.items at) (subst (Starts NameToken) (sym r.2) (starts_begun NameToken c d r.0 (assign_names r.1.1))) l))
 
 -- another token stands here
-pub opening_none : (limits : Limits) (ps : List Part) (x : Token) (t : Tokens) (at : ℕ) → (token_at t.spots.items at ≡ Some x → ⊥) → Fails limits (Opening ps x) Any t at (Refused (rule.S 5) (place_at t at))
+pub opening_none : (limits : Limits) (ps : List Part) (x : Token) (t : Tokens) (at : ℕ) → (token_at t.spots.items at ≡ Some x → ⊥)
+    → Fails limits (Opening ps x) Any t at (Refused (rule.S 5) (place_at t at))
 opening_none limits ps x t at n = none_fails limits (Opening ps x) Any t at (some_opening ps x) (λ w z b r f l. n (looks_is (token_at t.spots.items at) (opens ps x b) [] z r l))
 
 -- no statement with a word of its own stands here
-pub no_keyword : (o : Option Token) → (o ≡ Some (token.Word word.If) → ⊥) → (o ≡ Some (token.Word word.While) → ⊥) → (o ≡ Some (token.Word word.For) → ⊥) → (o ≡ Some (token.Word word.Loop) → ⊥) → (o ≡ Some (token.Word word.Try) → ⊥) → (o ≡ Some (token.Word word.Choose) → ⊥)
+pub no_keyword : (o : Option Token) → (o ≡ Some (token.Word word.If) → ⊥) → (o ≡ Some (token.Word word.While) → ⊥) → (o ≡ Some (token.Word word.For) → ⊥) → (o ≡ Some (token.Word word.Loop) → ⊥)
+    → (o ≡ Some (token.Word word.Try) → ⊥) → (o ≡ Some (token.Word word.Choose) → ⊥)
     → (o ≡ Some (token.Word word.Return) → ⊥) → (o ≡ Some (token.Word word.Throw) → ⊥) → (o ≡ Some (token.Word word.Break) → ⊥) → (o ≡ Some (token.Word word.Continue) → ⊥) → Keyword o → ⊥
 no_keyword o i w f l t c r h b n k = by_word k.0 k.1 k.2
   where

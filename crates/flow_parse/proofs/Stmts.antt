@@ -107,8 +107,10 @@ module _ (actor : Bool) (d : ℕ) (c : Counts) where
   pub for_open : Link (Tok (token.Sign sign.OpenRound)) Any (λ q. Then (StartPart actor d c) (λ a. Then (MaybeExpr d) (λ e. Then (NextPart d a.1) (λ b. BodyPart actor d b.1)))) (λ x. NoElse x.1.1.1.1)
   for_open = free (λ q. some_then (StartPart actor d c) (λ a. Then (MaybeExpr d) (λ e. Then (NextPart d a.1) (λ b. BodyPart actor d b.1))) (some_start actor d c) start_test.more)
 
-  pub for_word : Link (Tok (token.Word word.For)) Any (λ p. Then (Tok (token.Sign sign.OpenRound)) (λ q. Then (StartPart actor d c) (λ a. Then (MaybeExpr d) (λ e. Then (NextPart d a.1) (λ b. BodyPart actor d b.1))))) (λ x. NoElse x.1.1.1.1.1)
-  for_word = free (λ p. some_then (Tok (token.Sign sign.OpenRound)) (λ q. Then (StartPart actor d c) (λ a. Then (MaybeExpr d) (λ e. Then (NextPart d a.1) (λ b. BodyPart actor d b.1)))) (some_opening [] (token.Sign sign.OpenRound)) for_open.more)
+  pub for_word : Link (Tok (token.Word word.For)) Any (λ p. Then (Tok (token.Sign sign.OpenRound))
+      (λ q. Then (StartPart actor d c) (λ a. Then (MaybeExpr d) (λ e. Then (NextPart d a.1) (λ b. BodyPart actor d b.1))))) (λ x. NoElse x.1.1.1.1.1)
+  for_word = free (λ p. some_then (Tok (token.Sign sign.OpenRound)) (λ q. Then (StartPart actor d c) (λ a. Then (MaybeExpr d) (λ e. Then (NextPart d a.1) (λ b. BodyPart actor d b.1))))
+      (some_opening [] (token.Sign sign.OpenRound)) for_open.more)
 
   pub try_inner : Link (Block actor d c) Any (λ o. Then Catch (λ x. Block actor d o.counts)) Any
   try_inner = free (λ o. some_then Catch (λ x. Block actor d o.counts) some_catch (λ x. some_block actor d o.counts))
@@ -126,8 +128,10 @@ module _ (actor : Bool) (d : ℕ) (c : Counts) where
   pub when_open : Link (Tok (token.Sign sign.OpenRound)) Any (λ q. Then (WaitingPart actor d c) (λ y. Then (Tok (token.Sign sign.CloseRound)) (λ s. BodyPart actor (suc d) y.1))) (λ x. NoElse x.1.1.1)
   when_open = free (λ q. some_then (WaitingPart actor d c) (λ y. Then (Tok (token.Sign sign.CloseRound)) (λ s. BodyPart actor (suc d) y.1)) (some_waiting actor d c) when_waiting.more)
 
-  pub when_word : (n : ℕ) → Link (Opening (Branch n ∷ Node d ∷ []) (token.Word word.When)) Any (λ p. Then (Tok (token.Sign sign.OpenRound)) (λ q. Then (WaitingPart actor d c) (λ y. Then (Tok (token.Sign sign.CloseRound)) (λ s. BodyPart actor (suc d) y.1)))) (λ x. NoElse x.1.1.1.1)
-  when_word n = free (λ p. some_then (Tok (token.Sign sign.OpenRound)) (λ q. Then (WaitingPart actor d c) (λ y. Then (Tok (token.Sign sign.CloseRound)) (λ s. BodyPart actor (suc d) y.1))) (some_opening [] (token.Sign sign.OpenRound)) when_open.more)
+  pub when_word : (n : ℕ) → Link (Opening (Branch n ∷ Node d ∷ []) (token.Word word.When)) Any
+      (λ p. Then (Tok (token.Sign sign.OpenRound)) (λ q. Then (WaitingPart actor d c) (λ y. Then (Tok (token.Sign sign.CloseRound)) (λ s. BodyPart actor (suc d) y.1)))) (λ x. NoElse x.1.1.1.1)
+  when_word n = free (λ p. some_then (Tok (token.Sign sign.OpenRound)) (λ q. Then (WaitingPart actor d c) (λ y. Then (Tok (token.Sign sign.CloseRound)) (λ s. BodyPart actor (suc d) y.1)))
+      (some_opening [] (token.Sign sign.OpenRound)) when_open.more)
 
 -- the parts of a `catch`
 pub catch_name : Link Named Any (λ x. Tok (token.Sign sign.CloseRound)) Any
@@ -139,11 +143,16 @@ catch_amp = free (λ s. some_then Named (λ x. Tok (token.Sign sign.CloseRound))
 pub catch_error : Link (Tok (token.Word word.Error)) Any (λ r. Then (Tok (token.Sign sign.Amp)) (λ s. Then Named (λ x. Tok (token.Sign sign.CloseRound)))) Any
 catch_error = free (λ r. some_then (Tok (token.Sign sign.Amp)) (λ s. Then Named (λ x. Tok (token.Sign sign.CloseRound))) (some_opening [] (token.Sign sign.Amp)) catch_amp.more)
 
-pub catch_open : Link (Tok (token.Sign sign.OpenRound)) Any (λ q. Then (Tok (token.Word word.Error)) (λ r. Then (Tok (token.Sign sign.Amp)) (λ s. Then Named (λ x. Tok (token.Sign sign.CloseRound))))) Any
-catch_open = free (λ q. some_then (Tok (token.Word word.Error)) (λ r. Then (Tok (token.Sign sign.Amp)) (λ s. Then Named (λ x. Tok (token.Sign sign.CloseRound)))) (some_opening [] (token.Word word.Error)) catch_error.more)
+pub catch_open : Link (Tok (token.Sign sign.OpenRound)) Any (λ q. Then (Tok (token.Word word.Error)) (λ r. Then (Tok (token.Sign sign.Amp)) (λ s. Then Named (λ x. Tok (token.Sign sign.CloseRound)))))
+    Any
+catch_open = free (λ q. some_then (Tok (token.Word word.Error)) (λ r. Then (Tok (token.Sign sign.Amp)) (λ s. Then Named (λ x. Tok (token.Sign sign.CloseRound))))
+    (some_opening [] (token.Word word.Error)) catch_error.more)
 
-pub catch_word : Link (Tok (token.Word word.Catch)) Any (λ p. Then (Tok (token.Sign sign.OpenRound)) (λ q. Then (Tok (token.Word word.Error)) (λ r. Then (Tok (token.Sign sign.Amp)) (λ s. Then Named (λ x. Tok (token.Sign sign.CloseRound)))))) Any
-catch_word = free (λ p. some_then (Tok (token.Sign sign.OpenRound)) (λ q. Then (Tok (token.Word word.Error)) (λ r. Then (Tok (token.Sign sign.Amp)) (λ s. Then Named (λ x. Tok (token.Sign sign.CloseRound))))) (some_opening [] (token.Sign sign.OpenRound)) catch_open.more)
+pub catch_word : Link (Tok (token.Word word.Catch)) Any (λ p. Then (Tok (token.Sign sign.OpenRound))
+    (λ q. Then (Tok (token.Word word.Error)) (λ r. Then (Tok (token.Sign sign.Amp)) (λ s. Then Named (λ x. Tok (token.Sign sign.CloseRound)))))) Any
+catch_word = free (λ p. some_then (Tok (token.Sign sign.OpenRound))
+    (λ q. Then (Tok (token.Word word.Error)) (λ r. Then (Tok (token.Sign sign.Amp)) (λ s. Then Named (λ x. Tok (token.Sign sign.CloseRound)))))
+    (some_opening [] (token.Sign sign.OpenRound)) catch_open.more)
 
 -- an `if`, with its `else` or without one
 if_forth : (actor : Bool) (d : ℕ) (c : Counts) (w : List Marked) (p : Place) (e : ExprTree) (o : Out) (m : Option Out) → IfParts actor d c w (p, (e, (o, m))) → Plain actor d c w (if_out p e o m)
@@ -158,22 +167,30 @@ if_forth actor d c w p e o (Some u) r =
     (p, if_else_stmt p k.0 k.1 b.back.1 k.2 b.first b.back.2 k.3 then b.back.3 (behind r.is r.front (in_brackets k.2 _ r.back.is k.4 (glue b.first b.is b.back.4))))
 
 module _ (limits : Limits) (t : Tokens) (at : ℕ) (actor : Bool) (d : ℕ) (c : Counts) (h : at ≤ length t.spots.items) where
-  pub if_left : token_at t.spots.items at ≡ Some (token.Word word.If) → Leaves limits (Plain actor d c) NoElse (IfParts actor d c) (λ x. ElseFollow x.1.1.1) (λ x. if_out x.0 x.1.0 x.1.1.0 x.1.1.1) t.spots.items at at
-  if_left e = narrow limits t.spots.items e (record { back = λ w z b r f l. if_back z (keyword_back z word.If (λ h. h) r.1 l) f; forth = λ w x r. if_forth actor d c w x.0 x.1.0 x.1.1.0 x.1.1.1 r }) (nothing limits t.spots.items (Plain actor d c) NoElse at h)
+  pub if_left : token_at t.spots.items at ≡ Some (token.Word word.If)
+      → Leaves limits (Plain actor d c) NoElse (IfParts actor d c) (λ x. ElseFollow x.1.1.1) (λ x. if_out x.0 x.1.0 x.1.1.0 x.1.1.1) t.spots.items at at
+  if_left e = narrow limits t.spots.items e (record { back = λ w z b r f l. if_back z (keyword_back z word.If (λ h. h) r.1 l) f; forth = λ w x r. if_forth actor d c w x.0 x.1.0 x.1.1.0 x.1.1.1 r })
+      (nothing limits t.spots.items (Plain actor d c) NoElse at h)
 
-  pub while_left : token_at t.spots.items at ≡ Some (token.Word word.While) → Leaves limits (Plain actor d c) NoElse (Then (Tok (token.Word word.While)) (λ p. Then (Test (suc d)) (λ e. BodyPart actor (suc d) c))) (λ x. NoElse x.1.1) (λ x. with (WhileStmt x.0 x.1.0 x.1.1.body End) x.1.1) t.spots.items at at
+  pub while_left : token_at t.spots.items at ≡ Some (token.Word word.While)
+      → Leaves limits (Plain actor d c) NoElse (Then (Tok (token.Word word.While)) (λ p. Then (Test (suc d)) (λ e. BodyPart actor (suc d) c))) (λ x. NoElse x.1.1)
+      (λ x. with (WhileStmt x.0 x.1.0 x.1.1.body End) x.1.1) t.spots.items at at
   while_left e = narrow limits t.spots.items e (record {
     back = λ w z b r f l. let q = keyword_back z word.While (λ h. h) r.1 l in record { tree = q.tree; rule = q.rule; is = q.is; follows = else_as b q.tree.1.1 z (ap (λ v. v.ends_if) q.is) f };
     forth = λ u x r. (x.0, while_stmt x.0 r.back.front.0 r.back.front.1 r.back.front.2 r.back.rest r.back.front.3 r.back.back (behind r.is r.front (in_brackets _ _ r.back.is r.back.front.4 refl)));
   }) (nothing limits t.spots.items (Plain actor d c) NoElse at h)
 
-  pub loop_left : token_at t.spots.items at ≡ Some (token.Word word.Loop) → Leaves limits (Plain actor d c) NoElse (Then (Tok (token.Word word.Loop)) (λ p. BodyPart actor (suc d) c)) (λ x. NoElse x.1) (λ x. with (LoopStmt x.0 x.1.body End) x.1) t.spots.items at at
+  pub loop_left : token_at t.spots.items at ≡ Some (token.Word word.Loop)
+      → Leaves limits (Plain actor d c) NoElse (Then (Tok (token.Word word.Loop)) (λ p. BodyPart actor (suc d) c)) (λ x. NoElse x.1) (λ x. with (LoopStmt x.0 x.1.body End) x.1) t.spots.items at at
   loop_left e = narrow limits t.spots.items e (record {
     back = λ w z b r f l. let q = keyword_back z word.Loop (λ h. h) r.1 l in record { tree = q.tree; rule = q.rule; is = q.is; follows = else_as b q.tree.1 z (ap (λ v. v.ends_if) q.is) f };
     forth = λ u x r. (x.0, loop_stmt x.0 r.rest r.back (behind r.is r.front refl));
   }) (nothing limits t.spots.items (Plain actor d c) NoElse at h)
 
-  pub for_left : token_at t.spots.items at ≡ Some (token.Word word.For) → Leaves limits (Plain actor d c) NoElse (Then (Tok (token.Word word.For)) (λ p. Then (Tok (token.Sign sign.OpenRound)) (λ q. Then (StartPart actor (suc d) c) (λ a. Then (MaybeExpr (suc d)) (λ e. Then (NextPart (suc d) a.1) (λ b. BodyPart actor (suc d) b.1)))))) (λ x. NoElse x.1.1.1.1.1)
+  pub for_left : token_at t.spots.items at ≡ Some (token.Word word.For)
+      → Leaves limits (Plain actor d c) NoElse (Then (Tok (token.Word word.For))
+      (λ p. Then (Tok (token.Sign sign.OpenRound)) (λ q. Then (StartPart actor (suc d) c) (λ a. Then (MaybeExpr (suc d)) (λ e. Then (NextPart (suc d) a.1) (λ b. BodyPart actor (suc d) b.1))))))
+      (λ x. NoElse x.1.1.1.1.1)
       (λ x. with (ForStmt x.0 x.1.1.0.0 x.1.1.1.0 x.1.1.1.1.0.0 x.1.1.1.1.1.body End) x.1.1.1.1.1) t.spots.items at at
   for_left e = narrow limits t.spots.items e (record {
     back = λ w z b r f l. let q = keyword_back z word.For (λ h. h) r.1 l in record { tree = q.tree; rule = q.rule; is = q.is; follows = else_as b q.tree.1.1.1.1.1 z (ap (λ v. v.ends_if) q.is) f };
@@ -181,43 +198,58 @@ module _ (limits : Limits) (t : Tokens) (at : ℕ) (actor : Bool) (d : ℕ) (c :
         let a = r.back.back.front in
         let e = r.back.back.back.front in
         let b = r.back.back.back.back.front in
-        let o = r.back.back.back.back in
-        (x.0, for_stmt x.0 x.1.0 a.0 e.0 b.0 a.1 e.1 b.1 o.rest a.2 e.2 b.2 o.back (behind r.is r.front (behind r.back.is r.back.front (closed_by _ _ r.back.back.is a.3 (closed_by _ _ r.back.back.back.is e.3 (closed_by _ _ o.is b.3 refl))))));
+        let o = r.back.back.back.back in (
+          x.0,
+          for_stmt x.0 x.1.0 a.0 e.0 b.0 a.1 e.1 b.1 o.rest a.2 e.2 b.2 o.back
+              (behind r.is r.front (behind r.back.is r.back.front (closed_by _ _ r.back.back.is a.3 (closed_by _ _ r.back.back.back.is e.3 (closed_by _ _ o.is b.3 refl))))),
+        );
   }) (nothing limits t.spots.items (Plain actor d c) NoElse at h)
 
-  pub break_left : token_at t.spots.items at ≡ Some (token.Word word.Break) → Leaves limits (Plain actor d c) NoElse (Then (Tok (token.Word word.Break)) (λ p. Tok (token.Sign sign.Semicolon))) Any (λ x. closed (BreakStmt x.0 End) c) t.spots.items at at
+  pub break_left : token_at t.spots.items at ≡ Some (token.Word word.Break)
+      → Leaves limits (Plain actor d c) NoElse (Then (Tok (token.Word word.Break)) (λ p. Tok (token.Sign sign.Semicolon))) Any (λ x. closed (BreakStmt x.0 End) c) t.spots.items at at
   break_left e = narrow limits t.spots.items e (record {
     back = λ w z b r f l. let q = keyword_back z word.Break (λ h. h) r.1 l in record { tree = q.tree; rule = q.rule; is = q.is; follows = tt };
     forth = λ u x r. (x.0, subst (λ z. PlainRule actor d c c z x.0 End (BreakStmt x.0 End) false) (sym (behind r.is r.front r.back)) (break_stmt x.0 x.1));
   }) (nothing limits t.spots.items (Plain actor d c) NoElse at h)
 
-  pub continue_left : token_at t.spots.items at ≡ Some (token.Word word.Continue) → Leaves limits (Plain actor d c) NoElse (Then (Tok (token.Word word.Continue)) (λ p. Tok (token.Sign sign.Semicolon))) Any (λ x. closed (ContinueStmt x.0 End) c) t.spots.items at at
+  pub continue_left : token_at t.spots.items at ≡ Some (token.Word word.Continue)
+      → Leaves limits (Plain actor d c) NoElse (Then (Tok (token.Word word.Continue)) (λ p. Tok (token.Sign sign.Semicolon))) Any (λ x. closed (ContinueStmt x.0 End) c) t.spots.items at at
   continue_left e = narrow limits t.spots.items e (record {
     back = λ w z b r f l. let q = keyword_back z word.Continue (λ h. h) r.1 l in record { tree = q.tree; rule = q.rule; is = q.is; follows = tt };
     forth = λ u x r. (x.0, subst (λ z. PlainRule actor d c c z x.0 End (ContinueStmt x.0 End) false) (sym (behind r.is r.front r.back)) (continue_stmt x.0 x.1));
   }) (nothing limits t.spots.items (Plain actor d c) NoElse at h)
 
-  pub return_left : token_at t.spots.items at ≡ Some (token.Word word.Return) → Leaves limits (Plain actor d c) NoElse (Then (Tok (token.Word word.Return)) (λ p. Then (ExprRule 0 (suc d)) (λ e. Tok (token.Sign sign.Semicolon)))) Any (λ x. closed (ReturnStmt x.0 x.1.0 End) c) t.spots.items at at
+  pub return_left : token_at t.spots.items at ≡ Some (token.Word word.Return)
+      → Leaves limits (Plain actor d c) NoElse (Then (Tok (token.Word word.Return)) (λ p. Then (ExprRule 0 (suc d)) (λ e. Tok (token.Sign sign.Semicolon)))) Any
+      (λ x. closed (ReturnStmt x.0 x.1.0 End) c) t.spots.items at at
   return_left e = narrow limits t.spots.items e (record {
     back = λ w z b r f l. let q = keyword_back z word.Return (λ h. h) r.1 l in record { tree = q.tree; rule = q.rule; is = q.is; follows = tt };
     forth = λ u x r. (x.0, return_stmt x.0 x.1.1 r.back.first r.back.front (behind r.is r.front (glue _ r.back.is r.back.back)));
   }) (nothing limits t.spots.items (Plain actor d c) NoElse at h)
 
-  pub throw_left : token_at t.spots.items at ≡ Some (token.Word word.Throw) → Leaves limits (Plain actor d c) NoElse (Then (Tok (token.Word word.Throw)) (λ p. MaybeExpr (suc d))) Any (λ x. closed (ThrowStmt x.0 x.1 End) c) t.spots.items at at
+  pub throw_left : token_at t.spots.items at ≡ Some (token.Word word.Throw)
+      → Leaves limits (Plain actor d c) NoElse (Then (Tok (token.Word word.Throw)) (λ p. MaybeExpr (suc d))) Any (λ x. closed (ThrowStmt x.0 x.1 End) c) t.spots.items at at
   throw_left e = narrow limits t.spots.items e (record {
     back = λ w z b r f l. let q = keyword_back z word.Throw (λ h. h) r.1 l in record { tree = q.tree; rule = q.rule; is = q.is; follows = tt };
     forth = λ u x r. (x.0, throw_stmt x.0 r.back.0 r.back.1 r.back.2 (behind r.is r.front r.back.3));
   }) (nothing limits t.spots.items (Plain actor d c) NoElse at h)
 
-  pub try_left : token_at t.spots.items at ≡ Some (token.Word word.Try) → Leaves limits (Plain actor d c) NoElse (Then (Tok (token.Word word.Try)) (λ p. Then (Block actor (suc d) c) (λ o. Then Catch (λ x. Block actor (suc d) o.counts)))) Any (λ x. closed (TryStmt x.0 x.1.0.body x.1.1.0.0 x.1.1.0.1 x.1.1.1.body End) x.1.1.1.counts) t.spots.items at at
+  pub try_left : token_at t.spots.items at ≡ Some (token.Word word.Try)
+      → Leaves limits (Plain actor d c) NoElse (Then (Tok (token.Word word.Try)) (λ p. Then (Block actor (suc d) c) (λ o. Then Catch (λ x. Block actor (suc d) o.counts)))) Any
+      (λ x. closed (TryStmt x.0 x.1.0.body x.1.1.0.0 x.1.1.0.1 x.1.1.1.body End) x.1.1.1.counts) t.spots.items at at
   try_left e = narrow limits t.spots.items e (record {
     back = λ w z b r f l. let q = keyword_back z word.Try (λ h. h) r.1 l in record { tree = q.tree; rule = q.rule; is = q.is; follows = tt };
     forth = λ u x r.
-        let k = r.back.back.front in
-        (x.0, try_stmt x.0 x.1.1.0.0 k.0 k.1 k.2 k.3 x.1.1.0.1 r.back.first r.back.back.rest (block_rule r.back.front) (block_rule r.back.back.back) (behind r.is r.front (glue _ r.back.is (r.back.back.is ∙ ap (λ z. z ++ r.back.back.rest) k.4))));
+        let k = r.back.back.front in (
+          x.0,
+          try_stmt x.0 x.1.1.0.0 k.0 k.1 k.2 k.3 x.1.1.0.1 r.back.first r.back.back.rest (block_rule r.back.front) (block_rule r.back.back.back)
+              (behind r.is r.front (glue _ r.back.is (r.back.back.is ∙ ap (λ z. z ++ r.back.back.rest) k.4))),
+        );
   }) (nothing limits t.spots.items (Plain actor d c) NoElse at h)
 
-  pub choose_left : token_at t.spots.items at ≡ Some (token.Word word.Choose) → Leaves limits (Plain actor d c) NoElse (Then (Tok (token.Word word.Choose)) (λ p. Then (Tok (token.Sign sign.OpenCurly)) (λ q. AllWhens actor (suc d) c))) Any (λ x. closed (ChooseStmt x.0 x.1.1.0 End) x.1.1.1) t.spots.items at at
+  pub choose_left : token_at t.spots.items at ≡ Some (token.Word word.Choose)
+      → Leaves limits (Plain actor d c) NoElse (Then (Tok (token.Word word.Choose)) (λ p. Then (Tok (token.Sign sign.OpenCurly)) (λ q. AllWhens actor (suc d) c))) Any
+      (λ x. closed (ChooseStmt x.0 x.1.1.0 End) x.1.1.1) t.spots.items at at
   choose_left e = narrow limits t.spots.items e (record {
     back = λ w z b r f l. let q = keyword_back z word.Choose (λ h. h) r.1 l in record { tree = q.tree; rule = q.rule; is = q.is; follows = tt };
     forth = λ u x r.
@@ -226,7 +258,8 @@ module _ (limits : Limits) (t : Tokens) (at : ℕ) (actor : Bool) (d : ℕ) (c :
   }) (nothing limits t.spots.items (Plain actor d c) NoElse at h)
 
   -- branches
-  pub whens_left : Leaves limits (AllWhens actor d c) Any (Then (WhenPart actor d 1 c) (λ o. WhensPart actor d 2 o.counts)) Any (λ x. (MoreBranches x.0.at x.0.waiting x.0.body x.1.0, x.1.1)) t.spots.items at at
+  pub whens_left : Leaves limits (AllWhens actor d c) Any (Then (WhenPart actor d 1 c) (λ o. WhensPart actor d 2 o.counts)) Any
+      (λ x. (MoreBranches x.0.at x.0.waiting x.0.body x.1.0, x.1.1)) t.spots.items at at
   whens_left = narrow limits t.spots.items refl (record {
     back = λ w z b r f l. all_whens_back z r;
     forth = λ u x r. (r.back.0, r.first, r.back.1, x.0.counts, x.1.0, r.front x.1.0, r.back.2, glue _ r.is r.back.3);
@@ -235,15 +268,20 @@ module _ (limits : Limits) (t : Tokens) (at : ℕ) (actor : Bool) (d : ℕ) (c :
   pub when_left : (n : ℕ) → Leaves limits (WhenPart actor d n c) (NotBefore (token.Word word.Else)) (WhenSeq actor d n c) (λ x. NoElse x.1.1.1.1) when_of t.spots.items at at
   when_left n = narrow limits t.spots.items refl (record {
     back = λ w z b r f l. when_back z r f;
-    forth = λ u x r bs. branch x.0 x.1.0 x.1.1.1.0 r.back.back.first r.back.back.back.rest r.back.back.front r.back.back.back.back (behind r.is r.front (behind r.back.is r.back.front (glue _ r.back.back.is (behind r.back.back.back.is r.back.back.back.front refl))));
+    forth = λ u x r bs. branch x.0 x.1.0 x.1.1.1.0 r.back.back.first r.back.back.back.rest r.back.back.front r.back.back.back.back
+        (behind r.is r.front (behind r.back.is r.back.front (glue _ r.back.back.is (behind r.back.back.back.is r.back.back.back.front refl))));
   }) (nothing limits t.spots.items (WhenPart actor d n c) _ at h)
 
   -- the parts of a `for`
   pub no_start : token_at t.spots.items at ≡ Some (token.Sign sign.Semicolon) → Leaves limits (StartPart actor d c) Any (Tok (token.Sign sign.Semicolon)) Any (λ p. (End, c)) t.spots.items at at
   no_start e = narrow limits t.spots.items e (record { back = λ w z b r f l. no_start_back z r l; forth = λ u p r. (p, [], no_init, r) }) (nothing limits t.spots.items (StartPart actor d c) Any at h)
 
-  pub start_left : (token_at t.spots.items at ≡ Some (token.Sign sign.Semicolon) → ⊥) → Leaves limits (StartPart actor d c) Any (Then (Begun c d (Init actor d (one_statement c))) (λ o. Tok (token.Sign sign.Semicolon))) Any (λ x. (x.0.body, x.0.counts)) t.spots.items at at
-  start_left n = narrow limits t.spots.items refl (record { back = λ w z b r f l. start_back z (token_at t.spots.items at) n r l; forth = λ u x r. (x.1, r.first, some_init r.front.1.0 r.front.0 r.front.1.1 r.front.2, glue _ r.is r.back) }) (nothing limits t.spots.items (StartPart actor d c) Any at h)
+  pub start_left : (token_at t.spots.items at ≡ Some (token.Sign sign.Semicolon) → ⊥)
+      → Leaves limits (StartPart actor d c) Any (Then (Begun c d (Init actor d (one_statement c))) (λ o. Tok (token.Sign sign.Semicolon))) Any (λ x. (x.0.body, x.0.counts)) t.spots.items at at
+  start_left n = narrow limits t.spots.items refl (record {
+    back = λ w z b r f l. start_back z (token_at t.spots.items at) n r l;
+    forth = λ u x r. (x.1, r.first, some_init r.front.1.0 r.front.0 r.front.1.1 r.front.2, glue _ r.is r.back);
+  }) (nothing limits t.spots.items (StartPart actor d c) Any at h)
 
 -- a statement in a list, and a body
 module _ (actor : Bool) (d : ℕ) (c : Counts) where
@@ -266,20 +304,36 @@ module _ (limits : Limits) (t : Tokens) (at d : ℕ) (c : Counts) (h : at ≤ le
   pub no_next : token_at t.spots.items at ≡ Some (token.Sign sign.CloseRound) → Leaves limits (NextPart d c) Any (Tok (token.Sign sign.CloseRound)) Any (λ p. (End, c)) t.spots.items at at
   no_next e = narrow limits t.spots.items e (record { back = λ w z b r f l. no_next_back z r l; forth = λ u p r. (p, [], no_step, r) }) (nothing limits t.spots.items (NextPart d c) Any at h)
 
-  pub next_left : (token_at t.spots.items at ≡ Some (token.Sign sign.CloseRound) → ⊥) → Leaves limits (NextPart d c) Any (Then (Begun c d (Assignment d)) (λ b. Tok (token.Sign sign.CloseRound))) Any (λ x. (x.0, one_statement c)) t.spots.items at at
-  next_left n = narrow limits t.spots.items refl (record { back = λ w z b r f l. next_back z (token_at t.spots.items at) n r l; forth = λ u x r. (x.1, r.first, some_step r.front.1.0 r.front.0 r.front.1.1 r.front.2, glue _ r.is r.back) }) (nothing limits t.spots.items (NextPart d c) Any at h)
+  pub next_left : (token_at t.spots.items at ≡ Some (token.Sign sign.CloseRound) → ⊥)
+      → Leaves limits (NextPart d c) Any (Then (Begun c d (Assignment d)) (λ b. Tok (token.Sign sign.CloseRound))) Any (λ x. (x.0, one_statement c)) t.spots.items at at
+  next_left n = narrow limits t.spots.items refl (record {
+    back = λ w z b r f l. next_back z (token_at t.spots.items at) n r l;
+    forth = λ u x r. (x.1, r.first, some_step r.front.1.0 r.front.0 r.front.1.1 r.front.2, glue _ r.is r.back);
+  }) (nothing limits t.spots.items (NextPart d c) Any at h)
 
 module _ (limits : Limits) (t : Tokens) (at d : ℕ) (h : at ≤ length t.spots.items) where
   pub no_expr_left : token_at t.spots.items at ≡ Some (token.Sign sign.Semicolon) → Leaves limits (MaybeExpr d) Any (Tok (token.Sign sign.Semicolon)) Any (λ p. None) t.spots.items at at
   no_expr_left e = narrow limits t.spots.items e (record { back = λ w z b r f l. no_expr_back z r l; forth = λ u p r. (p, [], no_expr, r) }) (nothing limits t.spots.items (MaybeExpr d) Any at h)
 
-  pub some_expr_left : (token_at t.spots.items at ≡ Some (token.Sign sign.Semicolon) → ⊥) → Leaves limits (MaybeExpr d) Any (Then (ExprRule 0 d) (λ e. Tok (token.Sign sign.Semicolon))) Any (λ x. Some x.0) t.spots.items at at
-  some_expr_left n = narrow limits t.spots.items refl (record { back = λ w z b r f l. some_expr_back z (token_at t.spots.items at) n r l; forth = λ u x r. (x.1, r.first, some_expr r.front, glue _ r.is r.back) }) (nothing limits t.spots.items (MaybeExpr d) Any at h)
+  pub some_expr_left : (token_at t.spots.items at ≡ Some (token.Sign sign.Semicolon) → ⊥)
+      → Leaves limits (MaybeExpr d) Any (Then (ExprRule 0 d) (λ e. Tok (token.Sign sign.Semicolon))) Any (λ x. Some x.0) t.spots.items at at
+  some_expr_left n = narrow limits t.spots.items refl (record {
+    back = λ w z b r f l. some_expr_back z (token_at t.spots.items at) n r l;
+    forth = λ u x r. (x.1, r.first, some_expr r.front, glue _ r.is r.back);
+  }) (nothing limits t.spots.items (MaybeExpr d) Any at h)
 
 pub catch_left : (limits : Limits) (t : Tokens) (at : ℕ) → at ≤ length t.spots.items → Leaves limits Catch Any CatchSeq Any (λ x. (x.0, x.1.1.1.1.0)) t.spots.items at at
 catch_left limits t at h = narrow limits t.spots.items refl (record {
   back = λ w z b r f l. catch_back z r;
-  forth = λ u x r. (x.1.0, x.1.1.0, x.1.1.1.0, x.1.1.1.1.1, behind r.is r.front (behind r.back.is r.back.front (behind r.back.back.is r.back.back.front (behind r.back.back.back.is r.back.back.back.front (behind r.back.back.back.back.is r.back.back.back.back.front r.back.back.back.back.back)))));
+  forth = λ u x r. (
+    x.1.0,
+    x.1.1.0,
+    x.1.1.1.0,
+    x.1.1.1.1.1,
+    behind r.is r.front
+        (behind r.back.is r.back.front (behind r.back.back.is r.back.back.front
+        (behind r.back.back.back.is r.back.back.back.front (behind r.back.back.back.back.is r.back.back.back.back.front r.back.back.back.back.back)))),
+  );
 }) (nothing limits t.spots.items Catch Any at h)
 
 -- behind the body of an `if`
@@ -290,28 +344,33 @@ else_none limits spots at actor d o h e = empty limits spots (ElsePart actor d o
     no_second w None r = (refl, r)
     no_second w (Some u) r = let f : true ≡ false = sym e ∙ r.0 in absurd (cc)
 
-pub no_else : (limits : Limits) (spots : List Spot) (at : ℕ) (actor : Bool) (d : ℕ) (o : Out) → at ≤ length spots → (token_at spots at ≡ Some (token.Word word.Else) → ⊥) → Reads limits (ElsePart actor d o) ElseFollow spots at None at
+pub no_else : (limits : Limits) (spots : List Spot) (at : ℕ) (actor : Bool) (d : ℕ) (o : Out) → at ≤ length spots → (token_at spots at ≡ Some (token.Word word.Else) → ⊥)
+    → Reads limits (ElsePart actor d o) ElseFollow spots at None at
 no_else limits spots at actor d o h n = empty limits spots (ElsePart actor d o) ElseFollow at None (token_at spots at) h refl refl (λ w z u r f l. no_else_back actor d o z (token_at spots at) n r l)
 
 module _ (limits : Limits) (spots : List Spot) where
-  pub else_left : {A : Type 0} {W : List Marked → A → Type 0} {FW : A → List Marked → Type 0} {g : Option Out → A} {from at : ℕ} (actor : Bool) (d : ℕ) (o : Out) → token_at spots at ≡ Some (token.Word word.Else) → o.ends_if ≡ false → Leaves limits W FW (ElsePart actor d o) ElseFollow g spots from at
+  pub else_left : {A : Type 0} {W : List Marked → A → Type 0} {FW : A → List Marked → Type 0} {g : Option Out → A} {from at : ℕ} (actor : Bool) (d : ℕ) (o : Out)
+      → token_at spots at ≡ Some (token.Word word.Else) → o.ends_if ≡ false → Leaves limits W FW (ElsePart actor d o) ElseFollow g spots from at
       → Leaves limits W FW (Then (Tok (token.Word word.Else)) (λ p. BodyPart actor d o.counts)) (λ x. NoElse x.1) (λ x. g (Some x.1)) spots from at
   else_left actor d o e f l = narrow limits spots e (record { back = λ w z b r f l. else_back actor d o z r f l; forth = λ w x r. (f, x.0, r.rest, r.back, behind r.is r.front refl) }) l
 
   -- one statement more
-  pub stmt_left : {A : Type 0} {W : List Marked → A → Type 0} {FW : A → List Marked → Type 0} {g : BlockOut → A} {from at d : ℕ} {actor : Bool} {c : Counts} → (token_at spots at ≡ Some (token.Sign sign.CloseCurly) → ⊥) → Leaves limits W FW (Closing actor d c) Any g spots from at
+  pub stmt_left : {A : Type 0} {W : List Marked → A → Type 0} {FW : A → List Marked → Type 0} {g : BlockOut → A} {from at d : ℕ} {actor : Bool} {c : Counts}
+      → (token_at spots at ≡ Some (token.Sign sign.CloseCurly) → ⊥) → Leaves limits W FW (Closing actor d c) Any g spots from at
       → Leaves limits W FW (Then (One actor d c) (λ o. Closing actor d o.counts)) Any (λ x. g (record { body = put_before x.0.body x.1.body; counts = x.1.counts; close = x.1.close })) spots from at
   stmt_left {at = at} n l = narrow limits spots refl (record {
     back = λ w z b r f k. more_back z (token_at spots at) n r k;
     forth = λ u x r. (r.first ++ r.back.0, more_stmts r.first r.back.0 (lift x.1.body r.front) r.back.1 refl, glue _ r.is r.back.2 ∙ sym (append_assoc r.first r.back.0 _));
   }) l
 
-  pub end_left : {A : Type 0} {W : List Marked → A → Type 0} {FW : A → List Marked → Type 0} {g : BlockOut → A} {from at d : ℕ} {actor : Bool} {c : Counts} → token_at spots at ≡ Some (token.Sign sign.CloseCurly) → Leaves limits W FW (Closing actor d c) Any g spots from at
+  pub end_left : {A : Type 0} {W : List Marked → A → Type 0} {FW : A → List Marked → Type 0} {g : BlockOut → A} {from at d : ℕ} {actor : Bool} {c : Counts}
+      → token_at spots at ≡ Some (token.Sign sign.CloseCurly) → Leaves limits W FW (Closing actor d c) Any g spots from at
       → Leaves limits W FW (Tok (token.Sign sign.CloseCurly)) Any (λ p. g (record { body = End; counts = c; close = p })) spots from at
   end_left {c = c} e l = narrow limits spots e (record { back = λ w z b r f k. end_back z r k; forth = λ u p r. ([], no_stmts, r) }) l
 
   -- one branch more
-  pub more_left : {A : Type 0} {W : List Marked → A → Type 0} {FW : A → List Marked → Type 0} {g : Branches × Counts → A} {from at d n : ℕ} {actor : Bool} {c : Counts} → token_at spots at ≡ Some (token.Word word.When) → Leaves limits W FW (WhensPart actor d n c) Any g spots from at
+  pub more_left : {A : Type 0} {W : List Marked → A → Type 0} {FW : A → List Marked → Type 0} {g : Branches × Counts → A} {from at d n : ℕ} {actor : Bool} {c : Counts}
+      → token_at spots at ≡ Some (token.Word word.When) → Leaves limits W FW (WhensPart actor d n c) Any g spots from at
       → Leaves limits W FW (Then (WhenPart actor d n c) (λ o. WhensPart actor d (suc n) o.counts)) Any (λ x. g (MoreBranches x.0.at x.0.waiting x.0.body x.1.0, x.1.1)) spots from at
   more_left e l = narrow limits spots e (record {
     back = λ w z b r f k. more_whens_back z (Some (token.Word word.When)) (λ f. word_no_sign (Some (token.Word word.When)) refl f) r k;
@@ -319,6 +378,7 @@ module _ (limits : Limits) (spots : List Spot) where
   }) l
 
   -- no branch more: what isn't a branch has to close them
-  pub end_whens : {A : Type 0} {W : List Marked → A → Type 0} {FW : A → List Marked → Type 0} {g : Branches × Counts → A} {from at d n : ℕ} {actor : Bool} {c : Counts} → (token_at spots at ≡ Some (token.Word word.When) → ⊥) → Leaves limits W FW (WhensPart actor d n c) Any g spots from at
+  pub end_whens : {A : Type 0} {W : List Marked → A → Type 0} {FW : A → List Marked → Type 0} {g : Branches × Counts → A} {from at d n : ℕ} {actor : Bool} {c : Counts}
+      → (token_at spots at ≡ Some (token.Word word.When) → ⊥) → Leaves limits W FW (WhensPart actor d n c) Any g spots from at
       → Leaves limits W FW (Tok (token.Sign sign.CloseCurly)) Any (λ p. g (NoBranches, c)) spots from at
   end_whens {at = at} {c = c} m l = narrow limits spots refl (record { back = λ w z b r f k. no_when_back z (token_at spots at) m r k; forth = λ u p r. (p, [], no_whens, r) }) l

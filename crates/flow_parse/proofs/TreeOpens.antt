@@ -25,7 +25,8 @@ use Rattle.flow_parse.proofs.Leaves.{next_is}
 use Rattle.flow_parse.proofs.Inhabitants.{some_expr}
 
 -- one token, read of a part
-pub one_token : (limits : Limits) → {A : Type 0} {R : List Marked → A → Type 0} (m d : ℕ) (x : Token) (p : Place) (ts : List Spot) (rest : List Marked) (a : A) → (5 ≤ m → d ≤ 64) → R (opens (Node d ∷ []) x p ∷ rest) a → GoodOf limits R m (take 1 (record { token = x; at = p } ∷ ts))
+pub one_token : (limits : Limits) → {A : Type 0} {R : List Marked → A → Type 0} (m d : ℕ) (x : Token) (p : Place) (ts : List Spot) (rest : List Marked) (a : A) → (5 ≤ m → d ≤ 64)
+    → R (opens (Node d ∷ []) x p ∷ rest) a → GoodOf limits R m (take 1 (record { token = x; at = p } ∷ ts))
 one_token limits m d x p ts rest a k r = record { read = opens (Node d ∷ []) x p ∷ []; rest = rest; tree = a; rule = r; is = refl; keeps = ((k, tt), tt) }
 
 module _ (limits : Limits) (m d : ℕ) (k : 5 ≤ m → d ≤ 64) where
@@ -37,9 +38,11 @@ module _ (limits : Limits) (m d : ℕ) (k : 5 ≤ m → d ≤ 64) where
   type_with (token.Word word.Void) p ts h = one_token limits m d (token.Word word.Void) p ts [] VoidType k (void_type p)
   type_with (token.Word word.Error) p ts h = one_token limits m d (token.Word word.Error) p ts [] ErrorType k (error_type p)
   type_with (token.Word word.Future) p ts h = one_token limits m d (token.Word word.Future) p ts _ (FutureType IntType) k (wrapped_type FutureOf p nowhere nowhere _ (int_type nowhere) refl)
-  type_with (token.Word word.FutureStream) p ts h = one_token limits m d (token.Word word.FutureStream) p ts _ (FutureStreamType IntType) k (wrapped_type FutureStreamOf p nowhere nowhere _ (int_type nowhere) refl)
+  type_with (token.Word word.FutureStream) p ts h = one_token limits m d (token.Word word.FutureStream) p ts _ (FutureStreamType IntType) k
+      (wrapped_type FutureStreamOf p nowhere nowhere _ (int_type nowhere) refl)
   type_with (token.Word word.Promise) p ts h = one_token limits m d (token.Word word.Promise) p ts _ (PromiseType IntType) k (wrapped_type PromiseOf p nowhere nowhere _ (int_type nowhere) refl)
-  type_with (token.Word word.PromiseStream) p ts h = one_token limits m d (token.Word word.PromiseStream) p ts _ (PromiseStreamType IntType) k (wrapped_type PromiseStreamOf p nowhere nowhere _ (int_type nowhere) refl)
+  type_with (token.Word word.PromiseStream) p ts h = one_token limits m d (token.Word word.PromiseStream) p ts _ (PromiseStreamType IntType) k
+      (wrapped_type PromiseStreamOf p nowhere nowhere _ (int_type nowhere) refl)
   type_with _ p ts h = absurd h
 
   expr_with : (x : Token) (p : Place) (ts : List Spot) → ExprToken x → GoodOf limits (ExprRule 0 d) m (take 1 (record { token = x; at = p } ∷ ts))
@@ -95,7 +98,8 @@ deep_never limits d [] (x ∷ w) z h k s = s
 deep_never limits d (t ∷ ts) (x ∷ w) z h k s = omega (arith, k s.1)
 
 -- an expression could begin here, but too deep
-pub expr_beyond : (limits : Limits) (t : Tokens) (at d : ℕ) → 64 < d → at < length t.spots.items → AsFirst ExprToken (token_at t.spots.items at) → Fails limits (ExprRule 0 d) ExprEnds t at (Refused (rule.L 5) (place_at t at))
+pub expr_beyond : (limits : Limits) (t : Tokens) (at d : ℕ) → 64 < d → at < length t.spots.items → AsFirst ExprToken (token_at t.spots.items at)
+    → Fails limits (ExprRule 0 d) ExprEnds t at (Refused (rule.L 5) (place_at t at))
 expr_beyond limits t at d h lt f =
     let ts = drop at t.spots.items in
     let o = subst (AsFirst ExprToken) (sym (next_is t.spots.items at)) f in

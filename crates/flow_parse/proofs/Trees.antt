@@ -39,7 +39,12 @@ expr_some (variable x) = omega arith
 expr_some (call f p q args r e) = omega (arith, ap length e)
 expr_some (paren p q of r e) = omega (arith, ap length e)
 expr_some {k} {d} (field p x of r e) = omega (arith, ap length e, length-append (begin (Node d) of) (sign_at sign.Dot p ∷ name_at x ∷ []))
-expr_some {k} {d} (method p q s f of args r a e) = omega (arith, ap length e, length-append (begin (Node d) of) (sign_at sign.Dot p ∷ name_at f ∷ sign_at sign.OpenRound q ∷ (args ++ sign_at sign.CloseRound s ∷ [])))
+expr_some {k} {d} (method p q s f of args r a e) = omega (
+  arith,
+  ap length e,
+  length-append (begin (Node d) of)
+      (sign_at sign.Dot p ∷ name_at f ∷ sign_at sign.OpenRound q ∷ (args ++ sign_at sign.CloseRound s ∷ [])),
+)
 expr_some (negation p of le r e) = omega (arith, ap length e)
 expr_some (minus p of le r e) = omega (arith, ap length e)
 expr_some {k} {d} (binary op p left right le r s e) = omega (arith, ap length e, length-append (begin (Node d) left) (sign_at (op_sign op) p ∷ right))
@@ -53,7 +58,8 @@ type_some (error_type p) = omega arith
 type_some (named_type x) = omega arith
 type_some (wrapped_type w p q r of t e) = omega (arith, ap length e)
 
-part_of : (limits : Limits) → {A : Type 0} (R : List Marked → A → Type 0) (F : A → List Marked → Type 0) (t : Tokens) (from : ℕ) (tree : A) (to : ℕ) → from ≤ length t.spots.items → IsRead R t from tree to → ((xs : List Marked) → R xs tree → Nodes xs) → Only limits R F tree (to - from) (drop from t.spots.items) → Reads limits R F t.spots.items from tree to
+part_of : (limits : Limits) → {A : Type 0} (R : List Marked → A → Type 0) (F : A → List Marked → Type 0) (t : Tokens) (from : ℕ) (tree : A) (to : ℕ) → from ≤ length t.spots.items
+    → IsRead R t from tree to → ((xs : List Marked) → R xs tree → Nodes xs) → Only limits R F tree (to - from) (drop from t.spots.items) → Reads limits R F t.spots.items from tree to
 part_of limits R F t from tree to w r n o =
     let spots = t.spots.items in
     let k = to - from in
@@ -69,10 +75,23 @@ part_of limits R F t from tree to w r n o =
       only = o;
     }
 
-longer : (limits : Limits) → {A : Type 0} {F : A → List Marked → Type 0} (R : List Marked → A → Type 0) (spots : List Spot) (a b : ℕ) (tree : A) → a ≤ length spots → ((xs : List Marked) → R xs tree → 0 < length xs) → Reads limits R F spots a tree b → a < b
-longer limits R spots a b tree w f r = omega (arith, f r.marked r.rule, ap length r.is, length-append (spots_of r.marked) (drop b spots), length-drop a spots, length-drop b spots, length_spots r.marked, r.within, r.after)
+longer : (limits : Limits) → {A : Type 0} {F : A → List Marked → Type 0} (R : List Marked → A → Type 0) (spots : List Spot) (a b : ℕ) (tree : A) → a ≤ length spots
+    → ((xs : List Marked) → R xs tree → 0 < length xs) → Reads limits R F spots a tree b → a < b
+longer limits R spots a b tree w f r = omega (
+  arith,
+  f r.marked r.rule,
+  ap length r.is,
+  length-append (spots_of r.marked)
+      (drop b spots),
+  length-drop a spots,
+  length-drop b spots,
+  length_spots r.marked,
+  r.within,
+  r.after,
+)
 
-fifth : (limits : Limits) → {A : Type 0} {R : List Marked → A → Type 0} {F : A → List Marked → Type 0} {t : Tokens} {from : ℕ} {p : Place} (n : ℕ) → n ≡ 5 → StopsAt limits R F 5 t from p → Fails limits R F t from (Refused (rule.L n) p)
+fifth : (limits : Limits) → {A : Type 0} {R : List Marked → A → Type 0} {F : A → List Marked → Type 0} {t : Tokens} {from : ℕ} {p : Place} (n : ℕ) → n ≡ 5 → StopsAt limits R F 5 t from p
+    → Fails limits R F t from (Refused (rule.L n) p)
 fifth limits {R = R} {F = F} {t = t} {from = from} {p = p} n e s = (omega (arith, e), omega (arith, e), subst (λ k. StopsAt limits R F k t from p) (sym e) s)
 
 module _ (limits : Limits) (t : Tokens) (from d : ℕ) (h : from ≤ length t.spots.items) where

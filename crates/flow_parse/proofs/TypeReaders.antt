@@ -19,7 +19,9 @@ use Rattle.flow_parse.proofs.Readers.{reader_only, missing_never, deep_never}
 -- behind a type no type goes on
 pub type_ends : (d : ℕ) (w : List Marked) (t : TypeTree) (y : Marked) (z : List Marked) → TypeRule d w t → Any t (y ∷ z) → Good (TypeRule d) 2 (spots_of w ++ y.spot ∷ []) → ⊥
 type_ends d w t y z r f g =
-    let e : spots_of (w ++ y ∷ g.rest) ≡ spots_of ((g.read ++ g.rest) ++ []) = spots_append w (y ∷ g.rest) ∙ sym (append_assoc (spots_of w) (y.spot ∷ []) (spots_of g.rest)) ∙ ap (λ k. k ++ spots_of g.rest) (sym g.is) ∙ sym (spots_append g.read g.rest) ∙ ap spots_of (sym (append-nil (g.read ++ g.rest))) in
+    let e : spots_of (w ++ y ∷ g.rest) ≡ spots_of ((g.read ++ g.rest) ++ []) =
+    spots_append w (y ∷ g.rest) ∙ sym (append_assoc (spots_of w) (y.spot ∷ []) (spots_of g.rest)) ∙ ap (λ k. k ++ spots_of g.rest) (sym g.is) ∙ sym (spots_append g.read g.rest)
+    ∙ ap spots_of (sym (append-nil (g.read ++ g.rest))) in
     let k = uniq_type (suc (length w)) d w (y ∷ g.rest) (g.read ++ g.rest) [] t g.tree (omega arith) r tt g.rule tt e in
     let m : length g.read ≡ length w + 1 = sym (length_spots g.read) ∙ ap length g.is ∙ length-append (spots_of w) (y.spot ∷ []) ∙ ap (λ n. n + 1) (length_spots w) in
     absurd (omega (arith, k.1, m, length-append g.read g.rest))

@@ -35,13 +35,15 @@ use Rattle.flow_parse.proofs.Shapes.{closed}
 starts_is : {w : List Marked} (a b : List Marked) (p : Place) → w ≡ a ++ b → StartsAt a p → StartsAt w p
 starts_is a b p e h = subst (λ z. StartsAt z p) (sym e) (starts_append a b p h)
 
-init_of : {actor : Bool} {d : ℕ} {c c' : Counts} {w left right : List Marked} {i : IntoTree} {p : Place} {body : Body} → IntoRule actor d c c' left i → DeclaredRule d p i right body → w ≡ left ++ right → StartsAt w p → InitRule actor d c c' w p End body
+init_of : {actor : Bool} {d : ℕ} {c c' : Counts} {w left right : List Marked} {i : IntoTree} {p : Place} {body : Body} → IntoRule actor d c c' left i → DeclaredRule d p i right body
+    → w ≡ left ++ right → StartsAt w p → InitRule actor d c c' w p End body
 init_of {actor} {d} {c} {c'} {w} {left} {right} {i} {p} r no_value e s =
     let f : w ≡ left = e ∙ append-nil left in
     declare p (subst (λ z. IntoRule actor d c c' z i) (sym f) r) s
 init_of {left = left} {right = right} {p = p} r (value q of x f) e s = declare_value p q left of r x (glue left e f) s
 
-assign_of : {d : ℕ} {w path right : List Marked} {p : Place} {xs : List Ident} {body : Body} → PathRule path xs → ChangeRule d p xs right body → w ≡ path ++ right → StartsAt w p → AssignRule d w p End body
+assign_of : {d : ℕ} {w path right : List Marked} {p : Place} {xs : List Ident} {body : Body} → PathRule path xs → ChangeRule d p xs right body → w ≡ path ++ right → StartsAt w p
+    → AssignRule d w p End body
 assign_of {path} {p} r (assigns q of x f) e s = assign p q path of r x (glue path e f) s
 assign_of {path} {p} r (adds q of x f) e s = plus p q path of r x (glue path e f) s
 assign_of {path} {p} r (takes q of x f) e s = minus p q path of r x (glue path e f) s
@@ -51,14 +53,16 @@ assign_of {path} {p} r (goes_down q) e s = down p q path r e s
 named_into : (actor : Bool) (d : ℕ) (c : Counts) (x y : Ident) → IntoRule actor d c c (node_name d x ∷ name_at y ∷ []) (record { state = false; ty = NamedType x.name; name = y })
 named_into actor d c x y = declared y [] (node_name d x ∷ []) no_state (named_type x) refl
 
-unended_plain : {actor : Bool} {d : ℕ} {c c' : Counts} {w of : List Marked} {body : Body} (q : Place) → UnendedRule actor d c of c' body → w ≡ of ++ sign_at sign.Semicolon q ∷ [] → (at : Place) × PlainRule actor d c c' w at End body false
+unended_plain : {actor : Bool} {d : ℕ} {c c' : Counts} {w of : List Marked} {body : Body} (q : Place) → UnendedRule actor d c of c' body → w ≡ of ++ sign_at sign.Semicolon q ∷ []
+    → (at : Place) × PlainRule actor d c c' w at End body false
 unended_plain {of} q (declaring at left right i (declares v) e s) g = (at, init_stmt at q of (init_of i v e s) g)
 unended_plain {of} q (declaring at left right i (waits p xs o f) e s) g = (at, wait_stmt at q of (into_wait p left xs i o (glue left e f)) g (starts_is of _ at g s))
 unended_plain {of} q (changing {x} left right r (changes v) e) g = (x.at, init_stmt x.at q of (change x.at (assign_of r v e (subst (λ z. StartsAt z x.at) (sym e) refl))) g)
 unended_plain {of} q (changing {x} left right r (calls p args a f) e) g =
     let whole = g ∙ ap (λ z. z ++ sign_at sign.Semicolon q ∷ []) (glue (name_at x ∷ left) e (f ∙ ap (λ z. sign_at sign.OpenRound p ∷ z) a.3)) in
     let tail = a.1 ++ sign_at sign.CloseRound a.0 ∷ [] in
-    let e2 = whole ∙ append_assoc (name_at x ∷ left) (sign_at sign.OpenRound p ∷ tail) (sign_at sign.Semicolon q ∷ []) ∙ ap (λ z. (name_at x ∷ left) ++ (sign_at sign.OpenRound p ∷ z)) (append_assoc a.1 (sign_at sign.CloseRound a.0 ∷ []) (sign_at sign.Semicolon q ∷ [])) in
+    let e2 = whole ∙ append_assoc (name_at x ∷ left) (sign_at sign.OpenRound p ∷ tail) (sign_at sign.Semicolon q ∷ [])
+    ∙ ap (λ z. (name_at x ∷ left) ++ (sign_at sign.OpenRound p ∷ z)) (append_assoc a.1 (sign_at sign.CloseRound a.0 ∷ []) (sign_at sign.Semicolon q ∷ [])) in
     (x.at, call_stmt x.at p a.0 q (name_at x ∷ left) a.1 r a.2 e2 (subst (λ z. StartsAt z x.at) (sym e2) refl))
 unended_plain {of} q (waiting at o s) g = (at, wait_stmt at q of (plain_wait o) g (starts_is _ _ at g s))
 
@@ -100,17 +104,23 @@ assign_wait_link d = free (λ q. some_operand d)
 
 -- what stands behind a declared variable in a statement
 module _ (limits : Limits) (t : Tokens) (at d : ℕ) (p : Place) (i : IntoTree) (h : at ≤ length t.spots.items) where
-  pub no_value_reads2 : (token_at t.spots.items at ≡ Some (token.Sign sign.Assign) → ⊥) → Reads limits (ValuedRule d p i) (Before (token.Sign sign.Semicolon)) t.spots.items at (DeclareStmt p i None End) at
-  no_value_reads2 n = empty limits t.spots.items (ValuedRule d p i) _ at (DeclareStmt p i None End) (token_at t.spots.items at) h refl (declares no_value) (λ w z b r f l. not_given_back z (token_at t.spots.items at) n r l)
+  pub no_value_reads2 : (token_at t.spots.items at ≡ Some (token.Sign sign.Assign) → ⊥)
+      → Reads limits (ValuedRule d p i) (Before (token.Sign sign.Semicolon)) t.spots.items at (DeclareStmt p i None End) at
+  no_value_reads2 n = empty limits t.spots.items (ValuedRule d p i) _ at (DeclareStmt p i None End) (token_at t.spots.items at) h refl (declares no_value)
+      (λ w z b r f l. not_given_back z (token_at t.spots.items at) n r l)
 
-  pub given_left : token_at t.spots.items at ≡ Some (token.Sign sign.Assign) → Leaves limits (ValuedRule d p i) (Before (token.Sign sign.Semicolon)) (Then (Tok (token.Sign sign.Assign)) (λ q. Given d p i)) (λ x. Before (token.Sign sign.Semicolon) x.1) (λ x. x.1) t.spots.items at at
-  given_left e = narrow limits t.spots.items e (record { back = λ w z b r f l. given_back z r f l; forth = λ u x r. value_of x.0 x.1 r.rest r.back (behind r.is r.front refl) }) (nothing limits t.spots.items (ValuedRule d p i) _ at h)
+  pub given_left : token_at t.spots.items at ≡ Some (token.Sign sign.Assign)
+      → Leaves limits (ValuedRule d p i) (Before (token.Sign sign.Semicolon)) (Then (Tok (token.Sign sign.Assign)) (λ q. Given d p i)) (λ x. Before (token.Sign sign.Semicolon) x.1)
+      (λ x. x.1) t.spots.items at at
+  given_left e = narrow limits t.spots.items e (record { back = λ w z b r f l. given_back z r f l; forth = λ u x r. value_of x.0 x.1 r.rest r.back (behind r.is r.front refl) })
+      (nothing limits t.spots.items (ValuedRule d p i) _ at h)
     where
       value_of : {w : List Marked} (q : Place) (b : Body) (v : List Marked) → Given d p i v b → w ≡ sign_at sign.Assign q ∷ v → ValuedRule d p i w b
       value_of q b v (inl k) e = subst (ValuedRule d p i _) (sym k.is) (declares (value q v k.rule e))
       value_of q b v (inr k) e = subst (ValuedRule d p i _) (sym k.is) (waits q v k.rule e)
 
-module _ (limits : Limits) (spots : List Spot) {A : Type 0} {W : List Marked → A → Type 0} {FW : A → List Marked → Type 0} {g : Body → A} {from at : ℕ} (d : ℕ) (p : Place) (i : IntoTree) (l : Leaves limits W FW (Given d p i) (λ b. Before (token.Sign sign.Semicolon) b) g spots from at) where
+module _ (limits : Limits) (spots : List Spot) {A : Type 0} {W : List Marked → A → Type 0} {FW : A → List Marked → Type 0} {g : Body → A} {from at : ℕ} (d : ℕ) (p : Place) (i : IntoTree)
+    (l : Leaves limits W FW (Given d p i) (λ b. Before (token.Sign sign.Semicolon) b) g spots from at) where
   pub given_wait : AsFirst WaitToken (token_at spots at) → Leaves limits W FW (OperandPart d) Any (λ x. g (WaitStmt p (record { into = Some i; next = x.0; operand = x.1 }) End)) spots from at
   given_wait h = narrow limits spots refl (record { back = λ w z b r f k. given_wait_back z (token_at spots at) h r k; forth = λ w x r. inr (record { tree = x; rule = r; is = refl }) }) l
 
@@ -123,9 +133,11 @@ any_name_is d w x (inl r) = (name_at x, r, refl)
 any_name_is d w x (inr r) = (node_name d x, r, refl)
 
 -- behind a first name, where the second token says what follows
-module _ (d : ℕ) (c : Counts) (x : Ident) (m : Marked) (ms : m.spot ≡ (name_at x).spot) (o : Option Token) {B : Type 0} (V : List Marked → B → Type 0) (FV : B → List Marked → Type 0) (h : B → Body) (After : Ident → List Marked → Body → Type 0)
+module _ (d : ℕ) (c : Counts) (x : Ident) (m : Marked) (ms : m.spot ≡ (name_at x).spot) (o : Option Token) {B : Type 0} (V : List Marked → B → Type 0) (FV : B → List Marked → Type 0) (h : B → Body)
+    (After : Ident → List Marked → Body → Type 0)
     (after : (w z : List Marked) (b : Body) → After x w b → Before (token.Sign sign.Semicolon) b z → Looks o (w ++ z) → Back (After x) (Before (token.Sign sign.Semicolon)) V FV h w z b) where
-  split_name : (w z : List Marked) (a : Out) → Formed {A = Body × Counts} (Then (AnyName d) After) (λ y. (y.1, c)) w (a.body, a.counts) → a.ends_if ≡ false → Before (token.Sign sign.Semicolon) a z → Split V FV (λ b. closed (h b) c) m o w z a
+  split_name : (w z : List Marked) (a : Out) → Formed {A = Body × Counts} (Then (AnyName d) After) (λ y. (y.1, c)) w (a.body, a.counts) → a.ends_if ≡ false → Before (token.Sign sign.Semicolon) a z
+      → Split V FV (λ b. closed (h b) c) m o w z a
   split_name w z a q e f =
       let k = any_name_is d q.rule.first q.tree.0 q.rule.front in
       record {
@@ -141,22 +153,29 @@ module _ (d : ℕ) (c : Counts) (x : Ident) (m : Marked) (ms : m.spot ≡ (name_
 module _ (limits : Limits) (t : Tokens) (at : ℕ) (actor : Bool) (d : ℕ) (c : Counts) where
   -- the init of a `for`
   pub init_left : at ≤ length t.spots.items → ((m : List ℕ) → token_at t.spots.items at ≡ Some (token.Name m) → ⊥)
-      → Leaves limits (Init actor d c) (Before (token.Sign sign.Semicolon)) (Then (Placed (IntoPart actor d c)) (λ y. DeclaredRule d y.0 y.1.0)) (λ x. Before (token.Sign sign.Semicolon) x.1) (λ x. closed x.1 x.0.1.1) t.spots.items at at
+      → Leaves limits (Init actor d c) (Before (token.Sign sign.Semicolon)) (Then (Placed (IntoPart actor d c)) (λ y. DeclaredRule d y.0 y.1.0)) (λ x. Before (token.Sign sign.Semicolon) x.1)
+      (λ x. closed x.1 x.0.1.1) t.spots.items at at
   init_left h n = narrow limits t.spots.items refl (record {
-    back = λ w z b r f l. let q = init_into z (token_at t.spots.items at) n r.1 l in record { tree = q.tree; rule = q.rule; is = out_is b (q.tree.1, q.tree.0.1.1) q.is r.2; follows = before_same (token.Sign sign.Semicolon) b q.tree.1 z f };
+    back = λ w z b r f l. let q = init_into z (token_at t.spots.items at) n r.1 l
+        in record { tree = q.tree; rule = q.rule; is = out_is b (q.tree.1, q.tree.0.1.1) q.is r.2; follows = before_same (token.Sign sign.Semicolon) b q.tree.1 z f };
     forth = λ u x r. (x.0.0, init_of r.front.1 r.back r.is (starts_is r.first r.rest x.0.0 r.is r.front.0), refl);
   }) (nothing limits t.spots.items (Init actor d c) _ at h)
 
   pub unended_left : at ≤ length t.spots.items → (AsFirst WaitToken (token_at t.spots.items at) → ⊥) → ((m : List ℕ) → token_at t.spots.items at ≡ Some (token.Name m) → ⊥)
-      → Leaves limits (Unended actor d c) (Before (token.Sign sign.Semicolon)) (Then (Placed (IntoPart actor d c)) (λ y. ValuedRule d y.0 y.1.0)) (λ x. Before (token.Sign sign.Semicolon) x.1) (λ x. closed x.1 x.0.1.1) t.spots.items at at
+      → Leaves limits (Unended actor d c) (Before (token.Sign sign.Semicolon)) (Then (Placed (IntoPart actor d c)) (λ y. ValuedRule d y.0 y.1.0)) (λ x. Before (token.Sign sign.Semicolon) x.1)
+      (λ x. closed x.1 x.0.1.1) t.spots.items at at
   unended_left h v n = narrow limits t.spots.items refl (record {
-    back = λ w z b r f l. let q = unended_into z (token_at t.spots.items at) v n r.0 l in record { tree = q.tree; rule = q.rule; is = out_is b (q.tree.1, q.tree.0.1.1) q.is r.1; follows = before_same (token.Sign sign.Semicolon) b q.tree.1 z f };
+    back = λ w z b r f l. let q = unended_into z (token_at t.spots.items at) v n r.0 l
+        in record { tree = q.tree; rule = q.rule; is = out_is b (q.tree.1, q.tree.0.1.1) q.is r.1; follows = before_same (token.Sign sign.Semicolon) b q.tree.1 z f };
     forth = λ u x r. (declaring x.0.0 r.first r.rest r.front.1 r.back r.is (starts_is r.first r.rest x.0.0 r.is r.front.0), refl);
   }) (nothing limits t.spots.items (Unended actor d c) _ at h)
 
-  pub unended_wait_left : at ≤ length t.spots.items → AsFirst WaitToken (token_at t.spots.items at) → Leaves limits (Unended actor d c) (Before (token.Sign sign.Semicolon)) (Placed (OperandPart d)) Any (λ x. closed (WaitStmt x.0 (record { into = None; next = x.1.0; operand = x.1.1 }) End) c) t.spots.items at at
+  pub unended_wait_left : at ≤ length t.spots.items → AsFirst WaitToken (token_at t.spots.items at)
+      → Leaves limits (Unended actor d c) (Before (token.Sign sign.Semicolon)) (Placed (OperandPart d)) Any (λ x. closed (WaitStmt x.0 (record { into = None; next = x.1.0; operand = x.1.1 }) End) c)
+      t.spots.items at at
   unended_wait_left h v = narrow limits t.spots.items refl (record {
-    back = λ w z b r f l. let q = unended_wait z (token_at t.spots.items at) v r.0 l in record { tree = q.tree; rule = q.rule; is = out_is b (WaitStmt q.tree.0 (record { into = None; next = q.tree.1.0; operand = q.tree.1.1 }) End, c) q.is r.1; follows = tt };
+    back = λ w z b r f l. let q = unended_wait z (token_at t.spots.items at) v r.0 l
+        in record { tree = q.tree; rule = q.rule; is = out_is b (WaitStmt q.tree.0 (record { into = None; next = q.tree.1.0; operand = q.tree.1.1 }) End, c) q.is r.1; follows = tt };
     forth = λ u x r. (waiting x.0 r.1 r.0, refl);
   }) (nothing limits t.spots.items (Unended actor d c) _ at h)
 
@@ -168,39 +187,57 @@ module _ (limits : Limits) (t : Tokens) (at : ℕ) (actor : Bool) (d : ℕ) (c :
     some_here : at < length t.spots.items
     some_here = omega (arith, r.within)
 
-    pub init_named : (n : List ℕ) → d ≤ 64 → token_at t.spots.items (at + 1) ≡ Some (token.Name n) → Leaves limits (Init actor d c) (Before (token.Sign sign.Semicolon)) (Then Named (λ y. DeclaredRule d x.at (of_name x y))) (λ v. Before (token.Sign sign.Semicolon) v.1) (λ v. closed v.1 c) t.spots.items at (at + 1)
+    pub init_named : (n : List ℕ) → d ≤ 64 → token_at t.spots.items (at + 1) ≡ Some (token.Name n)
+        → Leaves limits (Init actor d c) (Before (token.Sign sign.Semicolon)) (Then Named (λ y. DeclaredRule d x.at (of_name x y))) (λ v. Before (token.Sign sign.Semicolon) v.1)
+        (λ v. closed v.1 c) t.spots.items at (at + 1)
     init_named n k e = behind_first limits (node_name d x) (Some (token.Name n))
         (λ v b s. (x.at, init_of (named_into actor d c x b.0) s.back (ap (λ z. node_name d x ∷ z) (behind s.is s.front refl)) refl, refl))
-        (λ w z a s f l. split_name d c x (node_name d x) refl (Some (token.Name n)) (Then Named (λ y. DeclaredRule d x.at (of_name x y))) (λ v. Before (token.Sign sign.Semicolon) v.1) (λ v. v.1) (AfterInit d) (λ w z b u f l. named_declared_back z n u f l) w z a (init_name z x.name s.1 l) s.2 f)
+        (λ w z a s f l. split_name d c x (node_name d x) refl (Some (token.Name n)) (Then Named (λ y. DeclaredRule d x.at (of_name x y))) (λ v. Before (token.Sign sign.Semicolon) v.1) (λ v. v.1)
+        (AfterInit d) (λ w z b u f l. named_declared_back z n u f l) w z a (init_name z x.name s.1 l) s.2 f)
         t.spots.items at some_here ((λ i. k), tt) spot_here e
 
-    pub init_change : ((m : List ℕ) → token_at t.spots.items (at + 1) ≡ Some (token.Name m) → ⊥) → Leaves limits (Init actor d c) (Before (token.Sign sign.Semicolon)) (Then (MoreNames x) (λ xs. ChangeRule d x.at xs)) (λ v. ExprEnds v.1) (λ v. closed v.1 c) t.spots.items at (at + 1)
+    pub init_change : ((m : List ℕ) → token_at t.spots.items (at + 1) ≡ Some (token.Name m) → ⊥)
+        → Leaves limits (Init actor d c) (Before (token.Sign sign.Semicolon)) (Then (MoreNames x) (λ xs. ChangeRule d x.at xs)) (λ v. ExprEnds v.1) (λ v. closed v.1 c) t.spots.items at (at + 1)
     init_change n = behind_first limits (name_at x) (token_at t.spots.items (at + 1))
         (λ v b s. (x.at, change x.at (assign_of s.front s.back (ap (λ z. name_at x ∷ z) s.is) refl), refl))
-        (λ w z a s f l. split_name d c x (name_at x) refl (token_at t.spots.items (at + 1)) (Then (MoreNames x) (λ xs. ChangeRule d x.at xs)) (λ v. ExprEnds v.1) (λ v. v.1) (AfterInit d) (λ w z b u f l. change_init_back z (token_at t.spots.items (at + 1)) n u f l) w z a (init_name z x.name s.1 l) s.2 f)
+        (λ w z a s f l. split_name d c x (name_at x) refl (token_at t.spots.items (at + 1)) (Then (MoreNames x) (λ xs. ChangeRule d x.at xs)) (λ v. ExprEnds v.1) (λ v. v.1) (AfterInit d)
+        (λ w z b u f l. change_init_back z (token_at t.spots.items (at + 1)) n u f l) w z a (init_name z x.name s.1 l) s.2 f)
         t.spots.items at some_here tt spot_here refl
 
-    pub unended_named : (n : List ℕ) → d ≤ 64 → token_at t.spots.items (at + 1) ≡ Some (token.Name n) → Leaves limits (Unended actor d c) (Before (token.Sign sign.Semicolon)) (Then Named (λ y. ValuedRule d x.at (of_name x y))) (λ v. Before (token.Sign sign.Semicolon) v.1) (λ v. closed v.1 c) t.spots.items at (at + 1)
+    pub unended_named : (n : List ℕ) → d ≤ 64 → token_at t.spots.items (at + 1) ≡ Some (token.Name n)
+        → Leaves limits (Unended actor d c) (Before (token.Sign sign.Semicolon)) (Then Named (λ y. ValuedRule d x.at (of_name x y))) (λ v. Before (token.Sign sign.Semicolon) v.1)
+        (λ v. closed v.1 c) t.spots.items at (at + 1)
     unended_named n k e = behind_first limits (node_name d x) (Some (token.Name n))
         (λ v b s. (declaring x.at (node_name d x ∷ name_at b.0 ∷ []) s.rest (named_into actor d c x b.0) s.back (ap (λ z. node_name d x ∷ z) (behind s.is s.front refl)) refl, refl))
-        (λ w z a s f l. split_name d c x (node_name d x) refl (Some (token.Name n)) (Then Named (λ y. ValuedRule d x.at (of_name x y))) (λ v. Before (token.Sign sign.Semicolon) v.1) (λ v. v.1) (AfterName d) (λ w z b u f l. named_value_back z n u f l) w z a (unended_name z x.name s.0 l) s.1 f)
+        (λ w z a s f l. split_name d c x (node_name d x) refl (Some (token.Name n)) (Then Named (λ y. ValuedRule d x.at (of_name x y))) (λ v. Before (token.Sign sign.Semicolon) v.1) (λ v. v.1)
+        (AfterName d) (λ w z b u f l. named_value_back z n u f l) w z a (unended_name z x.name s.0 l) s.1 f)
         t.spots.items at some_here ((λ i. k), tt) spot_here e
 
-    pub unended_change : ((m : List ℕ) → token_at t.spots.items (at + 1) ≡ Some (token.Name m) → ⊥) → Leaves limits (Unended actor d c) (Before (token.Sign sign.Semicolon)) (Then (MoreNames x) (λ xs. ChangedRule d x.at xs)) (λ v. ExprEnds v.1) (λ v. closed v.1 c) t.spots.items at (at + 1)
+    pub unended_change : ((m : List ℕ) → token_at t.spots.items (at + 1) ≡ Some (token.Name m) → ⊥)
+        → Leaves limits (Unended actor d c) (Before (token.Sign sign.Semicolon)) (Then (MoreNames x) (λ xs. ChangedRule d x.at xs)) (λ v. ExprEnds v.1) (λ v. closed v.1 c) t.spots.items at (at + 1)
     unended_change n = behind_first limits (name_at x) (token_at t.spots.items (at + 1))
         (λ v b s. (changing s.first s.rest s.front s.back (ap (λ z. name_at x ∷ z) s.is), refl))
-        (λ w z a s f l. split_name d c x (name_at x) refl (token_at t.spots.items (at + 1)) (Then (MoreNames x) (λ xs. ChangedRule d x.at xs)) (λ v. ExprEnds v.1) (λ v. v.1) (AfterName d) (λ w z b u f l. changed_back z (token_at t.spots.items (at + 1)) n u f l) w z a (unended_name z x.name s.0 l) s.1 f)
+        (λ w z a s f l. split_name d c x (name_at x) refl (token_at t.spots.items (at + 1)) (Then (MoreNames x) (λ xs. ChangedRule d x.at xs)) (λ v. ExprEnds v.1) (λ v. v.1) (AfterName d)
+        (λ w z b u f l. changed_back z (token_at t.spots.items (at + 1)) n u f l) w z a (unended_name z x.name s.0 l) s.1 f)
         t.spots.items at some_here tt spot_here refl
 
 module _ (limits : Limits) (t : Tokens) (at : ℕ) (actor : Bool) (d : ℕ) (c : Counts) (h : at ≤ length t.spots.items) where
   pub simple_left : Leaves limits (Simple actor d c) Any (Then (Unended actor d c) (λ o. Tok (token.Sign sign.Semicolon))) Any (λ x. x.0) t.spots.items at at
-  simple_left = narrow limits t.spots.items refl (record { back = λ w z b r f l. simple_back z r; forth = λ u x r. (x.1, r.first, r.front, glue _ r.is r.back) }) (nothing limits t.spots.items (Simple actor d c) Any at h)
+  simple_left = narrow limits t.spots.items refl (record { back = λ w z b r f l. simple_back z r; forth = λ u x r. (x.1, r.first, r.front, glue _ r.is r.back) })
+      (nothing limits t.spots.items (Simple actor d c) Any at h)
 
-  pub plain_waiting : AsFirst WaitToken (token_at t.spots.items at) → Leaves limits (WaitingPart actor d c) Any (OperandPart d) Any (λ x. (record { into = None; next = x.0; operand = x.1 }, c)) t.spots.items at at
-  plain_waiting v = narrow limits t.spots.items refl (record { back = λ w z b r f l. plain_wait_back z (token_at t.spots.items at) v r l; forth = λ u x r. plain_wait r }) (nothing limits t.spots.items (WaitingPart actor d c) Any at h)
+  pub plain_waiting : AsFirst WaitToken (token_at t.spots.items at)
+      → Leaves limits (WaitingPart actor d c) Any (OperandPart d) Any (λ x. (record { into = None; next = x.0; operand = x.1 }, c)) t.spots.items at at
+  plain_waiting v = narrow limits t.spots.items refl (record { back = λ w z b r f l. plain_wait_back z (token_at t.spots.items at) v r l; forth = λ u x r. plain_wait r })
+      (nothing limits t.spots.items (WaitingPart actor d c) Any at h)
 
-  pub into_waiting : (AsFirst WaitToken (token_at t.spots.items at) → ⊥) → Leaves limits (WaitingPart actor d c) Any (Then (IntoPart actor d c) (λ y. Then (Tok (token.Sign sign.Assign)) (λ q. OperandPart d))) Any (λ x. (record { into = Some x.0.0; next = x.1.1.0; operand = x.1.1.1 }, x.0.1)) t.spots.items at at
-  into_waiting v = narrow limits t.spots.items refl (record { back = λ w z b r f l. into_wait_back z (token_at t.spots.items at) v r l; forth = λ u x r. into_wait x.1.0 r.first r.back.rest r.front r.back.back (glue _ r.is (behind r.back.is r.back.front refl)) }) (nothing limits t.spots.items (WaitingPart actor d c) Any at h)
+  pub into_waiting : (AsFirst WaitToken (token_at t.spots.items at) → ⊥)
+      → Leaves limits (WaitingPart actor d c) Any (Then (IntoPart actor d c) (λ y. Then (Tok (token.Sign sign.Assign)) (λ q. OperandPart d))) Any
+      (λ x. (record { into = Some x.0.0; next = x.1.1.0; operand = x.1.1.1 }, x.0.1)) t.spots.items at at
+  into_waiting v = narrow limits t.spots.items refl (record {
+    back = λ w z b r f l. into_wait_back z (token_at t.spots.items at) v r l;
+    forth = λ u x r. into_wait x.1.0 r.first r.back.rest r.front r.back.back (glue _ r.is (behind r.back.is r.back.front refl));
+  }) (nothing limits t.spots.items (WaitingPart actor d c) Any at h)
 
 module _ (limits : Limits) (t : Tokens) (at d : ℕ) (h : at ≤ length t.spots.items) where
   pub assignment_left : Leaves limits (Assignment d) ExprEnds (Then Named (λ x. Then (MoreNames x) (λ xs. ChangeRule d x.at xs))) (λ v. ExprEnds v.1.1) (λ x. x.1.1) t.spots.items at at

@@ -33,14 +33,16 @@ abbrev pub of_name : Ident → Ident → IntoTree
 of_name ty x = record { state = false; ty = NamedType ty.name; name = x }
 
 -- a type that begins with a name
-type_named : {d : ℕ} {w : List Marked} {t : TypeTree} (z : List Marked) (m : List ℕ) → TypeRule d w t → Looks (Some (token.Name m)) (w ++ z) → (n : Ident) × (w ≡ node_name d n ∷ []) × (t ≡ NamedType n.name)
+type_named : {d : ℕ} {w : List Marked} {t : TypeTree} (z : List Marked) (m : List ℕ) → TypeRule d w t → Looks (Some (token.Name m)) (w ++ z)
+    → (n : Ident) × (w ≡ node_name d n ∷ []) × (t ≡ NamedType n.name)
 type_named z m (int_type p) l = absurd (cc)
 type_named z m (bool_type p) l = absurd (cc)
 type_named z m (string_type p) l = absurd (cc)
 type_named z m (void_type p) l = absurd (cc)
 type_named z m (error_type p) l = absurd (cc)
 type_named z m (named_type x) l = (x, refl, refl)
-type_named {d = d} z m (wrapped_type w p q r of t e) l = let k = looks_is (Some (token.Name m)) (node_word d (wrapper_word w) p) (sign_at sign.Less q ∷ (of ++ sign_at sign.Greater r ∷ [])) z e l in absurd (cc)
+type_named {d = d} z m (wrapped_type w p q r of t e) l = let k = looks_is (Some (token.Name m)) (node_word d (wrapper_word w) p) (sign_at sign.Less q ∷ (of ++ sign_at sign.Greater r ∷ [])) z e l
+    in absurd (cc)
 
 record NamedInto (d : ℕ) (c c' : Counts) (w : List Marked) (i : IntoTree) : Type 0 where
   ty : Ident
@@ -49,7 +51,8 @@ record NamedInto (d : ℕ) (c c' : Counts) (w : List Marked) (i : IntoTree) : Ty
   tree : i ≡ of_name ty name
   counts : c' ≡ c
 
-into_named : {actor : Bool} {d : ℕ} {c c' : Counts} {w : List Marked} {i : IntoTree} (z : List Marked) (m : List ℕ) → IntoRule actor d c c' w i → Looks (Some (token.Name m)) (w ++ z) → NamedInto d c c' w i
+into_named : {actor : Bool} {d : ℕ} {c c' : Counts} {w : List Marked} {i : IntoTree} (z : List Marked) (m : List ℕ) → IntoRule actor d c c' w i → Looks (Some (token.Name m)) (w ++ z)
+    → NamedInto d c c' w i
 into_named z m (declared x kept of no_state t e) l =
     let k = type_named (name_at x ∷ z) m t (subst (Looks (Some (token.Name m))) (ap (λ v. v ++ z) e ∙ append_assoc of (name_at x ∷ []) z) l) in
     record { ty = k.0; name = x; is = e ∙ ap (λ v. v ++ name_at x ∷ []) k.1; tree = ap (λ y. record { state = false; ty = y; name = x }) k.2; counts = refl }
@@ -83,7 +86,8 @@ pub record Changes (d : ℕ) (at : Place) (w : List Marked) (body : Body) : Type
   pub rule : ChangeRule d name.at names right body
   pub is : w ≡ name_at name ∷ (left ++ right)
 
-changes_of : {d : ℕ} {at : Place} {w path right : List Marked} {xs : List Ident} {body : Body} → PathRule path xs → ChangeRule d at xs right body → w ≡ path ++ right → StartsAt w at → Changes d at w body
+changes_of : {d : ℕ} {at : Place} {w path right : List Marked} {xs : List Ident} {body : Body} → PathRule path xs → ChangeRule d at xs right body → w ≡ path ++ right → StartsAt w at
+    → Changes d at w body
 changes_of {d = d} {at = at} {w = w} {path = path} {right = right} {xs = xs} {body = body} r ch e s =
     let k = path_parts r in
     let f : w ≡ name_at k.name ∷ (k.left ++ right) = e ∙ ap (λ v. v ++ right) k.is in
@@ -115,7 +119,8 @@ abbrev pub AfterInit : ℕ → Ident → List Marked → Body → Type 0
 AfterInit d x w b = Formed (Then Named (λ y. DeclaredRule d x.at (of_name x y))) (λ v. v.1) w b ⊎ Formed (Then (MoreNames x) (λ xs. ChangeRule d x.at xs)) (λ v. v.1) w b
 
 -- behind a path stands a sign
-path_sign : {x : Ident} {w : List Marked} {xs : List Ident} (rest z : List Marked) (o : Option Token) → MoreNames x w xs → ((s : Sign) × (Looks o (rest ++ z) → o ≡ Some (token.Sign s))) → Looks o (w ++ (rest ++ z)) → (s : Sign) × (o ≡ Some (token.Sign s))
+path_sign : {x : Ident} {w : List Marked} {xs : List Ident} (rest z : List Marked) (o : Option Token) → MoreNames x w xs → ((s : Sign) × (Looks o (rest ++ z) → o ≡ Some (token.Sign s)))
+    → Looks o (w ++ (rest ++ z)) → (s : Sign) × (o ≡ Some (token.Sign s))
 path_sign {x = x} {w = w} rest z o r k l = by_path (name_at x ∷ w) w refl r l
   where
     by_path : {xs : List Ident} (all w : List Marked) → all ≡ name_at x ∷ w → PathRule all xs → Looks o (w ++ (rest ++ z)) → (s : Sign) × (o ≡ Some (token.Sign s))
@@ -133,7 +138,8 @@ path_sign {x = x} {w = w} rest z o r k l = by_path (name_at x ∷ w) w refl r l
         tail_of [] = []
         tail_of (m ∷ v) = v
 
-changed_sign : {d : ℕ} {at : Place} {xs : List Ident} {w : List Marked} {b : Body} (z : List Marked) (o : Option Token) → ChangedRule d at xs w b → (s : Sign) × (Looks o (w ++ z) → o ≡ Some (token.Sign s))
+changed_sign : {d : ℕ} {at : Place} {xs : List Ident} {w : List Marked} {b : Body} (z : List Marked) (o : Option Token) → ChangedRule d at xs w b
+    → (s : Sign) × (Looks o (w ++ z) → o ≡ Some (token.Sign s))
 changed_sign z o (changes (assigns p of x e)) = (sign.Assign, λ l. looks_is o (sign_at sign.Assign p) of z e l)
 changed_sign z o (changes (adds p of x e)) = (sign.PlusAssign, λ l. looks_is o (sign_at sign.PlusAssign p) of z e l)
 changed_sign z o (changes (takes p of x e)) = (sign.MinusAssign, λ l. looks_is o (sign_at sign.MinusAssign p) of z e l)
@@ -141,23 +147,27 @@ changed_sign z o (changes (goes_up p)) = (sign.PlusPlus, λ l. looks_first o (si
 changed_sign z o (changes (goes_down p)) = (sign.MinusMinus, λ l. looks_first o (sign_at sign.MinusMinus p) z l)
 changed_sign z o (calls p args a e) = (sign.OpenRound, λ l. looks_is o (sign_at sign.OpenRound p) args z e l)
 
-behind_path : {d : ℕ} {at : Place} {x : Ident} {w : List Marked} {v : List Ident × Body} (z : List Marked) (o : Option Token) → Then (MoreNames x) (λ xs. ChangedRule d at xs) w v → Looks o (w ++ z) → (s : Sign) × (o ≡ Some (token.Sign s))
+behind_path : {d : ℕ} {at : Place} {x : Ident} {w : List Marked} {v : List Ident × Body} (z : List Marked) (o : Option Token) → Then (MoreNames x) (λ xs. ChangedRule d at xs) w v → Looks o (w ++ z)
+    → (s : Sign) × (o ≡ Some (token.Sign s))
 behind_path z o r l = path_sign r.rest z o r.front (changed_sign z o r.back) (subst (Looks o) (ap (λ k. k ++ z) r.is ∙ append_assoc r.first r.rest z) l)
 
 sign_no_name : (o : Option Token) (s : Sign) (m : List ℕ) → o ≡ Some (token.Sign s) → o ≡ Some (token.Name m) → ⊥
 sign_no_name o s m e f = cc
 
-pub named_value_back : {d : ℕ} {x : Ident} {w : List Marked} {b : Body} (z : List Marked) (m : List ℕ) → AfterName d x w b → Before (token.Sign sign.Semicolon) b z → Looks (Some (token.Name m)) (w ++ z)
+pub named_value_back : {d : ℕ} {x : Ident} {w : List Marked} {b : Body} (z : List Marked) (m : List ℕ) → AfterName d x w b → Before (token.Sign sign.Semicolon) b z
+    → Looks (Some (token.Name m)) (w ++ z)
     → Back (AfterName d x) (Before (token.Sign sign.Semicolon)) (Then Named (λ y. ValuedRule d x.at (of_name x y))) (λ v. Before (token.Sign sign.Semicolon) v.1) (λ v. v.1) w z b
 named_value_back z m (inl k) f l = record { tree = k.tree; rule = k.rule; is = k.is; follows = subst (λ v. Before (token.Sign sign.Semicolon) v z) k.is f }
 named_value_back z m (inr k) f l = let s = behind_path z (Some (token.Name m)) k.rule l in absurd (sign_no_name (Some (token.Name m)) s.0 m s.1 refl)
 
-pub changed_back : {d : ℕ} {x : Ident} {w : List Marked} {b : Body} (z : List Marked) (o : Option Token) → ((m : List ℕ) → o ≡ Some (token.Name m) → ⊥) → AfterName d x w b → Before (token.Sign sign.Semicolon) b z → Looks o (w ++ z)
+pub changed_back : {d : ℕ} {x : Ident} {w : List Marked} {b : Body} (z : List Marked) (o : Option Token) → ((m : List ℕ) → o ≡ Some (token.Name m) → ⊥) → AfterName d x w b
+    → Before (token.Sign sign.Semicolon) b z → Looks o (w ++ z)
     → Back (AfterName d x) (Before (token.Sign sign.Semicolon)) (Then (MoreNames x) (λ xs. ChangedRule d x.at xs)) (λ v. ExprEnds v.1) (λ v. v.1) w z b
 changed_back z o n (inl k) f l = absurd (n k.tree.0.name (looks_is o (name_at k.tree.0) k.rule.rest z (k.rule.is ∙ ap (λ v. v ++ k.rule.rest) k.rule.front) l))
 changed_back {b = b} z o n (inr k) f l = record { tree = k.tree; rule = k.rule; is = k.is; follows = semicolon_ends b k.tree.1 z f }
 
-pub named_declared_back : {d : ℕ} {x : Ident} {w : List Marked} {b : Body} (z : List Marked) (m : List ℕ) → AfterInit d x w b → Before (token.Sign sign.Semicolon) b z → Looks (Some (token.Name m)) (w ++ z)
+pub named_declared_back : {d : ℕ} {x : Ident} {w : List Marked} {b : Body} (z : List Marked) (m : List ℕ) → AfterInit d x w b → Before (token.Sign sign.Semicolon) b z
+    → Looks (Some (token.Name m)) (w ++ z)
     → Back (AfterInit d x) (Before (token.Sign sign.Semicolon)) (Then Named (λ y. DeclaredRule d x.at (of_name x y))) (λ v. Before (token.Sign sign.Semicolon) v.1) (λ v. v.1) w z b
 named_declared_back z m (inl k) f l = record { tree = k.tree; rule = k.rule; is = k.is; follows = subst (λ v. Before (token.Sign sign.Semicolon) v z) k.is f }
 named_declared_back {d = d} {x = x} {w = w} z m (inr k) f l =
@@ -165,7 +175,8 @@ named_declared_back {d = d} {x = x} {w = w} z m (inr k) f l =
     let s = behind_path z (Some (token.Name m)) r l in
     absurd (sign_no_name (Some (token.Name m)) s.0 m s.1 refl)
 
-pub change_init_back : {d : ℕ} {x : Ident} {w : List Marked} {b : Body} (z : List Marked) (o : Option Token) → ((m : List ℕ) → o ≡ Some (token.Name m) → ⊥) → AfterInit d x w b → Before (token.Sign sign.Semicolon) b z → Looks o (w ++ z)
+pub change_init_back : {d : ℕ} {x : Ident} {w : List Marked} {b : Body} (z : List Marked) (o : Option Token) → ((m : List ℕ) → o ≡ Some (token.Name m) → ⊥) → AfterInit d x w b
+    → Before (token.Sign sign.Semicolon) b z → Looks o (w ++ z)
     → Back (AfterInit d x) (Before (token.Sign sign.Semicolon)) (Then (MoreNames x) (λ xs. ChangeRule d x.at xs)) (λ v. ExprEnds v.1) (λ v. v.1) w z b
 change_init_back z o n (inl k) f l = absurd (n k.tree.0.name (looks_is o (name_at k.tree.0) k.rule.rest z (k.rule.is ∙ ap (λ v. v ++ k.rule.rest) k.rule.front) l))
 change_init_back {b = b} z o n (inr k) f l = record { tree = k.tree; rule = k.rule; is = k.is; follows = semicolon_ends b k.tree.1 z f }
@@ -180,7 +191,8 @@ unended_wait {w = w} z o h (declaring at left right i v e s) l = absurd (wait_no
 unended_wait z o h (changing {x = x} left right r ch e) l = absurd (wait_clash o x.name (looks_is o (name_at x) (left ++ right) z e l) h)
 unended_wait z o h (waiting {next = n} {e = t} at r s) l = record { tree = (at, (n, t)); rule = (s, r); is = refl }
 
-pub unended_into : {actor : Bool} {d : ℕ} {c c' : Counts} {w : List Marked} {b : Body} (z : List Marked) (o : Option Token) → (AsFirst WaitToken o → ⊥) → ((m : List ℕ) → o ≡ Some (token.Name m) → ⊥) → UnendedRule actor d c w c' b → Looks o (w ++ z)
+pub unended_into : {actor : Bool} {d : ℕ} {c c' : Counts} {w : List Marked} {b : Body} (z : List Marked) (o : Option Token) → (AsFirst WaitToken o → ⊥) → ((m : List ℕ) → o ≡ Some (token.Name m) → ⊥)
+    → UnendedRule actor d c w c' b → Looks o (w ++ z)
     → Formed {A = Body × Counts} (Then (Placed (IntoPart actor d c)) (λ x. ValuedRule d x.0 x.1.0)) (λ x. (x.1, x.0.1.1)) w (b, c')
 unended_into {actor = actor} {d = d} {c = c} {c' = c'} {b = b} z o h n (declaring {i = i} at left right r v e s) l = record {
   tree = ((at, (i, c')), b);
@@ -192,7 +204,8 @@ unended_into z o h n (waiting at r s) l = absurd (no_wait z o h r l)
 
 module _ (V : Place → IntoTree → List Marked → Body → Type 0) (Q : Ident → List Marked → Body → Type 0) where
   -- a type that is a name, a name, and what follows
-  named_declaring : {actor : Bool} {d : ℕ} {c c' : Counts} {w left right : List Marked} {i : IntoTree} {at : Place} {b : Body} (z : List Marked) (m : List ℕ) → IntoRule actor d c c' left i → V at i right b → w ≡ left ++ right → StartsAt w at → Looks (Some (token.Name m)) (w ++ z)
+  named_declaring : {actor : Bool} {d : ℕ} {c c' : Counts} {w left right : List Marked} {i : IntoTree} {at : Place} {b : Body} (z : List Marked) (m : List ℕ) → IntoRule actor d c c' left i
+      → V at i right b → w ≡ left ++ right → StartsAt w at → Looks (Some (token.Name m)) (w ++ z)
       → Formed {A = Body × Counts} (Then (AnyName d) (λ x v e. Formed (Then Named (λ y. V x.at (of_name x y))) (λ u. u.1) v e ⊎ Q x v e)) (λ x. (x.1, c)) w (b, c')
   named_declaring {d = d} {w = w} {left = left} {right = right} {i = i} {at = at} {b = b} z m r v e s l =
       let k = into_named (right ++ z) m r (subst (Looks (Some (token.Name m))) (ap (λ u. u ++ z) e ∙ append_assoc left right z) l) in
@@ -201,7 +214,8 @@ module _ (V : Place → IntoTree → List Marked → Body → Type 0) (Q : Ident
       let v2 : V k.ty.at (of_name k.ty k.name) right b = subst (λ p. V p (of_name k.ty k.name) right b) g (subst (λ j. V at j right b) k.tree v) in
       record {
         tree = (k.ty, b);
-        rule = front (AnyName d) k.ty b (node_name d k.ty ∷ []) (name_at k.name ∷ right) f (inr refl) (inl (record { tree = (k.name, b); rule = front Named k.name b (name_at k.name ∷ []) right refl refl v2; is = refl }));
+        rule = front (AnyName d) k.ty b (node_name d k.ty ∷ []) (name_at k.name ∷ right) f (inr refl)
+            (inl (record { tree = (k.name, b); rule = front Named k.name b (name_at k.name ∷ []) right refl refl v2; is = refl }));
         is = ap (λ n. (b, n)) k.counts;
       }
 
@@ -216,7 +230,8 @@ unended_name {d = d} {b = b} z m (changing {x = x} {xs = xs} left right r ch e) 
 unended_name {w = w} z m (waiting at r s) l = absurd (wait_clash (Some (token.Name m)) m refl (starts_looks WaitToken w z (Some (token.Name m)) (operand_starts r) l))
 
 -- the same for the init of a `for`
-pub init_into : {actor : Bool} {d : ℕ} {c c' : Counts} {w : List Marked} {at : Place} {b : Body} (z : List Marked) (o : Option Token) → ((m : List ℕ) → o ≡ Some (token.Name m) → ⊥) → InitRule actor d c c' w at End b → Looks o (w ++ z)
+pub init_into : {actor : Bool} {d : ℕ} {c c' : Counts} {w : List Marked} {at : Place} {b : Body} (z : List Marked) (o : Option Token) → ((m : List ℕ) → o ≡ Some (token.Name m) → ⊥)
+    → InitRule actor d c c' w at End b → Looks o (w ++ z)
     → Formed {A = Body × Counts} (Then (Placed (IntoPart actor d c)) (λ x. DeclaredRule d x.0 x.1.0)) (λ x. (x.1, x.0.1.1)) w (b, c')
 init_into {actor = actor} {d = d} {c = c} {c' = c'} {w = w} {b = b} z o n (declare {i = i} at r s) l = record {
   tree = ((at, (i, c')), b);
@@ -225,22 +240,27 @@ init_into {actor = actor} {d = d} {c = c} {c' = c'} {w = w} {b = b} z o n (decla
 }
 init_into {actor = actor} {d = d} {c = c} {c' = c'} {b = b} z o n (declare_value {i = i} at p left of r x e s) l = record {
   tree = ((at, (i, c')), b);
-  rule = front (Placed (IntoPart actor d c)) (at, (i, c')) b left (sign_at sign.Assign p ∷ of) e (starts_front IntoToken at left (sign_at sign.Assign p ∷ of) e (into_starts r) s, r) (value p of x refl);
+  rule = front (Placed (IntoPart actor d c)) (at, (i, c')) b left (sign_at sign.Assign p ∷ of) e (starts_front IntoToken at left (sign_at sign.Assign p ∷ of) e (into_starts r) s, r)
+      (value p of x refl);
   is = refl;
 }
 init_into z o n (change at r) l =
     let k = assign_changes r in
     absurd (n k.name.name (looks_is o (name_at k.name) (k.left ++ k.right) z k.is l))
 
-pub init_name : {actor : Bool} {d : ℕ} {c c' : Counts} {w : List Marked} {at : Place} {b : Body} (z : List Marked) (m : List ℕ) → InitRule actor d c c' w at End b → Looks (Some (token.Name m)) (w ++ z)
+pub init_name : {actor : Bool} {d : ℕ} {c c' : Counts} {w : List Marked} {at : Place} {b : Body} (z : List Marked) (m : List ℕ) → InitRule actor d c c' w at End b
+    → Looks (Some (token.Name m)) (w ++ z)
     → Formed {A = Body × Counts} (Then (AnyName d) (AfterInit d)) (λ x. (x.1, c)) w (b, c')
-init_name {d = d} {w = w} z m (declare at r s) l = named_declaring (DeclaredRule d) (λ x v e. Formed (Then (MoreNames x) (λ xs. ChangeRule d x.at xs)) (λ u. u.1) v e) z m r no_value (sym (append-nil w)) s l
-init_name {d = d} z m (declare_value at p left of r x e s) l = named_declaring (DeclaredRule d) (λ x v e. Formed (Then (MoreNames x) (λ xs. ChangeRule d x.at xs)) (λ u. u.1) v e) z m r (value p of x refl) e s l
+init_name {d = d} {w = w} z m (declare at r s) l = named_declaring (DeclaredRule d) (λ x v e. Formed (Then (MoreNames x) (λ xs. ChangeRule d x.at xs)) (λ u. u.1) v e) z m r no_value
+    (sym (append-nil w)) s l
+init_name {d = d} z m (declare_value at p left of r x e s) l = named_declaring (DeclaredRule d) (λ x v e. Formed (Then (MoreNames x) (λ xs. ChangeRule d x.at xs)) (λ u. u.1) v e) z m r
+    (value p of x refl) e s l
 init_name {d = d} {b = b} z m (change at r) l =
     let k = assign_changes r in
     record {
       tree = (k.name, b);
-      rule = front (AnyName d) k.name b (name_at k.name ∷ []) (k.left ++ k.right) k.is (inl refl) (inr (record { tree = (k.names, b); rule = front (MoreNames k.name) k.names b k.left k.right refl k.path k.rule; is = refl }));
+      rule = front (AnyName d) k.name b (name_at k.name ∷ []) (k.left ++ k.right) k.is (inl refl)
+          (inr (record { tree = (k.names, b); rule = front (MoreNames k.name) k.names b k.left k.right refl k.path k.rule; is = refl }));
       is = refl;
     }
 
@@ -250,11 +270,15 @@ init_unended {w = w} (declare at r s) = declaring at w [] r (declares no_value) 
 init_unended (declare_value at p left of r x e s) = declaring at left (sign_at sign.Assign p ∷ of) r (declares (value p of x refl)) e s
 init_unended (change at r) = let k = assign_changes r in changing k.left k.right k.path (changes k.rule) k.is
 
-waiting_unended : {actor : Bool} {d : ℕ} {c c' : Counts} {w all : List Marked} {x : WaitTree} {at : Place} (p : Place) → WaitingRule actor d c c' w x → all ≡ w ++ sign_at sign.Semicolon p ∷ [] → StartsAt all at → UnendedRule actor d c w c' (WaitStmt at x End)
+waiting_unended : {actor : Bool} {d : ℕ} {c c' : Counts} {w all : List Marked} {x : WaitTree} {at : Place} (p : Place) → WaitingRule actor d c c' w x → all ≡ w ++ sign_at sign.Semicolon p ∷ []
+    → StartsAt all at → UnendedRule actor d c w c' (WaitStmt at x End)
 waiting_unended {w = w} {at = at} p (plain_wait r) e s = waiting at r (starts_front WaitToken at w (sign_at sign.Semicolon p ∷ []) e (operand_starts r) s)
-waiting_unended {w = w} {at = at} p (into_wait q left right i o f) e s = declaring at left (sign_at sign.Assign q ∷ right) i (waits q right o refl) f (starts_front IntoToken at w (sign_at sign.Semicolon p ∷ []) e (starts_is IntoToken left (sign_at sign.Assign q ∷ right) f (into_starts i)) s)
+waiting_unended {w = w} {at = at} p (into_wait q left right i o f) e s =
+    declaring at left (sign_at sign.Assign q ∷ right) i (waits q right o refl) f
+    (starts_front IntoToken at w (sign_at sign.Semicolon p ∷ []) e (starts_is IntoToken left (sign_at sign.Assign q ∷ right) f (into_starts i)) s)
 
-call_unended : {actor : Bool} {d : ℕ} {c : Counts} {w path right : List Marked} {xs : List Ident} {at : Place} {b : Body} → PathRule path xs → ChangedRule d at xs right b → w ≡ path ++ right → StartsAt w at → UnendedRule actor d c w c b
+call_unended : {actor : Bool} {d : ℕ} {c : Counts} {w path right : List Marked} {xs : List Ident} {at : Place} {b : Body} → PathRule path xs → ChangedRule d at xs right b → w ≡ path ++ right
+    → StartsAt w at → UnendedRule actor d c w c b
 call_unended {d = d} {w = w} {right = right} {xs = xs} {at = at} {b = b} r ch e s =
     let k = path_parts r in
     let f : w ≡ name_at k.name ∷ (k.left ++ right) = e ∙ ap (λ v. v ++ right) k.is in
@@ -263,7 +287,8 @@ call_unended {d = d} {w = w} {right = right} {xs = xs} {at = at} {b = b} r ch e 
 none_some : {A : Type 0} (k : A) → Some k ≡ None → ⊥
 none_some k e = cc
 
-pub plain_simple : {actor : Bool} {d : ℕ} {c c' : Counts} {w : List Marked} {p : Place} {b : Body} {h : Bool} → (r : PlainRule actor d c c' w p End b h) → opener r ≡ None → Simple actor d c w (record { body = b; counts = c'; ends_if = h })
+pub plain_simple : {actor : Bool} {d : ℕ} {c c' : Counts} {w : List Marked} {p : Place} {b : Body} {h : Bool} → (r : PlainRule actor d c c' w p End b h) → opener r ≡ None
+    → Simple actor d c w (record { body = b; counts = c'; ends_if = h })
 plain_simple (if_stmt at p q test body e b f) n = absurd (none_some word.If n)
 plain_simple (if_else_stmt at p q r test body other e b o f) n = absurd (none_some word.If n)
 plain_simple (while_stmt at p q test body e b f) n = absurd (none_some word.While n)
@@ -279,12 +304,24 @@ plain_simple (init_stmt at p xs i f) n = (p, xs, (init_unended i, refl), f)
 plain_simple (wait_stmt at p xs w f s) n = (p, xs, (waiting_unended p w f s, refl), f)
 plain_simple (call_stmt at p q r path args x a f s) n =
     let of = path ++ (sign_at sign.OpenRound p ∷ (args ++ sign_at sign.CloseRound q ∷ [])) in
-    let e = f ∙ ap (λ k. path ++ (sign_at sign.OpenRound p ∷ k)) (sym (append_assoc args (sign_at sign.CloseRound q ∷ []) (sign_at sign.Semicolon r ∷ []))) ∙ sym (append_assoc path (sign_at sign.OpenRound p ∷ (args ++ sign_at sign.CloseRound q ∷ [])) (sign_at sign.Semicolon r ∷ [])) in
-    (r, of, (call_unended x (calls p (args ++ sign_at sign.CloseRound q ∷ []) (q, args, a, refl) refl) refl (call_starts (sign_at sign.OpenRound p ∷ (args ++ sign_at sign.CloseRound q ∷ [])) at r path x e s), refl), e)
+    let e = f ∙ ap (λ k. path ++ (sign_at sign.OpenRound p ∷ k)) (sym (append_assoc args (sign_at sign.CloseRound q ∷ []) (sign_at sign.Semicolon r ∷ [])))
+    ∙ sym (append_assoc path (sign_at sign.OpenRound p ∷ (args ++ sign_at sign.CloseRound q ∷ [])) (sign_at sign.Semicolon r ∷ [])) in (
+      r,
+      of,
+      (
+        call_unended x (calls p (args ++ sign_at sign.CloseRound q ∷ []) (q, args, a, refl) refl) refl
+            (call_starts (sign_at sign.OpenRound p ∷ (args ++ sign_at sign.CloseRound q ∷ [])) at r path x e s),
+        refl,
+      ),
+      e,
+    )
   where
-    call_starts : {w : List Marked} {xs : List Ident} (rest : List Marked) (at p : Place) (path : List Marked) → PathRule path xs → w ≡ (path ++ rest) ++ sign_at sign.Semicolon p ∷ [] → StartsAt w at → StartsAt (path ++ rest) at
+    call_starts : {w : List Marked} {xs : List Ident} (rest : List Marked) (at p : Place) (path : List Marked) → PathRule path xs → w ≡ (path ++ rest) ++ sign_at sign.Semicolon p ∷ [] → StartsAt w at
+        → StartsAt (path ++ rest) at
     call_starts rest at p path (last_name x) e s = subst (λ v. StartsAt v at) e s
-    call_starts rest at p path (more_names x q more r f) e s = subst (λ v. StartsAt (v ++ rest) at) (sym f) (subst (λ v. StartsAt v at) (e ∙ ap (λ v. (v ++ rest) ++ sign_at sign.Semicolon p ∷ []) f) s)
+    call_starts rest at p path (more_names x q more r f) e s = subst (λ v. StartsAt (v ++ rest) at) (sym f)
+        (subst (λ v. StartsAt v at) (e ∙ ap (λ v. (v ++ rest) ++ sign_at sign.Semicolon p ∷ []) f) s)
 
-pub simple_back : {actor : Bool} {d : ℕ} {c : Counts} {w : List Marked} {o : Out} (z : List Marked) → Simple actor d c w o → Back (Simple actor d c) Any (Then (Unended actor d c) (λ o. Tok (token.Sign sign.Semicolon))) Any (λ x. x.0) w z o
+pub simple_back : {actor : Bool} {d : ℕ} {c : Counts} {w : List Marked} {o : Out} (z : List Marked) → Simple actor d c w o
+    → Back (Simple actor d c) Any (Then (Unended actor d c) (λ o. Tok (token.Sign sign.Semicolon))) Any (λ x. x.0) w z o
 simple_back {actor = actor} {d = d} {c = c} {o = o} z r = record { tree = (o, r.0); rule = front (Unended actor d c) o r.0 r.1 (sign_at sign.Semicolon r.0 ∷ []) r.3 r.2 refl; is = refl; follows = tt }

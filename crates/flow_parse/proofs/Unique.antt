@@ -25,7 +25,8 @@ Uniq {A} k R F = (w z v u : List Marked) (a b : A) → length w < k → R w a �
 
 -- where this is the next token
 abbrev pub UniqAt : {A : Type 0} → Option Token → ℕ → (List Marked → A → Type 0) → (A → List Marked → Type 0) → Type 0
-UniqAt {A} o k R F = (w z v u : List Marked) (a b : A) → length w < k → R w a → F a z → R v b → F b u → spots_of (w ++ z) ≡ spots_of (v ++ u) → Looks o (w ++ z) → Looks o (v ++ u) → (a ≡ b) × (length w ≡ length v)
+UniqAt {A} o k R F = (w z v u : List Marked) (a b : A) → length w < k → R w a → F a z → R v b → F b u → spots_of (w ++ z) ≡ spots_of (v ++ u) → Looks o (w ++ z) → Looks o (v ++ u)
+    → (a ≡ b) × (length w ≡ length v)
 
 looks_self : (m : List Marked) → Looks (first_of (spots_of m)) m
 looks_self [] = tt
@@ -70,7 +71,8 @@ rest_spots (x ∷ w) z (y ∷ v) u l e = rest_spots w z v u (omega (arith, l)) (
     tail_of [] = []
     tail_of (t ∷ ts) = ts
 
-module _ {A B : Type 0} (R : List Marked → A → Type 0) (FR : A → List Marked → Type 0) (S : A → List Marked → B → Type 0) (F : A × B → List Marked → Type 0) (fol : (a : A) (b : B) (v z : List Marked) → S a v b → F (a, b) z → FR a (v ++ z)) where
+module _ {A B : Type 0} (R : List Marked → A → Type 0) (FR : A → List Marked → Type 0) (S : A → List Marked → B → Type 0) (F : A × B → List Marked → Type 0)
+    (fol : (a : A) (b : B) (v z : List Marked) → S a v b → F (a, b) z → FR a (v ++ z)) where
   split : (w z : List Marked) (x : A × B) → (r : Then R S w x) → spots_of (w ++ z) ≡ spots_of (r.first ++ (r.rest ++ z))
   split w z x r = ap spots_of (ap (λ y. y ++ z) r.is ∙ append_assoc r.first r.rest z)
 
@@ -82,8 +84,11 @@ module _ {A B : Type 0} (R : List Marked → A → Type 0) (FR : A → List Mark
       let a = f r.first (r.rest ++ z) s.first (s.rest ++ u) x.0 y.0 (omega (arith, n)) r.front (fol x.0 x.1 r.rest z r.back p) s.front (fol y.0 y.1 s.rest u s.back q) e2 in
       let back : S x.0 s.rest y.1 = subst (λ c. S c s.rest y.1) (sym a.0) s.back in
       let q2 : F (x.0, y.1) u = subst (λ c. F (c, y.1) u) (sym a.0) q in
-      let b = g x.0 r.rest z s.rest u x.1 y.1 (omega (arith, n, long r.first x.0 r.front)) r.back p back q2 (rest_spots r.first (r.rest ++ z) s.first (s.rest ++ u) a.1 e2) in
-      (same_pair x y a.0 b.0, ap length r.is ∙ length-append r.first r.rest ∙ (let i : length r.first + length r.rest ≡ length s.first + length s.rest = omega (arith, a.1, b.1) in i) ∙ sym (ap length s.is ∙ length-append s.first s.rest))
+      let b = g x.0 r.rest z s.rest u x.1 y.1 (omega (arith, n, long r.first x.0 r.front)) r.back p back q2 (rest_spots r.first (r.rest ++ z) s.first (s.rest ++ u) a.1 e2) in (
+        same_pair x y a.0 b.0,
+        ap length r.is ∙ length-append r.first r.rest ∙ (let i : length r.first + length r.rest ≡ length s.first + length s.rest = omega (arith, a.1, b.1) in i)
+            ∙ sym (ap length s.is ∙ length-append s.first s.rest),
+      )
     where
       same_pair : (x y : A × B) → x.0 ≡ y.0 → x.1 ≡ y.1 → x ≡ y
       same_pair x y e f = ap (λ c. (c, x.1)) e ∙ ap (λ c. (y.0, c)) f
@@ -143,17 +148,20 @@ module _ {A B : Type 0} (R : List Marked → A → Type 0) (FR : A → List Mark
   pub seq : ((a : A) (b : B) (v z : List Marked) → S a v b → F (a, b) z → FR a (v ++ z)) → Uniq k R FR → ((a : A) → Uniq k (S a) (λ b. F (a, b))) → Uniq k (Then R S) F
   seq fol f g = uniq_then R FR S F fol k k f g (λ w a r. omega arith)
 
-  pub seq_less : ((a : A) (b : B) (v z : List Marked) → S a v b → F (a, b) z → FR a (v ++ z)) → Uniq (suc k) R FR → ((a : A) → Uniq k (S a) (λ b. F (a, b))) → (P : Token → Type 0) → ((w : List Marked) (a : A) → R w a → Starts P w) → Uniq (suc k) (Then R S) F
+  pub seq_less : ((a : A) (b : B) (v z : List Marked) → S a v b → F (a, b) z → FR a (v ++ z)) → Uniq (suc k) R FR → ((a : A) → Uniq k (S a) (λ b. F (a, b))) → (P : Token → Type 0)
+      → ((w : List Marked) (a : A) → R w a → Starts P w) → Uniq (suc k) (Then R S) F
   seq_less fol f g P begins = uniq_then R FR S F fol (suc k) k f g (λ w a r. long P w (begins w a r))
     where
       long : (P : Token → Type 0) (w : List Marked) → Starts P w → suc k ≤ k + length w
       long P [] h = absurd h
       long P (x ∷ w) h = omega arith
 
-pub seq_tok : {B : Type 0} (ps : List Part) (x : Token) (S : Place → List Marked → B → Type 0) (F : Place × B → List Marked → Type 0) (k : ℕ) → ((p : Place) → Uniq k (S p) (λ b. F (p, b))) → Uniq (suc k) (Then (Opening ps x) S) F
+pub seq_tok : {B : Type 0} (ps : List Part) (x : Token) (S : Place → List Marked → B → Type 0) (F : Place × B → List Marked → Type 0) (k : ℕ) → ((p : Place) → Uniq k (S p) (λ b. F (p, b)))
+    → Uniq (suc k) (Then (Opening ps x) S) F
 seq_tok ps x S F k g = uniq_then (Opening ps x) Any S F (λ a b v z r f. tt) (suc k) k (uniq_opening ps x (suc k)) g (λ w a r. let e : length w ≡ 1 = ap length r in omega (arith, e))
 
-pub same_tok : {B : Type 0} (ps : List Part) (x : Token) (S : Place → List Marked → B → Type 0) (F : Place × B → List Marked → Type 0) (k : ℕ) → ((p : Place) → Uniq k (S p) (λ b. F (p, b))) → Uniq k (Then (Opening ps x) S) F
+pub same_tok : {B : Type 0} (ps : List Part) (x : Token) (S : Place → List Marked → B → Type 0) (F : Place × B → List Marked → Type 0) (k : ℕ) → ((p : Place) → Uniq k (S p) (λ b. F (p, b)))
+    → Uniq k (Then (Opening ps x) S) F
 same_tok ps x S F k g = uniq_then (Opening ps x) Any S F (λ a b v z r f. tt) k k (uniq_opening ps x k) g (λ w a r. omega arith)
 
 -- a name, with or without parts that begin with it

@@ -44,8 +44,10 @@ TypeForm (token.Word word.Promise) d w t = Formed (Inner d PromiseOf) (λ x. Pro
 TypeForm (token.Word word.PromiseStream) d w t = Formed (Inner d PromiseStreamOf) (λ x. PromiseStreamType x.1.1.0) w t
 TypeForm _ d w t = ⊥
 
-inner : {d : ℕ} {u : List Marked} {t : TypeTree} (w : Wrapper) (p q r : Place) (of : List Marked) → TypeRule (suc d) of t → u ≡ node_word d (wrapper_word w) p ∷ sign_at sign.Less q ∷ (of ++ sign_at sign.Greater r ∷ []) → Inner d w u (p, (q, (t, r)))
-inner {d = d} {t = t} w p q r of h e = front (Opening (Node d ∷ []) (token.Word (wrapper_word w))) p (q, (t, r)) (node_word d (wrapper_word w) p ∷ []) (sign_at sign.Less q ∷ (of ++ sign_at sign.Greater r ∷ [])) e refl
+inner : {d : ℕ} {u : List Marked} {t : TypeTree} (w : Wrapper) (p q r : Place) (of : List Marked) → TypeRule (suc d) of t
+    → u ≡ node_word d (wrapper_word w) p ∷ sign_at sign.Less q ∷ (of ++ sign_at sign.Greater r ∷ []) → Inner d w u (p, (q, (t, r)))
+inner {d = d} {t = t} w p q r of h e = front (Opening (Node d ∷ []) (token.Word (wrapper_word w))) p (q, (t, r)) (node_word d (wrapper_word w) p ∷ [])
+    (sign_at sign.Less q ∷ (of ++ sign_at sign.Greater r ∷ [])) e refl
     (tok_front (token.Sign sign.Less) q (t, r) (of ++ sign_at sign.Greater r ∷ []) refl (front (TypeRule (suc d)) t r of (sign_at sign.Greater r ∷ []) refl h refl))
 
 type_form : {d : ℕ} {w : List Marked} {t : TypeTree} → (r : TypeRule d w t) → TypeForm (first_token r) d w t
@@ -76,10 +78,13 @@ type_back : {d : ℕ} {w : List Marked} {t : TypeTree} (z : List Marked) (x : To
 type_back {d = d} {w = w} {t = t} z x r l = subst (λ y. TypeForm y d w t) (some_same x (first_token r) (type_looks z (Some x) r l)) (type_form r)
 
 plain_at : (d k : ℕ) (x : Token) (t : TypeTree) → ((w : List Marked) (u : TypeTree) → TypeForm x d w u → Formed (Opening (Node d ∷ []) x) (λ p. t) w u) → UniqAt (Some x) k (TypeRule d) Any
-plain_at d k x t f = at_narrow (TypeRule d) Any (Opening (Node d ∷ []) x) Any (λ p. t) k (Some x) (λ w z b r g l. let q = f w b (type_back z x r l) in record { tree = q.tree; rule = q.rule; is = q.is; follows = tt }) (uniq_opening (Node d ∷ []) x k)
+plain_at d k x t f = at_narrow (TypeRule d) Any (Opening (Node d ∷ []) x) Any (λ p. t) k (Some x)
+    (λ w z b r g l. let q = f w b (type_back z x r l) in record { tree = q.tree; rule = q.rule; is = q.is; follows = tt }) (uniq_opening (Node d ∷ []) x k)
 
-inner_at : (d k : ℕ) (w : Wrapper) (h : TypeTree → TypeTree) → Uniq k (TypeRule (suc d)) Any → ((v : List Marked) (u : TypeTree) → TypeForm (token.Word (wrapper_word w)) d v u → Formed (Inner d w) (λ x. h x.1.1.0) v u) → UniqAt (Some (token.Word (wrapper_word w))) (suc k) (TypeRule d) Any
-inner_at d k w h later f = at_narrow (TypeRule d) Any (Inner d w) Any (λ x. h x.1.1.0) (suc k) (Some (token.Word (wrapper_word w))) (λ v z b r g l. let q = f v b (type_back z (token.Word (wrapper_word w)) r l) in record { tree = q.tree; rule = q.rule; is = q.is; follows = tt })
+inner_at : (d k : ℕ) (w : Wrapper) (h : TypeTree → TypeTree) → Uniq k (TypeRule (suc d)) Any
+    → ((v : List Marked) (u : TypeTree) → TypeForm (token.Word (wrapper_word w)) d v u → Formed (Inner d w) (λ x. h x.1.1.0) v u) → UniqAt (Some (token.Word (wrapper_word w))) (suc k) (TypeRule d) Any
+inner_at d k w h later f = at_narrow (TypeRule d) Any (Inner d w) Any (λ x. h x.1.1.0) (suc k) (Some (token.Word (wrapper_word w)))
+    (λ v z b r g l. let q = f v b (type_back z (token.Word (wrapper_word w)) r l) in record { tree = q.tree; rule = q.rule; is = q.is; follows = tt })
     (seq_tok (Node d ∷ []) (token.Word (wrapper_word w)) (λ p. Then (Tok (token.Sign sign.Less)) (λ q. Then (TypeRule (suc d)) (λ t. Tok (token.Sign sign.Greater)))) Any k (λ p.
     same_tok [] (token.Sign sign.Less) (λ q. Then (TypeRule (suc d)) (λ t. Tok (token.Sign sign.Greater))) Any k (λ q.
     seq (TypeRule (suc d)) Any (λ t. Tok (token.Sign sign.Greater)) Any k (λ a b v z r f. tt) later (λ t. uniq_opening [] (token.Sign sign.Greater) k))))

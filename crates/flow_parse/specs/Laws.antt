@@ -14,7 +14,8 @@ use Rattle.flow_parse.specs.ParseAnswer.{ParseAnswer}
 
 -- tokens are derived as one program at most, whatever limits it keeps
 abbrev pub OneProgram : Type 0
-OneProgram = (end : Place) (n m : ℕ) (tokens : List Spot) (p q : ProgramTree) → Derives (ProgramRule end) n tokens p → Derives (ProgramRule end) m tokens q → p ≡ q
+OneProgram = (end : Place) (n m : ℕ) (tokens : List Spot) (p q : ProgramTree) → Derives (ProgramRule end) n tokens p
+    → Derives (ProgramRule end) m tokens q → p ≡ q
 
 -- an answer as the caller sees it: the tree of the program, or the refusal
 abbrev pub told : Result Program SourceFault → Result ProgramTree SourceFault
@@ -23,4 +24,5 @@ told (Err e) = Err e
 
 -- tokens have one answer at most, want of memory aside
 abbrev pub OneAnswer : Type 0
-OneAnswer = (t : Tokens) (r s : Result Program SourceFault) → ParseAnswer t r → ParseAnswer t s → (r ≡ Err OutOfMemory → ⊥) → (s ≡ Err OutOfMemory → ⊥) → told r ≡ told s
+OneAnswer = (t : Tokens) (r s : Result Program SourceFault) → ParseAnswer t r → ParseAnswer t s → (r ≡ Err OutOfMemory → ⊥)
+    → (s ≡ Err OutOfMemory → ⊥) → told r ≡ told s

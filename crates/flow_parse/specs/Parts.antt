@@ -35,7 +35,8 @@ NoElse o z = o.ends_if ≡ true → NotBefore (token.Word word.Else) o z
 
 -- "(" expr ")"
 abbrev pub Test : ℕ → List Marked → ExprTree → Type 0
-Test d w e = (p q : Place) × (of : List Marked) × ExprRule 0 d of e × (w ≡ sign_at sign.OpenRound p ∷ (of ++ sign_at sign.CloseRound q ∷ []))
+Test d w e = (p q : Place) × (of : List Marked) × ExprRule 0 d of e
+    × (w ≡ sign_at sign.OpenRound p ∷ (of ++ sign_at sign.CloseRound q ∷ []))
 
 -- arguments and the bracket that closes them; behind a first argument
 abbrev pub Args : ℕ → List Marked → ExprTrees → Type 0
@@ -78,32 +79,42 @@ WaitingPart actor d c w x = WaitingRule actor d c x.1 w x.0
 
 -- a change of a variable, behind its path
 pub data ChangeRule (d : ℕ) (at : Place) (xs : List Ident) : List Marked → Body → Type 0 where
-  assigns : {e : ExprTree} {all : List Marked} (p : Place) (value : List Marked) → ExprRule 0 (suc d) value e → all ≡ sign_at sign.Assign p ∷ value → ChangeRule d at xs all (AssignStmt at xs e End)
-  adds : {e : ExprTree} {all : List Marked} (p : Place) (value : List Marked) → ExprRule 0 (suc d) value e → all ≡ sign_at sign.PlusAssign p ∷ value → ChangeRule d at xs all (ModifyStmt at xs (PlusChange e) End)
-  takes : {e : ExprTree} {all : List Marked} (p : Place) (value : List Marked) → ExprRule 0 (suc d) value e → all ≡ sign_at sign.MinusAssign p ∷ value → ChangeRule d at xs all (ModifyStmt at xs (MinusChange e) End)
+  assigns : {e : ExprTree} {all : List Marked} (p : Place) (value : List Marked) → ExprRule 0 (suc d) value e
+      → all ≡ sign_at sign.Assign p ∷ value → ChangeRule d at xs all (AssignStmt at xs e End)
+  adds : {e : ExprTree} {all : List Marked} (p : Place) (value : List Marked) → ExprRule 0 (suc d) value e
+      → all ≡ sign_at sign.PlusAssign p ∷ value → ChangeRule d at xs all (ModifyStmt at xs (PlusChange e) End)
+  takes : {e : ExprTree} {all : List Marked} (p : Place) (value : List Marked) → ExprRule 0 (suc d) value e
+      → all ≡ sign_at sign.MinusAssign p ∷ value → ChangeRule d at xs all (ModifyStmt at xs (MinusChange e) End)
   goes_up : (p : Place) → ChangeRule d at xs (sign_at sign.PlusPlus p ∷ []) (ModifyStmt at xs UpChange End)
   goes_down : (p : Place) → ChangeRule d at xs (sign_at sign.MinusMinus p ∷ []) (ModifyStmt at xs DownChange End)
 
 -- a change or a call, behind its path
 pub data ChangedRule (d : ℕ) (at : Place) (xs : List Ident) : List Marked → Body → Type 0 where
   changes : {body : Body} {all : List Marked} → ChangeRule d at xs all body → ChangedRule d at xs all body
-  calls : {ts : ExprTrees} {all : List Marked} (p : Place) (args : List Marked) → Args (suc d) args ts → all ≡ sign_at sign.OpenRound p ∷ args → ChangedRule d at xs all (CallStmt at xs ts End)
+  calls : {ts : ExprTrees} {all : List Marked} (p : Place) (args : List Marked) → Args (suc d) args ts
+      → all ≡ sign_at sign.OpenRound p ∷ args → ChangedRule d at xs all (CallStmt at xs ts End)
 
 -- what stands behind a declared variable: nothing, or a value
 pub data DeclaredRule (d : ℕ) (at : Place) (i : IntoTree) : List Marked → Body → Type 0 where
   no_value : DeclaredRule d at i [] (DeclareStmt at i None End)
-  value : {e : ExprTree} {all : List Marked} (p : Place) (of : List Marked) → ExprRule 0 (suc d) of e → all ≡ sign_at sign.Assign p ∷ of → DeclaredRule d at i all (DeclareStmt at i (Some e) End)
+  value : {e : ExprTree} {all : List Marked} (p : Place) (of : List Marked) → ExprRule 0 (suc d) of e → all ≡ sign_at sign.Assign p ∷ of
+      → DeclaredRule d at i all (DeclareStmt at i (Some e) End)
 
 -- in a statement also a wait
 pub data ValuedRule (d : ℕ) (at : Place) (i : IntoTree) : List Marked → Body → Type 0 where
   declares : {body : Body} {all : List Marked} → DeclaredRule d at i all body → ValuedRule d at i all body
-  waits : {next : Bool} {e : ExprTree} {all : List Marked} (p : Place) (of : List Marked) → OperandRule d of next e → all ≡ sign_at sign.Assign p ∷ of → ValuedRule d at i all (WaitStmt at (record { into = Some i; next = next; operand = e }) End)
+  waits : {next : Bool} {e : ExprTree} {all : List Marked} (p : Place) (of : List Marked) → OperandRule d of next e
+      → all ≡ sign_at sign.Assign p ∷ of → ValuedRule d at i all (WaitStmt at (record { into = Some i; next = next; operand = e }) End)
 
 -- a declaration, a change, a wait or a call, without its semicolon
 pub data UnendedRule (actor : Bool) (d : ℕ) (c : Counts) : List Marked → Counts → Body → Type 0 where
-  declaring : {c' : Counts} {i : IntoTree} {body : Body} {all : List Marked} (at : Place) (left right : List Marked) → IntoRule actor d c c' left i → ValuedRule d at i right body → all ≡ left ++ right → StartsAt all at → UnendedRule actor d c all c' body
-  changing : {x : Ident} {xs : List Ident} {body : Body} {all : List Marked} (left right : List Marked) → PathRule (name_at x ∷ left) xs → ChangedRule d x.at xs right body → all ≡ name_at x ∷ (left ++ right) → UnendedRule actor d c all c body
-  waiting : {next : Bool} {e : ExprTree} {all : List Marked} (at : Place) → OperandRule d all next e → StartsAt all at → UnendedRule actor d c all c (WaitStmt at (record { into = None; next = next; operand = e }) End)
+  declaring : {c' : Counts} {i : IntoTree} {body : Body} {all : List Marked} (at : Place) (left right : List Marked)
+      → IntoRule actor d c c' left i → ValuedRule d at i right body → all ≡ left ++ right → StartsAt all at
+      → UnendedRule actor d c all c' body
+  changing : {x : Ident} {xs : List Ident} {body : Body} {all : List Marked} (left right : List Marked) → PathRule (name_at x ∷ left) xs
+      → ChangedRule d x.at xs right body → all ≡ name_at x ∷ (left ++ right) → UnendedRule actor d c all c body
+  waiting : {next : Bool} {e : ExprTree} {all : List Marked} (at : Place) → OperandRule d all next e → StartsAt all at
+      → UnendedRule actor d c all c (WaitStmt at (record { into = None; next = next; operand = e }) End)
 
 abbrev pub Unended : Bool → ℕ → Counts → List Marked → Out → Type 0
 Unended actor d c w o = UnendedRule actor d c w o.counts o.body × (o.ends_if ≡ false)
@@ -138,11 +149,13 @@ abbrev pub Closing : Bool → ℕ → Counts → List Marked → BlockOut → Ty
 Closing actor d c w o = (xs : List Marked) × StmtsRule actor d c o.counts xs o.body × (w ≡ xs ++ sign_at sign.CloseCurly o.close ∷ [])
 
 abbrev pub Block : Bool → ℕ → Counts → List Marked → BlockOut → Type 0
-Block actor d c w o = (p : Place) × (xs : List Marked) × StmtsRule actor d c o.counts xs o.body × (w ≡ sign_at sign.OpenCurly p ∷ (xs ++ sign_at sign.CloseCurly o.close ∷ []))
+Block actor d c w o = (p : Place) × (xs : List Marked) × StmtsRule actor d c o.counts xs o.body
+    × (w ≡ sign_at sign.OpenCurly p ∷ (xs ++ sign_at sign.CloseCurly o.close ∷ []))
 
 -- "catch" "(" "Error" "&" name ")"
 abbrev pub Catch : List Marked → Place × Ident → Type 0
-Catch w x = (q r s u : Place) × (w ≡ word_at word.Catch x.0 ∷ sign_at sign.OpenRound q ∷ word_at word.Error r ∷ sign_at sign.Amp s ∷ name_at x.1 ∷ sign_at sign.CloseRound u ∷ [])
+Catch w x = (q r s u : Place) × (w ≡ word_at word.Catch x.0 ∷ sign_at sign.OpenRound q ∷ word_at word.Error r ∷ sign_at sign.Amp s
+    ∷ name_at x.1 ∷ sign_at sign.CloseRound u ∷ [])
 
 pub record WhenOut : Type 0 where
   pub at : Place
@@ -159,7 +172,8 @@ abbrev pub WhensPart : Bool → ℕ → ℕ → Counts → List Marked → Branc
 WhensPart actor d n c w x = (q : Place) × (of : List Marked) × WhensRule actor d n c x.1 of x.0 × (w ≡ of ++ sign_at sign.CloseCurly q ∷ [])
 
 abbrev pub AllWhens : Bool → ℕ → Counts → List Marked → Branches × Counts → Type 0
-AllWhens actor d c w x = (q : Place) × (first more : List Marked) × (c1 : Counts) × (bs : Branches) × WhenRule actor d 1 c c1 first bs x.0 × WhensRule actor d 2 c1 x.1 more bs × (w ≡ first ++ (more ++ sign_at sign.CloseCurly q ∷ []))
+AllWhens actor d c w x = (q : Place) × (first more : List Marked) × (c1 : Counts) × (bs : Branches) × WhenRule actor d 1 c c1 first bs x.0
+    × WhensRule actor d 2 c1 x.1 more bs × (w ≡ first ++ (more ++ sign_at sign.CloseCurly q ∷ []))
 
 abbrev pub FieldsPart : ℕ → List Marked → List ParamTree → Type 0
 FieldsPart n w fs = (q : Place) × (of : List Marked) × FieldsRule n of fs × (w ≡ of ++ sign_at sign.CloseCurly q ∷ [])
@@ -182,7 +196,8 @@ pub record RoutineOut : Type 0 where
   pub close : Place
 
 abbrev pub Routine : Bool → List Marked → RoutineOut → Type 0
-Routine actor w o = (at : Place) (t : TypeTree) → RoutineRule actor at t w (record { at = at; returns = t; name = o.name; params = o.params; body = o.body; close = o.close })
+Routine actor w o = (at : Place) (t : TypeTree)
+    → RoutineRule actor at t w (record { at = at; returns = t; name = o.name; params = o.params; body = o.body; close = o.close })
 
 abbrev pub Record : List Marked → RecordTree → Type 0
 Record w r = DeclRule w (StructDecl r)

@@ -28,7 +28,8 @@ abbrev pub Named : List Marked → Ident → Type 0
 Named w x = w ≡ name_at x ∷ []
 
 -- one part and then another, which may depend on the first
-pub record Then {A B : Type 0} (R : List Marked → A → Type 0) (S : A → List Marked → B → Type 0) (w : List Marked) (x : A × B) : Type 0 where
+pub record Then {A B : Type 0} (R : List Marked → A → Type 0) (S : A → List Marked → B → Type 0) (w : List Marked)
+    (x : A × B) : Type 0 where
   pub first : List Marked
   pub rest : List Marked
   pub is : w ≡ first ++ rest

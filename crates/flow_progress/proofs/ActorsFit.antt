@@ -16,7 +16,8 @@ use Rattle.flow_progress.specs.Keeping.{IsFine, IsOfActor, ActorsKeepFitting}
 use Rattle.flow_progress.proofs.RunFits.{run_fits}
 use Rattle.flow_progress.proofs.TasksFitOn.{give_fits, store_keeps, catch_fits, throw_fits, keep_fits}
 
-module _ (r : RawTree) (actors : List RoutineTree) (rules : ClassRules r actors) (s : Supply) (c : Core) (xs : Numbered Frame) (o : Orderly c) (go : c.halted ≡ None) (types : CellTypes) (p : ProcessFits r types c xs) where
+module _ (r : RawTree) (actors : List RoutineTree) (rules : ClassRules r actors) (s : Supply) (c : Core) (xs : Numbered Frame) (o : Orderly c) (go : c.halted ≡ None) (types : CellTypes)
+    (p : ProcessFits r types c xs) where
   pub by_tasks : (ts : List Task) → c.tasks ≡ ts → IsOfActor ts → IsFine r types (step_tasks (classes r) s ts (proc c xs))
   by_tasks (Run i ∷ ts) e h = run_fits r actors rules s types i ts c xs o go e p
   by_tasks (Give i b v ∷ ts) e h = give_fits r actors rules s types i ts c xs o go p b v e

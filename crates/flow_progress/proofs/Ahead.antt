@@ -73,7 +73,8 @@ module _ (gs : List (List CallbackTree)) where
   rest_next (x ∷ is) l (suc n) kept other i q = rest_next is l n kept other i q
 
   -- and so does each operand
-  rest_kept : (is : List InstrTree) (n g kept : ℕ) → fetch_in is (ChooseLast g) n ≡ Last (ChooseLast g) → kept < branches (group_at gs g) → rest_room is (ChooseLast g) n (suc kept) + 2 ≤ rest_room is (ChooseLast g) n kept
+  rest_kept : (is : List InstrTree) (n g kept : ℕ) → fetch_in is (ChooseLast g) n ≡ Last (ChooseLast g) → kept < branches (group_at gs g)
+      → rest_room is (ChooseLast g) n (suc kept) + 2 ≤ rest_room is (ChooseLast g) n kept
   rest_kept [] zero g kept q h = omega (arith, h)
   rest_kept [] (suc n) g kept q h = absurd (no_last q)
     where

@@ -48,7 +48,8 @@ module _ (k : ℕ) where
         let b = all_zero vs h.1 in
         let c = count_append FutureSide k (refs_of v) (refs_of_all vs) in omega (arith, a, b, c)
 
-  outcome_zero : (r : RawTree) → IsValid r → (types : CellTypes) (o : OutcomeTree) (t : TypeTree) → types k ≡ Some (FutureType t) → OutcomeFits r.records (typed_by types) o t → count FutureSide k (refs_in (value_in o)) ≡ 0
+  outcome_zero : (r : RawTree) → IsValid r → (types : CellTypes) (o : OutcomeTree) (t : TypeTree) → types k ≡ Some (FutureType t) → OutcomeFits r.records (typed_by types) o t
+      → count FutureSide k (refs_in (value_in o)) ≡ 0
   outcome_zero r valid types (BadOutcome e) t g h = refl
   outcome_zero r valid types (GoodOutcome v) t g h =
       let a = value_zero v (apart r valid types k v t g h) in
@@ -60,7 +61,8 @@ some_number m n e = cc
 some_entry : (d e : Entry) → Some d ≡ Some e → d ≡ e
 some_entry d e h = cc
 
-pub ends_apart : (r : RawTree) → IsValid r → (types : CellTypes) (c : Core) (xs : Numbered Frame) → ProcessFits r types c xs → Orderly c → (i k : ℕ) (e : Entry) (o : OutcomeTree) (ts : List Task) → c.tasks ≡ Close i o ∷ ts
+pub ends_apart : (r : RawTree) → IsValid r → (types : CellTypes) (c : Core) (xs : Numbered Frame) → ProcessFits r types c xs → Orderly c → (i k : ℕ) (e : Entry) (o : OutcomeTree) (ts : List Task)
+    → c.tasks ≡ Close i o ∷ ts
     → thing c.entries i ≡ Some e → e.result ≡ Some k → count FutureSide k (refs_in (value_in o)) ≡ 0
 ends_apart r valid types c xs p order i k e o ts top at own =
     let a = actor_here r types i (Close i o) ts c xs order top (close_of i o) p in

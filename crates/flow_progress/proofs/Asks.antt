@@ -95,7 +95,8 @@ module _ (rs : List RecordTree) (typed : ℕ → TypeTree → Type 0) where
   pub dropped_some : (c : ClassTree) (ns : List ℕ) (m : Memory) → HoldsTypes rs typed c m → HaveSome rs typed (held_in m ns)
   dropped_some c [] m h = tt
   dropped_some c (n ∷ ns) m h =
-      some_both (filled (read m (Local n) ∷ [])) (held_in (write m (Local n) None) ns) (one (read m (Local n)) refl) (dropped_some c ns (write m (Local n) None) (emptied_holds rs typed c (n ∷ []) m h))
+      some_both (filled (read m (Local n) ∷ [])) (held_in (write m (Local n) None) ns) (one (read m (Local n)) refl)
+      (dropped_some c ns (write m (Local n) None) (emptied_holds rs typed c (n ∷ []) m h))
     where
       one : (o : Option ValueTree) → read m (Local n) ≡ o → HaveSome rs typed (filled (o ∷ []))
       one None e = tt
@@ -109,7 +110,8 @@ operand_read (x ∷ ks) zero k q e h =
     among_left (expr_places x.operand) (operands ks) q (subst (λ (z : CallbackTree). among (expr_places z.operand) q ≡ true) (sym same) h)
 operand_read (x ∷ ks) (suc n) k q e h = among_right (expr_places x.operand) (operands ks) q (operand_read ks n k q e h)
 
-group_read : (o : Option (List CallbackTree)) (n : ℕ) (k : CallbackTree) (q : Slotted) → option_and_then (λ cs. slice_get cs n) o ≡ Some k → among (expr_places k.operand) q ≡ true → among (group_reads o) q ≡ true
+group_read : (o : Option (List CallbackTree)) (n : ℕ) (k : CallbackTree) (q : Slotted) → option_and_then (λ cs. slice_get cs n) o ≡ Some k → among (expr_places k.operand) q ≡ true
+    → among (group_reads o) q ≡ true
 group_read None n k q e h = none_some k e
 group_read (Some ks) n k q e h = operand_read ks n k q e h
 
@@ -156,11 +158,13 @@ module _ (r : RawTree) (actors : List RoutineTree) (vars : List ParamTree) (type
   value_fits : (e : ExprTree) (t : TypeTree) → AllFilled f.mem (expr_places e) → Typed r actors f.code vars e t → Safe (λ u. Is u t) (value (class_names r) v (look f.mem) e)
   value_fits e t full y = value_safe now typed actors f.code vars rules.places f.mem s.holds cells functions e t v.left (readable_by f.mem e full) y
 
-  values_fit : (es : ExprTrees) (ts : List TypeTree) → AllFilled f.mem (exprs_places es) → AllTyped r actors f.code vars es ts → Safe (λ us. HaveTypes r.records typed (values_of_list us) ts) (values (class_names r) v (look f.mem) es)
+  values_fit : (es : ExprTrees) (ts : List TypeTree) → AllFilled f.mem (exprs_places es) → AllTyped r actors f.code vars es ts
+      → Safe (λ us. HaveTypes r.records typed (values_of_list us) ts) (values (class_names r) v (look f.mem) es)
   values_fit es ts full y = values_safe now typed actors f.code vars rules.places f.mem s.holds cells functions es ts v.left (all_readable_by f.mem es full) y.0 y.1
 
   -- effects
-  effects_fit : (goal : Goal) (e : ExprTree) (g : Effectful × ExprTrees) (t : TypeTree) → AllFilled f.mem (exprs_places g.1) → effect_in (class_names r) e ≡ Some g → EffectFits r actors f.code vars e t → Wanted r vars typed goal f v.kept t
+  effects_fit : (goal : Goal) (e : ExprTree) (g : Effectful × ExprTrees) (t : TypeTree) → AllFilled f.mem (exprs_places g.1) → effect_in (class_names r) e ≡ Some g
+      → EffectFits r actors f.code vars e t → Wanted r vars typed goal f v.kept t
       → Fit (effects (class_names r) v f goal g)
   effects_fit goal e g t full is k wanted =
       let same : (k.effect, k.args) ≡ g = some_same (k.effect, k.args) g (sym k.is ∙ is) in
@@ -182,7 +186,8 @@ module _ (r : RawTree) (actors : List RoutineTree) (vars : List ParamTree) (type
   told_fits (Cancels k) n h = (n, refl)
   told_fits _ n h = absurd h
 
-  plain_fits : (o : Option Predefined) (x : Ident) (ts : List TypeTree) (us : List ValueTree) (left : ℕ) → Stands r.records typed (next_instr f.mem f) → SayFits r actors f.code vars o x ts → HaveTypes r.records typed (values_of_list us) ts
+  plain_fits : (o : Option Predefined) (x : Ident) (ts : List TypeTree) (us : List ValueTree) (left : ℕ) → Stands r.records typed (next_instr f.mem f) → SayFits r actors f.code vars o x ts
+      → HaveTypes r.records typed (values_of_list us) ts
       → Safe CallFit (plain_act (class_names r) v (look f.mem) o x.name us left)
   plain_fits (Some code.Trace) x ts us left n h a =
       let args = subst (HaveTypes r.records typed (values_of_list us)) h.1 a in
@@ -205,14 +210,16 @@ module _ (r : RawTree) (actors : List RoutineTree) (vars : List ParamTree) (type
   plain_fits (Some p) x ts us left n h a = absurd h
 
   -- a path is read where its base is filled
-  path_read : (x : Ident) (xs : List Ident) (t : TypeTree) → path_type r.records vars (x ∷ xs) ≡ Some t → ((q : Slotted) → place_named x.name ≡ Some q → Filled f.mem q) → (w : ValueTree) × (read_in r.records (look f.mem x.name) xs ≡ Some w) × Is w t
+  path_read : (x : Ident) (xs : List Ident) (t : TypeTree) → path_type r.records vars (x ∷ xs) ≡ Some t → ((q : Slotted) → place_named x.name ≡ Some q → Filled f.mem q)
+      → (w : ValueTree) × (read_in r.records (look f.mem x.name) xs ≡ Some w) × Is w t
   path_read x xs t e full = by_var (param_named vars x.name) refl e
     where
       no_fields : (xs : List Ident) → fields_type r.records None xs ≡ Some t → (w : ValueTree) × (read_in r.records (look f.mem x.name) xs ≡ Some w) × Is w t
       no_fields [] e = none_some t e
       no_fields (y ∷ ys) e = none_some t e
 
-      by_var : (o : Option ParamTree) → param_named vars x.name ≡ o → fields_type r.records (option_map (λ (p : ParamTree). p.ty) o) xs ≡ Some t → (w : ValueTree) × (read_in r.records (look f.mem x.name) xs ≡ Some w) × Is w t
+      by_var : (o : Option ParamTree) → param_named vars x.name ≡ o → fields_type r.records (option_map (λ (p : ParamTree). p.ty) o) xs ≡ Some t
+          → (w : ValueTree) × (read_in r.records (look f.mem x.name) xs ≡ Some w) × Is w t
       by_var None q e = no_fields xs e
       by_var (Some p) q e =
           let n = rules.places x.name p q in
@@ -220,11 +227,13 @@ module _ (r : RawTree) (actors : List RoutineTree) (vars : List ParamTree) (type
           let got = reads_typed r.records typed xs t u.0 p.ty (s.holds.types n.0 p.ty u.0 n.2 u.1) e in
           (got.0, ap (λ o. read_in r.records o xs) (ap (λ o. bind o (read f.mem)) n.1 ∙ u.1) ∙ got.1, got.2)
 
-  call_fits : (path : List Ident) (es : ExprTrees) (ts : List TypeTree) → Stands r.records typed (next_instr f.mem f) → ((q : Slotted) → among (instr_reads (ActInstr path es)) q ≡ true → Filled f.mem q)
+  call_fits : (path : List Ident) (es : ExprTrees) (ts : List TypeTree) → Stands r.records typed (next_instr f.mem f)
+      → ((q : Slotted) → among (instr_reads (ActInstr path es)) q ≡ true → Filled f.mem q)
       → AllTyped r actors f.code vars es ts → CallFits r actors f.code vars path ts → Safe CallFit (call_act (class_names r) v (look f.mem) path es)
   call_fits [] es ts n full y h = absurd h
   call_fits (x ∷ []) es ts n full y h =
-      then_good (λ us. HaveTypes r.records typed (values_of_list us) ts) CallFit (values (class_names r) v (look f.mem) es) (λ vs left. plain_act (class_names r) v (look f.mem) (named call_names x.name) x.name vs left)
+      then_good (λ us. HaveTypes r.records typed (values_of_list us) ts) CallFit (values (class_names r) v (look f.mem) es)
+      (λ vs left. plain_act (class_names r) v (look f.mem) (named call_names x.name) x.name vs left)
       (values_fit es ts full y) (λ us left a. plain_fits (named call_names x.name) x ts us left n h a)
   call_fits (x ∷ (z ∷ zs)) es ts n full y h =
       let base = listed (place_named x.name) in
@@ -311,7 +320,8 @@ module _ (r : RawTree) (actors : List RoutineTree) (vars : List ParamTree) (type
   asked_operand left spot u t q e next k =
       subst (λ z. Fit (asks_operand (class_names r) v f left spot z)) (sym e) ((s, (t, next, subst (λ z. Is z t) e k)), refl)
 
-  operand_fits : (g : ℕ) (k : CallbackTree) (o : Option (Effectful × ExprTrees)) → Here (Last (ChooseLast g)) → callback_at f.code g v.kept ≡ Some k → BranchFits r actors f.code vars k → effect_in (class_names r) k.operand ≡ o
+  operand_fits : (g : ℕ) (k : CallbackTree) (o : Option (Effectful × ExprTrees)) → Here (Last (ChooseLast g)) → callback_at f.code g v.kept ≡ Some k → BranchFits r actors f.code vars k
+      → effect_in (class_names r) k.operand ≡ o
       → Fit (operand_by (class_names r) v f (spot_of f.code g) k.operand o)
   operand_fits g k o here at b q = by_effect o q
     where
@@ -329,7 +339,8 @@ module _ (r : RawTree) (actors : List RoutineTree) (vars : List ParamTree) (type
           (value_fits k.operand (operand_type k.next b.takes) full (b.value q))
           (λ u left h. let z = operand_ref r.records typed k.next u b.takes h in asked_operand left (spot_of f.code g) u (operand_type k.next b.takes) z.0 z.1 next h)
 
-  choose_fits : (g : ℕ) (o : Option CallbackTree) → Here (Last (ChooseLast g)) → callback_at f.code g v.kept ≡ o → LastFits r actors f.code vars (ChooseLast g) → Fit (choose (class_names r) v f (spot_of f.code g) o)
+  choose_fits : (g : ℕ) (o : Option CallbackTree) → Here (Last (ChooseLast g)) → callback_at f.code g v.kept ≡ o → LastFits r actors f.code vars (ChooseLast g)
+      → Fit (choose (class_names r) v f (spot_of f.code g) o)
   choose_fits g (Some k) here at h = operand_fits g k (effect_in (class_names r) k.operand) here at (h v.kept k at) refl
   choose_fits g None here at h = ((waiting, locals_some r.records typed f.code f.mem s.holds, all_kept), refl)
     where

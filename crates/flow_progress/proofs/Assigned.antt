@@ -104,7 +104,8 @@ module _ (rs : List RecordTree) (typed : ℕ → TypeTree → Type 0) (c : Class
       first true h = refl
       first false h = h
 
-  at_place : (x : Ident) (xs : List Ident) (t : TypeTree) (u : ValueTree) (p : ParamTree) (q : Slotted) → place_named x.name ≡ Some q → type_at c q ≡ Some p.ty → fields_type rs (Some p.ty) xs ≡ Some t → HasType rs typed u t
+  at_place : (x : Ident) (xs : List Ident) (t : TypeTree) (u : ValueTree) (p : ParamTree) (q : Slotted) → place_named x.name ≡ Some q → type_at c q ≡ Some p.ty → fields_type rs (Some p.ty) xs ≡ Some t
+      → HasType rs typed u t
       → ((z : Slotted) → among (base_place (x ∷ xs)) z ≡ true → Filled m z) → Assigned rs typed c m (x ∷ xs) u
   at_place x [] t u p q named at e k full = record {
     place = q;
@@ -136,7 +137,8 @@ module _ (rs : List RecordTree) (typed : ℕ → TypeTree → Type 0) (c : Class
       no_true : false ≡ true → ⊥
       no_true h = cc
 
-  pub assigns : (path : List Ident) (t : TypeTree) (u : ValueTree) → path_type rs vars path ≡ Some t → HasType rs typed u t → ((z : Slotted) → among (base_place path) z ≡ true → Filled m z) → Assigned rs typed c m path u
+  pub assigns : (path : List Ident) (t : TypeTree) (u : ValueTree) → path_type rs vars path ≡ Some t → HasType rs typed u t → ((z : Slotted) → among (base_place path) z ≡ true → Filled m z)
+      → Assigned rs typed c m path u
   assigns [] t u e k full = none_some t e
   assigns (x ∷ xs) t u e k full = by_var (param_named vars x.name) refl e
     where
@@ -149,12 +151,14 @@ module _ (rs : List RecordTree) (typed : ℕ → TypeTree → Type 0) (c : Class
       by_var (Some p) q e = let n = named_so x.name p q in at_place x xs t u p n.0 n.1 n.2 e k full
 
 -- behind an instruction that wrote one place
-pub written_next : (rs : List RecordTree) (typed : ℕ → TypeTree → Type 0) (f : Frame) (i : InstrTree) (q : Slotted) (t : TypeTree) (z : ValueTree) → Stands rs typed f → fetch f.code f.block f.instr ≡ Body i
+pub written_next : (rs : List RecordTree) (typed : ℕ → TypeTree → Type 0) (f : Frame) (i : InstrTree) (q : Slotted) (t : TypeTree) (z : ValueTree) → Stands rs typed f
+    → fetch f.code f.block f.instr ≡ Body i
     → type_at f.code q ≡ Some t → HasType rs typed z t → ((p : Slotted) → among (instr_fills i) p ≡ true → p ≡ q) → Stands rs typed (next_instr (write f.mem q (Some z)) f)
 written_next rs typed f i q t z s at has fits only = record {
   there = next_there f.code f.block f.instr i at;
   reached = reached_next f.code f.block f.instr i at s.reached;
-  full = full_next f.code f.mem (write f.mem q (Some z)) f.block f.instr i at s.reached s.full (λ p u e h. subst (Filled (write f.mem q (Some z))) (sym (only p h)) (z, here)) (λ p a b k. kept p k (same_place p q) refl);
+  full = full_next f.code f.mem (write f.mem q (Some z)) f.block f.instr i at s.reached s.full (λ p u e h. subst (Filled (write f.mem q (Some z))) (sym (only p h)) (z, here))
+      (λ p a b k. kept p k (same_place p q) refl);
   holds = write_holds rs typed f.code f.mem q t z s.holds has fits;
 }
   where
@@ -166,7 +170,8 @@ written_next rs typed f i q t z s at has fits only = record {
     kept p k false e = (k.0, write_other f.mem q p (Some z) e ∙ k.1)
 
 -- behind one that wrote nothing
-pub untouched_next : (rs : List RecordTree) (typed : ℕ → TypeTree → Type 0) (f : Frame) (i : InstrTree) → Stands rs typed f → fetch f.code f.block f.instr ≡ Body i → ((p : Slotted) → among (instr_fills i) p ≡ true → ⊥) → Stands rs typed (next_instr f.mem f)
+pub untouched_next : (rs : List RecordTree) (typed : ℕ → TypeTree → Type 0) (f : Frame) (i : InstrTree) → Stands rs typed f → fetch f.code f.block f.instr ≡ Body i
+    → ((p : Slotted) → among (instr_fills i) p ≡ true → ⊥) → Stands rs typed (next_instr f.mem f)
 untouched_next rs typed f i s at no_fills = record {
   there = next_there f.code f.block f.instr i at;
   reached = reached_next f.code f.block f.instr i at s.reached;

@@ -44,7 +44,8 @@ module _ (r : RawTree) where
   eased : (c d : Core) (xs : Numbered Frame) → Known c xs → Eases c d → Known d xs
   eased c d xs k h =
       let going = frames_going r in
-      placed_of (classes r) (Going r) going d xs (related_eased (classes r) (classes r) (Itself (classes r) (Going r) going) (itself (classes r) (Going r) going) c d xs xs (related_of (classes r) (Going r) going c xs k) h)
+      placed_of (classes r) (Going r) going d xs (related_eased (classes r) (classes r) (Itself (classes r) (Going r) going) (itself (classes r) (Going r) going) c d xs xs
+      (related_of (classes r) (Going r) going c xs k) h)
 
   delivered : (c d : Core) (xs : Numbered Frame) → OrderlyUnlessStopped d → Unless (Eases c) d → Known c xs → Stays d xs
   delivered c d xs o h k = both d xs o (unless_map d.halted (eased c d xs k) h)
@@ -52,7 +53,8 @@ module _ (r : RawTree) where
   unchanged : (c : Core) (xs : Numbered Frame) → Orderly c → Known c xs → Stays c xs
   unchanged c xs o k = unless c.halted (record { orderly = o; frames = k })
 
-  boot_stays : (x : Option Frame) (c : Core) (xs : Numbered Frame) → Orderly c → Known c xs → ((f : Frame) → x ≡ Some f → Going r Free f) → Stays (boot_with (classes r) x (proc c xs)).core (boot_with (classes r) x (proc c xs)).actors
+  boot_stays : (x : Option Frame) (c : Core) (xs : Numbered Frame) → Orderly c → Known c xs → ((f : Frame) → x ≡ Some f → Going r Free f)
+      → Stays (boot_with (classes r) x (proc c xs)).core (boot_with (classes r) x (proc c xs)).actors
   boot_stays None c xs o k h = tt
   boot_stays (Some f) c xs o k h =
       let going = frames_going r in
@@ -61,14 +63,16 @@ module _ (r : RawTree) where
       let d = boot_core e.main (e.label e.main) c in
       let ys = Rattle.flow_numbered.specs.Numbered.added xs (suc c.started) f in
       both d ys (boot_in_order e.main (e.label e.main) c o)
-      (unless_map d.halted (λ n. placed_of e (Going r) going d ys (related_new e e R (itself e (Going r) going) (suc c.started) c d xs xs f f (related_of e (Going r) going c xs k) n.0 n.1 (refl, h f refl)))
+      (unless_map d.halted (λ n. placed_of e (Going r) going d ys (related_new e e R (itself e (Going r) going) (suc c.started) c d xs xs f f (related_of e (Going r) going c xs k) n.0 n.1
+      (refl, h f refl)))
       (booted_enrolled e.main (e.label e.main) c o.numbered))
 
   -- an event begins
   abbrev Begins : Begun Frame → Type 0
   Begins b = Stays b.place.proc.core b.place.proc.actors
 
-  booted_begins : (p : ℕ) (a : Place Frame) (held : Option ℕ) → Orderly a.proc.core → Known a.proc.core a.proc.actors → Stays (booted (classes r) p a held).proc.core (booted (classes r) p a held).proc.actors
+  booted_begins : (p : ℕ) (a : Place Frame) (held : Option ℕ) → Orderly a.proc.core → Known a.proc.core a.proc.actors
+      → Stays (booted (classes r) p a held).proc.core (booted (classes r) p a held).proc.actors
   booted_begins p a (Some held) o k = unchanged a.proc.core a.proc.actors o k
   booted_begins p a None o k =
       let e = classes r in
@@ -109,7 +113,8 @@ module _ (r : RawTree) where
   rests_at (p ∷ ps) zero a h x = h.0
   rests_at (p ∷ ps) (suc k) a h x = rests_at ps k a h.1 x
 
-  pub rests_set : (ps : List (Place Frame)) (k : ℕ) (a : Place Frame) → AllByRecursion (λ (a : Place Frame). RestsInPlace r a) ps → RestsInPlace r a → AllByRecursion (λ (a : Place Frame). RestsInPlace r a) (slice_set ps k a)
+  pub rests_set : (ps : List (Place Frame)) (k : ℕ) (a : Place Frame) → AllByRecursion (λ (a : Place Frame). RestsInPlace r a) ps → RestsInPlace r a
+      → AllByRecursion (λ (a : Place Frame). RestsInPlace r a) (slice_set ps k a)
   rests_set [] k a h x = tt
   rests_set (p ∷ ps) zero a h x = (x, h.1)
   rests_set (p ∷ ps) (suc k) a h x = (h.0, rests_set ps k a h.1 x)

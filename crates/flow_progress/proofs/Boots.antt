@@ -80,7 +80,8 @@ main_is r valid =
 int_typed : (r : RawTree) (types : CellTypes) (me : ℕ) → HaveTypes r.records (typed_by types) (values_of_list (IntValue (pos me) ∷ [])) (IntType ∷ [])
 int_typed r types me = (IntType, [], refl, refl, refl)
 
-module _ (r : RawTree) (valid : IsValid r) (actors : List RoutineTree) (rules : ClassRules r actors) (types : CellTypes) (c : Core) (xs : Numbered Frame) (p : ProcessFits r types c xs) (up : Rising 0 c.started c.entries) (go : c.halted ≡ None) where
+module _ (r : RawTree) (valid : IsValid r) (actors : List RoutineTree) (rules : ClassRules r actors) (types : CellTypes) (c : Core) (xs : Numbered Frame) (p : ProcessFits r types c xs)
+    (up : Rising 0 c.started c.entries) (go : c.halted ≡ None) where
   -- with the new cell
   celled : (m : ℕ) (t : TypeTree) → ProcessFits r (with_type types (suc c.made) (FutureType t)) (new_cell (Single None []) (record c { left = m })) xs
   celled m t =
@@ -91,7 +92,18 @@ module _ (r : RawTree) (valid : IsValid r) (actors : List RoutineTree) (rules : 
       let none = beyond_none c.entries 0 c.started n up (omega arith) in
       put_back r more n (new_cell (Single None []) k) xs
       (new_but r types (FutureType t) k xs n
-      (record { cells = b.cells; waiting = b.waiting; actors = b.actors; work = b.work; ports = b.ports; main = b.main; requests = b.requests; numbered = b.numbered; framed = b.framed; registered = b.registered })
+      (record {
+        cells = b.cells;
+        waiting = b.waiting;
+        actors = b.actors;
+        work = b.work;
+        ports = b.ports;
+        main = b.main;
+        requests = b.requests;
+        numbered = b.numbered;
+        framed = b.framed;
+        registered = b.registered;
+      })
       (Single None []) (t, refl, tt) refl)
       (subst (λ o. ActorAt r more o (thing xs n) (tasks_of n c.tasks)) (sym none) tt)
       (λ e at s. absurd (no_entry (thing c.entries n) e none at))
@@ -99,7 +111,8 @@ module _ (r : RawTree) (valid : IsValid r) (actors : List RoutineTree) (rules : 
       no_entry : (o : Option Entry) (e : Entry) → o ≡ None → o ≡ Some e → ⊥
       no_entry o e f g = cc
 
-  booted : (vs : List ValueTree) (d : ClassTree) (class : ℕ) (name : List ℕ) → slice_get r.classes class ≡ Some d → ((ts : CellTypes) → HaveTypes r.records (typed_by ts) (values_of_list vs) (first_types d.params d.slots))
+  booted : (vs : List ValueTree) (d : ClassTree) (class : ℕ) (name : List ℕ) → slice_get r.classes class ≡ Some d
+      → ((ts : CellTypes) → HaveTypes r.records (typed_by ts) (values_of_list vs) (first_types d.params d.slots))
       → (m : ℕ)
       → (let e = record (enrol class name (record c { left = m })) { main = Some (suc c.made) } in Fine r types e.halted e (added xs (suc c.started) (begun d vs)))
   booted vs d class name is fits m =

@@ -29,7 +29,18 @@ packet_fits r types from at text = (
 
 module _ (r : RawTree) (types : CellTypes) (xs : Numbered Frame) where
   lined : (c : Core) (n : ℕ) → ProcessFits r types c xs → ProcessFits r types (record c { left = n }) xs
-  lined c n p = record { cells = p.cells; waiting = p.waiting; actors = p.actors; work = p.work; ports = p.ports; main = p.main; requests = p.requests; numbered = p.numbered; framed = p.framed; registered = p.registered }
+  lined c n p = record {
+    cells = p.cells;
+    waiting = p.waiting;
+    actors = p.actors;
+    work = p.work;
+    ports = p.ports;
+    main = p.main;
+    requests = p.requests;
+    numbered = p.numbered;
+    framed = p.framed;
+    registered = p.registered;
+  }
 
   fewer_exist : (k : ℕ) (ks : List ℕ) → AllExist r types ks → AllExist r types (closed_request k ks)
   fewer_exist k [] h = tt

@@ -75,7 +75,8 @@ module _ (r : RawTree) (types : CellTypes) where
   filled_fits (Stream q end w) t u (GoodOutcome v) h e f = (h.0, h.1, queue_more q v h.0 h.2 (subst (Fits r types v) (sym (stream_same t u h.0 h.1 e)) f))
   filled_fits (Stream q end w) t u (BadOutcome n) h e f = (h.0, h.1, h.2)
 
-  filled_state : (k : ℕ) (o : OutcomeTree) (c : Core) (xs : Numbered Frame) (t u : TypeTree) (cell : Cell) → thing c.cells k ≡ Some cell → types k ≡ Some t → IsOfType t u → OutcomeFits r.records (typed_by types) o u → ProcessFits r types c xs
+  filled_state : (k : ℕ) (o : OutcomeTree) (c : Core) (xs : Numbered Frame) (t u : TypeTree) (cell : Cell) → thing c.cells k ≡ Some cell → types k ≡ Some t → IsOfType t u
+      → OutcomeFits r.records (typed_by types) o u → ProcessFits r types c xs
       → CellFits r types cell t → ProcessFits r types (fill_cell k o (Some cell) c) xs
   filled_state k o c xs t u cell at e i f p fits = record {
     cells = put_cells c k t cell (filled cell o) at e (filled_fits cell t u o fits i f) p.cells;
@@ -87,10 +88,12 @@ module _ (r : RawTree) (types : CellTypes) where
     requests = p.requests;
     numbered = rising_put c.cells 0 c.made k (filled cell o) p.numbered;
     framed = p.framed;
-    registered = λ j. cells_registered j c.entries c.cells (put c.cells k (filled cell o)) (put_keeps j k c.cells cell (filled cell o) at (λ h. subst (Among j) (sym (filled_waiters cell o)) h)) (p.registered j);
+    registered = λ j. cells_registered j c.entries c.cells (put c.cells k (filled cell o)) (put_keeps j k c.cells cell (filled cell o) at (λ h. subst (Among j) (sym (filled_waiters cell o)) h))
+        (p.registered j);
   }
 
-  pub fill_fits : (k : ℕ) (o : OutcomeTree) (c : Core) (xs : Numbered Frame) (t u : TypeTree) → c.halted ≡ None → types k ≡ Some t → IsOfType t u → OutcomeFits r.records (typed_by types) o u → ProcessFits r types c xs
+  pub fill_fits : (k : ℕ) (o : OutcomeTree) (c : Core) (xs : Numbered Frame) (t u : TypeTree) → c.halted ≡ None → types k ≡ Some t → IsOfType t u → OutcomeFits r.records (typed_by types) o u
+      → ProcessFits r types c xs
       → Fine r types (fill k o c).halted (fill k o c) xs
   fill_fits k o c xs t u go e i f p =
       let x = cell_there k t (thing c.cells k) e (p.cells k) in
@@ -98,7 +101,8 @@ module _ (r : RawTree) (types : CellTypes) where
       (fine_same r types c.halted (fill_cell k o (Some x.0) c) xs go (filled_state k o c xs t u x.0 x.1 e i f p x.2))
 
   -- what a branch takes from a cell that is ready
-  pub taken_fits : (cell : Cell) (t u : TypeTree) → CellFits r types cell t → IsOfType t u → is_ready cell ≡ true → (o : OutcomeTree) × (taken cell ≡ Some o) × OutcomeFits r.records (typed_by types) o u
+  pub taken_fits : (cell : Cell) (t u : TypeTree) → CellFits r types cell t → IsOfType t u → is_ready cell ≡ true
+      → (o : OutcomeTree) × (taken cell ≡ Some o) × OutcomeFits r.records (typed_by types) o u
   taken_fits (Single None ws) t u h e g = absurd cc
   taken_fits (Single (Some o) ws) t u h e g = (o, refl, subst (OutcomeFits r.records (typed_by types) o) (future_same t u h.0 h.1 e) h.2)
   taken_fits (Stream [] None w) t u h e g = absurd cc
@@ -110,7 +114,8 @@ module _ (r : RawTree) (types : CellTypes) where
   after_fits (Stream [] end w) t h = h
   after_fits (Stream (v ∷ vs) end w) t h = (h.0, h.1, h.2.1)
 
-  pub taking_state : (k : ℕ) (cell : Cell) (t : TypeTree) (i : ℕ) (c : Core) (xs : Numbered Frame) → thing c.cells k ≡ Some cell → types k ≡ Some t → CellFits r types cell t → FitsBut r types i c xs → FitsBut r types i (record c { cells = put c.cells k (after_taking cell) }) xs
+  pub taking_state : (k : ℕ) (cell : Cell) (t : TypeTree) (i : ℕ) (c : Core) (xs : Numbered Frame) → thing c.cells k ≡ Some cell → types k ≡ Some t → CellFits r types cell t → FitsBut r types i c xs
+      → FitsBut r types i (record c { cells = put c.cells k (after_taking cell) }) xs
   taking_state k cell t i c xs at e fits p = record {
     cells = put_cells c k t cell (after_taking cell) at e (after_fits cell t fits) p.cells;
     waiting = put_waiters c xs k cell (after_taking cell) at (same_waiters xs (types k) cell (after_taking cell) (taking_waiters cell)) p.waiting;
@@ -121,7 +126,8 @@ module _ (r : RawTree) (types : CellTypes) where
     requests = p.requests;
     numbered = rising_put c.cells 0 c.made k (after_taking cell) p.numbered;
     framed = p.framed;
-    registered = λ j n. cells_registered j c.entries c.cells (put c.cells k (after_taking cell)) (put_keeps j k c.cells cell (after_taking cell) at (λ h. subst (Among j) (sym (taking_waiters cell)) h)) (p.registered j n);
+    registered = λ j n. cells_registered j c.entries c.cells (put c.cells k (after_taking cell))
+        (put_keeps j k c.cells cell (after_taking cell) at (λ h. subst (Among j) (sym (taking_waiters cell)) h)) (p.registered j n);
   }
 
   -- an actor leaves all cells
@@ -172,7 +178,8 @@ module _ (r : RawTree) (types : CellTypes) where
   left_rising i (x ∷ xs) above n h = (h.0, h.1, left_rising i xs x.0 n h.2)
 
   -- and goes on by a task, its operands and these values dropped
-  pub leave_state : (i : ℕ) (e e0 : Entry) (vs : List ValueTree) (t : Task) (c : Core) (xs : Numbered Frame) (f : Frame) → FitsBut r types i c xs → thing c.entries i ≡ Some e0 → thing xs i ≡ Some f → IsOf i t
+  pub leave_state : (i : ℕ) (e e0 : Entry) (vs : List ValueTree) (t : Task) (c : Core) (xs : Numbered Frame) (f : Frame) → FitsBut r types i c xs → thing c.entries i ≡ Some e0 → thing xs i ≡ Some f
+      → IsOf i t
       → RefsExist r types e.operands → HaveSome r.records (typed_by types) vs → ((ts : List Task) → ActorFits r types (running e) f (t ∷ ts)) → ProcessFits r types (leave_for i e vs t c) xs
   leave_state i e e0 vs t c xs f p at fr own ops some fits =
       let d = leave_for i e vs t c in
@@ -189,7 +196,8 @@ module _ (r : RawTree) (types : CellTypes) where
         requests = p.requests;
         numbered = left_rising i c.cells 0 c.made p.numbered;
         framed = p.framed;
-        registered = λ j n. entry_registered i j c.entries (left_cells i c.cells) (running e) n (cells_registered j c.entries c.cells (left_cells i c.cells) (left_keeps i j c.cells n) (p.registered j n));
+        registered = λ j n. entry_registered i j c.entries (left_cells i c.cells) (running e) n
+            (cells_registered j c.entries c.cells (left_cells i c.cells) (left_keeps i j c.cells n) (p.registered j n));
       }) (subst (λ o. ActorAt r types o (thing xs i) (tasks_of i d.tasks)) (sym (thing_put c.entries i e0 (running e) at))
       (subst (λ o. ActorAt r types (Some (running e)) o (tasks_of i d.tasks)) (sym fr)
       (subst (ActorFits r types (running e) f) (sym (tasks i ∙ own_task i t c.tasks own)) (fits (tasks_of i c.tasks)))))

@@ -55,7 +55,8 @@ module _ (r : RawTree) (types : CellTypes) (i : ℕ) (c : Core) (xs : Numbered F
   waits_stay k (Some t) (Some cell) at a w h = frames_stay (waiters cell) t a (cell_waits c.entries c.cells k cell w at) h
 
   -- the process without the actor
-  closed : (ts : List Task) (n : ℕ) (ls : List Line) → Awake i c → Orderly c → FitsBut r types i (record c { tasks = ts }) xs → ProcessFits r types (record c { tasks = ts; entries = removed c.entries i; left = n; lines = ls }) (removed xs i)
+  closed : (ts : List Task) (n : ℕ) (ls : List Line) → Awake i c → Orderly c → FitsBut r types i (record c { tasks = ts }) xs
+      → ProcessFits r types (record c { tasks = ts; entries = removed c.entries i; left = n; lines = ls }) (removed xs i)
   closed ts n ls a o b =
       let none = removed_none c.entries 0 c.started i o.numbered in record {
         cells = b.cells;
@@ -70,7 +71,8 @@ module _ (r : RawTree) (types : CellTypes) (i : ℕ) (c : Core) (xs : Numbered F
         requests = b.requests;
         numbered = b.numbered;
         framed = rising_removed xs 0 c.started i b.framed;
-        registered = each_number i (λ j. IsRegistered j (removed c.entries i) c.cells) (λ e at s. absurd (no_entry (thing (removed c.entries i) i) e none at)) (λ j d e at s. b.registered j d e (sym (thing_removed_other c.entries i j d) ∙ at) s);
+        registered = each_number i (λ j. IsRegistered j (removed c.entries i) c.cells) (λ e at s. absurd (no_entry (thing (removed c.entries i) i) e none at))
+            (λ j d e at s. b.registered j d e (sym (thing_removed_other c.entries i j d) ∙ at) s);
       }
     where
       no_entry : (o : Option Entry) (e : Entry) → o ≡ None → o ≡ Some e → ⊥
@@ -81,9 +83,11 @@ module _ (r : RawTree) (types : CellTypes) where
   value_some (GoodOutcome v) t h = ((t, h), tt)
   value_some (BadOutcome e) t h = tt
 
-module _ (r : RawTree) (types : CellTypes) (k : ℕ) (o : OutcomeTree) (t : TypeTree) (d : Core) (ys : Numbered Frame) (p : ProcessFits r types d ys) (go : d.halted ≡ None) (has : types k ≡ Some (FutureType t)) (fits : OutcomeFits r.records (typed_by types) o t) where
+module _ (r : RawTree) (types : CellTypes) (k : ℕ) (o : OutcomeTree) (t : TypeTree) (d : Core) (ys : Numbered Frame) (p : ProcessFits r types d ys) (go : d.halted ≡ None)
+    (has : types k ≡ Some (FutureType t)) (fits : OutcomeFits r.records (typed_by types) o t) where
   -- a result that no future refers to
-  gone : reference_count (frames_scan ys) PromiseSide k d ≡ 0 → reference_count (frames_scan ys) FutureSide k d ≡ 0 → count PromiseSide k (refs_in (value_in o)) ≡ 0 → count FutureSide k (refs_in (value_in o)) ≡ 0
+  gone : reference_count (frames_scan ys) PromiseSide k d ≡ 0 → reference_count (frames_scan ys) FutureSide k d ≡ 0 → count PromiseSide k (refs_in (value_in o)) ≡ 0
+      → count FutureSide k (refs_in (value_in o)) ≡ 0
       → Fine r types (set_result k o zero d).halted (set_result k o zero d) ys
   gone a b x y =
       let u = others r types k in
@@ -97,15 +101,29 @@ module _ (r : RawTree) (types : CellTypes) (k : ℕ) (o : OutcomeTree) (t : Type
       )
 
   lined : (n : ℕ) → ProcessFits r types (record d { left = n }) ys
-  lined n = record { cells = p.cells; waiting = p.waiting; actors = p.actors; work = p.work; ports = p.ports; main = p.main; requests = p.requests; numbered = p.numbered; framed = p.framed; registered = p.registered }
+  lined n = record {
+    cells = p.cells;
+    waiting = p.waiting;
+    actors = p.actors;
+    work = p.work;
+    ports = p.ports;
+    main = p.main;
+    requests = p.requests;
+    numbered = p.numbered;
+    framed = p.framed;
+    registered = p.registered;
+  }
 
-  result_set : (n : ℕ) → reference_count (frames_scan ys) FutureSide k d ≡ n → reference_count (frames_scan ys) PromiseSide k d ≡ 0 → count PromiseSide k (refs_in (value_in o)) ≡ 0 → count FutureSide k (refs_in (value_in o)) ≡ 0
+  result_set : (n : ℕ) → reference_count (frames_scan ys) FutureSide k d ≡ n → reference_count (frames_scan ys) PromiseSide k d ≡ 0 → count PromiseSide k (refs_in (value_in o)) ≡ 0
+      → count FutureSide k (refs_in (value_in o)) ≡ 0
       → Fine r types (set_result k o n d).halted (set_result k o n d) ys
   result_set zero b a x y = gone a b x y
   result_set (suc f) b a x y = fine_turn r types (λ d. fill k o d) d ys (λ n. fill_fits r types k o (record d { left = n }) ys (FutureType t) t go has (inl refl) fits (lined n))
 
-module _ (r : RawTree) (types : CellTypes) (i : ℕ) (o : OutcomeTree) (ts : List Task) (c : Core) (xs : Numbered Frame) (order : Orderly c) (go : c.halted ≡ None) (top : c.tasks ≡ Close i o ∷ ts) (p : ProcessFits r types c xs) (alone : ResultsGone c xs) where
-  pub close_fits : (a : Actor r types i (Close i o) ts c xs) → Fine r types (close (frames_scan (removed xs i)) i a.entry.result o (record c { tasks = ts })).halted (close (frames_scan (removed xs i)) i a.entry.result o (record c { tasks = ts })) (removed xs i)
+module _ (r : RawTree) (types : CellTypes) (i : ℕ) (o : OutcomeTree) (ts : List Task) (c : Core) (xs : Numbered Frame) (order : Orderly c) (go : c.halted ≡ None) (top : c.tasks ≡ Close i o ∷ ts)
+    (p : ProcessFits r types c xs) (alone : ResultsGone c xs) where
+  pub close_fits : (a : Actor r types i (Close i o) ts c xs) → Fine r types (close (frames_scan (removed xs i)) i a.entry.result o (record c { tasks = ts })).halted
+      (close (frames_scan (removed xs i)) i a.entry.result o (record c { tasks = ts })) (removed xs i)
   close_fits a =
       fine_turn r types (λ d. give_result (frames_scan (removed xs i)) a.entry.result o (writes (end_line i o) d)) (record c { tasks = ts; entries = removed c.entries i }) (removed xs i) by_turns
     where
@@ -114,7 +132,8 @@ module _ (r : RawTree) (types : CellTypes) (i : ℕ) (o : OutcomeTree) (ts : Lis
 
       -- before the task is off
       all_zero : reference_count (frames_scan (removed xs i)) PromiseSide result (record c { entries = removed c.entries i; tasks = Close i o ∷ ts }) ≡ 0
-      all_zero = subst (λ us. reference_count (frames_scan (removed xs i)) PromiseSide result (record c { entries = removed c.entries i; tasks = us }) ≡ 0) top (alone.alone i result a.entry a.at a.owner.owns)
+      all_zero = subst (λ us. reference_count (frames_scan (removed xs i)) PromiseSide result (record c { entries = removed c.entries i; tasks = us }) ≡ 0) top
+          (alone.alone i result a.entry a.at a.owner.owns)
 
       by_turns : (n : ℕ) → Fine r types (give_result (frames_scan (removed xs i)) a.entry.result o (writes (end_line i o) (record c { tasks = ts; entries = removed c.entries i; left = n }))).halted
           (give_result (frames_scan (removed xs i)) a.entry.result o (writes (end_line i o) (record c { tasks = ts; entries = removed c.entries i; left = n }))) (removed xs i)
@@ -131,5 +150,6 @@ module _ (r : RawTree) (types : CellTypes) (i : ℕ) (o : OutcomeTree) (ts : Lis
           let ra = in_requests PromiseSide result c.requests in
           let ma = count_maybe PromiseSide result FutureSide c.main in
           subst (λ x. Fine r types (give_result (frames_scan ys) x o d).halted (give_result (frames_scan ys) x o d) ys) (sym a.owner.owns)
-          (result_set r types result o a.class.returns d ys state go a.owner.gives a.doing.0 (reference_count (frames_scan ys) FutureSide result d) refl (other_tasks q ca ea va ta pa ra ma all_zero) (first_task q ca ea va ta pa ra ma all_zero)
+          (result_set r types result o a.class.returns d ys state go a.owner.gives a.doing.0 (reference_count (frames_scan ys) FutureSide result d) refl (other_tasks q ca ea va ta pa ra ma all_zero)
+          (first_task q ca ea va ta pa ra ma all_zero)
           (alone.apart i result a.entry o ts top a.at a.owner.owns))

@@ -52,7 +52,8 @@ place_known : (done more : List RecordTree) (n : ℕ) (x : List ℕ) → is_ther
 place_known [] more n x h = absurd (false≢true h)
 place_known (r ∷ rs) more n x h = by_test (bytes_eq x r.name.name) (bytes_eq r.name.name x) (bytes_sym x r.name.name) h (place_known rs more (suc n) x)
   where
-    by_test : (b d : Bool) → b ≡ d → is_there (if b then Some (row_of (StructDecl r)).1 else named (map row_of (map StructDecl rs)) x) ≡ true → (is_there (named (map row_of (map StructDecl rs)) x) ≡ true → place (suc n) (rs ++ more) x < suc n + length rs)
+    by_test : (b d : Bool) → b ≡ d → is_there (if b then Some (row_of (StructDecl r)).1 else named (map row_of (map StructDecl rs)) x) ≡ true
+        → (is_there (named (map row_of (map StructDecl rs)) x) ≡ true → place (suc n) (rs ++ more) x < suc n + length rs)
         → (if d then n else place (suc n) (rs ++ more) x) < n + suc (length rs)
     by_test true true e h f = omega arith
     by_test false false e h f = let g = f h in omega (arith, g)
@@ -75,12 +76,14 @@ level_known done more (PromiseType t) h = level_known done more t h
 level_known done more (PromiseStreamType t) h = level_known done more t h
 level_known done more _ h = omega arith
 
-fields_known : (done more : List RecordTree) (taken : List ℕ → Bool) (fs : List ParamTree) → fields_fault (known (map StructDecl done)) taken fs ≡ None → AllBelow (done ++ more) (2 + length done) (param_types fs)
+fields_known : (done more : List RecordTree) (taken : List ℕ → Bool) (fs : List ParamTree) → fields_fault (known (map StructDecl done)) taken fs ≡ None
+    → AllBelow (done ++ more) (2 + length done) (param_types fs)
 fields_known done more taken [] h = tt
 fields_known done more taken (f ∷ fs) h =
     let a = lesser (unless (type_known (known (map StructDecl done)) f.ty) UNKNOWN_NAME) (unless (not (taken f.name.name)) TWICE) in
     let b = no_first a (fields_fault (known (map StructDecl done)) (with_name f.name.name taken) fs) h in
-    let k = holds (type_known (known (map StructDecl done)) f.ty) UNKNOWN_NAME (no_first (unless (type_known (known (map StructDecl done)) f.ty) UNKNOWN_NAME) (unless (not (taken f.name.name)) TWICE) b) in
+    let k = holds (type_known (known (map StructDecl done)) f.ty) UNKNOWN_NAME
+    (no_first (unless (type_known (known (map StructDecl done)) f.ty) UNKNOWN_NAME) (unless (not (taken f.name.name)) TWICE) b) in
     (level_known done more f.ty k, fields_known done more (with_name f.name.name taken) fs (no_second a (fields_fault (known (map StructDecl done)) (with_name f.name.name taken) fs) h))
 
 snoc : {A : Type 0} (xs : List A) (y : A) (ys : List A) → (xs ++ y ∷ []) ++ ys ≡ xs ++ y ∷ ys
@@ -96,12 +99,14 @@ length_snoc [] y = refl
 length_snoc (x ∷ xs) y = let h = length_snoc xs y in omega (arith, h)
 
 -- the fields of a record are declared before it
-fields_before : (all : Bool → Setting) (done more : List RecordTree) (rest : List DeclTree) (x : List ℕ) (r : RecordTree) → decls_refusal all (map StructDecl done) (map StructDecl more ++ rest) ≡ None → record_named more x ≡ Some r
+fields_before : (all : Bool → Setting) (done more : List RecordTree) (rest : List DeclTree) (x : List ℕ) (r : RecordTree) → decls_refusal all (map StructDecl done) (map StructDecl more ++ rest) ≡ None
+    → record_named more x ≡ Some r
     → AllBelow (done ++ more) (place (2 + length done) more x) (param_types r.fields)
 fields_before all done [] rest x r h e = absurd (none_some e)
 fields_before all done (m ∷ more) rest x r h e =
     let i = decl_refusal all (known (map StructDecl done)) (StructDecl m) in
-    let f = no_second (name_fault (known (map StructDecl done)) m.name.name) (fields_fault (known (map StructDecl done)) (λ x. false) m.fields) (no_item m.at (record_fault (known (map StructDecl done)) m) (neither_first i _ h)) in
+    let f = no_second (name_fault (known (map StructDecl done)) m.name.name) (fields_fault (known (map StructDecl done)) (λ x. false) m.fields)
+    (no_item m.at (record_fault (known (map StructDecl done)) m) (neither_first i _ h)) in
     let next = subst (λ ds. decls_refusal all ds (map StructDecl more ++ rest) ≡ None) (map_snoc done m) (neither_second i _ h) in
     by_test (bytes_eq m.name.name x) e (fields_known done (m ∷ more) (λ x. false) m.fields f)
     (λ e. subst (λ l. AllBelow l (place (suc (2 + length done)) more x) (param_types r.fields)) (snoc done m more)
@@ -156,13 +161,16 @@ module _ (r : RawTree) (valid : IsValid r) (types : CellTypes) where
   params_before : (x : List ℕ) (s : Signature) → record_call r.records x ≡ Some s → AllBelow r.records (level r.records (NamedType x)) s.params
   params_before x s e = by_test (is_packet x) e
     where
-      rows : (o : Option RecordTree) → record_named r.records x ≡ o → option_map (λ (q : RecordTree). record { params = param_types q.fields; gives = NamedType x }) o ≡ Some s → AllBelow r.records (place 2 r.records x) s.params
+      rows : (o : Option RecordTree) → record_named r.records x ≡ o → option_map (λ (q : RecordTree). record { params = param_types q.fields; gives = NamedType x }) o ≡ Some s
+          → AllBelow r.records (place 2 r.records x) s.params
       rows None q e = absurd (none_some e)
       rows (Some d) q e =
           subst (AllBelow r.records (place 2 r.records x)) (some_params s (param_types d.fields) (NamedType x) e)
-          (fields_before (setting_of (all_decls r)) [] r.records (map FunctionDecl r.functions) x d (neither_first (decls_refusal (setting_of (all_decls r)) [] (plain_decls r)) _ (none_is _ valid.declarations)) q)
+          (fields_before (setting_of (all_decls r)) [] r.records (map FunctionDecl r.functions) x d
+          (neither_first (decls_refusal (setting_of (all_decls r)) [] (plain_decls r)) _ (none_is _ valid.declarations)) q)
 
-      by_test : (b : Bool) → (if b then Some (record { params = map (λ (f : List ℕ × TypeTree). f.1) packet_fields; gives = NamedType x }) else option_map (λ (q : RecordTree). record { params = param_types q.fields; gives = NamedType x }) (record_named r.records x)) ≡ Some s
+      by_test : (b : Bool) → (if b then Some (record { params = map (λ (f : List ℕ × TypeTree). f.1) packet_fields; gives = NamedType x }) else option_map
+          (λ (q : RecordTree). record { params = param_types q.fields; gives = NamedType x }) (record_named r.records x)) ≡ Some s
           → AllBelow r.records (if b then 1 else place 2 r.records x) s.params
       by_test true e = subst (AllBelow r.records 1) (some_params s (map (λ (f : List ℕ × TypeTree). f.1) packet_fields) (NamedType x) e) (omega arith, (omega arith, (omega arith, tt)))
       by_test false e = rows (record_named r.records x) refl e

@@ -84,7 +84,8 @@ module _ (r : RawTree) (valid : IsValid r) (c : ClassTree) (vars : List ParamTre
 
   pub have_types : (ns : List Need) (ts : List TypeTree) (es : ExprTrees) → ns ≡ map Exactly ts → as_many es ns ≡ true → faults here 0 ns es ≡ None → AllTyped r (heads r) c vars es ts
   have_types ns ts es n m h =
-      let k = all_typed here (scope_in (all_decls r) vars) (agrees (all_decls r) vars (all_distinct r valid) false) 0 ns ts es (from_start ns (map Exactly ts) n) (subst (λ l. as_many es l ≡ true) n m) h in
+      let k = all_typed here (scope_in (all_decls r) vars) (agrees (all_decls r) vars (all_distinct r valid) false) 0 ns ts es (from_start ns (map Exactly ts) n)
+      (subst (λ l. as_many es l ≡ true) n m) h in
       let same = types_same ts k.types k.same in
       subst (λ s. (types_in s es ≡ Some ts) × (all_without_effects s es ≡ true)) (scope_same r vars)
       (subst (λ l. types_in (scope_in (all_decls r) vars) es ≡ Some l) (sym same) k.in_scope, k.quiet)
@@ -100,7 +101,8 @@ module _ (r : RawTree) (valid : IsValid r) (c : ClassTree) (vars : List ParamTre
     typed : AllTyped r (heads r) c vars xs types
     gives : EffectGives r (heads r) c vars effect types t
 
-  predefined_given : (xs : ExprTrees) (p : Predefined) (k : Option ℕ) (g : Option Signature) (t : TypeTree) → signature p ≡ g → calls_effect (Some (predefined_callee p g)) ≡ true → faults here 0 (predefined_callee p g).needs xs ≡ None
+  predefined_given : (xs : ExprTrees) (p : Predefined) (k : Option ℕ) (g : Option Signature) (t : TypeTree) → signature p ≡ g → calls_effect (Some (predefined_callee p g)) ≡ true
+      → faults here 0 (predefined_callee p g).needs xs ≡ None
       → calls xs (Some (predefined_callee p g)) (placed here true) ≡ None → wants (gives_of (Some (predefined_callee p g))) t ≡ None → IsGiven xs (effectful_of (Some p) k) t
   predefined_given xs p k None t e b f n w = absurd (false≢true b)
   predefined_given xs p k (Some g) t e b f n w = record {
@@ -111,8 +113,10 @@ module _ (r : RawTree) (valid : IsValid r) (c : ClassTree) (vars : List ParamTre
     gives = (g, e, refl, wanted_is (Some g.gives) g.gives t refl w);
   }
 
-  declared_given : (xs : ExprTrees) (x : List ℕ) (m : Option Meaning) (t : TypeTree) → known (all_decls r) x ≡ m → calls_effect (option_map (declared_callee x) m) ≡ true → faults here 0 (needs_of (option_map (declared_callee x) m)) xs ≡ None
-      → calls xs (option_map (declared_callee x) m) (placed here true) ≡ None → wants (gives_of (option_map (declared_callee x) m)) t ≡ None → IsGiven xs (effectful_of None (position (bytes_eq x) (map class_name r.classes))) t
+  declared_given : (xs : ExprTrees) (x : List ℕ) (m : Option Meaning) (t : TypeTree) → known (all_decls r) x ≡ m → calls_effect (option_map (declared_callee x) m) ≡ true
+      → faults here 0 (needs_of (option_map (declared_callee x) m)) xs ≡ None
+      → calls xs (option_map (declared_callee x) m) (placed here true) ≡ None → wants (gives_of (option_map (declared_callee x) m)) t ≡ None
+      → IsGiven xs (effectful_of None (position (bytes_eq x) (map class_name r.classes))) t
   declared_given xs x None t e b f n w = absurd (false≢true b)
   declared_given xs x (Some (RecordOf fs)) t e b f n w = absurd (false≢true b)
   declared_given xs x (Some (FunctionOf ts u)) t e b f n w = absurd (false≢true b)
@@ -147,7 +151,8 @@ module _ (r : RawTree) (valid : IsValid r) (c : ClassTree) (vars : List ParamTre
   effect_fits e t b h = absurd (false≢true b)
 
   -- what is an effect by its name is one by its kind
-  effect_called : (x : List ℕ) (p : Option Predefined) (k : Option ℕ) (g : Effectful) → position (bytes_eq x) (map class_name r.classes) ≡ k → effectful_of p k ≡ Some g → calls_effect (called_as here x p) ≡ true
+  effect_called : (x : List ℕ) (p : Option Predefined) (k : Option ℕ) (g : Effectful) → position (bytes_eq x) (map class_name r.classes) ≡ k → effectful_of p k ≡ Some g
+      → calls_effect (called_as here x p) ≡ true
   effect_called x (Some p) k g q e = effect_kind p (world_is (is_effect p) p g e)
   effect_called x None None g q e = absurd (none_some e)
   effect_called x None (Some k) g q e = let m = class_means r valid x k q in ap (λ o. calls_effect (option_map (declared_callee x) o)) m.2
@@ -163,7 +168,8 @@ module _ (r : RawTree) (valid : IsValid r) (c : ClassTree) (vars : List ParamTre
   operand_effect e t g q h = absurd (none_some q)
 
   -- and what is none stands as a value
-  no_effect : (f : Ident) (xs : ExprTrees) (t : TypeTree) (b : Bool) → calls_effect (called here f.name) ≡ b → effect_in (class_names r) (CallExpr f xs) ≡ None → wanted here true (CallExpr f xs) t ≡ None → wanted here false (CallExpr f xs) t ≡ None
+  no_effect : (f : Ident) (xs : ExprTrees) (t : TypeTree) (b : Bool) → calls_effect (called here f.name) ≡ b → effect_in (class_names r) (CallExpr f xs) ≡ None
+      → wanted here true (CallExpr f xs) t ≡ None → wanted here false (CallExpr f xs) t ≡ None
   no_effect f xs t true b q h =
       let k = call_given f xs t b h in
       absurd (none_some (sym q ∙ ap (option_map (λ (g : Effectful). (g, xs))) k.is))

@@ -37,7 +37,8 @@ module _ {W : Type 0} (r : RawTree) (leads : LeadOn r) (h : Host W) where
   ServedPlaced None = Unit {0}
   ServedPlaced (Some l) = Unless (λ k. Placed (Going r) k l.proc.actors) l.proc.core
 
-  serve_placed : (q : Option Request) (p : Proc Frame) (w : W) → Unless (λ k. Placed (Going r) k p.actors) p.core → Unless (λ k. Placed (Going r) k (serve h q p w).proc.actors) (serve h q p w).proc.core
+  serve_placed : (q : Option Request) (p : Proc Frame) (w : W) → Unless (λ k. Placed (Going r) k p.actors) p.core
+      → Unless (λ k. Placed (Going r) k (serve h q p w).proc.actors) (serve h q p w).proc.core
   serve_placed None p w k = k
   serve_placed (Some q) p w k = unless_map p.core.halted (λ (k : Placed (Going r) p.core p.actors). record { all = k.all; phases = k.phases }) k
 
@@ -62,7 +63,8 @@ module _ {W : Type 0} (r : RawTree) (leads : LeadOn r) (h : Host W) where
   Smaller s None = Unit {0}
   Smaller s (Some l) = NoPlace r s.proc.core s.proc.actors ⊎ Unless (λ m. Less s.proc.core (load s.proc.core s.proc.actors) m (load m l.proc.actors)) l.proc.core
 
-  serve_less : (c : Core) (n : ℕ) (q : Option Request) (p : Proc Frame) (w : W) → Unless (λ m. Less c n m (load m p.actors)) p.core → Unless (λ m. Less c n m (load m (serve h q p w).proc.actors)) (serve h q p w).proc.core
+  serve_less : (c : Core) (n : ℕ) (q : Option Request) (p : Proc Frame) (w : W) → Unless (λ m. Less c n m (load m p.actors)) p.core
+      → Unless (λ m. Less c n m (load m (serve h q p w).proc.actors)) (serve h q p w).proc.core
   serve_less c n None p w k = k
   serve_less c n (Some q) p w k = k
 
@@ -88,7 +90,8 @@ module _ {W : Type 0} (r : RawTree) (leads : LeadOn r) (h : Host W) where
       → ((l : Live W Frame) → l.proc.core.left ≤ s.proc.core.left → load l.proc.core l.proc.actors < load s.proc.core s.proc.actors → InPlaceNow l → Ends r h l) → Ends r h s
   one_step s k fewer lighter = by_next (advance (classes r) h s) refl (advance_less s k)
     where
-      by_halt : (l : Live W Frame) (x : Option Halt) → l.proc.core.halted ≡ x → UnlessStopped x (Less s.proc.core (load s.proc.core s.proc.actors) l.proc.core (load l.proc.core l.proc.actors)) → InPlaceNow l → Ends r h l
+      by_halt : (l : Live W Frame) (x : Option Halt) → l.proc.core.halted ≡ x → UnlessStopped x (Less s.proc.core (load s.proc.core s.proc.actors) l.proc.core (load l.proc.core l.proc.actors))
+          → InPlaceNow l → Ends r h l
       by_halt l (Some y) e u p = (l, here, inl (stopped l y e))
       by_halt l None e (inl lt) p = fewer l lt p
       by_halt l None e (inr q) p = lighter l q.0 q.1 p
@@ -99,7 +102,8 @@ module _ {W : Type 0} (r : RawTree) (leads : LeadOn r) (h : Host W) where
       by_next (Some l) a (inr u) = after_step s l a (by_halt l l.proc.core.halted refl u (next_in_place s l k a))
 
   -- by what is left to do
-  by_load : (n m : ℕ) → ((s : Live W Frame) → s.proc.core.left < n → InPlaceNow s → Ends r h s) → (s : Live W Frame) → s.proc.core.left ≤ n → load s.proc.core s.proc.actors ≤ m → InPlaceNow s → Ends r h s
+  by_load : (n m : ℕ) → ((s : Live W Frame) → s.proc.core.left < n → InPlaceNow s → Ends r h s) → (s : Live W Frame) → s.proc.core.left ≤ n → load s.proc.core s.proc.actors ≤ m → InPlaceNow s
+      → Ends r h s
   by_load n zero fewer s le lm k = one_step s k (λ l lt p. fewer l (omega (arith, lt, le)) p) (λ l l2 lt p. absurd (omega (arith, lt, lm)))
   by_load n (suc m) fewer s le lm k = one_step s k (λ l lt p. fewer l (omega (arith, lt, le)) p) (λ l l2 lt p. by_load n m fewer l (omega (arith, l2, le)) (omega (arith, lt, lm)) p)
 

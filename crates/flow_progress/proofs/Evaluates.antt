@@ -79,7 +79,11 @@ mutual
   readable_by m (VarExpr x) h = λ q e. h q (ap (λ o. among (listed o) q) e ∙ ap (λ b. b || false) (same_self q))
   readable_by m (CallExpr f es) h = all_readable_by m es h
   readable_by m (FieldExpr e x) h = readable_by m e h
-  readable_by m (MethodExpr e k es) h = (readable_by m e (λ q a. h q (among_left (expr_places e) (exprs_places es) q a)), all_readable_by m es (λ q a. h q (among_right (expr_places e) (exprs_places es) q a)))
+  readable_by m (MethodExpr e k es) h = (
+    readable_by m e (λ q a. h q (among_left (expr_places e) (exprs_places es) q a)),
+    all_readable_by m es
+        (λ q a. h q (among_right (expr_places e) (exprs_places es) q a)),
+  )
   readable_by m (NotExpr e) h = readable_by m e h
   readable_by m (NegExpr e) h = readable_by m e h
   readable_by m (BinaryExpr op a b) h = (readable_by m a (λ q k. h q (among_left (expr_places a) (expr_places b) q k)), readable_by m b (λ q k. h q (among_right (expr_places a) (expr_places b) q k)))
@@ -88,7 +92,11 @@ mutual
 
   pub all_readable_by : (m : Memory) (es : ExprTrees) → AllFilled m (exprs_places es) → AllReadable m es
   all_readable_by m NoExprs h = tt
-  all_readable_by m (MoreExprs e es) h = (readable_by m e (λ q k. h q (among_left (expr_places e) (exprs_places es) q k)), all_readable_by m es (λ q k. h q (among_right (expr_places e) (exprs_places es) q k)))
+  all_readable_by m (MoreExprs e es) h = (
+    readable_by m e (λ q k. h q (among_left (expr_places e) (exprs_places es) q k)),
+    all_readable_by m es
+        (λ q k. h q (among_right (expr_places e) (exprs_places es) q k)),
+  )
 
 -- the variables that have a value
 abbrev filled_vars : Memory → List ParamTree → List ParamTree
@@ -185,7 +193,8 @@ module _ (rs : List RecordTree) (fs actors : List RoutineTree) (vs ws : List Par
     quiet_same : (e : ExprTree) → without_effects (scope_over rs fs actors vs) e ≡ without_effects (scope_over rs fs actors ws) e
     quiet_same (CallExpr f es) = ap (λ b. not (effect_call (scope_over rs fs actors ws) f.name) && b) (all_quiet_same es)
     quiet_same (FieldExpr e x) = quiet_same e
-    quiet_same (MethodExpr e k es) = ap (λ b. b && all_without_effects (scope_over rs fs actors vs) es) (quiet_same e) ∙ ap (λ b. without_effects (scope_over rs fs actors ws) e && b) (all_quiet_same es)
+    quiet_same (MethodExpr e k es) = ap (λ b. b && all_without_effects (scope_over rs fs actors vs) es) (quiet_same e)
+        ∙ ap (λ b. without_effects (scope_over rs fs actors ws) e && b) (all_quiet_same es)
     quiet_same (NotExpr e) = quiet_same e
     quiet_same (NegExpr e) = quiet_same e
     quiet_same (BinaryExpr op a b) = ap (λ z. z && without_effects (scope_over rs fs actors vs) b) (quiet_same a) ∙ ap (λ z. without_effects (scope_over rs fs actors ws) a && z) (quiet_same b)
@@ -194,7 +203,8 @@ module _ (rs : List RecordTree) (fs actors : List RoutineTree) (vs ws : List Par
 
     all_quiet_same : (es : ExprTrees) → all_without_effects (scope_over rs fs actors vs) es ≡ all_without_effects (scope_over rs fs actors ws) es
     all_quiet_same NoExprs = refl
-    all_quiet_same (MoreExprs e es) = ap (λ z. z && all_without_effects (scope_over rs fs actors vs) es) (quiet_same e) ∙ ap (λ z. without_effects (scope_over rs fs actors ws) e && z) (all_quiet_same es)
+    all_quiet_same (MoreExprs e es) = ap (λ z. z && all_without_effects (scope_over rs fs actors vs) es) (quiet_same e)
+        ∙ ap (λ z. without_effects (scope_over rs fs actors ws) e && z) (all_quiet_same es)
 
 -- so what is well typed means something over a memory that fits
 module _ (s : Setting) (typed : ℕ → TypeTree → Type 0) (actors : List RoutineTree) (c : ClassTree) (vars : List ParamTree) (named_so : AreNamed c vars) (m : Memory)
@@ -213,7 +223,8 @@ module _ (s : Setting) (typed : ℕ → TypeTree → Type 0) (actors : List Rout
       (types_same s.records s.functions actors c vars named_so m e h ∙ y.0) (quiet_same s.records s.functions actors (filled_vars m vars) vars e ∙ y.1)
 
   pub values_safe : (es : ExprTrees) (ts : List TypeTree) (left : ℕ) → AllReadable m es → types_in (scope_over s.records s.functions actors vars) es ≡ Some ts
-      → all_without_effects (scope_over s.records s.functions actors vars) es ≡ true → Safe (λ vs. HaveTypes s.records typed (values_of_list vs) ts) (eval_all s (run_function s deepest) (look m) es left)
+      → all_without_effects (scope_over s.records s.functions actors vars) es ≡ true
+      → Safe (λ vs. HaveTypes s.records typed (values_of_list vs) ts) (eval_all s (run_function s deepest) (look m) es left)
   values_safe es ts left h t y =
       all_good s typed actors (run_function s deepest) (filled_vars m vars) (look m) fit cells (runner_good s typed actors cells functions deepest) es ts left
       (all_types_same s.records s.functions actors c vars named_so m es h ∙ t) (all_quiet_same s.records s.functions actors (filled_vars m vars) vars es ∙ y)

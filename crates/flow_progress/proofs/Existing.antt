@@ -130,7 +130,8 @@ module _ (r : RawTree) (leads : LeadOn r) where
 
   module _ (w : World Frame) (b : Begun Frame) (e : ending w.out (next_of w.out) ≡ None) (g : begun_by (classes r) w (next_of w.out) ≡ Some b) where
     -- the event is over
-    rests_now : (l : Live Outside Frame) → Burst (classes r) host (before b) l → l.proc.core.halted ≡ None → InPlaceNow r leads host (before b) → InPlaceNow r leads host l → RestsInPlace r (record { up = b.place.up; proc = l.proc })
+    rests_now : (l : Live Outside Frame) → Burst (classes r) host (before b) l → l.proc.core.halted ≡ None → InPlaceNow r leads host (before b) → InPlaceNow r leads host l
+        → RestsInPlace r (record { up = b.place.up; proc = l.proc })
     rests_now l q h start k =
         let p : InPlace r l.proc.core l.proc.actors = subst (λ x. UnlessStopped x (InPlace r l.proc.core l.proc.actors)) h k in
         let o = burst_at_rest (classes r) host (before b) l (unless_map b.place.proc.core.halted (λ (x : InPlace r b.place.proc.core b.place.proc.actors). x.orderly) start) q in
@@ -162,7 +163,8 @@ module _ (r : RawTree) (leads : LeadOn r) where
   abbrev Rest : World Frame → Type 0
   Rest w = (v : World Frame) → bound v < bound w → WorldInPlace r v → Found v
 
-  fewer_events : (w : World Frame) (b : Begun Frame) (l : Live Outside Frame) → ending w.out (next_of w.out) ≡ None → begun_by (classes r) w (next_of w.out) ≡ Some b → Reaches (classes r) host (before b) l → bound (after w b l) < bound w
+  fewer_events : (w : World Frame) (b : Begun Frame) (l : Live Outside Frame) → ending w.out (next_of w.out) ≡ None → begun_by (classes r) w (next_of w.out) ≡ Some b
+      → Reaches (classes r) host (before b) l → bound (after w b l) < bound w
   fewer_events w b l e g q =
       let one = begun_counts (next_of w.out) w b g in
       let same = reached_clock q in

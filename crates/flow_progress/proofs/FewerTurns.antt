@@ -231,7 +231,8 @@ module _ (n : ℕ) (s : Setting) (run : Runner) (runs : RunnerFewer n run) where
 
   assign_fewer : (xs : List Ident) (e : ExprTree) → FewerRuns n (assign_run s run xs e)
   assign_fewer xs e vars left le =
-      valued_fewer (evaluated s run e vars left) vars (λ v left. assigned (put_path s.records vars xs v) left) (evaluated_fewer e vars left le) (λ v l m. assigned_fewer (put_path s.records vars xs v) l m)
+      valued_fewer (evaluated s run e vars left) vars (λ v left. assigned (put_path s.records vars xs v) left) (evaluated_fewer e vars left le)
+      (λ v l m. assigned_fewer (put_path s.records vars xs v) l m)
 
   operand_fewer : (c : ChangeTree) → Fewer n (change_operand s run c)
   operand_fewer (PlusChange e) vars left le = evaluated_fewer e vars left le
@@ -265,7 +266,8 @@ module _ (n : ℕ) (s : Setting) (run : Runner) (runs : RunnerFewer n run) where
       caught_fewer (scope body vars left) (handled x handler) (scope_fewer body f vars left le) (λ err vs l m. scoped_fewer (length vs) _ (g _ l m))
 
   -- what follows statements
-  follow_fewer : (b : Body) (caught : Option (List ℕ)) (go : Locals → ℕ → Run) → FewerRuns n go → FewerRuns n (exec s run b caught) → FewerRuns n (λ vars left. after (go vars left) (exec s run b caught))
+  follow_fewer : (b : Body) (caught : Option (List ℕ)) (go : Locals → ℕ → Run) → FewerRuns n go → FewerRuns n (exec s run b caught)
+      → FewerRuns n (λ vars left. after (go vars left) (exec s run b caught))
   follow_fewer b caught go f g vars left le = after_fewer (go vars left) (exec s run b caught) (f vars left le) g
 
   exec_fewer : (b : Body) (caught : Option (List ℕ)) → FewerRuns n (exec s run b caught)

@@ -30,7 +30,8 @@ fewer_tasks q a b t d p e f h = omega (arith, h)
 popped_alone : (c : Core) (xs : Numbered Frame) (t : Task) (ts : List Task) (n : ℕ) → c.tasks ≡ t ∷ ts → PortsGone c xs → PortsGone (record c { tasks = ts; left = n }) xs
 popped_alone c xs t ts n top h = record {
   alone = λ port k q. let ps = removed c.ports port in
-      fewer_tasks (frames_scan xs PromiseSide k) (in_cells PromiseSide k c.cells) (in_entries PromiseSide k c.entries) (in_task PromiseSide k t) (in_tasks PromiseSide k ts) (in_ports PromiseSide k ps) (in_requests PromiseSide k c.requests)
+      fewer_tasks (frames_scan xs PromiseSide k) (in_cells PromiseSide k c.cells) (in_entries PromiseSide k c.entries) (in_task PromiseSide k t) (in_tasks PromiseSide k ts) (in_ports PromiseSide k ps)
+      (in_requests PromiseSide k c.requests)
       (count_maybe PromiseSide k FutureSide c.main) (subst (λ us. reference_count (frames_scan xs) PromiseSide k (record c { ports = ps; tasks = us }) ≡ 0) top (h.alone port k q));
   once = h.once;
 }
@@ -64,7 +65,8 @@ module _ (r : RawTree) (types : CellTypes) (c : Core) (xs : Numbered Frame) (p :
   pub drop_fits : (kind : Kind) (k : ℕ) (ts : List Task) → c.tasks ≡ Drop kind k ∷ ts → Ok (drop (frames_scan xs) kind k (record c { tasks = ts }))
   drop_fits kind k ts top =
       fine_turn r types (λ d. lose_ref (frames_scan xs) (side_of kind) k d) (record c { tasks = ts }) xs
-      (λ n. lose_fits r types xs (record c { tasks = ts; left = n }) (drop_popped kind k ts n top) go o.numbered (popped_alone c xs (Drop kind k) ts n top alone) (side_of kind) k (let x = (subst (TasksFit r types) top p.work).0 in (future_side kind x.0, x.1)))
+      (λ n. lose_fits r types xs (record c { tasks = ts; left = n }) (drop_popped kind k ts n top) go o.numbered (popped_alone c xs (Drop kind k) ts n top alone) (side_of kind) k
+      (let x = (subst (TasksFit r types) top p.work).0 in (future_side kind x.0, x.1)))
 
   -- a fire
   fire_popped : (k : ℕ) (ts : List Task) → c.tasks ≡ Fire k ∷ ts → ProcessFits r types (record c { tasks = ts }) xs
@@ -106,7 +108,8 @@ module _ (r : RawTree) (types : CellTypes) (c : Core) (xs : Numbered Frame) (p :
       let all : AllWaitFor r types xs (w ∷ ws) t = subst (λ l. AllWaitFor r types xs l t) q h in
       all.0
 
-  takes : (k : ℕ) (cell : Cell) (t : TypeTree) (w : Waiter) (ws : List Waiter) (ts : List Task) → c.tasks ≡ Fire k ∷ ts → thing c.cells k ≡ Some cell → types k ≡ Some t → is_ready cell ≡ true → waiters cell ≡ w ∷ ws
+  takes : (k : ℕ) (cell : Cell) (t : TypeTree) (w : Waiter) (ws : List Waiter) (ts : List Task) → c.tasks ≡ Fire k ∷ ts → thing c.cells k ≡ Some cell → types k ≡ Some t → is_ready cell ≡ true
+      → waiters cell ≡ w ∷ ws
       → Ok (fire_to k cell w (thing c.entries w.actor) (record c { tasks = ts }))
   takes k cell t w ws ts top at e ready q =
       let f = waiter_of k cell t w ws at e q in
@@ -121,7 +124,8 @@ module _ (r : RawTree) (types : CellTypes) (c : Core) (xs : Numbered Frame) (p :
       (branch_fits r types w.actor w.branch k en.0 en.0 [] d xs f.frame a.class t cell at ready go en.1 f.stands (all_but r types w.actor d xs state)
       (record { is = a.is; result = a.result; owns = a.owns; gives = a.gives }) post.0 post.1 f.operand e post.2 tt))
 
-  fire_by : (k : ℕ) (cell : Cell) (t : TypeTree) (ts : List Task) → c.tasks ≡ Fire k ∷ ts → thing c.cells k ≡ Some cell → types k ≡ Some t → (b : Bool) → is_ready cell ≡ b → (ws : List Waiter) → waiters cell ≡ ws
+  fire_by : (k : ℕ) (cell : Cell) (t : TypeTree) (ts : List Task) → c.tasks ≡ Fire k ∷ ts → thing c.cells k ≡ Some cell → types k ≡ Some t → (b : Bool) → is_ready cell ≡ b → (ws : List Waiter)
+      → waiters cell ≡ ws
       → Ok (fire_at (frames_scan xs) k cell b ws (record c { tasks = ts }))
   fire_by k cell t ts top at e b ready [] q = loses k ts top
   fire_by k cell t ts top at e false ready (w ∷ ws) q = loses k ts top

@@ -118,18 +118,21 @@ module _ (rs : List RecordTree) (typed : ℕ → TypeTree → Type 0) where
   abbrev Told : Option Act → Type 0
   Told o = (act : Act) × (o ≡ Some act) × Message act
 
-  send_told : (u t : TypeTree) (v : ValueTree) (vs : List ValueTree) (k : ℕ) (kd : Kind) → v ≡ RefValue kd k → ((us : List ValueTree) → method_act method.Send (RefValue kd k) us ≡ option_map (Sends k) (sent method.Send us))
+  send_told : (u t : TypeTree) (v : ValueTree) (vs : List ValueTree) (k : ℕ) (kd : Kind) → v ≡ RefValue kd k
+      → ((us : List ValueTree) → method_act method.Send (RefValue kd k) us ≡ option_map (Sends k) (sent method.Send us))
       → (typed k (FutureType u) ⊎ typed k (FutureStreamType u)) → HaveTypes rs typed (values_of_list vs) (u ∷ []) → Told (method_act method.Send v vs)
   send_told u t v vs k kd e acts cell h =
       (Sends k (GoodOutcome (arg vs 0)), ap (λ x. method_act method.Send x vs) e ∙ acts vs, (u, cell, arg_typed vs (u ∷ []) 0 u h refl))
 
-  error_told : (u : TypeTree) (v : ValueTree) (vs : List ValueTree) (k : ℕ) (kd : Kind) → v ≡ RefValue kd k → ((us : List ValueTree) → method_act method.SendError (RefValue kd k) us ≡ option_map (Sends k) (sent method.SendError us))
+  error_told : (u : TypeTree) (v : ValueTree) (vs : List ValueTree) (k : ℕ) (kd : Kind) → v ≡ RefValue kd k
+      → ((us : List ValueTree) → method_act method.SendError (RefValue kd k) us ≡ option_map (Sends k) (sent method.SendError us))
       → (typed k (FutureType u) ⊎ typed k (FutureStreamType u)) → HaveTypes rs typed (values_of_list vs) (ErrorType ∷ []) → Told (method_act method.SendError v vs)
   error_told u v vs k kd e acts cell h =
       let n = error_arg vs (ErrorType ∷ []) 0 h refl in
       (Sends k (BadOutcome n.0), ap (λ x. method_act method.SendError x vs) e ∙ acts vs ∙ ap (λ o. option_map (Sends k) (option_map BadOutcome o)) n.1, (u, cell, tt))
 
-  pub message_told : (m : Method) (t : TypeTree) (ts : List TypeTree) (v : ValueTree) (vs : List ValueTree) → Is v t → MessageFits m t ts → HaveTypes rs typed (values_of_list vs) ts → Told (method_act m v vs)
+  pub message_told : (m : Method) (t : TypeTree) (ts : List TypeTree) (v : ValueTree) (vs : List ValueTree) → Is v t → MessageFits m t ts → HaveTypes rs typed (values_of_list vs) ts
+      → Told (method_act m v vs)
   message_told method.Send (PromiseType u) ts v vs h f a =
       let k = promise_ref v u h in send_told u u v vs k.0 kind.Promise k.1 (λ us. refl) (inl k.2) (subst (HaveTypes rs typed (values_of_list vs)) f a)
   message_told method.Send (PromiseStreamType u) ts v vs h f a =
@@ -159,7 +162,8 @@ effect_is ns (CallExpr f xs) q es h = by_effect (effectful ns f.name) refl h
   where
     by_effect : (o : Option Effectful) → effectful ns f.name ≡ o → option_map {U = Effectful × ExprTrees} (λ (g : Effectful). (g, xs)) o ≡ Some (World q, es) → is_effect q ≡ true
     by_effect None e h = none_some (World q, es) h
-    by_effect (Some g) e h = let same : g ≡ World q = ap (λ (z : Effectful × ExprTrees). z.0) (some_same (g, xs) (World q, es) h) in effectful_is (named call_names f.name) (position (bytes_eq f.name) ns.actors) q (e ∙ ap Some same)
+    by_effect (Some g) e h = let same : g ≡ World q = ap (λ (z : Effectful × ExprTrees). z.0) (some_same (g, xs) (World q, es) h) in effectful_is (named call_names f.name)
+        (position (bytes_eq f.name) ns.actors) q (e ∙ ap Some same)
 effect_is ns e q es h = none_some (World q, es) h
 
 -- effects of arguments of their types
@@ -167,7 +171,8 @@ module _ (r : RawTree) (typed : ℕ → TypeTree → Type 0) (vs : List ValueTre
   abbrev Made : Option Effect → TypeTree → Type 0
   Made o t = (eff : Effect) × (o ≡ Some eff) × Gives r typed eff t
 
-  signed_as : (params : List TypeTree) (gives : TypeTree) (s : Signature) (o : Option Effect) → Some (record { params = params; gives = gives }) ≡ Some s → HaveTypes r.records typed (values_of_list vs) s.params
+  signed_as : (params : List TypeTree) (gives : TypeTree) (s : Signature) (o : Option Effect) → Some (record { params = params; gives = gives }) ≡ Some s
+      → HaveTypes r.records typed (values_of_list vs) s.params
       → (HaveTypes r.records typed (values_of_list vs) params → Made o gives) → Made o s.gives
   signed_as params gives s o e h go =
       let same : record { params = params; gives = gives } ≡ s = some_same (record { params = params; gives = gives }) s e in

@@ -57,14 +57,16 @@ module _ (r : RawTree) (types : CellTypes) where
   }
 
   -- one task on top
-  pub goes_by : (i : ℕ) (t : Task) (k : Core) (xs : Numbered Frame) (e : Entry) (g : Frame) (c : ClassTree) → HandFits r types i k xs e g c → IsOf i t → ((ts : List Task) → DoingFits r types c e g (t ∷ ts)) → ProcessFits r types (pushed t k) xs
+  pub goes_by : (i : ℕ) (t : Task) (k : Core) (xs : Numbered Frame) (e : Entry) (g : Frame) (c : ClassTree) → HandFits r types i k xs e g c → IsOf i t
+      → ((ts : List Task) → DoingFits r types c e g (t ∷ ts)) → ProcessFits r types (pushed t k) xs
   goes_by i t k xs e g c h own d =
       push_fits r types i t k xs h.rest own
       (actor_at r types e g (thing k.entries i) (thing xs i) (t ∷ tasks_of i k.tasks) h.entry h.frame (doing_actor e g c (t ∷ tasks_of i k.tasks) h.owner h.awake (d (tasks_of i k.tasks))))
       (awake_registered i k.entries k.cells e h.entry h.awake)
 
   -- and one over the actor's next step
-  pub goes_by_two : (i : ℕ) (t : Task) (k : Core) (xs : Numbered Frame) (e : Entry) (g : Frame) (c : ClassTree) → HandFits r types i k xs e g c → IsOf i t → ((ts : List Task) → DoingFits r types c e g (t ∷ ts))
+  pub goes_by_two : (i : ℕ) (t : Task) (k : Core) (xs : Numbered Frame) (e : Entry) (g : Frame) (c : ClassTree) → HandFits r types i k xs e g c → IsOf i t
+      → ((ts : List Task) → DoingFits r types c e g (t ∷ ts))
       → ProcessFits r types (pushed t (pushed (Run i) k)) xs
   goes_by_two i t k xs e g c h own d =
       let m = pushed (Run i) k in
@@ -83,7 +85,8 @@ module _ (r : RawTree) (types : CellTypes) where
       (awake_registered i k.entries k.cells e h.entry h.awake)
 
   -- operands
-  pub operands_more : (g : Frame) (n : ℕ) (qs : List Ref) (q : Ref) (t : TypeTree) → OperandsFit r types g n qs → NextOperand g (n + length qs) t → Fits r types (RefValue q.0 q.1) t → OperandsFit r types g n (qs ++ q ∷ [])
+  pub operands_more : (g : Frame) (n : ℕ) (qs : List Ref) (q : Ref) (t : TypeTree) → OperandsFit r types g n qs → NextOperand g (n + length qs) t → Fits r types (RefValue q.0 q.1) t
+      → OperandsFit r types g n (qs ++ q ∷ [])
   operands_more g n [] q t h next f = let e : n + 0 ≡ n = omega arith in ((t, subst (λ m. NextOperand g m t) e next, f), tt)
   operands_more g n (x ∷ qs) q t h next f =
       let e : n + suc (length qs) ≡ suc n + length qs = omega arith in
@@ -105,7 +108,8 @@ module _ (r : RawTree) (types : CellTypes) where
   operand_is true u = inr refl
 
   -- the result of an effect goes where it is wanted
-  pub gives_state : (i : ℕ) (goal : Goal) (v : ValueTree) (t : TypeTree) (k : Core) (xs : Numbered Frame) (e : Entry) (g : Frame) (c : ClassTree) → HandFits r types i k xs e g c → g.code ≡ c → Standing r types g
+  pub gives_state : (i : ℕ) (goal : Goal) (v : ValueTree) (t : TypeTree) (k : Core) (xs : Numbered Frame) (e : Entry) (g : Frame) (c : ClassTree) → HandFits r types i k xs e g c → g.code ≡ c
+      → Standing r types g
       → OperandsFit r types g 0 e.operands → (goal ≡ Stored → e.operands ≡ []) → Wanted r (class_vars g.code) (typed_by types) goal g (length e.operands) t → Fits r types v t
       → (x : Task) × (result_task i goal v ≡ Some x) × ProcessFits r types (pushed x (pushed (Run i) k)) xs
   gives_state i Stored v t k xs e g c h code s ops none w f = (Store i v, refl, goes_by_two i (Store i v) k xs e g c h (store_of i v) (λ ts. (code, s, (t, w, f), none refl)))
@@ -118,7 +122,8 @@ module _ (r : RawTree) (types : CellTypes) where
         goes_by_two i (Keep i spot q.0) k xs e g c h (keep_of i spot q.0) (λ ts. (code, s, operands_more g 0 e.operands q.0 t ops (subst (λ m. NextOperand g m t) (sym zero_plus) w) f2)),
       )
 
-  pub gives_task : (ask : Option Request) (i : ℕ) (goal : Goal) (v : ValueTree) (t : TypeTree) (k : Core) (xs : Numbered Frame) (e : Entry) (g : Frame) (c : ClassTree) → HandFits r types i k xs e g c → k.halted ≡ None → g.code ≡ c → Standing r types g
+  pub gives_task : (ask : Option Request) (i : ℕ) (goal : Goal) (v : ValueTree) (t : TypeTree) (k : Core) (xs : Numbered Frame) (e : Entry) (g : Frame) (c : ClassTree) → HandFits r types i k xs e g c
+      → k.halted ≡ None → g.code ≡ c → Standing r types g
       → OperandsFit r types g 0 e.operands → (goal ≡ Stored → e.operands ≡ []) → Wanted r (class_vars g.code) (typed_by types) goal g (length e.operands) t → Fits r types v t → AskFits types ask
       → FineAsking r types ask (gives i goal v k).halted (gives i goal v k) xs
   gives_task ask i goal v t k xs e g c h go code s ops none w f asks =
@@ -127,8 +132,10 @@ module _ (r : RawTree) (types : CellTypes) where
       (fine_of r types ask k.halted (pushed x.0 (pushed (Run i) k)) xs go (types, x.2, still_same types k.requests, asks))
 
   -- an actor is cancelled
-  cancelled_state : (b : Bool) (i : ℕ) (e : Entry) (c : Core) (xs : Numbered Frame) (o : Option Frame) → thing c.entries i ≡ Some e → thing xs i ≡ o → e.suspended ≡ b → ProcessFits r types c xs → ProcessFits r types (cancel_by b i e c) xs
-  cancelled_state b i e c xs None at fr s p = absurd (subst (λ x. ActorAt r types (Some e) x (tasks_of i c.tasks)) fr (subst (λ x. ActorAt r types x (thing xs i) (tasks_of i c.tasks)) at (p.actors i)))
+  cancelled_state : (b : Bool) (i : ℕ) (e : Entry) (c : Core) (xs : Numbered Frame) (o : Option Frame) → thing c.entries i ≡ Some e → thing xs i ≡ o → e.suspended ≡ b → ProcessFits r types c xs
+      → ProcessFits r types (cancel_by b i e c) xs
+  cancelled_state b i e c xs None at fr s p = absurd (subst (λ x. ActorAt r types (Some e) x (tasks_of i c.tasks)) fr
+      (subst (λ x. ActorAt r types x (thing xs i) (tasks_of i c.tasks)) at (p.actors i)))
   cancelled_state true i e c xs (Some f) at fr s p =
       let a = actor_of r types e f (thing c.entries i) (thing xs i) (tasks_of i c.tasks) at fr (p.actors i) in
       let parked = subst (λ b. PostureFits r types b a.class e f (tasks_of i c.tasks)) s a.posture in
@@ -171,12 +178,25 @@ module _ (r : RawTree) (types : CellTypes) where
   pub cancel_state : (i : ℕ) (e : Entry) (c : Core) (xs : Numbered Frame) → thing c.entries i ≡ Some e → ProcessFits r types c xs → ProcessFits r types (cancel i e c) xs
   cancel_state i e c xs at p =
       cancelled_state e.suspended i e (writes (cancel_line i) c) xs (thing xs i) at refl refl
-      (record { cells = p.cells; waiting = p.waiting; actors = p.actors; work = p.work; ports = p.ports; main = p.main; requests = p.requests; numbered = p.numbered; framed = p.framed; registered = p.registered })
+      (record {
+        cells = p.cells;
+        waiting = p.waiting;
+        actors = p.actors;
+        work = p.work;
+        ports = p.ports;
+        main = p.main;
+        requests = p.requests;
+        numbered = p.numbered;
+        framed = p.framed;
+        registered = p.registered;
+      })
 
   -- a branch is taken from a cell that is ready
-  pub branch_fits : (i b n : ℕ) (en e0 : Entry) (vs : List ValueTree) (c : Core) (xs : Numbered Frame) (f : Frame) (cls : ClassTree) (t : TypeTree) (cell : Cell) → thing c.cells n ≡ Some cell → is_ready cell ≡ true → c.halted ≡ None
+  pub branch_fits : (i b n : ℕ) (en e0 : Entry) (vs : List ValueTree) (c : Core) (xs : Numbered Frame) (f : Frame) (cls : ClassTree) (t : TypeTree) (cell : Cell) → thing c.cells n ≡ Some cell
+      → is_ready cell ≡ true → c.halted ≡ None
       → thing c.entries i ≡ Some e0 → thing xs i ≡ Some f → FitsBut r types i c xs → Owner r types (running en) cls → f.code ≡ cls → Waiting r types f → NextOperand f b t → types n ≡ Some t
-      → OperandsFit r types f 0 en.operands → HaveSome r.records (typed_by types) vs → Fine r types (take_branch i b n en vs (thing c.cells n) c).halted (take_branch i b n en vs (thing c.cells n) c) xs
+      → OperandsFit r types f 0 en.operands → HaveSome r.records (typed_by types) vs
+      → Fine r types (take_branch i b n en vs (thing c.cells n) c).halted (take_branch i b n en vs (thing c.cells n) c) xs
   branch_fits i b n en e0 vs c xs f cls t cell at ready go entry fr rest owner code s next has ops some =
       subst (λ x. Fine r types (take_branch i b n en vs x c).halted (take_branch i b n en vs x c) xs) (sym at)
       (fine_turn r types (λ d. give i b en vs (taken cell) (record (writes (take_line i en.spot.group b) d) { cells = put d.cells n (after_taking cell) })) c xs by_turns)
@@ -211,7 +231,19 @@ module _ (r : RawTree) (types : CellTypes) where
       by_turns m =
           let d = record (writes (take_line i en.spot.group b) (record c { left = m })) { cells = put c.cells n (after_taking cell) } in
           let p = taking_state r types n cell t i c xs at has cell_fits rest in
-          let q : FitsBut r types i d xs = record { cells = p.cells; waiting = p.waiting; actors = p.actors; work = p.work; ports = p.ports; main = p.main; requests = p.requests; numbered = p.numbered; framed = p.framed; registered = p.registered } in
+          let q : FitsBut r types i d xs = record {
+            cells = p.cells;
+            waiting = p.waiting;
+            actors = p.actors;
+            work = p.work;
+            ports = p.ports;
+            main = p.main;
+            requests = p.requests;
+            numbered = p.numbered;
+            framed = p.framed;
+            registered = p.registered;
+          } in
           subst (λ o. Fine r types (give i b en vs o d).halted (give i b en vs o d) xs) (sym got.1)
-          (fine_same r types c.halted (leave_for i en vs (Give i b got.0) d) xs go (leave_state r types i en e0 vs (Give i b got.0) d xs f q entry fr (give_of i b got.0) (operands_exist r types f 0 en.operands ops) some
+          (fine_same r types c.halted (leave_for i en vs (Give i b got.0) d) xs go
+          (leave_state r types i en e0 vs (Give i b got.0) d xs f q entry fr (give_of i b got.0) (operands_exist r types f 0 en.operands ops) some
           (λ ts. doing_actor (running en) f cls (Give i b got.0 ∷ ts) owner refl (code, given, refl))))

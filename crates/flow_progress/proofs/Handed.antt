@@ -44,7 +44,8 @@ module _ (r : RawTree) (actors : List RoutineTree) (vars : List ParamTree) (type
         first false h = h
 
     -- the result of an effect has a place
-    pub has_place : (u : ValueTree) (t : TypeTree) (path : List Ident) (e : ExprTree) → Stands r.records typed f → fetch f.code f.block f.instr ≡ Body (EffectInstr path e) → Stores r f.code vars (Body (EffectInstr path e)) t → HasType r.records typed u t
+    pub has_place : (u : ValueTree) (t : TypeTree) (path : List Ident) (e : ExprTree) → Stands r.records typed f → fetch f.code f.block f.instr ≡ Body (EffectInstr path e)
+        → Stores r f.code vars (Body (EffectInstr path e)) t → HasType r.records typed u t
         → assign r.records f.mem path u ≡ None → ⊥
     has_place u t path e s here at k none =
         let full = λ (q : Slotted) (h : among (base_place path) q ≡ true).
@@ -57,7 +58,8 @@ module _ (r : RawTree) (actors : List RoutineTree) (vars : List ParamTree) (type
         differ : {A : Type 0} {o : Option A} {x : A} → o ≡ None → o ≡ Some x → ⊥
         differ a b = cc
 
-    pub store_fits : (u : ValueTree) (t : TypeTree) (o : Fetched) → Stands r.records typed f → fetch f.code f.block f.instr ≡ o → Stores r f.code vars o t → HasType r.records typed u t → Onward f.code (store_at (class_names r) u f o)
+    pub store_fits : (u : ValueTree) (t : TypeTree) (o : Fetched) → Stands r.records typed f → fetch f.code f.block f.instr ≡ o → Stores r f.code vars o t → HasType r.records typed u t
+        → Onward f.code (store_at (class_names r) u f o)
     store_fits u t (Body (EffectInstr path e)) s here at k =
         let full = λ (q : Slotted) (h : among (base_place path) q ≡ true).
         let h2 : among (reads f.code (fetch f.code f.block f.instr)) q ≡ true = subst (λ o. among (reads f.code o) q ≡ true) (sym here) (among_left (base_place path) (expr_places e) q h) in
@@ -89,13 +91,15 @@ module _ (r : RawTree) (actors : List RoutineTree) (vars : List ParamTree) (type
     )
 
     -- a branch is taken
-    taken_here : (s : StandsWaiting r.records typed f) (n : ℕ) (k : CallbackTree) (u : ValueTree) (t : TypeTree) (o : Option Slotted) → k.into ≡ o → callback_at f.code s.group n ≡ Some k → BranchFits r actors f.code vars k
+    taken_here : (s : StandsWaiting r.records typed f) (n : ℕ) (k : CallbackTree) (u : ValueTree) (t : TypeTree) (o : Option Slotted) → k.into ≡ o → callback_at f.code s.group n ≡ Some k
+        → BranchFits r actors f.code vars k
         → takes_type f.code o ≡ Some t → HasType r.records typed u t → Onward f.code (onward f k.block (bound (class_names r) u f.mem o))
     taken_here s n k u t None into at b e h = (
       record {
         there = b.goes;
         reached = reached_taken f.code f.block f.instr s.group n k s.there at s.reached;
-        full = full_taken f.code f.mem f.mem f.block f.instr s.group n k s.there at s.reached s.full (λ p z has a. absurd (none_among p (subst (λ o. among (listed o) p ≡ true) into a))) (λ p a l x. x);
+        full = full_taken f.code f.mem f.mem f.block f.instr s.group n k s.there at s.reached s.full (λ p z has a. absurd (none_among p (subst (λ o. among (listed o) p ≡ true) into a)))
+            (λ p a l x. x);
         holds = s.holds;
       },
       ((t, h), tt),
@@ -123,7 +127,8 @@ module _ (r : RawTree) (actors : List RoutineTree) (vars : List ParamTree) (type
         by_place q x true z here = subst (Filled (write f.mem p (Some u))) (sym (place_eq q p z)) (u, here)
         by_place q x false z here = (x.0, write_other f.mem p q (Some u) z ∙ x.1)
 
-    pub take_fits : (s : StandsWaiting r.records typed f) (n : ℕ) (k : CallbackTree) (u : ValueTree) (t : TypeTree) → callback_at f.code s.group n ≡ Some k → takes_type f.code k.into ≡ Some t → HasType r.records typed u t
+    pub take_fits : (s : StandsWaiting r.records typed f) (n : ℕ) (k : CallbackTree) (u : ValueTree) (t : TypeTree) → callback_at f.code s.group n ≡ Some k → takes_type f.code k.into ≡ Some t
+        → HasType r.records typed u t
         → Onward f.code (take_at (class_names r) n u f (fetch f.code f.block f.instr))
     take_fits s n k u t at e h =
         let b = rules.lasts f.block f.instr (ChooseLast s.group) s.there n k at in
@@ -150,7 +155,8 @@ module _ (r : RawTree) (actors : List RoutineTree) (vars : List ParamTree) (type
       caught_filled (Some n) h p e =
           let z = emptied_holds r.records typed f.code k.drops f.mem holds in
           let same : Local n ≡ p = place_eq (Local n) p e in
-          let here : read (write cleared (Local n) (Some (ErrorValue err))) (Local n) ≡ Some (ErrorValue err) = write_same cleared (Local n) (Some (ErrorValue err)) (within_of f.code cleared (Local n) ErrorType z.slots z.locals (h n refl)) in
+          let here : read (write cleared (Local n) (Some (ErrorValue err))) (Local n) ≡ Some (ErrorValue err) =
+          write_same cleared (Local n) (Some (ErrorValue err)) (within_of f.code cleared (Local n) ErrorType z.slots z.locals (h n refl)) in
           subst (Filled (write cleared (Local n) (Some (ErrorValue err)))) same (ErrorValue err, here)
 
       caught_kept : (o : Option ℕ) → (p : Slotted) → is_error f.code p o p ≡ false → dropped k.drops p ≡ false → Filled f.mem p → Filled (with_error o err cleared) p
@@ -182,7 +188,8 @@ module _ (r : RawTree) (actors : List RoutineTree) (vars : List ParamTree) (type
       pub caught_waiting : StandsWaiting r.records typed f → Onward f.code (held_in f.mem k.drops, go k.block caught f)
       caught_waiting s =
           let z = rules.catchers f.block k at in
-          caught_onward s.reached (full_wait_failed f.code f.mem caught f.block f.instr k at s.reached (λ p t e x. caught_filled k.error z.1 p x) (λ p e d x. caught_kept k.error p e d x) s.group s.there s.full)
+          caught_onward s.reached (full_wait_failed f.code f.mem caught f.block f.instr k at s.reached (λ p t e x. caught_filled k.error z.1 p x)
+          (λ p e d x. caught_kept k.error p e d x) s.group s.there s.full)
 
   -- a frame that begins: the first slots hold the arguments
   arg_filled : (vs : List ValueTree) (rest : List (Option ValueTree)) (n : ℕ) → n < length vs → (v : ValueTree) × (flat (slice_get (map Some vs ++ rest) n) ≡ Some v)
@@ -190,7 +197,8 @@ module _ (r : RawTree) (actors : List RoutineTree) (vars : List ParamTree) (type
   arg_filled (v ∷ vs) rest zero lt = (v, refl)
   arg_filled (v ∷ vs) rest (suc n) lt = arg_filled vs rest n (omega (arith, lt))
 
-  arg_holds : (vs : List ValueTree) (ss : List SlotTree) (n k : ℕ) (t : TypeTree) (v : ValueTree) → length vs ≡ k → HaveTypes r.records typed (values_of_list vs) (first_types k ss) → option_map (λ (s : SlotTree). s.ty) (slice_get ss n) ≡ Some t
+  arg_holds : (vs : List ValueTree) (ss : List SlotTree) (n k : ℕ) (t : TypeTree) (v : ValueTree) → length vs ≡ k → HaveTypes r.records typed (values_of_list vs) (first_types k ss)
+      → option_map (λ (s : SlotTree). s.ty) (slice_get ss n) ≡ Some t
       → flat (slice_get (map Some vs ++ blanks (drop k ss)) n) ≡ Some v → HasType r.records typed v t
   arg_holds [] ss n k t v l h at e = none_some v (sym (blank_at (drop k ss) n) ∙ e)
   arg_holds (x ∷ vs) [] n k t v l h at e = absurd (let d = h.2 in cc)

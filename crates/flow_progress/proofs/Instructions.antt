@@ -80,33 +80,42 @@ module _ (r : RawTree) (valid : IsValid r) (c : ClassTree) where
   all_yield es ts h = subst (λ s. (types_in s es ≡ Some ts) × (all_without_effects s es ≡ true)) (scope_same r vars) h
 
   -- an assignment
-  put_typed : (whole : Bool) (path : List Ident) (e : ExprTree) → IsPath path → put_fault here whole path e ≡ None → (t : TypeTree) × (path_type r.records vars path ≡ Some t) × (wanted here whole e t ≡ None)
+  put_typed : (whole : Bool) (path : List Ident) (e : ExprTree) → IsPath path → put_fault here whole path e ≡ None
+      → (t : TypeTree) × (path_type r.records vars path ≡ Some t) × (wanted here whole e t ≡ None)
   put_typed whole path e p h =
       let l = lesser (target_fault here path) (fault here whole e) in
       let a = no_first l (assigned (form here e) (target_form here path)) h in
       let t = target (all_decls r) apart false vars path p (no_first (target_fault here path) (fault here whole e) a) in
-      let w = ap (assigned (form here e)) (sym t.by_form) ∙ no_second l (assigned (form here e) (target_form here path)) h in
-      (t.type, ap (λ rs. path_type rs vars path) (sym (all_records r)) ∙ t.in_scope, none_both (fault here whole e) (wants (form here e) t.type) (no_second (target_fault here path) (fault here whole e) a) w)
+      let w = ap (assigned (form here e)) (sym t.by_form) ∙ no_second l (assigned (form here e) (target_form here path)) h in (
+        t.type,
+        ap (λ rs. path_type rs vars path) (sym (all_records r))
+            ∙ t.in_scope,
+        none_both (fault here whole e) (wants (form here e) t.type) (no_second (target_fault here path) (fault here whole e) a) w,
+      )
 
   -- a call by a name
-  name_says : (x : Ident) (es : ExprTrees) (p : Option Predefined) → NameFits (all_decls r) vars x.name es p → (ts : List TypeTree) × AllTyped r (heads r) c vars es ts × SayFits r (heads r) c vars p x ts
+  name_says : (x : Ident) (es : ExprTrees) (p : Option Predefined) → NameFits (all_decls r) vars x.name es p
+      → (ts : List TypeTree) × AllTyped r (heads r) c vars es ts × SayFits r (heads r) c vars p x ts
   name_says x es (Some code.Trace) h = (h.0 ∷ [], all_yield es (h.0 ∷ []) h.2, (h.0, refl, ap is_there h.1))
   name_says x es (Some code.SendTo) h = (IntType ∷ IntType ∷ StringType ∷ [], all_yield es (IntType ∷ IntType ∷ StringType ∷ []) h, refl)
   name_says x es (Some p) h = absurd h
   name_says x es None h = (param_types h.0.params, all_yield es (param_types h.0.params) h.2, (h.0, ap (λ fs. routine_named fs x.name) (sym (all_functions r)) ∙ h.1, refl))
 
   -- a call of a method
-  send_says : (t : TypeTree) (m : Method) (es : ExprTrees) → MethodFits (all_decls r) vars (PromiseType t) es m → (ts : List TypeTree) × AllTyped r (heads r) c vars es ts × MessageFits m (PromiseType t) ts
+  send_says : (t : TypeTree) (m : Method) (es : ExprTrees) → MethodFits (all_decls r) vars (PromiseType t) es m
+      → (ts : List TypeTree) × AllTyped r (heads r) c vars es ts × MessageFits m (PromiseType t) ts
   send_says t method.Send es h = (t ∷ [], all_yield es (t ∷ []) h, refl)
   send_says t method.SendError es h = (ErrorType ∷ [], all_yield es (ErrorType ∷ []) h, refl)
   send_says t m es h = absurd h
 
-  stream_says : (t : TypeTree) (m : Method) (es : ExprTrees) → MethodFits (all_decls r) vars (PromiseStreamType t) es m → (ts : List TypeTree) × AllTyped r (heads r) c vars es ts × MessageFits m (PromiseStreamType t) ts
+  stream_says : (t : TypeTree) (m : Method) (es : ExprTrees) → MethodFits (all_decls r) vars (PromiseStreamType t) es m
+      → (ts : List TypeTree) × AllTyped r (heads r) c vars es ts × MessageFits m (PromiseStreamType t) ts
   stream_says t method.Send es h = (t ∷ [], all_yield es (t ∷ []) h, refl)
   stream_says t method.SendError es h = (ErrorType ∷ [], all_yield es (ErrorType ∷ []) h, refl)
   stream_says t m es h = absurd h
 
-  cancel_says : (t : TypeTree) (m : Method) (es : ExprTrees) → MethodFits (all_decls r) vars (FutureType t) es m → (ts : List TypeTree) × AllTyped r (heads r) c vars es ts × MessageFits m (FutureType t) ts
+  cancel_says : (t : TypeTree) (m : Method) (es : ExprTrees) → MethodFits (all_decls r) vars (FutureType t) es m
+      → (ts : List TypeTree) × AllTyped r (heads r) c vars es ts × MessageFits m (FutureType t) ts
   cancel_says t method.Cancel es h = ([], all_yield es [] h, refl)
   cancel_says t m es h = absurd h
 
@@ -117,13 +126,15 @@ module _ (r : RawTree) (valid : IsValid r) (c : ClassTree) where
   method_says t m es h = absurd h
 
   -- which is never called on a constant
-  on_variable : (x : List ℕ) (zs : List Ident) (o : Option ℕ) (t : TypeTree) (m : Method) (es : ExprTrees) → fields_type (records_in (all_decls r)) (variable_in vars x o) zs ≡ Some t → MethodFits (all_decls r) vars t es m
+  on_variable : (x : List ℕ) (zs : List Ident) (o : Option ℕ) (t : TypeTree) (m : Method) (es : ExprTrees) → fields_type (records_in (all_decls r)) (variable_in vars x o) zs ≡ Some t
+      → MethodFits (all_decls r) vars t es m
       → fields_type (records_in (all_decls r)) (option_map (λ (p : ParamTree). p.ty) (param_named vars x)) zs ≡ Some t
   on_variable x zs None t m es e h = e
   on_variable x [] (Some n) t m es e h = absurd (subst (λ u. MethodFits (all_decls r) vars u es m) (sym (some_same IntType t e)) h)
   on_variable x (z ∷ zs) (Some n) t m es e h = absurd (none_some e)
 
-  path_says : (x y : Ident) (ys : List Ident) (es : ExprTrees) → PathFits (all_decls r) vars (ends_of x (y ∷ ys)) es → (ts : List TypeTree) × AllTyped r (heads r) c vars es ts × CallFits r (heads r) c vars (x ∷ (y ∷ ys)) ts
+  path_says : (x y : Ident) (ys : List Ident) (es : ExprTrees) → PathFits (all_decls r) vars (ends_of x (y ∷ ys)) es
+      → (ts : List TypeTree) × AllTyped r (heads r) c vars es ts × CallFits r (heads r) c vars (x ∷ (y ∷ ys)) ts
   path_says x y ys es h =
       let q = subst (λ q. PathFits (all_decls r) vars (x ∷ q.0, q.1) es) (ends_same y ys) h in
       let k = method_says q.0 q.1 es q.4 in
@@ -173,12 +184,17 @@ module _ (r : RawTree) (valid : IsValid r) (c : ClassTree) where
   blocks_of : (l : LastTree) → has_last c l ≡ true → list_all (has_block c) (targets l) ≡ true
   blocks_of l h = second_true (has_group c l) (list_all (has_block c) (targets l)) (first_true (has_group c l && list_all (has_block c) (targets l)) (list_all (has_place c) (last_places l)) h)
 
-  pub last_typed : (l : LastTree) → last_fits c here l ≡ true → has_last c l ≡ true → ((g n : ℕ) (k : CallbackTree) → callback_at c g n ≡ Some k → BranchFits r (heads r) c vars k) → LastFits r (heads r) c vars l
+  pub last_typed : (l : LastTree) → last_fits c here l ≡ true → has_last c l ≡ true → ((g n : ℕ) (k : CallbackTree) → callback_at c g n ≡ Some k → BranchFits r (heads r) c vars k)
+      → LastFits r (heads r) c vars l
   last_typed (GotoLast b) f h k = block_there b (first_true (has_block c b) true (blocks_of (GotoLast b) h))
   last_typed (PassLast b) f h k = block_there b (first_true (has_block c b) true (blocks_of (PassLast b) h))
   last_typed (TestLast e a b) f h k =
-      let bs = blocks_of (TestLast e a b) h in
-      (to_yields e BoolType (none_is (wanted here false e BoolType) f), block_there a (first_true (has_block c a) (has_block c b && true) bs), block_there b (first_true (has_block c b) true (second_true (has_block c a) (has_block c b && true) bs)))
+      let bs = blocks_of (TestLast e a b) h in (
+        to_yields e BoolType (none_is (wanted here false e BoolType) f),
+        block_there a (first_true (has_block c a) (has_block c b && true) bs),
+        block_there b
+            (first_true (has_block c b) true (second_true (has_block c a) (has_block c b && true) bs)),
+      )
   last_typed (ChooseLast g) f h k = k g
   last_typed (ReturnLast e) f h k = to_yields e c.returns (none_is (wanted here false e c.returns) f)
   last_typed (ThrowLast e) f h k = to_yields e ErrorType (none_is (wanted here false e ErrorType) f)

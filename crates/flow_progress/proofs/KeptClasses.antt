@@ -210,7 +210,8 @@ module _ (r : RawTree) (valid : IsValid r) (k : ℕ) (c : ClassTree) (at : slice
   operands_all (d ∷ ks) h =
       let a = first_true (has_operand c d) (list_all (has_operand c) ks) h in
       let b = second_true (has_block c d.block) (list_all (has_place c) (expr_places d.operand ++ listed d.into)) a in
-      all_both (expr_places d.operand) (operands ks) (all_first (has_place c) (expr_places d.operand) (listed d.into) b) (operands_all ks (second_true (has_operand c d) (list_all (has_operand c) ks) h))
+      all_both (expr_places d.operand) (operands ks) (all_first (has_place c) (expr_places d.operand) (listed d.into) b)
+      (operands_all ks (second_true (has_operand c d) (list_all (has_operand c) ks) h))
     where
       both : (a b : Bool) → a ≡ true → b ≡ true → a && b ≡ true
       both true b e f = f
@@ -219,7 +220,8 @@ module _ (r : RawTree) (valid : IsValid r) (k : ℕ) (c : ClassTree) (at : slice
       all_both : (xs ys : List Slotted) → list_all (has_place c) xs ≡ true → list_all (has_place c) ys ≡ true → list_all (has_place c) (xs ++ ys) ≡ true
       all_both [] ys h f = f
       all_both (x ∷ xs) ys h f =
-          both (has_place c x) (list_all (has_place c) (xs ++ ys)) (first_true (has_place c x) (list_all (has_place c) xs) h) (all_both xs ys (second_true (has_place c x) (list_all (has_place c) xs) h) f)
+          both (has_place c x) (list_all (has_place c) (xs ++ ys)) (first_true (has_place c x) (list_all (has_place c) xs) h)
+          (all_both xs ys (second_true (has_place c x) (list_all (has_place c) xs) h) f)
 
   group_all : (g : ℕ) (o : Option (List CallbackTree)) → group_at c.groups g ≡ o → list_all (has_place c) (group_reads o) ≡ true
   group_all g None e = refl

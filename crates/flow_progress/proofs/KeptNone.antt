@@ -90,7 +90,8 @@ pub none_kept : (r : RawTree) (types : CellTypes) (ns : Names) (v : View) (f : F
 none_kept r types ns v f [] h n = refl
 none_kept r types ns v f (q ∷ qs) h n = absurd (n (at_choose ns v f h.0.1.group h.0.1.there))
 
-pub still_kept : (r : RawTree) (types : CellTypes) (ns : Names) (v : View) (f : Frame) (qs : List Ref) (ask : Ask) (g : Frame) → OperandsFit r types f 0 qs → next_step ns v f ≡ (Some ask, g) → OperandsFit r types g 0 qs
+pub still_kept : (r : RawTree) (types : CellTypes) (ns : Names) (v : View) (f : Frame) (qs : List Ref) (ask : Ask) (g : Frame) → OperandsFit r types f 0 qs → next_step ns v f ≡ (Some ask, g)
+    → OperandsFit r types g 0 qs
 still_kept r types ns v f [] ask g h e = tt
 still_kept r types ns v f (q ∷ qs) ask g h e =
     let w : AsksOfWaitAt f (Some ask, g) = subst (AsksOfWaitAt f) e (at_choose ns v f h.0.1.group h.0.1.there) in

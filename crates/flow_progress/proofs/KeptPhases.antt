@@ -80,7 +80,8 @@ module _ {A : Type 0} (e : Engine A) (known : Phase → A → Type 0) (keeps : K
   related_after r h = unless_map r.0.core.halted (placed_of r.0.core r.0.actors) h
 
   -- an actor's step
-  next_placed : (s : Supply) (i : ℕ) (ts : List Task) (c : Core) (xs : Numbered A) (a : A) (p : Option Ask × A) → Orderly c → c.tasks ≡ Run i ∷ ts → thing xs i ≡ Some a → Placed known c xs → KnownAfter known p
+  next_placed : (s : Supply) (i : ℕ) (ts : List Task) (c : Core) (xs : Numbered A) (a : A) (p : Option Ask × A) → Orderly c → c.tasks ≡ Run i ∷ ts → thing xs i ≡ Some a → Placed known c xs
+      → KnownAfter known p
       → PlacedAfter (run_next e s i ts p (proc c xs))
   next_placed s i ts c xs a (None, b) o top at h k =
       let pop = popped_at i c.left (Run i) ts c o top (run_of i) in
@@ -95,7 +96,8 @@ module _ {A : Type 0} (e : Engine A) (known : Phase → A → Type 0) (keeps : K
         after = (refl, k);
       })).2
 
-  run_placed : (s : Supply) (i : ℕ) (ts : List Task) (c : Core) (xs : Numbered A) (x : Option A) → Orderly c → c.tasks ≡ Run i ∷ ts → thing xs i ≡ x → Placed known c xs → PlacedAfter (run e s i ts x (proc c xs))
+  run_placed : (s : Supply) (i : ℕ) (ts : List Task) (c : Core) (xs : Numbered A) (x : Option A) → Orderly c → c.tasks ≡ Run i ∷ ts → thing xs i ≡ x → Placed known c xs
+      → PlacedAfter (run e s i ts x (proc c xs))
   run_placed s i ts c xs None o top at h = tt
   run_placed s i ts c xs (Some a) o top at h =
       let free = one_known Free (thing xs i) a (related_thing (Itself Free) xs xs i (related_of c xs h).all) at in

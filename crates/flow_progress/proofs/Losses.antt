@@ -30,7 +30,8 @@ use Rattle.flow_progress.proofs.Removing.{unseen, freed_fits}
 
 ports_less : (s : Side) (k : ℕ) (ps : Numbered ℕ) (port : ℕ) → in_ports s k ps ≡ 0 → in_ports s k (removed ps port) ≡ 0
 ports_less s k [] port a = a
-ports_less s k (x ∷ xs) port a = by_test (nat_eq port x.0) (zero_first (one s k PromiseSide x.1) (in_ports s k xs) a) (zero_second (one s k PromiseSide x.1) (in_ports s k xs) a) (ports_less s k xs port (zero_second (one s k PromiseSide x.1) (in_ports s k xs) a))
+ports_less s k (x ∷ xs) port a = by_test (nat_eq port x.0) (zero_first (one s k PromiseSide x.1) (in_ports s k xs) a) (zero_second (one s k PromiseSide x.1) (in_ports s k xs) a)
+    (ports_less s k xs port (zero_second (one s k PromiseSide x.1) (in_ports s k xs) a))
   where
     by_test : (b : Bool) → one s k PromiseSide x.1 ≡ 0 → in_ports s k xs ≡ 0 → in_ports s k (removed xs port) ≡ 0 → in_ports s k (if b then xs else x ∷ removed xs port) ≡ 0
     by_test true a d e = d
@@ -49,9 +50,21 @@ module _ (r : RawTree) (types : CellTypes) (xs : Numbered Frame) where
   is_of_type (Stream q end w) t h = (h.0, inr h.1)
 
   lined : (c : Core) (n : ℕ) (ls : List Line) → ProcessFits r types c xs → ProcessFits r types (record c { left = n; lines = ls }) xs
-  lined c n ls p = record { cells = p.cells; waiting = p.waiting; actors = p.actors; work = p.work; ports = p.ports; main = p.main; requests = p.requests; numbered = p.numbered; framed = p.framed; registered = p.registered }
+  lined c n ls p = record {
+    cells = p.cells;
+    waiting = p.waiting;
+    actors = p.actors;
+    work = p.work;
+    ports = p.ports;
+    main = p.main;
+    requests = p.requests;
+    numbered = p.numbered;
+    framed = p.framed;
+    registered = p.registered;
+  }
 
-  broken_fits : (k : ℕ) (c : Core) (cell : Cell) (t : TypeTree) → c.halted ≡ None → types k ≡ Some t → CellFits r types cell t → ProcessFits r types c xs → Fine r types (break_cell k c).halted (break_cell k c) xs
+  broken_fits : (k : ℕ) (c : Core) (cell : Cell) (t : TypeTree) → c.halted ≡ None → types k ≡ Some t → CellFits r types cell t → ProcessFits r types c xs
+      → Fine r types (break_cell k c).halted (break_cell k c) xs
   broken_fits k c cell t go e h p =
       let u = is_of_type cell t h in
       fine_turn r types (λ d. fill k (BadOutcome broken_promise) (writes (broken_line k) d)) c xs
@@ -62,7 +75,8 @@ module _ (r : RawTree) (types : CellTypes) (xs : Numbered Frame) where
   cancel_goes false j x d go = go
 
   module _ (c : Core) (p : ProcessFits r types c xs) (go : c.halted ≡ None) (up : Rising 0 c.started c.entries) (alone : PortsGone c xs) where
-    freed : (k : ℕ) (cell : Cell) (t : TypeTree) → thing c.cells k ≡ Some cell → CellFits r types cell t → reference_count (frames_scan xs) PromiseSide k c ≡ 0 → reference_count (frames_scan xs) FutureSide k c ≡ 0 → Fine r types (free k c).halted (free k c) xs
+    freed : (k : ℕ) (cell : Cell) (t : TypeTree) → thing c.cells k ≡ Some cell → CellFits r types cell t → reference_count (frames_scan xs) PromiseSide k c ≡ 0
+        → reference_count (frames_scan xs) FutureSide k c ≡ 0 → Fine r types (free k c).halted (free k c) xs
     freed k cell t at h a b =
         subst (λ x. Fine r types (free_cell k x c).halted (free_cell k x c) xs) (sym at) (freed_fits r types k c xs p (unseen k c xs p.registered a b) cell t go at h)
 
@@ -71,9 +85,11 @@ module _ (r : RawTree) (types : CellTypes) (xs : Numbered Frame) where
         → Fine r types (suffer k (futures_gone None (Some port)) c).halted (suffer k (futures_gone None (Some port)) c) xs
     unheard port k cell t q at h b =
         let d = record c { ports = removed c.ports port } in
-        let z = ports_of_zero (frames_scan xs FutureSide k) (in_cells FutureSide k c.cells) (in_entries FutureSide k c.entries) (in_tasks FutureSide k c.tasks) (in_ports FutureSide k c.ports) (in_requests FutureSide k c.requests)
+        let z = ports_of_zero (frames_scan xs FutureSide k) (in_cells FutureSide k c.cells) (in_entries FutureSide k c.entries) (in_tasks FutureSide k c.tasks) (in_ports FutureSide k c.ports)
+        (in_requests FutureSide k c.requests)
         (count_maybe FutureSide k FutureSide c.main) b in
-        let b2 = fewer_ports (frames_scan xs FutureSide k) (in_cells FutureSide k c.cells) (in_entries FutureSide k c.entries) (in_tasks FutureSide k c.tasks) (in_ports FutureSide k c.ports) (in_ports FutureSide k d.ports)
+        let b2 = fewer_ports (frames_scan xs FutureSide k) (in_cells FutureSide k c.cells) (in_entries FutureSide k c.entries) (in_tasks FutureSide k c.tasks) (in_ports FutureSide k c.ports)
+        (in_ports FutureSide k d.ports)
         (in_requests FutureSide k c.requests) (count_maybe FutureSide k FutureSide c.main) b (ports_less FutureSide k c.ports port z) in
         let pd : ProcessFits r types d xs = record {
           cells = p.cells;
@@ -93,15 +109,18 @@ module _ (r : RawTree) (types : CellTypes) (xs : Numbered Frame) where
         none_there : (o : Option ℕ) (n : ℕ) → o ≡ None → o ≡ Some n → ⊥
         none_there o n e f = cc
 
-    gone_fits : (k : ℕ) (cell : Cell) (t : TypeTree) (o : Option (ℕ × Entry)) (port : Option ℕ) → owner k c.entries ≡ o → port_of k c.ports ≡ port → thing c.cells k ≡ Some cell → CellFits r types cell t → reference_count (frames_scan xs) FutureSide k c ≡ 0
+    gone_fits : (k : ℕ) (cell : Cell) (t : TypeTree) (o : Option (ℕ × Entry)) (port : Option ℕ) → owner k c.entries ≡ o → port_of k c.ports ≡ port → thing c.cells k ≡ Some cell
+        → CellFits r types cell t → reference_count (frames_scan xs) FutureSide k c ≡ 0
         → Fine r types (suffer k (futures_gone o port) c).halted (suffer k (futures_gone o port) c) xs
     gone_fits k cell t (Some o) port own q at h b =
-        fine_same r types (cancel o.0 o.1 c).halted (cancel o.0 o.1 c) xs (cancel_goes o.1.suspended o.0 o.1 (writes (cancel_line o.0) c) go) (cancel_state r types o.0 o.1 c xs (owned k c (Some o) up own) p)
+        fine_same r types (cancel o.0 o.1 c).halted (cancel o.0 o.1 c) xs (cancel_goes o.1.suspended o.0 o.1 (writes (cancel_line o.0) c) go)
+        (cancel_state r types o.0 o.1 c xs (owned k c (Some o) up own) p)
     gone_fits k cell t None (Some port) own q at h b = unheard port k cell t q at h b
     gone_fits k cell t None None own q at h b = fine_same r types c.halted c xs go (p)
 
     -- by what still refers to the cell
-    loss_fits : (s : Side) (k m n : ℕ) (cell : Cell) (t : TypeTree) → reference_count (frames_scan xs) PromiseSide k c ≡ m → reference_count (frames_scan xs) FutureSide k c ≡ n → thing c.cells k ≡ Some cell → types k ≡ Some t → CellFits r types cell t
+    loss_fits : (s : Side) (k m n : ℕ) (cell : Cell) (t : TypeTree) → reference_count (frames_scan xs) PromiseSide k c ≡ m → reference_count (frames_scan xs) FutureSide k c ≡ n
+        → thing c.cells k ≡ Some cell → types k ≡ Some t → CellFits r types cell t
         → Fine r types (suffer k (loss s m n cell (owner k c.entries) (port_of k c.ports)) c).halted (suffer k (loss s m n cell (owner k c.entries) (port_of k c.ports)) c) xs
     loss_fits PromiseSide k zero zero cell t a b at e h = freed k cell t at h a b
     loss_fits FutureSide k zero zero cell t a b at e h = freed k cell t at h a b

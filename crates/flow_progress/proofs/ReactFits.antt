@@ -54,8 +54,10 @@ if_some true x y e = cc
 if_some false x y e = absurd cc
 
 judged_reply : (call : DiskCall ℤ) (d : DiskCall ℕ) → judged call ≡ Some d → reply_type d ≡ reply_type call
-judged_reply (ReadCall file offset count) d e = ap reply_type (sym (if_some (is_file file && between offset 0 FILE_BYTES && between count 0 65535) (ReadCall file (natural offset) (natural count)) d e))
-judged_reply (WriteCall file offset text) d e = ap reply_type (sym (if_some (is_file file && between offset 0 FILE_BYTES && nat_le (natural offset + length text) FILE_BYTES) (WriteCall file (natural offset) text) d e))
+judged_reply (ReadCall file offset count) d e = ap reply_type (sym
+    (if_some (is_file file && between offset 0 FILE_BYTES && between count 0 65535) (ReadCall file (natural offset) (natural count)) d e))
+judged_reply (WriteCall file offset text) d e = ap reply_type (sym
+    (if_some (is_file file && between offset 0 FILE_BYTES && nat_le (natural offset + length text) FILE_BYTES) (WriteCall file (natural offset) text) d e))
 judged_reply (SyncCall file) d e = ap reply_type (sym (if_some (is_file file) (SyncCall file) d e))
 judged_reply (SizeCall file) d e = ap reply_type (sym (if_some (is_file file) (SizeCall file) d e))
 
@@ -111,8 +113,10 @@ module _ (r : RawTree) (i : ℕ) (xs : Numbered Frame) (e : Entry) (g : Frame) (
   wants_more types others (Kept spot) t w = w
 
   -- a reference to the new cell goes where it is wanted
-  new_given : (ask : Option Request) (types : CellTypes) (k d : Core) (goal : Goal) (kd : Kind) (u t : TypeTree) → d.halted ≡ None → (h : Hand types k) (s : Standing r types g) (o : OperandsFit r types g 0 e.operands) → NoneStored goal → Wants types goal t
-      → t ≡ reference_type kd u → Hand (with_type types (suc k.made) (future_side kd u)) d → AskFits (with_type types (suc k.made) (future_side kd u)) ask → OkAsking types (gives i goal (RefValue kd (suc k.made)) d, ask)
+  new_given : (ask : Option Request) (types : CellTypes) (k d : Core) (goal : Goal) (kd : Kind) (u t : TypeTree) → d.halted ≡ None
+      → (h : Hand types k) (s : Standing r types g) (o : OperandsFit r types g 0 e.operands) → NoneStored goal → Wants types goal t
+      → t ≡ reference_type kd u → Hand (with_type types (suc k.made) (future_side kd u)) d → AskFits (with_type types (suc k.made) (future_side kd u)) ask
+      → OkAsking types (gives i goal (RefValue kd (suc k.made)) d, ask)
   new_given ask types k d goal kd u t go h s o none w q m asks =
       let z = future_side kd u in
       let ts = with_type types (suc k.made) z in
@@ -121,7 +125,8 @@ module _ (r : RawTree) (i : ℕ) (xs : Numbered Frame) (e : Entry) (g : Frame) (
       (gives_task r ts ask i goal (RefValue kd (suc k.made)) t d xs e g c m go code (stands_more types k h s o z) (keeps_more types k h s o z) none (wants_more types ts goal t w)
       (u, q, new_type types (suc k.made) z) asks)
 
-  new_fits : (types : CellTypes) (k : Core) (goal : Goal) (kd : Kind) (cell : Cell) (u t : TypeTree) → k.halted ≡ None → Hand types k → Standing r types g → OperandsFit r types g 0 e.operands → NoneStored goal → Wants types goal t
+  new_fits : (types : CellTypes) (k : Core) (goal : Goal) (kd : Kind) (cell : Cell) (u t : TypeTree) → k.halted ≡ None → Hand types k → Standing r types g → OperandsFit r types g 0 e.operands
+      → NoneStored goal → Wants types goal t
       → t ≡ reference_type kd u → CellFits r (with_type types (suc k.made) (future_side kd u)) cell (future_side kd u) → waiters cell ≡ [] → Ok types (gives_new i goal kd cell k)
   new_fits types k goal kd cell u t go h s o none w q f no_waiters =
       new_given None types k (new_cell cell k) goal kd u t go h s o none w q (hand_more types k h s o (future_side kd u) cell f no_waiters) tt
@@ -130,7 +135,8 @@ module _ (r : RawTree) (i : ℕ) (xs : Numbered Frame) (e : Entry) (g : Frame) (
   exist_more types [] n h x = (x, tt)
   exist_more types (k ∷ ks) n h x = (h.0, exist_more types ks n h.1 x)
 
-  open_fits : (ask : Option Request) (types : CellTypes) (k : Core) (goal : Goal) (u t : TypeTree) → k.halted ≡ None → Hand types k → Standing r types g → OperandsFit r types g 0 e.operands → NoneStored goal → Wants types goal t → t ≡ FutureType u
+  open_fits : (ask : Option Request) (types : CellTypes) (k : Core) (goal : Goal) (u t : TypeTree) → k.halted ≡ None → Hand types k → Standing r types g → OperandsFit r types g 0 e.operands
+      → NoneStored goal → Wants types goal t → t ≡ FutureType u
       → AskFits (with_type types (suc k.made) (FutureType u)) ask → OkAsking types (gives_open i goal k, ask)
   open_fits ask types k goal u t go h s o none w q asks =
       let ts = with_type types (suc k.made) (FutureType u) in
@@ -158,11 +164,13 @@ module _ (r : RawTree) (i : ℕ) (xs : Numbered Frame) (e : Entry) (g : Frame) (
   abbrev Packets : TypeTree
   Packets = NamedType (codes "Packet")
 
-  by_port : (ts : CellTypes) (n : ℕ) {X : Type 0} {new : ℕ} → X ⊎ (n ≡ new) → (X → ts n ≡ Some (FutureStreamType Packets)) → ts new ≡ Some (FutureStreamType Packets) → ts n ≡ Some (FutureStreamType Packets)
+  by_port : (ts : CellTypes) (n : ℕ) {X : Type 0} {new : ℕ} → X ⊎ (n ≡ new) → (X → ts n ≡ Some (FutureStreamType Packets)) → ts new ≡ Some (FutureStreamType Packets)
+      → ts n ≡ Some (FutureStreamType Packets)
   by_port ts n (inl x) f new_is = f x
   by_port ts n (inr q) f new_is = subst (λ m. ts m ≡ Some (FutureStreamType Packets)) (sym q) new_is
 
-  port_fits : (types : CellTypes) (k : Core) (goal : Goal) (port : ℕ) (x : Option ℕ) (t : TypeTree) → thing k.ports port ≡ x → k.halted ≡ None → Hand types k → Standing r types g → OperandsFit r types g 0 e.operands → NoneStored goal → Wants types goal t
+  port_fits : (types : CellTypes) (k : Core) (goal : Goal) (port : ℕ) (x : Option ℕ) (t : TypeTree) → thing k.ports port ≡ x → k.halted ≡ None → Hand types k → Standing r types g
+      → OperandsFit r types g 0 e.operands → NoneStored goal → Wants types goal t
       → t ≡ FutureStreamType Packets → OkAsking types (open_port i goal port x k)
   port_fits types k goal port (Some cell) t at go h s o none w q = throws_fit types port_in_use k go h s o
   port_fits types k goal port None t at go h s o none w q =
@@ -188,7 +196,8 @@ module _ (r : RawTree) (i : ℕ) (xs : Numbered Frame) (e : Entry) (g : Frame) (
         };
       }) tt
 
-  disk_fits : (types : CellTypes) (k : Core) (goal : Goal) (x : Option (DiskCall ℕ)) (u t : TypeTree) → k.halted ≡ None → Hand types k → Standing r types g → OperandsFit r types g 0 e.operands → NoneStored goal → Wants types goal t → t ≡ FutureType u
+  disk_fits : (types : CellTypes) (k : Core) (goal : Goal) (x : Option (DiskCall ℕ)) (u t : TypeTree) → k.halted ≡ None → Hand types k → Standing r types g → OperandsFit r types g 0 e.operands
+      → NoneStored goal → Wants types goal t → t ≡ FutureType u
       → ((d : DiskCall ℕ) → x ≡ Some d → reply_type d ≡ u) → OkAsking types (ask_disk i goal x k)
   disk_fits types k goal None u t go h s o none w q same = throws_fit types bad_argument k go h s o
   disk_fits types k goal (Some call) u t go h s o none w q same =
@@ -205,32 +214,50 @@ module _ (r : RawTree) (i : ℕ) (xs : Numbered Frame) (e : Entry) (g : Frame) (
   empty_fits types kind.PromiseStream u = ((u, refl, tt), refl)
   empty_fits types kind.FutureStream u = ((u, refl, tt), refl)
 
-  pub effect_fits : (types : CellTypes) (s : Supply) (k : Core) (goal : Goal) (eff : Effect) (t : TypeTree) → k.halted ≡ None → Hand types k → Standing r types g → OperandsFit r types g 0 e.operands → NoneStored goal → Wants types goal t
+  pub effect_fits : (types : CellTypes) (s : Supply) (k : Core) (goal : Goal) (eff : Effect) (t : TypeTree) → k.halted ≡ None → Hand types k → Standing r types g → OperandsFit r types g 0 e.operands
+      → NoneStored goal → Wants types goal t
       → Gives r (typed_by types) eff t → ((class : ℕ) (args : List ValueTree) → eff ≡ Start class args → ⊥) → OkAsking types (effect s i goal eff k)
   effect_fits types s k goal (Make kd) t go h st o none w y n =
       let f = empty_fits (with_type types (suc k.made) (future_side kd y.0)) kd y.0 in new_fits types k goal kd (empty_cell kd) y.0 t go h st o none w y.1 f.0 f.1
   effect_fits types s k goal (Start class args) t go h st o none w y n = absurd (n class args refl)
   effect_fits types s k goal (Draw lo hi) t go h st o none w y n =
-      either_fits types (between (hi -ℤ lo) 1 (2 ^ 32)) _ (throws i bad_argument k) (gives_task r types (Some Drew) i goal (IntValue (scaled lo (natural (hi -ℤ lo)) s.word)) t k xs e g c h go code st o none w y tt) (throws_fit types bad_argument k go h st o)
+      either_fits types (between (hi -ℤ lo) 1 (2 ^ 32)) _ (throws i bad_argument k)
+      (gives_task r types (Some Drew) i goal (IntValue (scaled lo (natural (hi -ℤ lo)) s.word)) t k xs e g c h go code st o none w y tt) (throws_fit types bad_argument k go h st o)
   effect_fits types s k goal (Delay ticks) t go h st o none w y n =
-      either_fits types (nat_le (s.now + natural ticks) (2 ^ 62)) _ (throws i out_of_range k) (open_fits (Some (Timer (suc k.made) (s.now + natural ticks))) types k goal VoidType t go h st o none w y (new_type types (suc k.made) (FutureType VoidType))) (throws_fit types out_of_range k go h st o)
+      either_fits types (nat_le (s.now + natural ticks) (2 ^ 62)) _ (throws i out_of_range k)
+      (open_fits (Some (Timer (suc k.made) (s.now + natural ticks))) types k goal VoidType t go h st o none w y (new_type types (suc k.made) (FutureType VoidType)))
+      (throws_fit types out_of_range k go h st o)
   effect_fits types s k goal Never t go h st o none w y n = new_fits types k goal kind.Future (Single None []) VoidType t go h st o none w y (VoidType, refl, tt) refl
   effect_fits types s k goal (Listen port) t go h st o none w y n =
-      either_fits types (is_port port) _ (throws i bad_argument k) (port_fits types k goal (natural port) (thing k.ports (natural port)) t refl go h st o none w y) (throws_fit types bad_argument k go h st o)
+      either_fits types (is_port port) _ (throws i bad_argument k) (port_fits types k goal (natural port) (thing k.ports (natural port)) t refl go h st o none w y)
+      (throws_fit types bad_argument k go h st o)
   effect_fits types s k goal (Disk call) t go h st o none w y n = disk_fits types k goal (judged call) (reply_type call) t go h st o none w y (judged_reply call)
 
   -- sends
-  send_by_fits : (types : CellTypes) (b : Bool) (n : ℕ) (v : OutcomeTree) (k : Core) (t u : TypeTree) → k.halted ≡ None → Hand types k → Standing r types g → OperandsFit r types g 0 e.operands → types n ≡ Some t → IsOfType r types t u
+  send_by_fits : (types : CellTypes) (b : Bool) (n : ℕ) (v : OutcomeTree) (k : Core) (t u : TypeTree) → k.halted ≡ None → Hand types k → Standing r types g → OperandsFit r types g 0 e.operands
+      → types n ≡ Some t → IsOfType r types t u
       → OutcomeFits r.records (typed_by types) v u → Ok types (send_by b i n v k)
   send_by_fits types true n v k t u go h s o at is f = throws_fit types already_set k go h s o
   send_by_fits types false n v k t u go h s o at is f =
       fine_turn r types (λ d. fill n v (pushed (Run i) d)) k xs
       (λ m. let d = record k { left = m } in
       let p = h.rest in
-      let rest : FitsBut r types i d xs = record { cells = p.cells; waiting = p.waiting; actors = p.actors; work = p.work; ports = p.ports; main = p.main; requests = p.requests; numbered = p.numbered; framed = p.framed; registered = p.registered } in
+      let rest : FitsBut r types i d xs = record {
+        cells = p.cells;
+        waiting = p.waiting;
+        actors = p.actors;
+        work = p.work;
+        ports = p.ports;
+        main = p.main;
+        requests = p.requests;
+        numbered = p.numbered;
+        framed = p.framed;
+        registered = p.registered;
+      } in
       fill_fits r types n v (pushed (Run i) d) xs t u go at is f (runs types d (rehand types k d h.entry rest h) s o))
 
-  pub send_in_fits : (types : CellTypes) (n : ℕ) (v : OutcomeTree) (k : Core) → k.halted ≡ None → Hand types k → Standing r types g → OperandsFit r types g 0 e.operands → SentFits r.records (typed_by types) n v → Ok types (send_in (thing k.cells n) i n v k)
+  pub send_in_fits : (types : CellTypes) (n : ℕ) (v : OutcomeTree) (k : Core) → k.halted ≡ None → Hand types k → Standing r types g → OperandsFit r types g 0 e.operands
+      → SentFits r.records (typed_by types) n v → Ok types (send_in (thing k.cells n) i n v k)
   send_in_fits types n v k go h s o f = by_type f.1
     where
       sent : (t : TypeTree) → types n ≡ Some t → IsOfType r types t f.0 → Ok types (send_in (thing k.cells n) i n v k)
@@ -253,9 +280,21 @@ module _ (r : RawTree) (i : ℕ) (xs : Numbered Frame) (e : Entry) (g : Frame) (
       cancel_goes : (j : ℕ) (x : Entry) (d : Core) → d.halted ≡ None → (cancel j x d).halted ≡ None
       cancel_goes j x d go = by_suspended x.suspended j x (writes (cancel_line j) d) go
 
-  pub print_fits : (types : CellTypes) (l : Option Line) (k : Core) → ((x : Line) × (l ≡ Some x)) → k.halted ≡ None → Hand types k → Standing r types g → OperandsFit r types g 0 e.operands → Ok types (print i l k)
+  pub print_fits : (types : CellTypes) (l : Option Line) (k : Core) → ((x : Line) × (l ≡ Some x)) → k.halted ≡ None → Hand types k → Standing r types g → OperandsFit r types g 0 e.operands
+      → Ok types (print i l k)
   print_fits types l k x go h s o =
       let d = writes x.0 k in
       let p = h.rest in
-      let rest : FitsBut r types i d xs = record { cells = p.cells; waiting = p.waiting; actors = p.actors; work = p.work; ports = p.ports; main = p.main; requests = p.requests; numbered = p.numbered; framed = p.framed; registered = p.registered } in
+      let rest : FitsBut r types i d xs = record {
+        cells = p.cells;
+        waiting = p.waiting;
+        actors = p.actors;
+        work = p.work;
+        ports = p.ports;
+        main = p.main;
+        requests = p.requests;
+        numbered = p.numbered;
+        framed = p.framed;
+        registered = p.registered;
+      } in
       subst (λ z. Ok types (print i z k)) (sym x.1) (fine_same r types k.halted (pushed (Run i) d) xs go (runs types d (rehand types k d h.entry rest h) s o))

@@ -82,7 +82,11 @@ cancelled_less true i e c xs o fr at s =
 cancelled_less false i e c xs o fr at s =
     let d = record c { entries = put c.entries i (marked e) } in
     all_lighter c d xs (omega arith) (omega arith) refl
-    (each_number i (λ j. Still j c d) ((ap is_suspended (thing_put c.entries i e (marked e) at) ∙ sym (ap is_suspended at), refl), ap kept_by (thing_put c.entries i e (marked e) at) ∙ sym (ap kept_by at))
+    (each_number i (λ j. Still j c d) (
+      (ap is_suspended (thing_put c.entries i e (marked e) at) ∙ sym (ap is_suspended at), refl),
+      ap kept_by (thing_put c.entries i e (marked e) at)
+          ∙ sym (ap kept_by at),
+    )
     (λ j k. ((ap is_suspended (thing_put_other c.entries i j (marked e) k), refl), ap kept_by (thing_put_other c.entries i j (marked e) k))))
 
 pub cancel_lighter : (i : ℕ) (e : Entry) (c : Core) (xs : Numbered Frame) → thing c.entries i ≡ Some e → Lighter c (cancel i e c) xs
@@ -141,7 +145,8 @@ module _ (i n : ℕ) (xs : Numbered Frame) (e : Entry) (f : Frame) where
   effect_at s goal (Make k) c h room = new_at goal k (empty_cell k) c h room.0
   effect_at s goal (Start class args) c h room = tt
   effect_at s goal (Draw lo hi) c h room =
-      either (λ m. Falls i n c m xs) (between (hi -ℤ lo) 1 (2 ^ 32)) _ (throws i bad_argument c) (gives_at goal (IntValue (scaled lo (natural (hi -ℤ lo)) s.word)) c h room.0) (throws_at bad_argument c h room.1)
+      either (λ m. Falls i n c m xs) (between (hi -ℤ lo) 1 (2 ^ 32)) _ (throws i bad_argument c) (gives_at goal (IntValue (scaled lo (natural (hi -ℤ lo)) s.word)) c h room.0)
+      (throws_at bad_argument c h room.1)
   effect_at s goal (Delay ticks) c h room =
       either (λ m. Falls i n c m xs) (nat_le (s.now + natural ticks) (2 ^ 62)) _ (throws i out_of_range c) (open_at goal c h room.0) (throws_at out_of_range c h room.1)
   effect_at s goal Never c h room = new_at goal kind.Future (Single None []) c h room.0
@@ -168,7 +173,8 @@ module _ (i n : ℕ) (xs : Numbered Frame) (e : Entry) (f : Frame) where
 
   send_to_at : (s : Supply) (q port : ℤ) (text : List ℕ) (c : Core) → Hand i c xs e f → Room (SendsTo q port text) f (length e.operands) n → Fallen c (send_to s i q port text c).0
   send_to_at s q port text c h room =
-      either (λ m. Falls i n c m xs) (int_le (pos 0) q && nat_lt (natural q) s.processes && is_port port) _ (throws i bad_argument c) (unless c.halted (runs c h room.0)) (throws_at bad_argument c h room.1)
+      either (λ m. Falls i n c m xs) (int_le (pos 0) q && nat_lt (natural q) s.processes && is_port port) _ (throws i bad_argument c) (unless c.halted (runs c h room.0))
+      (throws_at bad_argument c h room.1)
 
   -- a wait
   asleep : (spot : Spot) (cells : Numbered Cell) (c : Core) → Hand i c xs e f → 4 + behind f.code f.block < n

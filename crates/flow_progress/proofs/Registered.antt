@@ -31,7 +31,8 @@ at_each_on j xs ys (q ∷ qs) f h = (f q.1 h.0, at_each_on j xs ys qs f h.1)
 pub cells_registered : (j : ℕ) (es : Numbered Entry) (xs ys : Numbered Cell) → ((n : ℕ) → WaitsAt j (thing xs n) → WaitsAt j (thing ys n)) → IsRegistered j es xs → IsRegistered j es ys
 cells_registered j es xs ys f h e at s = at_each_on j xs ys e.operands f (h e at s)
 
-pub put_keeps : (j k : ℕ) (cells : Numbered Cell) (cell new : Cell) → thing cells k ≡ Some cell → (Among j (waiters cell) → Among j (waiters new)) → (n : ℕ) → WaitsAt j (thing cells n) → WaitsAt j (thing (put cells k new) n)
+pub put_keeps : (j k : ℕ) (cells : Numbered Cell) (cell new : Cell) → thing cells k ≡ Some cell → (Among j (waiters cell) → Among j (waiters new)) → (n : ℕ) → WaitsAt j (thing cells n)
+    → WaitsAt j (thing (put cells k new) n)
 put_keeps j k cells cell new at f =
     each_number k (λ n. WaitsAt j (thing cells n) → WaitsAt j (thing (put cells k new) n))
     (λ h. subst (WaitsAt j) (sym (thing_put cells k cell new at)) (f (subst (WaitsAt j) at h)))
@@ -74,7 +75,8 @@ pub left_keeps : (i j : ℕ) (cells : Numbered Cell) → (i ≡ j → ⊥) → (
 left_keeps i j [] o n h = h
 left_keeps i j (x ∷ xs) o n h = by_test (nat_eq n x.0) h (left_keeps i j xs o n)
   where
-    by_test : (b : Bool) → WaitsAt j (if b then Some x.1 else thing xs n) → (WaitsAt j (thing xs n) → WaitsAt j (thing (left_cells i xs) n)) → WaitsAt j (if b then Some (left_by i x.1) else thing (left_cells i xs) n)
+    by_test : (b : Bool) → WaitsAt j (if b then Some x.1 else thing xs n) → (WaitsAt j (thing xs n) → WaitsAt j (thing (left_cells i xs) n))
+        → WaitsAt j (if b then Some (left_by i x.1) else thing (left_cells i xs) n)
     by_test true h k = left_keeps_cell i j x.1 o h
     by_test false h k = k h
 

@@ -59,18 +59,24 @@ asleep_off : (i k : ℕ) (cells : Numbered Cell) (qs : List Ref) → ((cell : Ce
 asleep_off i k cells [] q h = tt
 asleep_off i k cells (x ∷ xs) q h = ((λ e. no_wait i k cells q (subst (λ n. WaitsAt i (thing cells n)) e h.0)), asleep_off i k cells xs q h.1)
 
-pub unseen : (k : ℕ) (c : Core) (xs : Numbered Frame) → ((i : ℕ) → IsRegistered i c.entries c.cells) → reference_count (frames_scan xs) PromiseSide k c ≡ 0 → reference_count (frames_scan xs) FutureSide k c ≡ 0 → StateSees k c xs
+pub unseen : (k : ℕ) (c : Core) (xs : Numbered Frame) → ((i : ℕ) → IsRegistered i c.entries c.cells) → reference_count (frames_scan xs) PromiseSide k c ≡ 0
+    → reference_count (frames_scan xs) FutureSide k c ≡ 0 → StateSees k c xs
 unseen k c xs reg a b =
-    let pa = parts (in_cells PromiseSide k c.cells) (in_entries PromiseSide k c.entries) (in_tasks PromiseSide k c.tasks) (in_ports PromiseSide k c.ports) (in_requests PromiseSide k c.requests) (count_maybe PromiseSide k FutureSide c.main)
+    let pa = parts (in_cells PromiseSide k c.cells) (in_entries PromiseSide k c.entries) (in_tasks PromiseSide k c.tasks) (in_ports PromiseSide k c.ports) (in_requests PromiseSide k c.requests)
+    (count_maybe PromiseSide k FutureSide c.main)
     (zero_second (frames_scan xs PromiseSide k) (in_core PromiseSide k c) a) in
-    let pb = parts (in_cells FutureSide k c.cells) (in_entries FutureSide k c.entries) (in_tasks FutureSide k c.tasks) (in_ports FutureSide k c.ports) (in_requests FutureSide k c.requests) (count_maybe FutureSide k FutureSide c.main)
+    let pb = parts (in_cells FutureSide k c.cells) (in_entries FutureSide k c.entries) (in_tasks FutureSide k c.tasks) (in_ports FutureSide k c.ports) (in_requests FutureSide k c.requests)
+    (count_maybe FutureSide k FutureSide c.main)
     (zero_second (frames_scan xs FutureSide k) (in_core FutureSide k c) b) in
     let quiet : (cell : Cell) → thing c.cells k ≡ Some cell → waiters cell ≡ [] = λ cell at. none_wait k (waiters cell) (cell_zero k FutureSide c.cells k cell pb.cells at).0 in
     record {
       cells = λ n cell at. cell_off k cell ((cell_zero k PromiseSide c.cells n cell pa.cells at).1, (cell_zero k FutureSide c.cells n cell pb.cells at).1);
       quiet = quiet;
-      frames = λ i f at. memory_off k f.mem
-          (frame_zero k PromiseSide xs i f (zero_first (frames_scan xs PromiseSide k) (in_core PromiseSide k c) a) at, frame_zero k FutureSide xs i f (zero_first (frames_scan xs FutureSide k) (in_core FutureSide k c) b) at);
+      frames = λ i f at. memory_off k f.mem (
+        frame_zero k PromiseSide xs i f (zero_first (frames_scan xs PromiseSide k) (in_core PromiseSide k c) a) at,
+        frame_zero k FutureSide xs i f
+            (zero_first (frames_scan xs FutureSide k) (in_core FutureSide k c) b) at,
+      );
       operands = λ i e at. by_sleep i e at e.suspended refl quiet (entry_zero k PromiseSide c.entries i e pa.entries at).1 (entry_zero k FutureSide c.entries i e pb.entries at).1;
       results = λ i n e at q. maybe_off k e.result n (entry_zero k PromiseSide c.entries i e pa.entries at).0 q;
       tasks = tasks_off k c.tasks pa.tasks pb.tasks;
@@ -171,7 +177,8 @@ module _ (r : RawTree) (types : CellTypes) (k : ℕ) where
     held_some (Single (Some (BadOutcome e)) ws) t h = tt
     held_some (Stream q end w) t h = queue_some q h.0 h.2
 
-    pub freed_fits : (cell : Cell) (t : TypeTree) → c.halted ≡ None → thing c.cells k ≡ Some cell → CellFits r types cell t → Fine r types (free_cell k (Some cell) c).halted (free_cell k (Some cell) c) xs
+    pub freed_fits : (cell : Cell) (t : TypeTree) → c.halted ≡ None → thing c.cells k ≡ Some cell → CellFits r types cell t
+        → Fine r types (free_cell k (Some cell) c).halted (free_cell k (Some cell) c) xs
     freed_fits cell t go at h =
         let d = record c { cells = removed c.cells k } in
         fine_of r types None c.halted (free_cell k (Some cell) c) xs go (

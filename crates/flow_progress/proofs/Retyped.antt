@@ -149,11 +149,13 @@ module _ (r : RawTree) (types others : CellTypes) (P : ℕ → Type 0) (moves : 
   doing_retyped c e f (Fire n ∷ ts) s o k h = h
   doing_retyped c e f (Drop kd n ∷ ts) s o k h = h
 
-  posture_retyped : (b : Bool) (c : ClassTree) (e : Entry) (f : Frame) (ts : List Task) → MemorySees P f.mem → OperandsSee P e.operands → FirstSees ts → PostureFits r types b c e f ts → PostureFits r others b c e f ts
+  posture_retyped : (b : Bool) (c : ClassTree) (e : Entry) (f : Frame) (ts : List Task) → MemorySees P f.mem → OperandsSee P e.operands → FirstSees ts → PostureFits r types b c e f ts
+      → PostureFits r others b c e f ts
   posture_retyped true c e f ts s o k h = (h.0, waiting_retyped f s h.1, operands_retyped f 0 e.operands o h.2)
   posture_retyped false c e f ts s o k h = doing_retyped c e f ts s o k h
 
-  pub actor_retyped : (e : Entry) (f : Frame) (ts : List Task) → MemorySees P f.mem → OperandsSee P e.operands → FirstSees ts → ((k : ℕ) → e.result ≡ Some k → P k) → ActorFits r types e f ts → ActorFits r others e f ts
+  pub actor_retyped : (e : Entry) (f : Frame) (ts : List Task) → MemorySees P f.mem → OperandsSee P e.operands → FirstSees ts → ((k : ℕ) → e.result ≡ Some k → P k) → ActorFits r types e f ts
+      → ActorFits r others e f ts
   actor_retyped e f ts s o k own h = record {
     class = h.class;
     is = h.is;

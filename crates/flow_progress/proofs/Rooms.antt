@@ -75,7 +75,8 @@ module _ (v : View) (f : Frame) where
   given_leaves None go h = (omega arith, tt)
   given_leaves (Some x) go h = h x
 
-  evaluated_leaves : {B : Type 0} (P : B → Type 0) (q : Res B) (go : B → ℕ → StepOf Frame) → behind f.code f.block + 6 ≤ now → AtMost v.left q → Comes P q → ((x : B) (left : ℕ) → left ≤ v.left → P x → Leaves (go x left)) → Leaves (evaluated f q go)
+  evaluated_leaves : {B : Type 0} (P : B → Type 0) (q : Res B) (go : B → ℕ → StepOf Frame) → behind f.code f.block + 6 ≤ now → AtMost v.left q → Comes P q
+      → ((x : B) (left : ℕ) → left ≤ v.left → P x → Leaves (go x left)) → Leaves (evaluated f q go)
   evaluated_leaves P (Done x left) go b le c h = h x left le c
   evaluated_leaves P (Fails e left) go b le c h = (le, omega (arith, b))
   evaluated_leaves P Spent go b le c h = (omega arith, tt)
@@ -87,7 +88,8 @@ module _ (v : View) (f : Frame) where
   always Spent = tt
   always Meaningless = tt
 
-  valued_leaves : {B : Type 0} (q : Res B) (go : B → ℕ → StepOf Frame) → behind f.code f.block + 6 ≤ now → AtMost v.left q → ((x : B) (left : ℕ) → left ≤ v.left → Leaves (go x left)) → Leaves (evaluated f q go)
+  valued_leaves : {B : Type 0} (q : Res B) (go : B → ℕ → StepOf Frame) → behind f.code f.block + 6 ≤ now → AtMost v.left q → ((x : B) (left : ℕ) → left ≤ v.left → Leaves (go x left))
+      → Leaves (evaluated f q go)
   valued_leaves q go b le h = evaluated_leaves (λ x. Unit {0}) q go b le (always q) (λ x left le u. h x left le)
 
   module _ (ns : Names) (forward : leads_forward f.code ≡ true) where
@@ -119,7 +121,8 @@ module _ (v : View) (f : Frame) where
     instruction_leaves (NewInstr p) q b a =
         given_leaves (bind (type_at f.code p) promise_kind) (λ k. asks v.left (Effects Stored (Make k)) f) (λ k. (omega arith, (result_room (NewInstr p) q a, omega (arith, b))))
     instruction_leaves (ActInstr path es) q b a =
-        evaluated_leaves IsCalled (call_act ns v (look f.mem) path es) (λ act left. asks left act (next_instr f.mem f)) b (act_fewer ns v (look f.mem) path es) (act_called ns v (look f.mem) path es) asked
+        evaluated_leaves IsCalled (call_act ns v (look f.mem) path es) (λ act left. asks left act (next_instr f.mem f)) b (act_fewer ns v (look f.mem) path es)
+        (act_called ns v (look f.mem) path es) asked
       where
         asked : (act : Act) (left : ℕ) → left ≤ v.left → IsCalled act → Leaves (asks left act (next_instr f.mem f))
         asked act left le h = act_leaves left act le h b (omega (arith, a))
@@ -134,12 +137,14 @@ module _ (v : View) (f : Frame) where
     ref_leaves left spot (RefValue k cell) le room = (le, room)
     ref_leaves left spot u le room = (omega arith, tt)
 
-    operand_leaves : (spot : Spot) (e : ExprTree) (o : Option (Effectful × ExprTrees)) → behind f.code f.block + 6 ≤ now → 1 + ahead f.code f.block f.instr (suc v.kept) < now → Leaves (operand_by ns v f spot e o)
+    operand_leaves : (spot : Spot) (e : ExprTree) (o : Option (Effectful × ExprTrees)) → behind f.code f.block + 6 ≤ now → 1 + ahead f.code f.block f.instr (suc v.kept) < now
+        → Leaves (operand_by ns v f spot e o)
     operand_leaves spot e (Some g) b room = effects_leaves (Kept spot) g b room
     operand_leaves spot e None b room =
         valued_leaves (value ns v (look f.mem) e) (λ u left. operand_ref ns v f left spot u) b (value_fewer e) (λ u left le. ref_leaves left spot u le room)
 
-    choose_leaves : (g : ℕ) (o : Option CallbackTree) → callback_at f.code g v.kept ≡ o → fetch f.code f.block f.instr ≡ Last (ChooseLast g) → behind f.code f.block + 6 ≤ now → Leaves (choose ns v f (spot_of f.code g) o)
+    choose_leaves : (g : ℕ) (o : Option CallbackTree) → callback_at f.code g v.kept ≡ o → fetch f.code f.block f.instr ≡ Last (ChooseLast g) → behind f.code f.block + 6 ≤ now
+        → Leaves (choose ns v f (spot_of f.code g) o)
     choose_leaves g (Some c) q at b =
         operand_leaves (spot_of f.code g) c.operand (effect_in ns c.operand) b (omega (arith, ahead_kept f.code f.block f.instr g v.kept c at q))
     choose_leaves g None q at b = (omega arith, omega (arith, b))

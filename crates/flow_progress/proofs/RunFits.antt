@@ -42,7 +42,8 @@ module _ (r : RawTree) (actors : List RoutineTree) (rules : ClassRules r actors)
   -- the call of an actor
   module _ (types : CellTypes) (i : ℕ) (k : Core) (xs : Numbered Frame) (e : Entry) (g : Frame) (c : ClassTree) (go : k.halted ≡ None) (h : HandFits r types i k xs e g c) (code : g.code ≡ c)
       (st : Standing r types g) (o : OperandsFit r types g 0 e.operands) (up : Rising 0 k.started k.entries) where
-    started_fits : (goal : Goal) (class : ℕ) (args : List ValueTree) (t : TypeTree) (d : ClassTree) → (goal ≡ Stored → e.operands ≡ []) → Wanted r (class_vars g.code) (typed_by types) goal g (length e.operands) t
+    started_fits : (goal : Goal) (class : ℕ) (args : List ValueTree) (t : TypeTree) (d : ClassTree) → (goal ≡ Stored → e.operands ≡ [])
+        → Wanted r (class_vars g.code) (typed_by types) goal g (length e.operands) t
         → slice_get r.classes class ≡ Some d → HaveTypes r.records (typed_by types) (values_of_list args) (first_types d.params d.slots) → t ≡ FutureType d.returns
         → After r actors rules s types (start (classes r) i goal class (Some (begun d args)) (proc k xs))
     started_fits goal class args t d none w is fits q =
@@ -56,14 +57,26 @@ module _ (r : RawTree) (actors : List RoutineTree) (rules : ClassRules r actors)
           awake = h.awake;
           frame = h.frame;
           owner = h.owner;
-          rest = record { cells = p.cells; waiting = p.waiting; actors = p.actors; work = p.work; ports = p.ports; main = p.main; requests = p.requests; numbered = p.numbered; framed = p.framed; registered = p.registered };
+          rest = record {
+            cells = p.cells;
+            waiting = p.waiting;
+            actors = p.actors;
+            work = p.work;
+            ports = p.ports;
+            main = p.main;
+            requests = p.requests;
+            numbered = p.numbered;
+            framed = p.framed;
+            registered = p.registered;
+          };
         } in
         let future = FutureType d.returns in
         let ts = with_type types (suc k.made) future in
         let keeps = kept_types r types future k2 xs i h2.rest in
         let k3 = new_cell (Single None []) k2 in
         let h3 = hand_more r i xs e g c code types k2 h2 st o future (Single None []) (d.returns, refl, tt) refl in
-        let x = gives_state r ts i goal (RefValue kind.Future (suc k.made)) t k3 xs e g c h3 code (stands_more r i xs e g c code types k2 h2 st o future) (keeps_more r i xs e g c code types k2 h2 st o future) none
+        let x = gives_state r ts i goal (RefValue kind.Future (suc k.made)) t k3 xs e g c h3 code (stands_more r i xs e g c code types k2 h2 st o future)
+        (keeps_more r i xs e g c code types k2 h2 st o future) none
         (wants_more r i xs e g c code types ts goal t w) (d.returns, q, new_type types (suc k.made) future) in
         let k4 = writes (start_line (suc k.started) name) (pushed x.0 (pushed (Run i) k3)) in
         let p4 : ProcessFits r ts k4 xs = record {
@@ -88,7 +101,8 @@ module _ (r : RawTree) (actors : List RoutineTree) (rules : ClassRules r actors)
     abbrev starts : Goal → ℕ → List ValueTree → Type 0
     starts goal class args = After r actors rules s types (start (classes r) i goal class ((classes r).fresh class args) (proc k xs))
 
-    pub start_fits : (goal : Goal) (class : ℕ) (args : List ValueTree) (t : TypeTree) → (goal ≡ Stored → e.operands ≡ []) → Wanted r (class_vars g.code) (typed_by types) goal g (length e.operands) t → Gives r (typed_by types) (Start class args) t
+    pub start_fits : (goal : Goal) (class : ℕ) (args : List ValueTree) (t : TypeTree) → (goal ≡ Stored → e.operands ≡ []) → Wanted r (class_vars g.code) (typed_by types) goal g (length e.operands) t
+        → Gives r (typed_by types) (Start class args) t
         → starts goal class args
     start_fits goal class args t none w y =
         let d = y.0 in
@@ -98,13 +112,17 @@ module _ (r : RawTree) (actors : List RoutineTree) (rules : ClassRules r actors)
         subst (λ o. After r actors rules s types (start (classes r) i goal class o (proc k xs))) (sym fresh) (started_fits goal class args t d none w y.1 y.2 y.3)
 
   -- an actor asks
-  module _ (types : CellTypes) (i : ℕ) (k : Core) (xs : Numbered Frame) (e : Entry) (g : Frame) (c : ClassTree) (go : k.halted ≡ None) (h : HandFits r types i k xs e g c) (up : Rising 0 k.started k.entries) where
-    end_fits : (v : ValueTree) (vs : List ValueTree) → OutcomeFits r.records (typed_by types) (GoodOutcome v) c.returns → HaveSome r.records (typed_by types) vs → g ≡ over → e.operands ≡ [] → After r actors rules s types (answer (classes r) s i (Returns v vs) (proc k xs))
+  module _ (types : CellTypes) (i : ℕ) (k : Core) (xs : Numbered Frame) (e : Entry) (g : Frame) (c : ClassTree) (go : k.halted ≡ None) (h : HandFits r types i k xs e g c)
+      (up : Rising 0 k.started k.entries) where
+    end_fits : (v : ValueTree) (vs : List ValueTree) → OutcomeFits r.records (typed_by types) (GoodOutcome v) c.returns → HaveSome r.records (typed_by types) vs → g ≡ over → e.operands ≡ []
+        → After r actors rules s types (answer (classes r) s i (Returns v vs) (proc k xs))
     end_fits v vs f some ended none =
         let t = Close i (GoodOutcome v) in
-        fine_same r types k.halted (dropping_values vs (pushed t k)) xs go (dropping_fits r types vs (pushed t k) xs some (goes_by r types i t k xs e g c h (close_of i (GoodOutcome v)) (λ ts. (f, ended, none))))
+        fine_same r types k.halted (dropping_values vs (pushed t k)) xs go
+        (dropping_fits r types vs (pushed t k) xs some (goes_by r types i t k xs e g c h (close_of i (GoodOutcome v)) (λ ts. (f, ended, none))))
 
-    effect_asked : (goal : Goal) (eff : Effect) → g.code ≡ c → ActFits r (class_vars g.code) (typed_by types) c (length e.operands) (Effects goal eff) g → OperandsFit r types g 0 e.operands → ((OfWait (Effects goal eff) → ⊥) → e.operands ≡ [])
+    effect_asked : (goal : Goal) (eff : Effect) → g.code ≡ c → ActFits r (class_vars g.code) (typed_by types) c (length e.operands) (Effects goal eff) g → OperandsFit r types g 0 e.operands
+        → ((OfWait (Effects goal eff) → ⊥) → e.operands ≡ [])
         → After r actors rules s types (answer_effect (classes r) s i goal eff (proc k xs))
     effect_asked goal (Start class args) code f o none =
         start_fits types i k xs e g c go h code f.0 o up goal class args f.1.0 (λ q. none (λ w. stored_waits goal (Start class args) q w)) f.1.1 f.1.2
@@ -114,14 +132,16 @@ module _ (r : RawTree) (actors : List RoutineTree) (rules : ClassRules r actors)
         stored_waits (Kept spot) eff q w = cc
     effect_asked goal eff code f o none = react_fits r i xs e g c code types s (Effects goal eff) k go h up f o none (λ z class args q. cc) (λ v vs q. cc)
 
-    pub asked_fits : (act : Act) → StaysIn r (class_vars g.code) (typed_by types) c act g → ActFits r (class_vars g.code) (typed_by types) c (length e.operands) act g → OperandsFit r types g 0 e.operands → ((OfWait act → ⊥) → e.operands ≡ [])
+    pub asked_fits : (act : Act) → StaysIn r (class_vars g.code) (typed_by types) c act g → ActFits r (class_vars g.code) (typed_by types) c (length e.operands) act g
+        → OperandsFit r types g 0 e.operands → ((OfWait act → ⊥) → e.operands ≡ [])
         → After r actors rules s types (answer (classes r) s i act (proc k xs))
     asked_fits (Returns v vs) stays f o none = end_fits v vs f.0 f.1 f.2 (none (λ w. w))
     asked_fits (Effects goal eff) stays f o none = effect_asked goal eff stays f o none
     asked_fits act stays f o none = react_fits r i xs e g c stays types s act k go h up f o none (λ z class args q. cc) (λ v vs q. cc)
 
   -- what is asked for fits the frame that is there afterwards
-  acts_after : (types : CellTypes) (f g : Frame) (c : ClassTree) (kept n : ℕ) (act : Act) → f.code ≡ c → kept ≡ n → StaysIn r (class_vars f.code) (typed_by types) f.code act g → ActFits r (class_vars f.code) (typed_by types) f.code kept act g
+  acts_after : (types : CellTypes) (f g : Frame) (c : ClassTree) (kept n : ℕ) (act : Act) → f.code ≡ c → kept ≡ n → StaysIn r (class_vars f.code) (typed_by types) f.code act g
+      → ActFits r (class_vars f.code) (typed_by types) f.code kept act g
       → ActFits r (class_vars g.code) (typed_by types) c n act g × StaysIn r (class_vars g.code) (typed_by types) c act g
   acts_after types f g c kept n (Returns v vs) code q stays h = (subst (λ d. ActFits r (class_vars g.code) (typed_by types) d n (Returns v vs) g) code h, tt)
   acts_after types f g c kept n act code q stays h = (
@@ -143,7 +163,8 @@ module _ (r : RawTree) (actors : List RoutineTree) (rules : ClassRules r actors)
         (subst (ActorFits r types a.entry g) (sym list) (doing_actor r types a.entry g a.class (Run i ∷ tasks_of i ts) a.owner a.awake (code, st, kept))))
         (awake_registered i c.entries c.cells a.entry a.at a.awake)
 
-    answered_fits : (a : Actor r types i (Run i) ts c xs) (q : Option Ask × Frame) → next_step (class_names r) (view s i c) a.frame ≡ q → AsksFit r (class_vars a.frame.code) (typed_by types) a.frame.code (view s i c).kept q
+    answered_fits : (a : Actor r types i (Run i) ts c xs) (q : Option Ask × Frame) → next_step (class_names r) (view s i c) a.frame ≡ q
+        → AsksFit r (class_vars a.frame.code) (typed_by types) a.frame.code (view s i c).kept q
         → After r actors rules s types (run_next (classes r) s i ts q (proc c xs))
     answered_fits a (None, g) e fit =
         let f = a.frame in
@@ -159,7 +180,18 @@ module _ (r : RawTree) (actors : List RoutineTree) (rules : ClassRules r actors)
         let o2 = still_kept r types (class_names r) v f ops ask g a.doing.2 e in
         let none : ((OfWait ask.act → ⊥) → ops ≡ []) = (λ n. none_kept r types (class_names r) v f ops a.doing.2 (λ w. n (subst (AsksOfWaitAt f) e w).0)) in
         let b = a.rest in
-        let rest : FitsBut r types i k xs = record { cells = b.cells; waiting = b.waiting; actors = b.actors; work = b.work; ports = b.ports; main = b.main; requests = b.requests; numbered = b.numbered; framed = b.framed; registered = b.registered } in
+        let rest : FitsBut r types i k xs = record {
+          cells = b.cells;
+          waiting = b.waiting;
+          actors = b.actors;
+          work = b.work;
+          ports = b.ports;
+          main = b.main;
+          requests = b.requests;
+          numbered = b.numbered;
+          framed = b.framed;
+          registered = b.registered;
+        } in
         let rest2 = frame_but r types i k xs g a.running o.waiting rest in
         asked_fits types i k (put xs i g) a.entry g a.class go
         (record { entry = a.at; awake = a.awake; frame = thing_put xs i f g a.stands; owner = a.owner; rest = rest2 })
@@ -170,5 +202,6 @@ module _ (r : RawTree) (actors : List RoutineTree) (rules : ClassRules r actors)
         let a = actor_here r types i (Run i) ts c xs o top (run_of i) p in
         let f = a.frame in
         let v = view s i c in
-        let fit = next_fits r actors (class_vars f.code) (typed_by types) v f (frame_rules r actors rules s types a.entry a.class f a.owner a.doing.0) rules.functions (cells_seen r types s i c xs p) a.doing.1 in
+        let fit = next_fits r actors (class_vars f.code) (typed_by types) v f (frame_rules r actors rules s types a.entry a.class f a.owner a.doing.0) rules.functions
+        (cells_seen r types s i c xs p) a.doing.1 in
         subst (λ x. After r actors rules s types (run (classes r) s i ts x (proc c xs))) (sym a.stands) (answered_fits a (next_step (class_names r) v f) refl fit)

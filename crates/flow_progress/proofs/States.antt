@@ -47,18 +47,21 @@ still_since : (first before after : CellTypes) → ((k : ℕ) (t : TypeTree) →
 still_since first before after h [] s = tt
 still_since first before after h (k ∷ ks) s = ((λ t e. s.0 t (h k t e)), still_since first before after h ks s.1)
 
-pub fine_since : (r : RawTree) (first before : CellTypes) (q : Option Request) (o : Option Halt) (c : Core) (xs : Numbered Frame) → ((k : ℕ) (t : TypeTree) → first k ≡ Some t → before k ≡ Some t) → FineAsking r before q o c xs → FineAsking r first q o c xs
+pub fine_since : (r : RawTree) (first before : CellTypes) (q : Option Request) (o : Option Halt) (c : Core) (xs : Numbered Frame) → ((k : ℕ) (t : TypeTree) → first k ≡ Some t → before k ≡ Some t)
+    → FineAsking r before q o c xs → FineAsking r first q o c xs
 fine_since r first before q None c xs h f = (f.0, f.1, still_since first before f.0 h c.requests f.2, f.3)
 fine_since r first before q (Some Spent) c xs h f = tt
 fine_since r first before q (Some NoMeaning) c xs h f = f
 
 -- and something is asked of the world
-pub fine_asking : (r : RawTree) (before : CellTypes) (q : Option Request) (o : Option Halt) (c : Core) (xs : Numbered Frame) → ((types : CellTypes) → AskFits types q) → Fine r before o c xs → FineAsking r before q o c xs
+pub fine_asking : (r : RawTree) (before : CellTypes) (q : Option Request) (o : Option Halt) (c : Core) (xs : Numbered Frame) → ((types : CellTypes) → AskFits types q) → Fine r before o c xs
+    → FineAsking r before q o c xs
 fine_asking r before q None c xs h f = (f.0, f.1, f.2, h f.0)
 fine_asking r before q (Some Spent) c xs h f = tt
 fine_asking r before q (Some NoMeaning) c xs h f = f
 
-pub fine_turn : (r : RawTree) (before : CellTypes) (f : Core → Core) (c : Core) (xs : Numbered Frame) → ((n : ℕ) → Fine r before (f (record c { left = n })).halted (f (record c { left = n })) xs) → Fine r before (turn c f).halted (turn c f) xs
+pub fine_turn : (r : RawTree) (before : CellTypes) (f : Core → Core) (c : Core) (xs : Numbered Frame) → ((n : ℕ) → Fine r before (f (record c { left = n })).halted (f (record c { left = n })) xs)
+    → Fine r before (turn c f).halted (turn c f) xs
 fine_turn r before f c xs h = by_left c.left
   where
     by_left : (l : ℕ) → Fine r before (turn_of l c f).halted (turn_of l c f) xs
@@ -80,7 +83,8 @@ module _ (r : RawTree) (types : CellTypes) where
     pub registered : (j : ℕ) → (i ≡ j → ⊥) → IsRegistered j c.entries c.cells
 
   -- the actor is there with its task
-  pub put_back : (i : ℕ) (c : Core) (xs : Numbered Frame) → FitsBut i c xs → ActorAt r types (thing c.entries i) (thing xs i) (tasks_of i c.tasks) → IsRegistered i c.entries c.cells → ProcessFits r types c xs
+  pub put_back : (i : ℕ) (c : Core) (xs : Numbered Frame) → FitsBut i c xs → ActorAt r types (thing c.entries i) (thing xs i) (tasks_of i c.tasks) → IsRegistered i c.entries c.cells
+      → ProcessFits r types c xs
   put_back i c xs h a own = record {
     cells = h.cells;
     waiting = h.waiting;
@@ -95,7 +99,18 @@ module _ (r : RawTree) (types : CellTypes) where
   }
 
   pub all_but : (i : ℕ) (c : Core) (xs : Numbered Frame) → ProcessFits r types c xs → FitsBut i c xs
-  all_but i c xs h = record { cells = h.cells; waiting = h.waiting; actors = λ j k. h.actors j; work = h.work; ports = h.ports; main = h.main; requests = h.requests; numbered = h.numbered; framed = h.framed; registered = λ j n. h.registered j }
+  all_but i c xs h = record {
+    cells = h.cells;
+    waiting = h.waiting;
+    actors = λ j k. h.actors j;
+    work = h.work;
+    ports = h.ports;
+    main = h.main;
+    requests = h.requests;
+    numbered = h.numbered;
+    framed = h.framed;
+    registered = λ j n. h.registered j;
+  }
 
   -- what is left of the tasks
   rest_fits : (t : Task) (ts : List Task) → TasksFit r types (t ∷ ts) → TasksFit r types ts
@@ -109,7 +124,8 @@ module _ (r : RawTree) (types : CellTypes) where
   own_fits i _ ts own h = h
 
   -- the newest task is off
-  pub popped_but : (i left : ℕ) (t : Task) (ts : List Task) (c : Core) (xs : Numbered Frame) → ProcessFits r types c xs → c.tasks ≡ t ∷ ts → ((j : ℕ) → (i ≡ j → ⊥) → Unmoved j c (record c { tasks = ts })) → FitsBut i (record c { tasks = ts; left = left }) xs
+  pub popped_but : (i left : ℕ) (t : Task) (ts : List Task) (c : Core) (xs : Numbered Frame) → ProcessFits r types c xs → c.tasks ≡ t ∷ ts
+      → ((j : ℕ) → (i ≡ j → ⊥) → Unmoved j c (record c { tasks = ts })) → FitsBut i (record c { tasks = ts; left = left }) xs
   popped_but i left t ts c xs h top others = record {
     cells = h.cells;
     waiting = h.waiting;
@@ -124,7 +140,8 @@ module _ (r : RawTree) (types : CellTypes) where
   }
 
   -- whoever waits isn't in hand
-  frames_wait : (i : ℕ) (c : Core) (xs : Numbered Frame) (g : Frame) (ws : List Waiter) (t : TypeTree) → Awake i c → AllWait c.entries ws → AllWaitFor r types xs ws t → AllWaitFor r types (put xs i g) ws t
+  frames_wait : (i : ℕ) (c : Core) (xs : Numbered Frame) (g : Frame) (ws : List Waiter) (t : TypeTree) → Awake i c → AllWait c.entries ws → AllWaitFor r types xs ws t
+      → AllWaitFor r types (put xs i g) ws t
   frames_wait i c xs g [] t a w h = tt
   frames_wait i c xs g (x ∷ ws) t a w h =
       let other : i ≡ x.actor → ⊥ = (λ e. awake_asleep (subst (λ n. is_suspended (thing c.entries n) ≡ Some false) e a) w.0) in
@@ -133,7 +150,8 @@ module _ (r : RawTree) (types : CellTypes) where
       awake_asleep : {o : Option Bool} → o ≡ Some false → o ≡ Some true → ⊥
       awake_asleep f g = cc
 
-  waits_put_frame : (i : ℕ) (c : Core) (xs : Numbered Frame) (g : Frame) (k : ℕ) (t : Option TypeTree) (o : Option Cell) → thing c.cells k ≡ o → Awake i c → CellsWait c.entries c.cells → WaitersAt r types xs t o → WaitersAt r types (put xs i g) t o
+  waits_put_frame : (i : ℕ) (c : Core) (xs : Numbered Frame) (g : Frame) (k : ℕ) (t : Option TypeTree) (o : Option Cell) → thing c.cells k ≡ o → Awake i c → CellsWait c.entries c.cells
+      → WaitersAt r types xs t o → WaitersAt r types (put xs i g) t o
   waits_put_frame i c xs g k None None at a w h = tt
   waits_put_frame i c xs g k None (Some cell) at a w h = tt
   waits_put_frame i c xs g k (Some t) None at a w h = tt
@@ -200,7 +218,8 @@ module _ (r : RawTree) (types : CellTypes) where
   }
 
   -- an actor in hand goes on by a task
-  pub push_fits : (i : ℕ) (t : Task) (c : Core) (xs : Numbered Frame) → FitsBut i c xs → IsOf i t → ActorAt r types (thing c.entries i) (thing xs i) (t ∷ tasks_of i c.tasks) → IsRegistered i c.entries c.cells → ProcessFits r types (pushed t c) xs
+  pub push_fits : (i : ℕ) (t : Task) (c : Core) (xs : Numbered Frame) → FitsBut i c xs → IsOf i t → ActorAt r types (thing c.entries i) (thing xs i) (t ∷ tasks_of i c.tasks)
+      → IsRegistered i c.entries c.cells → ProcessFits r types (pushed t c) xs
   push_fits i t c xs h own a reg =
       put_back i (pushed t c) xs (record {
         cells = h.cells;

@@ -154,11 +154,13 @@ module _ (i : ℕ) (t : Task) (ts : List Task) (c : Core) (xs : Numbered Frame) 
       → Unless (λ m. Falls i (busy f (length e.operands) (t ∷ tasks_of i ts)) (record c { tasks = ts; left = left }) m (put xs i g)) d → Shrinks d (put xs i g)
   shrinks e f g left d h fr le a =
       let w = weighed e f h fr in
-      unless_map d.halted (λ x. fallen i (busy f (length e.operands) (t ∷ tasks_of i ts)) c (record c { tasks = ts; left = left }) d xs (put xs i g) h.within (omega (arith, w)) le h.few refl (others_same e left g h) x) a
+      unless_map d.halted (λ x. fallen i (busy f (length e.operands) (t ∷ tasks_of i ts)) c (record c { tasks = ts; left = left }) d xs (put xs i g) h.within (omega (arith, w)) le h.few refl
+      (others_same e left g h) x) a
 
   -- or the one that it had
   pub shrinks_same : (e : Entry) (f : Frame) (d : Core) → Off i t ts c xs e → thing xs i ≡ Some f
       → Unless (λ m. Falls i (busy f (length e.operands) (t ∷ tasks_of i ts)) (record c { tasks = ts }) m xs) d → Shrinks d xs
   shrinks_same e f d h fr a =
       let w = weighed e f h fr in
-      unless_map d.halted (λ x. fallen i (busy f (length e.operands) (t ∷ tasks_of i ts)) c (record c { tasks = ts }) d xs xs h.within (omega (arith, w)) (omega arith) h.few refl (same_others e h) x) a
+      unless_map d.halted (λ x. fallen i (busy f (length e.operands) (t ∷ tasks_of i ts)) c (record c { tasks = ts }) d xs xs h.within (omega (arith, w)) (omega arith) h.few refl (same_others e h) x)
+      a

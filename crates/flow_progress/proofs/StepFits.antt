@@ -51,7 +51,8 @@ module _ (r : RawTree) (types : CellTypes) (i : ℕ) (t : Task) (ts : List Task)
       let en = awake_entry i c (thing c.entries i) pop.awake in
       with_frame en.0 en.1 en.2 (thing xs i) refl all pop
     where
-      with_frame : (e : Entry) → thing c.entries i ≡ Some e → e.suspended ≡ false → (x : Option Frame) → thing xs i ≡ x → tasks_of i c.tasks ≡ t ∷ tasks_of i ts → Popped i t c (record c { tasks = ts }) → Actor r types i t ts c xs
+      with_frame : (e : Entry) → thing c.entries i ≡ Some e → e.suspended ≡ false → (x : Option Frame) → thing xs i ≡ x → tasks_of i c.tasks ≡ t ∷ tasks_of i ts
+          → Popped i t c (record c { tasks = ts }) → Actor r types i t ts c xs
       with_frame e at a None fr all pop = absurd (subst (λ x. ActorAt r types (Some e) x (tasks_of i c.tasks)) fr (subst (λ x. ActorAt r types x (thing xs i) (tasks_of i c.tasks)) at (p.actors i)))
       with_frame e at a (Some f) fr all pop =
           let fits = actor_of r types e f (thing c.entries i) (thing xs i) (tasks_of i c.tasks) at fr (p.actors i) in record {
@@ -90,7 +91,8 @@ module _ (r : RawTree) (actors : List RoutineTree) (rules : ClassRules r actors)
   frame_rules types e c f o q = subst (λ d. KeepsRules r actors d (class_vars d)) (sym q) (rules.classes e.class c o.is)
 
   -- a new actor
-  pub add_actor : (types : CellTypes) (k : Core) (xs : Numbered Frame) (class cell : ℕ) (d : ClassTree) (a : Frame) → Rising 0 k.started k.entries → ProcessFits r types k xs → slice_get r.classes class ≡ Some d → types cell ≡ Some (FutureType d.returns)
+  pub add_actor : (types : CellTypes) (k : Core) (xs : Numbered Frame) (class cell : ℕ) (d : ClassTree) (a : Frame) → Rising 0 k.started k.entries → ProcessFits r types k xs
+      → slice_get r.classes class ≡ Some d → types cell ≡ Some (FutureType d.returns)
       → a.code ≡ d → Standing r types a
       → ProcessFits r types (record k { entries = added k.entries (suc k.started) (entry_of class cell); started = suc k.started; tasks = Run (suc k.started) ∷ k.tasks }) (added xs (suc k.started) a)
   add_actor types k xs class cell d a up p is has code st =

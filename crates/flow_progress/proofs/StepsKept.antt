@@ -23,7 +23,8 @@ use Rattle.flow_progress.proofs.ActorsFit.{by_tasks}
 use Rattle.flow_progress.proofs.Fires.{drop_fits, fire_fits}
 use Rattle.flow_progress.proofs.Closes.{close_fits}
 
-module _ (r : RawTree) (valid : IsValid r) (actors : List RoutineTree) (rules : ClassRules r actors) (s : Supply) (c : Core) (xs : Numbered Frame) (o : Orderly c) (go : c.halted ≡ None) (types : CellTypes) (p : ProcessFits r types c xs) (ports : PortsAlone c xs) (results : ResultsAlone c xs) where
+module _ (r : RawTree) (valid : IsValid r) (actors : List RoutineTree) (rules : ClassRules r actors) (s : Supply) (c : Core) (xs : Numbered Frame) (o : Orderly c) (go : c.halted ≡ None)
+    (types : CellTypes) (p : ProcessFits r types c xs) (ports : PortsAlone c xs) (results : ResultsAlone c xs) where
   all_tasks : (ts : List Task) → c.tasks ≡ ts → IsFine r types (step_tasks (classes r) s ts (proc c xs))
   all_tasks [] e = tt
   all_tasks (Run i ∷ ts) e = by_tasks r actors rules s c xs o go types p (Run i ∷ ts) e tt
@@ -34,7 +35,8 @@ module _ (r : RawTree) (valid : IsValid r) (actors : List RoutineTree) (rules : 
   all_tasks (Keep i spot q ∷ ts) e = by_tasks r actors rules s c xs o go types p (Keep i spot q ∷ ts) e tt
   all_tasks (Close i v ∷ ts) e =
       let a = actor_here r types i (Close i v) ts c xs o e (close_of i v) p in
-      subst (λ x. IsFine r types (Some (close_actor (classes r) i v x (proc (record c { tasks = ts }) xs)))) (sym a.at) (close_fits r types i v ts c xs o go e p (results_gone c xs results (ends_apart r valid types c xs p o)) a)
+      subst (λ x. IsFine r types (Some (close_actor (classes r) i v x (proc (record c { tasks = ts }) xs)))) (sym a.at)
+      (close_fits r types i v ts c xs o go e p (results_gone c xs results (ends_apart r valid types c xs p o)) a)
   all_tasks (Fire k ∷ ts) e = fire_fits r types c xs p o go (ports_gone c xs ports) k ts e
   all_tasks (Drop kind k ∷ ts) e = drop_fits r types c xs p o go (ports_gone c xs ports) kind k ts e
 

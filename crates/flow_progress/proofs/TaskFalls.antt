@@ -49,13 +49,15 @@ asks_there (Body i) h q = cc
 asks_there (Last l) h q = cc
 
 -- after something in which the actor alone moved
-falls_after : (i n : ℕ) (c k d : Core) (xs : Numbered Frame) → k.left ≤ c.left → fires k.tasks ≤ fires c.tasks → k.started ≡ c.started → ((j : ℕ) → (i ≡ j → ⊥) → weight k xs j ≡ weight c xs j) → Falls i n k d xs → Falls i n c d xs
+falls_after : (i n : ℕ) (c k d : Core) (xs : Numbered Frame) → k.left ≤ c.left → fires k.tasks ≤ fires c.tasks → k.started ≡ c.started → ((j : ℕ) → (i ≡ j → ⊥) → weight k xs j ≡ weight c xs j)
+    → Falls i n k d xs → Falls i n c d xs
 falls_after i n c k d xs l f s same (inl t) = inl (omega (arith, t, l))
 falls_after i n c k d xs l f s same (inr h) =
     inr (omega (arith, h.0, l), omega (arith, h.1, f), h.2 ∙ s, h.3, λ j o. let e = same j o in omega (arith, h.4 j o, e))
 
 -- at hand with another frame
-put_hand : (i : ℕ) (t : Task) (ts : List Task) (c k : Core) (xs : Numbered Frame) (e : Entry) (f g : Frame) → Off i t ts c xs e → thing k.entries i ≡ Some e → thing xs i ≡ Some f → Hand i k (put xs i g) e g
+put_hand : (i : ℕ) (t : Task) (ts : List Task) (c k : Core) (xs : Numbered Frame) (e : Entry) (f g : Frame) → Off i t ts c xs e → thing k.entries i ≡ Some e → thing xs i ≡ Some f
+    → Hand i k (put xs i g) e g
 put_hand i t ts c k xs e f g h at fr = record { entry = at; awake = h.awake; frame = thing_put xs i f g fr }
 
 module _ (r : RawTree) (leads : LeadOn r) (s : Supply) where
@@ -81,7 +83,8 @@ module _ (r : RawTree) (leads : LeadOn r) (s : Supply) where
         shrinks i (Run i) ts c xs e f g left (react s i act asking).0 h fr le
         (react_falls i n (put xs i g) e g s act asking h.pop.rises (put_hand i (Run i) ts c asking xs e f g h h.entry fr) room)
 
-    effect_less : Off i (Run i) ts c xs e → thing xs i ≡ Some f → left ≤ c.left → (goal : Goal) (eff : Effect) → Room (Effects goal eff) g (length e.operands) (ahead f.code f.block f.instr (length e.operands))
+    effect_less : Off i (Run i) ts c xs e → thing xs i ≡ Some f → left ≤ c.left → (goal : Goal) (eff : Effect)
+        → Room (Effects goal eff) g (length e.operands) (ahead f.code f.block f.instr (length e.operands))
         → After c xs (answer_effect (classes r) s i goal eff (proc asking (put xs i g)))
     effect_less h fr le goal (Start class args) room = start_less i goal class ((classes r).fresh class args) c asking xs (put xs i g) le
     effect_less h fr le goal eff room = reacted_less h fr le (Effects goal eff) room
@@ -91,7 +94,8 @@ module _ (r : RawTree) (leads : LeadOn r) (s : Supply) where
     answer_less h fr le (Effects goal eff) room = effect_less h fr le goal eff room
     answer_less h fr le act room = reacted_less h fr le act room
 
-  next_less : (i : ℕ) (ts : List Task) (c : Core) (xs : Numbered Frame) (e : Entry) (f : Frame) (p : Option Ask × Frame) → Orderly c → c.tasks ≡ Run i ∷ ts → Off i (Run i) ts c xs e → thing xs i ≡ Some f
+  next_less : (i : ℕ) (ts : List Task) (c : Core) (xs : Numbered Frame) (e : Entry) (f : Frame) (p : Option Ask × Frame) → Orderly c → c.tasks ≡ Run i ∷ ts → Off i (Run i) ts c xs e
+      → thing xs i ≡ Some f
       → Leaves (view s i c) f p → After c xs (run_next (classes r) s i ts p (proc c xs))
   next_less i ts c xs e f (None, g) o top h fr l =
       let kept : kept_by (thing c.entries i) ≡ length e.operands = ap kept_by h.entry in
@@ -113,7 +117,8 @@ module _ (r : RawTree) (leads : LeadOn r) (s : Supply) where
       let kept : kept_by (thing c.entries i) ≡ length e.operands = ap kept_by h.entry in
       answer_less i ts c xs e f g ask.left h fr l.0 ask.act (subst (λ k. Room ask.act g k (ahead f.code f.block f.instr k)) kept l.1)
 
-  run_less : (i : ℕ) (ts : List Task) (c : Core) (xs : Numbered Frame) (x : Option Frame) → Orderly c → Placed (Going r) c xs → c.tasks ≡ Run i ∷ ts → thing xs i ≡ x → After c xs (run (classes r) s i ts x (proc c xs))
+  run_less : (i : ℕ) (ts : List Task) (c : Core) (xs : Numbered Frame) (x : Option Frame) → Orderly c → Placed (Going r) c xs → c.tasks ≡ Run i ∷ ts → thing xs i ≡ x
+      → After c xs (run (classes r) s i ts x (proc c xs))
   run_less i ts c xs None o p top fr = tt
   run_less i ts c xs (Some f) o p top fr =
       let h = off_by i (Run i) ts c xs o top (run_of i) in
@@ -128,7 +133,8 @@ module _ (r : RawTree) (leads : LeadOn r) (s : Supply) where
       let k = record c { tasks = ts } in
       let h = off_by i (Give i b (BadOutcome err)) ts c xs o top (give_of i b (BadOutcome err)) in
       shrinks_same i (Give i b (BadOutcome err)) ts c xs h.0 f (pushed (Throw i err) k) h.1 fr
-      (unless c.halted (push_falls i (5 + whole f.code) (Throw i err) k xs h.0 f (record { entry = h.1.entry; awake = h.1.awake; frame = fr }) (throw_of i err) (λ us. omega (arith, behind_whole f.code f.block))))
+      (unless c.halted (push_falls i (5 + whole f.code) (Throw i err) k xs h.0 f (record { entry = h.1.entry; awake = h.1.awake; frame = fr }) (throw_of i err)
+      (λ us. omega (arith, behind_whole f.code f.block))))
   give_less i b (GoodOutcome v) ts c xs (Some f) o top fr =
       let k = record c { tasks = ts } in
       let h = off_by i (Give i b (GoodOutcome v)) ts c xs o top (give_of i b (GoodOutcome v)) in
@@ -138,21 +144,25 @@ module _ (r : RawTree) (leads : LeadOn r) (s : Supply) where
       shrinks i (Give i b (GoodOutcome v)) ts c xs h.0 f out.1 c.left (dropping_values out.0 d) h.1 fr (omega arith)
       (unless c.halted (falls_on i (5 + whole f.code) k d (dropping_values out.0 d) (put xs i out.1)
       (push_falls i (5 + whole f.code) (Run i) k (put xs i out.1) h.0 out.1 (put_hand i (Give i b (GoodOutcome v)) ts c k xs h.0 f out.1 h.1 h.1.entry fr) (run_of i)
-      (λ us. let w : ahead out.1.code out.1.block out.1.instr (length h.0.operands) ≤ whole f.code = subst (λ z. ahead out.1.code out.1.block out.1.instr (length h.0.operands) ≤ whole z) same (ahead_whole out.1.code out.1.block out.1.instr (length h.0.operands)) in omega (arith, w)))
+      (λ us. let w : ahead out.1.code out.1.block out.1.instr (length h.0.operands) ≤ whole f.code = subst (λ z. ahead out.1.code out.1.block out.1.instr (length h.0.operands) ≤ whole z) same
+      (ahead_whole out.1.code out.1.block out.1.instr (length h.0.operands)) in omega (arith, w)))
       (inr (dropping_lighter out.0 d (put xs i out.1)))))
 
   -- an error is thrown
-  thrown_less : (i err : ℕ) (ts : List Task) (c : Core) (xs : Numbered Frame) (e : Entry) (f : Frame) (k : Option CatcherTree) → Off i (Throw i err) ts c xs e → thing xs i ≡ Some f → catcher_at f.code f.block ≡ k → catchers_kept f.code ≡ true
+  thrown_less : (i err : ℕ) (ts : List Task) (c : Core) (xs : Numbered Frame) (e : Entry) (f : Frame) (k : Option CatcherTree) → Off i (Throw i err) ts c xs e → thing xs i ≡ Some f
+      → catcher_at f.code f.block ≡ k → catchers_kept f.code ≡ true
       → Shrinks i (Throw i err) ts c xs (throw_core i err (raised err f k).0 (Some e) (record c { tasks = ts })) (put xs i (raised err f k).1)
   thrown_less i err ts c xs e f None h fr q kept =
       let g = (raised err f None).1 in
       shrinks i (Throw i err) ts c xs e f g c.left (throw_core i err (raised err f None).0 (Some e) (record c { tasks = ts })) h fr (omega arith)
-      (unless c.halted (leave_falls i (3 + behind f.code f.block) e e (raised err f None).0.values (Close i (BadOutcome err)) (writes (throw_line i err) (record c { tasks = ts })) (put xs i g) g h.entry (thing_put xs i f g fr)
+      (unless c.halted (leave_falls i (3 + behind f.code f.block) e e (raised err f None).0.values (Close i (BadOutcome err)) (writes (throw_line i err) (record c { tasks = ts }))
+      (put xs i g) g h.entry (thing_put xs i f g fr)
       (close_of i (BadOutcome err)) (λ us. omega arith)))
   thrown_less i err ts c xs e f (Some k) h fr q kept =
       let g = (raised err f (Some k)).1 in
       shrinks i (Throw i err) ts c xs e f g c.left (throw_core i err (raised err f (Some k)).0 (Some e) (record c { tasks = ts })) h fr (omega arith)
-      (unless c.halted (leave_falls i (3 + behind f.code f.block) e e (raised err f (Some k)).0.values (Catch i err) (writes (throw_line i err) (record c { tasks = ts })) (put xs i g) g h.entry (thing_put xs i f g fr)
+      (unless c.halted (leave_falls i (3 + behind f.code f.block) e e (raised err f (Some k)).0.values (Catch i err) (writes (throw_line i err) (record c { tasks = ts })) (put xs i g) g h.entry
+      (thing_put xs i f g fr)
       (catch_of i err) (λ us. omega (arith, ahead_jump f.code f.block k.block 0 (catches_at f.code f.block k kept q)))))
 
   throw_less : (i err : ℕ) (ts : List Task) (c : Core) (xs : Numbered Frame) (x : Option Frame) → Orderly c → Placed (Going r) c xs → c.tasks ≡ Throw i err ∷ ts → thing xs i ≡ x
@@ -178,7 +188,8 @@ module _ (r : RawTree) (leads : LeadOn r) (s : Supply) where
       let k = record c { tasks = ts } in
       let h = off_by i (Catch i err) ts c xs o top (catch_of i err) in
       shrinks_same i (Catch i err) ts c xs h.0 f (handle i err k) h.1 fr
-      (unless c.halted (push_falls i (1 + ahead f.code f.block f.instr (length h.0.operands)) (Run i) (writes (catch_line i err) k) xs h.0 f (record { entry = h.1.entry; awake = h.1.awake; frame = fr }) (run_of i) (λ us. omega arith)))
+      (unless c.halted (push_falls i (1 + ahead f.code f.block f.instr (length h.0.operands)) (Run i) (writes (catch_line i err) k) xs h.0 f
+      (record { entry = h.1.entry; awake = h.1.awake; frame = fr }) (run_of i) (λ us. omega arith)))
 
   -- the result of an effect
   module _ (i : ℕ) (v : ValueTree) (ts : List Task) (c : Core) (xs : Numbered Frame) (f : Frame) (o : Orderly c) (top : c.tasks ≡ Store i v ∷ ts) (fr : thing xs i ≡ Some f) where
@@ -230,7 +241,8 @@ module _ (r : RawTree) (leads : LeadOn r) (s : Supply) where
   store_less i v ts c xs (Some f) o p top fr = store_there i v ts c xs f o top fr p
 
   -- an operand is kept
-  module _ (i : ℕ) (spot : Spot) (q : Ref) (ts : List Task) (c : Core) (xs : Numbered Frame) (e : Entry) (f : Frame) (o : Orderly c) (top : c.tasks ≡ Keep i spot q ∷ ts) (fr : thing xs i ≡ Some f) where
+  module _ (i : ℕ) (spot : Spot) (q : Ref) (ts : List Task) (c : Core) (xs : Numbered Frame) (e : Entry) (f : Frame) (o : Orderly c) (top : c.tasks ≡ Keep i spot q ∷ ts)
+      (fr : thing xs i ≡ Some f) where
     abbrev unkept : Core
     unkept = record c { tasks = ts }
 
@@ -266,8 +278,10 @@ module _ (r : RawTree) (leads : LeadOn r) (s : Supply) where
         let d = leave_for i more_kept (lose f).0 (Throw i operation_cancelled) stepless in
         let next = next_below i spot q c.tasks ts top o.paired in
         let few = below_fires ts in
-        let there : behind f.code f.block + 6 ≤ ahead f.code f.block f.instr (suc (length e.operands)) = ahead_behind f.code f.block f.instr (suc (length e.operands)) (asks_there (fetch f.code f.block f.instr) due) in
-        let left = leave_falls i n more_kept e (lose f).0 (Throw i operation_cancelled) stepless (put xs i g) g h.entry (thing_put xs i f g fr) (throw_of i operation_cancelled) (λ us. omega (arith, there)) in
+        let there : behind f.code f.block + 6 ≤ ahead f.code f.block f.instr (suc (length e.operands)) =
+        ahead_behind f.code f.block f.instr (suc (length e.operands)) (asks_there (fetch f.code f.block f.instr) due) in
+        let left = leave_falls i n more_kept e (lose f).0 (Throw i operation_cancelled) stepless (put xs i g) g h.entry (thing_put xs i f g fr) (throw_of i operation_cancelled)
+        (λ us. omega (arith, there)) in
         shrinks i (Keep i spot q) ts c xs e f g c.left d h fr (omega arith)
         (unless c.halted (falls_after i n unkept stepless d (put xs i g) (omega arith) few refl (λ j k. still_weight j unkept stepless (put xs i g) (below_unmoved i unkept next j k, refl)) left))
 
@@ -278,7 +292,8 @@ module _ (r : RawTree) (leads : LeadOn r) (s : Supply) where
         let d = take_branch i b q.1 more_kept (lose f).0 (thing c.cells q.1) stepless in
         turned i (Keep i spot q) ts c xs stepless d (put xs i (lose f).1) (omega arith) (branch_turns i b q.1 more_kept (lose f).0 (thing c.cells q.1) stepless)
 
-  keep_less : (i : ℕ) (spot : Spot) (q : Ref) (ts : List Task) (c : Core) (xs : Numbered Frame) (x : Option Frame) (y : Option Entry) → Orderly c → Placed (Going r) c xs → c.tasks ≡ Keep i spot q ∷ ts → thing xs i ≡ x → thing c.entries i ≡ y
+  keep_less : (i : ℕ) (spot : Spot) (q : Ref) (ts : List Task) (c : Core) (xs : Numbered Frame) (x : Option Frame) (y : Option Entry) → Orderly c → Placed (Going r) c xs → c.tasks ≡ Keep i spot q ∷ ts
+      → thing xs i ≡ x → thing c.entries i ≡ y
       → After c xs (keep (classes r) i spot q x y (proc (record c { tasks = ts }) xs))
   keep_less i spot q ts c xs None None o p top fr at = tt
   keep_less i spot q ts c xs None (Some e) o p top fr at = tt
@@ -298,14 +313,21 @@ module _ (r : RawTree) (leads : LeadOn r) (s : Supply) where
       let scan = scan_of (classes r).occ (removed xs i) in
       turned i (Close i v) ts c xs k (close scan i e.result v k) (removed xs i) (omega arith) (close_turns scan i e.result v k)
 
-  fire_less : (n : ℕ) (ts : List Task) (c : Core) (xs : Numbered Frame) → Orderly c → c.tasks ≡ Fire n ∷ ts → Unless (λ m. Less c (load c xs) m (load m xs)) (fire (scan_of (classes r).occ xs) n (record c { tasks = ts }))
+  fire_less : (n : ℕ) (ts : List Task) (c : Core) (xs : Numbered Frame) → Orderly c → c.tasks ≡ Fire n ∷ ts
+      → Unless (λ m. Less c (load c xs) m (load m xs)) (fire (scan_of (classes r).occ xs) n (record c { tasks = ts }))
   fire_less n ts c xs o top =
       let k = record c { tasks = ts } in
       let scan = scan_of (classes r).occ xs in
       let d = fire scan n k in
       let few : fires ts < fires c.tasks = subst (λ us. fires ts < fires us) (sym top) (omega arith) in
-      unless_map d.halted (eased_less c k d xs (omega arith) few refl (λ j. ap (λ us. weigh (is_suspended (thing c.entries j)) (kept_by (thing c.entries j)) us (thing xs j)) (sym (ap (tasks_of j) top))))
-      (fire_cell_easy xs scan n (thing c.cells n) k (record { actors = λ j. subst (λ us. Stands j (is_suspended (thing c.entries j)) (tasks_of j us)) top (o.actors j); paired = subst Paired top o.paired; waiting = o.waiting; numbered = o.numbered }))
+      unless_map d.halted (eased_less c k d xs (omega arith) few refl
+      (λ j. ap (λ us. weigh (is_suspended (thing c.entries j)) (kept_by (thing c.entries j)) us (thing xs j)) (sym (ap (tasks_of j) top))))
+      (fire_cell_easy xs scan n (thing c.cells n) k (record {
+        actors = λ j. subst (λ us. Stands j (is_suspended (thing c.entries j)) (tasks_of j us)) top (o.actors j);
+        paired = subst Paired top o.paired;
+        waiting = o.waiting;
+        numbered = o.numbered;
+      }))
 
   -- each step
   abbrev pub Comes_to : Core → Numbered Frame → Option (Stepped Frame) → Type 0

@@ -36,7 +36,8 @@ use Rattle.flow_progress.proofs.StepFits.{Actor, actor_here, After, frame_rules}
 use Rattle.flow_progress.proofs.Registered.{awake_registered, entry_registered}
 
 -- the operand that is kept last
-operands_last : (r : RawTree) (types : CellTypes) (f : Frame) (n : ℕ) (qs : List Ref) (q : Ref) → OperandsFit r types f n (qs ++ q ∷ []) → (t : TypeTree) × NextOperand f (n + length qs) t × Fits r types (RefValue q.0 q.1) t
+operands_last : (r : RawTree) (types : CellTypes) (f : Frame) (n : ℕ) (qs : List Ref) (q : Ref) → OperandsFit r types f n (qs ++ q ∷ [])
+    → (t : TypeTree) × NextOperand f (n + length qs) t × Fits r types (RefValue q.0 q.1) t
 operands_last r types f n [] q h = let e : n ≡ n + 0 = omega arith in (h.0.0, subst (λ m. NextOperand f m h.0.0) e h.0.1, h.0.2)
 operands_last r types f n (x ∷ qs) q h =
     let k = operands_last r types f (suc n) qs q h.1 in
@@ -51,7 +52,8 @@ ready_cell : (o : Option Cell) → is_ready_at o ≡ true → (cell : Cell) × (
 ready_cell None h = absurd cc
 ready_cell (Some cell) h = (cell, refl, h)
 
-module _ (r : RawTree) (actors : List RoutineTree) (rules : ClassRules r actors) (s : Supply) (types : CellTypes) (i : ℕ) (ts : List Task) (c : Core) (xs : Numbered Frame) (o : Orderly c) (go : c.halted ≡ None) (p : ProcessFits r types c xs) where
+module _ (r : RawTree) (actors : List RoutineTree) (rules : ClassRules r actors) (s : Supply) (types : CellTypes) (i : ℕ) (ts : List Task) (c : Core) (xs : Numbered Frame) (o : Orderly c)
+    (go : c.halted ≡ None) (p : ProcessFits r types c xs) where
   abbrev Fits_after : Stepped Frame → Type 0
   Fits_after q = After r actors rules s types q
 
@@ -74,7 +76,9 @@ module _ (r : RawTree) (actors : List RoutineTree) (rules : ClassRules r actors)
       by_outcome : (v : OutcomeTree) (a : Actor r types i (Give i b v) ts c xs) → Fits_after (give (classes r) i b v (thing xs i) (proc popped_core xs))
       by_outcome (BadOutcome err) a =
           subst (λ x. Fits_after (give (classes r) i b (BadOutcome err) x (proc popped_core xs))) (sym a.stands)
-          (fine_same r types c.halted (pushed (Throw i err) popped_core) xs go (goes_by r types i (Throw i err) popped_core xs a.entry a.frame a.class (same_hand (Give i b (BadOutcome err)) a) (throw_of i err) (λ us. (a.doing.0, inr a.doing.1.waiting, no_operands a.frame a.entry a.doing.2))))
+          (fine_same r types c.halted (pushed (Throw i err) popped_core) xs go
+          (goes_by r types i (Throw i err) popped_core xs a.entry a.frame a.class (same_hand (Give i b (BadOutcome err)) a) (throw_of i err)
+          (λ us. (a.doing.0, inr a.doing.1.waiting, no_operands a.frame a.entry a.doing.2))))
       by_outcome (GoodOutcome u) a =
           let f = a.frame in
           let d = a.doing.1 in
@@ -83,7 +87,8 @@ module _ (r : RawTree) (actors : List RoutineTree) (rules : ClassRules r actors)
           let z = (classes r).take b u f in
           subst (λ x. Fits_after (give (classes r) i b (GoodOutcome u) x (proc popped_core xs))) (sym a.stands)
           (fine_same r types c.halted (dropping_values z.0 (pushed (Run i) popped_core)) (put xs i z.1) go (dropping_fits r types z.0 (pushed (Run i) popped_core) (put xs i z.1) out.1
-          (goes_by r types i (Run i) popped_core (put xs i z.1) a.entry z.1 a.class (put_hand (Give i b (GoodOutcome u)) a z.1) (run_of i) (λ us. (out.2 ∙ a.doing.0, out.0, no_operands z.1 a.entry a.doing.2)))))
+          (goes_by r types i (Run i) popped_core (put xs i z.1) a.entry z.1 a.class (put_hand (Give i b (GoodOutcome u)) a z.1) (run_of i)
+          (λ us. (out.2 ∙ a.doing.0, out.0, no_operands z.1 a.entry a.doing.2)))))
 
   pub store_keeps : (v : ValueTree) → c.tasks ≡ Store i v ∷ ts → Fits_after (store (classes r) i v (thing xs i) (proc popped_core xs))
   store_keeps v top =
@@ -111,7 +116,18 @@ module _ (r : RawTree) (actors : List RoutineTree) (rules : ClassRules r actors)
         awake = a.awake;
         frame = a.stands;
         owner = a.owner;
-        rest = record { cells = b.cells; waiting = b.waiting; actors = b.actors; work = b.work; ports = b.ports; main = b.main; requests = b.requests; numbered = b.numbered; framed = b.framed; registered = b.registered };
+        rest = record {
+          cells = b.cells;
+          waiting = b.waiting;
+          actors = b.actors;
+          work = b.work;
+          ports = b.ports;
+          main = b.main;
+          requests = b.requests;
+          numbered = b.numbered;
+          framed = b.framed;
+          registered = b.registered;
+        };
       } in
       fine_same r types c.halted (pushed (Run i) d) xs go (goes_by r types i (Run i) d xs a.entry a.frame a.class h (run_of i) (λ us. (a.doing.0, a.doing.1, no_operands a.frame a.entry a.doing.2)))
 
@@ -128,25 +144,41 @@ module _ (r : RawTree) (actors : List RoutineTree) (rules : ClassRules r actors)
       holds_of f (inr h) = h.holds
 
       -- the actor leaves with these values, and this is first to be done
-      leaves : (a : Actor r types i (Throw i err) ts c xs) (g : Frame) (vs : List ValueTree) (t : Task) → IsOf i t → HaveSome r.records (typed_by types) vs → ((us : List Task) → DoingFits r types a.class (running a.entry) g (t ∷ us))
+      leaves : (a : Actor r types i (Throw i err) ts c xs) (g : Frame) (vs : List ValueTree) (t : Task) → IsOf i t → HaveSome r.records (typed_by types) vs
+          → ((us : List Task) → DoingFits r types a.class (running a.entry) g (t ∷ us))
           → Fine r types c.halted (leave_for i a.entry vs t (writes (throw_line i err) popped_core)) (put xs i g)
       leaves a g vs t own some d =
           let h = put_hand (Throw i err) a g in
           let b = h.rest in
           let k = writes (throw_line i err) popped_core in
-          let rest : FitsBut r types i k (put xs i g) = record { cells = b.cells; waiting = b.waiting; actors = b.actors; work = b.work; ports = b.ports; main = b.main; requests = b.requests; numbered = b.numbered; framed = b.framed; registered = b.registered } in
-          fine_same r types c.halted (leave_for i a.entry vs t k) (put xs i g) go (leave_state r types i a.entry a.entry vs t k (put xs i g) g rest a.at h.frame own (operands_exist r types a.frame 0 a.entry.operands a.doing.2) some
+          let rest : FitsBut r types i k (put xs i g) = record {
+            cells = b.cells;
+            waiting = b.waiting;
+            actors = b.actors;
+            work = b.work;
+            ports = b.ports;
+            main = b.main;
+            requests = b.requests;
+            numbered = b.numbered;
+            framed = b.framed;
+            registered = b.registered;
+          } in
+          fine_same r types c.halted (leave_for i a.entry vs t k) (put xs i g) go
+          (leave_state r types i a.entry a.entry vs t k (put xs i g) g rest a.at h.frame own (operands_exist r types a.frame 0 a.entry.operands a.doing.2) some
           (λ us. doing_actor r types (running a.entry) g a.class (t ∷ us) (record { is = a.owner.is; result = a.owner.result; owns = a.owner.owns; gives = a.owner.gives }) refl (d us)))
 
       caught : (a : Actor r types i (Throw i err) ts c xs) (x : CatcherTree) → catcher_at a.frame.code a.frame.block ≡ Some x → Standing r types a.frame ⊎ Waiting r types a.frame
           → Onward r actors (class_vars a.frame.code) (typed_by types) a.frame.code ((raised err a.frame (Some x)).0.values, (raised err a.frame (Some x)).1)
-      caught a x q (inl h) = caught_standing r actors (class_vars a.frame.code) (typed_by types) a.frame (frame_rules r actors rules s types a.entry a.class a.frame a.owner a.doing.0) err x q h.holds h
+      caught a x q (inl h) = caught_standing r actors (class_vars a.frame.code) (typed_by types) a.frame (frame_rules r actors rules s types a.entry a.class a.frame a.owner a.doing.0) err x q h.holds
+          h
       caught a x q (inr h) = caught_waiting r actors (class_vars a.frame.code) (typed_by types) a.frame (frame_rules r actors rules s types a.entry a.class a.frame a.owner a.doing.0) err x q h.holds h
 
       by_catcher : (a : Actor r types i (Throw i err) ts c xs) (x : Option CatcherTree) → catcher_at a.frame.code a.frame.block ≡ x
-          → Fine r types (throw_core i err (raised err a.frame x).0 (Some a.entry) popped_core).halted (throw_core i err (raised err a.frame x).0 (Some a.entry) popped_core) (put xs i (raised err a.frame x).1)
+          → Fine r types (throw_core i err (raised err a.frame x).0 (Some a.entry) popped_core).halted (throw_core i err (raised err a.frame x).0 (Some a.entry) popped_core)
+          (put xs i (raised err a.frame x).1)
       by_catcher a None q =
-          leaves a (raised err a.frame None).1 (everything a.frame.mem) (Close i (BadOutcome err)) (close_of i (BadOutcome err)) (everything_some r.records (typed_by types) a.frame.code a.frame.mem (holds_of a.frame a.doing.1)) (λ us. (tt, refl, refl))
+          leaves a (raised err a.frame None).1 (everything a.frame.mem) (Close i (BadOutcome err)) (close_of i (BadOutcome err))
+          (everything_some r.records (typed_by types) a.frame.code a.frame.mem (holds_of a.frame a.doing.1)) (λ us. (tt, refl, refl))
       by_catcher a (Some x) q =
           let out = caught a x q a.doing.1 in
           leaves a (raised err a.frame (Some x)).1 (raised err a.frame (Some x)).0.values (Catch i err) (catch_of i err) out.1 (λ us. (out.2 ∙ a.doing.0, out.0, refl))
@@ -192,7 +224,8 @@ module _ (r : RawTree) (actors : List RoutineTree) (rules : ClassRules r actors)
           let last = operands_last r types a.frame 0 a.entry.operands q a.doing.2 in
           lose_fits r actors (class_vars a.frame.code) (typed_by types) a.frame (frame_rules r actors rules s types a.entry a.class a.frame a.owner a.doing.0) last.1.group a.doing.1 last.1.there
 
-      by_verdict : (a : Actor r types i (Keep i spot q) ts c xs) (v : OperandFate) → (v ≡ Ready → is_ready_at (thing c.cells q.1) ≡ true) → Fits_after (keep_by (classes r) i (length a.entry.operands) v q (with_operand spot q a.entry) a.frame (proc popped_core xs))
+      by_verdict : (a : Actor r types i (Keep i spot q) ts c xs) (v : OperandFate) → (v ≡ Ready → is_ready_at (thing c.cells q.1) ≡ true)
+          → Fits_after (keep_by (classes r) i (length a.entry.operands) v q (with_operand spot q a.entry) a.frame (proc popped_core xs))
       by_verdict a GoesOn ready =
           let pop = popped_at i c.left (Keep i spot q) ts c o top (keep_of i spot q) in
           let e = with_operand spot q a.entry in
@@ -212,7 +245,8 @@ module _ (r : RawTree) (actors : List RoutineTree) (rules : ClassRules r actors)
           } in
           fine_same r types c.halted d xs go (put_back r types i d xs rest
           (actor_at r types e a.frame (thing (put c.entries i e) i) (thing xs i) (tasks_of i ts) (thing_put c.entries i a.entry e a.at) a.stands
-          (subst (ActorFits r types e a.frame) (sym pop.rest) (doing_actor r types e a.frame a.class (Run i ∷ []) (record { is = a.owner.is; result = a.owner.result; owns = a.owner.owns; gives = a.owner.gives }) a.awake a.doing)))
+          (subst (ActorFits r types e a.frame) (sym pop.rest) (doing_actor r types e a.frame a.class (Run i ∷ [])
+          (record { is = a.owner.is; result = a.owner.result; owns = a.owner.owns; gives = a.owner.gives }) a.awake a.doing)))
           (awake_registered i (put c.entries i e) c.cells e (thing_put c.entries i a.entry e a.at) a.awake))
       by_verdict a Cancelled ready =
           let g = (lose a.frame).1 in
@@ -220,7 +254,9 @@ module _ (r : RawTree) (actors : List RoutineTree) (rules : ClassRules r actors)
           let z = lost a in
           let t = Throw i operation_cancelled in
           let k = record popped_core { tasks = below ts } in
-          fine_same r types c.halted (leave_for i e (lose a.frame).0 t k) (put xs i g) go (leave_state r types i e a.entry (lose a.frame).0 t k (put xs i g) g (stepless a g) a.at (thing_put xs i a.frame g a.stands) (throw_of i operation_cancelled) (operands_exist r types a.frame 0 e.operands a.doing.2) z.1
+          fine_same r types c.halted (leave_for i e (lose a.frame).0 t k) (put xs i g) go
+          (leave_state r types i e a.entry (lose a.frame).0 t k (put xs i g) g (stepless a g) a.at (thing_put xs i a.frame g a.stands) (throw_of i operation_cancelled)
+          (operands_exist r types a.frame 0 e.operands a.doing.2) z.1
           (λ us. doing_actor r types (running e) g a.class (t ∷ us) (record { is = a.owner.is; result = a.owner.result; owns = a.owner.owns; gives = a.owner.gives }) refl (a.doing.0, inr z.0, tt)))
       by_verdict a Ready ready =
           let g = (lose a.frame).1 in
@@ -233,5 +269,6 @@ module _ (r : RawTree) (actors : List RoutineTree) (rules : ClassRules r actors)
           let next = next_moved a.frame g (length a.entry.operands) last.0 same (subst (λ m. NextOperand a.frame m last.0) zero_plus last.1) in
           let cell = ready_cell (thing c.cells q.1) (ready refl) in
           branch_fits r types i (length a.entry.operands) q.1 e a.entry (lose a.frame).0 k (put xs i g) g a.class last.0 cell.0 cell.1 cell.2 go a.at (thing_put xs i a.frame g a.stands) (stepless a g)
-          (record { is = a.owner.is; result = a.owner.result; owns = a.owner.owns; gives = a.owner.gives }) a.doing.0 z.0 next (operand_typed r types a.frame (0 + length a.entry.operands) q last.0 last.1 last.2)
+          (record { is = a.owner.is; result = a.owner.result; owns = a.owner.owns; gives = a.owner.gives }) a.doing.0 z.0 next
+          (operand_typed r types a.frame (0 + length a.entry.operands) q last.0 last.1 last.2)
           (operands_moved r types a.frame g 0 e.operands same a.doing.2) z.1

@@ -160,7 +160,8 @@ less_there : (rows more : List (List ℕ × Meaning)) (x : List ℕ) → is_ther
 less_there [] more x e = refl
 less_there (r ∷ rows) more x e = by_test (bytes_eq x r.0) e (less_there rows more x)
   where
-    by_test : (b : Bool) → is_there (if b then Some r.1 else named (rows ++ more) x) ≡ false → (is_there (named (rows ++ more) x) ≡ false → is_there (named rows x) ≡ false) → is_there (if b then Some r.1 else named rows x) ≡ false
+    by_test : (b : Bool) → is_there (if b then Some r.1 else named (rows ++ more) x) ≡ false → (is_there (named (rows ++ more) x) ≡ false → is_there (named rows x) ≡ false)
+        → is_there (if b then Some r.1 else named rows x) ≡ false
     by_test true e f = e
     by_test false e f = f e
 
@@ -168,7 +169,8 @@ pub named_behind : (rows more : List (List ℕ × Meaning)) (x : List ℕ) → i
 named_behind [] more x e = refl
 named_behind (r ∷ rows) more x e = by_test (bytes_eq x r.0) e (named_behind rows more x)
   where
-    by_test : (b : Bool) → is_there (if b then Some r.1 else named rows x) ≡ false → (is_there (named rows x) ≡ false → named (rows ++ more) x ≡ named more x) → (if b then Some r.1 else named (rows ++ more) x) ≡ named more x
+    by_test : (b : Bool) → is_there (if b then Some r.1 else named rows x) ≡ false → (is_there (named rows x) ≡ false → named (rows ++ more) x ≡ named more x)
+        → (if b then Some r.1 else named (rows ++ more) x) ≡ named more x
     by_test true e f = absurd (true≢false e)
     by_test false e f = f e
 
@@ -182,16 +184,19 @@ rows_more ds es = ap (λ l. packet_row ∷ l) (go ds)
 pub known_behind : (ds es : List DeclTree) (x : List ℕ) → is_there (known ds x) ≡ false → known (ds ++ es) x ≡ named (map row_of es) x
 known_behind ds es x e = ap (λ l. named l x) (rows_more ds es) ∙ named_behind (packet_row ∷ map row_of ds) (map row_of es) x e
 
-pub class_new : (all : List ℕ → Option Meaning) (ds : List DeclTree) (i : ℕ) (cs : List ClassTree) (x : List ℕ) (k : ℕ) → first_head all ds i cs ≡ None → position (bytes_eq x) (map class_name cs) ≡ Some k → is_there (known ds x) ≡ false
+pub class_new : (all : List ℕ → Option Meaning) (ds : List DeclTree) (i : ℕ) (cs : List ClassTree) (x : List ℕ) (k : ℕ) → first_head all ds i cs ≡ None
+    → position (bytes_eq x) (map class_name cs) ≡ Some k → is_there (known ds x) ≡ false
 class_new all ds i [] x k e p = absurd (none_some p)
-class_new all ds i (c ∷ cs) x k e p = by_test (bytes_eq x c.name) refl (sym (position_step (bytes_eq x) c.name (map class_name cs)) ∙ p) (λ n h q. class_new all (ds ++ head_of c ∷ []) (suc i) cs x n h q)
+class_new all ds i (c ∷ cs) x k e p = by_test (bytes_eq x c.name) refl (sym (position_step (bytes_eq x) c.name (map class_name cs)) ∙ p)
+    (λ n h q. class_new all (ds ++ head_of c ∷ []) (suc i) cs x n h q)
   where
     more : (o : Option ℕ) → option_map suc o ≡ Some k → (n : ℕ) × (o ≡ Some n)
     more None h = absurd (none_some h)
     more (Some n) h = (n, refl)
 
     by_test : (b : Bool) → bytes_eq x c.name ≡ b → (if b then Some 0 else option_map suc (position (bytes_eq x) (map class_name cs))) ≡ Some k
-        → ((n : ℕ) → first_head all (ds ++ head_of c ∷ []) (suc i) cs ≡ None → position (bytes_eq x) (map class_name cs) ≡ Some n → is_there (known (ds ++ head_of c ∷ []) x) ≡ false) → is_there (known ds x) ≡ false
+        → ((n : ℕ) → first_head all (ds ++ head_of c ∷ []) (suc i) cs ≡ None → position (bytes_eq x) (map class_name cs) ≡ Some n → is_there (known (ds ++ head_of c ∷ []) x) ≡ false)
+        → is_there (known ds x) ≡ false
     by_test true q p f =
         let h = kept_first (head_kept (known ds) all c) (first_head all (ds ++ head_of c ∷ []) (suc i) cs) i e in
         subst (λ y. is_there (known ds y) ≡ false) (sym (bytes_same x c.name q)) (head_new (known ds) all c h.0)
@@ -202,7 +207,8 @@ class_new all ds i (c ∷ cs) x k e p = by_test (bytes_eq x c.name) refl (sym (p
         (subst (λ l. is_there (named l x) ≡ false) (rows_more ds (head_of c ∷ [])) (f m.0 h.1 m.1))
 
 -- what a name of a class means
-pub heads_mean : (cs : List ClassTree) (x : List ℕ) (k : ℕ) → position (bytes_eq x) (map class_name cs) ≡ Some k → (ts : List TypeTree) × (t : TypeTree) × (named (map row_of (map head_of cs)) x ≡ Some (ActorOf ts t))
+pub heads_mean : (cs : List ClassTree) (x : List ℕ) (k : ℕ) → position (bytes_eq x) (map class_name cs) ≡ Some k
+    → (ts : List TypeTree) × (t : TypeTree) × (named (map row_of (map head_of cs)) x ≡ Some (ActorOf ts t))
 heads_mean [] x k p = absurd (none_some p)
 heads_mean (c ∷ cs) x k p = by_test (bytes_eq x c.name) (sym (position_step (bytes_eq x) c.name (map class_name cs)) ∙ p) (λ n q. heads_mean cs x n q)
   where
@@ -242,7 +248,14 @@ class_in (c ∷ cs) x ts t e = by_test (bytes_eq x c.name) refl e (class_in cs x
         → (named (map row_of (map head_of cs)) x ≡ Some (ActorOf ts t) → IsClass cs x ts t) → IsClass (c ∷ cs) x ts t
     by_test true q e f =
         let h = actor_types (param_types (map slot_param (take c.params c.slots))) ts c.returns t e in
-        record { place = 0; class = c; found = position_step (bytes_eq x) c.name (map class_name cs) ∙ ap (λ b. if b then Some 0 else option_map suc (position (bytes_eq x) (map class_name cs))) q; is = refl; takes = taken_types c.params c.slots ∙ h.0; gives = h.1 }
+        record {
+          place = 0;
+          class = c;
+          found = position_step (bytes_eq x) c.name (map class_name cs) ∙ ap (λ b. if b then Some 0 else option_map suc (position (bytes_eq x) (map class_name cs))) q;
+          is = refl;
+          takes = taken_types c.params c.slots ∙ h.0;
+          gives = h.1;
+        }
     by_test false q e f =
         let k = f e in
         record {
@@ -255,7 +268,8 @@ class_in (c ∷ cs) x ts t e = by_test (bytes_eq x c.name) refl e (class_in cs x
         }
 
 -- records and functions are no actors
-structs_skip : (rs : List RecordTree) (ds es : List DeclTree) (x : List ℕ) (ts : List TypeTree) (t : TypeTree) → named (map row_of ((map StructDecl rs ++ ds) ++ es)) x ≡ Some (ActorOf ts t) → named (map row_of (ds ++ es)) x ≡ Some (ActorOf ts t)
+structs_skip : (rs : List RecordTree) (ds es : List DeclTree) (x : List ℕ) (ts : List TypeTree) (t : TypeTree) → named (map row_of ((map StructDecl rs ++ ds) ++ es)) x ≡ Some (ActorOf ts t)
+    → named (map row_of (ds ++ es)) x ≡ Some (ActorOf ts t)
 structs_skip [] ds es x ts t e = e
 structs_skip (r ∷ rs) ds es x ts t e = by_test (bytes_eq x r.name.name) e (structs_skip rs ds es x ts t)
   where
@@ -264,7 +278,8 @@ structs_skip (r ∷ rs) ds es x ts t e = by_test (bytes_eq x r.name.name) e (str
     by_test true e f = absurd cc
     by_test false e f = f e
 
-functions_skip : (fs : List RoutineTree) (es : List DeclTree) (x : List ℕ) (ts : List TypeTree) (t : TypeTree) → named (map row_of (map FunctionDecl fs ++ es)) x ≡ Some (ActorOf ts t) → named (map row_of es) x ≡ Some (ActorOf ts t)
+functions_skip : (fs : List RoutineTree) (es : List DeclTree) (x : List ℕ) (ts : List TypeTree) (t : TypeTree) → named (map row_of (map FunctionDecl fs ++ es)) x ≡ Some (ActorOf ts t)
+    → named (map row_of es) x ≡ Some (ActorOf ts t)
 functions_skip [] es x ts t e = e
 functions_skip (f ∷ fs) es x ts t e = by_test (bytes_eq x f.name.name) e (functions_skip fs es x ts t)
   where

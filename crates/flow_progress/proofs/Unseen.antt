@@ -150,7 +150,11 @@ module _ (k : ℕ) where
 
   pub requests_off : (ns : List ℕ) → in_requests PromiseSide k ns ≡ 0 → AllSeen (Off k) ns
   requests_off [] a = tt
-  requests_off (n ∷ ns) a = (side_off k n (zero_first (one PromiseSide k PromiseSide n) (in_requests PromiseSide k ns) a), requests_off ns (zero_second (one PromiseSide k PromiseSide n) (in_requests PromiseSide k ns) a))
+  requests_off (n ∷ ns) a = (
+    side_off k n (zero_first (one PromiseSide k PromiseSide n) (in_requests PromiseSide k ns) a),
+    requests_off ns
+        (zero_second (one PromiseSide k PromiseSide n) (in_requests PromiseSide k ns) a),
+  )
 
   pub maybe_off : (o : Option ℕ) (n : ℕ) → count_maybe PromiseSide k PromiseSide o ≡ 0 → o ≡ Some n → Off k n
   maybe_off None n a e = absurd cc
@@ -178,43 +182,55 @@ module _ (k : ℕ) where
       by_test true e f = subst (Off k) (same_thing x.1 n e) (side_off k x.1 (zero_first (one PromiseSide k PromiseSide x.1) (in_ports PromiseSide k xs) a))
       by_test false e f = f e
 
-  pub entry_zero : (s : Side) (es : Numbered Entry) (i : ℕ) (e : Entry) → in_entries s k es ≡ 0 → thing es i ≡ Some e → (count_maybe s k PromiseSide e.result ≡ 0) × (count_kept s k e.suspended e.operands ≡ 0)
+  pub entry_zero : (s : Side) (es : Numbered Entry) (i : ℕ) (e : Entry) → in_entries s k es ≡ 0 → thing es i ≡ Some e
+      → (count_maybe s k PromiseSide e.result ≡ 0) × (count_kept s k e.suspended e.operands ≡ 0)
   entry_zero s [] i e a h = absurd cc
   entry_zero s (x ∷ xs) i e a h =
       let first = zero_first (count_maybe s k PromiseSide x.1.result + count_kept s k x.1.suspended x.1.operands) (in_entries s k xs) a in
       by_test (nat_eq i x.0) h first (entry_zero s xs i e (zero_second (count_maybe s k PromiseSide x.1.result + count_kept s k x.1.suspended x.1.operands) (in_entries s k xs) a))
     where
       by_test : (b : Bool) → (if b then Some x.1 else thing xs i) ≡ Some e → count_maybe s k PromiseSide x.1.result + count_kept s k x.1.suspended x.1.operands ≡ 0
-          → (thing xs i ≡ Some e → (count_maybe s k PromiseSide e.result ≡ 0) × (count_kept s k e.suspended e.operands ≡ 0)) → (count_maybe s k PromiseSide e.result ≡ 0) × (count_kept s k e.suspended e.operands ≡ 0)
+          → (thing xs i ≡ Some e → (count_maybe s k PromiseSide e.result ≡ 0) × (count_kept s k e.suspended e.operands ≡ 0))
+          → (count_maybe s k PromiseSide e.result ≡ 0) × (count_kept s k e.suspended e.operands ≡ 0)
       by_test true h z f =
-          subst (λ (e : Entry). (count_maybe s k PromiseSide e.result ≡ 0) × (count_kept s k e.suspended e.operands ≡ 0)) (same_thing x.1 e h)
-          (zero_first (count_maybe s k PromiseSide x.1.result) (count_kept s k x.1.suspended x.1.operands) z, zero_second (count_maybe s k PromiseSide x.1.result) (count_kept s k x.1.suspended x.1.operands) z)
+          subst (λ (e : Entry). (count_maybe s k PromiseSide e.result ≡ 0) × (count_kept s k e.suspended e.operands ≡ 0)) (same_thing x.1 e h) (
+            zero_first (count_maybe s k PromiseSide x.1.result) (count_kept s k x.1.suspended x.1.operands) z,
+            zero_second (count_maybe s k PromiseSide x.1.result)
+                (count_kept s k x.1.suspended x.1.operands) z,
+          )
       by_test false h z f = f h
 
-  pub cell_zero : (s : Side) (cells : Numbered Cell) (n : ℕ) (cell : Cell) → in_cells s k cells ≡ 0 → thing cells n ≡ Some cell → (count_waiters s k n (waiters cell) ≡ 0) × (count s k (refs_in (held cell)) ≡ 0)
+  pub cell_zero : (s : Side) (cells : Numbered Cell) (n : ℕ) (cell : Cell) → in_cells s k cells ≡ 0 → thing cells n ≡ Some cell
+      → (count_waiters s k n (waiters cell) ≡ 0) × (count s k (refs_in (held cell)) ≡ 0)
   cell_zero s [] n cell a h = absurd cc
   cell_zero s (x ∷ xs) n cell a h =
       let first = zero_first (count_waiters s k x.0 (waiters x.1) + count s k (refs_in (held x.1))) (in_cells s k xs) a in
       by_test (nat_eq n x.0) refl h first (cell_zero s xs n cell (zero_second (count_waiters s k x.0 (waiters x.1) + count s k (refs_in (held x.1))) (in_cells s k xs) a))
     where
       by_test : (b : Bool) → nat_eq n x.0 ≡ b → (if b then Some x.1 else thing xs n) ≡ Some cell → count_waiters s k x.0 (waiters x.1) + count s k (refs_in (held x.1)) ≡ 0
-          → (thing xs n ≡ Some cell → (count_waiters s k n (waiters cell) ≡ 0) × (count s k (refs_in (held cell)) ≡ 0)) → (count_waiters s k n (waiters cell) ≡ 0) × (count s k (refs_in (held cell)) ≡ 0)
+          → (thing xs n ≡ Some cell → (count_waiters s k n (waiters cell) ≡ 0) × (count s k (refs_in (held cell)) ≡ 0))
+          → (count_waiters s k n (waiters cell) ≡ 0) × (count s k (refs_in (held cell)) ≡ 0)
       by_test true q h z f =
           let m : x.0 ≡ n = grind (arith, q) in
-          subst (λ (c : Cell). (count_waiters s k n (waiters c) ≡ 0) × (count s k (refs_in (held c)) ≡ 0)) (same_thing x.1 cell h)
-          (subst (λ j. count_waiters s k j (waiters x.1) ≡ 0) m (zero_first (count_waiters s k x.0 (waiters x.1)) (count s k (refs_in (held x.1))) z), zero_second (count_waiters s k x.0 (waiters x.1)) (count s k (refs_in (held x.1))) z)
+          subst (λ (c : Cell). (count_waiters s k n (waiters c) ≡ 0) × (count s k (refs_in (held c)) ≡ 0)) (same_thing x.1 cell h) (
+            subst (λ j. count_waiters s k j (waiters x.1) ≡ 0) m (zero_first (count_waiters s k x.0 (waiters x.1)) (count s k (refs_in (held x.1))) z),
+            zero_second (count_waiters s k x.0 (waiters x.1))
+                (count s k (refs_in (held x.1))) z,
+          )
       by_test false q h z f = f h
 
   pub none_wait : (ws : List Waiter) → count_waiters FutureSide k k ws ≡ 0 → ws ≡ []
   none_wait [] a = refl
   none_wait (w ∷ ws) a = absurd (side_off k k (zero_first (one FutureSide k FutureSide k) (count_waiters FutureSide k k ws) a) refl)
 
-  pub frame_zero : (s : Side) (xs : Numbered Frame) (i : ℕ) (f : Frame) → scan_of (λ s k (f : Frame). occ_memory s k f.mem) xs s k ≡ 0 → thing xs i ≡ Some f → count s k (refs_in (everything f.mem)) ≡ 0
+  pub frame_zero : (s : Side) (xs : Numbered Frame) (i : ℕ) (f : Frame) → scan_of (λ s k (f : Frame). occ_memory s k f.mem) xs s k ≡ 0 → thing xs i ≡ Some f
+      → count s k (refs_in (everything f.mem)) ≡ 0
   frame_zero s [] i f a h = absurd cc
   frame_zero s (x ∷ xs) i f a h =
       by_test (nat_eq i x.0) h (zero_first (occ_memory s k x.1.mem) (scan_of (λ s k (f : Frame). occ_memory s k f.mem) xs s k) a)
       (frame_zero s xs i f (zero_second (occ_memory s k x.1.mem) (scan_of (λ s k (f : Frame). occ_memory s k f.mem) xs s k) a))
     where
-      by_test : (b : Bool) → (if b then Some x.1 else thing xs i) ≡ Some f → count s k (refs_in (everything x.1.mem)) ≡ 0 → (thing xs i ≡ Some f → count s k (refs_in (everything f.mem)) ≡ 0) → count s k (refs_in (everything f.mem)) ≡ 0
+      by_test : (b : Bool) → (if b then Some x.1 else thing xs i) ≡ Some f → count s k (refs_in (everything x.1.mem)) ≡ 0 → (thing xs i ≡ Some f → count s k (refs_in (everything f.mem)) ≡ 0)
+          → count s k (refs_in (everything f.mem)) ≡ 0
       by_test true h z g = subst (λ (f : Frame). count s k (refs_in (everything f.mem)) ≡ 0) (same_thing x.1 f h) z
       by_test false h z g = g h

@@ -87,8 +87,12 @@ are_named c w x p e = go (slot_found 0 c.slots (local_vars 0 c.locals) x p e)
     go (inl h) =
         let b = below_length c.slots h.at h.slot h.is in
         let small : 0 + h.at < 2 ^ 64 = let l = w.slots in omega (arith, b, l) in
-        let z : 0 + h.at ≡ h.at = omega arith in
-        (Slot (0 + h.at), ap place_named h.name ∙ place_back (Slot (0 + h.at)) small, ap (λ k. option_map (λ (s : SlotTree). s.ty) (slice_get c.slots k)) z ∙ ap (option_map (λ (s : SlotTree). s.ty)) h.is ∙ ap Some (sym h.type))
+        let z : 0 + h.at ≡ h.at = omega arith in (
+          Slot (0 + h.at),
+          ap place_named h.name ∙ place_back (Slot (0 + h.at)) small,
+          ap (λ k. option_map (λ (s : SlotTree). s.ty) (slice_get c.slots k)) z
+              ∙ ap (option_map (λ (s : SlotTree). s.ty)) h.is ∙ ap Some (sym h.type),
+        )
     go (inr f) =
         let h = local_found 0 c.locals x p f in
         let b = below_length c.locals h.at p.ty h.is in

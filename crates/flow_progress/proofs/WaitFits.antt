@@ -59,7 +59,8 @@ module _ (r : RawTree) (types : CellTypes) (g : Frame) where
       same : {X : Type 0} {x y : X} → Some x ≡ Some y → x ≡ y
       same h = cc
 
-      by_test : (p : Bool) → is_ready_at (thing cells q.1) ≡ p → (if p then Some (b, q.1) else first_ready cells (suc b) qs) ≡ Some x → (first_ready cells (suc b) qs ≡ Some x → ReadyOperand cells x.0 x.1) → ReadyOperand cells x.0 x.1
+      by_test : (p : Bool) → is_ready_at (thing cells q.1) ≡ p → (if p then Some (b, q.1) else first_ready cells (suc b) qs) ≡ Some x
+          → (first_ready cells (suc b) qs ≡ Some x → ReadyOperand cells x.0 x.1) → ReadyOperand cells x.0 x.1
       by_test false p e k = k e
       by_test true p e k =
           let c = ready_of cells q.1 (thing cells q.1) refl p in
@@ -98,7 +99,8 @@ module _ (r : RawTree) (types : CellTypes) (g : Frame) where
         by_test cell at f false =
             let d = record k { cells = cells } in (
               put_cells r types d n t cell (with_waiter cell w) at has (waiter_fits cell w t f) ok.0,
-              put_waiters r types d xs n cell (with_waiter cell w) at (λ h. subst (λ o. WaitersAt r types xs o (Some (with_waiter cell w))) (sym has) (waiter_waits cell w t (subst (λ o. WaitersAt r types xs o (Some cell)) has h) waits)) ok.1,
+              put_waiters r types d xs n cell (with_waiter cell w) at
+                  (λ h. subst (λ o. WaitersAt r types xs o (Some (with_waiter cell w))) (sym has) (waiter_waits cell w t (subst (λ o. WaitersAt r types xs o (Some cell)) has h) waits)) ok.1,
               rising_put cells 0 made n (with_waiter cell w) ok.2,
             )
 
@@ -117,12 +119,15 @@ module _ (r : RawTree) (i : ℕ) (xs : Numbered Frame) (e : Entry) (g : Frame) (
   abbrev Good : Core → Type 0
   Good d = Ok r i xs e g c code types d
 
-  suspend_fits : (spot : Spot) (vs : List ValueTree) (x : Registration) (k : Core) → k.halted ≡ None → (h : HandFits r types i k xs e g c) → Waiting r types g → OperandsFit r types g 0 e.operands → HaveSome r.records (typed_by types) vs
+  suspend_fits : (spot : Spot) (vs : List ValueTree) (x : Registration) (k : Core) → k.halted ≡ None → (h : HandFits r types i k xs e g c) → Waiting r types g → OperandsFit r types g 0 e.operands
+      → HaveSome r.records (typed_by types) vs
       → RegistrationOk r types g i k.made xs h.frame k x → ((j : ℕ) → Keeping j k.cells x) → AllNow i e.operands x → Good (suspend i spot (at_spot spot e) vs x k)
   suspend_fits spot vs Missing k go h s o some ok keep now = absurd ok
   suspend_fits spot vs Refused k go h s o some ok keep now =
-      fine_same r types k.halted (leave_for i (at_spot spot e) vs (Throw i second_waiter) k) xs go (leave_state r types i (at_spot spot e) e vs (Throw i second_waiter) k xs g h.rest h.entry h.frame (throw_of i second_waiter) (operands_exist r types g 0 e.operands o) some
-      (λ ts. doing_actor r types (running (at_spot spot e)) g c (Throw i second_waiter ∷ ts) (record { is = h.owner.is; result = h.owner.result; owns = h.owner.owns; gives = h.owner.gives }) refl (code, inr s, tt)))
+      fine_same r types k.halted (leave_for i (at_spot spot e) vs (Throw i second_waiter) k) xs go
+      (leave_state r types i (at_spot spot e) e vs (Throw i second_waiter) k xs g h.rest h.entry h.frame (throw_of i second_waiter) (operands_exist r types g 0 e.operands o) some
+      (λ ts. doing_actor r types (running (at_spot spot e)) g c (Throw i second_waiter ∷ ts) (record { is = h.owner.is; result = h.owner.result; owns = h.owner.owns; gives = h.owner.gives }) refl
+      (code, inr s, tt)))
   suspend_fits spot vs (Registered cells) k go h s o some ok keep now =
       let asleep = record (at_spot spot e) { suspended = true } in
       let d = record (writes (wait_line i spot.group) k) { cells = cells; entries = put k.entries i asleep } in
@@ -143,22 +148,26 @@ module _ (r : RawTree) (i : ℕ) (xs : Numbered Frame) (e : Entry) (g : Frame) (
       (λ x at q. subst (λ (z : Entry). AtEach i cells z.operands) (same_entry (sym (thing_put k.entries i e asleep h.entry) ∙ at)) now) in
       fine_same r types k.halted (dropping_values vs d) xs go (dropping_fits r types vs d xs some state)
 
-  wait_by_fits : (spot : Spot) (vs : List ValueTree) (x : Option (ℕ × ℕ)) (k : Core) → k.halted ≡ None → HandFits r types i k xs e g c → Waiting r types g → OperandsFit r types g 0 e.operands → HaveSome r.records (typed_by types) vs
+  wait_by_fits : (spot : Spot) (vs : List ValueTree) (x : Option (ℕ × ℕ)) (k : Core) → k.halted ≡ None → HandFits r types i k xs e g c → Waiting r types g → OperandsFit r types g 0 e.operands
+      → HaveSome r.records (typed_by types) vs
       → first_ready k.cells 0 e.operands ≡ x → Good (wait_by i spot (at_spot spot e) vs x k)
   wait_by_fits spot vs (Some x) k go h s o some q =
       let f = first_ready_fits r types g k.cells 0 e.operands x o q in
-      branch_fits r types i x.0 x.1 (at_spot spot e) e vs k xs g c f.type f.cell f.at f.ready go h.entry h.frame h.rest (record { is = h.owner.is; result = h.owner.result; owns = h.owner.owns; gives = h.owner.gives }) code s f.next f.has o some
+      branch_fits r types i x.0 x.1 (at_spot spot e) e vs k xs g c f.type f.cell f.at f.ready go h.entry h.frame h.rest
+      (record { is = h.owner.is; result = h.owner.result; owns = h.owner.owns; gives = h.owner.gives }) code s f.next f.has o some
   wait_by_fits spot vs None k go h s o some q =
       suspend_fits spot vs (register i 0 e.operands (Registered k.cells)) k go h s o some
       (all_ok r types g i k.made xs h.frame k 0 e.operands (Registered k.cells) o (h.rest.cells, h.rest.waiting, h.rest.numbered))
       (λ j. all_keeping j i 0 e.operands k.cells (Registered k.cells) (λ n h. h)) (all_now i 0 e.operands (Registered k.cells))
 
-  wait_fits : (spot : Spot) (vs : List ValueTree) (k : Core) → k.halted ≡ None → HandFits r types i k xs e g c → Waiting r types g → OperandsFit r types g 0 e.operands → HaveSome r.records (typed_by types) vs → Good (wait i spot (thing k.entries i) vs k)
+  wait_fits : (spot : Spot) (vs : List ValueTree) (k : Core) → k.halted ≡ None → HandFits r types i k xs e g c → Waiting r types g → OperandsFit r types g 0 e.operands
+      → HaveSome r.records (typed_by types) vs → Good (wait i spot (thing k.entries i) vs k)
   wait_fits spot vs k go h s o some =
       subst (λ z. Good (wait i spot z vs k)) (sym h.entry) (wait_by_fits spot vs (first_ready k.cells 0 e.operands) k go h s o some refl)
 
   -- each ask but the call of an actor, where operands are kept at a wait alone
-  pub react_fits : (s : Supply) (act : Act) (k : Core) → k.halted ≡ None → HandFits r types i k xs e g c → Rising 0 k.started k.entries → ActFits r (class_vars g.code) (typed_by types) c (length e.operands) act g
+  pub react_fits : (s : Supply) (act : Act) (k : Core) → k.halted ≡ None → HandFits r types i k xs e g c → Rising 0 k.started k.entries
+      → ActFits r (class_vars g.code) (typed_by types) c (length e.operands) act g
       → OperandsFit r types g 0 e.operands → ((OfWait act → ⊥) → e.operands ≡ []) → ((goal : Goal) (class : ℕ) (args : List ValueTree) → act ≡ Effects goal (Start class args) → ⊥)
       → ((v : ValueTree) (vs : List ValueTree) → act ≡ Returns v vs → ⊥) → OkAsking r i xs e g c code types (react s i act k)
   react_fits s Goes k go h up f o none no_start no_end = fine_same r types k.halted (pushed (Run i) k) xs go (runs r i xs e g c code types k h f o)
@@ -166,7 +175,18 @@ module _ (r : RawTree) (i : ℕ) (xs : Numbered Frame) (e : Entry) (g : Frame) (
       fine_turn r types (pushed (Run i)) k xs
       (λ m. let d = record k { left = m } in
       let p = h.rest in
-      let rest : FitsBut r types i d xs = record { cells = p.cells; waiting = p.waiting; actors = p.actors; work = p.work; ports = p.ports; main = p.main; requests = p.requests; numbered = p.numbered; framed = p.framed; registered = p.registered } in
+      let rest : FitsBut r types i d xs = record {
+        cells = p.cells;
+        waiting = p.waiting;
+        actors = p.actors;
+        work = p.work;
+        ports = p.ports;
+        main = p.main;
+        requests = p.requests;
+        numbered = p.numbered;
+        framed = p.framed;
+        registered = p.registered;
+      } in
       fine_same r types k.halted (pushed (Run i) d) xs go (runs r i xs e g c code types d (rehand r i xs e g c code types k d h.entry rest h) f o))
   react_fits s (Drops vs) k go h up f o none no_start no_end =
       fine_same r types k.halted (dropping_values vs (pushed (Run i) k)) xs go (dropping_fits r types vs (pushed (Run i) k) xs f.1 (runs r i xs e g c code types k h f.0 o))
@@ -188,7 +208,8 @@ module _ (r : RawTree) (i : ℕ) (xs : Numbered Frame) (e : Entry) (g : Frame) (
   react_fits s (Prints v) k go h up f o none no_start no_end = print_fits r i xs e g c code types (print_line i v) k (f.1 i) go h f.0 o
   react_fits s (SendsTo q port text) k go h up f o none no_start no_end =
       either_fits r i xs e g c code types (int_le (pos 0) q && nat_lt (natural q) s.processes && is_port port) _ (throws i bad_argument k)
-      (fine_asking r types (Some (Packet (natural q) (natural port) text)) k.halted (pushed (Run i) k) xs (λ z. tt) (fine_same r types k.halted (pushed (Run i) k) xs go (runs r i xs e g c code types k h f o)))
+      (fine_asking r types (Some (Packet (natural q) (natural port) text)) k.halted (pushed (Run i) k) xs (λ z. tt)
+      (fine_same r types k.halted (pushed (Run i) k) xs go (runs r i xs e g c code types k h f o)))
       (throws_fit r i xs e g c code types bad_argument k go h f o)
   react_fits s (Returns v vs) k go h up f o none no_start no_end = absurd (no_end v vs refl)
   react_fits s (Throws err) k go h up f o none no_start no_end = throws_fit r i xs e g c code types err k go h f o

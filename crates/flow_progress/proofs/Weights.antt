@@ -160,7 +160,8 @@ pub hand_weight : (i : ℕ) (c : Core) (xs : Numbered Frame) (e : Entry) (f : Fr
 hand_weight i c xs e f ts h t = weight_at i c xs e (Some f) ts h.entry h.awake h.frame t
 
 -- a task on top
-pub push_falls : (i n : ℕ) (t : Task) (c : Core) (xs : Numbered Frame) (e : Entry) (f : Frame) → Hand i c xs e f → IsOf i t → ((ts : List Task) → busy f (length e.operands) (t ∷ ts) < n) → Falls i n c (pushed t c) xs
+pub push_falls : (i n : ℕ) (t : Task) (c : Core) (xs : Numbered Frame) (e : Entry) (f : Frame) → Hand i c xs e f → IsOf i t → ((ts : List Task) → busy f (length e.operands) (t ∷ ts) < n)
+    → Falls i n c (pushed t c) xs
 push_falls i n t c xs e f h own room =
     let d = pushed t c in
     let w : weight d xs i ≡ busy f (length e.operands) (t ∷ tasks_of i c.tasks) =
@@ -169,7 +170,8 @@ push_falls i n t c xs e f h own room =
     inr (omega arith, omega (arith, q), refl, omega (arith, w, room (tasks_of i c.tasks)), λ j k. still_less j c d xs ((refl, other_task i j t c.tasks own k), refl))
 
 -- a result over the next step
-pub two_falls : (i n : ℕ) (t : Task) (c : Core) (xs : Numbered Frame) (e : Entry) (f : Frame) → Hand i c xs e f → IsOf i t → IsOf i (Run i) → ((ts : List Task) → busy f (length e.operands) (t ∷ ts) < n)
+pub two_falls : (i n : ℕ) (t : Task) (c : Core) (xs : Numbered Frame) (e : Entry) (f : Frame) → Hand i c xs e f → IsOf i t → IsOf i (Run i)
+    → ((ts : List Task) → busy f (length e.operands) (t ∷ ts) < n)
     → Falls i n c (pushed t (pushed (Run i) c)) xs
 two_falls i n t c xs e f h own next room =
     let k = pushed (Run i) c in
@@ -202,7 +204,8 @@ leave_weight i e e0 vs t c xs o at fr own =
     weight_at i (leave_for i e vs t c) xs (running e) o (t ∷ tasks_of i c.tasks) (thing_put c.entries i e0 (running e) at) refl fr
     (drops_tasks i e.operands (drops (refs_in vs) (t ∷ c.tasks)) ∙ drops_tasks i (refs_in vs) (t ∷ c.tasks) ∙ own_task i t c.tasks own)
 
-pub leave_falls : (i n : ℕ) (e e0 : Entry) (vs : List ValueTree) (t : Task) (c : Core) (xs : Numbered Frame) (f : Frame) → thing c.entries i ≡ Some e0 → thing xs i ≡ Some f → IsOf i t → ((ts : List Task) → busy f 0 (t ∷ ts) < n)
+pub leave_falls : (i n : ℕ) (e e0 : Entry) (vs : List ValueTree) (t : Task) (c : Core) (xs : Numbered Frame) (f : Frame) → thing c.entries i ≡ Some e0 → thing xs i ≡ Some f → IsOf i t
+    → ((ts : List Task) → busy f 0 (t ∷ ts) < n)
     → Falls i n c (leave_for i e vs t c) xs
 leave_falls i n e e0 vs t c xs f at fr own room =
     let d = leave_for i e vs t c in
@@ -251,7 +254,8 @@ fallen i n c k d xs ys within w l f s same (inr h) =
     inr (omega (arith, h.0, l), omega (arith, h.1, f, t2))
 
 -- no actor became heavier, and there is a fire less
-pub eased_less : (c k d : Core) (xs : Numbered Frame) → k.left ≤ c.left → fires k.tasks < fires c.tasks → k.started ≡ c.started → ((j : ℕ) → weight k xs j ≡ weight c xs j) → Eased k d xs → Less c (load c xs) d (load d xs)
+pub eased_less : (c k d : Core) (xs : Numbered Frame) → k.left ≤ c.left → fires k.tasks < fires c.tasks → k.started ≡ c.started → ((j : ℕ) → weight k xs j ≡ weight c xs j) → Eased k d xs
+    → Less c (load c xs) d (load d xs)
 eased_less c k d xs l f s same (inl t) = inl (omega (arith, t, l))
 eased_less c k d xs l f s same (inr h) =
     let e : d.started ≡ c.started = h.2 ∙ s in

@@ -26,7 +26,8 @@ pub record PortsAlone (c : Core) (xs : Numbered Frame) : Type 0 where
 
 -- The promise side of the result of an unfinished actor is referred to once: by the actor.
 abbrev pub ResultsAlone : Core → Numbered Frame → Type 0
-ResultsAlone c xs = (i k : ℕ) (e : Entry) → thing c.entries i ≡ Some e → e.result ≡ Some k → reference_count (frames_scan xs) PromiseSide k c ≡ 1
+ResultsAlone c xs = (i k : ℕ) (e : Entry) → thing c.entries i ≡ Some e → e.result ≡ Some k
+    → reference_count (frames_scan xs) PromiseSide k c ≡ 1
 
 -- Where what is owned is owned alone, a step keeps a process fitting, and has a meaning.
 abbrev pub StepsKeepFitting : RawTree → Type 0

@@ -62,7 +62,8 @@ module _ (r : RawTree) (typed : ℕ → TypeTree → Type 0) where
   abbrev pub Gives : Effect → TypeTree → Type 0
   Gives (Make k) t = (u : TypeTree) × (t ≡ reference_type k u)
   Gives (Start class args) t =
-      (d : ClassTree) × (slice_get r.classes class ≡ Some d) × HaveTypes r.records typed (values_of_list args) (first_types d.params d.slots)
+      (d : ClassTree) × (slice_get r.classes class ≡ Some d)
+      × HaveTypes r.records typed (values_of_list args) (first_types d.params d.slots)
       × (t ≡ FutureType d.returns)
   Gives (Draw lo hi) t = t ≡ IntType
   Gives (Delay ticks) t = t ≡ FutureType VoidType

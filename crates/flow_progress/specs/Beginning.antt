@@ -40,7 +40,8 @@ ArrivalsFit r =
 
 abbrev pub DeliveriesFit : RawTree → Type 0
 DeliveriesFit r =
-    (types : CellTypes) (c : Core) (xs : Numbered Frame) (k : ℕ) (o : OutcomeTree) (u : TypeTree) → ProcessFits r types c xs → c.halted ≡ None
+    (types : CellTypes) (c : Core) (xs : Numbered Frame) (k : ℕ) (o : OutcomeTree) (u : TypeTree) → ProcessFits r types c xs
+    → c.halted ≡ None
     → types k ≡ Some (FutureType u) → OutcomeFits r.records (typed_by types) o u → Fine r types (deliver k o c).halted (deliver k o c) xs
 
 -- A boot of `main`, where actors are numbered in order.

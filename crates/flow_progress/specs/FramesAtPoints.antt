@@ -31,6 +31,7 @@ pub record StandsWaiting (rs : List RecordTree) (typed : ℕ → TypeTree → Ty
   pub group : ℕ
   pub there : fetch f.code f.block f.instr ≡ Last (ChooseLast group)
   pub reached : Reached f.code f.block f.instr
-  pub full : (n : ℕ) (t : TypeTree) → type_at f.code (Slot n) ≡ Some t → (Comes f.code (Slot n) f.block f.instr false → ⊥) → Filled f.mem (Slot n)
+  pub full : (n : ℕ) (t : TypeTree) → type_at f.code (Slot n) ≡ Some t → (Comes f.code (Slot n) f.block f.instr false → ⊥)
+      → Filled f.mem (Slot n)
   pub lost : (n : ℕ) → read f.mem (Local n) ≡ None
   pub holds : HoldsTypes rs typed f.code f.mem

@@ -51,7 +51,8 @@ module _ (r : RawTree) (actors : List RoutineTree) (c : ClassTree) (vars : List 
 
   abbrev pub AllTyped : ExprTrees → List TypeTree → Type 0
   AllTyped es ts =
-      (types_in (scope_over r.records r.functions actors vars) es ≡ Some ts) × (all_without_effects (scope_over r.records r.functions actors vars) es ≡ true)
+      (types_in (scope_over r.records r.functions actors vars) es ≡ Some ts)
+      × (all_without_effects (scope_over r.records r.functions actors vars) es ≡ true)
 
   -- an effect gives a value of this type from arguments of these types
   abbrev pub EffectGives : Effectful → List TypeTree → TypeTree → Type 0
@@ -94,7 +95,8 @@ module _ (r : RawTree) (actors : List RoutineTree) (c : ClassTree) (vars : List 
     pub takes : TypeTree
     pub into : takes_type c k.into ≡ Some takes
     pub goes : fetch c k.block 0 ≡ Nothing → ⊥
-    pub effects : (g : Effectful × ExprTrees) → effect_in (class_names r) k.operand ≡ Some g → EffectFits k.operand (operand_type k.next takes)
+    pub effects : (g : Effectful × ExprTrees) → effect_in (class_names r) k.operand ≡ Some g
+        → EffectFits k.operand (operand_type k.next takes)
     pub value : effect_in (class_names r) k.operand ≡ None → Typed k.operand (operand_type k.next takes)
 
   abbrev pub IsBlock : ℕ → Type 0

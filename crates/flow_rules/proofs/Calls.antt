@@ -16,7 +16,8 @@ pub call_is : (s : Setting) (whole : Bool) (f : List ℕ) (es : ExprTrees) (c : 
 call_is s whole f es c ns judged r hc hn hj hr =
     hr ∙ ap (λ j. lesser j (calls es c (placed s whole))) (hj ∙ ap (λ n. faults s 0 n es) hn) ∙ ap (λ k. lesser (faults s 0 (needs_of k) es) (calls es k (placed s whole))) hc
 
-pub method_is : (s : Setting) (t : Option TypeTree) (m : List ℕ) (es : ExprTrees) (c : Option Callee) (ns : List Need) (b judged r e : Option ℕ) (u : Option TypeTree) → t ≡ u → b ≡ e → c ≡ called_on t m → ns ≡ needs_of c
+pub method_is : (s : Setting) (t : Option TypeTree) (m : List ℕ) (es : ExprTrees) (c : Option Callee) (ns : List Need) (b judged r e : Option ℕ) (u : Option TypeTree) → t ≡ u → b ≡ e
+    → c ≡ called_on t m → ns ≡ needs_of c
     → judged ≡ faults s 0 ns es → r ≡ lesser b (lesser judged (calls_on t es c (placed s false)))
     → r ≡ lesser e (lesser (faults s 0 (needs_of (called_on u m)) es) (calls_on u es (called_on u m) (placed s false)))
 method_is s t m es c ns b judged r e u ht hb hc hn hj hr =
@@ -32,7 +33,8 @@ pub named_is : (s : Setting) (f : List ℕ) (es : ExprTrees) (c : Option Callee)
 named_is s f es c ns judged own r hc hn hj ho hr =
     hr ∙ ap₂ (λ j k. lesser j k) (hj ∙ ap (λ n. faults s 0 n es) hn) ho ∙ ap (λ k. lesser (faults s 0 (needs_of k) es) (calls es k (said s))) hc
 
-pub called_is : (s : Setting) (base : List Ident) (m : List ℕ) (es : ExprTrees) (t : Option TypeTree) (c : Option Callee) (ns : List Need) (b judged own rest r : Option ℕ) → t ≡ base_form s base → b ≡ base_fault s base
+pub called_is : (s : Setting) (base : List Ident) (m : List ℕ) (es : ExprTrees) (t : Option TypeTree) (c : Option Callee) (ns : List Need) (b judged own rest r : Option ℕ) → t ≡ base_form s base
+    → b ≡ base_fault s base
     → c ≡ called_on t m → ns ≡ needs_of c → judged ≡ faults s 0 ns es → own ≡ calls es c (said s) → rest ≡ lesser judged own → r ≡ lesser b rest → r ≡ call_on s base m es
 called_is s base m es t c ns b judged own rest r ht hb hc hn hj ho hrest hr =
     hr ∙ ap₂ lesser hb (hrest ∙ ap₂ lesser (hj ∙ ap (λ n. faults s 0 n es) hn) ho ∙ ap (λ k. lesser (faults s 0 (needs_of k) es) (calls es k (said s))) (hc ∙ ap (λ v. called_on v m) ht))

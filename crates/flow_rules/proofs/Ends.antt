@@ -84,11 +84,13 @@ caught_in e x = in_catch (with_var e x.name ErrorType)
 pub handler_memory : (e new : Env) (x : Ident) (b : Body) (f : SourceFault) → f ≡ OutOfMemory → Leads e new (body_refusal (caught_in e x) b) (body_slots b) (Err f)
 handler_memory e new x b f h = fails_leads e new (body_refusal (caught_in e x) b) (body_slots b) f (memory_fails (body_refusal (caught_in e x) b) f h)
 
-pub handler_err : (e mid inner new : Env) (x : Ident) (b : Body) (f : SourceFault) → mid ≡ caught_in e x → BodyAnswer mid inner b (Err f) → Leads e new (body_refusal (caught_in e x) b) (body_slots b) (Err f)
+pub handler_err : (e mid inner new : Env) (x : Ident) (b : Body) (f : SourceFault) → mid ≡ caught_in e x → BodyAnswer mid inner b (Err f)
+    → Leads e new (body_refusal (caught_in e x) b) (body_slots b) (Err f)
 handler_err e mid inner new x b f is h =
     fails_leads e new (body_refusal (caught_in e x) b) (body_slots b) f (subst (λ m. Fails (body_refusal m b) f) is (body_fails mid inner b f h))
 
-pub handler_ok : (e mid inner new : Env) (x : Ident) (b : Body) (u : Unit {0}) → mid ≡ caught_in e x → BodyAnswer mid inner b (Ok u) → new.setting.vars ≡ take (length e.setting.vars) inner.setting.vars
+pub handler_ok : (e mid inner new : Env) (x : Ident) (b : Body) (u : Unit {0}) → mid ≡ caught_in e x → BodyAnswer mid inner b (Ok u)
+    → new.setting.vars ≡ take (length e.setting.vars) inner.setting.vars
     → new.states ≡ inner.states → bare new ≡ bare inner → new.looped ≡ e.looped → new.caught ≡ e.caught → Leads e new (body_refusal (caught_in e x) b) (body_slots b) (Ok u)
 handler_ok e mid inner new x b u is h v s o l c =
     (sym (ap (λ m. body_refusal m b) is) ∙ h.0, handler_closed e mid inner new x.name b is h.1 v s o l c)

@@ -39,7 +39,8 @@ module _ (e new : Env) (at : Place) (t : ExprTree) (b : Body) (o : Option Body) 
       shape_fails e new (if_or at t b o) (or_else (item at (test_fault e.setting t)) if_part) (body_slots b ++ else_slots o) x (shape_if_or e at t b o)
       (fails_first (item at (test_fault e.setting t)) if_part x (says_fails (item at (test_fault e.setting t)) x h))
 
-  pub if_then : (mid : Env) (u : Unit {0}) (x : SourceFault) → Says (item at (test_fault e.setting t)) (Ok u) → Leads e mid (body_refusal e b) (body_slots b) (Err x) → StmtAnswer e new (if_or at t b o) (Err x)
+  pub if_then : (mid : Env) (u : Unit {0}) (x : SourceFault) → Says (item at (test_fault e.setting t)) (Ok u) → Leads e mid (body_refusal e b) (body_slots b) (Err x)
+      → StmtAnswer e new (if_or at t b o) (Err x)
   if_then mid u x h l =
       shape_fails e new (if_or at t b o) (or_else (item at (test_fault e.setting t)) if_part) (body_slots b ++ else_slots o) x (shape_if_or e at t b o)
       (fails_next (item at (test_fault e.setting t)) if_part x h (fails_first (body_refusal e b) (else_refusal (behind e b) o) x (leads_fails e mid (body_refusal e b) (body_slots b) x l)))
@@ -100,7 +101,8 @@ module _ (e new : Env) (at : Place) (i : Body) (t : Option ExprTree) (n b : Body
       for_fails (fails_next (body_refusal e i) (or_else for_test for_parts) x h.0
       (fails_first for_test for_parts x (says_fails for_test x (subst (λ (m : Env). Says (item at (maybe_test m.setting t)) (Err x)) h.1 s))))
 
-  pub for_step_err : (mid last : Env) (u v : Unit {0}) → PartAnswer e mid i (Ok u) → Says (item at (maybe_test mid.setting t)) (Ok v) → PartAnswer mid last n (Err x) → StmtAnswer e new (ForStmt at i t n b) (Err x)
+  pub for_step_err : (mid last : Env) (u v : Unit {0}) → PartAnswer e mid i (Ok u) → Says (item at (maybe_test mid.setting t)) (Ok v) → PartAnswer mid last n (Err x)
+      → StmtAnswer e new (ForStmt at i t n b) (Err x)
   for_step_err mid last u v h s p =
       for_fails (fails_next (body_refusal e i) (or_else for_test for_parts) x h.0
       (fails_next for_test for_parts x (subst (λ (m : Env). item at (maybe_test m.setting t) ≡ None) h.1 s)
@@ -150,7 +152,8 @@ module _ (e new : Env) (at : Place) (b : Body) (q : Place) (x : Ident) (h : Body
       (fails_next (body_refusal e b) (or_else catch_item catch_body) f l.0
       (fails_first catch_item catch_body f (says_fails catch_item f (subst (λ (m : Env). Says (item q (fresh m.setting m.states false x.name)) (Err f)) l.1 s))))
 
-  pub try_last : (mid : Env) (u v : Unit {0}) (r : Result (Unit {0}) SourceFault) → Leads e mid (body_refusal e b) (body_slots b) (Ok u) → Says (item q (fresh mid.setting mid.states false x.name)) (Ok v)
+  pub try_last : (mid : Env) (u v : Unit {0}) (r : Result (Unit {0}) SourceFault) → Leads e mid (body_refusal e b) (body_slots b) (Ok u)
+      → Says (item q (fresh mid.setting mid.states false x.name)) (Ok v)
       → Leads mid new (body_refusal (in_catch (with_var mid x.name ErrorType)) h) (body_slots h) r → StmtAnswer e new (TryStmt at b q x h) r
   try_last mid u v r l s k =
       shape_answer e new (TryStmt at b q x h) (try_refusal e b q x h) (body_slots b ++ body_slots h) r (shape_try e at b q x h)
@@ -171,9 +174,11 @@ choose_last e new at bs u r h l =
     shape_answer e new (ChooseStmt at bs) (or_else i (branch_refusal e bs)) (branch_slots bs) r (shape_choose e at bs) (after_item e new i (branch_refusal e bs) (branch_slots bs) u r h l)
 
 -- a declaration, and a wait
-pub declare_item : (e new : Env) (at : Place) (i : IntoTree) (v : Option ExprTree) (x : SourceFault) → Says (item at (declare_fault e.setting e.states i v)) (Err x) → StmtAnswer e new (DeclareStmt at i v) (Err x)
+pub declare_item : (e new : Env) (at : Place) (i : IntoTree) (v : Option ExprTree) (x : SourceFault) → Says (item at (declare_fault e.setting e.states i v)) (Err x)
+    → StmtAnswer e new (DeclareStmt at i v) (Err x)
 declare_item e new at i v x h =
-    stmt_fails e new (DeclareStmt at i v) (item at (declare_fault e.setting e.states i v)) None x (λ k. (body_refusal (declared e i) k, refl)) (says_fails (item at (declare_fault e.setting e.states i v)) x h)
+    stmt_fails e new (DeclareStmt at i v) (item at (declare_fault e.setting e.states i v)) None x (λ k. (body_refusal (declared e i) k, refl))
+    (says_fails (item at (declare_fault e.setting e.states i v)) x h)
 
 pub declare_ok : (e new : Env) (at : Place) (i : IntoTree) (v : Option ExprTree) (u w : Unit {0}) → Says (item at (declare_fault e.setting e.states i v)) (Ok u) → new ≡ declared e i
     → StmtAnswer e new (DeclareStmt at i v) (Ok w)

@@ -68,7 +68,8 @@ memory_fails p (AcrossWait at declared wait) h = cc
 memory_fails p OutOfMemory h = _
 
 -- a statement fails where what is judged in it does
-pub stmt_fails : (e new : Env) (f : Body → Body) (before rest : Option Refusal) (x : SourceFault) → ((k : Body) → (r : Option Refusal) × (body_refusal e (f k) ≡ or_else before r)) → Fails before x → StmtAnswer e new f (Err x)
+pub stmt_fails : (e new : Env) (f : Body → Body) (before rest : Option Refusal) (x : SourceFault) → ((k : Body) → (r : Option Refusal) × (body_refusal e (f k) ≡ or_else before r)) → Fails before x
+    → StmtAnswer e new f (Err x)
 stmt_fails e new f before rest (Refused rule at) s h = λ k. (s k).1 ∙ ap (λ b. or_else b (s k).0) h
 stmt_fails e new f before rest (AcrossWait at declared wait) s h = h
 stmt_fails e new f before rest OutOfMemory s h = h
@@ -155,7 +156,8 @@ state_name i = elim i.state as (λ b. slot_names (if b then record { ty = i.ty; 
 
 declared_states : (e : Env) (i : IntoTree) (ss : List SlotTree) → (declared e i).states ++ slot_names ss ≡ e.states ++ slot_names (declared_slots i ++ ss)
 declared_states e i ss =
-    append_assoc e.states (if_state i.state i.name.name) (slot_names ss) ∙ ap (λ l. e.states ++ (l ++ slot_names ss)) (sym (state_name i)) ∙ ap (λ l. e.states ++ l) (sym (names_both (declared_slots i) ss))
+    append_assoc e.states (if_state i.state i.name.name) (slot_names ss) ∙ ap (λ l. e.states ++ (l ++ slot_names ss)) (sym (state_name i))
+    ∙ ap (λ l. e.states ++ l) (sym (names_both (declared_slots i) ss))
 
 waited_states : (e : Env) (i : Option IntoTree) (ss : List SlotTree) → (waited e i).states ++ slot_names ss ≡ e.states ++ slot_names (into_slots i ++ ss)
 waited_states e None ss = refl

@@ -235,5 +235,6 @@ pub known_step : (ds : List Decl) (i : ℕ) (d : Decl) (old new : List (List ℕ
 known_step ds i d old new all lt at n h =
     n (map decl_of (drop (i + 1) ds)) ∙ ap (λ l. named (old ++ map row_of (map decl_of l))) (sym (drop_more ds i d lt at)) ∙ h
 
-pub known_end : (ds : List Decl) (i : ℕ) (rows : List (List ℕ × Meaning)) (all : List ℕ → Option Meaning) → length ds ≤ i → named (rows ++ map row_of (map decl_of (drop i ds))) ≡ all → named rows ≡ all
+pub known_end : (ds : List Decl) (i : ℕ) (rows : List (List ℕ × Meaning)) (all : List ℕ → Option Meaning) → length ds ≤ i → named (rows ++ map row_of (map decl_of (drop i ds))) ≡ all
+    → named rows ≡ all
 known_end ds i rows all le h = sym (ap named (append-nil rows)) ∙ ap (λ l. named (rows ++ map row_of (map decl_of l))) (sym (drop_all ds i le)) ∙ h

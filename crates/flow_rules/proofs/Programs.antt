@@ -66,7 +66,8 @@ there_if false a o = refl
 text_same : (x y : List ℕ) → bytes_eq x y ≡ true → x ≡ y
 text_same x y is = (bytes_eq-Decides x y).0 is
 
-texts_last : (ks : List (Bor (List ℕ))) (k : Bor (List ℕ)) (x : List ℕ) → list_any (λ (j : Bor (List ℕ)). bytes_eq x j.now) (ks ++ k ∷ []) ≡ (bytes_eq x k.now || list_any (λ (j : Bor (List ℕ)). bytes_eq x j.now) ks)
+texts_last : (ks : List (Bor (List ℕ))) (k : Bor (List ℕ)) (x : List ℕ)
+    → list_any (λ (j : Bor (List ℕ)). bytes_eq x j.now) (ks ++ k ∷ []) ≡ (bytes_eq x k.now || list_any (λ (j : Bor (List ℕ)). bytes_eq x j.now) ks)
 texts_last [] k x = refl
 texts_last (j ∷ ks) k x =
     ap (λ b. bytes_eq x j.now || b) (texts_last ks k x) ∙ turn (bytes_eq x j.now) (bytes_eq x k.now) (list_any (λ (l : Bor (List ℕ)). bytes_eq x l.now) ks)
@@ -89,7 +90,8 @@ pub text_taken : (ks : List (Bor (List ℕ))) (k : Bor (List ℕ))
     → among (map (λ (j : Bor (List ℕ)). j.now) (insert_key (λ (i j : Bor (List ℕ)). bytes_eq i.now j.now) ks k)) ≡ with_name k.now (among (map (λ (j : Bor (List ℕ)). j.now) ks))
 text_taken ks k = λ i x. at x i
   where
-    at : (x : List ℕ) → among (map (λ (j : Bor (List ℕ)). j.now) (insert_key (λ (i j : Bor (List ℕ)). bytes_eq i.now j.now) ks k)) x ≡ (bytes_eq x k.now || among (map (λ (j : Bor (List ℕ)). j.now) ks) x)
+    at : (x : List ℕ) → among (map (λ (j : Bor (List ℕ)). j.now) (insert_key (λ (i j : Bor (List ℕ)). bytes_eq i.now j.now) ks k)) x
+        ≡ (bytes_eq x k.now || among (map (λ (j : Bor (List ℕ)). j.now) ks) x)
     at x =
         among_any x (insert_key (λ (i j : Bor (List ℕ)). bytes_eq i.now j.now) ks k) ∙ text_put ks k x (list_any (λ (j : Bor (List ℕ)). bytes_eq k.now j.now) ks) refl
         ∙ ap (λ b. bytes_eq x k.now || b) (sym (among_any x ks))
@@ -133,7 +135,8 @@ fields_step k fs i f old own new total taken more lt at o n m h =
     ap₂ (λ a t. lesser a (fields_fault k t rest)) (n ∙ ap (lesser old) o) m ∙ lesser_assoc old _ (fields_fault k (with_name f.name.name taken) rest)
     ∙ ap (λ l. lesser old (fields_fault k taken (params_of l))) (sym (drop_more fs i f lt at)) ∙ h
 
-pub fields_end : (k : List ℕ → Option Meaning) (fs : List Param) (i : ℕ) (old total : Option ℕ) (taken : List ℕ → Bool) → length fs ≤ i → lesser old (fields_fault k taken (params_of (drop i fs))) ≡ total → old ≡ total
+pub fields_end : (k : List ℕ → Option Meaning) (fs : List Param) (i : ℕ) (old total : Option ℕ) (taken : List ℕ → Bool) → length fs ≤ i
+    → lesser old (fields_fault k taken (params_of (drop i fs))) ≡ total → old ≡ total
 fields_end k fs i old total taken le h = sym (lesser_none old) ∙ ap (λ l. lesser old (fields_fault k taken (params_of l))) (sym (drop_all fs i le)) ∙ h
 
 -- one more parameter
@@ -145,7 +148,8 @@ params_step s ps i p old own new total taken more lt at o n m h =
     ap₂ (λ a t. lesser a (params_fault s t rest)) (n ∙ ap (lesser old) o) m ∙ lesser_assoc old _ (params_fault s (with_name p.name.name taken) rest)
     ∙ ap (λ l. lesser old (params_fault s taken (params_of l))) (sym (drop_more ps i p lt at)) ∙ h
 
-pub params_end : (s : Setting) (ps : List Param) (i : ℕ) (old total : Option ℕ) (taken : List ℕ → Bool) → length ps ≤ i → lesser old (params_fault s taken (params_of (drop i ps))) ≡ total → old ≡ total
+pub params_end : (s : Setting) (ps : List Param) (i : ℕ) (old total : Option ℕ) (taken : List ℕ → Bool) → length ps ≤ i → lesser old (params_fault s taken (params_of (drop i ps))) ≡ total
+    → old ≡ total
 params_end s ps i old total taken le h = sym (lesser_none old) ∙ ap (λ l. lesser old (params_fault s taken (params_of l))) (sym (drop_all ps i le)) ∙ h
 
 pub rows_step : {A : Type 0} (f : ParamTree → A) (ps : List Param) (i : ℕ) (p : Param) (old new total : List A) → i < length ps → p ≡ get_or ps i p → new ≡ old ++ f (param_of p) ∷ []
@@ -303,7 +307,8 @@ abbrev the_setting : (List ℕ → Option Meaning) → (List ℕ → Bool) → B
 the_setting f g plain = record { known = f; holds = holds_by g; vars = []; plain = plain }
 
 -- what is in force in all routines of a program, and its declarations by their code
-pub setting_all : (n : TopNames) (ds : List Decl) → known_by n ≡ known (map decl_of ds) → flag_of n ≡ record_holds (known (map decl_of ds)) (suc (length ds)) → setting_by n ≡ setting_of (map decl_of ds)
+pub setting_all : (n : TopNames) (ds : List Decl) → known_by n ≡ known (map decl_of ds) → flag_of n ≡ record_holds (known (map decl_of ds)) (suc (length ds))
+    → setting_by n ≡ setting_of (map decl_of ds)
 setting_all n ds k h =
     ap₂ the_setting k (h ∙ ap (λ m. record_holds (known (map decl_of ds)) (suc m)) (sym (length-map ds decl_of)))
 

@@ -69,7 +69,8 @@ large_step ns new ds i d r all lt at is small n h =
     ap (λ m. first_large m rest) n ∙ ap (λ b. or_else (large_record b r) (first_large (with_size ns r) rest)) (sym small)
     ∙ ap (λ t. first_large ns (t ∷ rest)) (sym is) ∙ ap (λ l. first_large ns (map decl_of l)) (sym (drop_more ds i d lt at)) ∙ h
 
-pub large_fails : (ns new : List (List ℕ × Size)) (ds : List Decl) (i : ℕ) (d : Decl) (r : RecordTree) (all : Option Refusal) (x : SourceFault) → i < length ds → d ≡ get_or ds i d → decl_of d ≡ StructDecl r
+pub large_fails : (ns new : List (List ℕ × Size)) (ds : List Decl) (i : ℕ) (d : Decl) (r : RecordTree) (all : Option Refusal) (x : SourceFault) → i < length ds → d ≡ get_or ds i d
+    → decl_of d ≡ StructDecl r
     → first_large ns (map decl_of (drop i ds)) ≡ all → SizeAnswer ns r new (Err x) → Says all (Err x)
 large_fails ns new ds i d r all (Refused rule place) lt at is h a =
     let rest = map decl_of (drop (i + 1) ds) in

@@ -78,7 +78,8 @@ module _ (s : Stmt) where
   stmt_if t b (Some c) e =
       stmt_as s (λ at rest. IfElseStmt at (expr_of t) (body_of b.items) (body_of c.items) rest) (ap kind_of e ∙ kind_if_else t b c)
 
-  pub stmt_for : (i : Option (Box Stmt Global)) (t : Option Expr) (n : Option (Box Stmt Global)) (b : Vec Stmt Global) → own ≡ kind.For i t n b → stmt_of s ≡ ForStmt place (simple_of i) (option_map expr_of t) (simple_of n) (body_of b.items)
+  pub stmt_for : (i : Option (Box Stmt Global)) (t : Option Expr) (n : Option (Box Stmt Global)) (b : Vec Stmt Global) → own ≡ kind.For i t n b
+      → stmt_of s ≡ ForStmt place (simple_of i) (option_map expr_of t) (simple_of n) (body_of b.items)
   stmt_for None t None b e =
       stmt_as s (λ at rest. ForStmt at (simple_of None) (option_map expr_of t) (simple_of None) (body_of b.items) rest) (ap kind_of e ∙ kind_for None t None b)
   stmt_for None t (Some n) b e =

@@ -80,7 +80,8 @@ among (y ∷ ys) x = bytes_eq x y || among ys x
 -- a new variable: its name is that of no variable in force, not predefined, and none at the top; and a
 -- state variable's is that of no parameter and no earlier state variable
 abbrev pub fresh : Setting → List (List ℕ) → Bool → List ℕ → Option ℕ
-fresh s states state x = unless (not (is_there (named s.vars x) || is_predefined x || is_there (s.known x) || (state && among states x))) TWICE
+fresh s states state x = unless (not (is_there (named s.vars x) || is_predefined x || is_there (s.known x) || (state && among states x)))
+    TWICE
 
 abbrev pub state_here : Setting → Bool → Option ℕ
 state_here s true = not_here s
@@ -204,8 +205,10 @@ abbrev mutual
   body_refusal e (BlockStmt at b k) = or_else (body_refusal e b) (body_refusal (behind e b) k)
   body_refusal e (IfStmt at t b k) = or_else (item at (test_fault e.setting t)) (or_else (body_refusal e b) (body_refusal (behind e b) k))
   body_refusal e (IfElseStmt at t b c k) =
-      or_else (item at (test_fault e.setting t)) (or_else (body_refusal e b) (or_else (body_refusal (behind e b) c) (body_refusal (behind (behind e b) c) k)))
-  body_refusal e (WhileStmt at t b k) = or_else (item at (test_fault e.setting t)) (or_else (body_refusal (in_loop e) b) (body_refusal (behind e b) k))
+      or_else (item at (test_fault e.setting t))
+      (or_else (body_refusal e b) (or_else (body_refusal (behind e b) c) (body_refusal (behind (behind e b) c) k)))
+  body_refusal e (WhileStmt at t b k) = or_else (item at (test_fault e.setting t))
+      (or_else (body_refusal (in_loop e) b) (body_refusal (behind e b) k))
   body_refusal e (ForStmt at i t n b k) =
       or_else (body_refusal e i)
       (or_else (item at (maybe_test (started e i).setting t))
@@ -221,7 +224,8 @@ abbrev mutual
       (or_else (item q (fresh e.setting (behind e b).states false x.name))
       (or_else (body_refusal (in_catch (with_var (behind e b) x.name ErrorType)) h) (body_refusal (behind (behind e b) h) k)))
   body_refusal e (ChooseStmt at bs k) =
-      or_else (item at (unless (not e.setting.plain) WAIT_OUTSIDE)) (or_else (branch_refusal e bs) (body_refusal (with_states e (slot_names (branch_slots bs))) k))
+      or_else (item at (unless (not e.setting.plain) WAIT_OUTSIDE))
+      (or_else (branch_refusal e bs) (body_refusal (with_states e (slot_names (branch_slots bs))) k))
   body_refusal e (DeclareStmt at i v k) = or_else (item at (declare_fault e.setting e.states i v)) (body_refusal (declared e i) k)
   body_refusal e (AssignStmt at xs v k) = or_else (item at (assign_fault e.setting xs v)) (body_refusal e k)
   body_refusal e (ModifyStmt at xs c k) = or_else (item at (modify_fault e.setting xs c)) (body_refusal e k)

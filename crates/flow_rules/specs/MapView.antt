@@ -44,4 +44,5 @@ flag_of n = numbered n.meanings (marked n.holds.items)
 
 -- the records among the meanings, as far as they hold one another or a reference
 abbrev pub HoldAs : {S : Type 0} → IndexMap (Bor (List ℕ)) meant.Meaning S → List Uses → Type 0
-HoldAs m us = (g : ℕ → Bool) → map (uses_hold g) us ≡ map (λ (e : Bor (List ℕ) × meant.Meaning). meaning_holds (numbered m g) (Some (meaning_of e.1))) m.entries
+HoldAs m us = (g : ℕ → Bool) → map (uses_hold g) us
+    ≡ map (λ (e : Bor (List ℕ) × meant.Meaning). meaning_holds (numbered m g) (Some (meaning_of e.1))) m.entries

@@ -144,4 +144,5 @@ first_large ns (ActorDecl f ∷ ds) = first_large ns ds
 abbrev pub refusal_of : ProgramTree → Option Refusal
 refusal_of p =
     or_else (decls_refusal (setting_of p.decls) [] p.decls)
-    (or_else (item p.end (unless (is_main (known p.decls (codes "main"))) NO_MAIN)) (first_large ((codes "Packet", packet_size) ∷ []) p.decls))
+    (or_else (item p.end (unless (is_main (known p.decls (codes "main"))) NO_MAIN))
+    (first_large ((codes "Packet", packet_size) ∷ []) p.decls))

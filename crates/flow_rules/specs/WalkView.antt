@@ -19,7 +19,13 @@ abbrev pub texts_of : {S : Type 0} → IndexSet (Bor (List ℕ)) S → List (Lis
 texts_of s = map (λ (k : Bor (List ℕ)). k.now) s.keys
 
 abbrev pub env_of : code.Walk → Around → Env
-env_of w a = record { setting = setting_view w.setting; returns = found_of w.returns; states = texts_of w.states; looped = a.looped; caught = a.caught }
+env_of w a = record {
+  setting = setting_view w.setting;
+  returns = found_of w.returns;
+  states = texts_of w.states;
+  looped = a.looped;
+  caught = a.caught;
+}
 
 -- nothing fails, or this is the first refusal; want of memory may come anywhere
 abbrev pub Says : Option Refusal → Result (Unit {0}) SourceFault → Type 0

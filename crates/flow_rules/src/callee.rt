@@ -9,7 +9,7 @@ ghost use Rattle.flow_ast.specs.Typing.{signature, param_types};
 ghost use Rattle.flow_rules.specs.Judged.{Value, Effect, Statement, predefined_callee, declared_callee, called_by, called_on, sends, as_many, Exactly};
 ghost use Rattle.flow_rules.specs.View.{found_of, inner_of, meaning_of, need_of, basic_need, needs_view, callee_of};
 
-use crate::type_view::{TypeView, ElementView};
+use crate::type_view::{ElementView, TypeView};
 use flow_ast::predefined::{Method, Predefined, predefined_method};
 use flow_base::name::Name;
 use flow_tree::decl::Param;
@@ -313,7 +313,11 @@ fn method_callee<'a>(base: TypeView<'a>, method: Method) -> Option<Callee<'a>>
         TypeView::Future(of) => future_callee(of, method),
         TypeView::Promise(of) => promise_callee(of, method),
         TypeView::PromiseStream(of) => stream_callee(of, method),
-        TypeView::Int | TypeView::Bool | TypeView::Void | TypeView::Named(_) | TypeView::FutureStream(_) => None,
+        TypeView::Int
+        | TypeView::Bool
+        | TypeView::Void
+        | TypeView::Named(_)
+        | TypeView::FutureStream(_) => None,
     }
 }
 

@@ -17,11 +17,11 @@ ghost use Rattle.flow_rules.specs.SettingView.{setting_view};
 use crate::callee::{
     Callee, Kind, Meaning, Need, Needs, called_on, declared_callee, predefined_callee,
 };
-use crate::type_view::{TypeView, same_found, takes_both, takes_equality, takes_sign};
-use crate::top_names::TopNames;
 use crate::rule::{
     DISCARD, EFFECT_INSIDE, NOT_HERE, UNKNOWN_NAME, WRONG_COUNT, WRONG_TYPE, lesser, unless,
 };
+use crate::top_names::TopNames;
+use crate::type_view::{TypeView, same_found, takes_both, takes_equality, takes_sign};
 use flow_ast::predefined::{predefined_call, predefined_constant};
 use flow_ast::typing::find_named;
 use flow_base::name::Name;
@@ -141,7 +141,11 @@ fn sum_form<'a>(left: Option<TypeView<'a>>, right: Option<TypeView<'a>>) -> Opti
     }
 }
 
-fn sign_form<'a>(op: Op, left: Option<TypeView<'a>>, right: Option<TypeView<'a>>) -> Option<TypeView<'a>>
+fn sign_form<'a>(
+    op: Op,
+    left: Option<TypeView<'a>>,
+    right: Option<TypeView<'a>>,
+) -> Option<TypeView<'a>>
     ensures { option_map found_of result
         ≡ sign_form op (option_map found_of left.entry) (option_map found_of right.entry) }
 {

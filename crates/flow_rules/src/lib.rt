@@ -6,11 +6,11 @@
 
 pub mod callee;
 pub mod closing;
-pub mod type_view;
 pub mod holding;
 pub mod judge;
-pub mod top_names;
 pub mod program;
 pub mod rule;
 pub mod size;
+pub mod top_names;
+pub mod type_view;
 pub mod walk;

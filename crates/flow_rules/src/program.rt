@@ -19,14 +19,14 @@ ghost use Rattle.flow_rules.specs.ProgramView.{routine_of, setting_by, taken_in,
 
 use crate::callee::Meaning;
 use crate::closing::ways_of;
-use crate::type_view::TypeView;
 use crate::judge::{Setting, Vars};
+use crate::rule::{FALLS_OFF, NO_MAIN, TWICE, UNKNOWN_NAME, lesser, unless};
+use crate::size::sizes;
 use crate::top_names::{
     Meanings, TopNames, is_known, is_predefined, meaning_of, name_of, packet_fields, predefined,
     type_known,
 };
-use crate::rule::{FALLS_OFF, NO_MAIN, TWICE, UNKNOWN_NAME, lesser, unless};
-use crate::size::sizes;
+use crate::type_view::TypeView;
 use crate::walk::{Around, Walk, has_text, item};
 use flow_base::memory::NoMemory;
 use flow_base::name::Name;

@@ -250,7 +250,11 @@ fn first_meanings<'a>(
 
 impl<'a> TopNames<'a> {
     /// The names of these declarations, of several with one name the first, and the predefined record.
-    pub fn new(alloc: Global, packet: &'a [Param], decls: &'a [Decl]) -> Result<TopNames<'a>, NoMemory>
+    pub fn new(
+        alloc: Global,
+        packet: &'a [Param],
+        decls: &'a [Decl],
+    ) -> Result<TopNames<'a>, NoMemory>
         requires { map field_row (params_of packet.now) ≡ packet_fields }
         ensures known { IfOk result (λ n. known_by n ≡ known (map decl_of decls.now)) }
         ensures holds { IfOk result (λ n. flag_of n

@@ -169,7 +169,10 @@ pub fn takes_sign(op: Op, found: TypeView<'_>) -> bool
     match op {
         Op::Or | Op::And => matches!(found, TypeView::Bool),
         Op::Eq | Op::Ne => takes_equality(found),
-        Op::Lt | Op::Le | Op::Gt | Op::Ge | Op::Add => matches!(found, TypeView::Int | TypeView::Str),
+        Op::Lt | Op::Le | Op::Gt | Op::Ge | Op::Add => matches!(
+            found,
+            TypeView::Int | TypeView::Str
+        ),
         Op::Sub | Op::Mul | Op::Div | Op::Rem => matches!(found, TypeView::Int),
     }
 }

@@ -16,10 +16,10 @@ ghost use Rattle.flow_rules.specs.MapView.{vars_of};
 ghost use Rattle.flow_rules.specs.SettingView.{setting_view};
 ghost use Rattle.flow_rules.specs.WalkView.{texts_of, env_of, Says, StmtAnswer, BranchAnswer, BodyAnswer, PartAnswer, Leads, else_refusal, else_slots};
 
-use crate::type_view::{TypeView, ElementView};
 use crate::judge::{Setting, operands, wants};
-use crate::top_names::is_predefined;
 use crate::rule::{BREAK_OUTSIDE, NEEDS_VALUE, TWICE, WAIT_OUTSIDE, lesser, unless};
+use crate::top_names::is_predefined;
+use crate::type_view::{ElementView, TypeView};
 use flow_base::place::Place;
 use flow_tree::expr::{Expr, Op};
 use flow_tree::fault::{Rule, SourceFault};

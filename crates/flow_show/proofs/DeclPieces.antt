@@ -112,13 +112,15 @@ pub record_piece : {m : List Marked} {t : RecordTree} → RecordRule m t → All
 record_piece (fields {f = f} {fs = fs} at p q r x xs rule e) v =
     let a = valid_tail (subst AllValid e v) in
     as_rule
-    (lined 0 (both (word_piece [] word.Struct at) (spaced (both (name_piece [] x.name x.at (valid_head a)) (spaced (both (curly_open p) (behind (blank 10 refl) (both (fields_piece rule (valid_left xs _ (valid_tail (valid_tail a))))
+    (lined 0 (both (word_piece [] word.Struct at) (spaced (both (name_piece [] x.name x.at (valid_head a))
+    (spaced (both (curly_open p) (behind (blank 10 refl) (both (fields_piece rule (valid_left xs _ (valid_tail (valid_tail a))))
     (both (curly_close q) (sign_end r) (λ rest g. tt)) (λ rest g. tt))) (λ rest g. tt))) (λ rest g. refl))) (λ rest g. refl)) (λ rest. tt))
     (λ y. kept y.0 y.1.0 y.1.1.0 y.1.1.1.1.0 y.1.1.1.1.1 y.1.1.1.0.marked y.1.1.1.0.trees y.1.1.1.0.rule y.1.1.1.0.like)
     (λ y. kept_marks y.0 y.1.0 y.1.1.0 y.1.1.1.1.0 y.1.1.1.1.1 y.1.1.1.0.marked y.1.1.1.0.trees y.1.1.1.0.rule y.1.1.1.0.like)
     e (record_text x.name (fields_text (f ∷ fs)))
   where
-    kept : (at' x' p' q' r' : Place) (xs' : List Marked) (ts : List ParamTree) → FieldsRule 1 xs' ts → map placeless_param ts ≡ map placeless_param (f ∷ fs) → RecordKept (record { at = at; name = x; fields = f ∷ fs })
+    kept : (at' x' p' q' r' : Place) (xs' : List Marked) (ts : List ParamTree) → FieldsRule 1 xs' ts → map placeless_param ts ≡ map placeless_param (f ∷ fs)
+        → RecordKept (record { at = at; name = x; fields = f ∷ fs })
     kept at' x' p' q' r' xs' [] rule' like = absurd (nil_cons _ _ like)
     kept at' x' p' q' r' xs' (t ∷ ts) rule' like = record {
       marked = _;
@@ -128,7 +130,8 @@ record_piece (fields {f = f} {fs = fs} at p q r x xs rule e) v =
     }
 
     kept_marks : (at' x' p' q' r' : Place) (xs' : List Marked) (ts : List ParamTree) (rule' : FieldsRule 1 xs' ts) (like : map placeless_param ts ≡ map placeless_param (f ∷ fs))
-        → (kept at' x' p' q' r' xs' ts rule' like).marked ≡ word_at word.Struct at' ∷ (name_at (record { name = x.name; at = x' }) ∷ (sign_at sign.OpenCurly p' ∷ (xs' ++ (sign_at sign.CloseCurly q' ∷ (sign_at sign.Semicolon r' ∷ [])))))
+        → (kept at' x' p' q' r' xs' ts rule' like).marked ≡ word_at word.Struct at'
+        ∷ (name_at (record { name = x.name; at = x' }) ∷ (sign_at sign.OpenCurly p' ∷ (xs' ++ (sign_at sign.CloseCurly q' ∷ (sign_at sign.Semicolon r' ∷ [])))))
     kept_marks at' x' p' q' r' xs' [] rule' like = absurd (nil_cons _ _ like)
     kept_marks at' x' p' q' r' xs' (t ∷ ts) rule' like = refl
 
@@ -210,7 +213,8 @@ decl_piece (actor_decl {t = t} {f = f} at p q r of xs tr rr e) v =
     as_rule
     (lined 0 (both (word_piece [] word.Actor at) (spaced (both (word_piece [] word.Future p) (both (sign_piece [] sign.Less q) (both (type_piece tr inner)
     (both (sign_piece [] sign.Greater r) (spaced (routine_piece rr (valid_tail (valid_right of _ a)))) (λ rest g. space_ends sign.Greater _)) (λ rest g. closed _))
-    (λ rest g. subst (λ l. Ends sign.Less l) (sym (append_assoc (type_text t) (62 ∷ (32 ∷ tail_text f)) rest)) (less_by _ (type_opens ((62 ∷ (32 ∷ tail_text f)) ++ rest) tr inner)))) (λ rest g. refl))) (λ rest g. refl)) (λ rest. tt))
+    (λ rest g. subst (λ l. Ends sign.Less l) (sym (append_assoc (type_text t) (62 ∷ (32 ∷ tail_text f)) rest)) (less_by _ (type_opens ((62 ∷ (32 ∷ tail_text f)) ++ rest) tr inner))))
+    (λ rest g. refl))) (λ rest g. refl)) (λ rest. tt))
     (λ y. record {
       marked = _;
       tree = _;
@@ -234,7 +238,8 @@ decls_piece {n} (more_decls {x = x} {xs = xs} first more r s e) v =
     let a = subst AllValid e v in
     let own = begin (Declaration n) (begin (Node 1) first) in
     as_rule
-    (both (begun (Declaration n) (λ y. begin_some (Node 1) _ y.some) (begin_some (Node 1) _ (decl_some r)) (begun (Node 1) (λ y. y.some) (decl_some r) (decl_piece r (valid_begun (Node 1) first (valid_begun (Declaration n) (begin (Node 1) first) (valid_left own _ a))))))
+    (both (begun (Declaration n) (λ y. begin_some (Node 1) _ y.some) (begin_some (Node 1) _ (decl_some r))
+    (begun (Node 1) (λ y. y.some) (decl_some r) (decl_piece r (valid_begun (Node 1) first (valid_begun (Declaration n) (begin (Node 1) first) (valid_left own _ a))))))
     (decls_piece s (valid_right own _ a)) (λ rest g. tt))
     (λ y. record { marked = _; trees = _; rule = more_decls y.0.marked y.1.marked y.0.rule y.1.rule refl; like = ap₂ (λ u us. u ∷ us) y.0.like y.1.like })
     (λ y. refl) e refl

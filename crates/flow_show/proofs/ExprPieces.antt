@@ -92,7 +92,8 @@ type_piece {d} (bool_type p) v = under (as_rule (word_piece (Node d ∷ []) word
 type_piece {d} (string_type p) v = under (as_rule (word_piece (Node d ∷ []) word.Str p) (λ x. record { marked = _; rule = string_type x }) (λ x. refl) refl refl) after_apart
 type_piece {d} (void_type p) v = under (as_rule (word_piece (Node d ∷ []) word.Void p) (λ x. record { marked = _; rule = void_type x }) (λ x. refl) refl refl) after_apart
 type_piece {d} (error_type p) v = under (as_rule (word_piece (Node d ∷ []) word.Error p) (λ x. record { marked = _; rule = error_type x }) (λ x. refl) refl refl) after_apart
-type_piece {d} (named_type x) v = under (as_rule (name_piece (Node d ∷ []) x.name x.at (valid_head v)) (λ p. record { marked = _; rule = named_type (record { name = x.name; at = p }) }) (λ x. refl) refl refl) after_apart
+type_piece {d} (named_type x) v = under (as_rule (name_piece (Node d ∷ []) x.name x.at (valid_head v)) (λ p. record { marked = _; rule = named_type (record { name = x.name; at = p }) })
+    (λ x. refl) refl refl) after_apart
 type_piece {d} (wrapped_type {t = t} w p q r of rule e) v =
     let a = subst AllValid e v in
     let inner = valid_left of _ (valid_tail (valid_tail a)) in
@@ -247,7 +248,8 @@ expr_opens {k} {d} (field {t = t} p x of r e) v =
     (more_opens k (FieldExpr t x) t (expr_text t) (46 ∷ x.name) (expr_opens r (valid_begun (Node d) of (valid_left (begin (Node d) of) _ (subst AllValid e v)))))
 expr_opens {k} {d} (method {t = t} {ts = ts} p q r f of args a b e) v =
     subst (Opening k (MethodExpr t f ts)) (sym (method_text (expr_text t) f.name (args_text ts)))
-    (more_opens k (MethodExpr t f ts) t (expr_text t) (46 ∷ (f.name ++ (40 ∷ (args_text ts ++ 41 ∷ [])))) (expr_opens a (valid_begun (Node d) of (valid_left (begin (Node d) of) _ (subst AllValid e v)))))
+    (more_opens k (MethodExpr t f ts) t (expr_text t) (46 ∷ (f.name ++ (40 ∷ (args_text ts ++ 41 ∷ []))))
+    (expr_opens a (valid_begun (Node d) of (valid_left (begin (Node d) of) _ (subst AllValid e v)))))
 expr_opens {k} (negation p of le r e) v = byte_opens k (NotExpr _) 33 _ refl (λ e. omega (arith, e))
 expr_opens {k} (minus {t = t} p of le r e) v = record {
   first = 45;
@@ -316,7 +318,8 @@ mutual
   expr_piece {k} {d} (void p q r) v =
       as_rule (both (word_piece (Node d ∷ []) word.Void p) (both (sign_piece [] sign.OpenRound q) (shut r) (λ rest g. open_round_ends _)) (λ rest g. refl))
       (λ x. record { marked = _; tree = _; rule = void x.0 x.1.0 x.1.1; like = refl }) (λ x. refl) refl refl
-  expr_piece {k} {d} (variable x) v = as_rule (name_piece (Node d ∷ []) x.name x.at (valid_head v)) (λ p. record { marked = _; tree = _; rule = variable (record { name = x.name; at = p }); like = refl }) (λ x. refl) refl refl
+  expr_piece {k} {d} (variable x) v = as_rule (name_piece (Node d ∷ []) x.name x.at (valid_head v))
+      (λ p. record { marked = _; tree = _; rule = variable (record { name = x.name; at = p }); like = refl }) (λ x. refl) refl refl
   expr_piece {k} {d} (call {ts = ts} f p q args r e) v =
       let a = subst AllValid e v in
       as_rule
@@ -346,7 +349,8 @@ mutual
       (both (sign_piece [] sign.Dot p)
       (both (name_piece [] f.name f.at (valid_head (valid_tail tail)))
       (both (sign_piece [] sign.OpenRound q)
-      (both (args_piece c (valid_left args _ (valid_tail (valid_tail (valid_tail tail))))) (shut r) (λ rest g. closing rest)) (λ rest g. open_round_ends _)) (λ rest g. refl)) (λ rest g. dot_ends _)) (λ rest g. refl))
+      (both (args_piece c (valid_left args _ (valid_tail (valid_tail (valid_tail tail))))) (shut r) (λ rest g. closing rest)) (λ rest g. open_round_ends _)) (λ rest g. refl)) (λ rest g. dot_ends _))
+      (λ rest g. refl))
       (λ y. record {
         marked = _;
         tree = _;
@@ -388,6 +392,7 @@ mutual
   more_args_piece {d} (more_args {t = t} {ts = ts} p next more r s e) v =
       let a = valid_tail (subst AllValid e v) in
       as_rule
-      (both (sign_piece [] sign.Comma p) (spaced (both (expr_piece r (valid_left next more a)) (more_args_piece s (valid_right next more a)) (λ rest g. closing_apart ts rest g))) (λ rest g. comma_ends _))
+      (both (sign_piece [] sign.Comma p) (spaced (both (expr_piece r (valid_left next more a)) (more_args_piece s (valid_right next more a)) (λ rest g. closing_apart ts rest g)))
+      (λ rest g. comma_ends _))
       (λ x. record { marked = _; trees = _; rule = more_args x.0 x.1.0.marked x.1.1.marked x.1.0.rule x.1.1.rule refl; like = ap₂ MoreExprs x.1.0.like x.1.1.like })
       (λ x. refl) e refl

@@ -91,12 +91,14 @@ operand_piece : {d : ℕ} {m : List Marked} {next : Bool} {t : ExprTree} → Ope
     → Piece {X = OperandKept d next t} (λ y. y.marked) m (wait_word next ++ (expr_text t ++ codes ")")) Apart
 operand_piece (wait p q r of rule e) v =
     as_rule
-    (both (word_piece [] word.Wait p) (both (sign_piece [] sign.OpenRound q) (both (expr_piece rule (valid_left of _ (valid_tail (valid_tail (subst AllValid e v))))) (shut r) (λ rest g. refl)) (λ rest g. open_round_ends _)) (λ rest g. refl))
+    (both (word_piece [] word.Wait p) (both (sign_piece [] sign.OpenRound q) (both (expr_piece rule (valid_left of _ (valid_tail (valid_tail (subst AllValid e v))))) (shut r) (λ rest g. refl))
+    (λ rest g. open_round_ends _)) (λ rest g. refl))
     (λ y. record { marked = _; tree = _; rule = wait y.0 y.1.0 y.1.1.1 y.1.1.0.marked y.1.1.0.rule refl; like = y.1.1.0.like; some = omega arith })
     (λ y. refl) e refl
 operand_piece (wait_next p q r of rule e) v =
     as_rule
-    (both (word_piece [] word.WaitNext p) (both (sign_piece [] sign.OpenRound q) (both (expr_piece rule (valid_left of _ (valid_tail (valid_tail (subst AllValid e v))))) (shut r) (λ rest g. refl)) (λ rest g. open_round_ends _)) (λ rest g. refl))
+    (both (word_piece [] word.WaitNext p) (both (sign_piece [] sign.OpenRound q) (both (expr_piece rule (valid_left of _ (valid_tail (valid_tail (subst AllValid e v))))) (shut r) (λ rest g. refl))
+    (λ rest g. open_round_ends _)) (λ rest g. refl))
     (λ y. record { marked = _; tree = _; rule = wait_next y.0 y.1.0 y.1.1.1 y.1.1.0.marked y.1.1.0.rule refl; like = y.1.1.0.like; some = omega arith })
     (λ y. refl) e refl
 
@@ -119,7 +121,8 @@ waiting_piece {actor} {d} {c} (plain_wait {next = next} {e = t} r) v =
 waiting_piece (into_wait {i = i} {next = next} {e = t} p left right r s e) v =
     let a = subst AllValid e v in
     as_rule
-    (both (into_piece r (valid_left left _ a)) (spaced (both (sign_piece [] sign.Assign p) (spaced (operand_piece s (valid_tail (valid_right left _ a)))) (λ rest g. space_ends sign.Assign _))) (λ rest g. refl))
+    (both (into_piece r (valid_left left _ a)) (spaced (both (sign_piece [] sign.Assign p) (spaced (operand_piece s (valid_tail (valid_right left _ a)))) (λ rest g. space_ends sign.Assign _)))
+    (λ rest g. refl))
     (λ y. record {
       marked = _;
       tree = _;
@@ -144,11 +147,18 @@ path_more x (more_names {xs = ys} y p more r e) = append_assoc x.name (codes "."
 
 pub path_piece : {m : List Marked} {xs : List Ident} → PathRule m xs → AllValid m → Piece {X = PathKept xs} (λ y. y.marked) m (path_text xs) Apart
 path_piece (last_name x) v =
-    as_rule (name_piece [] x.name x.at (valid_head v)) (λ p. record { marked = _; tree = _; rule = last_name (record { name = x.name; at = p }); like = refl; some = omega arith }) (λ y. refl) refl refl
+    as_rule (name_piece [] x.name x.at (valid_head v)) (λ p. record { marked = _; tree = _; rule = last_name (record { name = x.name; at = p }); like = refl; some = omega arith })
+    (λ y. refl) refl refl
 path_piece (more_names x p more r e) v =
     let a = subst AllValid e v in
     as_rule (both (name_piece [] x.name x.at (valid_head a)) (both (sign_piece [] sign.Dot p) (path_piece r (valid_tail (valid_tail a))) (λ rest g. dot_ends _)) (λ rest g. refl))
-    (λ y. record { marked = _; tree = _; rule = more_names (record { name = x.name; at = y.0 }) y.1.0 y.1.1.marked y.1.1.rule refl; like = ap (λ l. placeless_ident x ∷ l) y.1.1.like; some = omega arith })
+    (λ y. record {
+      marked = _;
+      tree = _;
+      rule = more_names (record { name = x.name; at = y.0 }) y.1.0 y.1.1.marked y.1.1.rule refl;
+      like = ap (λ l. placeless_ident x ∷ l) y.1.1.like;
+      some = omega arith;
+    })
     (λ y. refl) e (path_more x r)
 
 -- what is put before a body: the new tokens put something equal, places aside, before any body
@@ -169,7 +179,8 @@ pub assign_piece : {d : ℕ} {m : List Marked} {at : Place} {rest body : Body} �
 assign_piece (assign {xs = xs} {e = t} at p path value r s e st) v =
     let a = subst AllValid e v in
     as_rule
-    (both (path_piece r (valid_left path _ a)) (spaced (both (sign_piece [] sign.Assign p) (spaced (expr_piece s (valid_tail (valid_right path _ a)))) (λ rest g. space_ends sign.Assign _))) (λ rest g. refl))
+    (both (path_piece r (valid_left path _ a)) (spaced (both (sign_piece [] sign.Assign p) (spaced (expr_piece s (valid_tail (valid_right path _ a)))) (λ rest g. space_ends sign.Assign _)))
+    (λ rest g. refl))
     (λ y. record {
       marked = _;
       at = first_at y.0.marked;
@@ -182,7 +193,8 @@ assign_piece (assign {xs = xs} {e = t} at p path value r s e st) v =
 assign_piece (plus {xs = xs} {e = t} at p path value r s e st) v =
     let a = subst AllValid e v in
     as_rule
-    (both (path_piece r (valid_left path _ a)) (spaced (both (sign_piece [] sign.PlusAssign p) (spaced (expr_piece s (valid_tail (valid_right path _ a)))) (λ rest g. space_ends sign.PlusAssign _))) (λ rest g. refl))
+    (both (path_piece r (valid_left path _ a)) (spaced (both (sign_piece [] sign.PlusAssign p) (spaced (expr_piece s (valid_tail (valid_right path _ a)))) (λ rest g. space_ends sign.PlusAssign _)))
+    (λ rest g. refl))
     (λ y. record {
       marked = _;
       at = first_at y.0.marked;
@@ -195,7 +207,8 @@ assign_piece (plus {xs = xs} {e = t} at p path value r s e st) v =
 assign_piece (minus {xs = xs} {e = t} at p path value r s e st) v =
     let a = subst AllValid e v in
     as_rule
-    (both (path_piece r (valid_left path _ a)) (spaced (both (sign_piece [] sign.MinusAssign p) (spaced (expr_piece s (valid_tail (valid_right path _ a)))) (λ rest g. space_ends sign.MinusAssign _))) (λ rest g. refl))
+    (both (path_piece r (valid_left path _ a)) (spaced (both (sign_piece [] sign.MinusAssign p) (spaced (expr_piece s (valid_tail (valid_right path _ a)))) (λ rest g. space_ends sign.MinusAssign _)))
+    (λ rest g. refl))
     (λ y. record {
       marked = _;
       at = first_at y.0.marked;
@@ -248,7 +261,8 @@ init_piece (declare {i = i} at r st) v =
 init_piece (declare_value {i = i} {e = t} at p left value r s e st) v =
     let a = subst AllValid e v in
     as_rule
-    (both (into_piece r (valid_left left _ a)) (spaced (both (sign_piece [] sign.Assign p) (spaced (expr_piece s (valid_tail (valid_right left _ a)))) (λ rest g. space_ends sign.Assign _))) (λ rest g. refl))
+    (both (into_piece r (valid_left left _ a)) (spaced (both (sign_piece [] sign.Assign p) (spaced (expr_piece s (valid_tail (valid_right left _ a)))) (λ rest g. space_ends sign.Assign _)))
+    (λ rest g. refl))
     (λ y. record {
       marked = _;
       at = first_at y.0.marked;

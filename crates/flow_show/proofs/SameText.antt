@@ -86,7 +86,8 @@ mutual
   body_same k End = refl
   body_same k (BlockStmt at inner rest) = ap₂ (λ a b. line k (codes "{") ++ a ++ line k (codes "}") ++ b) (body_same (suc k) inner) (body_same k rest)
   body_same k (IfStmt at e body rest) = λ i. line k (codes "if (" ++ expr_same e i ++ codes ") {") ++ body_same (suc k) body i ++ line k (codes "}") ++ body_same k rest i
-  body_same k (IfElseStmt at e body other rest) = λ i. line k (codes "if (" ++ expr_same e i ++ codes ") {") ++ body_same (suc k) body i ++ line k (codes "} else {") ++ body_same (suc k) other i ++ line k (codes "}") ++ body_same k rest i
+  body_same k (IfElseStmt at e body other rest) = λ i. line k (codes "if (" ++ expr_same e i ++ codes ") {") ++ body_same (suc k) body i ++ line k (codes "} else {") ++ body_same (suc k) other i
+      ++ line k (codes "}") ++ body_same k rest i
   body_same k (WhileStmt at e inner rest) = λ i. line k (codes "while (" ++ expr_same e i ++ codes ") {") ++ body_same (suc k) inner i ++ line k (codes "}") ++ body_same k rest i
   body_same k (ForStmt at init e step inner rest) = λ i.
       line k (codes "for (" ++ part_text_same init i ++ codes "; " ++ maybe_same [] e i ++ codes "; " ++ part_text_same step i ++ codes ") {")
@@ -96,7 +97,8 @@ mutual
   body_same k (ContinueStmt at rest) = ap (λ b. line k (codes "continue;") ++ b) (body_same k rest)
   body_same k (ReturnStmt at e rest) = λ i. line k (codes "return " ++ expr_same e i ++ codes ";") ++ body_same k rest i
   body_same k (ThrowStmt at e rest) = λ i. line k (codes "throw" ++ maybe_same (codes " ") e i ++ codes ";") ++ body_same k rest i
-  body_same k (TryStmt at inner p x handler rest) = λ i. line k (codes "try {") ++ body_same (suc k) inner i ++ line k (codes "} catch (Error& " ++ x.name ++ codes ") {") ++ body_same (suc k) handler i ++ line k (codes "}") ++ body_same k rest i
+  body_same k (TryStmt at inner p x handler rest) = λ i. line k (codes "try {") ++ body_same (suc k) inner i ++ line k (codes "} catch (Error& " ++ x.name ++ codes ") {")
+      ++ body_same (suc k) handler i ++ line k (codes "}") ++ body_same k rest i
   body_same k (ChooseStmt at branches rest) = λ i. line k (codes "choose {") ++ branches_same (suc k) branches i ++ line k (codes "}") ++ body_same k rest i
   body_same k (DeclareStmt at v e rest) = λ i. line k (declare_same v e i ++ codes ";") ++ body_same k rest i
   body_same k (AssignStmt at xs e rest) = λ i. line k (assign_same xs e i ++ codes ";") ++ body_same k rest i

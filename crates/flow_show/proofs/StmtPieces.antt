@@ -39,7 +39,8 @@ abbrev pub braced : ℕ → List ℕ → List ℕ
 braced k inner = 123 ∷ (10 ∷ (inner ++ (indent k ++ 125 ∷ [])))
 
 pub in_braces : {X : Type 0} {mx : X → List Marked} {o : List Marked} {w : List ℕ} (k : ℕ) (p q : Place) → Piece mx o w Any
-    → Piece {X = Place × (X × Place)} (λ y. sign_at sign.OpenCurly y.0 ∷ (mx y.1.0 ++ sign_at sign.CloseCurly y.1.1 ∷ [])) (sign_at sign.OpenCurly p ∷ (o ++ sign_at sign.CloseCurly q ∷ [])) (braced k w) Any
+    → Piece {X = Place × (X × Place)} (λ y. sign_at sign.OpenCurly y.0 ∷ (mx y.1.0 ++ sign_at sign.CloseCurly y.1.1 ∷ [])) (sign_at sign.OpenCurly p ∷ (o ++ sign_at sign.CloseCurly q ∷ []))
+    (braced k w) Any
 in_braces k p q inner = both (curly_open p) (behind (blank 10 refl) (both inner (behind (indent_gap k) (curly_close q)) (λ rest g. tt))) (λ rest g. tt)
 
 -- what the new tokens put before a body
@@ -170,7 +171,9 @@ mutual
         own = _;
         text = refl;
         piece = as_rule
-            (lined k (both (word_piece [] word.If at) (spaced (both (sign_open p) (both (expr_piece r (valid_left test _ a)) (both (sign_shut q) (spaced (body_piece k b (valid_tail (valid_right test _ a)))) (λ rest g. tt)) (λ rest g. refl)) (λ rest g. tt))) (λ rest g. refl)) (λ rest. tt))
+            (lined k (both (word_piece [] word.If at) (spaced (both (sign_open p)
+            (both (expr_piece r (valid_left test _ a)) (both (sign_shut q) (spaced (body_piece k b (valid_tail (valid_right test _ a)))) (λ rest g. tt)) (λ rest g. refl)) (λ rest g. tt)))
+            (λ rest g. refl)) (λ rest. tt))
             (λ y. record {
               marked = _;
               at = y.0;
@@ -189,14 +192,17 @@ mutual
         own = _;
         text = refl;
         piece = as_rule
-            (lined k (both (word_piece [] word.If at) (spaced (both (sign_open p) (both (expr_piece r (valid_left test _ a)) (both (sign_shut q) (spaced (both (body_piece k b (valid_left body _ bodies))
-            (spaced (both (word_piece [] word.Else s) (spaced (body_piece k o (valid_tail (valid_right body _ bodies)))) (λ rest g. refl))) (λ rest g. tt))) (λ rest g. tt)) (λ rest g. refl)) (λ rest g. tt))) (λ rest g. refl)) (λ rest. tt))
+            (lined k (both (word_piece [] word.If at) (spaced (both (sign_open p)
+            (both (expr_piece r (valid_left test _ a)) (both (sign_shut q) (spaced (both (body_piece k b (valid_left body _ bodies))
+            (spaced (both (word_piece [] word.Else s) (spaced (body_piece k o (valid_tail (valid_right body _ bodies)))) (λ rest g. refl))) (λ rest g. tt))) (λ rest g. tt)) (λ rest g. refl))
+            (λ rest g. tt))) (λ rest g. refl)) (λ rest. tt))
             (λ y. record {
               marked = _;
               at = y.0;
               make = λ r. IfElseStmt y.0 y.1.1.0.tree y.1.1.1.1.0.tree y.1.1.1.1.1.1.tree r;
               ends = false;
-              rule = λ r. if_else_stmt y.0 y.1.0 y.1.1.1.0 y.1.1.1.1.1.0 y.1.1.0.marked y.1.1.1.1.0.marked y.1.1.1.1.1.1.marked y.1.1.0.rule (block_body y.1.1.1.1.0.rule) (block_body y.1.1.1.1.1.1.rule) refl;
+              rule = λ r. if_else_stmt y.0 y.1.0 y.1.1.1.0 y.1.1.1.1.1.0 y.1.1.0.marked y.1.1.1.1.0.marked y.1.1.1.1.1.1.marked y.1.1.0.rule (block_body y.1.1.1.1.0.rule)
+                  (block_body y.1.1.1.1.1.1.rule) refl;
               like = λ r h. λ i. IfElseStmt first_place (y.1.1.0.like i) (y.1.1.1.1.0.like i) (y.1.1.1.1.1.1.like i) (h i);
               some = omega arith;
             })
@@ -208,7 +214,9 @@ mutual
         own = _;
         text = refl;
         piece = as_rule
-            (lined k (both (word_piece [] word.While at) (spaced (both (sign_open p) (both (expr_piece r (valid_left test _ a)) (both (sign_shut q) (spaced (body_piece k b (valid_tail (valid_right test _ a)))) (λ rest g. tt)) (λ rest g. refl)) (λ rest g. tt))) (λ rest g. refl)) (λ rest. tt))
+            (lined k (both (word_piece [] word.While at) (spaced (both (sign_open p)
+            (both (expr_piece r (valid_left test _ a)) (both (sign_shut q) (spaced (body_piece k b (valid_tail (valid_right test _ a)))) (λ rest g. tt)) (λ rest g. refl)) (λ rest g. tt)))
+            (λ rest g. refl)) (λ rest. tt))
             (λ y. record {
               marked = _;
               at = y.0;
@@ -228,14 +236,17 @@ mutual
         own = _;
         text = refl;
         piece = as_rule
-            (lined k (both (word_piece [] word.For at) (spaced (both (sign_open p) (both (init_part_piece i (valid_left init _ a)) (both (sign_end q) (spaced (both (maybe_piece no_gap u (valid_left test _ second))
-            (both (sign_end r) (spaced (both (step_part_piece w (valid_left step _ third)) (both (sign_shut s) (spaced (body_piece k b (valid_tail (valid_right step _ third)))) (λ rest g. tt)) (λ rest g. refl))) (λ rest g. tt)) (λ rest g. refl))) (λ rest g. tt)) (λ rest g. refl)) (λ rest g. tt))) (λ rest g. refl)) (λ rest. tt))
+            (lined k (both (word_piece [] word.For at) (spaced (both (sign_open p)
+            (both (init_part_piece i (valid_left init _ a)) (both (sign_end q) (spaced (both (maybe_piece no_gap u (valid_left test _ second))
+            (both (sign_end r) (spaced (both (step_part_piece w (valid_left step _ third)) (both (sign_shut s) (spaced (body_piece k b (valid_tail (valid_right step _ third)))) (λ rest g. tt))
+            (λ rest g. refl))) (λ rest g. tt)) (λ rest g. refl))) (λ rest g. tt)) (λ rest g. refl)) (λ rest g. tt))) (λ rest g. refl)) (λ rest. tt))
             (λ y. record {
               marked = _;
               at = y.0;
               make = λ r. ForStmt y.0 y.1.1.0.tree y.1.1.1.1.0.tree y.1.1.1.1.1.1.0.tree y.1.1.1.1.1.1.1.1.tree r;
               ends = false;
-              rule = λ r. for_stmt y.0 y.1.0 y.1.1.1.0 y.1.1.1.1.1.0 y.1.1.1.1.1.1.1.0 y.1.1.0.marked y.1.1.1.1.0.marked y.1.1.1.1.1.1.0.marked y.1.1.1.1.1.1.1.1.marked y.1.1.0.rule y.1.1.1.1.0.rule y.1.1.1.1.1.1.0.rule (block_body y.1.1.1.1.1.1.1.1.rule) refl;
+              rule = λ r. for_stmt y.0 y.1.0 y.1.1.1.0 y.1.1.1.1.1.0 y.1.1.1.1.1.1.1.0 y.1.1.0.marked y.1.1.1.1.0.marked y.1.1.1.1.1.1.0.marked y.1.1.1.1.1.1.1.1.marked y.1.1.0.rule y.1.1.1.1.0.rule
+                  y.1.1.1.1.1.1.0.rule (block_body y.1.1.1.1.1.1.1.1.rule) refl;
               like = λ r h. λ j. ForStmt first_place (y.1.1.0.like j) (y.1.1.1.1.0.like j) (y.1.1.1.1.1.1.0.like j) (y.1.1.1.1.1.1.1.1.like j) (h j);
               some = omega arith;
             })
@@ -279,7 +290,8 @@ mutual
         own = _;
         text = refl;
         piece = as_rule
-            (lined k (both (word_piece [] word.Return at) (spaced (both (expr_piece r (valid_left value _ (valid_tail (subst AllValid e v)))) (sign_end p) (λ rest g. refl))) (λ rest g. refl)) (λ rest. tt))
+            (lined k (both (word_piece [] word.Return at) (spaced (both (expr_piece r (valid_left value _ (valid_tail (subst AllValid e v)))) (sign_end p) (λ rest g. refl))) (λ rest g. refl))
+            (λ rest. tt))
             (λ y. record {
               marked = _;
               at = y.0;
@@ -296,7 +308,8 @@ mutual
         own = _;
         text = refl;
         piece = as_rule
-            (lined k (both (word_piece [] word.Throw at) (both (maybe_piece (blank 32 refl) r (valid_left value _ (valid_tail (subst AllValid e v)))) (sign_end p) (λ rest g. refl)) (λ rest g. subst Apart (sym (append_assoc (maybe_text (codes " ") t) (59 ∷ []) rest)) (throw_apart t rest))) (λ rest. tt))
+            (lined k (both (word_piece [] word.Throw at) (both (maybe_piece (blank 32 refl) r (valid_left value _ (valid_tail (subst AllValid e v)))) (sign_end p) (λ rest g. refl))
+            (λ rest g. subst Apart (sym (append_assoc (maybe_text (codes " ") t) (59 ∷ []) rest)) (throw_apart t rest))) (λ rest. tt))
             (λ y. record {
               marked = _;
               at = y.0;
@@ -316,14 +329,17 @@ mutual
         own = _;
         text = refl;
         piece = as_rule
-            (lined k (both (word_piece [] word.Try at) (spaced (both (block_piece k b (valid_left body _ a)) (spaced (both (word_piece [] word.Catch p) (spaced (both (sign_open q) (both (word_piece [] word.Error r)
-            (both (sign_piece [] sign.Amp s) (spaced (both (name_piece [] x.name x.at (valid_head named)) (both (sign_shut u) (spaced (block_piece k h (valid_tail (valid_tail named)))) (λ rest g. tt)) (λ rest g. refl))) (λ rest g. space_ends sign.Amp _)) (λ rest g. refl)) (λ rest g. tt))) (λ rest g. refl))) (λ rest g. tt))) (λ rest g. refl)) (λ rest. tt))
+            (lined k (both (word_piece [] word.Try at) (spaced (both (block_piece k b (valid_left body _ a))
+            (spaced (both (word_piece [] word.Catch p) (spaced (both (sign_open q) (both (word_piece [] word.Error r)
+            (both (sign_piece [] sign.Amp s) (spaced (both (name_piece [] x.name x.at (valid_head named)) (both (sign_shut u) (spaced (block_piece k h (valid_tail (valid_tail named)))) (λ rest g. tt))
+            (λ rest g. refl))) (λ rest g. space_ends sign.Amp _)) (λ rest g. refl)) (λ rest g. tt))) (λ rest g. refl))) (λ rest g. tt))) (λ rest g. refl)) (λ rest. tt))
             (λ y. record {
               marked = _;
               at = y.0;
               make = λ r. TryStmt y.0 y.1.0.tree y.1.1.0 (record { name = x.name; at = y.1.1.1.1.1.1.0 }) y.1.1.1.1.1.1.1.1.tree r;
               ends = false;
-              rule = λ r. try_stmt y.0 y.1.1.0 y.1.1.1.0 y.1.1.1.1.0 y.1.1.1.1.1.0 y.1.1.1.1.1.1.1.0 (record { name = x.name; at = y.1.1.1.1.1.1.0 }) y.1.0.marked y.1.1.1.1.1.1.1.1.marked y.1.0.rule y.1.1.1.1.1.1.1.1.rule refl;
+              rule = λ r. try_stmt y.0 y.1.1.0 y.1.1.1.0 y.1.1.1.1.0 y.1.1.1.1.1.0 y.1.1.1.1.1.1.1.0 (record { name = x.name; at = y.1.1.1.1.1.1.0 }) y.1.0.marked y.1.1.1.1.1.1.1.1.marked y.1.0.rule
+                  y.1.1.1.1.1.1.1.1.rule refl;
               like = λ r h. λ i. TryStmt first_place (y.1.0.like i) first_place (placeless_ident x) (y.1.1.1.1.1.1.1.1.like i) (h i);
               some = omega arith;
             })
@@ -337,7 +353,8 @@ mutual
         text = refl;
         piece = as_rule
             (lined k (both (word_piece [] word.Choose at) (spaced (both (curly_open p) (behind (blank 10 refl) (both one.piece
-            (both (whens_piece (suc k) ws (valid_left more _ (valid_right first _ a))) (behind (indent_gap k) (curly_close q)) (λ rest g. tt)) (λ rest g. tt))) (λ rest g. tt))) (λ rest g. refl)) (λ rest. tt))
+            (both (whens_piece (suc k) ws (valid_left more _ (valid_right first _ a))) (behind (indent_gap k) (curly_close q)) (λ rest g. tt)) (λ rest g. tt))) (λ rest g. tt))) (λ rest g. refl))
+            (λ rest. tt))
             (λ y. record {
               marked = _;
               at = y.0;
@@ -389,7 +406,9 @@ mutual
         own = _;
         text = refl;
         piece = as_rule
-            (lined k (both (path_piece a (valid_left path _ w)) (both (sign_open p) (both (args_piece b (valid_left args _ (valid_tail (valid_right path _ w)))) (both (sign_shut q) (sign_end r) (λ rest g. tt)) (λ rest g. closing _)) (λ rest g. tt)) (λ rest g. refl)) (λ rest. tt))
+            (lined k (both (path_piece a (valid_left path _ w)) (both (sign_open p)
+            (both (args_piece b (valid_left args _ (valid_tail (valid_right path _ w)))) (both (sign_shut q) (sign_end r) (λ rest g. tt)) (λ rest g. closing _)) (λ rest g. tt)) (λ rest g. refl))
+            (λ rest. tt))
             (λ y. record {
               marked = _;
               at = first_at y.0.marked;
@@ -438,7 +457,8 @@ mutual
   body_piece k (block_body b) v = block_piece k b v
   body_piece {actor} {d} {c} {c'} k (one_body at xs r e) v =
       let a = plain_piece (suc k) r (valid_stated c d xs (subst AllValid e v)) in
-      as_rule (reparted (begin_statement c d xs) (one_body_parts (begin_statement c d xs) first_place first_place) (in_braces k first_place first_place (stated c d (λ y. y.some) (plain_some r) a.piece)))
+      as_rule (reparted (begin_statement c d xs) (one_body_parts (begin_statement c d xs) first_place first_place)
+      (in_braces k first_place first_place (stated c d (λ y. y.some) (plain_some r) a.piece)))
       (λ y. record {
         marked = _;
         tree = y.1.0.make End;
@@ -473,7 +493,9 @@ mutual
         own = _;
         text = refl;
         piece = as_rule
-            (lined k (both (word_piece (Branch n ∷ Node d ∷ []) word.When at) (spaced (both (sign_open p) (both (waiting_piece r (valid_left xs _ a)) (both (sign_shut q) (spaced (body_piece k b (valid_tail (valid_right xs _ a)))) (λ rest g. tt)) (λ rest g. refl)) (λ rest g. tt))) (λ rest g. refl)) (λ rest. tt))
+            (lined k (both (word_piece (Branch n ∷ Node d ∷ []) word.When at)
+            (spaced (both (sign_open p) (both (waiting_piece r (valid_left xs _ a)) (both (sign_shut q) (spaced (body_piece k b (valid_tail (valid_right xs _ a)))) (λ rest g. tt))
+            (λ rest g. refl)) (λ rest g. tt))) (λ rest g. refl)) (λ rest. tt))
             (λ y. record {
               marked = _;
               make = λ r. MoreBranches y.0 y.1.1.0.tree y.1.1.1.1.tree r;

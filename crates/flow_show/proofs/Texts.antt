@@ -50,7 +50,8 @@ path_step (y ∷ ys) rest x old s1 s2 w lt e r e1 f e2 =
 
 args_end : (es : List Expr) (x : Expr) → more_args_text (exprs_of (es ++ x ∷ [])) ≡ more_args_text (exprs_of es) ++ (codes ", " ++ expr_text (expr_of x))
 args_end [] x = append-nil (codes ", " ++ expr_text (expr_of x))
-args_end (e ∷ es) x = ap (λ l. codes ", " ++ expr_text (expr_of e) ++ l) (args_end es x) ∙ sym (append_assoc (codes ", " ++ expr_text (expr_of e)) (more_args_text (exprs_of es)) (codes ", " ++ expr_text (expr_of x)))
+args_end (e ∷ es) x = ap (λ l. codes ", " ++ expr_text (expr_of e) ++ l) (args_end es x)
+    ∙ sym (append_assoc (codes ", " ++ expr_text (expr_of e)) (more_args_text (exprs_of es)) (codes ", " ++ expr_text (expr_of x)))
 
 args_more : (es : List Expr) (i : ℕ) (x : Expr) → i < length es → x ≡ get_or es i x
     → more_args_text (exprs_of (take (i + 1) es)) ≡ more_args_text (exprs_of (take i es)) ++ codes ", " ++ expr_text (expr_of x)
@@ -66,7 +67,8 @@ args_step es i x start old s1 s2 lt e h e1 e2 =
 
 params_end : (ps : List Param) (x : Param) → more_params_text (params_of (ps ++ x ∷ [])) ≡ more_params_text (params_of ps) ++ (codes ", " ++ named_text (type_of x.ty) x.name)
 params_end [] x = append-nil (codes ", " ++ named_text (type_of x.ty) x.name)
-params_end (p ∷ ps) x = ap (λ l. codes ", " ++ named_text (type_of p.ty) p.name ++ l) (params_end ps x) ∙ sym (append_assoc (codes ", " ++ named_text (type_of p.ty) p.name) (more_params_text (params_of ps)) (codes ", " ++ named_text (type_of x.ty) x.name))
+params_end (p ∷ ps) x = ap (λ l. codes ", " ++ named_text (type_of p.ty) p.name ++ l) (params_end ps x)
+    ∙ sym (append_assoc (codes ", " ++ named_text (type_of p.ty) p.name) (more_params_text (params_of ps)) (codes ", " ++ named_text (type_of x.ty) x.name))
 
 params_more : (ps : List Param) (i : ℕ) (x : Param) → i < length ps → x ≡ get_or ps i x
     → more_params_text (params_of (take (i + 1) ps)) ≡ more_params_text (params_of (take i ps)) ++ codes ", " ++ named_text (type_of x.ty) x.name
@@ -117,7 +119,8 @@ body_step k ss i s start old new lt e puts h =
     ∙ ap (λ z. old ++ body_text k (stmt_of z (body_of (drop (i + 1) ss)))) e
     ∙ ap (λ l. old ++ body_text k (body_of l)) (sym (drop_more ss i s lt)) ∙ h
 
-pub body_end : (k : ℕ) (ss : List Stmt) (start new : List ℕ) (i : ℕ) → length ss ≤ i → new ++ body_text k (body_of (drop i ss)) ≡ start ++ body_text k (body_of ss) → new ≡ start ++ body_text k (body_of ss)
+pub body_end : (k : ℕ) (ss : List Stmt) (start new : List ℕ) (i : ℕ) → length ss ≤ i → new ++ body_text k (body_of (drop i ss)) ≡ start ++ body_text k (body_of ss)
+    → new ≡ start ++ body_text k (body_of ss)
 body_end k ss start new i le h =
     sym (append-nil new) ∙ ap (λ l. new ++ body_text k (body_of l)) (sym (drop_all i ss le)) ∙ h
 
@@ -129,7 +132,8 @@ branches_step k ss i s start old new lt e puts h =
     ∙ ap (λ z. old ++ branches_text k (branch_of z (branches_of (drop (i + 1) ss)))) e
     ∙ ap (λ l. old ++ branches_text k (branches_of l)) (sym (drop_more ss i s lt)) ∙ h
 
-pub branches_end : (k : ℕ) (ss : List When) (start new : List ℕ) (i : ℕ) → length ss ≤ i → new ++ branches_text k (branches_of (drop i ss)) ≡ start ++ branches_text k (branches_of ss) → new ≡ start ++ branches_text k (branches_of ss)
+pub branches_end : (k : ℕ) (ss : List When) (start new : List ℕ) (i : ℕ) → length ss ≤ i → new ++ branches_text k (branches_of (drop i ss)) ≡ start ++ branches_text k (branches_of ss)
+    → new ≡ start ++ branches_text k (branches_of ss)
 branches_end k ss start new i le h =
     sym (append-nil new) ∙ ap (λ l. new ++ branches_text k (branches_of l)) (sym (drop_all i ss le)) ∙ h
 
@@ -154,10 +158,12 @@ ended_line k old s0 s1 s2 s3 w e0 e1 e2 e3 = rw (e3, e2, e1, e0) (simp append_as
 routine_tail : (n p b : List ℕ) → n ++ codes "(" ++ p ++ (codes ") {" ++ 10 ∷ []) ++ b ++ (codes "}" ++ 10 ∷ []) ≡ n ++ (40 ∷ (p ++ (41 ∷ (32 ∷ (123 ∷ (10 ∷ (b ++ (125 ∷ (10 ∷ [])))))))))
 routine_tail n p b = simp append_assoc refl
 
-routine_whole : (w n p b : List ℕ) → line 0 (w ++ codes " " ++ n ++ codes "(" ++ p ++ codes ") {") ++ b ++ line 0 (codes "}") ≡ w ++ (32 ∷ (n ++ (40 ∷ (p ++ (41 ∷ (32 ∷ (123 ∷ (10 ∷ (b ++ (125 ∷ (10 ∷ [])))))))))))
+routine_whole : (w n p b : List ℕ) → line 0 (w ++ codes " " ++ n ++ codes "(" ++ p ++ codes ") {") ++ b ++ line 0 (codes "}") ≡ w
+    ++ (32 ∷ (n ++ (40 ∷ (p ++ (41 ∷ (32 ∷ (123 ∷ (10 ∷ (b ++ (125 ∷ (10 ∷ [])))))))))))
 routine_whole w n p b = simp append_assoc refl
 
-routine_lines : (w n p b : List ℕ) → w ++ (codes " " ++ n ++ codes "(" ++ p ++ (codes ") {" ++ 10 ∷ []) ++ b ++ (codes "}" ++ 10 ∷ [])) ≡ line 0 (w ++ codes " " ++ n ++ codes "(" ++ p ++ codes ") {") ++ b ++ line 0 (codes "}")
+routine_lines : (w n p b : List ℕ) → w ++ (codes " " ++ n ++ codes "(" ++ p ++ (codes ") {" ++ 10 ∷ []) ++ b ++ (codes "}" ++ 10 ∷ [])) ≡ line 0 (w ++ codes " " ++ n ++ codes "(" ++ p ++ codes ") {")
+    ++ b ++ line 0 (codes "}")
 routine_lines w n p b = ap (λ l. w ++ (32 ∷ l)) (routine_tail n p b) ∙ sym (routine_whole w n p b)
 
 pub whole_routine : (r : RoutineTree) (old s1 s2 w : List ℕ) → s1 ≡ old ++ w → s2 ≡ s1 ++ behind_result r.name r.params r.body → s2 ≡ old ++ routine_text w r
@@ -173,7 +179,8 @@ pub one_by_one : (old s1 s2 s3 a b c : List ℕ) → s1 ≡ old ++ a → s2 ≡ 
 one_by_one old s1 s2 s3 a b c e1 e2 e3 = rw (e3, e2, e1) (simp append_assoc refl)
 
 -- the texts of operands with what stands between them
-pub method_text : (old s1 s2 e f n a b : List ℕ) → s1 ≡ old ++ (e ++ codes "." ++ n) → e ≡ f → s2 ≡ s1 ++ codes "(" ++ a ++ codes ")" → a ≡ b → s2 ≡ old ++ (f ++ codes "." ++ n ++ codes "(" ++ b ++ codes ")")
+pub method_text : (old s1 s2 e f n a b : List ℕ) → s1 ≡ old ++ (e ++ codes "." ++ n) → e ≡ f → s2 ≡ s1 ++ codes "(" ++ a ++ codes ")" → a ≡ b
+    → s2 ≡ old ++ (f ++ codes "." ++ n ++ codes "(" ++ b ++ codes ")")
 method_text old s1 s2 e f n a b e1 ef e2 ab = rw (e2, e1, ef, ab) (simp append_assoc refl)
 
 spaced : (b s g d : List ℕ) → b ++ (s ++ g ++ s ++ d) ≡ b ++ s ++ g ++ s ++ d

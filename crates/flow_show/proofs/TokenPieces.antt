@@ -87,7 +87,8 @@ one_ends g b rest e f gap none = record {
       (token_of (b ∷ rest) (token.Sign g) 1 gap (sign_one (b ∷ rest) g f (omega arith) e (second rest none)));
 }
   where
-    second : (rest : List ℕ) → ((c : ℕ) (w : List ℕ) → rest ≡ c ∷ w → (h : signs.Sign) → sign_bytes h ≡ b ∷ (c ∷ []) → ⊥) → 1 < length (b ∷ rest) → (h : signs.Sign) → sign_bytes h ≡ take 2 (b ∷ rest) → ⊥
+    second : (rest : List ℕ) → ((c : ℕ) (w : List ℕ) → rest ≡ c ∷ w → (h : signs.Sign) → sign_bytes h ≡ b ∷ (c ∷ []) → ⊥) → 1 < length (b ∷ rest) → (h : signs.Sign) → sign_bytes h ≡ take 2 (b ∷ rest)
+        → ⊥
     second [] none lt h q = omega arith
     second (c ∷ w) none lt h q = none c w refl h q
 
@@ -193,4 +194,5 @@ space_ends PlusAssign rest = two_ends PlusAssign 43 61 (32 ∷ rest) refl refl r
 space_ends MinusAssign rest = two_ends MinusAssign 45 61 (32 ∷ rest) refl refl refl
 space_ends PlusPlus rest = two_ends PlusPlus 43 43 (32 ∷ rest) refl refl refl
 space_ends MinusMinus rest = two_ends MinusMinus 45 45 (32 ∷ rest) refl refl refl
-space_ends g rest = one_ends g (get_or (sign_bytes g) 0 0) (32 ∷ rest) refl refl refl (λ c w e h q. sign_missing (get_or (sign_bytes g) 0 0 ∷ (32 ∷ [])) refl h (q ∙ ap (λ x. get_or (sign_bytes g) 0 0 ∷ (x ∷ [])) (sym (ap (λ l. get_or l 0 0) e))))
+space_ends g rest = one_ends g (get_or (sign_bytes g) 0 0) (32 ∷ rest) refl refl refl
+    (λ c w e h q. sign_missing (get_or (sign_bytes g) 0 0 ∷ (32 ∷ [])) refl h (q ∙ ap (λ x. get_or (sign_bytes g) 0 0 ∷ (x ∷ [])) (sym (ap (λ l. get_or l 0 0) e))))

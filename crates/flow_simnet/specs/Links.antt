@@ -12,7 +12,8 @@ use Rattle.flow_simnet.specs.declared.packet.Fate.TheVariants.{Cut, Drawn as Los
 use Rattle.flow_simnet.specs.declared.packet.Letter.{Letter}
 use Rattle.flow_simnet.specs.declared.packet.Packet.{Packet}
 
--- How many processes there are; the permille of packets that are lost; the range of delays, its first number and the one past its last; how many
+-- How many processes there are; the permille of packets that are lost; the range of delays, its first number and the one past its last; how
+-- many
 -- packets were sent; for each link whether it is cut; and the packets on their way, by number.
 pub record Links : Type 0 where
   pub processes : ℕ
@@ -116,4 +117,5 @@ abbrev pub ComesBack : Links → Type 0
 ComesBack net = (all_cut (replicate 4096 false) (cut_links 0 net.cuts) ≡ net.cuts) × (all_on_way [] (packets_of net.on_way) ≡ net.on_way)
 
 abbrev pub Restores : Type 0
-Restores = (net : Links) → length net.cuts ≡ 4096 → HasLinks net.processes net.cuts → IsStrictlySortedBy nat_cmp (keys_of net.on_way) → ComesBack net
+Restores = (net : Links) → length net.cuts ≡ 4096 → HasLinks net.processes net.cuts → IsStrictlySortedBy nat_cmp (keys_of net.on_way)
+    → ComesBack net

@@ -84,7 +84,11 @@ module _ (ns : Names) (slots : List SlotTree) (w : Around) where
   tested_by : (v : Around) (s : Scope) (t : Option ExprTree) (main out : ℕ) (h : Next) (e f g : Emitted) (c : Chunk) → At v.hand e c f → Stands f s h → g ≡ testing slots v t main out (opened f)
       → Tested v s t main out h e c g
   tested_by v s None main out h e f g c a st eq =
-      subst (Tested v s None main out h e c) (sym eq) (record { at = record { all = a.all; fresh = record { body = a.fresh.body; acts = a.fresh.acts } }; stands = record { scopes = st.scopes; coming = st.coming }; is_open = refl })
+      subst (Tested v s None main out h e c) (sym eq) (record {
+        at = record { all = a.all; fresh = record { body = a.fresh.body; acts = a.fresh.acts } };
+        stands = record { scopes = st.scopes; coming = st.coming };
+        is_open = refl;
+      })
   tested_by v s (Some t) main out h e f g c a st eq =
       let f2 = closed v (TestLast (over slots f.scopes t) main out) (acted [] (opened f)) in
       let r = ended_acting v [] (TestLast (over slots f.scopes t) main out) (opened f) f2 refl in
@@ -137,11 +141,15 @@ module _ (ns : Names) (slots : List SlotTree) (w : Around) where
       (record {
         code = λ z.
             ap₂ (λ x y. with_chunk w.hand (put (drop_of (scope g.scopes)) g) (lowered ns slots x w (begun y) z)) outer q.stands.coming
-            ∙ (λ y. record { blocks = g.blocks ++ blocks_of w.hand (onto_put (drop_of (scope g.scopes)) g (lowered ns slots e.scopes w (begun j) z) y); groups = g.groups ++ (lowered ns slots e.scopes w (begun j) z).groups })
+            ∙ (λ y. record {
+              blocks = g.blocks ++ blocks_of w.hand (onto_put (drop_of (scope g.scopes)) g (lowered ns slots e.scopes w (begun j) z) y);
+              groups = g.groups ++ (lowered ns slots e.scopes w (begun j) z).groups;
+            })
             ∙ ap (λ y. with_chunk w.hand g (dropping (scope y) (lowered ns slots e.scopes w (begun j) z))) q.stands.scopes
             ∙ join w.hand w.hand e g _ (dropping (scope last) (lowered ns slots e.scopes w (begun j) z)) all
             ∙ ap (λ y. with_rest_if ns slots (y || true) e w (ForStmt at i t p b z)) (sym o);
-        next = λ z. ap (λ y. y.local + locals_in z) q.stands.coming ∙ ap (λ y. y + locals_in b + locals_in p + locals_in z) (tested_local t (past w.looped.tried i (going e))) ∙ for_sums e.next (locals_in i) (locals_in b) (locals_in p) (locals_in z);
+        next = λ z. ap (λ y. y.local + locals_in z) q.stands.coming ∙ ap (λ y. y + locals_in b + locals_in p + locals_in z) (tested_local t (past w.looped.tried i (going e)))
+            ∙ for_sums e.next (locals_in i) (locals_in b) (locals_in p) (locals_in z);
         scopes = outer;
         shut = λ z. absurd (no_false z);
       })

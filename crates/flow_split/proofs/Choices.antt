@@ -44,7 +44,8 @@ module _ (ns : Names) (slots : List SlotTree) where
       ∙ same_callbacks bs e.scopes w.looped.tried (going e).block e.next 0 (grouped (going e)).group)
 
   -- one callback more
-  pub callbacks_next : (s : Scope) (t : Bool) (ws : List When) (i : ℕ) (v : When) (xs ys : List Callback) (k : Callback) (block next n m : ℕ) (whole : List CallbackTree) → i < length ws → v ≡ get_or ws i v
+  pub callbacks_next : (s : Scope) (t : Bool) (ws : List When) (i : ℕ) (v : When) (xs ys : List Callback) (k : Callback) (block next n m : ℕ) (whole : List CallbackTree) → i < length ws
+      → v ≡ get_or ws i v
       → ys ≡ xs ++ k ∷ [] → callback_of k ≡ callback ns slots s (waiting_of (out-When v).waiting) next block
       → ((bs : Branches) → branch_blocks t (branch_of v bs) ≡ n + branch_blocks t bs) → ((bs : Branches) → branch_local_count (branch_of v bs) ≡ m + branch_local_count bs)
       → callbacks_of xs ++ callbacks ns slots s t (record { block = block; local = next; group = 0 }) (branches_of (drop i ws)) ≡ whole
@@ -66,7 +67,8 @@ module _ (ns : Names) (slots : List SlotTree) where
       ∙ ap (λ x. callbacks_of xs ++ callbacks ns slots s t (record { block = block; local = next; group = 0 }) x) (sym (split ∙ as_branch rest))
       ∙ h
 
-  pub callbacks_more : (s : Scope) (t : Bool) (ws : List When) (i : ℕ) (v : When) (xs ys : List Callback) (k : Callback) (block next n m block2 next2 : ℕ) (whole : List CallbackTree) → i < length ws → v ≡ get_or ws i v
+  pub callbacks_more : (s : Scope) (t : Bool) (ws : List When) (i : ℕ) (v : When) (xs ys : List Callback) (k : Callback) (block next n m block2 next2 : ℕ) (whole : List CallbackTree) → i < length ws
+      → v ≡ get_or ws i v
       → ys ≡ xs ++ k ∷ [] → callback_of k ≡ callback ns slots s (waiting_of (out-When v).waiting) next block
       → ((bs : Branches) → branch_blocks t (branch_of v bs) ≡ n + branch_blocks t bs) → ((bs : Branches) → branch_local_count (branch_of v bs) ≡ m + branch_local_count bs)
       → block2 ≡ block + n → next2 ≡ next + m

@@ -24,7 +24,8 @@ module _ (ns : Names) (slots : List SlotTree) (w v : Around) where
   pub block_emits : (e f new : Emitted) (at : Place) (b : Body) (q : ℕ) → e.is_open ≡ true → q ≡ (past w.looped.tried b (going e)).block → v ≡ inner w (Scoped (GotoLast q))
       → EmitsScope ns slots v b e f → new ≡ opened f → Emits ns slots w (BlockStmt at b) e new
   block_emits e f new at b q o qe ve h nw =
-      let g : EmitsScope ns slots (inner w (Scoped (GotoLast (past w.looped.tried b (going e)).block))) b e f = subst (λ x. EmitsScope ns slots x b e f) (ve ∙ ap (λ x. inner w (Scoped (GotoLast x))) qe) h in
+      let g : EmitsScope ns slots (inner w (Scoped (GotoLast (past w.looped.tried b (going e)).block))) b e f =
+      subst (λ x. EmitsScope ns slots x b e f) (ve ∙ ap (λ x. inner w (Scoped (GotoLast x))) qe) h in
       let s = scope_goes_on ns slots _ b e f g in
       finish ns slots w e f new _ _ (BlockStmt at b) o nw s.at s.stands (λ k. refl) (λ k. three_sums e.next (locals_in b) (locals_in k)) refl
 
@@ -35,14 +36,17 @@ module _ (ns : Names) (slots : List SlotTree) (w v : Around) where
       let h1 = hx ∙ ap (λ z. closed w (TestLast z y q) (acted [] e)) xe in
       let h : EmitsScope ns slots v b (opened e1) f = subst (λ z. EmitsScope ns slots v b z f) be hs in
       let m = past w.looped.tried b (begun (going e)) in
-      let one = ended_acting w [] (TestLast (over slots e.scopes t) (going e).block m.block) e e1 (h1 ∙ ap (λ x. closed w (TestLast (over slots e.scopes t) x q) (acted [] e)) ye ∙ ap (λ x. closed w (TestLast (over slots e.scopes t) (going e).block x) (acted [] e)) qe) in
+      let one = ended_acting w [] (TestLast (over slots e.scopes t) (going e).block m.block) e e1
+      (h1 ∙ ap (λ x. closed w (TestLast (over slots e.scopes t) x q) (acted [] e)) ye ∙ ap (λ x. closed w (TestLast (over slots e.scopes t) (going e).block x) (acted [] e)) qe) in
       let g : EmitsScope ns slots (inner w (Scoped (GotoLast m.block))) b (opened e1) f = subst (λ x. EmitsScope ns slots x b (opened e1) f) (ve ∙ ap (λ x. inner w (Scoped (GotoLast x))) qe) h in
       let s = scope_begins ns slots _ e.scopes (going e) b e1 f one.stands g in
       finish ns slots w e f new _ _ (IfStmt at t b) o nw (and_then w.hand w.hand e e1 f _ _ one.at s.at) s.stands (λ k. refl) (λ k. three_sums e.next (locals_in b) (locals_in k)) refl
 
-  pub if_else_emits : (e e1 e2 f f2 g new : Emitted) (at : Place) (t x : ExprTree) (b c : Body) (y m q : ℕ) → e.is_open ≡ true → y ≡ (going e).block → m ≡ (past w.looped.tried b (begun (going e))).block
+  pub if_else_emits : (e e1 e2 f f2 g new : Emitted) (at : Place) (t x : ExprTree) (b c : Body) (y m q : ℕ) → e.is_open ≡ true → y ≡ (going e).block
+      → m ≡ (past w.looped.tried b (begun (going e))).block
       → q ≡ (past w.looped.tried c (begun (past w.looped.tried b (begun (going e))))).block
-      → x ≡ over slots e.scopes t → e1 ≡ closed w (TestLast x y m) (acted [] e) → e2 ≡ opened e1 → v ≡ inner w (Scoped (GotoLast q)) → EmitsScope ns slots v b e2 f → f2 ≡ opened f → EmitsScope ns slots v c f2 g
+      → x ≡ over slots e.scopes t → e1 ≡ closed w (TestLast x y m) (acted [] e) → e2 ≡ opened e1 → v ≡ inner w (Scoped (GotoLast q)) → EmitsScope ns slots v b e2 f → f2 ≡ opened f
+      → EmitsScope ns slots v c f2 g
       → new ≡ opened g → Emits ns slots w (IfElseStmt at t b c) e new
   if_else_emits e e1 e2 f f2 g new at t x b c y m q o ye me qe xe hx be ve hs ce hr nw =
       let h1 = hx ∙ ap (λ z. closed w (TestLast z y m) (acted [] e)) xe in
@@ -51,7 +55,8 @@ module _ (ns : Names) (slots : List SlotTree) (w v : Around) where
       let n = past w.looped.tried b (begun (going e)) in
       let j = past w.looped.tried c (begun n) in
       let to : v ≡ inner w (Scoped (GotoLast j.block)) = ve ∙ ap (λ x. inner w (Scoped (GotoLast x))) qe in
-      let one = ended_acting w [] (TestLast (over slots e.scopes t) (going e).block n.block) e e1 (h1 ∙ ap (λ x. closed w (TestLast (over slots e.scopes t) x m) (acted [] e)) ye ∙ ap (λ x. closed w (TestLast (over slots e.scopes t) (going e).block x) (acted [] e)) me) in
+      let one = ended_acting w [] (TestLast (over slots e.scopes t) (going e).block n.block) e e1
+      (h1 ∙ ap (λ x. closed w (TestLast (over slots e.scopes t) x m) (acted [] e)) ye ∙ ap (λ x. closed w (TestLast (over slots e.scopes t) (going e).block x) (acted [] e)) me) in
       let s = scope_begins ns slots (inner w (Scoped (GotoLast j.block))) e.scopes (going e) b e1 f one.stands (subst (λ x. EmitsScope ns slots x b (opened e1) f) to h) in
       let r = scope_begins ns slots (inner w (Scoped (GotoLast j.block))) e.scopes n c f g s.stands (subst (λ x. EmitsScope ns slots x c (opened f) g) to h2) in
       finish ns slots w e g new _ _ (IfElseStmt at t b c) o nw (and_then w.hand w.hand e f g _ _ (and_then w.hand w.hand e e1 f _ _ one.at s.at) r.at) r.stands (λ k. refl)
@@ -63,7 +68,8 @@ module _ (ns : Names) (slots : List SlotTree) (w v : Around) where
       let h : EmitsScope ns slots v b (opened e1) f = subst (λ z. EmitsScope ns slots v b z f) be hs in
       let m = past false b (begun (going e)) in
       let one = ended_plain w (PassLast (going e).block) e e1 (h1 ∙ ap (λ x. closed w (PassLast x) e) ye) in
-      let g : EmitsScope ns slots (pass w 1 (PassLast (going e).block) m.block) b (opened e1) f = subst (λ x. EmitsScope ns slots x b (opened e1) f) (ve ∙ ap (λ x. pass w 1 (PassLast x) q) ye ∙ ap (λ x. pass w 1 (PassLast (going e).block) x) qe) h in
+      let g : EmitsScope ns slots (pass w 1 (PassLast (going e).block) m.block) b (opened e1) f =
+      subst (λ x. EmitsScope ns slots x b (opened e1) f) (ve ∙ ap (λ x. pass w 1 (PassLast x) q) ye ∙ ap (λ x. pass w 1 (PassLast (going e).block) x) qe) h in
       let s = scope_begins ns slots _ e.scopes (going e) b e1 f one.stands g in
       finish ns slots w e f new _ _ (LoopStmt at b) o nw (and_then w.hand w.hand e e1 f _ _ one.at s.at) s.stands (λ k. refl) (λ k. three_sums e.next (locals_in b) (locals_in k)) refl
 

@@ -35,7 +35,8 @@ module _ (ns : Names) (slots : List SlotTree) (w : Around) (s : Stmt) (e new : E
   as_stmt : (f : Body → Body) → ((k : Body) → stmt_of s k ≡ f k) → Emits ns slots w f e new → Emits ns slots w (stmt_of s) e new
   as_stmt f h a = subst (λ g. Emits ns slots w g e new) (λ i k. sym (h k) i) a
 
-  pub of_block : (b : Vec Stmt Global) (items : List Stmt) → s.kind ≡ kind.Block b → items ≡ b.items → ((at : Place) → Emits ns slots w (BlockStmt at (body_of items)) e new) → Emits ns slots w (stmt_of s) e new
+  pub of_block : (b : Vec Stmt Global) (items : List Stmt) → s.kind ≡ kind.Block b → items ≡ b.items → ((at : Place) → Emits ns slots w (BlockStmt at (body_of items)) e new)
+      → Emits ns slots w (stmt_of s) e new
   of_block b items h d a = as_stmt (BlockStmt s.at (body_of b.items)) (λ k. is_block s b k h) (subst (λ x. Emits ns slots w (BlockStmt s.at (body_of x)) e new) d (a s.at))
 
   pub of_if : (t : Expr) (b : Vec Stmt Global) (items : List Stmt) → s.kind ≡ kind.If t b None → items ≡ b.items → ((at : Place) → Emits ns slots w (IfStmt at (expr_of t) (body_of items)) e new)
@@ -53,7 +54,8 @@ module _ (ns : Names) (slots : List SlotTree) (w : Around) (s : Stmt) (e new : E
       → Emits ns slots w (stmt_of s) e new
   of_while t b items h d a = as_stmt (WhileStmt s.at (expr_of t) (body_of b.items)) (λ k. is_while s t b k h) (subst (λ x. Emits ns slots w (WhileStmt s.at (expr_of t) (body_of x)) e new) d (a s.at))
 
-  pub of_loop : (b : Vec Stmt Global) (items : List Stmt) → s.kind ≡ kind.Loop b → items ≡ b.items → ((at : Place) → Emits ns slots w (LoopStmt at (body_of items)) e new) → Emits ns slots w (stmt_of s) e new
+  pub of_loop : (b : Vec Stmt Global) (items : List Stmt) → s.kind ≡ kind.Loop b → items ≡ b.items → ((at : Place) → Emits ns slots w (LoopStmt at (body_of items)) e new)
+      → Emits ns slots w (stmt_of s) e new
   of_loop b items h d a = as_stmt (LoopStmt s.at (body_of b.items)) (λ k. is_loop s b k h) (subst (λ x. Emits ns slots w (LoopStmt s.at (body_of x)) e new) d (a s.at))
 
   pub of_for : (i : Option (Box Stmt Global)) (t : Option Expr) (p : Option (Box Stmt Global)) (b : Vec Stmt Global) (items : List Stmt) → s.kind ≡ kind.For i t p b → items ≡ b.items
@@ -69,7 +71,8 @@ module _ (ns : Names) (slots : List SlotTree) (w : Around) (s : Stmt) (e new : E
       (subst (λ y. Emits ns slots w (TryStmt s.at (body_of b.items) p x (body_of y)) e new) g
       (subst (λ z. Emits ns slots w (TryStmt s.at (body_of z) p x (body_of ys)) e new) d (a s.at p)))
 
-  pub of_choose : (bs : Vec When Global) (items : List When) → s.kind ≡ kind.Choose bs → items ≡ bs.items → ((at : Place) → Emits ns slots w (ChooseStmt at (branches_of items)) e new) → Emits ns slots w (stmt_of s) e new
+  pub of_choose : (bs : Vec When Global) (items : List When) → s.kind ≡ kind.Choose bs → items ≡ bs.items → ((at : Place) → Emits ns slots w (ChooseStmt at (branches_of items)) e new)
+      → Emits ns slots w (stmt_of s) e new
   of_choose bs items h d a = as_stmt (ChooseStmt s.at (branches_of bs.items)) (λ k. is_choose s bs k h) (subst (λ x. Emits ns slots w (ChooseStmt s.at (branches_of x)) e new) d (a s.at))
 
   pub of_wait : (v : Waiting) → s.kind ≡ kind.Wait v → ((at : Place) → Emits ns slots w (WaitStmt at (waiting_of v)) e new) → Emits ns slots w (stmt_of s) e new

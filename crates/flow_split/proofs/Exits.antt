@@ -32,14 +32,17 @@ exited_if true w last e =
     record {
       at = record {
         all = λ i. record {
-          blocks = two_blocks e.blocks out.blocks (closed_block w (GotoLast (suc (length e.blocks))) (put [] e)) (closed_block w last (put (map DropInstr (left_lists w.looped.depth e.scopes)) (opened out))) (ap (λ x. x.blocks) r.at.all) i;
+          blocks = two_blocks e.blocks out.blocks (closed_block w (GotoLast (suc (length e.blocks))) (put [] e))
+              (closed_block w last (put (map DropInstr (left_lists w.looped.depth e.scopes)) (opened out))) (ap (λ x. x.blocks) r.at.all) i;
           groups = (ap (λ x. x.groups) r.at.all) i;
         };
         fresh = record { body = refl; acts = refl };
       };
       stands = record {
         scopes = refl;
-        coming = ap (λ b. record { block = b; local = e.next; group = suc (length e.groups) }) (blocks_push out.blocks (closed_block w last (put (map DropInstr (left_lists w.looped.depth e.scopes)) (opened out))) ∙ ap suc (blocks_push e.blocks (closed_block w (GotoLast (suc (length e.blocks))) e)));
+        coming = ap (λ b. record { block = b; local = e.next; group = suc (length e.groups) })
+            (blocks_push out.blocks (closed_block w last (put (map DropInstr (left_lists w.looped.depth e.scopes)) (opened out)))
+            ∙ ap suc (blocks_push e.blocks (closed_block w (GotoLast (suc (length e.blocks))) e)));
       };
       shut = refl;
     }
@@ -67,7 +70,14 @@ waits w cs e f h =
     subst (Waits w cs e) (sym h)
     (record {
       at = record { all = refl; fresh = record { body = refl; acts = refl } };
-      stands = record { scopes = refl; coming = λ i. record { block = blocks_push e.blocks (closed_block w (ChooseLast (suc (length e.groups))) (acted [] e)) i; local = e.next; group = suc (group_push e.groups cs i) } };
+      stands = record {
+        scopes = refl;
+        coming = λ i. record {
+          block = blocks_push e.blocks (closed_block w (ChooseLast (suc (length e.groups))) (acted [] e)) i;
+          local = e.next;
+          group = suc (group_push e.groups cs i);
+        };
+      };
     })
 
 module _ (ns : Names) (slots : List SlotTree) (w : Around) where
@@ -116,7 +126,8 @@ module _ (ns : Names) (slots : List SlotTree) (w : Around) where
       let u = inner w (Scoped (GotoLast j.block)) in
       let g : EmitsBranches ns slots u bs e1 f = subst (λ x. EmitsBranches ns slots x bs e1 f) (ve ∙ ap (λ x. inner w (Scoped (GotoLast x))) qe) hb in
       let c0 : Chunk = record (ends w e.scopes true [] (ChooseLast n.group)) { groups = cs ∷ [] } in
-      let a = subst (λ s. At w.hand e (branches ns slots c0 s u (grouped n) bs) f) r.stands.scopes (subst (λ m. At w.hand e (branches ns slots c0 e1.scopes u m bs) f) r.stands.coming (g.all e c0 r.at)) in
+      let a = subst (λ s. At w.hand e (branches ns slots c0 s u (grouped n) bs) f) r.stands.scopes
+      (subst (λ m. At w.hand e (branches ns slots c0 e1.scopes u m bs) f) r.stands.coming (g.all e c0 r.at)) in
       let st : Stands f e.scopes j = record {
         scopes = g.scopes ∙ r.stands.scopes;
         coming =

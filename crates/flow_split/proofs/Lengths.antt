@@ -122,7 +122,8 @@ module _ (ns : Names) (slots : List SlotTree) where
         let c2 = lowered ns slots (Mark ∷ s) v (begun h) b in
         after w.hand (joined w.hand (joined w.hand c0 c1) c2) (lowered ns slots s w (begun m) k) (1 + suc (blocks_in false b)) (groups_in b) (blocks_in w.looped.tried k) (groups_in k)
         (sized (joined w.hand (joined w.hand c0 c1) c2) (1 + suc (blocks_in false b)) (0 + groups_in b) (1 + suc (blocks_in false b)) (groups_in b) refl (zero_plus (groups_in b))
-        (after w.hand (joined w.hand c0 c1) c2 1 0 (blocks_in false b) (groups_in b) (first_after w.hand c0 c1 0 0 (none w s false [] (PassLast n.block)) (none w s true [] (TestLast (over slots s e) h.block m.block)))
+        (after w.hand (joined w.hand c0 c1) c2 1 0 (blocks_in false b) (groups_in b)
+        (first_after w.hand c0 c1 0 0 (none w s false [] (PassLast n.block)) (none w s true [] (TestLast (over slots s e) h.block m.block)))
         (lowered_sizes (Mark ∷ s) v (begun h) b)))
         (lowered_sizes s w (begun m) k)
     lowered_sizes s w n (LoopStmt at b k) =
@@ -149,7 +150,8 @@ module _ (ns : Names) (slots : List SlotTree) where
         let c4 = lowered ns slots s w (begun o) k in
         let d4 = lowered_sizes s w (begun o) k in
         sized _ _ _ _ _ refl (step_first (groups_in i) (groups_in b) (groups_in p) (groups_in k))
-        (after w.hand (joined w.hand (joined w.hand c1 c2) c3) (dropping (scope (later p m.local r)) c4) (blocks_in t i + test_blocks e + suc (blocks_in false b) + suc (blocks_in t p)) (groups_in i + groups_in b + groups_in p)
+        (after w.hand (joined w.hand (joined w.hand c1 c2) c3) (dropping (scope (later p m.local r)) c4) (blocks_in t i + test_blocks e + suc (blocks_in false b) + suc (blocks_in t p))
+        (groups_in i + groups_in b + groups_in p)
         (blocks_in t k) (groups_in k)
         (after w.hand (joined w.hand c1 c2) c3 (blocks_in t i + test_blocks e + suc (blocks_in false b)) (groups_in i + groups_in b) (blocks_in t p) (groups_in p)
         (after w.hand c1 c2 (blocks_in t i + test_blocks e) (groups_in i) (blocks_in false b) (groups_in b)
@@ -166,7 +168,8 @@ module _ (ns : Names) (slots : List SlotTree) where
         rest_sizes w.hand (exits w.looped.tried w s n w.looped.again) (lowered ns slots s w (begun m) k) k (exit_blocks w.looped.tried) (blocks_in w.looped.tried k)
         (exits_sizes w.looped.tried w s n w.looped.again) (lowered_sizes s w (begun m) k)
     lowered_sizes s w n (ReturnStmt at e k) =
-        first_rest w.hand (ends w s true [] (ReturnLast (over slots s e))) (lowered ns slots s w (begun n) k) k (blocks_in w.looped.tried k) (none w s true [] (ReturnLast (over slots s e))) (lowered_sizes s w (begun n) k)
+        first_rest w.hand (ends w s true [] (ReturnLast (over slots s e))) (lowered ns slots s w (begun n) k) k (blocks_in w.looped.tried k) (none w s true [] (ReturnLast (over slots s e)))
+        (lowered_sizes s w (begun n) k)
     lowered_sizes s w n (ThrowStmt at e k) =
         first_rest w.hand (ends w s true [] (ThrowLast (thrown ns slots s at e w.caught))) (lowered ns slots s w (begun n) k) k (blocks_in w.looped.tried k)
         (none w s true [] (ThrowLast (thrown ns slots s at e w.caught))) (lowered_sizes s w (begun n) k)
@@ -180,7 +183,8 @@ module _ (ns : Names) (slots : List SlotTree) where
         let c0 = ends w s false [] (GotoLast n.block) in
         let c1 = lowered ns slots (Mark ∷ s) (guarded w exit h) (begun n) b in
         let c2 = lowered ns slots (Var x.name m.local ∷ Mark ∷ s) (handling w exit x.name) g c in
-        after w.hand (joined w.hand (joined (Some h) c0 c1) c2) (lowered ns slots s w (begun j) k) (suc (blocks_in true b) + suc (blocks_in t c)) (groups_in b + groups_in c) (blocks_in t k) (groups_in k)
+        after w.hand (joined w.hand (joined (Some h) c0 c1) c2) (lowered ns slots s w (begun j) k) (suc (blocks_in true b) + suc (blocks_in t c)) (groups_in b + groups_in c) (blocks_in t k)
+        (groups_in k)
         (after w.hand (joined (Some h) c0 c1) c2 (suc (blocks_in true b)) (groups_in b) (blocks_in t c) (groups_in c)
         (first_after (Some h) c0 c1 (blocks_in true b) (groups_in b) (none w s false [] (GotoLast n.block)) (lowered_sizes (Mark ∷ s) (guarded w exit h) (begun n) b))
         (lowered_sizes (Var x.name m.local ∷ Mark ∷ s) (handling w exit x.name) g c))
@@ -193,7 +197,8 @@ module _ (ns : Names) (slots : List SlotTree) where
         let c0 : Chunk = record (ends w s true [] (ChooseLast n.group)) { groups = callbacks ns slots s t g bs ∷ [] } in
         sized _ _ _ _ _ refl (suc_plus (branch_group_count bs) (groups_in k))
         (after w.hand (branches ns slots c0 s v g bs) (lowered ns slots s w (begun j) k) (branch_blocks t bs) (suc (branch_group_count bs)) (blocks_in t k) (groups_in k)
-        (sized (branches ns slots c0 s v g bs) (0 + branch_blocks t bs) (1 + branch_group_count bs) (branch_blocks t bs) (suc (branch_group_count bs)) (zero_plus (branch_blocks t bs)) (one_plus (branch_group_count bs))
+        (sized (branches ns slots c0 s v g bs) (0 + branch_blocks t bs) (1 + branch_group_count bs) (branch_blocks t bs) (suc (branch_group_count bs)) (zero_plus (branch_blocks t bs))
+        (one_plus (branch_group_count bs))
         (branches_sizes c0 s v g bs 0 1 (record { more = refl; groups = refl })))
         (lowered_sizes s w (begun j) k))
     lowered_sizes s w n (DeclareStmt at i e k) =
@@ -211,7 +216,8 @@ module _ (ns : Names) (slots : List SlotTree) where
     lowered_sizes s w n (WaitStmt at v k) =
         let c0 : Chunk = record (ends w s true [] (ChooseLast n.group)) { groups = (callback ns slots s v n.local n.block ∷ []) ∷ [] } in
         let d = lowered ns slots (with_taken v.into n.local s) w (taken v.into (begun (grouped n))) k in
-        sized (joined w.hand c0 d) (0 + suc (blocks_in w.looped.tried k)) (1 + groups_in k) (suc (blocks_in w.looped.tried k)) (suc (groups_in k)) (zero_plus (suc (blocks_in w.looped.tried k))) (one_plus (groups_in k))
+        sized (joined w.hand c0 d) (0 + suc (blocks_in w.looped.tried k)) (1 + groups_in k) (suc (blocks_in w.looped.tried k)) (suc (groups_in k)) (zero_plus (suc (blocks_in w.looped.tried k)))
+        (one_plus (groups_in k))
         (after w.hand c0 d 0 1 (blocks_in w.looped.tried k) (groups_in k) (record { more = refl; groups = refl }) (lowered_sizes (with_taken v.into n.local s) w (taken v.into (begun (grouped n))) k))
 
     pub branches_sizes : (c : Chunk) (s : Scope) (w : Around) (n : Next) (bs : Branches) (x y : ℕ) → Sizes c x y

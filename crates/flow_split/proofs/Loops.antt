@@ -157,7 +157,11 @@ module _ (ns : Names) (slots : List SlotTree) (w : Around) where
       → new ≡ record e2 { scopes = outside e2.scopes } → EmitsHandler ns slots w x b e new
   in_handler_scope x b e e1 e2 new h a nw =
       let r = subst (λ y. EmitsAll ns slots w b y e2) h a in
-      subst (EmitsHandler ns slots w x b e) (sym nw) (record { all = record { all = r.all.all; fresh = record { body = r.all.fresh.body; acts = r.all.fresh.acts } }; next = r.next; scopes = r.scopes })
+      subst (EmitsHandler ns slots w x b e) (sym nw) (record {
+        all = record { all = r.all.all; fresh = record { body = r.all.fresh.body; acts = r.all.fresh.acts } };
+        next = r.next;
+        scopes = r.scopes;
+      })
 
   -- a part of a `for`
   pub no_part : (e new : Emitted) → e.is_open ≡ true → new ≡ ended_by w e → EmitsPart ns slots w End e new
@@ -174,7 +178,8 @@ module _ (ns : Names) (slots : List SlotTree) (w : Around) where
   pub part_none : (p : Option (Box Stmt Global)) (e new : Emitted) → p ≡ None → e.is_open ≡ true → new ≡ ended_by w e → EmitsPart ns slots w (simple_of p) e new
   part_none p e new h o k = subst (λ q. EmitsPart ns slots w (simple_of q) e new) (sym h) (no_part e new o k)
 
-  pub part_some : (p : Option (Box Stmt Global)) (b : Box Stmt Global) (s : Stmt) (e e1 new : Emitted) → p ≡ Some b → s ≡ b.value → e.is_open ≡ true → Emits ns slots w (stmt_of s) e e1 → new ≡ ended_by w e1
+  pub part_some : (p : Option (Box Stmt Global)) (b : Box Stmt Global) (s : Stmt) (e e1 new : Emitted) → p ≡ Some b → s ≡ b.value → e.is_open ≡ true → Emits ns slots w (stmt_of s) e e1
+      → new ≡ ended_by w e1
       → EmitsPart ns slots w (simple_of p) e new
   part_some p b s e e1 new h d o a k =
       subst (λ q. EmitsPart ns slots w (simple_of q) e new) (sym h) (subst (λ x. EmitsPart ns slots w (stmt_of x End) e new) d (some_part s e e1 new o a k))

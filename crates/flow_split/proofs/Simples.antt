@@ -33,7 +33,8 @@ changed_is ns slots s x xs (MinusChange e) = ap (λ z. SetInstr (path_over slots
 changed_is ns slots s x xs UpChange = ap (λ z. SetInstr (path_over slots s (x ∷ xs)) (BinaryExpr Add z (IntExpr (pos 1))) ∷ []) (over_path slots s (VarExpr x) xs)
 changed_is ns slots s x xs DownChange = ap (λ z. SetInstr (path_over slots s (x ∷ xs)) (BinaryExpr Sub z (IntExpr (pos 1))) ∷ []) (over_path slots s (VarExpr x) xs)
 
-pub modified_by : (ns : Names) (slots : List SlotTree) (s : Scope) (xs path : List Ident) (x : Ident) (rest : List Ident) (d : ChangeTree) (value old : ExprTree) → xs ≡ x ∷ rest → path ≡ path_over slots s xs
+pub modified_by : (ns : Names) (slots : List SlotTree) (s : Scope) (xs path : List Ident) (x : Ident) (rest : List Ident) (d : ChangeTree) (value old : ExprTree) → xs ≡ x ∷ rest
+    → path ≡ path_over slots s xs
     → value ≡ change_over slots s d old → old ≡ path_from (VarExpr (ident_over slots s x)) rest → SetInstr path value ∷ [] ≡ changed ns slots s xs (change xs d)
 modified_by ns slots s xs path x rest d value old xe pe ve oe =
     ap₂ (λ p v. SetInstr p v ∷ []) (pe ∙ ap (path_over slots s) xe) (ve ∙ ap (change_over slots s d) oe) ∙ sym (changed_is ns slots s x rest d) ∙ ap (λ z. changed ns slots s z (change z d)) (sym xe)
@@ -65,7 +66,8 @@ module _ (ns : Names) (slots : List SlotTree) (w : Around) (e f : Emitted) (at :
       let is = changed ns slots e.scopes xs (change xs d) in
       subst (Emits ns slots w (ModifyStmt at xs d) e) (sym h) (instrs_emit ns slots w e (acted is e) is (ModifyStmt at xs d) o refl refl o refl refl (λ k. refl) (λ k. refl) refl)
 
-  pub call_emits : (xs : List Ident) (es : ExprTrees) → e.is_open ≡ true → f ≡ acted (ActInstr (act_over slots e.scopes xs) (over_all slots e.scopes es) ∷ []) e → Emits ns slots w (CallStmt at xs es) e f
+  pub call_emits : (xs : List Ident) (es : ExprTrees) → e.is_open ≡ true → f ≡ acted (ActInstr (act_over slots e.scopes xs) (over_all slots e.scopes es) ∷ []) e
+      → Emits ns slots w (CallStmt at xs es) e f
   call_emits xs es o h =
       let is = ActInstr (act_over slots e.scopes xs) (over_all slots e.scopes es) ∷ [] in
       subst (Emits ns slots w (CallStmt at xs es) e) (sym h) (instrs_emit ns slots w e (acted is e) is (CallStmt at xs es) o refl refl o refl refl (λ k. refl) (λ k. refl) refl)

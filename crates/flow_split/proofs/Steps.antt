@@ -172,7 +172,8 @@ module _ (ns : Names) (slots : List SlotTree) where
   onto_acted : (is : List InstrTree) (e : Emitted) (c : Chunk) → onto (acted is e) c ≡ onto e (acting is c)
   onto_acted is e c i = record c { body = append_assoc e.body is c.body i; acts = or_true c.acts i }
 
-  pub instrs_emit : (w : Around) (e f : Emitted) (is : List InstrTree) (stmt : Body → Body) → e.is_open ≡ true → f.blocks ≡ e.blocks → f.groups ≡ e.groups → f.is_open ≡ true → f.body ≡ e.body ++ is → f.acts ≡ true
+  pub instrs_emit : (w : Around) (e f : Emitted) (is : List InstrTree) (stmt : Body → Body) → e.is_open ≡ true → f.blocks ≡ e.blocks → f.groups ≡ e.groups → f.is_open ≡ true → f.body ≡ e.body ++ is
+      → f.acts ≡ true
       → ((k : Body) → rest_of ns slots e w (stmt k) ≡ acting is (rest_of ns slots f w k))
       → ((k : Body) → f.next + locals_in k ≡ e.next + locals_in (stmt k))
       → f.scopes ≡ later (stmt End) e.next e.scopes

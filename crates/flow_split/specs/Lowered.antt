@@ -262,7 +262,8 @@ module _ (ns : Names) (slots : List SlotTree) where
         let g = grouped n in
         let j = past_branches t bs g in
         joined w.hand
-        (branches (record (ends w s true [] (ChooseLast n.group)) { groups = callbacks s t g bs ∷ [] }) s (inner w (Scoped (GotoLast j.block))) g bs)
+        (branches (record (ends w s true [] (ChooseLast n.group)) { groups = callbacks s t g bs ∷ [] }) s
+        (inner w (Scoped (GotoLast j.block))) g bs)
         (lowered s w (begun j) k)
     lowered s w n (DeclareStmt at i e k) =
         acting (declares s n.local i e) (lowered (with_into i n.local s) w (taken (Some i) n) k)

@@ -67,7 +67,8 @@ map_twice : {A B C : Type 0} (f : A → B) (g : B → C) (xs : List A) → map (
 map_twice f g [] = refl
 map_twice f g (x ∷ xs) = ap (λ l. g (f x) ∷ l) (map_twice f g xs)
 
-pub params_end : (f : Param → ParamTree) (g : ParamTree → Variable) (ps : List Param) (i : ℕ) (vs : List Variable) → length ps ≤ i → vs ≡ reverse (map (λ p. g (f p)) (take i ps)) → vs ≡ reverse (map g (map f ps))
+pub params_end : (f : Param → ParamTree) (g : ParamTree → Variable) (ps : List Param) (i : ℕ) (vs : List Variable) → length ps ≤ i → vs ≡ reverse (map (λ p. g (f p)) (take i ps))
+    → vs ≡ reverse (map g (map f ps))
 params_end f g ps i vs le inv = inv ∙ ap (λ l. reverse (map (λ p. g (f p)) l)) (take_all i ps le) ∙ ap reverse (map_twice f g ps)
 
 none_left : (n : ℕ) → n - 0 ≡ n

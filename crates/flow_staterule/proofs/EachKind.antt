@@ -36,7 +36,8 @@ rest_of h vs ws s k = uses (left h.looked.0 s) ws (beyond h.looked.0 vs h.point 
 abbrev uses_at : Here → List Variable → Body → List Use
 uses_at h vs b = uses h.looked.0 vs h.point h.caught b
 
-after : (f g : Finder) (h : Here) (s : Stmt) (put : Body → Body) (ws : List Variable) (inner : List Use) → ((k : Body) → stmt_of s k ≡ put k) → g.uses.items ≡ f.uses.items ++ inner → in_force g.variables ≡ ws
+after : (f g : Finder) (h : Here) (s : Stmt) (put : Body → Body) (ws : List Variable) (inner : List Use) → ((k : Body) → stmt_of s k ≡ put k) → g.uses.items ≡ f.uses.items ++ inner
+    → in_force g.variables ≡ ws
     → ((k : Body) → inner ++ rest_of h (in_force f.variables) ws (put End) k ≡ uses_at h (in_force f.variables) (put k)) → declaring (in_force f.variables) (put End) ≡ ws → Finds f g h (stmt_of s)
 after f g h s put ws inner is us vs rest declares = record {
   uses = λ k.
@@ -59,7 +60,8 @@ two u v w a b e f = f ∙ ap (λ l. l ++ b) e ∙ append_assoc u a b
 scope_is : (f f' : Finder) (h : Here) (b : Body) (us : List Use) → us ≡ found f' h b → f'.variables.list.items ≡ f.variables.list.items → us ≡ f'.uses.items ++ uses_at h (in_force f.variables) b
 scope_is f f' h b us e vs = e ∙ ap (λ l. f'.uses.items ++ uses_at h (declared_after [] l) b) vs
 
-pub after_block : (f g : Finder) (h : Here) (s : Stmt) (b : Vec Stmt Global) (items : List Stmt) → s.kind ≡ kind.Block b → items ≡ b.items → g.uses.items ≡ found f h (body_of items) → g.variables.list.items ≡ f.variables.list.items → Finds f g h (stmt_of s)
+pub after_block : (f g : Finder) (h : Here) (s : Stmt) (b : Vec Stmt Global) (items : List Stmt) → s.kind ≡ kind.Block b → items ≡ b.items → g.uses.items ≡ found f h (body_of items)
+    → g.variables.list.items ≡ f.variables.list.items → Finds f g h (stmt_of s)
 after_block f g h s b items e d us vs =
     after f g h s (BlockStmt s.at (body_of b.items)) (in_force f.variables) (uses_at h (in_force f.variables) (body_of b.items)) (λ k. is_block s b k e)
     (us ∙ ap (λ l. found f h (body_of l)) d) (same_force f.variables g.variables vs) (λ k. refl) refl
@@ -119,24 +121,29 @@ simple : (h : Here) (vs ws : List Variable) (p : Point) (k : Body) → uses (h.l
 simple h vs ws p k = ap (λ n. uses n ws p h.caught k) (none_left h.looked.0)
 
 pub after_break : (f : Finder) (h : Here) (s : Stmt) → s.kind ≡ kind.Break → Finds f f h (stmt_of s)
-after_break f h s is = after f f h s (BreakStmt s.at) (in_force f.variables) [] (λ k. is_break s k is) (sym (append-nil f.uses.items)) refl (λ k. simple h (in_force f.variables) (in_force f.variables) _ k) refl
+after_break f h s is = after f f h s (BreakStmt s.at) (in_force f.variables) [] (λ k. is_break s k is) (sym (append-nil f.uses.items)) refl
+    (λ k. simple h (in_force f.variables) (in_force f.variables) _ k) refl
 
 pub after_continue : (f : Finder) (h : Here) (s : Stmt) → s.kind ≡ kind.Continue → Finds f f h (stmt_of s)
-after_continue f h s is = after f f h s (ContinueStmt s.at) (in_force f.variables) [] (λ k. is_continue s k is) (sym (append-nil f.uses.items)) refl (λ k. simple h (in_force f.variables) (in_force f.variables) _ k) refl
+after_continue f h s is = after f f h s (ContinueStmt s.at) (in_force f.variables) [] (λ k. is_continue s k is) (sym (append-nil f.uses.items)) refl
+    (λ k. simple h (in_force f.variables) (in_force f.variables) _ k) refl
 
-pub after_return : (f g : Finder) (h : Here) (s : Stmt) (e : Expr) → s.kind ≡ kind.Return e → g.uses.items ≡ f.uses.items ++ expr_uses (in_force f.variables) h.point (expr_of e) → g.variables.list.items ≡ f.variables.list.items → Finds f g h (stmt_of s)
+pub after_return : (f g : Finder) (h : Here) (s : Stmt) (e : Expr) → s.kind ≡ kind.Return e → g.uses.items ≡ f.uses.items ++ expr_uses (in_force f.variables) h.point (expr_of e)
+    → g.variables.list.items ≡ f.variables.list.items → Finds f g h (stmt_of s)
 after_return f g h s e is us vs =
     after f g h s (ReturnStmt s.at (expr_of e)) (in_force f.variables) (expr_uses (in_force f.variables) h.point (expr_of e)) (λ k. is_return s e k is) us (same_force f.variables g.variables vs)
     (λ k. ap (λ l. expr_uses (in_force f.variables) h.point (expr_of e) ++ l) (simple h (in_force f.variables) (in_force f.variables) _ k)) refl
 
-pub after_throw : (f g : Finder) (h : Here) (s : Stmt) (e : Option Expr) → s.kind ≡ kind.Throw e → g.uses.items ≡ f.uses.items ++ thrown_uses h.point h.caught s.at (option_map expr_of e) (in_force f.variables)
+pub after_throw : (f g : Finder) (h : Here) (s : Stmt) (e : Option Expr) → s.kind ≡ kind.Throw e
+    → g.uses.items ≡ f.uses.items ++ thrown_uses h.point h.caught s.at (option_map expr_of e) (in_force f.variables)
     → g.variables.list.items ≡ f.variables.list.items → Finds f g h (stmt_of s)
 after_throw f g h s e is us vs =
     let inner = thrown_uses h.point h.caught s.at (option_map expr_of e) (in_force f.variables) in
     after f g h s (ThrowStmt s.at (option_map expr_of e)) (in_force f.variables) inner (λ k. is_throw s e k is) us (same_force f.variables g.variables vs)
     (λ k. ap (λ l. inner ++ l) (simple h (in_force f.variables) (in_force f.variables) _ k)) refl
 
-pub after_declare : (f f1 g : Finder) (h : Here) (s : Stmt) (i : Into) (e : Option Expr) → s.kind ≡ kind.Declare i e → f1.uses.items ≡ f.uses.items ++ maybe_uses (in_force f.variables) h.point (option_map expr_of e)
+pub after_declare : (f f1 g : Finder) (h : Here) (s : Stmt) (i : Into) (e : Option Expr) → s.kind ≡ kind.Declare i e
+    → f1.uses.items ≡ f.uses.items ++ maybe_uses (in_force f.variables) h.point (option_map expr_of e)
     → f1.variables.list.items ≡ f.variables.list.items → g.uses.items ≡ f1.uses.items → in_force g.variables ≡ declared (into_of i) ∷ in_force f1.variables → Finds f g h (stmt_of s)
 after_declare f f1 g h s i e is us vs us2 vs2 =
     let inner = maybe_uses (in_force f.variables) h.point (option_map expr_of e) in
@@ -145,7 +152,8 @@ after_declare f f1 g h s i e is us vs us2 vs2 =
     (λ k. ap (λ l. inner ++ l) (simple h (in_force f.variables) ws _ k)) refl
 
 pub after_assign : (f f1 g : Finder) (h : Here) (s : Stmt) (t : Target) (e : Expr) → s.kind ≡ kind.Assign t e → f1.uses.items ≡ f.uses.items ++ target_uses (in_force f.variables) h.point t.path.items
-    → f1.variables.list.items ≡ f.variables.list.items → g.uses.items ≡ f1.uses.items ++ expr_uses (in_force f1.variables) h.point (expr_of e) → g.variables.list.items ≡ f1.variables.list.items → Finds f g h (stmt_of s)
+    → f1.variables.list.items ≡ f.variables.list.items → g.uses.items ≡ f1.uses.items ++ expr_uses (in_force f1.variables) h.point (expr_of e) → g.variables.list.items ≡ f1.variables.list.items
+    → Finds f g h (stmt_of s)
 after_assign f f1 g h s t e is us vs us2 vs2 =
     let force = in_force f.variables in
     let inner = target_uses force h.point t.path.items ++ expr_uses force h.point (expr_of e) in
@@ -153,8 +161,10 @@ after_assign f f1 g h s t e is us vs us2 vs2 =
     (two f.uses.items f1.uses.items g.uses.items _ _ us (us2 ∙ ap (λ l. f1.uses.items ++ expr_uses (declared_after [] l) h.point (expr_of e)) vs)) (same_force f.variables g.variables (vs2 ∙ vs))
     (λ k. ap (λ l. inner ++ l) (simple h force force _ k)) refl
 
-pub after_modify : (f f1 g : Finder) (h : Here) (s : Stmt) (t : Target) (d : Change) → s.kind ≡ kind.Modify t d → f1.uses.items ≡ f.uses.items ++ target_uses (in_force f.variables) h.point t.path.items
-    → f1.variables.list.items ≡ f.variables.list.items → g.uses.items ≡ f1.uses.items ++ change_uses (in_force f1.variables) h.point (change_of d) → g.variables.list.items ≡ f1.variables.list.items → Finds f g h (stmt_of s)
+pub after_modify : (f f1 g : Finder) (h : Here) (s : Stmt) (t : Target) (d : Change) → s.kind ≡ kind.Modify t d
+    → f1.uses.items ≡ f.uses.items ++ target_uses (in_force f.variables) h.point t.path.items
+    → f1.variables.list.items ≡ f.variables.list.items → g.uses.items ≡ f1.uses.items ++ change_uses (in_force f1.variables) h.point (change_of d) → g.variables.list.items ≡ f1.variables.list.items
+    → Finds f g h (stmt_of s)
 after_modify f f1 g h s t d is us vs us2 vs2 =
     let force = in_force f.variables in
     let inner = target_uses force h.point t.path.items ++ change_uses force h.point (change_of d) in
@@ -162,19 +172,24 @@ after_modify f f1 g h s t d is us vs us2 vs2 =
     (two f.uses.items f1.uses.items g.uses.items _ _ us (us2 ∙ ap (λ l. f1.uses.items ++ change_uses (declared_after [] l) h.point (change_of d)) vs)) (same_force f.variables g.variables (vs2 ∙ vs))
     (λ k. ap (λ l. inner ++ l) (simple h force force _ k)) refl
 
-pub after_call : (f f1 g : Finder) (h : Here) (s : Stmt) (t : Target) (es : Vec Expr Global) (items : List Expr) → s.kind ≡ kind.Call t es → items ≡ es.items → f1.uses.items ≡ f.uses.items ++ base_uses (in_force f.variables) h.point t.path.items
-    → f1.variables.list.items ≡ f.variables.list.items → g.uses.items ≡ f1.uses.items ++ exprs_uses (in_force f1.variables) h.point (exprs_of items) → g.variables.list.items ≡ f1.variables.list.items → Finds f g h (stmt_of s)
+pub after_call : (f f1 g : Finder) (h : Here) (s : Stmt) (t : Target) (es : Vec Expr Global) (items : List Expr) → s.kind ≡ kind.Call t es → items ≡ es.items
+    → f1.uses.items ≡ f.uses.items ++ base_uses (in_force f.variables) h.point t.path.items
+    → f1.variables.list.items ≡ f.variables.list.items → g.uses.items ≡ f1.uses.items ++ exprs_uses (in_force f1.variables) h.point (exprs_of items) → g.variables.list.items ≡ f1.variables.list.items
+    → Finds f g h (stmt_of s)
 after_call f f1 g h s t es items is d us vs us2 vs2 =
     let force = in_force f.variables in
     let inner = base_uses force h.point t.path.items ++ exprs_uses force h.point (exprs_of es.items) in
     after f g h s (CallStmt s.at t.path.items (exprs_of es.items)) force inner (λ k. is_call s t es k is)
-    (two f.uses.items f1.uses.items g.uses.items _ _ us (us2 ∙ ap₂ (λ l i. f1.uses.items ++ exprs_uses (declared_after [] l) h.point (exprs_of i)) vs d)) (same_force f.variables g.variables (vs2 ∙ vs))
+    (two f.uses.items f1.uses.items g.uses.items _ _ us (us2 ∙ ap₂ (λ l i. f1.uses.items ++ exprs_uses (declared_after [] l) h.point (exprs_of i)) vs d))
+    (same_force f.variables g.variables (vs2 ∙ vs))
     (λ k. ap (λ l. inner ++ l) (simple h force force _ k)) refl
 
-pub after_wait : (f f1 g : Finder) (h : Here) (s : Stmt) (w : Waiting) → s.kind ≡ kind.Wait w → f1.uses.items ≡ f.uses.items ++ expr_uses (in_force f.variables) h.point (expr_of w.operand) → f1.variables.list.items ≡ f.variables.list.items
+pub after_wait : (f f1 g : Finder) (h : Here) (s : Stmt) (w : Waiting) → s.kind ≡ kind.Wait w → f1.uses.items ≡ f.uses.items ++ expr_uses (in_force f.variables) h.point (expr_of w.operand)
+    → f1.variables.list.items ≡ f.variables.list.items
     → g.uses.items ≡ f1.uses.items → in_force g.variables ≡ with_into (in_force f1.variables) (waiting_of w).into → Finds f g h (stmt_of s)
 after_wait f f1 g h s w is us vs us2 vs2 =
-    after f g h s (WaitStmt s.at (waiting_of w)) (with_into (in_force f.variables) (waiting_of w).into) (expr_uses (in_force f.variables) h.point (expr_of w.operand)) (λ k. is_wait s w k is) (us2 ∙ us)
+    after f g h s (WaitStmt s.at (waiting_of w)) (with_into (in_force f.variables) (waiting_of w).into) (expr_uses (in_force f.variables) h.point (expr_of w.operand)) (λ k. is_wait s w k is)
+    (us2 ∙ us)
     (vs2 ∙ ap (λ l. with_into (declared_after [] l) (waiting_of w).into) vs) (λ k. refl) refl
 
 pub after_choose : (f g : Finder) (h : Here) (s : Stmt) (bs : Vec When Global) (items : List When) → s.kind ≡ kind.Choose bs → items ≡ bs.items
@@ -184,9 +199,11 @@ after_choose f g h s bs items is d us vs =
     after f g h s (ChooseStmt s.at (branches_of bs.items)) (in_force f.variables) inner (λ k. is_choose s bs k is)
     (us ∙ ap (λ l. f.uses.items ++ choose_uses h.looked.0 (in_force f.variables) h.point h.caught (branches_of l)) d) (same_force f.variables g.variables vs) (λ k. refl) refl
 
-pub after_try : (f f1 g : Finder) (h i : Here) (s : Stmt) (b : Vec Stmt Global) (q : Place) (x : Ident) (o : Vec Stmt Global) (items hands : List Stmt) → s.kind ≡ kind.Try b q x o → items ≡ b.items → hands ≡ o.items
+pub after_try : (f f1 g : Finder) (h i : Here) (s : Stmt) (b : Vec Stmt Global) (q : Place) (x : Ident) (o : Vec Stmt Global) (items hands : List Stmt) → s.kind ≡ kind.Try b q x o → items ≡ b.items
+    → hands ≡ o.items
     → f1.uses.items ≡ found f h (body_of items) → f1.variables.list.items ≡ f.variables.list.items → i ≡ in_handler (length (in_force f1.variables)) h (body_of items) x
-    → g.uses.items ≡ f1.uses.items ++ uses i.looked.0 (caught_as x ∷ in_force f1.variables) i.point i.caught (body_of hands) → g.variables.list.items ≡ f1.variables.list.items → Finds f g h (stmt_of s)
+    → g.uses.items ≡ f1.uses.items ++ uses i.looked.0 (caught_as x ∷ in_force f1.variables) i.point i.caught (body_of hands) → g.variables.list.items ≡ f1.variables.list.items
+    → Finds f g h (stmt_of s)
 after_try f f1 g h i s b q x o items hands is d c us vs ie us2 vs2 =
     let force = in_force f.variables in
     let j = in_handler (length force) h (body_of b.items) x in

@@ -26,10 +26,12 @@ use Rattle.flow_staterule.proofs.Passing.{past_two, past_three, past_four, past_
 abbrev behind : ℕ → Body → ℕ
 behind n b = n - length (body_groups b)
 
-pub waits_while : (s : Stmt) (e : Expr) (b : Vec Stmt Global) (n m : ℕ) → s.kind ≡ kind.While e b → m ≡ n - length (body_groups (body_of b.items)) → (k : Body) → n - length (body_groups (stmt_of s k)) ≡ m - length (body_groups k)
+pub waits_while : (s : Stmt) (e : Expr) (b : Vec Stmt Global) (n m : ℕ) → s.kind ≡ kind.While e b → m ≡ n - length (body_groups (body_of b.items)) → (k : Body)
+    → n - length (body_groups (stmt_of s k)) ≡ m - length (body_groups k)
 waits_while s e b n m is l k = ap (behind n) (is_while s e b k is) ∙ past_two n m (body_groups (body_of b.items)) (body_groups k) l
 
-pub waits_loop : (s : Stmt) (b : Vec Stmt Global) (n m : ℕ) → s.kind ≡ kind.Loop b → m ≡ n - length (body_groups (body_of b.items)) → (k : Body) → n - length (body_groups (stmt_of s k)) ≡ m - length (body_groups k)
+pub waits_loop : (s : Stmt) (b : Vec Stmt Global) (n m : ℕ) → s.kind ≡ kind.Loop b → m ≡ n - length (body_groups (body_of b.items)) → (k : Body)
+    → n - length (body_groups (stmt_of s k)) ≡ m - length (body_groups k)
 waits_loop s b n m is l k = ap (behind n) (is_loop s b k is) ∙ past_two n m (body_groups (body_of b.items)) (body_groups k) l
 
 pub waits_try : (s : Stmt) (b : Vec Stmt Global) (p : Place) (x : Ident) (h : Vec Stmt Global) (items hands : List Stmt) (n m l : ℕ) → s.kind ≡ kind.Try b p x h → items ≡ b.items → hands ≡ h.items
@@ -38,7 +40,8 @@ waits_try s b p x h items hands n m l is d c me le k =
     ap (behind n) (is_try s b p x h k is)
     ∙ past_three n m l (body_groups (body_of b.items)) (body_groups (body_of h.items)) (body_groups k) (me ∙ ap (λ y. behind n (body_of y)) d) (le ∙ ap (λ y. behind m (body_of y)) c)
 
-pub waits_for : (s : Stmt) (i : Option (Box Stmt Global)) (e : Option Expr) (t : Option (Box Stmt Global)) (b : Vec Stmt Global) (items : List Stmt) (n m l o : ℕ) → s.kind ≡ kind.For i e t b → items ≡ b.items
+pub waits_for : (s : Stmt) (i : Option (Box Stmt Global)) (e : Option Expr) (t : Option (Box Stmt Global)) (b : Vec Stmt Global) (items : List Stmt) (n m l o : ℕ) → s.kind ≡ kind.For i e t b
+    → items ≡ b.items
     → m ≡ n - length (body_groups (simple_of i)) → l ≡ m - length (body_groups (simple_of t)) → o ≡ l - length (body_groups (body_of items))
     → (k : Body) → n - length (body_groups (stmt_of s k)) ≡ o - length (body_groups k)
 waits_for s i e t b items n m l o is d me le oe k =
@@ -76,7 +79,8 @@ ways_if s e b (Some c) items w v n m l is d we me ve le k =
     ap (ways n) (is_if_else s e b c k is)
     ∙ sym (ap₂ (λ x y. sequence x (ways y k)) (ve ∙ ap₂ (λ x y. both (node at_once) (both x (ways y (body_of c.items)))) wb mb) (le ∙ ap (λ y. y - length (body_groups (body_of c.items))) mb))
 
-pub ways_for : (s : Stmt) (i : Option (Box Stmt Global)) (e : Option Expr) (t : Option (Box Stmt Global)) (b : Vec Stmt Global) (items : List Stmt) (w v u z : Ways) (n m l o : ℕ) → s.kind ≡ kind.For i e t b → items ≡ b.items
+pub ways_for : (s : Stmt) (i : Option (Box Stmt Global)) (e : Option Expr) (t : Option (Box Stmt Global)) (b : Vec Stmt Global) (items : List Stmt) (w v u z : Ways) (n m l o : ℕ)
+    → s.kind ≡ kind.For i e t b → items ≡ b.items
     → w ≡ ways n (simple_of i) → m ≡ n - length (body_groups (simple_of i)) → v ≡ ways m (simple_of t) → l ≡ m - length (body_groups (simple_of t))
     → u ≡ ways l (body_of items) → o ≡ l - length (body_groups (body_of items)) → z ≡ sequence w (looped (is_there (option_map expr_of e)) (with_step u v))
     → (k : Body) → ways n (stmt_of s k) ≡ sequence z (ways o k)
@@ -86,7 +90,8 @@ ways_for s i e t b items w v u z n m l o is d we me ve le ue oe ze k =
     let vb : v ≡ ways (behind n (simple_of i)) (simple_of t) = ve ∙ ap (λ y. ways y (simple_of t)) me in
     let ob : o ≡ behind (behind (behind n (simple_of i)) (simple_of t)) (body_of b.items) = oe ∙ ap₂ (λ x y. behind x (body_of y)) lb d in
     ap (ways n) (is_for s i e t b k is)
-    ∙ sym (ap₂ (λ x y. sequence x (ways y k)) (ze ∙ ap (λ x. sequence x (looped (is_there (option_map expr_of e)) (with_step u v))) we ∙ ap₂ (λ x y. sequence (ways n (simple_of i)) (looped (is_there (option_map expr_of e)) (with_step x y))) ub vb) ob)
+    ∙ sym (ap₂ (λ x y. sequence x (ways y k)) (ze ∙ ap (λ x. sequence x (looped (is_there (option_map expr_of e)) (with_step u v))) we
+    ∙ ap₂ (λ x y. sequence (ways n (simple_of i)) (looped (is_there (option_map expr_of e)) (with_step x y))) ub vb) ob)
 
 pub ways_choose : (s : Stmt) (bs : Vec When Global) (items : List When) (w v : Ways) (n m l : ℕ) → s.kind ≡ kind.Choose bs → items ≡ bs.items → m ≡ n - 1 → w ≡ branch_ways m (branches_of items)
     → l ≡ m - length (branch_groups (branches_of items)) → v ≡ follow (waited_at n) (both (node at_once) w) → (k : Body) → ways n (stmt_of s k) ≡ sequence v (ways l k)

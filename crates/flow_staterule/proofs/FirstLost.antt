@@ -45,7 +45,8 @@ false_of : (x : Bool) → (x ≡ true → false ≡ true) → x ≡ false
 false_of true f = sym (f refl)
 false_of false f = refl
 
-pub halved : (ps : List ParamTree) (b : Body) (u low high waits : ℕ) (ws : List Place) → low < high → high ≤ waits → high ≤ low + 1 → is_lost_with ps b u high ≡ true → (0 < low → is_lost_with ps b u low ≡ false)
+pub halved : (ps : List ParamTree) (b : Body) (u low high waits : ℕ) (ws : List Place) → low < high → high ≤ waits → high ≤ low + 1 → is_lost_with ps b u high ≡ true
+    → (0 < low → is_lost_with ps b u low ≡ false)
     → length ws ≡ waits → slice_get ws low ≡ first_with (is_lost_with ps b u) 0 ws
 halved ps b u low high waits ws lh hw hl it before len =
     let e : high ≡ 0 + low + 1 = omega (arith, lh, hl) in
@@ -72,7 +73,8 @@ pub decls_over : (ds : List Decl) (i : ℕ) (whole : Option Lost) → length ds 
 decls_over ds i whole le inv = sym (ap (λ l. first_lost (map decl_of l)) (drop_all i ds le)) ∙ inv
 
 -- use by use
-pub stale_more : (us : List Use) (i : ℕ) (u : Use) (whole : Option ℕ) → i < length us → u ≡ get_or us i u → u.stale ≡ false → first_stale i (drop i us) ≡ whole → first_stale (i + 1) (drop (i + 1) us) ≡ whole
+pub stale_more : (us : List Use) (i : ℕ) (u : Use) (whole : Option ℕ) → i < length us → u ≡ get_or us i u → u.stale ≡ false → first_stale i (drop i us) ≡ whole
+    → first_stale (i + 1) (drop (i + 1) us) ≡ whole
 stale_more us i u whole lt got e inv =
     let rest = first_stale (i + 1) (drop (i + 1) us) in
     sym (ap (first_stale i) (drop_more us i u lt) ∙ ap (λ x. if x.stale then Some i else rest) (sym got) ∙ ap (λ b. if b then Some i else rest) e) ∙ inv
@@ -96,7 +98,8 @@ none_some m e = false≢true (ap is_some e)
 abbrev IsStaleAt : List Use → (n m : ℕ) → Type 0
 IsStaleAt us n m = (k : ℕ) × (m ≡ n + k) × (is_stale_use (slice_get us k) ≡ true)
 
-stale_here : (u : Use) (us : List Use) (n m : ℕ) (b : Bool) → u.stale ≡ b → (if b then Some n else first_stale (n + 1) us) ≡ Some m → (first_stale (n + 1) us ≡ Some m → IsStaleAt us (n + 1) m) → IsStaleAt (u ∷ us) n m
+stale_here : (u : Use) (us : List Use) (n m : ℕ) (b : Bool) → u.stale ≡ b → (if b then Some n else first_stale (n + 1) us) ≡ Some m → (first_stale (n + 1) us ≡ Some m → IsStaleAt us (n + 1) m)
+    → IsStaleAt (u ∷ us) n m
 stale_here u us n m true s e rest = let f : n ≡ m = ap or_zero e in (0, omega (arith, f), s)
 stale_here u us n m false s e rest = let r = rest e in let f : m ≡ n + 1 + r.0 = r.1 in (suc r.0, omega (arith, f), r.2)
 

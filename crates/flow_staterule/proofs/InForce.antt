@@ -48,7 +48,8 @@ take_twice (x ∷ xs) (y ∷ ys) (z ∷ zs) e f =
     ap₂ (λ a l. a ∷ l) (ap (head_or x) f ∙ ap (head_or x) e) (take_twice xs ys zs (ap tail_of e) (ap tail_of f))
 
 -- the last of the first so many
-pub newest : (vs : List Variable) (cs : List code.Variable) (n : ℕ) (c : code.Variable) → n < length cs → c ≡ get_or cs n c → declared_after vs (take (suc n) cs) ≡ variable_of c ∷ declared_after vs (take n cs)
+pub newest : (vs : List Variable) (cs : List code.Variable) (n : ℕ) (c : code.Variable) → n < length cs → c ≡ get_or cs n c
+    → declared_after vs (take (suc n) cs) ≡ variable_of c ∷ declared_after vs (take n cs)
 newest vs [] n c lt e = absurd (omega arith)
 newest vs (b ∷ cs) zero c lt e = ap (λ x. variable_of x ∷ vs) (sym e)
 newest vs (b ∷ cs) (suc n) c lt e = let m : n < length cs = omega arith in newest (variable_of b ∷ vs) cs n c m e

@@ -169,7 +169,8 @@ mutual
       let ws = declaring vs i in
       let li = left_less i le in
       let lt = left_less t li in
-      let h = behind_staler (length ws) (beyond n vs p i) (beyond m vs q i) (head (with_step (ways (left (left n i) t) b) (ways (left n i) t))) (head (with_step (ways (left (left m i) t) b) (ways (left m i) t)))
+      let h = behind_staler (length ws) (beyond n vs p i) (beyond m vs q i) (head (with_step (ways (left (left n i) t) b) (ways (left n i) t)))
+      (head (with_step (ways (left (left m i) t) b) (ways (left m i) t)))
       (wider _ _ (declaring_wider vs i) (beyond_staler n m vs p q i le s))
       (head_grows _ _ (with_step_grow _ _ _ _ (ways_grow (left (left n i) t) (left (left m i) t) b lt) (ways_grow (left n i) (left m i) t li))) in
       let r = behind_staler (length ws) _ _ (round (ways (left (left n i) t) b)) (round (ways (left (left m i) t) b)) h (round_grows _ _ (ways_grow (left (left n i) t) (left (left m i) t) b lt)) in

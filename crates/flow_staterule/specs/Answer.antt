@@ -12,5 +12,6 @@ use Rattle.flow_staterule.specs.StateRule.{first_lost}
 abbrev pub JudgesUses : Typed → Result Sound SourceFault → Type 0
 JudgesUses t (Ok s) = (s.typed ≡ t) × (first_lost (program_of t.program).decls ≡ None)
 JudgesUses t (Err (Refused rule at)) = ⊥
-JudgesUses t (Err (AcrossWait at declared wait)) = first_lost (program_of t.program).decls ≡ Some (record { at = at; declared = declared; wait = wait })
+JudgesUses t (Err (AcrossWait at declared wait)) =
+    first_lost (program_of t.program).decls ≡ Some (record { at = at; declared = declared; wait = wait })
 JudgesUses t (Err OutOfMemory) = Unit {0}

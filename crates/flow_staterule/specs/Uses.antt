@@ -137,7 +137,8 @@ abbrev mutual
   uses n vs p c (TryStmt at b q x h k) =
       let s = TryStmt at b q x h End in
       uses n vs p c b ++
-      uses (left n b) (caught_as x ∷ vs) (behind (length vs) p (ways n b).throws) (Some (record { number = length vs; declared = x.at })) h ++
+      uses (left n b) (caught_as x ∷ vs) (behind (length vs) p (ways n b).throws) (Some (record { number = length vs; declared = x.at })) h
+      ++
       uses (left n s) vs (beyond n vs p s) c k
   uses n vs p c (ChooseStmt at bs k) =
       let s = ChooseStmt at bs End in

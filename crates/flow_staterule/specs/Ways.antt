@@ -32,7 +32,12 @@ abbrev pub onward : Reached → Reached → Reached
 onward r s = record { fresh = r.fresh && s.fresh; waited = (r.waited && is_reached s) || (r.fresh && s.waited) }
 
 abbrev pub both : Ways → Ways → Ways
-both w v = record { ends = either w.ends v.ends; breaks = either w.breaks v.breaks; continues = either w.continues v.continues; throws = either w.throws v.throws }
+both w v = record {
+  ends = either w.ends v.ends;
+  breaks = either w.breaks v.breaks;
+  continues = either w.continues v.continues;
+  throws = either w.throws v.throws;
+}
 
 abbrev pub follow : Reached → Ways → Ways
 follow r w = record { ends = onward r w.ends; breaks = onward r w.breaks; continues = onward r w.continues; throws = onward r w.throws }
@@ -46,7 +51,12 @@ plain r = record { ends = r; breaks = never; continues = never; throws = r }
 
 -- one after the other
 abbrev pub sequence : Ways → Ways → Ways
-sequence w v = record { ends = onward w.ends v.ends; breaks = either w.breaks (onward w.ends v.breaks); continues = either w.continues (onward w.ends v.continues); throws = either w.throws (onward w.ends v.throws) }
+sequence w v = record {
+  ends = onward w.ends v.ends;
+  breaks = either w.breaks (onward w.ends v.breaks);
+  continues = either w.continues (onward w.ends v.continues);
+  throws = either w.throws (onward w.ends v.throws);
+}
 
 -- an empty body
 abbrev pub empty : Ways
@@ -58,7 +68,12 @@ round b = either b.ends b.continues
 
 -- a round of a `for`: its body, and then its step
 abbrev pub with_step : Ways → Ways → Ways
-with_step b s = record { ends = onward (round b) s.ends; breaks = b.breaks; continues = never; throws = either b.throws (onward (round b) s.throws) }
+with_step b s = record {
+  ends = onward (round b) s.ends;
+  breaks = b.breaks;
+  continues = never;
+  throws = either b.throws (onward (round b) s.throws);
+}
 
 -- a loop by its round: its head is reached at once, and after each round; some loops lead past their body
 abbrev pub head : Ways → Reached
@@ -68,11 +83,21 @@ abbrev pub past : Bool → Reached → Reached
 past leads r = if leads then r else never
 
 abbrev pub looped : Bool → Ways → Ways
-looped leads b = record { ends = either (past leads (head b)) (onward (head b) b.breaks); breaks = never; continues = never; throws = either (head b) (onward (head b) b.throws) }
+looped leads b = record {
+  ends = either (past leads (head b)) (onward (head b) b.breaks);
+  breaks = never;
+  continues = never;
+  throws = either (head b) (onward (head b) b.throws);
+}
 
 -- a `try` with its handler
 abbrev pub handled : Ways → Ways → Ways
-handled b h = record { ends = either b.ends (onward b.throws h.ends); breaks = either b.breaks (onward b.throws h.breaks); continues = either b.continues (onward b.throws h.continues); throws = either at_once (onward b.throws h.throws) }
+handled b h = record {
+  ends = either b.ends (onward b.throws h.ends);
+  breaks = either b.breaks (onward b.throws h.breaks);
+  continues = either b.continues (onward b.throws h.continues);
+  throws = either at_once (onward b.throws h.throws);
+}
 
 -- behind a wait, of which the first n are looked for: others are as good as none
 abbrev pub waited_at : ℕ → Reached
@@ -85,7 +110,8 @@ abbrev mutual
   ways n (BlockStmt at b k) = sequence (both (node at_once) (ways n b)) (ways (n - length (body_groups b)) k)
   ways n (IfStmt at e b k) = sequence (both (plain at_once) (ways n b)) (ways (n - length (body_groups b)) k)
   ways n (IfElseStmt at e b c k) =
-      sequence (both (node at_once) (both (ways n b) (ways (n - length (body_groups b)) c))) (ways (n - length (body_groups b) - length (body_groups c)) k)
+      sequence (both (node at_once) (both (ways n b) (ways (n - length (body_groups b)) c)))
+      (ways (n - length (body_groups b) - length (body_groups c)) k)
   ways n (WhileStmt at e b k) = sequence (looped true (ways n b)) (ways (n - length (body_groups b)) k)
   ways n (ForStmt at i e t b k) =
       let s = n - length (body_groups i) in

@@ -247,7 +247,8 @@ module _ (r : RawTree) (ls : List Line) (m : Process) (p : Proc Frame) (i : ℕ)
       (subst (λ c. There seen_made (kd, c)) (sym number_is) (new_there r ls x m (put_frame i frame_before p) kd rising), tt)
 
   -- and in its place
-  in_place : HasPlace f q → RepresentsActor r ls (with_refs (refs_in over) x) (on_heap (place_put i number (Some (Ref kd cell))) held_heap) (put_frame i (with_memory written frame_before) seen_made) i e (with_memory written frame_before)
+  in_place : HasPlace f q → RepresentsActor r ls (with_refs (refs_in over) x) (on_heap (place_put i number (Some (Ref kd cell))) held_heap)
+      (put_frame i (with_memory written frame_before) seen_made) i e (with_memory written frame_before)
   in_place has =
       place_changed r ls held_heap seen_made i e frame_before hand (with_refs (refs_in over) x) q (Some (Ref kd cell)) in_hand has
       (λ z j. let a = ap (λ v. held z j (Some v)) (ref_seen kd cell) in omega (arith, a))
@@ -271,7 +272,8 @@ module _ (r : RawTree) (ls : List Line) (m : Process) (p : Proc Frame) (i : ℕ)
       let us : List ValueTree = filled (read f.mem q ∷ []) in
       let core : Core = work.dropping_values us (pushed (Run i) (new_cell (empty_cell kd) p.core)) in
       let g : Frame = next_instr (write f.mem q (Some (RefValue kd (suc p.core.made)))) f in
-      let after = subst (λ (a : ActorId). OnAfter (next_stand s) (referring (place_held a.0 number (hold kd is.cell.0 (made kd m.heap)))) (on_heap (λ h. place_put a.0 number (Some (Ref kd is.cell)) (hold kd is.cell.0 (made kd h))) m) pace n) st.standing.actor is.after in
+      let after = subst (λ (a : ActorId). OnAfter (next_stand s) (referring (place_held a.0 number (hold kd is.cell.0 (made kd m.heap))))
+      (on_heap (λ h. place_put a.0 number (Some (Ref kd is.cell)) (hold kd is.cell.0 (made kd h))) m) pace n) st.standing.actor is.after in
       let carries = new_carries r ls m p i e f x s q kd st rising is.cell is.number has pace n after in
       let there_then = subst (λ y. Carries r ls x i e pace n (proc core (put p.actors i (next_instr y f)))) (written_is r ls m p i e f x s q kd st rising is.cell is.number) carries in record {
         after = storing r ls m p i e f w q kd;

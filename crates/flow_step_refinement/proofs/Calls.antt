@@ -132,7 +132,8 @@ module _ (r : RawTree) (ls : List Line) (m : Process) (p : Proc Frame) (i : ℕ)
       next : next_step (class_names r) (view w i p.core) f ≡ evaluated f comes_to (called w name)
       next =
           ap (fetched (class_names r) (view w i p.core) f) there
-          ∙ ap (λ c. evaluated f (then c (λ vs left. plain_act (class_names r) (view w i p.core) (look f.mem) (named call_names name.name) name.name vs left)) (λ a left. asks left a (next_instr f.mem f))) (sym same)
+          ∙ ap (λ c. evaluated f (then c (λ vs left. plain_act (class_names r) (view w i p.core) (look f.mem) (named call_names name.name) name.name vs left))
+          (λ a left. asks left a (next_instr f.mem f))) (sym same)
           ∙ then_evaluated f comes_to (λ vs left. plain_act (class_names r) (view w i p.core) (look f.mem) (named call_names name.name) name.name vs left) (λ a left. asks left a (next_instr f.mem f))
 
       by_function : (o : Option RoutineTree) → slice_get r.functions k ≡ o → (vs : Values) (left : ℕ) → comes_to ≡ Done (args_of vs) left → FunctionCalled code s k vs (with_left left m) pace n

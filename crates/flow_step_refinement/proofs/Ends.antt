@@ -56,10 +56,12 @@ module _ (r : RawTree) (ls : List Line) (m : Process) (p : Proc Frame) (i : ℕ)
   one later steps = inl (one_step r ls x w p i e pace n later steps)
 
   module _ (st : MayBeStale r ls x s m p i e f) (zero_state : s.noted ≡ true → st.stood.acts.memory.state ≡ 0) (may : MayDoNext r w p i e f (fetch f.code f.block f.instr)) where
-    value_now : (t : _) (res : Resolved) → node_of res ≡ resolved (coding_now r ls m p i e f x s w code st inp time).names t → value_for code s.actor.0 res m ≡ value (class_names r) (view w i p.core) (look f.mem) t
+    value_now : (t : _) (res : Resolved) → node_of res ≡ resolved (coding_now r ls m p i e f x s w code st inp time).names t
+        → value_for code s.actor.0 res m ≡ value (class_names r) (view w i p.core) (look f.mem) t
     value_now t res same = value_is r ls m p i e f x s w code st inp time t res same
 
-    by_end : (l : code_last.Last) (text : LastTree) → s.block.now.last ≡ l → fetch f.code f.block f.instr ≡ Last text → end_of l ≡ ended (coding_now r ls m p i e f x s w code st inp time) text → Ends code s l m pace n → either
+    by_end : (l : code_last.Last) (text : LastTree) → s.block.now.last ≡ l → fetch f.code f.block f.instr ≡ Last text → end_of l ≡ ended (coding_now r ls m p i e f x s w code st inp time) text
+        → Ends code s l m pace n → either
     by_end (last.Goto b) (GotoLast d) is there same does =
         let block : d ≡ b = cc (same) in
         one (λ t on. end_later code s inp.standing.block t (last.Goto b) m n pace on does) (goto_step r ls m p i e f x s w b pace n st (there ∙ ap (λ y. Last (GotoLast y)) block) does)
@@ -83,10 +85,12 @@ module _ (r : RawTree) (ls : List Line) (m : Process) (p : Proc Frame) (i : ℕ)
         let node : node_of res ≡ resolved (coding_now r ls m p i e f x s w code st inp time).names t = cc (same) in
         let v = value_now t res node in
         let fits = subst (MayDoNext r w p i e f) there may in
-        one (λ t on. end_later code s inp.standing.block t (last.Return res) m n pace on does) (return_step r ls m p i e f x s w t (value_for code s.actor.0 res m) pace n st there v (λ u left done. fits u left (sym v ∙ done)) does)
+        one (λ t on. end_later code s inp.standing.block t (last.Return res) m n pace on does)
+        (return_step r ls m p i e f x s w t (value_for code s.actor.0 res m) pace n st there v (λ u left done. fits u left (sym v ∙ done)) does)
     by_end (last.Throw res) (ThrowLast t) is there same does =
         let node : node_of res ≡ resolved (coding_now r ls m p i e f x s w code st inp time).names t = cc (same) in
-        one (λ t on. end_later code s inp.standing.block t (last.Throw res) m n pace on does) (throw_step r ls m p i e f x s w t (value_for code s.actor.0 res m) pace n st there (value_now t res node) does)
+        one (λ t on. end_later code s inp.standing.block t (last.Throw res) m n pace on does)
+        (throw_step r ls m p i e f x s w t (value_for code s.actor.0 res m) pace n st there (value_now t res node) does)
     by_end (last.Goto b) (PassLast d) is there same does = absurd (cc (same))
     by_end (last.Goto b) (TestLast t d k) is there same does = absurd (cc (same))
     by_end (last.Goto b) (ChooseLast d) is there same does = absurd (cc (same))

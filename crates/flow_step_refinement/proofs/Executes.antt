@@ -110,7 +110,8 @@ module _ (r : RawTree) (ls : List Line) (m : Process) (p : Proc Frame) (i : ℕ)
     one steps = one_step r ls x w p i e pace n later steps
 
     -- by what it is coded from
-    sets : (aim : Aim) (res : Resolved) (text : InstrTree) → fetch f.code f.block f.instr ≡ Body text → MayDoNext r w p i e f (fetch f.code f.block f.instr) → CodedFrom coding_now f.code text (SetCode (aim_of aim) (node_of res))
+    sets : (aim : Aim) (res : Resolved) (text : InstrTree) → fetch f.code f.block f.instr ≡ Body text → MayDoNext r w p i e f (fetch f.code f.block f.instr)
+        → CodedFrom coding_now f.code text (SetCode (aim_of aim) (node_of res))
         → Does code s (instruction.Set aim res) m pace n → row pace n
     sets aim res text there may (from_set xs t a is aims same) does =
         let fetched : fetch f.code f.block f.instr ≡ Body (SetInstr xs t) = there ∙ ap Body is in
@@ -129,7 +130,8 @@ module _ (r : RawTree) (ls : List Line) (m : Process) (p : Proc Frame) (i : ℕ)
     sets aim res text there may (from_drop ns is same) does = absurd (cc (same))
     sets aim res text there may (from_none same) does = absurd (cc (same))
 
-    makes : (place : ℕ) (kd : Kind) (text : InstrTree) → fetch f.code f.block f.instr ≡ Body text → MayDoNext r w p i e f (fetch f.code f.block f.instr) → CodedFrom coding_now f.code text (NewCode place kd)
+    makes : (place : ℕ) (kd : Kind) (text : InstrTree) → fetch f.code f.block f.instr ≡ Body text → MayDoNext r w p i e f (fetch f.code f.block f.instr)
+        → CodedFrom coding_now f.code text (NewCode place kd)
         → IsNew s place kd m pace n → row pace n
     makes place kd text there may (from_new q k kq is placed_at kind same) does =
         let fetched : fetch f.code f.block f.instr ≡ Body (NewInstr q) = there ∙ ap Body is in
@@ -183,7 +185,8 @@ module _ (r : RawTree) (ls : List Line) (m : Process) (p : Proc Frame) (i : ℕ)
     drops places text there may (from_method y z zs es a g is aims named_ same) does = absurd (cc (same))
     drops places text there may (from_none same) does = absurd (cc (same))
 
-    pub does_follows : (y : Instruction) → slice_get s.block.now.body.items s.instruction ≡ Some y → MayDoNext r w p i e f (fetch f.code f.block f.instr) → Does code s y m pace n → row pace n ⊎ Asks code s m pace n
+    pub does_follows : (y : Instruction) → slice_get s.block.now.body.items s.instruction ≡ Some y → MayDoNext r w p i e f (fetch f.code f.block f.instr) → Does code s y m pace n
+        → row pace n ⊎ Asks code s m pace n
     does_follows y at may does = by_code y at (the_instruction r code.classes.items s i f by inp.standing y st.standing st.instruction at) does
       where
         by_code : (y : Instruction) → slice_get s.block.now.body.items s.instruction ≡ Some y → AtInstruction coding_now f y → Does code s y m pace n → row pace n ⊎ Asks code s m pace n

@@ -34,7 +34,8 @@ module _ (c : Coding) (t : ClassTree) where
   new_from q (Some n) None h g = from_none refl
   new_from q (Some n) (Some k) h g = from_new q n k refl h g refl
 
-  act_from : (f : Ident) (es : ExprTrees) (o : Option Act) → act_named (named call_names f.name) (c.names.function f.name) ≡ o → CodedFrom c t (ActInstr (f ∷ []) es) (plain_code o (resolved_all c.names es))
+  act_from : (f : Ident) (es : ExprTrees) (o : Option Act) → act_named (named call_names f.name) (c.names.function f.name) ≡ o
+      → CodedFrom c t (ActInstr (f ∷ []) es) (plain_code o (resolved_all c.names es))
   act_from f es None h = from_none refl
   act_from f es (Some a) h = from_act f es a refl h refl
 

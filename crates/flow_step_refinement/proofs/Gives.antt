@@ -97,7 +97,8 @@ module _ (r : RawTree) (ls : List Line) (m : Process) (p : Proc Frame) (i : ℕ)
   keeps_there s t x start n pace on (kept_ready q b unmarked ready at takes) = absurd (cc (on))
 
   -- An actor that is free takes its next step from where the code has it stand.
-  pub free_steps : (x : Scan) (code : Code) (st : RepresentsActor r ls x m p i e f) → st.acts.memory.state ≡ 0 → MayRun code m p i e f → (s : ControlPoint) → IsAtPoint code.classes.items (actor_id i) m s → MayStep r ls x s m p i e f
+  pub free_steps : (x : Scan) (code : Code) (st : RepresentsActor r ls x m p i e f) → st.acts.memory.state ≡ 0 → MayRun code m p i e f → (s : ControlPoint)
+      → IsAtPoint code.classes.items (actor_id i) m s → MayStep r ls x s m p i e f
   free_steps x code st zero_state may s stands =
       moves (record {
         block = f.block;
@@ -153,7 +154,8 @@ module _ (r : RawTree) (ls : List Line) (m : Process) (p : Proc Frame) (i : ℕ)
       by_place (Some q) = refl
 
   -- One that gets what a branch took goes on at that branch.
-  pub given_goes : (x : Scan) (code : Code) (w : Supply) (number : ℕ) (v : Value) (s t : ControlPoint) (branch : Branch) (pace : Pace) (n : Process) → RepresentsActor r ls (with_refs (value_refs v) x) m p i e f
+  pub given_goes : (x : Scan) (code : Code) (w : Supply) (number : ℕ) (v : Value) (s t : ControlPoint) (branch : Branch) (pace : Pace) (n : Process)
+      → RepresentsActor r ls (with_refs (value_refs v) x) m p i e f
       → MayBranch code r ls m p i number e f → IsAtPoint code.classes.items (actor_id i) m s → BranchAt s number branch → GoesTo s branch.block 0 t
       → OnAfter t (bound_over i branch.into v m.heap) (on_heap (bound_in i branch.into v) m) pace n
       → GoesFrom code r ls x w i e.class (on_core (pushed (Give i number (GoodOutcome (value_of v)))) p) pace n
@@ -251,7 +253,8 @@ module _ (r : RawTree) (ls : List Line) (m : Process) (p : Proc Frame) (i : ℕ)
       }
 
 -- the task of the actor is taken off
-pub run_off : (r : RawTree) (ls : List Line) (m start : Process) (p : Proc Frame) (i : ℕ) (x : Scan) → ProcessRepresents r ls x m (on_core (pushed (Run i)) p) → TopTaken (task.Run (actor_id i)) m start → ProcessRepresents r ls x start p
+pub run_off : (r : RawTree) (ls : List Line) (m start : Process) (p : Proc Frame) (i : ℕ) (x : Scan) → ProcessRepresents r ls x m (on_core (pushed (Run i)) p)
+    → TopTaken (task.Run (actor_id i)) m start → ProcessRepresents r ls x start p
 run_off r ls m start p i x s taken =
     let ran : Proc Frame = on_core (pushed (Run i)) p in
     let a = popped_shown r m.heap ran (task.Run (actor_id i)) taken.tasks s.holds.shows taken.top in

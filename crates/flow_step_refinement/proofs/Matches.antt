@@ -53,7 +53,8 @@ effect_aims r classes code s i f path from aim eff args c here standing number f
     aim_there r classes code f path aim c numbering rooted (effect_from k f path from (aim_of aim) eff _ a.text text from_there)
 
 -- the place of a value that a frame has is one of the code
-place_there : (f : Frame) (q : Slotted) → length f.mem.slots ≡ length f.code.slots → length f.code.slots + length f.mem.locals ≤ 2 ^ 32 → HasPlace f q → (n : ℕ) × (place_of (length f.code.slots) q ≡ Some n)
+place_there : (f : Frame) (q : Slotted) → length f.mem.slots ≡ length f.code.slots → length f.code.slots + length f.mem.locals ≤ 2 ^ 32 → HasPlace f q
+    → (n : ℕ) × (place_of (length f.code.slots) q ≡ Some n)
 place_there f (Slot n) same few has =
     let in_place : nat_lt n (length f.code.slots) ≡ true = grind (arith, nat_tests, same, has) in (n, ap (λ b. if b then Some n else None) in_place)
 place_there f (Local n) same few has =

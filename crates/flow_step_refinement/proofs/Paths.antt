@@ -92,7 +92,8 @@ module _ (rs : List RecordTree) (field : List ℕ → Option ℕ) (at : Numberin
   exchange_is : (xs : List Ident) (fs : List ℕ) → fields_of field xs ≡ Some fs → (u : ValueTree) (o : Option ValueTree) (t : ValueTree) (a b : Option ValueTree)
       → exchanged at fs u o ≡ Some (a, b) → put_in rs o xs u ≡ Some t → Exchanges rs xs o t a b
   exchange_is xs fs n u None t a b h k = absurd (cc (k))
-  exchange_is [] [] n u (Some v) t a b h k = let same : u ≡ t = some_is u t k in let pair = some_is {A = Exchange} (Some v, Some u) (a, b) h in let old : Some v ≡ a = ap (λ (y : Exchange). y.0) pair in let new : Some u ≡ b = ap (λ (y : Exchange). y.1) pair in
+  exchange_is [] [] n u (Some v) t a b h k = let same : u ≡ t = some_is u t k in let pair = some_is {A = Exchange} (Some v, Some u) (a, b) h in let old : Some v ≡ a =
+      ap (λ (y : Exchange). y.0) pair in let new : Some u ≡ b = ap (λ (y : Exchange). y.1) pair in
       record { new = sym new ∙ ap (λ y. Some y) same; old = old }
   exchange_is [] (f ∷ fs) n u (Some v) t a b h k = absurd (cc (n))
   exchange_is (y ∷ ys) [] n u (Some v) t a b h k = let m = one_more_is (field y.name) (fields_of field ys) [] n in absurd (let c = m.1.1.2 in cc (c))
@@ -142,7 +143,8 @@ module _ (rs : List RecordTree) (field : List ℕ → Option ℕ) (at : Numberin
           let two : write m q (Some t) ≡ n = ap (λ (y : List ValueTree × Memory). y.1) put_pair in
           record { memory = sym two ∙ ap (write m q) (sym x.new); values = sym one ∙ ap (λ o. filled (o ∷ [])) x.old }
 
-module _ (r : RawTree) (ls : List Line) (m : Process) (p : Proc Frame) (i : ℕ) (e : Entry) (f : Frame) (x : Scan) (code : Code) (path : List Ident) (aim : Aim) (v : Value) (old : Option Value) (n : Process)
+module _ (r : RawTree) (ls : List Line) (m : Process) (p : Proc Frame) (i : ℕ) (e : Entry) (f : Frame) (x : Scan) (code : Code) (path : List Ident) (aim : Aim) (v : Value) (old : Option Value)
+    (n : Process)
     (st : RepresentsActor r ls (with_refs (value_refs v) x) m p i e f) (aims : AimsAt r.records code f path aim) (is : Assigns code.fields (actor_id i) aim v m old n) where
   abbrev at_place_of : Slotted
   at_place_of = aims.place
@@ -162,7 +164,8 @@ module _ (r : RawTree) (ls : List Line) (m : Process) (p : Proc Frame) (i : ℕ)
 
   by_put : (vs : List ValueTree) (mem : Memory) → put_at r.records f.mem at_place_of aims.fields (value_of v) ≡ Some (vs, mem) → law.Assigned r ls m p i e f x path v old n
   by_put vs mem g =
-      let w = puts r.records aims.field (places_in code.fields) aims.numbering f.mem at_place_of aims.fields aim.path.items aims.numbers (value_of v) (option_map value_of old) (option_map value_of is.root) parts vs mem g in
+      let w = puts r.records aims.field (places_in code.fields) aims.numbering f.mem at_place_of aims.fields aim.path.items aims.numbers (value_of v) (option_map value_of old)
+      (option_map value_of is.root) parts vs mem g in
       let k : Frame = with_memory (write f.mem at_place_of (option_map value_of is.root)) f in
       let same : with_memory mem f ≡ k = ap (λ y. with_memory y f) w.memory in
       let h = with_place st.acts.memory number is.root in
@@ -184,7 +187,8 @@ module _ (r : RawTree) (ls : List Line) (m : Process) (p : Proc Frame) (i : ℕ)
             (subst (λ y. RepresentsActor r ls (with_refs (refs_in vs) x) (on_heap (place_put i y is.root) m) (put_frame i k p) i e k) (sym aims.number) there));
       }
 
-  by_option : CanAssign r.records f path (value_of v) → (o : Option (List ValueTree × Memory)) → put_at r.records f.mem at_place_of aims.fields (value_of v) ≡ o → law.Assigned r ls m p i e f x path v old n
+  by_option : CanAssign r.records f path (value_of v) → (o : Option (List ValueTree × Memory)) → put_at r.records f.mem at_place_of aims.fields (value_of v) ≡ o
+      → law.Assigned r ls m p i e f x path v old n
   by_option can None g = absurd (can (assigns ∙ g))
   by_option can (Some y) g = by_put y.0 y.1 g
 

@@ -40,7 +40,8 @@ after_quiet m k u t (v ∷ vs) pace n on after a b = absurd (never t (sym after.
 turned_quiet : (m : Process) → ((turned m).asked ≡ m.asked) × ((turned m).time ≡ m.time)
 turned_quiet m = by_test (nat_lt 0 m.left)
   where
-    by_test : (b : Bool) → ((if b then record m { left = m.left - 1 } else record m { spent = true }).asked ≡ m.asked) × ((if b then record m { left = m.left - 1 } else record m { spent = true }).time ≡ m.time)
+    by_test : (b : Bool) → ((if b then record m { left = m.left - 1 } else record m { spent = true }).asked ≡ m.asked)
+        × ((if b then record m { left = m.left - 1 } else record m { spent = true }).time ≡ m.time)
     by_test true = (refl, refl)
     by_test false = (refl, refl)
 

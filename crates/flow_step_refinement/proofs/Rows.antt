@@ -101,7 +101,8 @@ module _ (r : RawTree) (ls : List Line) (x : Scan) (w : Supply) (holds : Proc Fr
   })
 
   module _ (i : ℕ) where
-    pub in_program : (s : ControlPoint) (m : Process) (p : Proc Frame) (e : Entry) (f : Frame) → holds (on_core (pushed (Run i)) p) → MayStep r ls x s m p i e f → InClass code e.class s → InProgram r code s f
+    pub in_program : (s : ControlPoint) (m : Process) (p : Proc Frame) (e : Entry) (f : Frame) → holds (on_core (pushed (Run i)) p) → MayStep r ls x s m p i e f → InClass code e.class s
+        → InProgram r code s f
     in_program s m p e f held may here = record {
       program = program;
       standing = in_code_of r code e.class s f (coded_by program) here (class_of r ls x s m p i e f may);
@@ -109,7 +110,8 @@ module _ (r : RawTree) (ls : List Line) (x : Scan) (w : Supply) (holds : Proc Fr
     }
 
     -- after one step the actor goes on with the others
-    goes_further : (s : ControlPoint) (m n : Process) (p : Proc Frame) (e : Entry) (f : Frame) (t : ControlPoint) (between : Process) → holds (on_core (pushed (Run i)) p) → InClass code e.class s → m.asked ≡ None
+    goes_further : (s : ControlPoint) (m n : Process) (p : Proc Frame) (e : Entry) (f : Frame) (t : ControlPoint) (between : Process) → holds (on_core (pushed (Run i)) p) → InClass code e.class s
+        → m.asked ≡ None
         → program_time m.time ≡ pos w.now → StepsOn code s m (On t) between → GoesBy r ls x w i e.class (on_core (pushed (Run i)) p) (On t) between ⊎ Asks code s m (On t) between
         → ((q : Proc Frame) (d : Entry) (g : Frame) → holds (on_core (pushed (Run i)) q) → MayStep r ls x t between q i d g → InClass code d.class t → between.asked ≡ None
         → program_time between.time ≡ pos w.now → ending i (on_core (pushed (Run i)) q) between n)
@@ -157,11 +159,13 @@ module _ (r : RawTree) (ls : List Line) (x : Scan) (w : Supply) (holds : Proc Fr
         (allows.next p i e f held (entered r ls x s m p i e f may) (acting r ls x s m p i e f may)) steps)
         (λ q d g held may here none time. runs t between n q d g held may here none time rest)
 
-    further : (number : ℕ) (start : Proc Frame) (m n : Process) → holds start → (g : GoesFurther code r ls x w i number start m n) → g.between.asked ≡ None ⊎ (g.pace ≡ Off) → program_time g.between.time ≡ pos w.now
+    further : (number : ℕ) (start : Proc Frame) (m n : Process) → holds start → (g : GoesFurther code r ls x w i number start m n) → g.between.asked ≡ None ⊎ (g.pace ≡ Off)
+        → program_time g.between.time ≡ pos w.now
         → ending i start g.between n
     further number start m n held g quiet time = by_pace g.pace g.goes g.stands g.told g.further quiet
       where
-        by_pace : (pace : Pace) → GoesBy r ls x w i number start pace g.between → ((t : ControlPoint) → pace ≡ On t → InClass code number t) → (pace ≡ Off → OnlyTells g.between.asked) → GoesOn code pace g.between n → g.between.asked ≡ None ⊎ (pace ≡ Off) → ending i start g.between n
+        by_pace : (pace : Pace) → GoesBy r ls x w i number start pace g.between → ((t : ControlPoint) → pace ≡ On t → InClass code number t) → (pace ≡ Off → OnlyTells g.between.asked)
+            → GoesOn code pace g.between n → g.between.asked ≡ None ⊎ (pace ≡ Off) → ending i start g.between n
         by_pace Off goes stands told is quiet = inl (record {
           after = goes.after;
           steps = goes.steps;

@@ -96,7 +96,8 @@ module _ {A W : Type 0} (serves : Host W) (shows : A → Numbered ℕ → W → 
     number_drawn count i g h lo hi l same served = by_range (between (hi -ℤ lo) 1 (2 ^ 32)) served
       where
         by_range : (fits : Bool) → DrawServed serves shows wrote fits i g lo (natural (hi -ℤ lo)) m a n b
-            → Done serves shows wrote r x ls n a b (reacted p.actors (if fits then (gives i.0 h (IntValue (scaled lo (natural (hi -ℤ lo)) (serves.supply w).word)) p.core, Some asks.Drew) else throws i.0 bad_argument p.core)) w
+            → Done serves shows wrote r x ls n a b (reacted p.actors
+            (if fits then (gives i.0 h (IntValue (scaled lo (natural (hi -ℤ lo)) (serves.supply w).word)) p.core, Some asks.Drew) else throws i.0 bad_argument p.core)) w
         by_range false t = is_thrown i bad_argument l t
         by_range true d =
             let v = scaled lo (natural (hi -ℤ lo)) (serves.supply w).word in
@@ -140,7 +141,8 @@ module _ {A W : Type 0} (serves : Host W) (shows : A → Numbered ℕ → W → 
         by_time (nat_le ((serves.supply w).now + natural ticks) (2 ^ 62)) (subst (λ t. DelayServed serves shows wrote (nat_le (t + natural ticks) (2 ^ 62)) i g (t + natural ticks) m a n b) now served)
       where
         by_time : (fits : Bool) → DelayServed serves shows wrote fits i g ((serves.supply w).now + natural ticks) m a n b
-            → Done serves shows wrote r x ls n a b (reacted p.actors (if fits then (gives_open i.0 h p.core, Some (asks.Timer (suc p.core.made) ((serves.supply w).now + natural ticks))) else throws i.0 out_of_range p.core)) w
+            → Done serves shows wrote r x ls n a b (reacted p.actors
+            (if fits then (gives_open i.0 h p.core, Some (asks.Timer (suc p.core.made) ((serves.supply w).now + natural ticks))) else throws i.0 out_of_range p.core)) w
         by_time false t = is_thrown i out_of_range l t
         by_time true d = request_done (λ k. asks.Timer k ((serves.supply w).now + natural ticks)) g h i d.cell l numbers same d.given d.served
 

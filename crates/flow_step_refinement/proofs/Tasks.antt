@@ -52,11 +52,13 @@ module _ (r : RawTree) (ls : List Line) (p : Proc Frame) (code : Code) (w : Supp
   from_step u below h s told =
       let t = subst (λ q. TaskSteps r ls nothing_in_hand w q n) (whole u below h) s in is_step (record { after = t.after; steps = t.steps; follows = t.follows }) told
 
-  from_row : (i k : ℕ) (u : Task) (below : List Task) → p.core.tasks ≡ u ∷ below → GoesFurther code r ls nothing_in_hand w i k (on_core (pushed u) (popped below p)) start n → TaskGoes code r ls w p start n
+  from_row : (i k : ℕ) (u : Task) (below : List Task) → p.core.tasks ≡ u ∷ below → GoesFurther code r ls nothing_in_hand w i k (on_core (pushed u) (popped below p)) start n
+      → TaskGoes code r ls w p start n
   from_row i k u below h g = goes_further i k (subst (λ q. GoesFurther code r ls nothing_in_hand w i k q start n) (whole u below h) g)
 
   -- the actor takes its steps
-  run_follows : (i : ActorId) (below : List Task) → p.core.tasks ≡ Run i.0 ∷ below → ProcessRepresents r ls (with_task (Run i.0) nothing_in_hand) start (popped below p) → MayGo code r ls start (popped below p) i.0
+  run_follows : (i : ActorId) (below : List Task) → p.core.tasks ≡ Run i.0 ∷ below → ProcessRepresents r ls (with_task (Run i.0) nothing_in_hand) start (popped below p)
+      → MayGo code r ls start (popped below p) i.0
       → IsDone code (task.Run i) start n → TaskGoes code r ls w p start n
   run_follows i below h shown (is_free e f acts zero_state may) is =
       let q : Proc Frame = popped below p in
@@ -90,7 +92,8 @@ module _ (r : RawTree) (ls : List Line) (p : Proc Frame) (code : Code) (w : Supp
         shown = as_many_shown r ls (with_task u nothing_in_hand) nothing_in_hand start q (λ z j. omega arith) shown;
         acts = may.1.1;
       } in
-      from_step u below h (subst (λ z. TaskSteps r ls nothing_in_hand w (on_core (pushed u) q) z) (sym is) (give_throws r ls start q i.0 may.0 may.1.0 nothing_in_hand w b err st)) (quiet n (ap (λ (y : Process). y.asked) is ∙ none))
+      from_step u below h (subst (λ z. TaskSteps r ls nothing_in_hand w (on_core (pushed u) q) z) (sym is) (give_throws r ls start q i.0 may.0 may.1.0 nothing_in_hand w b err st))
+      (quiet n (ap (λ (y : Process). y.asked) is ∙ none))
 
   -- an operand is kept
   keep_follows : (i : ActorId) (m k : ℕ) (kd : Kind) (below : List Task) (u : Task) → p.core.tasks ≡ u ∷ below → (may : MayKeepOne code r start (popped below p) i.0 k u)
@@ -124,8 +127,10 @@ module _ (r : RawTree) (ls : List Line) (p : Proc Frame) (code : Code) (w : Supp
       keep_follows i m k.0 same.0 below u h may (same.2 ∙ ap (λ y. Keep i.0 y (same.0, k.0)) spot) number shown none is
 
   -- the result of an effect is stored
-  store_follows : (i : ActorId) (v : Value) (below : List Task) → p.core.tasks ≡ Store i.0 (value_of v) ∷ below → ProcessRepresents r ls (with_task (Store i.0 (value_of v)) nothing_in_hand) start (popped below p)
-      → (may : (e : Entry) × ((f : Frame) × (Acts r start.heap (popped below p) i.0 e f × MayStore code r start (popped below p) i.0 (value_of v) e f))) → start.asked ≡ None → Stored code i v start n → TaskGoes code r ls w p start n
+  store_follows : (i : ActorId) (v : Value) (below : List Task) → p.core.tasks ≡ Store i.0 (value_of v) ∷ below
+      → ProcessRepresents r ls (with_task (Store i.0 (value_of v)) nothing_in_hand) start (popped below p)
+      → (may : (e : Entry) × ((f : Frame) × (Acts r start.heap (popped below p) i.0 e f × MayStore code r start (popped below p) i.0 (value_of v) e f))) → start.asked ≡ None → Stored code i v start n
+      → TaskGoes code r ls w p start n
   store_follows i v below h shown may none is =
       let q : Proc Frame = popped below p in
       let u = Store i.0 (value_of v) in
@@ -151,13 +156,16 @@ module _ (r : RawTree) (ls : List Line) (m : Process) (p : Proc Frame) where
           → IsDone code t start n → TaskGoes code r ls w p start n
       by_task (task.Run i) taken o may done =
           let tasks = o.tasks ∙ ap (λ y. y ∷ o.below) o.same in
-          run_follows r ls p code w start n i o.below tasks (subst (λ y. ProcessRepresents r ls (with_task y nothing_in_hand) start (popped o.below p)) o.same o.shown) (may o.below o.top o.tasks).may done
+          run_follows r ls p code w start n i o.below tasks (subst (λ y. ProcessRepresents r ls (with_task y nothing_in_hand) start (popped o.below p)) o.same o.shown)
+          (may o.below o.top o.tasks).may done
       by_task (task.Give i b v) taken o may done =
           let tasks = o.tasks ∙ ap (λ y. y ∷ o.below) o.same in
-          give_follows r ls p code w start n i b v.value o.below tasks (subst (λ y. ProcessRepresents r ls (with_task y nothing_in_hand) start (popped o.below p)) o.same o.shown) (may o.below o.top o.tasks).may (asks_none (task.Give i b v) taken) done
+          give_follows r ls p code w start n i b v.value o.below tasks (subst (λ y. ProcessRepresents r ls (with_task y nothing_in_hand) start (popped o.below p)) o.same o.shown)
+          (may o.below o.top o.tasks).may (asks_none (task.Give i b v) taken) done
       by_task (task.Store i v) taken o may done =
           let tasks = o.tasks ∙ ap (λ y. y ∷ o.below) o.same in
-          store_follows r ls p code w start n i v.value o.below tasks (subst (λ y. ProcessRepresents r ls (with_task y nothing_in_hand) start (popped o.below p)) o.same o.shown) (may o.below o.top o.tasks).may (asks_none (task.Store i v) taken) done
+          store_follows r ls p code w start n i v.value o.below tasks (subst (λ y. ProcessRepresents r ls (with_task y nothing_in_hand) start (popped o.below p)) o.same o.shown)
+          (may o.below o.top o.tasks).may (asks_none (task.Store i v) taken) done
       by_task (task.Keep i b k) taken o may done =
           keep_task r ls p code w start n i b k o.below o.top o.tasks o.same (may o.below o.top o.tasks).may o.shown (asks_none (task.Keep i b k) taken) done
       by_task (task.Throw i err) taken o may done =

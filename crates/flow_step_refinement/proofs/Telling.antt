@@ -131,7 +131,8 @@ module _ (code : Code) (s : ControlPoint) (m n : Process) (pace : Pace) (none : 
   by_instruction_told instruction.Invalid at h = absurd h
 
   -- a wait
-  by_operand_told : (number : ℕ) (group : Group) (b : Branch) (o : Operand) → b.operand ≡ o → s.instruction ≡ length s.block.now.body.items → s.block.now.last ≡ last.Choose number → group_numbered number s.class.now.groups.items ≡ Some group
+  by_operand_told : (number : ℕ) (group : Group) (b : Branch) (o : Operand) → b.operand ≡ o → s.instruction ≡ length s.block.now.body.items → s.block.now.last ≡ last.Choose number
+      → group_numbered number s.class.now.groups.items ≡ Some group
       → slice_get group.branches.items (kept_by (noted_stand s) (noted s m)) ≡ Some b
       → OperandStep code (noted_stand s) (group.first + kept_by (noted_stand s) (noted s m)) o (noted s m) pace n → OnlyTells n.asked ⊎ Asks code s m pace n
   by_operand_told number group b (operand.Value e) is end ends of at h =

@@ -170,4 +170,5 @@ EffectOf =
     (r : RawTree) (classes : List Class) (f : Frame) (e : ExprTree) → (c : CodedBy r classes)
     → ((x : List ℕ) → c.class x ≡ class_named r.classes x)
     → effect_in (coding c.names c.class (length f.code.slots)) e
-    ≡ option_map (λ g. (effect_of_name g.0, resolved_all (record c.names { place = place_in (length f.code.slots) }) g.1)) (effects.effect_in (class_names r) e)
+    ≡ option_map (λ g. (effect_of_name g.0, resolved_all (record c.names { place = place_in (length f.code.slots) }) g.1))
+    (effects.effect_in (class_names r) e)

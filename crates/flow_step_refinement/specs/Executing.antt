@@ -113,7 +113,8 @@ pub data Asks (code : Code) (s : ControlPoint) (m : Process) (pace : Pace) (n : 
       → slice_get s.block.now.body.items s.instruction ≡ Some (instruction.Method aim method args)
       → Does code s (instruction.Method aim method args) m pace n → Asks code s m pace n
   by_operand : (number : ℕ) (group : Group) (b : Branch) (effect : Effect) (args : Vec Resolved Global)
-      → s.instruction ≡ length s.block.now.body.items → s.block.now.last ≡ last.Choose number → group_numbered number s.class.now.groups.items ≡ Some group
+      → s.instruction ≡ length s.block.now.body.items → s.block.now.last ≡ last.Choose number
+      → group_numbered number s.class.now.groups.items ≡ Some group
       → slice_get group.branches.items (kept_by (noted_stand s) (noted s m)) ≡ Some b → b.operand
       ≡ operand.Effect effect args
       → IsEffect code (noted_stand s)

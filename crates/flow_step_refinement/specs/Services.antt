@@ -31,7 +31,8 @@ use Rattle.flow_operation_refinement.specs.Working.{SameGoal}
 abbrev pub Always : (A W : Type 0) → (RawTree → Scan → List Line → Process → Process → A → A → Proc Frame → W → Type 0) → Type 0
 Always A W law = (r : RawTree) (x : Scan) (ls : List Line) (m n : Process) (a b : A) (p : Proc Frame) (w : W) → law r x ls m n a b p w
 
-module _ {A W : Type 0} (serves : Host W) (shows : A → Numbered ℕ → W → Type 0) (wrote : A → List Line → A → Type 0) (r : RawTree) (x : Scan) where
+module _ {A W : Type 0} (serves : Host W) (shows : A → Numbered ℕ → W → Type 0) (wrote : A → List Line → A → Type 0) (r : RawTree)
+    (x : Scan) where
   -- A process in memory that asks for nothing more, and the world around it, show a process and a world of the definitions.
   pub record Lives (ls : List Line) (m : Process) (a : A) (p : Proc Frame) (w : W) : Type 0 where
     pub shown : ProcessRepresents r ls x m p

@@ -1,3 +1,3 @@
 pub mod effects;
-pub mod services;
 pub mod resuming;
+pub mod services;

@@ -148,6 +148,7 @@ pub write_asked : (vs : List Value) (file text : List ℕ) (offset : ℤ) → in
     → text_of (arg (map value_of (set vs 2 Void)) 0) ≡ Some file
     → world_effect predefined.WriteFile (map value_of vs) ≡ Some (asks.Disk (asks.WriteCall file offset text))
 write_asked vs file text offset o t f =
-    ap (λ x. bind x (λ file. bind (int_of (arg (map value_of vs) 1)) (λ offset. bind (text_of (arg (map value_of vs) 2)) (λ text. Some (asks.Disk (asks.WriteCall file offset text)))))) (ap text_of (sym (first_kept vs)) ∙ f)
+    ap (λ x. bind x (λ file. bind (int_of (arg (map value_of vs) 1)) (λ offset. bind (text_of (arg (map value_of vs) 2)) (λ text. Some (asks.Disk (asks.WriteCall file offset text))))))
+    (ap text_of (sym (first_kept vs)) ∙ f)
     ∙ ap (λ x. bind x (λ offset. bind (text_of (arg (map value_of vs) 2)) (λ text. Some (asks.Disk (asks.WriteCall file offset text))))) o
     ∙ ap (λ x. bind x (λ text. Some (asks.Disk (asks.WriteCall file offset text)))) t

@@ -132,7 +132,8 @@ cell_apart : (fs : Store (FrameTree Value)) (s : Side) (k : ℕ) (o : Option (Ce
 cell_apart fs s k None h = refl
 cell_apart fs s k (Some c) h = refl
 
-stream_apart : (fs : Store (FrameTree Value)) (s : Side) (k : ℕ) (o : Option (StreamTree Value)) (h : HeapTree) → held_stream s k o (record h { frames = fs }) ≡ record (held_stream s k o h) { frames = fs }
+stream_apart : (fs : Store (FrameTree Value)) (s : Side) (k : ℕ) (o : Option (StreamTree Value)) (h : HeapTree)
+    → held_stream s k o (record h { frames = fs }) ≡ record (held_stream s k o h) { frames = fs }
 stream_apart fs s k None h = refl
 stream_apart fs s k (Some c) h = refl
 

@@ -153,7 +153,8 @@ open_there g i k p q n is m =
 pub port_there : (g : Goal) (i : ActorId) (k : CellId) (p q : Process) → k.0 ≡ next_cell p.heap → Gives g i (Ref kind.FutureStream k) (on_heap (made kind.FutureStream) p) q
     → StreamMissing k.0 q.heap → ⊥
 port_there g i k p q n is m =
-    let now : StreamMissing k.0 (made kind.FutureStream p.heap) = streams_still (value_refs (Ref kind.FutureStream k)) k.0 (made kind.FutureStream p.heap) (subst (λ (x : Process). StreamMissing k.0 x.heap) is.given_by m) in
+    let now : StreamMissing k.0 (made kind.FutureStream p.heap) = streams_still (value_refs (Ref kind.FutureStream k)) k.0 (made kind.FutureStream p.heap)
+    (subst (λ (x : Process). StreamMissing k.0 x.heap) is.given_by m) in
     made_there kind.FutureStream p.heap (subst (λ j. StreamMissing j (made kind.FutureStream p.heap)) n now)
 
 -- the result of an actor that was made is there

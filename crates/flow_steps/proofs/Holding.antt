@@ -206,7 +206,8 @@ pub port_given : (g : Goal) (i : ActorId) (k : CellId) (p between held all : Pro
 port_given g i k p between held all n is e f = record { number = n; between = between; given = is; heard_then = f ∙ ap (on_heap (heard k.0)) e }
 
 -- the promise of a single result that is there counts no more
-pub promise_ended_by : (k : ℕ) (p q : Process) → IsSomeAnd (thing p.heap.cells.things k) (λ c. q ≡ on_heap (cell_put k (record c { references = released Promise c.references })) p) → q ≡ on_heap (without_promise k) p
+pub promise_ended_by : (k : ℕ) (p q : Process) → IsSomeAnd (thing p.heap.cells.things k) (λ c. q ≡ on_heap (cell_put k (record c { references = released Promise c.references })) p)
+    → q ≡ on_heap (without_promise k) p
 promise_ended_by k p q is = by (thing p.heap.cells.things k) is
   where
     by : (o : Option (CellTree Outcome)) → IsSomeAnd o (λ c. q ≡ on_heap (cell_put k (record c { references = released Promise c.references })) p) → q ≡ on_heap (promise_ended k o) p

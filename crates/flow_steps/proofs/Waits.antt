@@ -183,7 +183,8 @@ is_busy Added = false
 is_busy Busy = true
 
 -- a stream at which nobody waits, and one at which somebody does
-module _ (i : ℕ) (x : Held) (p : Process) (new : Store (StreamTree Value)) (none : is_some (thing p.heap.cells.things x.cell.0) ≡ false) (some : is_some (thing p.heap.streams.things x.cell.0) ≡ true) where
+module _ (i : ℕ) (x : Held) (p : Process) (new : Store (StreamTree Value)) (none : is_some (thing p.heap.cells.things x.cell.0) ≡ false)
+    (some : is_some (thing p.heap.streams.things x.cell.0) ≡ true) where
   abbrev awaits : Bool → Type 0
   awaits b = Registers (register i x p.heap) b p (on_heap (λ h. record h { streams = new }) p)
 

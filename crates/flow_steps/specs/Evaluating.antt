@@ -56,7 +56,8 @@ Halted s halt.NoMeaning p q = ⊥
 Halted s halt.OutOfMemory p q = ⊥
 
 -- What an actor does with what evaluation comes to: it goes on with the value and the turns that are left, or breaks off.
-pub data Evaluates {A B : Type 0} (s : ControlPoint) (seen : B → A) (comes_to : Res A) (p : Process) (goes : B → Process → Pace → Process → Type 0) : Pace → Process → Type 0 where
+pub data Evaluates {A B : Type 0} (s : ControlPoint) (seen : B → A) (comes_to : Res A) (p : Process)
+    (goes : B → Process → Pace → Process → Type 0) : Pace → Process → Type 0 where
   gives : (b : B) (left : ℕ) (pace : Pace) (q : Process) → comes_to ≡ Done (seen b) left → goes b (with_left left p) pace q
       → Evaluates s seen comes_to p goes pace q
   throws : (e : ErrorCode) (left : ℕ) (q : Process) → comes_to ≡ Fails e.0 left → Halted s (halt.Thrown e) (with_left left p) q

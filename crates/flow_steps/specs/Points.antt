@@ -151,7 +151,8 @@ exchanged at (f ∷ fs) new (Some (RecordValue r vs)) = within r vs (at r f) (ex
 exchanged at (f ∷ fs) new _ = None
 
 -- Where an actor aims gets a value: what stood there, and the process afterwards.
-pub record Assigns (fields : FieldNames) (i : ActorId) (aim : Aim) (new : Value) (p : Process) (old : Option Value) (q : Process) : Type 0 where
+pub record Assigns (fields : FieldNames) (i : ActorId) (aim : Aim) (new : Value) (p : Process) (old : Option Value)
+    (q : Process) : Type 0 where
   pub root : Option Value
   pub parts : exchanged (places_in fields) aim.path.items (value_of new) (option_map value_of (place_held i.0 aim.place p.heap))
       ≡ Some (option_map value_of old, option_map value_of root)

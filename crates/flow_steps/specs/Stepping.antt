@@ -88,7 +88,8 @@ GoesNext s a p pace q = (pace ≡ On (next_stand s)) × (q ≡ p)
 
 abbrev pub function_result : Code → (function : ℕ) → Values → Process → Res ValueTree
 function_result code f args p =
-    function_called (setting_in code p) (run_function (setting_in code p) CALL_DEPTH) (slice_get (setting_in code p).functions f) (args_of args) p.left
+    function_called (setting_in code p) (run_function (setting_in code p) CALL_DEPTH) (slice_get (setting_in code p).functions f)
+    (args_of args) p.left
 
 abbrev pub FunctionCalled : Code → ControlPoint → (function : ℕ) → Values → Process → Pace → Process → Type 0
 FunctionCalled code s f args p pace q = Evaluates s value_of (function_result code f args p) p (GoesNext s) pace q
@@ -99,7 +100,8 @@ IsAct code s (act.World called) args p pace q = (pace ≡ Off) × PredefinedCall
 IsAct code s (act.Function f) args p pace q = FunctionCalled code s f args p pace q
 
 -- A method of the reference at which an actor aims, with what is sent known.
-pub record IsMethod (code : Code) (s : ControlPoint) (aim : Aim) (m : Method) (sent : Option Value) (p : Process) (pace : Pace) (q : Process) : Type 0 where
+pub record IsMethod (code : Code) (s : ControlPoint) (aim : Aim) (m : Method) (sent : Option Value) (p : Process) (pace : Pace)
+    (q : Process) : Type 0 where
   pub kind : Kind
   pub cell : CellId
   pub aims : field_path (places_in code.fields) aim.path.items (option_map value_of (place_held s.actor.0 aim.place p.heap))

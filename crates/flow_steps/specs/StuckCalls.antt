@@ -27,7 +27,8 @@ abbrev pub HaltsStuck : ControlPoint → Halt → HeapTree → Type 0
 HaltsStuck s x h = FrameMissing s.actor.0 h ⊎ (x ≡ NoMeaning)
 
 -- What an actor evaluates has no meaning, or the actor has no frame, or what it does with the value goes astray.
-pub data EvaluatesStuck {A B : Type 0} (s : ControlPoint) (seen : B → A) (comes_to : Res A) (p : Process) (rest : B → Process → Type 0) : Type 0 where
+pub data EvaluatesStuck {A B : Type 0} (s : ControlPoint) (seen : B → A) (comes_to : Res A) (p : Process)
+    (rest : B → Process → Type 0) : Type 0 where
   meaningless : comes_to ≡ Meaningless → EvaluatesStuck s seen comes_to p rest
   frame_gone : FrameMissing s.actor.0 p.heap → EvaluatesStuck s seen comes_to p rest
   rest_stuck : (b : B) (left : ℕ) → comes_to ≡ Done (seen b) left → rest b (with_left left p)

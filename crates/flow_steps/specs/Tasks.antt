@@ -133,7 +133,8 @@ abbrev pub dropped_places : (actor : ℕ) → List ℕ → HeapTree → HeapTree
 dropped_places i ns h = dropping (places_taken i ns h) (places_emptied i ns h)
 
 abbrev pub caught : ActorId → Catcher → ErrorCode → HeapTree → HeapTree
-caught i c e h = gone i.0 c.block 0 (withdrawn i.0 (with_error i.0 c.error e (dropped_places i.0 c.drops.items (pushed (task.Catch i e) h))))
+caught i c e h = gone i.0 c.block 0 (withdrawn i.0
+    (with_error i.0 c.error e (dropped_places i.0 c.drops.items (pushed (task.Catch i e) h))))
 
 abbrev pub failed : ActorId → Task → HeapTree → HeapTree
 failed i t h = withdrawn i.0 (lost_from i.0 0 (pushed t h))

@@ -162,5 +162,6 @@ pub data Waits (s : ControlPoint) (group : ℕ) (p q : Process) : Type 0 where
       → q ≡ on_heap (left_for s (task.Throw s.actor (record { 0 = second_waiter }))) (with_heap h p) → Waits s group p q
   waits_suspended : (h : HeapTree) → first_ready p.heap (callbacks_of s.actor.0 p.heap) ≡ None
       → register_all s.actor.0 (callbacks_of s.actor.0 p.heap) p.heap ≡ (true, h)
-      → q ≡ telling (line.Wait s.actor group) (on_heap (λ g. suspended_at s.actor.0 group (lost_from s.actor.0 s.class.now.slots g)) (with_heap h p))
+      → q ≡ telling (line.Wait s.actor group) (on_heap (λ g. suspended_at s.actor.0 group (lost_from s.actor.0 s.class.now.slots g))
+      (with_heap h p))
       → Waits s group p q

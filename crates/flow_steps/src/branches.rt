@@ -142,7 +142,12 @@ impl Process {
 
     #[tactic(auto, using(crate::proofs::Waits::untaken, crate::proofs::Waits::taken_by))]
     /// A branch, numbered from 0 in its group, takes what its cell gives: a turn, the line; then the actor leaves its wait.
-    pub(crate) fn take(&mut self, stand: &ControlPoint<'_>, branch: u32, cell: CellId) -> Result<(), Fault>
+    pub(crate) fn take(
+        &mut self,
+        stand: &ControlPoint<'_>,
+        branch: u32,
+        cell: CellId,
+    ) -> Result<(), Fault>
         ensures done { OnOk result (TakesBranch stand.now branch cell self.old self.new) }
         ensures stuck { OnStuck result (TakesStuck stand.now cell.0 self.old.heap) }
     {

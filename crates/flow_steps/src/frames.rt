@@ -17,10 +17,10 @@ use crate::errors::Fault;
 use crate::process::Process;
 use flow_base::ids::ActorId;
 use flow_code::class::{Aim, Block, Class, Instruction};
+use flow_code::expr::names::FieldNames;
 use flow_code::program::Code;
 use flow_eval::locals::{put_at, record_value, take_at};
 use flow_frame::standing::Standing;
-use flow_code::expr::names::FieldNames;
 use flow_value::value::{Record, Value};
 
 /// Whether a value may hold references.
@@ -185,7 +185,11 @@ fn exchange_field(
 
 impl Process {
     /// Where an actor that has a frame stands.
-    pub(crate) fn stand_of<'a>(&self, code: &'a Code, actor: ActorId) -> Result<ControlPoint<'a>, Fault>
+    pub(crate) fn stand_of<'a>(
+        &self,
+        code: &'a Code,
+        actor: ActorId,
+    ) -> Result<ControlPoint<'a>, Fault>
         ensures done { IfOk result (λ s. IsAtPoint code.now.classes.items actor self.now s) }
         ensures stuck { OnStuck result (HasNoPoint code.now.classes.items actor.0
             self.now.heap) }

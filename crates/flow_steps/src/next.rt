@@ -35,15 +35,17 @@ use flow_ast::predefined::Method;
 use flow_base::ids::{ActorId, CellId};
 use flow_cancel::task::Task;
 use flow_code::class::{Act, Aim, Effect, Group, Instruction, Last, Operand};
+use flow_code::expr::evaluate::{
+    ActorView, evaluate_args, evaluate_resolved, evaluate_truth, field,
+};
+use flow_code::expr::expr::Resolved;
+use flow_code::expr::names::FieldNames;
 use flow_code::program::Code;
 use flow_eval::cells::CellView;
 use flow_eval::evaluate::{Setting, Turns, run_at};
 use flow_eval::stop::Halt;
 use flow_eval::variables::VarList;
 use flow_frame::held::Held;
-use flow_code::expr::evaluate::{ActorView, evaluate_args, evaluate_resolved, evaluate_truth, field};
-use flow_code::expr::expr::Resolved;
-use flow_code::expr::names::FieldNames;
 use flow_tree::limits::CALL_DEPTH;
 use flow_value::value::{Kind, Outcome, Value};
 
@@ -152,7 +154,11 @@ impl Process {
     }
 
     /// Evaluation gave no value: an error is thrown where the actor stands, or no turn was left.
-    pub(crate) fn halted<'a>(&mut self, stand: &ControlPoint<'a>, halt: Halt) -> Result<Pace<'a>, Fault>
+    pub(crate) fn halted<'a>(
+        &mut self,
+        stand: &ControlPoint<'a>,
+        halt: Halt,
+    ) -> Result<Pace<'a>, Fault>
         ensures off { IfOk result (λ pace. pace ≡ Off) }
         ensures halted { OnOk result (Halted stand.now halt self.old self.new) }
         ensures stuck { OnStuck result (HaltsStuck stand.now halt self.old.heap) }
@@ -335,7 +341,11 @@ impl Process {
 
     #[tactic(auto, using(crate::proofs::Stepped::after_values, crate::proofs::Stepped::after_none))]
     // Places are emptied, and what they held is dropped.
-    fn empty_places<'a>(&mut self, stand: &ControlPoint<'a>, places: &[u32]) -> Result<Pace<'a>, Fault>
+    fn empty_places<'a>(
+        &mut self,
+        stand: &ControlPoint<'a>,
+        places: &[u32],
+    ) -> Result<Pace<'a>, Fault>
         ensures done { IfOk result (λ pace. OnAfter (next_stand stand.now)
             (places_taken stand.now.actor.0 places.now self.old.heap)
             (on_heap (places_emptied stand.now.actor.0 places.now) self.old) pace self.new) }
@@ -552,7 +562,12 @@ impl Process {
         value
     }
 
-    fn last<'a>(&mut self, code: &Code, stand: &ControlPoint<'a>, last: &Last) -> Result<Pace<'a>, Fault>
+    fn last<'a>(
+        &mut self,
+        code: &Code,
+        stand: &ControlPoint<'a>,
+        last: &Last,
+    ) -> Result<Pace<'a>, Fault>
         ensures done { IfOk result (λ pace. Ends code.now stand.now last.now self.old pace
             self.new) }
         ensures stuck { OnStuck result (LastStuck code.now stand.now last.now self.old) }
@@ -640,7 +655,12 @@ impl Process {
     }
 
     // The next operand of a wait is asked for; when all are kept, the actor waits.
-    fn choose<'a>(&mut self, code: &Code, stand: &ControlPoint<'a>, number: u32) -> Result<Pace<'a>, Fault>
+    fn choose<'a>(
+        &mut self,
+        code: &Code,
+        stand: &ControlPoint<'a>,
+        number: u32,
+    ) -> Result<Pace<'a>, Fault>
         ensures done { IfOk result (λ pace. IsChoose code.now stand.now number self.old pace
             self.new) }
         ensures stuck { OnStuck result (ChoosesStuck code.now stand.now number self.old) }
@@ -740,7 +760,11 @@ impl Process {
 
     #[tactic(auto, using(crate::proofs::Stepped::returns_by))]
     // That, with the value known.
-    fn end_with_value<'a>(&mut self, stand: &ControlPoint<'a>, value: Value) -> Result<Pace<'a>, Fault>
+    fn end_with_value<'a>(
+        &mut self,
+        stand: &ControlPoint<'a>,
+        value: Value,
+    ) -> Result<Pace<'a>, Fault>
         ensures done { IfOk result (λ pace. IsReturn stand.now value self.old pace self.new) }
         ensures stuck { OnStuck result (ReturnStuck stand.now value self.old) }
     {

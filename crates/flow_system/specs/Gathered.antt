@@ -7,7 +7,11 @@ use Rattle.flow_system.specs.declared.gathering.Gathering.{Gathering}
 
 -- the bytes that the writer holds were handed on, and written were these and those that are gathered
 abbrev pub gathered_seen : {W : Type 0} → (W → Option (List ℕ)) → Gathering W → SinkSeen
-gathered_seen contents s = record { written = append_known (contents s.writer) s.gathered.items; handed = contents s.writer; faults = s.faults }
+gathered_seen contents s = record {
+  written = append_known (contents s.writer) s.gathered.items;
+  handed = contents s.writer;
+  faults = s.faults;
+}
 
 -- a sink over a writer that holds these bytes, to which nothing was written yet
 abbrev pub start_of : Option (List ℕ) → SinkSeen

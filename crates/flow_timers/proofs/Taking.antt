@@ -86,7 +86,8 @@ at_its_time {A} t n (m ∷ ms) old sorted found = by (at_its_time t n ms old sor
     here : (o : Ordering) → nat_cmp t m.0 ≡ o → cond (is_eq o) (Some m.1) (lookup (is_at (nat_cmp t)) ms) ≡ Some old
     here o e = subst (λ p. cond (is_eq p) (Some m.1) (lookup (is_at (nat_cmp t)) ms) ≡ Some old) e found
 
-    by : (lookup (is_at (nat_cmp t)) ms ≡ Some old → (event_at t n (events_of ms) ≡ event_numbered n old) × (without_event t n (events_of ms) ≡ events_of (set_value (is_at (nat_cmp t)) ms (without_numbered n old))))
+    by : (lookup (is_at (nat_cmp t)) ms ≡ Some old → (event_at t n (events_of ms) ≡ event_numbered n old)
+        × (without_event t n (events_of ms) ≡ events_of (set_value (is_at (nat_cmp t)) ms (without_numbered n old))))
         → (o : Ordering) → nat_cmp t m.0 ≡ o
         → (event_at t n (events_of (m ∷ ms)) ≡ event_numbered n old) × (without_event t n (events_of (m ∷ ms)) ≡ events_of (set_value (is_at (nat_cmp t)) (m ∷ ms) (without_numbered n old)))
     by go Less e = absurd (no (sym (not_later t ms (all_later t m.0 (keys_of ms) (grind (arith, e)) sorted.0)) ∙ here Less e))
@@ -95,8 +96,10 @@ at_its_time {A} t n (m ∷ ms) old sorted found = by (at_its_time t n ms old sor
         let old_is : m.1 ≡ old = some (here Equal e) in
         let later = subst (λ s. AllByRecursion (λ k. nat_cmp s k ≡ Less) (keys_of ms)) (sym is) sorted.0 in
         let rest = elsewhere t n ms (not_later t ms later) in
-        rw e (subst (λ s. (event_at t n (map (at_time s) m.1 ++ events_of ms) ≡ event_numbered n old) × (without_event t n (map (at_time s) m.1 ++ events_of ms) ≡ map (at_time s) (without_numbered n old) ++ events_of ms)) is
-        (subst (λ ys. (event_at t n (map (at_time t) ys ++ events_of ms) ≡ event_numbered n old) × (without_event t n (map (at_time t) ys ++ events_of ms) ≡ map (at_time t) (without_numbered n old) ++ events_of ms)) (sym old_is)
+        rw e (subst (λ s. (event_at t n (map (at_time s) m.1 ++ events_of ms) ≡ event_numbered n old)
+        × (without_event t n (map (at_time s) m.1 ++ events_of ms) ≡ map (at_time s) (without_numbered n old) ++ events_of ms)) is
+        (subst (λ ys. (event_at t n (map (at_time t) ys ++ events_of ms) ≡ event_numbered n old)
+        × (without_event t n (map (at_time t) ys ++ events_of ms) ≡ map (at_time t) (without_numbered n old) ++ events_of ms)) (sym old_is)
         (own_time t n old (events_of ms) rest.0 rest.1)))
     by go Greater e =
         let above = more t m.0 e in

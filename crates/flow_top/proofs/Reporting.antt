@@ -38,7 +38,8 @@ record Went (r : ProgramRun) (before after : SinkSeen) (ending : Ending) : Type 
   are : AreLines r ending lines
   bytes : Appends before.written after.written (bytes_of lines)
 
-went : (r : ProgramRun) (before after : SinkSeen) (between : Option (List ℕ)) (ending : Ending) → MayRun r → Traces (tells put_bytes) r.frames r.classes r.world (whole before.written) ending (whole between)
+went : (r : ProgramRun) (before after : SinkSeen) (between : Option (List ℕ)) (ending : Ending) → MayRun r
+    → Traces (tells put_bytes) r.frames r.classes r.world (whole before.written) ending (whole between)
     → after.written ≡ between → Went r before after ending
 went r before after between ending may traces same =
     let shown = program_shown (tells put_bytes) may.text r.program.value r.classes r.world r.frames (whole before.written) (whole between) ending may.sound may.light may.has may.in_range traces in
@@ -48,7 +49,8 @@ went r before after between ending may traces same =
       bytes = subst (λ w. Appends before.written w (bytes_of shown.0)) (sym same) (bytes_put _ _ shown.0 shown.2);
     }
 
-pub came_to_end : (r : ProgramRun) (before after : SinkSeen) (between : Option (List ℕ)) (ending : Ending) → MayRun r → Traces (tells put_bytes) r.frames r.classes r.world (whole before.written) ending (whole between)
+pub came_to_end : (r : ProgramRun) (before after : SinkSeen) (between : Option (List ℕ)) (ending : Ending) → MayRun r
+    → Traces (tells put_bytes) r.frames r.classes r.world (whole before.written) ending (whole between)
     → after.written ≡ between → after.handed ≡ after.written → ReportedRun r before after (ending_status ending)
 came_to_end r before after between ending may traces same handed =
     let w = went r before after between ending may traces same in

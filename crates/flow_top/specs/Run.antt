@@ -167,14 +167,17 @@ pub data Due (words : List (List ℕ)) (content : List ℕ → Option (List ℕ)
   heavy : (name : List ℕ) (p : Program) (at : Place) → JudgeProgram words name → HasSound content name p
       → first_heavy (program_of p).decls ≡ Some at → Due words content (Answered (heavy_outcome at)) (name ∷ [])
   passed : (name : List ℕ) (p : Program) → AreCheck words name → HasPassing content name p → Due words content (Answered Passed) (name ∷ [])
-  compiled : (name : List ℕ) (p : Program) (classes : RawClasses) → AreCompile words name → HasPassing content name p → Has (program_of p) (raw_of classes)
+  compiled : (name : List ℕ) (p : Program) (classes : RawClasses) → AreCompile words name → HasPassing content name p
+      → Has (program_of p) (raw_of classes)
       → Due words content (Answered (Compiled classes)) (name ∷ [])
   -- the world is refused
-  no_world : (name world : List ℕ) (frames : Bool) (p : Program) (fault : WorldFault) → AreRun words name world frames → HasPassing content name p
+  no_world : (name world : List ℕ) (frames : Bool) (p : Program) (fault : WorldFault) → AreRun words name world frames
+      → HasPassing content name p
       → HasWorld content world (Err fault) → Due words content (Answered (NoWorld fault)) (name ∷ (world ∷ []))
   -- the program is run in the world, by its classes
   run : (name file : List ℕ) (r : ProgramRun) → AreRun words name file r.frames → HasPassing content name r.program.value
-      → Has (program_of r.program.value) (raw_of r.classes) → HasWorld content file (Ok r.world) → Due words content (Run r) (name ∷ (file ∷ []))
+      → Has (program_of r.program.value) (raw_of r.classes) → HasWorld content file (Ok r.world)
+      → Due words content (Run r) (name ∷ (file ∷ []))
 
 -- each of these files was read to one byte past the limit at most
 abbrev pub AllWithin : List (List ℕ) → FilesSeen → FilesSeen → Type 0

@@ -37,7 +37,8 @@ pub data Loaded (name : List ℕ) (before after : FilesSeen) : Result Sound told
   is_loaded : (s : Sound) → HasSound before.content name s.typed.program → AsksNames before after (name ∷ []) → after.faults ≡ before.faults
       → Loaded name before after (Ok s)
   is_refused : (text : List ℕ) (rule : Rule) (at : Place) → IsText before.content name text → IsRefused text rule at
-      → AsksNames before after (name ∷ []) → after.faults ≡ before.faults → Loaded name before after (Err (Refused (source.Refused rule at)))
+      → AsksNames before after (name ∷ []) → after.faults ≡ before.faults
+      → Loaded name before after (Err (Refused (source.Refused rule at)))
   is_lost : (p : Program) (l : Lost) → HasLost before.content name p l
       → AsksNames before after (name ∷ []) → after.faults ≡ before.faults
       → Loaded name before after (Err (Refused (source.AcrossWait l.at l.declared l.wait)))

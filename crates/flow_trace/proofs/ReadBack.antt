@@ -99,7 +99,15 @@ line_back (Sync n t p c true) range =
 line_back (Sync n t p c false) range =
     simp (number64 n range.1.0, number64 t range.1.1.0, number8 p.0 range.1.1.1.1.0, number64 c.0 range.1.1.1.1.1.0) refl
 line_back (Size n t p c (Some k)) range =
-    simp (number64 n range.1.0, number64 t range.1.1.0, number8 p.0 range.1.1.1.1.0, number64 c.0 range.1.1.1.1.1.0, no_word_decimal 102 (97 ∷ 105 ∷ 108 ∷ []) (lit< tt) k (omega (arith, range.1.1.1.1.1.1.0)), number32 k range.1.1.1.1.1.1.0) refl
+    simp (
+      number64 n range.1.0,
+      number64 t range.1.1.0,
+      number8 p.0 range.1.1.1.1.0,
+      number64 c.0 range.1.1.1.1.1.0,
+      no_word_decimal 102 (97 ∷ 105 ∷ 108 ∷ []) (lit< tt) k
+          (omega (arith, range.1.1.1.1.1.1.0)),
+      number32 k range.1.1.1.1.1.1.0,
+    ) refl
 line_back (Size n t p c None) range =
     simp (number64 n range.1.0, number64 t range.1.1.0, number8 p.0 range.1.1.1.1.0, number64 c.0 range.1.1.1.1.1.0) refl
 line_back (Start a class) range =
@@ -118,7 +126,13 @@ line_back (Finish a) range = simp (number64 a.0 range.1.0) refl
 line_back (Cancel a) range = simp (number64 a.0 range.1.0) refl
 line_back (Broken c) range = simp (number64 c.0 range.1.0) refl
 line_back (PrintInt a value) range =
-    simp (number64 a.0 range.1.0, no_word_signed 116 (114 ∷ 117 ∷ 101 ∷ []) (lit< tt) value range.1.1.0, no_word_signed 102 (97 ∷ 108 ∷ 115 ∷ 101 ∷ []) (lit< tt) value range.1.1.0, integer_back value range.1.1.0) refl
+    simp (
+      number64 a.0 range.1.0,
+      no_word_signed 116 (114 ∷ 117 ∷ 101 ∷ []) (lit< tt) value range.1.1.0,
+      no_word_signed 102 (97 ∷ 108 ∷ 115 ∷ 101 ∷ [])
+          (lit< tt) value range.1.1.0,
+      integer_back value range.1.1.0,
+    ) refl
 line_back (PrintBool a true) range = simp (number64 a.0 range.1.0) refl
 line_back (PrintBool a false) range = simp (number64 a.0 range.1.0) refl
 line_back (PrintText a x) range =

@@ -117,7 +117,8 @@ edge_from ws =
 abbrev pub frame_from : List WordState → Option Line
 frame_from ws =
     if is_word ws 0 (codes "callback") then Some (Callback (process_at ws 1) (actor_at ws 2) (small_at ws 3) (cell_at ws 4))
-    else if is_word ws 0 (codes "frame") then option_map (λ class. Frame (process_at ws 1) (actor_at ws 2) class (small_at ws 4)) (name_at ws 3)
+    else if is_word ws 0 (codes "frame") then option_map (λ class. Frame (process_at ws 1) (actor_at ws 2) class (small_at ws 4))
+    (name_at ws 3)
     else edge_from ws
 
 -- what the disk kept of a write

@@ -126,9 +126,12 @@ ForIs i e s b = kind_of (kind.For i e s b) ≡ (λ at rest. ForStmt at (simple_o
 
 pub kind_for : (i : Option (Box Stmt Global)) (e : Option Expr) (s : Option (Box Stmt Global)) (b : Vec Stmt Global) → ForIs i e s b
 kind_for None e None b = ap kind_of (sym (kind.rolls-For None e None b)) ∙ fold-roll-StmtKind Puts (Body → Body) (Branches → Branches) kind_step stmt_step branch_step (layer.For None e None b)
-kind_for None e (Some s) b = ap kind_of (sym (kind.rolls-For None e (Some s) b)) ∙ fold-roll-StmtKind Puts (Body → Body) (Branches → Branches) kind_step stmt_step branch_step (layer.For None e (Some s) b)
-kind_for (Some i) e None b = ap kind_of (sym (kind.rolls-For (Some i) e None b)) ∙ fold-roll-StmtKind Puts (Body → Body) (Branches → Branches) kind_step stmt_step branch_step (layer.For (Some i) e None b)
-kind_for (Some i) e (Some s) b = ap kind_of (sym (kind.rolls-For (Some i) e (Some s) b)) ∙ fold-roll-StmtKind Puts (Body → Body) (Branches → Branches) kind_step stmt_step branch_step (layer.For (Some i) e (Some s) b)
+kind_for None e (Some s) b = ap kind_of (sym (kind.rolls-For None e (Some s) b))
+    ∙ fold-roll-StmtKind Puts (Body → Body) (Branches → Branches) kind_step stmt_step branch_step (layer.For None e (Some s) b)
+kind_for (Some i) e None b = ap kind_of (sym (kind.rolls-For (Some i) e None b))
+    ∙ fold-roll-StmtKind Puts (Body → Body) (Branches → Branches) kind_step stmt_step branch_step (layer.For (Some i) e None b)
+kind_for (Some i) e (Some s) b = ap kind_of (sym (kind.rolls-For (Some i) e (Some s) b))
+    ∙ fold-roll-StmtKind Puts (Body → Body) (Branches → Branches) kind_step stmt_step branch_step (layer.For (Some i) e (Some s) b)
 
 -- a change of a variable, and a `for`, are told by the mirrors of their parts
 pub modify_same : (t u : Target) (c d : Change) → t.path.items ≡ u.path.items → change_of c ≡ change_of d → kind_of (kind.Modify t c) ≡ kind_of (kind.Modify u d)

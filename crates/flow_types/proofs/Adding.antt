@@ -35,7 +35,8 @@ pub body_step : (ss : List Stmt) (i : ℕ) (s : Stmt) (old new : List Variable) 
 body_step ss i s old new total lt e adds h =
     adds (body_of (drop (i + 1) ss)) ∙ ap (λ l. variable_list old ++ body_variables (body_of l)) (sym (drop_more ss i s lt e)) ∙ h
 
-pub body_end : (ss : List Stmt) (i : ℕ) (new : List Variable) (total : List VariableTree) → length ss ≤ i → variable_list new ++ body_variables (body_of (drop i ss)) ≡ total → variable_list new ≡ total
+pub body_end : (ss : List Stmt) (i : ℕ) (new : List Variable) (total : List VariableTree) → length ss ≤ i → variable_list new ++ body_variables (body_of (drop i ss)) ≡ total
+    → variable_list new ≡ total
 body_end ss i new total le h = sym (append-nil (variable_list new)) ∙ ap (λ l. variable_list new ++ body_variables (body_of l)) (sym (drop_all ss i le)) ∙ h
 
 pub branches_step : (ss : List When) (i : ℕ) (s : When) (old new : List Variable) (total : List VariableTree) → i < length ss → s ≡ get_or ss i s → AddsBranch (branch_of s) old new
@@ -43,7 +44,8 @@ pub branches_step : (ss : List When) (i : ℕ) (s : When) (old new : List Variab
 branches_step ss i s old new total lt e adds h =
     adds (branches_of (drop (i + 1) ss)) ∙ ap (λ l. variable_list old ++ branch_variables (branches_of l)) (sym (drop_more ss i s lt e)) ∙ h
 
-pub branches_end : (ss : List When) (i : ℕ) (new : List Variable) (total : List VariableTree) → length ss ≤ i → variable_list new ++ branch_variables (branches_of (drop i ss)) ≡ total → variable_list new ≡ total
+pub branches_end : (ss : List When) (i : ℕ) (new : List Variable) (total : List VariableTree) → length ss ≤ i → variable_list new ++ branch_variables (branches_of (drop i ss)) ≡ total
+    → variable_list new ≡ total
 branches_end ss i new total le h = sym (append-nil (variable_list new)) ∙ ap (λ l. variable_list new ++ branch_variables (branches_of l)) (sym (drop_all ss i le)) ∙ h
 
 -- one more variable at the end
@@ -55,7 +57,8 @@ params_step ps i p v old new total lt e is n h =
     ap (λ l. variable_list l ++ rest) n ∙ ap (λ l. l ++ rest) (map_end variable_of old v) ∙ append_assoc (variable_list old) (variable_of v ∷ []) rest
     ∙ ap (λ x. variable_list old ++ (x ∷ rest)) is ∙ ap (λ l. variable_list old ++ map param_variable (params_of l)) (sym (drop_more ps i p lt e)) ∙ h
 
-pub params_end : (ps : List Param) (i : ℕ) (new : List Variable) (total : List VariableTree) → length ps ≤ i → variable_list new ++ map param_variable (params_of (drop i ps)) ≡ total → variable_list new ≡ total
+pub params_end : (ps : List Param) (i : ℕ) (new : List Variable) (total : List VariableTree) → length ps ≤ i → variable_list new ++ map param_variable (params_of (drop i ps)) ≡ total
+    → variable_list new ≡ total
 params_end ps i new total le h = sym (append-nil (variable_list new)) ∙ ap (λ l. variable_list new ++ map param_variable (params_of l)) (sym (drop_all ps i le)) ∙ h
 
 -- the variables of one more declaration

@@ -40,7 +40,8 @@ all_decls r = plain_decls r ++ map head_of r.classes
 -- of an actor.
 abbrev pub declarations_kept : RawTree → Bool
 declarations_kept r =
-    is_none (or_else (decls_refusal (setting_of (all_decls r)) [] (plain_decls r)) (first_large ((codes "Packet", packet_size) ∷ []) (plain_decls r)))
+    is_none (or_else (decls_refusal (setting_of (all_decls r)) [] (plain_decls r))
+    (first_large ((codes "Packet", packet_size) ∷ []) (plain_decls r)))
 
 -- The name of a class is not predefined and not that of a declaration before it, it has a slot for each parameter, and
 -- the types of its places are known.

@@ -125,7 +125,8 @@ module _ (s : WalkState) (empty b : ℕ) (e : Option ℕ) (all : ℕ) (is : slic
       let here : room (get_or s.entries b e) ≡ room e = ap room (get_or_from_slice_get s.entries b e e is) in
       let room_less = widened_room e empty all h small in
       let longer : length (s.todo ++ b ∷ []) ≡ length s.todo + 1 = length_push s.todo b in
-      numbers (sum_by room (set s.entries b (Some all))) (sum_by room s.entries) (room (get_or s.entries b e)) (room e) (room (Some all)) (length (s.todo ++ b ∷ [])) (length s.todo) sums here room_less longer
+      numbers (sum_by room (set s.entries b (Some all))) (sum_by room s.entries) (room (get_or s.entries b e)) (room e) (room (Some all)) (length (s.todo ++ b ∷ []))
+      (length s.todo) sums here room_less longer
     where
       numbers : (new old at_b before now l m : ℕ) → new + at_b ≡ old + now → at_b ≡ before → now + 1 ≤ before → l ≡ m + 1 → 2 * new + l ≤ 2 * old + m
       numbers new old at_b before now l m a c d f = omega arith
@@ -267,7 +268,8 @@ entered_then a b c vs ws f g = record {
     by i z j lt (inr led) = inr (led_right vs ws i j (has_bit z j) led)
 
 -- a way whose places are seen otherwise
-pub entered_as : (a b : WalkState) (to : ℕ) (f g : ℕ → Bool) → ((j : ℕ) → j < 64 → f j ≡ g j) → Entered a b (record { block = to; empty = f } ∷ []) → Entered a b (record { block = to; empty = g } ∷ [])
+pub entered_as : (a b : WalkState) (to : ℕ) (f g : ℕ → Bool) → ((j : ℕ) → j < 64 → f j ≡ g j) → Entered a b (record { block = to; empty = f } ∷ [])
+    → Entered a b (record { block = to; empty = g } ∷ [])
 entered_as a b to f g same h = record {
   grows = h.grows;
   covers = ((λ j lt less. subst (Covers (entry_of b.entries j to)) (same j lt) (h.covers.0 j lt less)), tt);

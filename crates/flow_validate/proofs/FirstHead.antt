@@ -20,7 +20,8 @@ module _ (all : List ℕ → Option Meaning) (ds : List DeclTree) (cs : List Cla
       ∙ ap (λ l. ds ++ l) (map-append head_of (map class_of (take i cs)) (class_of c ∷ []))
       ∙ sym (append_assoc ds (map head_of (map class_of (take i cs))) (head_of (class_of c) ∷ []))
 
-  by_kept : first_head all (before ds cs i) i (map class_of (drop i cs)) ≡ (if head_kept (known (before ds cs i)) all (class_of c) then first_head all (before ds cs i ++ head_of (class_of c) ∷ []) (suc i) (map class_of (drop (i + 1) cs)) else Some i)
+  by_kept : first_head all (before ds cs i) i (map class_of (drop i cs))
+      ≡ (if head_kept (known (before ds cs i)) all (class_of c) then first_head all (before ds cs i ++ head_of (class_of c) ∷ []) (suc i) (map class_of (drop (i + 1) cs)) else Some i)
   by_kept =
       ap (λ l. first_head all (before ds cs i) i (map class_of l)) (drop_more cs i c lt ∙ ap (λ (y : Class). y ∷ drop (i + 1) cs) (sym at))
 

@@ -58,7 +58,8 @@ module _ (c : ClassTree) (w : Window) where
   passed_more s t new b same rest h p = record {
     same_length = long;
     sound = p.sound (subst (AreSound c w) (sym same) h.sound);
-    begin = λ j lt. enters_on t new p.grows long j 0 _ (subst (λ (es : List (Option ℕ)). Enters c (place_in w j) (entry_of es j) 0 (not (is_parameter c (place_in w j) (place_in w j)))) (sym same) (h.begin j lt));
+    begin = λ j lt. enters_on t new p.grows long j 0 _ (subst (λ (es : List (Option ℕ)). Enters c (place_in w j) (entry_of es j) 0 (not (is_parameter c (place_in w j) (place_in w j)))) (sym same)
+        (h.begin j lt));
     passed = λ i x k is at. by_change i x k is at (p.grows.changed i);
   }
     where

@@ -61,7 +61,8 @@ reads w p s t r bit own h is = subst (λ x. ArePassing w (record p { misread = b
 
 pub fills : (w : Window) (p : Passage) (s : Slotted → Passing) (t : Touch) (r : Slotted) (bit : ℕ) → bit < 2 ^ 64 → AreBits w bit (same_place r) → ArePassing w p s → t ≡ (Fills r)
     → ArePassing w (record p { empty = bit_and p.empty (18446744073709551615 - bit) }) (λ q. touched q t (s q))
-fills w p s t r bit small own h is = subst (λ x. ArePassing w (record p { empty = bit_and p.empty (18446744073709551615 - bit) }) (λ q. touched q x (s q))) (sym is) (fills_plain w p s r bit small own h)
+fills w p s t r bit small own h is = subst (λ x. ArePassing w (record p { empty = bit_and p.empty (18446744073709551615 - bit) }) (λ q. touched q x (s q))) (sym is)
+    (fills_plain w p s r bit small own h)
 
 pub empties : (w : Window) (p : Passage) (s : Slotted → Passing) (t : Touch) (n bit : ℕ) → AreBits w bit (same_place (place.Local n)) → ArePassing w p s → t ≡ (Empties n)
     → ArePassing w (record p { empty = bit_or p.empty bit }) (λ q. touched q t (s q))

@@ -94,7 +94,8 @@ row_put : (k : Bor (List ℕ)) (v : code.TypeView) (es : List (Bor (List ℕ) ×
 row_put k v [] h = refl
 row_put k v (e ∷ es) h = by (row_put k v es) (bytes_eq k.now e.0.now) refl
   where
-    by : (named (map (bound found_of) es) k.now ≡ None → map (bound found_of) (insert_entry (λ (x y : Bor (List ℕ)). bytes_eq x.now y.now) es k v) ≡ map (bound found_of) es ++ (k.now, found_of v) ∷ [])
+    by : (named (map (bound found_of) es) k.now ≡ None → map (bound found_of) (insert_entry (λ (x y : Bor (List ℕ)). bytes_eq x.now y.now) es k v) ≡ map (bound found_of) es ++ (k.now, found_of v)
+        ∷ [])
         → (b : Bool) → bytes_eq k.now e.0.now ≡ b
         → map (bound found_of) (if bytes_eq k.now e.0.now then (e.0, v) ∷ es else e ∷ insert_entry (λ (x y : Bor (List ℕ)). bytes_eq x.now y.now) es k v)
         ≡ bound found_of e ∷ (map (bound found_of) es ++ (k.now, found_of v) ∷ [])

@@ -127,7 +127,8 @@ module _ (p : Slotted) where
   -- behind an instruction a place is filled, by either account
   pub filled_behind : (c : ClassTree) (i : InstrTree) (e : Bool) → not ((e && not (among (instr_fills i) p)) || dropped (emptied_by i) p) ≡ behind c p i (not e)
   filled_behind c (SetInstr path v) e = ap (λ (x : Bool). not ((e && not (among (instr_fills (SetInstr path v)) p)) || x)) (none_dropped p) ∙ no_drop (among (instr_fills (SetInstr path v)) p) e
-  filled_behind c (EffectInstr path v) e = ap (λ (x : Bool). not ((e && not (among (instr_fills (EffectInstr path v)) p)) || x)) (none_dropped p) ∙ no_drop (among (instr_fills (EffectInstr path v)) p) e
+  filled_behind c (EffectInstr path v) e = ap (λ (x : Bool). not ((e && not (among (instr_fills (EffectInstr path v)) p)) || x)) (none_dropped p)
+      ∙ no_drop (among (instr_fills (EffectInstr path v)) p) e
   filled_behind c (NewInstr q) e = ap (λ (x : Bool). not ((e && not (among (q ∷ []) p)) || x)) (none_dropped p) ∙ no_drop (among (q ∷ []) p) e
   filled_behind c (ActInstr path es) e = ap (λ (x : Bool). not ((e && not false) || x)) (none_dropped p) ∙ no_drop false e
   filled_behind c (DropInstr ns) e = only_drop (dropped ns p) e

@@ -32,9 +32,11 @@ module _ (c : ClassTree) (p : Slotted) (entry : ℕ → Option Bool) where
     pub misread : s.misread ≡ false
     pub handler : (h : CatcherTree) → k.catcher ≡ Some h → Enters h.block (empty_handled c p h s.thrown)
     pub targets : (to : ℕ) → Contains (targets k.last) to → Enters to s.empty
-    pub branches : (g n : ℕ) (cb : CallbackTree) → k.last ≡ ChooseLast g → callback_at c g n ≡ Some cb → Enters cb.block (empty_taken p cb s.empty)
+    pub branches : (g n : ℕ) (cb : CallbackTree) → k.last ≡ ChooseLast g → callback_at c g n ≡ Some cb
+        → Enters cb.block (empty_taken p cb s.empty)
 
   -- all blocks are passed to which a walk leads
   pub record AreFollowed : Type 0 where
     pub begin : Enters 0 (not (is_parameter c p p))
-    pub all : (b : ℕ) (k : BlockTree) (e : Bool) → slice_get c.blocks b ≡ Some k → entry b ≡ Some e → IsPassed k (passed p (block_touches c k) (entering e))
+    pub all : (b : ℕ) (k : BlockTree) (e : Bool) → slice_get c.blocks b ≡ Some k → entry b ≡ Some e
+        → IsPassed k (passed p (block_touches c k) (entering e))

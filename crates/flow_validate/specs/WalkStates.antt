@@ -122,7 +122,8 @@ AllPassed c w es k x =
 -- what the blocks do to places is known
 pub record AreTouches (c : ClassTree) (touches : List (List Touch)) : Type 0 where
   pub same_length : length touches ≡ length c.blocks
-  pub each : (b : ℕ) (k : BlockTree) (ts : List Touch) → slice_get c.blocks b ≡ Some k → slice_get touches b ≡ Some ts → ts ≡ block_touches c k
+  pub each : (b : ℕ) (k : BlockTree) (ts : List Touch) → slice_get c.blocks b ≡ Some k → slice_get touches b ≡ Some ts
+      → ts ≡ block_touches c k
 
 abbrev pub HoldsTouches : ClassTree → Touches → Type 0
 HoldsTouches c t = (all : List (List Touch)) × AreJoined t all × AreTouches c all
@@ -131,7 +132,8 @@ HoldsTouches c t = (all : List (List Touch)) × AreJoined t all × AreTouches c 
 pub record Passes (c : ClassTree) (w : Window) (old new : WalkState) (block : ℕ) : Type 0 where
   pub grows : Grows old new
   pub sound : AreSound c w old.entries → AreSound c w new.entries
-  pub passed : (k : BlockTree) (x : ℕ) → slice_get c.blocks block ≡ Some k → slice_get old.entries block ≡ Some (Some x) → AllPassed c w new.entries k x
+  pub passed : (k : BlockTree) (x : ℕ) → slice_get c.blocks block ≡ Some k → slice_get old.entries block ≡ Some (Some x)
+      → AllPassed c w new.entries k x
 
 abbrev pub PassesOr : ClassTree → Window → (old new : WalkState) → (block : ℕ) → (filled : Bool) → Type 0
 PassesOr c w old new b true = Passes c w old new b
@@ -142,7 +144,8 @@ pub record AreWalks (c : ClassTree) (w : Window) (s : WalkState) : Type 0 where
   pub same_length : length s.entries ≡ length c.blocks
   pub sound : AreSound c w s.entries
   pub begin : (j : ℕ) → j < 64 → Enters c (place_in w j) (entry_of s.entries j) 0 (not (is_parameter c (place_in w j) (place_in w j)))
-  pub passed : (b x : ℕ) (k : BlockTree) → slice_get c.blocks b ≡ Some k → slice_get s.entries b ≡ Some (Some x) → Contains s.todo b ⊎ AllPassed c w s.entries k x
+  pub passed : (b x : ℕ) (k : BlockTree) → slice_get c.blocks b ≡ Some k → slice_get s.entries b ≡ Some (Some x)
+      → Contains s.todo b ⊎ AllPassed c w s.entries k x
 
 -- no walk reads a place while it is empty
 abbrev pub IsFilled : ClassTree → Slotted → Type 0

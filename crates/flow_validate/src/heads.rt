@@ -19,9 +19,9 @@ ghost use Rattle.flow_validate.specs.Answers.{Tells};
 
 use flow_base::memory::NoMemory;
 use flow_class::class::Class;
-use flow_rules::top_names::{TopNames, is_predefined, name_of};
 use flow_rules::program::declarations;
 use flow_rules::size::sizes;
+use flow_rules::top_names::{TopNames, is_predefined, name_of};
 use flow_rules::walk::has_text;
 use flow_tree::decl::{Decl, Param, Slot};
 use flow_tree::fault::SourceFault;

@@ -24,8 +24,8 @@ use crate::types::{PlaceNames, place_names, types_fit, variables};
 use flow_base::memory::NoMemory;
 use flow_class::class::{Class, RawClasses};
 use flow_rules::judge::Setting;
-use flow_rules::top_names::{TopNames, packet_fields};
 use flow_rules::program::is_main;
+use flow_rules::top_names::{TopNames, packet_fields};
 use flow_tree::decl::{Decl, Param};
 use flow_valid::program::ClassProgram;
 use std::alloc::Global;
@@ -227,7 +227,11 @@ fn release(alloc: Global, gathered: Gathered) -> Result<RawClasses, NoMemory>
 }
 
 // The verdict by the names at the top.
-fn judge_named<'a>(alloc: Global, names: &TopNames<'a>, gathered: &'a Gathered) -> Result<(), Invalid>
+fn judge_named<'a>(
+    alloc: Global,
+    names: &TopNames<'a>,
+    gathered: &'a Gathered,
+) -> Result<(), Invalid>
     requires { IsReady gathered.now }
     ensures valid { (r : RawTree) → Sees r names.now → AreParts r gathered.now
         → IfOk result (λ _. IsValid r) }

@@ -52,7 +52,8 @@ use Rattle.flow_validity_laws.proofs.Surroundings.{Aims, EndWay, end_onward, Sid
 use Rattle.flow_validity_laws.proofs.Reading.{IsNamed, covers_after, covers_new, keeps_assigned, whole_in, assign_in, change_in, act_in, declared_by}
 use Rattle.flow_validity_laws.proofs.Grounds.{Ground, ground_past, ground_into, live_to, leaf, acting_live, Rest, rest_of}
 
-module _ (base : Setting) (ns : Names) (c : ClassTree) (few_slots : length c.slots < 2 ^ 64) (few_locals : length c.locals < 2 ^ 64) (agree : (f : List ℕ) → is_there (effectful ns f) ≡ calls_effect (called base f)) where
+module _ (base : Setting) (ns : Names) (c : ClassTree) (few_slots : length c.slots < 2 ^ 64) (few_locals : length c.locals < 2 ^ 64)
+    (agree : (f : List ℕ) → is_there (effectful ns f) ≡ calls_effect (called base f)) where
   abbrev pub Rows : Type 0
   Rows = List (List ℕ × TypeTree)
 
@@ -94,7 +95,8 @@ module _ (base : Setting) (ns : Names) (c : ClassTree) (few_slots : length c.slo
       by_name true h f = h
       by_name false h f = f h
 
-  pub thrown_into : (rows : Rows) (gs : List Slotted) (s : Scope) (l : ℕ) (i : IntoTree) (pl : Placing ns c few_slots few_locals s l i) (cu : Option Caught) (o : Option (List ℕ)) (caught : Bool) → New rows i.name.name → Thrown rows gs s cu o caught
+  pub thrown_into : (rows : Rows) (gs : List Slotted) (s : Scope) (l : ℕ) (i : IntoTree) (pl : Placing ns c few_slots few_locals s l i) (cu : Option Caught) (o : Option (List ℕ)) (caught : Bool)
+      → New rows i.name.name → Thrown rows gs s cu o caught
       → Thrown (rows ++ (i.name.name, i.ty) ∷ []) (pl.to ∷ gs) (with_into i l s) cu o caught
   thrown_into rows gs s l i pl cu o caught new h = record {
     known = λ t.
@@ -129,17 +131,22 @@ module _ (base : Setting) (ns : Names) (c : ClassTree) (few_slots : length c.slo
       → Live c w.hand a.hand gs p.stale (Outer l w a p (ways k b)) n.block (n.block + blocks_in w.looped.tried b) n.group (n.group + groups_in b) (lowered ns c.slots s w n b)
 
   -- what stands behind a statement
-  pub rest_lives : (x : Body) → Lives x → (l t : Bool) (e : Env) (rows : Rows) (vs : List Variable) (gs : List Slotted) (s : Scope) (w : Around) (n j : Next) (p q : Point) (a : Aims) (cu : Option Caught) (k z : ℕ) (u : Ways)
-      → Said l t e rows s w (begun j) x → Ground base ns c few_slots few_locals w s n.local rows vs gs p a → n.local ≤ j.local → Thrown rows gs s cu w.caught e.caught → q ≡ behind (length vs) p u.ends → z ≡ k → AllFresh (uses z vs q cu x)
+  pub rest_lives : (x : Body) → Lives x → (l t : Bool) (e : Env) (rows : Rows) (vs : List Variable) (gs : List Slotted) (s : Scope) (w : Around) (n j : Next) (p q : Point) (a : Aims)
+      (cu : Option Caught) (k z : ℕ) (u : Ways)
+      → Said l t e rows s w (begun j) x → Ground base ns c few_slots few_locals w s n.local rows vs gs p a → n.local ≤ j.local → Thrown rows gs s cu w.caught e.caught → q ≡ behind (length vs) p u.ends
+      → z ≡ k → AllFresh (uses z vs q cu x)
       → length (body_groups x) ≤ k
-      → Rest base ns c few_slots few_locals w.hand (Outer l w a p (sequence u (ways k x))) gs (length vs) p u j.block (suc j.block + blocks_in w.looped.tried x) j.group (j.group + groups_in x) (lowered ns c.slots s w (begun j) x)
+      → Rest base ns c few_slots few_locals w.hand (Outer l w a p (sequence u (ways k x))) gs (length vs) p u j.block (suc j.block + blocks_in w.looped.tried x) j.group (j.group + groups_in x)
+      (lowered ns c.slots s w (begun j) x)
   rest_lives x lives l t e rows vs gs s w n j p q a cu k z u said g le th eq ez fresh many =
       let r = behind (length vs) p u.ends in
       let v = ways k x in
-      rest_of base ns c few_slots few_locals w.hand a.hand (Outer l w a r v) (Outer l w a p (sequence u v)) gs (length vs) p u j.block (suc j.block + blocks_in w.looped.tried x) j.group (j.group + groups_in x) (lowered ns c.slots s w (begun j) x)
+      rest_of base ns c few_slots few_locals w.hand a.hand (Outer l w a r v) (Outer l w a p (sequence u v)) gs (length vs) p u j.block (suc j.block + blocks_in w.looped.tried x) j.group
+      (j.group + groups_in x) (lowered ns c.slots s w (begun j) x)
       (ap (λ m. suc j.block + m) (lowered_more ns c.slots s w (begun j) x)) (ap (λ m. j.group + m) (lowered_groups ns c.slots s w (begun j) x))
       (λ h en o. (end_onward c en w.exit a.end (length vs) p u.ends v.ends h o.0, sides_second c en l w a (length vs) p u v h o.1))
-      (λ h. lives l t e rows vs gs s w (begun j) r a cu k said (ground_past base ns c few_slots few_locals w s n.local j.local rows vs gs p r a le ((behind_is (length vs) p u.ends h).from ∙ g.start) g) th
+      (λ h. lives l t e rows vs gs s w (begun j) r a cu k said (ground_past base ns c few_slots few_locals w s n.local j.local rows vs gs p r a le
+      ((behind_is (length vs) p u.ends h).from ∙ g.start) g) th
       (subst (λ m. AllFresh (uses m vs r cu x)) ez (subst (λ m. AllFresh (uses z vs m cu x)) eq fresh)) many)
 
   abbrev EndNear : Bool → Around → Aims → Point → Exit → Entries c → Type 0
@@ -148,7 +155,8 @@ module _ (base : Setting) (ns : Names) (c : ClassTree) (few_slots : length c.slo
   -- the end of a body
   pub end_lives : Lives End
   end_lives l t e rows vs gs s w n p a cu k said g th fresh many =
-      live_to base ns c few_slots few_locals w.hand a.hand gs p.stale (Outer l w a p (ways k End)) n.block n.block (n.block + 0) n.group n.group (n.group + 0) (finished w s w.exit) (omega arith) (omega arith) (by_exit w.exit)
+      live_to base ns c few_slots few_locals w.hand a.hand gs p.stale (Outer l w a p (ways k End)) n.block n.block (n.block + 0) n.group n.group (n.group + 0) (finished w s w.exit) (omega arith)
+      (omega arith) (by_exit w.exit)
     where
       by_exit : (x : Exit) → Live c w.hand a.hand gs p.stale (EndNear l w a p x) n.block n.block n.group n.group (finished w s x)
       by_exit (Text close) =
@@ -156,12 +164,14 @@ module _ (base : Setting) (ns : Names) (c : ClassTree) (few_slots : length c.slo
           (λ en o kc z cover guard. (in_none z, catches c en w.hand a.hand kc p.stale z g.hand.below guard (covers_sub z gs a.hand.places p.stale g.hand.sub cover), tt))
       by_exit (Scoped last) =
           leaf base ns c few_slots few_locals w s gs p a (EndNear l w a p (Scoped last)) n.block n.group false (drop_of (scope s)) last g.hand.from (λ z en o. absurd (false≢true z))
-          (λ en o kc z cover guard. drop_kept c en w.hand a.hand kc (scope s) last a.end p at_once z refl o.0 g.end.below g.hand.below g.end.from g.scoped (covers_sub z gs a.end.places p.stale g.end.sub cover) (covers_sub z gs a.hand.places p.stale g.hand.sub cover) guard)
+          (λ en o kc z cover guard. drop_kept c en w.hand a.hand kc (scope s) last a.end p at_once z refl o.0 g.end.below g.hand.below g.end.from g.scoped
+          (covers_sub z gs a.end.places p.stale g.end.sub cover) (covers_sub z gs a.hand.places p.stale g.hand.sub cover) guard)
       by_exit (Part last) =
           leaf base ns c few_slots few_locals w s gs p a (EndNear l w a p (Part last)) n.block n.group false [] last g.hand.from (λ z en o. absurd o.0) (λ en o kc z cover guard. absurd o.0)
 
   -- an instruction, and then the rest of the text
-  pub then_lives : (l : Bool) (rows : Rows) (vs : List Variable) (gs : List Slotted) (s : Scope) (w : Around) (n : Next) (p : Point) (a : Aims) (m g2 : ℕ) (v : Ways) (hs : List Slotted) (i : InstrTree) (ch : Chunk)
+  pub then_lives : (l : Bool) (rows : Rows) (vs : List Variable) (gs : List Slotted) (s : Scope) (w : Around) (n : Next) (p : Point) (a : Aims) (m g2 : ℕ) (v : Ways) (hs : List Slotted)
+      (i : InstrTree) (ch : Chunk)
       → Ground base ns c few_slots few_locals w s n.local rows vs gs p a → Live c w.hand a.hand hs p.stale (Outer l w a p v) n.block m n.group g2 ch
       → ((z : Places) → Covers z gs p.stale → AllIn (instr_reads i) z) → ((z : Places) → Covers z gs p.stale → Covers (after i z) hs p.stale)
       → Live c w.hand a.hand gs p.stale (Outer l w a p (sequence (plain at_once) v)) n.block m n.group g2 (acting (i ∷ []) ch)
@@ -224,7 +234,8 @@ module _ (base : Setting) (ns : Names) (c : ClassTree) (few_slots : length c.slo
       (λ z cover. act_in base ns c rows s st.sees vs gs n.local g.line p g.start z cover xs es judged one (named_path xs said.paths.0)) (λ z cover. covers_after i z gs p.stale (λ q. refl) cover)
 
   -- the value of a declaration
-  pub value_in : (rows : Rows) (vs : List Variable) (gs : List Slotted) (s : Scope) (m : ℕ) (p : Point) → Sees base c rows s → Lined base c vs gs rows s m → p.from ≡ 0 → (y : Places) → Covers y gs p.stale → (i : IntoTree) (q : Option ExprTree) (v : ExprTree)
+  pub value_in : (rows : Rows) (vs : List Variable) (gs : List Slotted) (s : Scope) (m : ℕ) (p : Point) → Sees base c rows s → Lined base c vs gs rows s m → p.from ≡ 0 → (y : Places)
+      → Covers y gs p.stale → (i : IntoTree) (q : Option ExprTree) (v : ExprTree)
       → q ≡ Some v → value_fault (over_names base c rows) i.ty q ≡ None → AllFresh (maybe_uses vs p q) → AllIn (expr_places (over c.slots s v)) y
   value_in rows vs gs s m p sees line start y cover i q v is h fresh =
       let n = over_names base c rows in
@@ -258,8 +269,10 @@ module _ (base : Setting) (ns : Names) (c : ClassTree) (few_slots : length c.slo
         placed = subst (λ xs. InPlace c.slots l t xs x) (sym (names_with i.state i.name.name n.local s)) said.placed.1;
         judged = neither_second f _ said.judged;
       })
-      (ground_into base ns c few_slots few_locals w s n.local rows vs gs p a i pl new g) (thrown_into rows gs s n.local i pl cu w.caught e.caught new th) (fresh_right us (uses k (declared i ∷ vs) p cu x) fresh) many in
-      subst (λ is. Live c w.hand a.hand gs p.stale (Outer l w a p (sequence (plain at_once) (ways k x))) n.block (n.block + blocks_in w.looped.tried x) n.group (n.group + groups_in x) (acting is (lowered ns c.slots s2 w z x))) (sym d.is)
+      (ground_into base ns c few_slots few_locals w s n.local rows vs gs p a i pl new g) (thrown_into rows gs s n.local i pl cu w.caught e.caught new th)
+      (fresh_right us (uses k (declared i ∷ vs) p cu x) fresh) many in
+      subst (λ is. Live c w.hand a.hand gs p.stale (Outer l w a p (sequence (plain at_once) (ways k x))) n.block (n.block + blocks_in w.looped.tried x) n.group (n.group + groups_in x)
+      (acting is (lowered ns c.slots s2 w z x))) (sym d.is)
       (then_lives l rows vs gs s w n p a (n.block + blocks_in w.looped.tried x) (n.group + groups_in x) (ways k x) hs d.instr (lowered ns c.slots s2 w z x) g rest
       (λ y cover. d.reads y (λ v is. value_in rows vs gs s n.local p st.sees g.line g.start y cover i q v is value (fresh_left us (uses k (declared i ∷ vs) p cu x) fresh)))
       (λ y cover. covers_new d.instr y gs p.stale pl.to d.keeps d.fills cover))

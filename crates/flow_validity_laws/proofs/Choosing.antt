@@ -126,7 +126,8 @@ quiet_finished n w s (Part l) q = none_named n (named_in (finished w s (Part l))
 quiet_inner : (w : Around) (x : Exit) → QuietExit x → IsQuiet w → IsQuiet (inner w x)
 quiet_inner w x q h = record { exit = q; again = h.again }
 
-rest_once : (b : Bool) (n k : ℕ) (h : Option Hand) (a d : Chunk) → Once n n (named_in a) → (b ≡ true → Once n k (named_in d)) → (b ≡ false → k ≡ n) → Once n k (named_in (if b then joined h a d else a))
+rest_once : (b : Bool) (n k : ℕ) (h : Option Hand) (a d : Chunk) → Once n n (named_in a) → (b ≡ true → Once n k (named_in d)) → (b ≡ false → k ≡ n)
+    → Once n k (named_in (if b then joined h a d else a))
 rest_once true n k h a d f g e = joined_once n n k h a d f (g refl)
 rest_once false n k h a d f g e = once_to n n k (named_in a) (sym (e refl)) f
 
@@ -184,7 +185,8 @@ module _ (ns : Names) (slots : List SlotTree) where
         let c1 = ends w s true [] (TestLast (over slots s e) h.block m.block) in
         let a = lowered ns slots (Mark ∷ s) v (begun h) b in
         let d = lowered ns slots s w (begun m) k in
-        let x = joined_once n.group n.group n.group w.hand c0 c1 (quiet_ends n.group w s false [] (PassLast n.block) (λ g. refl)) (quiet_ends n.group w s true [] (TestLast (over slots s e) h.block m.block) (λ g. refl)) in
+        let x = joined_once n.group n.group n.group w.hand c0 c1 (quiet_ends n.group w s false [] (PassLast n.block) (λ g. refl))
+        (quiet_ends n.group w s true [] (TestLast (over slots s e) h.block m.block) (λ g. refl)) in
         let y = joined_once n.group n.group m.group w.hand (joined w.hand c0 c1) a x (lowered_once (Mark ∷ s) v (begun h) b (record { exit = λ g. refl; again = λ g. refl })) in
         once_to n.group (m.group + groups_in k) (n.group + (groups_in b + groups_in k)) (named_in (joined w.hand (joined w.hand (joined w.hand c0 c1) a) d)) (omega arith)
         (joined_once n.group m.group (m.group + groups_in k) w.hand (joined w.hand (joined w.hand c0 c1) a) d y (lowered_once s w (begun m) k q))
@@ -208,14 +210,16 @@ module _ (ns : Names) (slots : List SlotTree) where
         let x2 = joined_once n.group g.group m.group w.hand c1 c2 x1 (lowered_once (Mark ∷ r) f (begun g) b (record { exit = λ g. refl; again = λ g. refl })) in
         let x3 = joined_once n.group m.group o.group w.hand (joined w.hand c1 c2) c3 x2 (lowered_once r v (begun m) p qv) in
         let x4 = joined_once n.group o.group (o.group + groups_in k) w.hand (joined w.hand (joined w.hand c1 c2) c3) (dropping ds c4) x3 (lowered_once s w (begun o) k q) in
-        once_to n.group (o.group + groups_in k) (n.group + (groups_in i + groups_in p + groups_in b + groups_in k)) (named_in (joined w.hand (joined w.hand (joined w.hand c1 c2) c3) (dropping ds c4))) (omega (arith, test_group e h)) x4
+        once_to n.group (o.group + groups_in k) (n.group + (groups_in i + groups_in p + groups_in b + groups_in k)) (named_in (joined w.hand (joined w.hand (joined w.hand c1 c2) c3) (dropping ds c4)))
+        (omega (arith, test_group e h)) x4
     lowered_once s w n (LoopStmt at b k) q =
         let m = past false b (begun n) in
         let v = pass w 1 (PassLast n.block) m.block in
         let c0 = ends w s false [] (PassLast n.block) in
         let a = lowered ns slots (Mark ∷ s) v (begun n) b in
         let d = lowered ns slots s w (begun m) k in
-        let y = joined_once n.group n.group m.group w.hand c0 a (quiet_ends n.group w s false [] (PassLast n.block) (λ g. refl)) (lowered_once (Mark ∷ s) v (begun n) b (record { exit = λ g. refl; again = λ g. refl })) in
+        let y = joined_once n.group n.group m.group w.hand c0 a (quiet_ends n.group w s false [] (PassLast n.block) (λ g. refl))
+        (lowered_once (Mark ∷ s) v (begun n) b (record { exit = λ g. refl; again = λ g. refl })) in
         once_to n.group (m.group + groups_in k) (n.group + (groups_in b + groups_in k)) (named_in (joined w.hand (joined w.hand c0 a) d)) (omega arith)
         (joined_once n.group m.group (m.group + groups_in k) w.hand (joined w.hand c0 a) d y (lowered_once s w (begun m) k q))
     lowered_once s w n (BreakStmt at k) q =
@@ -229,9 +233,11 @@ module _ (ns : Names) (slots : List SlotTree) where
         rest_named k n.group w.hand (exits w.looped.tried w s n w.looped.again) d (quiet_exits n.group w.looped.tried w s n w.looped.again q.again)
         (subst (λ z. Once z (z + groups_in k) (named_in d)) (exited_group w.looped.tried n) (lowered_once s w (begun m) k q))
     lowered_once s w n (ReturnStmt at e k) q =
-        rest_named k n.group w.hand (ends w s true [] (ReturnLast (over slots s e))) (lowered ns slots s w (begun n) k) (quiet_ends n.group w s true [] (ReturnLast (over slots s e)) (λ g. refl)) (lowered_once s w (begun n) k q)
+        rest_named k n.group w.hand (ends w s true [] (ReturnLast (over slots s e))) (lowered ns slots s w (begun n) k) (quiet_ends n.group w s true [] (ReturnLast (over slots s e)) (λ g. refl))
+        (lowered_once s w (begun n) k q)
     lowered_once s w n (ThrowStmt at e k) q =
-        rest_named k n.group w.hand (ends w s true [] (ThrowLast (thrown ns slots s at e w.caught))) (lowered ns slots s w (begun n) k) (quiet_ends n.group w s true [] (ThrowLast (thrown ns slots s at e w.caught)) (λ g. refl))
+        rest_named k n.group w.hand (ends w s true [] (ThrowLast (thrown ns slots s at e w.caught))) (lowered ns slots s w (begun n) k)
+        (quiet_ends n.group w s true [] (ThrowLast (thrown ns slots s at e w.caught)) (λ g. refl))
         (lowered_once s w (begun n) k q)
     lowered_once s w n (TryStmt at b p x o k) q =
         let t = w.looped.tried in
@@ -246,7 +252,8 @@ module _ (ns : Names) (slots : List SlotTree) where
         let a = lowered ns slots (Mark ∷ s) v (begun n) b in
         let u = lowered ns slots (Var x.name m.local ∷ Mark ∷ s) f g o in
         let d = lowered ns slots s w (begun j) k in
-        let x1 = joined_once n.group n.group m.group (Some h) c0 a (quiet_ends n.group w s false [] (GotoLast n.block) (λ g. refl)) (lowered_once (Mark ∷ s) v (begun n) b (record { exit = λ g. refl; again = q.again })) in
+        let x1 = joined_once n.group n.group m.group (Some h) c0 a (quiet_ends n.group w s false [] (GotoLast n.block) (λ g. refl))
+        (lowered_once (Mark ∷ s) v (begun n) b (record { exit = λ g. refl; again = q.again })) in
         let x2 = joined_once n.group m.group j.group w.hand (joined (Some h) c0 a) u x1 (lowered_once (Var x.name m.local ∷ Mark ∷ s) f g o (record { exit = λ g. refl; again = q.again })) in
         once_to n.group (j.group + groups_in k) (n.group + (groups_in b + groups_in o + groups_in k)) (named_in (joined w.hand (joined w.hand (joined (Some h) c0 a) u) d)) (omega arith)
         (joined_once n.group j.group (j.group + groups_in k) w.hand (joined w.hand (joined (Some h) c0 a) u) d x2 (lowered_once s w (begun j) k q))
@@ -272,7 +279,8 @@ module _ (ns : Names) (slots : List SlotTree) where
         once_to n.group (suc n.group + groups_in k) (n.group + suc (groups_in k)) (named_in (joined w.hand c0 d)) (omega arith)
         (joined_once n.group (suc n.group) (suc n.group + groups_in k) w.hand c0 d (chosen_once n.group (named_in c0) (λ g. refl)) (lowered_once (with_taken v.into n.local s) w z k q))
 
-    branches_once : (a : Chunk) (first : ℕ) (s : Scope) (w : Around) (n : Next) (bs : Branches) → IsQuiet w → Once first n.group (named_in a) → Once first (n.group + branch_group_count bs) (named_in (branches ns slots a s w n bs))
+    branches_once : (a : Chunk) (first : ℕ) (s : Scope) (w : Around) (n : Next) (bs : Branches) → IsQuiet w → Once first n.group (named_in a)
+        → Once first (n.group + branch_group_count bs) (named_in (branches ns slots a s w n bs))
     branches_once a first s w n NoBranches q h = once_to first n.group (n.group + 0) (named_in a) (omega arith) h
     branches_once a first s w n (MoreBranches at v b bs) q h =
         let m = taken v.into (begun n) in
@@ -284,7 +292,8 @@ module _ (ns : Names) (slots : List SlotTree) where
 -- each group of a class
 each : (bs : List BlockTree) (n k : ℕ) (gs : List (List CallbackTree)) → n + length gs ≡ k → ((g : ℕ) → n ≤ g → g < k → times_chosen g bs ≡ 1) → each_once bs n gs ≡ true
 each bs n k [] e h = refl
-each bs n k (ks ∷ gs) e h = both (nat_eq (times_chosen n bs) 1) _ (ap (λ z. nat_eq z 1) (h n (omega arith) (omega (arith, e)))) (each bs (suc n) k gs (omega (arith, e)) (λ g le lt. h g (omega arith) lt))
+each bs n k (ks ∷ gs) e h = both (nat_eq (times_chosen n bs) 1) _ (ap (λ z. nat_eq z 1) (h n (omega arith) (omega (arith, e))))
+    (each bs (suc n) k gs (omega (arith, e)) (λ g le lt. h g (omega arith) lt))
 
 pub chosen_well : (ns : Names) (a : RoutineTree) → groups_chosen (lowered_class ns (layout_of a) a) ≡ true
 chosen_well ns a =

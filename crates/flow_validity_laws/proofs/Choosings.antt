@@ -61,7 +61,8 @@ IsJump y _ = ⊥
 pub monus_twice : (k a b x : ℕ) → x ≡ a + b → k - x ≡ k - a - b
 monus_twice k a b x e = omega (arith, e)
 
-module _ (base : Setting) (ns : Names) (c : ClassTree) (few_slots : length c.slots < 2 ^ 64) (few_locals : length c.locals < 2 ^ 64) (agree : (f : List ℕ) → is_there (effectful ns f) ≡ calls_effect (called base f)) where
+module _ (base : Setting) (ns : Names) (c : ClassTree) (few_slots : length c.slots < 2 ^ 64) (few_locals : length c.locals < 2 ^ 64)
+    (agree : (f : List ℕ) → is_there (effectful ns f) ≡ calls_effect (called base f)) where
   abbrev Alives : Body → Type 0
   Alives b = Lives base ns c few_slots few_locals agree b
 
@@ -78,9 +79,12 @@ module _ (base : Setting) (ns : Names) (c : ClassTree) (few_slots : length c.slo
   ended a gs st m = record a { end = here_aim gs st m }
 
   -- a test at the end of a block, whose ways may lead to places of different scopes
-  pub test_leaf : (rows : RowsHere) (vs : List Variable) (gs hs : List Slotted) (s : Scope) (w : Around) (m : ℕ) (p : Point) (a : Aims) (near : Entries c → Type 0) (n g : ℕ) (q : ExprTree) (y z st : ℕ) → Sees base c rows s → Lined base c vs gs rows s m → p.from ≡ 0
-      → Lies a.hand gs (inner_locals w.depth s) m → fault (over_names base c rows) false q ≡ None → AllFresh (expr_uses vs p q) → ((e : Entries c) → near e → e y ≡ Some (filled gs p.stale)) → ((e : Entries c) → near e → e z ≡ Some (filled hs st))
-      → Sub hs gs → Meets p.stale st (length hs) → ((e : Entries c) → near e → HandFact c e w.hand a.hand p.stale) → Live c w.hand a.hand gs p.stale near n n g g (ends w s true [] (TestLast (over c.slots s q) y z))
+  pub test_leaf : (rows : RowsHere) (vs : List Variable) (gs hs : List Slotted) (s : Scope) (w : Around) (m : ℕ) (p : Point) (a : Aims) (near : Entries c → Type 0) (n g : ℕ) (q : ExprTree)
+      (y z st : ℕ) → Sees base c rows s → Lined base c vs gs rows s m → p.from ≡ 0
+      → Lies a.hand gs (inner_locals w.depth s) m → fault (over_names base c rows) false q ≡ None → AllFresh (expr_uses vs p q) → ((e : Entries c) → near e → e y ≡ Some (filled gs p.stale))
+      → ((e : Entries c) → near e → e z ≡ Some (filled hs st))
+      → Sub hs gs → Meets p.stale st (length hs) → ((e : Entries c) → near e → HandFact c e w.hand a.hand p.stale)
+      → Live c w.hand a.hand gs p.stale near n n g g (ends w s true [] (TestLast (over c.slots s q) y z))
   test_leaf rows vs gs hs s w m p a near n g q y z st sees line start lies f fresh iy iz sub meets fact =
       leaf base ns c few_slots few_locals w s gs p a near n g true [] (TestLast (over c.slots s q) y z) lies.from (λ t e o. fact e o)
       (λ e o kc x cover guard. (
@@ -90,14 +94,25 @@ module _ (base : Setting) (ns : Names) (c : ClassTree) (few_slots : length c.slo
       ))
 
   -- a jump at the end of a block
-  pub jump_leaf : (gs : List Slotted) (s : Scope) (w : Around) (m : ℕ) (p : Point) (a : Aims) (near : Entries c → Type 0) (n g : ℕ) (y st : ℕ) (l : LastTree) → Lies a.hand gs (inner_locals w.depth s) m → ((e : Entries c) → near e → e y ≡ Some (filled gs st)) → Meets p.stale st (length gs)
+  pub jump_leaf : (gs : List Slotted) (s : Scope) (w : Around) (m : ℕ) (p : Point) (a : Aims) (near : Entries c → Type 0) (n g : ℕ) (y st : ℕ) (l : LastTree)
+      → Lies a.hand gs (inner_locals w.depth s) m → ((e : Entries c) → near e → e y ≡ Some (filled gs st)) → Meets p.stale st (length gs)
       → IsJump y l → Live c w.hand a.hand gs p.stale near n n g g (ends w s false [] l)
   jump_leaf gs s w m p a near n g y st (GotoLast t) lies iy meets j =
       leaf base ns c few_slots few_locals w s gs p a near n g false [] (GotoLast t) lies.from (λ t e o. absurd (false≢true t))
-      (λ e o kc x cover guard. (in_none x, catches c e w.hand a.hand kc p.stale x lies.below guard (covers_sub x gs a.hand.places p.stale lies.sub cover), subst (Enters c e x) (sym j) (enters c e x y gs gs p.stale st cover (iy e o) (λ i r k. k) meets)))
+      (λ e o kc x cover guard. (
+        in_none x,
+        catches c e w.hand a.hand kc p.stale x lies.below guard (covers_sub x gs a.hand.places p.stale lies.sub cover),
+        subst (Enters c e x) (sym j)
+            (enters c e x y gs gs p.stale st cover (iy e o) (λ i r k. k) meets),
+      ))
   jump_leaf gs s w m p a near n g y st (PassLast t) lies iy meets j =
       leaf base ns c few_slots few_locals w s gs p a near n g false [] (PassLast t) lies.from (λ t e o. absurd (false≢true t))
-      (λ e o kc x cover guard. (in_none x, catches c e w.hand a.hand kc p.stale x lies.below guard (covers_sub x gs a.hand.places p.stale lies.sub cover), subst (Enters c e x) (sym j) (enters c e x y gs gs p.stale st cover (iy e o) (λ i r k. k) meets)))
+      (λ e o kc x cover guard. (
+        in_none x,
+        catches c e w.hand a.hand kc p.stale x lies.below guard (covers_sub x gs a.hand.places p.stale lies.sub cover),
+        subst (Enters c e x) (sym j)
+            (enters c e x y gs gs p.stale st cover (iy e o) (λ i r k. k) meets),
+      ))
   jump_leaf gs s w m p a near n g y st _ lies iy meets j = absurd j
 
   pub if_lives : (at : Place) (q : ExprTree) (b x : Body) → Alives b → Alives x → Alives (IfStmt at q b x)
@@ -134,7 +149,8 @@ module _ (base : Setting) (ns : Names) (c : ClassTree) (few_slots : length c.slo
         placed = said.placed.0;
         judged = neither_first (body_refusal e b) _ h2;
       })
-      (ground_inner base ns c few_slots few_locals w (Scoped (GotoLast j.block)) s n.local n.local rows vs gs p p a st (omega arith) g.start g) (thrown_marked base ns c few_slots few_locals agree rows gs s cu w.caught e.caught th) (fresh_right es us fresh12)
+      (ground_inner base ns c few_slots few_locals w (Scoped (GotoLast j.block)) s n.local n.local rows vs gs p p a st (omega arith) g.start g)
+      (thrown_marked base ns c few_slots few_locals agree rows gs s cu w.caught e.caught th) (fresh_right es us fresh12)
       (omega (arith, many, sum)) in
       let r2 = rest_lives base ns c few_slots few_locals agree x rest l t (rule_behind e b) rows vs gs s w n j p point a cu k1 k2 u
       (record {
@@ -151,12 +167,16 @@ module _ (base : Setting) (ns : Names) (c : ClassTree) (few_slots : length c.slo
       let later = later_live c w.hand a.hand gs p.stale owed1 n.block j.block n.group j.group c1 live in
       let entry = later_entry c w.hand a.hand gs p.stale owed1 n.block j.block n.group j.group c1 live in
       let near0 : Entries c → Type 0 = λ en. outer en × (en n.block ≡ Some (filled gs p.stale)) × (en j.block ≡ r2.later.entry) in
-      let one = test_leaf rows vs gs gs s w n.local p a near0 n.block n.group q n.block j.block st said.stands.sees g.line g.start g.hand (no_first (fault names false q) (wants (form names q) BoolType) test) (fresh_left es us fresh12) (λ en o. o.1)
+      let one = test_leaf rows vs gs gs s w n.local p a near0 n.block n.group q n.block j.block st said.stands.sees g.line g.start g.hand
+      (no_first (fault names false q) (wants (form names q) BoolType) test) (fresh_left es us fresh12) (λ en o. o.1)
       (λ en o. o.2 ∙ r2.entry_is refl) (λ j m k. k) (ex.fresh refl) (λ en o. hand_fact c en w.hand a.hand p u.throws refl (sides_first c en l w a p u v o.0.1).hand) in
-      live_to base ns c few_slots few_locals w.hand a.hand gs p.stale outer n.block (suc j.block + blocks_in w.looped.tried x) (n.block + (suc (blocks_in w.looped.tried b) + suc (blocks_in w.looped.tried x))) n.group (j.group + groups_in x) (n.group + (groups_in b + groups_in x))
+      live_to base ns c few_slots few_locals w.hand a.hand gs p.stale outer n.block (suc j.block + blocks_in w.looped.tried x)
+      (n.block + (suc (blocks_in w.looped.tried b) + suc (blocks_in w.looped.tried x))) n.group (j.group + groups_in x) (n.group + (groups_in b + groups_in x))
       (joined w.hand (joined w.hand c0 c1) c2) (omega arith) (omega arith)
-      (join_two c w.hand w.hand w.hand a.hand gs p.stale outer near0 owed1 outer n.block n.block j.block (suc j.block + blocks_in w.looped.tried x) n.group n.group j.group (j.group + groups_in x) c0 c1 c2 one later r2.later (λ en o i1 i2. (o, i1 ∙ entry, i2))
-      (λ en o i1 i2. inner_owed base ns c few_slots few_locals agree en l w j.block n.local a gs p st r (λ h. i2 ∙ r2.entry_is refl) (exits_right st (length gs) p.stale at_once r.ends ex) (sides_right c en l w a p (plain at_once) r (sides_first c en l w a p u v o.1)))
+      (join_two c w.hand w.hand w.hand a.hand gs p.stale outer near0 owed1 outer n.block n.block j.block (suc j.block + blocks_in w.looped.tried x) n.group n.group j.group
+      (j.group + groups_in x) c0 c1 c2 one later r2.later (λ en o i1 i2. (o, i1 ∙ entry, i2))
+      (λ en o i1 i2. inner_owed base ns c few_slots few_locals agree en l w j.block n.local a gs p st r (λ h. i2 ∙ r2.entry_is refl) (exits_right st (length gs) p.stale at_once r.ends ex)
+      (sides_right c en l w a p (plain at_once) r (sides_first c en l w a p u v o.1)))
       (λ en o i1 i2. o))
 
   pub if_else_lives : (at : Place) (q : ExprTree) (b d x : Body) → Alives b → Alives d → Alives x → Alives (IfElseStmt at q b d x)
@@ -205,7 +225,8 @@ module _ (base : Setting) (ns : Names) (c : ClassTree) (few_slots : length c.slo
         placed = said.placed.0;
         judged = neither_first (body_refusal e b) _ h2;
       })
-      (ground_inner base ns c few_slots few_locals w (Scoped (GotoLast j.block)) s n.local n.local rows vs gs p p a st (omega arith) g.start g) (thrown_marked base ns c few_slots few_locals agree rows gs s cu w.caught e.caught th) (fresh_right es us fresh12)
+      (ground_inner base ns c few_slots few_locals w (Scoped (GotoLast j.block)) s n.local n.local rows vs gs p p a st (omega arith) g.start g)
+      (thrown_marked base ns c few_slots few_locals agree rows gs s cu w.caught e.caught th) (fresh_right es us fresh12)
       (omega (arith, many, sum1, sum2)) in
       let live2 = other l t eb rows vs gs (Mark ∷ s) (scoped w j.block) (begun i) p (ended a gs st i.local) cu kb
       (record {
@@ -217,7 +238,8 @@ module _ (base : Setting) (ns : Names) (c : ClassTree) (few_slots : length c.slo
         placed = said.placed.1;
         judged = neither_first (body_refusal eb d) _ h3;
       })
-      (ground_inner base ns c few_slots few_locals w (Scoped (GotoLast j.block)) s n.local i.local rows vs gs p p a st (omega arith) g.start g) (thrown_marked base ns c few_slots few_locals agree rows gs s cu w.caught e.caught th)
+      (ground_inner base ns c few_slots few_locals w (Scoped (GotoLast j.block)) s n.local i.local rows vs gs p p a st (omega arith) g.start g)
+      (thrown_marked base ns c few_slots few_locals agree rows gs s cu w.caught e.caught th)
       (fresh_right (es ++ us) os fresh123) (omega (arith, many, sum1, sum2)) in
       let r2 = rest_lives base ns c few_slots few_locals agree x rest l t (rule_behind eb d) rows vs gs s w n j p point a cu k1 k2 u
       (record {
@@ -240,42 +262,56 @@ module _ (base : Setting) (ns : Names) (c : ClassTree) (few_slots : length c.slo
       let entry2 = later_entry c w.hand a.hand gs p.stale owed2 i.block j.block i.group j.group c2 live2 in
       let near1 : Entries c → Type 0 = λ en. outer en × (en j.block ≡ r2.later.entry) in
       let near0 : Entries c → Type 0 = λ en. outer en × (en n.block ≡ Some (filled gs p.stale)) × (en i.block ≡ Some (filled gs p.stale)) in
-      let one = test_leaf rows vs gs gs s w n.local p a near0 n.block n.group q n.block i.block p.stale said.stands.sees g.line g.start g.hand (no_first (fault names false q) (wants (form names q) BoolType) test) (fresh_left es us fresh12) (λ en o. o.1)
+      let one = test_leaf rows vs gs gs s w n.local p a near0 n.block n.group q n.block i.block p.stale said.stands.sees g.line g.start g.hand
+      (no_first (fault names false q) (wants (form names q) BoolType) test) (fresh_left es us fresh12) (λ en o. o.1)
       (λ en o. o.2) (λ j m k. k) (inr (omega arith)) (λ en o. hand_fact c en w.hand a.hand p u.throws refl (sides_first c en l w a p u v o.0.1).hand) in
-      let three = join_two c w.hand w.hand w.hand a.hand gs p.stale near1 near0 owed1 owed2 n.block n.block i.block j.block n.group n.group i.group j.group c0 c1 c2 one later1 later2 (λ en o i1 i2. (o.0, i1 ∙ entry1, i2 ∙ entry2))
-      (λ en o i1 i2. inner_owed base ns c few_slots few_locals agree en l w j.block n.local a gs p st r (λ h. o.1 ∙ r2.entry_is (reached_left r.ends r'.ends h)) (exits_left st (length gs) p.stale r.ends r'.ends ex)
+      let three = join_two c w.hand w.hand w.hand a.hand gs p.stale near1 near0 owed1 owed2 n.block n.block i.block j.block n.group n.group i.group j.group c0 c1 c2 one later1 later2
+      (λ en o i1 i2. (o.0, i1 ∙ entry1, i2 ∙ entry2))
+      (λ en o i1 i2. inner_owed base ns c few_slots few_locals agree en l w j.block n.local a gs p st r (λ h. o.1 ∙ r2.entry_is (reached_left r.ends r'.ends h))
+      (exits_left st (length gs) p.stale r.ends r'.ends ex)
       (sides_left c en l w a p r r' (sides_right c en l w a p (node at_once) (both r r') (sides_first c en l w a p u v o.0.1))))
-      (λ en o i1 i2. inner_owed base ns c few_slots few_locals agree en l w j.block i.local a gs p st r' (λ h. o.1 ∙ r2.entry_is (reached_right r.ends r'.ends h)) (exits_right st (length gs) p.stale r.ends r'.ends ex)
+      (λ en o i1 i2. inner_owed base ns c few_slots few_locals agree en l w j.block i.local a gs p st r' (λ h. o.1 ∙ r2.entry_is (reached_right r.ends r'.ends h))
+      (exits_right st (length gs) p.stale r.ends r'.ends ex)
       (sides_right c en l w a p r r' (sides_right c en l w a p (node at_once) (both r r') (sides_first c en l w a p u v o.0.1)))) in
-      live_to base ns c few_slots few_locals w.hand a.hand gs p.stale outer n.block (suc j.block + blocks_in w.looped.tried x) (n.block + (suc (blocks_in w.looped.tried b) + suc (blocks_in w.looped.tried d) + suc (blocks_in w.looped.tried x))) n.group (j.group + groups_in x)
+      live_to base ns c few_slots few_locals w.hand a.hand gs p.stale outer n.block (suc j.block + blocks_in w.looped.tried x)
+      (n.block + (suc (blocks_in w.looped.tried b) + suc (blocks_in w.looped.tried d) + suc (blocks_in w.looped.tried x))) n.group (j.group + groups_in x)
       (n.group + (groups_in b + groups_in d + groups_in x)) (joined w.hand (joined w.hand (joined w.hand c0 c1) c2) c3) (omega arith) (omega arith)
-      (join c w.hand w.hand a.hand gs p.stale outer near1 outer n.block j.block (suc j.block + blocks_in w.looped.tried x) n.group j.group (j.group + groups_in x) (joined w.hand (joined w.hand c0 c1) c2) c3 three r2.later (λ en o is. (o, is)) (λ en o is. o))
+      (join c w.hand w.hand a.hand gs p.stale outer near1 outer n.block j.block (suc j.block + blocks_in w.looped.tried x) n.group j.group (j.group + groups_in x)
+      (joined w.hand (joined w.hand c0 c1) c2) c3 three r2.later (λ en o is. (o, is)) (λ en o is. o))
 
   -- the body of a loop: its head, and what is lost behind it
   pub head_meets : (vs : List Variable) (gs : List Slotted) (p : Point) (r : Ways) → length vs ≡ length gs → Meets p.stale (behind (length vs) p (head r)).stale (length gs)
   head_meets vs gs p r e = (exits_here base ns c few_slots few_locals vs gs p (head r) e).fresh refl
 
-  pub round_exits : (vs : List Variable) (gs : List Slotted) (p : Point) (r : Ways) (q : Reached) → length vs ≡ length gs → (q.waited ≡ true → (round r).waited ≡ true) → Exits (behind (length vs) p (head r)).stale (length gs) (behind (length vs) p (head r)).stale q
+  pub round_exits : (vs : List Variable) (gs : List Slotted) (p : Point) (r : Ways) (q : Reached) → length vs ≡ length gs → (q.waited ≡ true → (round r).waited ≡ true)
+      → Exits (behind (length vs) p (head r)).stale (length gs) (behind (length vs) p (head r)).stale q
   round_exits vs gs p r q e f = record { waited = λ h. all_lost (f h); fresh = λ h. inr (omega arith) }
     where
       all_lost : (round r).waited ≡ true → length gs ≤ (behind (length vs) p (head r)).stale
       all_lost h = let k = (behind_is (length vs) p (head r) refl).waited h in omega (arith, k, e)
 
-  pub out_breaks : (tested : Bool) (vs : List Variable) (gs : List Slotted) (p : Point) (r : Ways) → length vs ≡ length gs → Exits (behind (length vs) p (looped tested r).ends).stale (length gs) (behind (length vs) p (head r)).stale r.breaks
+  pub out_breaks : (tested : Bool) (vs : List Variable) (gs : List Slotted) (p : Point) (r : Ways) → length vs ≡ length gs
+      → Exits (behind (length vs) p (looped tested r).ends).stale (length gs) (behind (length vs) p (head r)).stale r.breaks
   out_breaks tested vs gs p r e =
       let lost = (behind (length vs) p (looped tested r).ends).stale in
-      exits_onward lost (length gs) (length vs) p (head r) r.breaks refl (exits_right lost (length gs) p.stale (past_of tested (head r)) (onward (head r) r.breaks) (exits_here base ns c few_slots few_locals vs gs p (looped tested r).ends e))
+      exits_onward lost (length gs) (length vs) p (head r) r.breaks refl
+      (exits_right lost (length gs) p.stale (past_of tested (head r)) (onward (head r) r.breaks) (exits_here base ns c few_slots few_locals vs gs p (looped tested r).ends e))
 
-  pub out_test : (vs : List Variable) (gs : List Slotted) (p : Point) (r : Ways) → length vs ≡ length gs → Meets (behind (length vs) p (head r)).stale (behind (length vs) p (looped true r).ends).stale (length gs)
+  pub out_test : (vs : List Variable) (gs : List Slotted) (p : Point) (r : Ways) → length vs ≡ length gs
+      → Meets (behind (length vs) p (head r)).stale (behind (length vs) p (looped true r).ends).stale (length gs)
   out_test vs gs p r e =
       let lost = (behind (length vs) p (looped true r).ends).stale in
       at_once_meets lost (length gs) (behind (length vs) p (head r)).stale
-      (exits_onward lost (length gs) (length vs) p (head r) at_once refl (subst (Exits lost (length gs) p.stale) (sym (onward_once (head r))) (exits_left lost (length gs) p.stale (head r) (onward (head r) r.breaks) (exits_here base ns c few_slots few_locals vs gs p (looped true r).ends e))))
+      (exits_onward lost (length gs) (length vs) p (head r) at_once refl
+      (subst (Exits lost (length gs) p.stale) (sym (onward_once (head r)))
+      (exits_left lost (length gs) p.stale (head r) (onward (head r) r.breaks) (exits_here base ns c few_slots few_locals vs gs p (looped true r).ends e))))
 
-  pub head_hand : (en : Entries c) (h : Option Hand) (a : Aim) (d : ℕ) (p : Point) (r : Ways) → HandWay c en h a p (either (head r) (onward (head r) r.throws)) → HandWay c en h a (behind d p (head r)) at_once
+  pub head_hand : (en : Entries c) (h : Option Hand) (a : Aim) (d : ℕ) (p : Point) (r : Ways) → HandWay c en h a p (either (head r) (onward (head r) r.throws))
+      → HandWay c en h a (behind d p (head r)) at_once
   head_hand en h a d p r w = hand_onward c en h a d p (head r) at_once refl (subst (HandWay c en h a p) (sym (onward_once (head r))) (hand_left c en h a p (head r) (onward (head r) r.throws) w))
 
-  pub body_hand : (en : Entries c) (h : Option Hand) (a : Aim) (d : ℕ) (p : Point) (r : Ways) → HandWay c en h a p (either (head r) (onward (head r) r.throws)) → HandWay c en h a (behind d p (head r)) r.throws
+  pub body_hand : (en : Entries c) (h : Option Hand) (a : Aim) (d : ℕ) (p : Point) (r : Ways) → HandWay c en h a p (either (head r) (onward (head r) r.throws))
+      → HandWay c en h a (behind d p (head r)) r.throws
   body_hand en h a d p r w = hand_onward c en h a d p (head r) r.throws refl (hand_right c en h a p (head r) (onward (head r) r.throws) w)
 
   or_first : (x y : Bool) → x ≡ true → x || y ≡ true
@@ -293,7 +329,8 @@ module _ (base : Setting) (ns : Names) (c : ClassTree) (few_slots : length c.slo
   loop_aims a gs st lost m = record { end = here_aim gs st m; out = here_aim gs lost m; again = here_aim gs st m; hand = a.hand }
 
   -- what the body of a loop without a step is owed
-  loop_owed : (tested : Bool) (en : Entries c) (w : Around) (h out m : ℕ) (a : Aims) (vs : List Variable) (gs : List Slotted) (p : Point) (r : Ways) → length vs ≡ length gs → en h ≡ Some (filled gs (behind (length vs) p (head r)).stale)
+  loop_owed : (tested : Bool) (en : Entries c) (w : Around) (h out m : ℕ) (a : Aims) (vs : List Variable) (gs : List Slotted) (p : Point) (r : Ways) → length vs ≡ length gs
+      → en h ≡ Some (filled gs (behind (length vs) p (head r)).stale)
       → (is_reached r.breaks ≡ true → en out ≡ Some (filled gs (behind (length vs) p (looped tested r).ends).stale)) → HandWay c en w.hand a.hand p (either (head r) (onward (head r) r.throws))
       → Owed true (looping w h out) (loop_aims a gs (behind (length vs) p (head r)).stale (behind (length vs) p (looped tested r).ends).stale m) (behind (length vs) p (head r)) r en
   loop_owed tested en w h out m a vs gs p r e ih io hand = (
@@ -306,17 +343,21 @@ module _ (base : Setting) (ns : Names) (c : ClassTree) (few_slots : length c.slo
   )
 
   -- the body of such a loop
-  loop_body : (b : Body) → Alives b → (tested l t : Bool) (e : Env) (rows : RowsHere) (vs : List Variable) (gs : List Slotted) (s : Scope) (w : Around) (n g' : Next) (p : Point) (a : Aims) (cu : Option Caught) (k h out : ℕ) → Said base ns c few_slots few_locals agree true t (in_loop e) rows (Mark ∷ s) (looping w h out) g' b
-      → Ground base ns c few_slots few_locals w s n.local rows vs gs p a → Thrown base ns c few_slots few_locals agree rows gs s cu w.caught e.caught → n.local ≤ g'.local → AllFresh (uses k vs (behind (length vs) p (head (ways k b))) cu b) → length (body_groups b) ≤ k
+  loop_body : (b : Body) → Alives b → (tested l t : Bool) (e : Env) (rows : RowsHere) (vs : List Variable) (gs : List Slotted) (s : Scope) (w : Around) (n g' : Next) (p : Point) (a : Aims)
+      (cu : Option Caught) (k h out : ℕ) → Said base ns c few_slots few_locals agree true t (in_loop e) rows (Mark ∷ s) (looping w h out) g' b
+      → Ground base ns c few_slots few_locals w s n.local rows vs gs p a → Thrown base ns c few_slots few_locals agree rows gs s cu w.caught e.caught → n.local ≤ g'.local
+      → AllFresh (uses k vs (behind (length vs) p (head (ways k b))) cu b) → length (body_groups b) ≤ k
       → Live c w.hand a.hand gs (behind (length vs) p (head (ways k b))).stale
-      (Owed true (looping w h out) (loop_aims a gs (behind (length vs) p (head (ways k b))).stale (behind (length vs) p (looped tested (ways k b)).ends).stale g'.local) (behind (length vs) p (head (ways k b))) (ways k b)) g'.block (g'.block + blocks_in false b) g'.group
+      (Owed true (looping w h out) (loop_aims a gs (behind (length vs) p (head (ways k b))).stale (behind (length vs) p (looped tested (ways k b)).ends).stale g'.local)
+      (behind (length vs) p (head (ways k b))) (ways k b)) g'.block (g'.block + blocks_in false b) g'.group
       (g'.group + groups_in b) (lowered ns c.slots (Mark ∷ s) (looping w h out) g' b)
   loop_body b body tested l t e rows vs gs s w n g' p a cu k h out said g th le fresh many =
       let r = ways k b in
       let hp = behind (length vs) p (head r) in
       let lost = (behind (length vs) p (looped tested r).ends).stale in
       body true t (in_loop e) rows vs gs (Mark ∷ s) (looping w h out) g' hp (loop_aims a gs hp.stale lost g'.local) cu k said
-      (ground_pass base ns c few_slots few_locals w s w.depth 1 n.local g'.local (PassLast h) out rows vs gs hp a.hand hp.stale lost le ((behind_is (length vs) p (head r) refl).from ∙ g.start) g.line g.hand (omega arith))
+      (ground_pass base ns c few_slots few_locals w s w.depth 1 n.local g'.local (PassLast h) out rows vs gs hp a.hand hp.stale lost le
+      ((behind_is (length vs) p (head r) refl).from ∙ g.start) g.line g.hand (omega arith))
       (thrown_marked base ns c few_slots few_locals agree rows gs s cu w.caught e.caught th) fresh many
 
   pub while_lives : (at : Place) (q : ExprTree) (b x : Body) → Alives b → Alives x → Alives (WhileStmt at q b x)
@@ -362,8 +403,10 @@ module _ (base : Setting) (ns : Names) (c : ClassTree) (few_slots : length c.slo
       let near0 : Entries c → Type 0 = λ en. en n.block ≡ Some (filled gs hp.stale) in
       let nearT : Entries c → Type 0 = λ en. outer en × (en g'.block ≡ Some (filled gs hp.stale)) × (en j.block ≡ r2.later.entry) in
       let one = jump_leaf gs s w n.local p a near0 n.block n.group n.block hp.stale (PassLast n.block) g.hand (λ en o. o) (head_meets vs gs p r size) refl in
-      let two = test_leaf rows vs gs gs s w n.local hp a nearT (suc n.block) n.group q g'.block j.block lost said.stands.sees g.line hstart g.hand (no_first (fault names false q) (wants (form names q) BoolType) test) (fresh_left es us fresh12) (λ en o. o.1)
-      (λ en o. o.2 ∙ r2.entry_is refl) (λ j m k. k) (out_test vs gs p r size) (λ en o. hand_fact c en w.hand a.hand hp at_once refl (head_hand en w.hand a.hand (length vs) p r (sides_first c en l w a p u v o.0.1).hand)) in
+      let two = test_leaf rows vs gs gs s w n.local hp a nearT (suc n.block) n.group q g'.block j.block lost said.stands.sees g.line hstart g.hand
+      (no_first (fault names false q) (wants (form names q) BoolType) test) (fresh_left es us fresh12) (λ en o. o.1)
+      (λ en o. o.2 ∙ r2.entry_is refl) (λ j m k. k) (out_test vs gs p r size)
+      (λ en o. hand_fact c en w.hand a.hand hp at_once refl (head_hand en w.hand a.hand (length vs) p r (sides_first c en l w a p u v o.0.1).hand)) in
       let three = loop_body b body true l t e rows vs gs s w n (begun g') p a cu k n.block j.block
       (record {
         stands = stands_marked base ns c few_slots few_locals agree (in_loop e) rows s w.caught (stands_loop base ns c few_slots few_locals agree e rows s w.caught said.stands);
@@ -380,11 +423,14 @@ module _ (base : Setting) (ns : Names) (c : ClassTree) (few_slots : length c.slo
       let entry1 = later_entry c w.hand a.hand gs hp.stale nearT n.block (suc n.block) n.group n.group c1 two in
       let later2 = later_live c w.hand a.hand gs hp.stale owed2 g'.block j.block n.group j.group c2 three in
       let entry2 = later_entry c w.hand a.hand gs hp.stale owed2 g'.block j.block n.group j.group c2 three in
-      let all = join_two c w.hand w.hand w.hand a.hand gs p.stale near1 near0 nearT owed2 n.block n.block g'.block j.block n.group n.group n.group j.group c0 c1 c2 one later1 later2 (λ en o i1 i2. i1 ∙ entry1) (λ en o i1 i2. (o.0, i2 ∙ entry2, o.1))
+      let all = join_two c w.hand w.hand w.hand a.hand gs p.stale near1 near0 nearT owed2 n.block n.block g'.block j.block n.group n.group n.group j.group c0 c1 c2 one later1 later2
+      (λ en o i1 i2. i1 ∙ entry1) (λ en o i1 i2. (o.0, i2 ∙ entry2, o.1))
       (λ en o i1 i2. loop_owed true en w n.block j.block n.local a vs gs p r size (i1 ∙ entry1) (λ h. o.1 ∙ r2.entry_is refl) (sides_first c en l w a p u v o.0.1).hand) in
-      live_to base ns c few_slots few_locals w.hand a.hand gs p.stale outer n.block (suc j.block + blocks_in w.looped.tried x) (n.block + (1 + suc (blocks_in false b) + suc (blocks_in w.looped.tried x))) n.group (j.group + groups_in x) (n.group + (groups_in b + groups_in x))
+      live_to base ns c few_slots few_locals w.hand a.hand gs p.stale outer n.block (suc j.block + blocks_in w.looped.tried x)
+      (n.block + (1 + suc (blocks_in false b) + suc (blocks_in w.looped.tried x))) n.group (j.group + groups_in x) (n.group + (groups_in b + groups_in x))
       (joined w.hand (joined w.hand (joined w.hand c0 c1) c2) c3) (omega arith) (omega arith)
-      (join c w.hand w.hand a.hand gs p.stale outer near1 outer n.block j.block (suc j.block + blocks_in w.looped.tried x) n.group j.group (j.group + groups_in x) (joined w.hand (joined w.hand c0 c1) c2) c3 all r2.later (λ en o is. (o, is)) (λ en o is. o))
+      (join c w.hand w.hand a.hand gs p.stale outer near1 outer n.block j.block (suc j.block + blocks_in w.looped.tried x) n.group j.group (j.group + groups_in x)
+      (joined w.hand (joined w.hand c0 c1) c2) c3 all r2.later (λ en o is. (o, is)) (λ en o is. o))
 
   pub loop_lives : (at : Place) (b x : Body) → Alives b → Alives x → Alives (LoopStmt at b x)
   loop_lives at b x body rest l t e rows vs gs s w n p a cu k said g th fresh many =
@@ -432,7 +478,10 @@ module _ (base : Setting) (ns : Names) (c : ClassTree) (few_slots : length c.slo
       let owed1 = Owed true (looping w n.block j.block) (loop_aims a gs hp.stale lost n.local) hp r in
       let later1 = later_live c w.hand a.hand gs hp.stale owed1 n.block j.block n.group j.group c1 two in
       let entry1 = later_entry c w.hand a.hand gs hp.stale owed1 n.block j.block n.group j.group c1 two in
-      live_to base ns c few_slots few_locals w.hand a.hand gs p.stale outer n.block (suc j.block + blocks_in w.looped.tried x) (n.block + (suc (blocks_in false b) + suc (blocks_in w.looped.tried x))) n.group (j.group + groups_in x) (n.group + (groups_in b + groups_in x))
+      live_to base ns c few_slots few_locals w.hand a.hand gs p.stale outer n.block (suc j.block + blocks_in w.looped.tried x)
+      (n.block + (suc (blocks_in false b) + suc (blocks_in w.looped.tried x))) n.group (j.group + groups_in x) (n.group + (groups_in b + groups_in x))
       (joined w.hand (joined w.hand c0 c1) c3) (omega arith) (omega arith)
-      (join_two c w.hand w.hand w.hand a.hand gs p.stale outer near0 owed1 outer n.block n.block j.block (suc j.block + blocks_in w.looped.tried x) n.group n.group j.group (j.group + groups_in x) c0 c1 c3 one later1 r2.later (λ en o i1 i2. i1 ∙ entry1)
-      (λ en o i1 i2. loop_owed false en w n.block j.block n.local a vs gs p r size (i1 ∙ entry1) (λ h. i2 ∙ r2.entry_is (reached_onward (head r) r.breaks refl h)) (sides_first c en l w a p u v o.1).hand) (λ en o i1 i2. o))
+      (join_two c w.hand w.hand w.hand a.hand gs p.stale outer near0 owed1 outer n.block n.block j.block (suc j.block + blocks_in w.looped.tried x) n.group n.group j.group
+      (j.group + groups_in x) c0 c1 c3 one later1 r2.later (λ en o i1 i2. i1 ∙ entry1)
+      (λ en o i1 i2. loop_owed false en w n.block j.block n.local a vs gs p r size (i1 ∙ entry1) (λ h. i2 ∙ r2.entry_is (reached_onward (head r) r.breaks refl h))
+      (sides_first c en l w a p u v o.1).hand) (λ en o i1 i2. o))

@@ -115,7 +115,8 @@ module _ (c : ClassTree) (few_slots : length c.slots < 2 ^ 64) (few_locals : len
     pub named : has_last c l ≡ true
     pub on : leads_on m l ≡ true
 
-  pub ends_good : (m n : ℕ) (w : Around) (s : Scope) (acts : Bool) (is : List InstrTree) (l : LastTree) → Falling (length c.locals) s → AllInstrsNamed c few_slots few_locals is → LastGood m l → Good m n n (ends w s acts is l)
+  pub ends_good : (m n : ℕ) (w : Around) (s : Scope) (acts : Bool) (is : List InstrTree) (l : LastTree) → Falling (length c.locals) s → AllInstrsNamed c few_slots few_locals is → LastGood m l
+      → Good m n n (ends w s acts is l)
   ends_good m n w s acts is l f h g = record {
     body = h;
     last = g.named;
@@ -157,10 +158,12 @@ module _ (c : ClassTree) (few_slots : length c.slots < 2 ^ 64) (few_locals : len
     on = both (nat_lt m y) (nat_lt m n) (less_is m y ly) (less_is m n ln);
   }
 
-  pub exits_good : (e m : ℕ) (t : Bool) (w : Around) (s : Scope) (n : Next) (l : LastTree) → Falling (length c.locals) s → m < n.block → n.block + exit_blocks t ≤ e → n.block + exit_blocks t ≤ length c.blocks → Leads e l
+  pub exits_good : (e m : ℕ) (t : Bool) (w : Around) (s : Scope) (n : Next) (l : LastTree) → Falling (length c.locals) s → m < n.block → n.block + exit_blocks t ≤ e
+      → n.block + exit_blocks t ≤ length c.blocks → Leads e l
       → Good m n.block (n.block + exit_blocks t) (exits t w s n l)
   exits_good e m false w s n l f lt le lb h =
-      let g = ends_good m n.block w s false (map DropInstr (left_lists w.looped.depth s)) l f (left_named c few_slots few_locals w.looped.depth (length c.locals) s (omega arith) f) (leads_good e m l (omega arith) h) in
+      let g = ends_good m n.block w s false (map DropInstr (left_lists w.looped.depth s)) l f (left_named c few_slots few_locals w.looped.depth (length c.locals) s (omega arith) f)
+      (leads_good e m l (omega arith) h) in
       good_up_to m n.block n.block (n.block + 0) (exits false w s n l) (omega arith) g
   exits_good e m true w s n l f lt le lb h =
       let g = ends_good m n.block w s false [] (GotoLast n.block) f refl (goto_good m n.block lt (omega arith)) in

@@ -46,7 +46,8 @@ less_named : (ds : List DeclTree) (x : List ℕ) → LessAt (named (rows ds) x) 
 less_named [] x = (λ e. e, λ e. e)
 less_named (StructDecl r ∷ ds) x = by_name (bytes_eq x r.name.name) (less_named ds x)
   where
-    by_name : (b : Bool) → LessAt (named (rows ds) x) (named (rows (structs ds)) x) → LessAt (if b then Some (row_of (StructDecl r)).1 else named (rows ds) x) (if b then Some (row_of (StructDecl r)).1 else named (rows (structs ds)) x)
+    by_name : (b : Bool) → LessAt (named (rows ds) x) (named (rows (structs ds)) x)
+        → LessAt (if b then Some (row_of (StructDecl r)).1 else named (rows ds) x) (if b then Some (row_of (StructDecl r)).1 else named (rows (structs ds)) x)
     by_name true h = (λ e. e, λ e. e)
     by_name false h = h
 less_named (FunctionDecl f ∷ ds) x = by_name (bytes_eq x f.name.name) (less_named ds x)
@@ -95,14 +96,16 @@ fields_less k j l taken (f ∷ fs) h =
     let rest = fields_fault k (with_name f.name.name taken) fs in
     let a = no_first (lesser known_type once) rest h in
     no_lesser (lesser (unless (type_known j f.ty) UNKNOWN_NAME) once) (fields_fault j (with_name f.name.name taken) fs)
-    (no_lesser (unless (type_known j f.ty) UNKNOWN_NAME) once (unless_true (type_known j f.ty) UNKNOWN_NAME (type_less k j l f.ty (holds (type_known k f.ty) UNKNOWN_NAME (no_first known_type once a)))) (no_second known_type once a))
+    (no_lesser (unless (type_known j f.ty) UNKNOWN_NAME) once (unless_true (type_known j f.ty) UNKNOWN_NAME
+    (type_less k j l f.ty (holds (type_known k f.ty) UNKNOWN_NAME (no_first known_type once a)))) (no_second known_type once a))
     (fields_less k j l (with_name f.name.name taken) fs (no_second (lesser known_type once) rest h))
 
 record_less : (k j : List ℕ → Option Meaning) → Less k j → (r : RecordTree) → record_fault k r ≡ None → record_fault j r ≡ None
 record_less k j l r h =
     let n = name_fault k r.name.name in
     let f = fields_fault k (λ x. false) r.fields in
-    no_lesser (name_fault j r.name.name) (fields_fault j (λ x. false) r.fields) (new_name (is_predefined r.name.name) (is_there (k r.name.name)) (is_there (j r.name.name)) (l.new r.name.name) (no_first n f h))
+    no_lesser (name_fault j r.name.name) (fields_fault j (λ x. false) r.fields)
+    (new_name (is_predefined r.name.name) (is_there (k r.name.name)) (is_there (j r.name.name)) (l.new r.name.name) (no_first n f h))
     (fields_less k j l (λ x. false) r.fields (no_second n f h))
 
 -- the records by themselves
@@ -112,7 +115,8 @@ module _ (all : Bool → Setting) where
   records_kept before (StructDecl r ∷ ds) h =
       let d = decl_refusal all (known before) (StructDecl r) in
       let f = no_item r.at (record_fault (known before) r) (neither_first d _ h) in
-      both_none (decl_refusal all (known (structs before)) (StructDecl r)) _ (still_item r.at (record_fault (known (structs before)) r) (record_less (known before) (known (structs before)) (less before) r f))
+      both_none (decl_refusal all (known (structs before)) (StructDecl r)) _
+      (still_item r.at (record_fault (known (structs before)) r) (record_less (known before) (known (structs before)) (less before) r f))
       (subst (λ b. decls_refusal all b (structs ds) ≡ None) (structs_append before (StructDecl r ∷ [])) (records_kept (before ++ StructDecl r ∷ []) ds (neither_second d _ h)))
   records_kept before (FunctionDecl f ∷ ds) h =
       subst (λ b. decls_refusal all b (structs ds) ≡ None) (structs_append before (FunctionDecl f ∷ []) ∙ append-nil (structs before))
@@ -160,7 +164,8 @@ not_known ds x e a = ap (λ b. is_there (if b then Some packet_row.1 else named 
 pub header_new : (before : List ℕ → Option Meaning) (s : Setting) (f : RoutineTree) → header_fault before s f ≡ None → is_predefined f.name.name ≡ false
 header_new before s f h =
     let n = no_first (name_fault before f.name.name) (lesser (written s f.returns) (params_fault s (λ x. false) f.params)) h in
-    neither_left (is_predefined f.name.name) (is_there (before f.name.name)) (not_true (is_predefined f.name.name || is_there (before f.name.name)) (holds (not (is_predefined f.name.name || is_there (before f.name.name))) TWICE n))
+    neither_left (is_predefined f.name.name) (is_there (before f.name.name))
+    (not_true (is_predefined f.name.name || is_there (before f.name.name)) (holds (not (is_predefined f.name.name || is_there (before f.name.name))) TWICE n))
 
 pub no_packet : (x : List ℕ) → is_predefined x ≡ false → is_packet x ≡ false
 no_packet x e = neither_left (is_packet x) _ (neither_left _ _ e)
@@ -188,7 +193,8 @@ module _ (all : Bool → Setting) where
       let header = no_item f.at (header_fault (known before) (all true) f) (neither_first (item f.at (header_fault (known before) (all true) f)) _ here) in
       let whole = structs (before ++ FunctionDecl f ∷ ds) in
       let records : RowsApart x (rows whole) = subst (λ l. RowsApart x (rows l)) (sym (structs_append before (FunctionDecl f ∷ ds)))
-      (subst (RowsApart x) (sym (map-append row_of (structs before) (structs ds))) (apart_both x (rows (structs before)) (rows (structs ds)) (structs_apart x before i.front) (structs_apart x ds i.back))) in
+      (subst (RowsApart x) (sym (map-append row_of (structs before) (structs ds)))
+      (apart_both x (rows (structs before)) (rows (structs ds)) (structs_apart x before i.front) (structs_apart x ds i.back))) in
       let others : RowsApart x (rows (whole ++ functions before)) =
       subst (RowsApart x) (sym (map-append row_of whole (functions before))) (apart_both x (rows whole) (rows (functions before)) records (functions_apart x before i.front)) in
       let new = not_known (whole ++ functions before) x (no_packet x (header_new (known before) (all true) f header)) others in

@@ -106,13 +106,19 @@ module _ (c : ClassTree) where
   Guard e h a None st = Unit {0}
   Guard e h a (Some kc) st = Guards e h a kc st
 
-  pub guard_at : (e : Entries) (h : Option Hand) (a : Aim) (kc : Option CatcherTree) (st z : ℕ) → (Meets st a.stale (length a.places) → Meets z a.stale (length a.places)) → Guard e h a kc st → Guard e h a kc z
+  pub guard_at : (e : Entries) (h : Option Hand) (a : Aim) (kc : Option CatcherTree) (st z : ℕ) → (Meets st a.stale (length a.places) → Meets z a.stale (length a.places)) → Guard e h a kc st
+      → Guard e h a kc z
   guard_at e h a None st z f g = tt
   guard_at e h a (Some kc) st z f g = record { hand = g.hand; around = g.around; block = g.block; error = g.error; from = g.from; fact = (g.fact.0, f g.fact.1) }
 
   pub catches : (e : Entries) (h : Option Hand) (a : Aim) (kc : Option CatcherTree) (st : ℕ) (s : Places) → IsBelow a → Guard e h a kc st → Covers s a.places st → Catches c e kc s
   catches e h a None st s below g cover = tt
-  catches e h a (Some kc) st s below g cover = (filled (place.Local g.hand.error ∷ a.places) a.stale, ap e g.block ∙ g.fact.0, λ q k. within q (filled_holds (place.Local g.hand.error ∷ a.places) a.stale q k))
+  catches e h a (Some kc) st s below g cover = (
+    filled (place.Local g.hand.error ∷ a.places) a.stale,
+    ap e g.block
+        ∙ g.fact.0,
+    λ q k. within q (filled_holds (place.Local g.hand.error ∷ a.places) a.stale q k),
+  )
     where
       kept : (j : ℕ) → j < length a.places → Meets st a.stale (length a.places) → a.stale ≤ j → st ≤ j
       kept j lt (inl m) le = absurd (omega arith)
@@ -210,7 +216,8 @@ module _ (c : ClassTree) where
         (k.first (catch_part ch.acts h ch.held) (among (filled gs st)) (covers_filled gs st) (guarded_part e h a st ch.acts ch.held v.held (λ t. v.acts t e at o)), k.more);
   }
 
-  pub later_entry : (h : Option Hand) (a : Aim) (gs : List Slotted) (st : ℕ) (outer : Entries → Type 0) (n m g i : ℕ) (ch : Chunk) (v : Live h a gs st outer (suc n) m g i ch) → (later_live h a gs st outer n m g i ch v).entry ≡ Some (filled gs st)
+  pub later_entry : (h : Option Hand) (a : Aim) (gs : List Slotted) (st : ℕ) (outer : Entries → Type 0) (n m g i : ℕ) (ch : Chunk) (v : Live h a gs st outer (suc n) m g i ch)
+      → (later_live h a gs st outer n m g i ch v).entry ≡ Some (filled gs st)
   unfolding later_live
   later_entry h a gs st outer n m g i ch v = refl
 
@@ -238,7 +245,8 @@ module _ (c : ClassTree) where
   }
 
   -- a chunk, and then another one in a block of its own
-  pub join : (h k : Option Hand) (a : Aim) (gs : List Slotted) (st : ℕ) (outer near far : Entries → Type 0) (n m o g i j : ℕ) (x y : Chunk) → Live h a gs st near n m g i x → (z : Later k far m o i j y)
+  pub join : (h k : Option Hand) (a : Aim) (gs : List Slotted) (st : ℕ) (outer near far : Entries → Type 0) (n m o g i j : ℕ) (x y : Chunk) → Live h a gs st near n m g i x
+      → (z : Later k far m o i j y)
       → ((e : Entries) → outer e → e m ≡ z.entry → near e) → ((e : Entries) → outer e → e m ≡ z.entry → far e) → Live h a gs st outer n o g j (joined k x y)
   join h k a gs st outer near far n m o g i j x y v z f f2 = record {
     entries = v.entries ++ z.entry ∷ z.entries;
@@ -256,8 +264,10 @@ module _ (c : ClassTree) where
   }
 
   -- two chunks behind, whose entries all may know
-  pub join_two : (h k k2 : Option Hand) (a : Aim) (gs : List Slotted) (st : ℕ) (outer near far far2 : Entries → Type 0) (n m o q g i j r : ℕ) (x y z : Chunk) → Live h a gs st near n m g i x → (y' : Later k far m o i j y) → (z' : Later k2 far2 o q j r z)
-      → ((e : Entries) → outer e → e m ≡ y'.entry → e o ≡ z'.entry → near e) → ((e : Entries) → outer e → e m ≡ y'.entry → e o ≡ z'.entry → far e) → ((e : Entries) → outer e → e m ≡ y'.entry → e o ≡ z'.entry → far2 e)
+  pub join_two : (h k k2 : Option Hand) (a : Aim) (gs : List Slotted) (st : ℕ) (outer near far far2 : Entries → Type 0) (n m o q g i j r : ℕ) (x y z : Chunk) → Live h a gs st near n m g i x
+      → (y' : Later k far m o i j y) → (z' : Later k2 far2 o q j r z)
+      → ((e : Entries) → outer e → e m ≡ y'.entry → e o ≡ z'.entry → near e) → ((e : Entries) → outer e → e m ≡ y'.entry → e o ≡ z'.entry → far e)
+      → ((e : Entries) → outer e → e m ≡ y'.entry → e o ≡ z'.entry → far2 e)
       → Live h a gs st outer n q g r (joined k2 (joined k x y) z)
   join_two h k k2 a gs st outer near far far2 n m o q g i j r x y z v y' z' f f1 f2 =
       let ys = y'.entry ∷ y'.entries in
@@ -289,8 +299,10 @@ module _ (c : ClassTree) where
       }
 
   -- and a third one
-  pub join_three : (h k k2 k3 : Option Hand) (a : Aim) (gs : List Slotted) (st : ℕ) (outer near far far2 far3 : Entries → Type 0) (n m o q s g i j r d : ℕ) (x y z u : Chunk) → Live h a gs st near n m g i x → (y' : Later k far m o i j y) → (z' : Later k2 far2 o q j r z)
-      → (u' : Later k3 far3 q s r d u) → ((e : Entries) → outer e → e m ≡ y'.entry → e o ≡ z'.entry → e q ≡ u'.entry → near e) → ((e : Entries) → outer e → e m ≡ y'.entry → e o ≡ z'.entry → e q ≡ u'.entry → far e)
+  pub join_three : (h k k2 k3 : Option Hand) (a : Aim) (gs : List Slotted) (st : ℕ) (outer near far far2 far3 : Entries → Type 0) (n m o q s g i j r d : ℕ) (x y z u : Chunk)
+      → Live h a gs st near n m g i x → (y' : Later k far m o i j y) → (z' : Later k2 far2 o q j r z)
+      → (u' : Later k3 far3 q s r d u) → ((e : Entries) → outer e → e m ≡ y'.entry → e o ≡ z'.entry → e q ≡ u'.entry → near e)
+      → ((e : Entries) → outer e → e m ≡ y'.entry → e o ≡ z'.entry → e q ≡ u'.entry → far e)
       → ((e : Entries) → outer e → e m ≡ y'.entry → e o ≡ z'.entry → e q ≡ u'.entry → far2 e) → ((e : Entries) → outer e → e m ≡ y'.entry → e o ≡ z'.entry → e q ≡ u'.entry → far3 e)
       → Live h a gs st outer n s g d (joined k3 (joined k2 (joined k x y) z) u)
   join_three h k k2 k3 a gs st outer near far far2 far3 n m o q s g i j r d x y z u v y' z' u' f f1 f2 f3 =

@@ -132,7 +132,8 @@ module _ (c : ClassTree) where
   entries_at pre [] = tt
   entries_at pre (o ∷ os) = (
     entry_seam pre os o,
-    subst (λ n. EntriesAt c (at_number (pre ++ o ∷ os)) n os) (one_more pre o) (subst (λ xs. EntriesAt c (at_number xs) (length (pre ++ o ∷ [])) os) (append_assoc pre (o ∷ []) os) (entries_at (pre ++ o ∷ []) os)),
+    subst (λ n. EntriesAt c (at_number (pre ++ o ∷ os)) n os) (one_more pre o)
+        (subst (λ xs. EntriesAt c (at_number xs) (length (pre ++ o ∷ [])) os) (append_assoc pre (o ∷ []) os) (entries_at (pre ++ o ∷ []) os)),
   )
 
   located_from : (pre gs : List (List CallbackTree)) → c.groups ≡ pre ++ gs → Located c (suc (length pre)) gs
@@ -221,7 +222,8 @@ class_filled p h a k paths unlost =
     let first = later_entry c None no_aim gs 0 outer 0 last 1 groups ch live in
     let os = later.entry ∷ later.entries in
     let e = at_number os in
-    let all = later.kept e refl (entries_at c (later.entry ∷ []) later.entries) (tt, record { out = λ t. absurd (false≢true t); again = λ t. absurd (false≢true t); hand = tt }) (located_from c [] c.groups refl) in
+    let all = later.kept e refl (entries_at c (later.entry ∷ []) later.entries) (tt, record { out = λ t. absurd (false≢true t); again = λ t. absurd (false≢true t); hand = tt })
+    (located_from c [] c.groups refl) in
     reads_filled c e (λ b ps is. let r = kept_at c e os c.blocks all b ps is in record { block = r.block; is = r.is; kept = r.kept })
     (λ q. (filled gs 0, first, λ z m. parameter_in c q (length a.params) refl z (filled_holds gs 0 z m)))
   where

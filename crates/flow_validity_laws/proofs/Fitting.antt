@@ -45,7 +45,8 @@ use Rattle.flow_validity_laws.proofs.Instructions.{IsAt, at_place, assign_fits, 
 abbrev pub with_row : List ℕ → TypeTree → Setting → Setting
 with_row x t s = record s { vars = s.vars ++ (x, t) ∷ [] }
 
-module _ (base : Setting) (ns : Names) (c : ClassTree) (few_slots : length c.slots < 2 ^ 64) (few_locals : length c.locals < 2 ^ 64) (agree : (f : List ℕ) → is_there (effectful ns f) ≡ calls_effect (called base f)) where
+module _ (base : Setting) (ns : Names) (c : ClassTree) (few_slots : length c.slots < 2 ^ 64) (few_locals : length c.locals < 2 ^ 64)
+    (agree : (f : List ℕ) → is_there (effectful ns f) ≡ calls_effect (called base f)) where
   abbrev places : Setting
   places = over_class base c
 
@@ -86,7 +87,13 @@ module _ (base : Setting) (ns : Names) (c : ClassTree) (few_slots : length c.slo
 
   exits_fit : (t : Bool) (w : Around) (s : Scope) (n : Next) (l : LastTree) → last_fits c places l ≡ true → Fit (exits t w s n l)
   exits_fit false w s n l k = ends_fit w s false (map DropInstr (left_lists w.looped.depth s)) l (lists_fit (left_lists w.looped.depth s)) k
-  exits_fit true w s n l k = record { body = refl; last = refl; more = both _ true (both (list_all (instr_fits c places) (map DropInstr (left_lists w.looped.depth s))) _ (lists_fit (left_lists w.looped.depth s)) k) refl; groups = refl }
+  exits_fit true w s n l k = record {
+    body = refl;
+    last = refl;
+    more = both _ true
+        (both (list_all (instr_fits c places) (map DropInstr (left_lists w.looped.depth s))) _ (lists_fit (left_lists w.looped.depth s)) k) refl;
+    groups = refl;
+  }
 
   rest_fit : (b : Bool) (h : Option Hand) (a d : Chunk) → Fit a → Fit d → Fit (if b then joined h a d else a)
   rest_fit true h a d f g = joined_fit h a d f g
@@ -148,7 +155,8 @@ module _ (base : Setting) (ns : Names) (c : ClassTree) (few_slots : length c.slo
   last_found [] x e = ap (λ b. if b then Some ErrorType else None) (bytes_self x)
   last_found (v ∷ vs) x e = by_name (bytes_eq x v.0) e (last_found vs x)
     where
-      by_name : (b : Bool) → (if b then Some v.1 else named vs x) ≡ None → (named vs x ≡ None → named (vs ++ (x, ErrorType) ∷ []) x ≡ Some ErrorType) → (if b then Some v.1 else named (vs ++ (x, ErrorType) ∷ []) x) ≡ Some ErrorType
+      by_name : (b : Bool) → (if b then Some v.1 else named vs x) ≡ None → (named vs x ≡ None → named (vs ++ (x, ErrorType) ∷ []) x ≡ Some ErrorType)
+          → (if b then Some v.1 else named (vs ++ (x, ErrorType) ∷ []) x) ≡ Some ErrorType
       by_name true h f = cc
       by_name false h f = f h
 
@@ -156,7 +164,8 @@ module _ (base : Setting) (ns : Names) (c : ClassTree) (few_slots : length c.slo
   pub new_here : (e : Env) (vs : List (List ℕ × TypeTree)) (i : IntoTree) → e.setting ≡ over_names base c vs → into_fault e.setting e.states i ≡ None → New vs i.name.name
   new_here e vs i k h = new_into (over_names base c vs) e.states i (ap (λ z. into_fault z e.states i) (sym k) ∙ h)
 
-  pub stands_into : (e : Env) (vs : List (List ℕ × TypeTree)) (s : Scope) (o : Option (List ℕ)) (l : ℕ) (i : IntoTree) → Stands e vs s o → into_fault e.setting e.states i ≡ None → Placing ns c few_slots few_locals s l i
+  pub stands_into : (e : Env) (vs : List (List ℕ × TypeTree)) (s : Scope) (o : Option (List ℕ)) (l : ℕ) (i : IntoTree) → Stands e vs s o → into_fault e.setting e.states i ≡ None
+      → Placing ns c few_slots few_locals s l i
       → Stands (declared e i) (vs ++ (i.name.name, i.ty) ∷ []) (with_into i l s) o
   stands_into e vs s o l i k h p =
       let sees = sees_into base ns c few_slots few_locals vs s l i k.sees (new_here e vs i k.setting h) p in
@@ -167,7 +176,8 @@ module _ (base : Setting) (ns : Names) (c : ClassTree) (few_slots : length c.slo
         caught = record { known = λ t. let q = k.caught.known t in (q.0, q.1, found_more vs (i.name.name, i.ty) q.0 ErrorType q.2) };
       }
 
-  own_place : (s : Scope) (l : ℕ) (i : IntoTree) (vs : List (List ℕ × TypeTree)) (sees : Sees base c vs s) → Placing ns c few_slots few_locals s l i → IsAt base ns c agree vs s sees (place_in ns c.slots i l s) i.ty
+  own_place : (s : Scope) (l : ℕ) (i : IntoTree) (vs : List (List ℕ × TypeTree)) (sees : Sees base c vs s) → Placing ns c few_slots few_locals s l i
+      → IsAt base ns c agree vs s sees (place_in ns c.slots i l s) i.ty
   own_place s l i vs sees p = at_place base ns c agree vs s sees (place_in ns c.slots i l s) p.to i.ty p.is p.type (class_var base ns c few_slots few_locals p.to i.ty p.type)
 
   -- the variables in force behind a wait
@@ -175,7 +185,8 @@ module _ (base : Setting) (ns : Names) (c : ClassTree) (few_slots : length c.slo
   waited_vars vs None = vs
   waited_vars vs (Some i) = vs ++ (i.name.name, i.ty) ∷ []
 
-  pub stands_taken : (e : Env) (vs : List (List ℕ × TypeTree)) (s : Scope) (o : Option (List ℕ)) (l : ℕ) (into : Option IntoTree) → Stands e vs s o → maybe_into e.setting e.states into ≡ None → Above l s → LocalsAt ns c l (into_locals into)
+  pub stands_taken : (e : Env) (vs : List (List ℕ × TypeTree)) (s : Scope) (o : Option (List ℕ)) (l : ℕ) (into : Option IntoTree) → Stands e vs s o → maybe_into e.setting e.states into ≡ None
+      → Above l s → LocalsAt ns c l (into_locals into)
       → MayTake c.slots (names s) into → Stands (waited e into) (waited_vars vs into) (with_taken into l s) o
   stands_taken e vs s o l None k h a r m = k
   stands_taken e vs s o l (Some i) k h a r m = stands_into e vs s o l i k h (placing ns c few_slots few_locals s l i a r m)
@@ -185,7 +196,8 @@ module _ (base : Setting) (ns : Names) (c : ClassTree) (few_slots : length c.slo
   is_taken vs s sees l None a r m = refl
   is_taken vs s sees l (Some i) a r m = own_place s l i vs sees (placing ns c few_slots few_locals s l i a r m)
 
-  wait_fits : (e : Env) (vs : List (List ℕ × TypeTree)) (s : Scope) (o : Option (List ℕ)) (at : Place) (w : WaitTree) (l b : ℕ) → Stands e vs s o → item at (wait_fault e.setting e.states w) ≡ None → Above l s → LocalsAt ns c l (into_locals w.into)
+  wait_fits : (e : Env) (vs : List (List ℕ × TypeTree)) (s : Scope) (o : Option (List ℕ)) (at : Place) (w : WaitTree) (l b : ℕ) → Stands e vs s o → item at (wait_fault e.setting e.states w) ≡ None
+      → Above l s → LocalsAt ns c l (into_locals w.into)
       → MayTake c.slots (names s) w.into → callback_fits c places (callback ns c.slots s w l b) ≡ true
   wait_fits e vs s o at w l b k h a r m =
       let f = at_item e vs at (λ z. wait_fault z e.states w) k.setting h in
@@ -203,10 +215,13 @@ module _ (base : Setting) (ns : Names) (c : ClassTree) (few_slots : length c.slo
   above_taken None l s a = above_more ns c l (0 + l) s (omega arith) a
   above_taken (Some i) l s a = above_local i.state i.name.name l s a
 
-  test_fit : (e : Env) (vs : List (List ℕ × TypeTree)) (s : Scope) (o : Option (List ℕ)) (at : Place) (q : ExprTree) (w : Around) (y z : ℕ) → Stands e vs s o → item at (test_fault e.setting q) ≡ None → Fit (ends w s true [] (TestLast (over c.slots s q) y z))
-  test_fit e vs s o at q w y z k h = ends_fit w s true [] (TestLast (over c.slots s q) y z) refl (type_fits base ns c agree vs s k.sees false q BoolType (at_item e vs at (λ t. test_fault t q) k.setting h))
+  test_fit : (e : Env) (vs : List (List ℕ × TypeTree)) (s : Scope) (o : Option (List ℕ)) (at : Place) (q : ExprTree) (w : Around) (y z : ℕ) → Stands e vs s o → item at (test_fault e.setting q) ≡ None
+      → Fit (ends w s true [] (TestLast (over c.slots s q) y z))
+  test_fit e vs s o at q w y z k h = ends_fit w s true [] (TestLast (over c.slots s q) y z) refl
+      (type_fits base ns c agree vs s k.sees false q BoolType (at_item e vs at (λ t. test_fault t q) k.setting h))
 
-  for_test : (e : Env) (vs : List (List ℕ × TypeTree)) (s : Scope) (o : Option (List ℕ)) (at : Place) (q : Option ExprTree) (w : Around) (m out : ℕ) (a : Chunk) → Stands e vs s o → item at (maybe_test e.setting q) ≡ None → Fit a
+  for_test : (e : Env) (vs : List (List ℕ × TypeTree)) (s : Scope) (o : Option (List ℕ)) (at : Place) (q : Option ExprTree) (w : Around) (m out : ℕ) (a : Chunk) → Stands e vs s o
+      → item at (maybe_test e.setting q) ≡ None → Fit a
       → Fit (test_before ns c.slots w s q m out a)
   for_test e vs s o at None w m out a k h f = f
   for_test e vs s o at (Some q) w m out a k h f = joined_fit w.hand a (ends w s true [] (TestLast (over c.slots s q) m out)) f (test_fit e vs s o at q w m out k h)
@@ -218,7 +233,8 @@ module _ (base : Setting) (ns : Names) (c : ClassTree) (few_slots : length c.slo
     pub above : Above (l + locals_in i) (later i l s)
     pub named : names (later i l s) ≡ place_of_names.started i (names s)
 
-  pub begins : (i : Body) (e : Env) (vs : List (List ℕ × TypeTree)) (s : Scope) (o : Option (List ℕ)) (l : ℕ) (d t : Bool) → IsInit i → Stands e vs s o → body_refusal e i ≡ None → Above l s → LocalsAt ns c l (body_locals i) → InPlace c.slots d t (names s) i
+  pub begins : (i : Body) (e : Env) (vs : List (List ℕ × TypeTree)) (s : Scope) (o : Option (List ℕ)) (l : ℕ) (d t : Bool) → IsInit i → Stands e vs s o → body_refusal e i ≡ None → Above l s
+      → LocalsAt ns c l (body_locals i) → InPlace c.slots d t (names s) i
       → Begins e i s l o
   begins (DeclareStmt at i v End) e vs s o l d t is k h a r ok =
       let f = item at (declare_fault e.setting e.states i v) in
@@ -231,20 +247,33 @@ module _ (base : Setting) (ns : Names) (c : ClassTree) (few_slots : length c.slo
         named = names_with i.state i.name.name l s;
       }
   begins End e vs s o l d t is k h a r ok = record { vars = vs; stands = stands_behind e End vs s o k; above = above_more ns c l (l + 0) s (omega arith) a; named = refl }
-  begins (AssignStmt at xs v End) e vs s o l d t is k h a r ok = record { vars = vs; stands = stands_behind e (AssignStmt at xs v End) vs s o k; above = above_more ns c l (l + 0) s (omega arith) a; named = refl }
-  begins (ModifyStmt at xs v End) e vs s o l d t is k h a r ok = record { vars = vs; stands = stands_behind e (ModifyStmt at xs v End) vs s o k; above = above_more ns c l (l + 0) s (omega arith) a; named = refl }
+  begins (AssignStmt at xs v End) e vs s o l d t is k h a r ok = record {
+    vars = vs;
+    stands = stands_behind e (AssignStmt at xs v End) vs s o k;
+    above = above_more ns c l (l + 0) s (omega arith) a;
+    named = refl;
+  }
+  begins (ModifyStmt at xs v End) e vs s o l d t is k h a r ok = record {
+    vars = vs;
+    stands = stands_behind e (ModifyStmt at xs v End) vs s o k;
+    above = above_more ns c l (l + 0) s (omega arith) a;
+    named = refl;
+  }
   begins _ e vs s o l d t is k h a r ok = absurd is
 
   mutual
-    pub body_fit : (b : Body) (l t : Bool) (e : Env) (vs : List (List ℕ × TypeTree)) (s : Scope) (w : Around) (n : Next) → Stands e vs s w.caught → IsPlain w → Above n.local s → LocalsAt ns c n.local (body_locals b) → HasParts b
+    pub body_fit : (b : Body) (l t : Bool) (e : Env) (vs : List (List ℕ × TypeTree)) (s : Scope) (w : Around) (n : Next) → Stands e vs s w.caught → IsPlain w → Above n.local s
+        → LocalsAt ns c n.local (body_locals b) → HasParts b
         → InPlace c.slots l t (names s) b → body_refusal e b ≡ None → Fit (lowered ns c.slots s w n b)
     body_fit End l t e vs s w n k p a r parts ok h = finished_fit w s w.exit p.exit
     body_fit (BlockStmt at b x) l t e vs s w n k p a r parts ok h =
         let j = past w.looped.tried b n in
         let v = inner w (Scoped (GotoLast j.block)) in
         joined_fit w.hand (lowered ns c.slots (Mark ∷ s) v n b) (lowered ns c.slots s w (begun j) x)
-        (body_fit b l t e vs (Mark ∷ s) v n (stands_marked e vs s w.caught k) (plain_inner w (Scoped (GotoLast j.block)) refl p) a (locals_front ns c n.local (body_locals b) (body_locals x) r) parts.1 ok.0 (neither_first (body_refusal e b) _ h))
-        (body_fit x l t (behind e b) vs s w (begun j) (stands_behind e b vs s w.caught k) p (above_more ns c n.local j.local s (omega arith) a) (locals_after ns c b n.local (body_locals x) r) parts.2 ok.1 (neither_second (body_refusal e b) _ h))
+        (body_fit b l t e vs (Mark ∷ s) v n (stands_marked e vs s w.caught k) (plain_inner w (Scoped (GotoLast j.block)) refl p) a
+        (locals_front ns c n.local (body_locals b) (body_locals x) r) parts.1 ok.0 (neither_first (body_refusal e b) _ h))
+        (body_fit x l t (behind e b) vs s w (begun j) (stands_behind e b vs s w.caught k) p (above_more ns c n.local j.local s (omega arith) a)
+        (locals_after ns c b n.local (body_locals x) r) parts.2 ok.1 (neither_second (body_refusal e b) _ h))
     body_fit (IfStmt at q b x) l t e vs s w n k p a r parts ok h =
         let j = past w.looped.tried b (begun n) in
         let v = inner w (Scoped (GotoLast j.block)) in
@@ -254,8 +283,10 @@ module _ (base : Setting) (ns : Names) (c : ClassTree) (few_slots : length c.slo
         let m = neither_second i _ h in
         joined_fit w.hand (joined w.hand c0 c1) (lowered ns c.slots s w (begun j) x)
         (joined_fit w.hand c0 c1 (test_fit e vs s w.caught at q w n.block j.block k (neither_first i _ h))
-        (body_fit b l t e vs (Mark ∷ s) v (begun n) (stands_marked e vs s w.caught k) (plain_inner w (Scoped (GotoLast j.block)) refl p) a (locals_front ns c n.local (body_locals b) (body_locals x) r) parts.1 ok.0 (neither_first (body_refusal e b) _ m)))
-        (body_fit x l t (behind e b) vs s w (begun j) (stands_behind e b vs s w.caught k) p (above_more ns c n.local j.local s (omega arith) a) (locals_after ns c b n.local (body_locals x) r) parts.2 ok.1 (neither_second (body_refusal e b) _ m))
+        (body_fit b l t e vs (Mark ∷ s) v (begun n) (stands_marked e vs s w.caught k) (plain_inner w (Scoped (GotoLast j.block)) refl p) a
+        (locals_front ns c n.local (body_locals b) (body_locals x) r) parts.1 ok.0 (neither_first (body_refusal e b) _ m)))
+        (body_fit x l t (behind e b) vs s w (begun j) (stands_behind e b vs s w.caught k) p (above_more ns c n.local j.local s (omega arith) a)
+        (locals_after ns c b n.local (body_locals x) r) parts.2 ok.1 (neither_second (body_refusal e b) _ m))
     body_fit (IfElseStmt at q b d x) l t e vs s w n k p a r parts ok h =
         let i = past w.looped.tried b (begun n) in
         let j = past w.looped.tried d (begun i) in
@@ -273,8 +304,10 @@ module _ (base : Setting) (ns : Names) (c : ClassTree) (few_slots : length c.slo
         joined_fit w.hand (joined w.hand (joined w.hand c0 c1) c2) (lowered ns c.slots s w (begun j) x)
         (joined_fit w.hand (joined w.hand c0 c1) c2
         (joined_fit w.hand c0 c1 (test_fit e vs s w.caught at q w n.block i.block k (neither_first f _ h))
-        (body_fit b l t e vs (Mark ∷ s) v (begun n) (stands_marked e vs s w.caught k) pv a (locals_front ns c n.local (body_locals b) (body_locals d) r12) parts.1 ok.0 (neither_first (body_refusal e b) _ m)))
-        (body_fit d l t (behind e b) vs (Mark ∷ s) v (begun i) (stands_marked (behind e b) vs s w.caught kb) pv (above_more ns c n.local i.local s (omega arith) a) (locals_after ns c b n.local (body_locals d) r12) parts.2 ok.1 (neither_first (body_refusal (behind e b) d) _ o)))
+        (body_fit b l t e vs (Mark ∷ s) v (begun n) (stands_marked e vs s w.caught k) pv a (locals_front ns c n.local (body_locals b) (body_locals d) r12) parts.1 ok.0
+        (neither_first (body_refusal e b) _ m)))
+        (body_fit d l t (behind e b) vs (Mark ∷ s) v (begun i) (stands_marked (behind e b) vs s w.caught kb) pv (above_more ns c n.local i.local s (omega arith) a)
+        (locals_after ns c b n.local (body_locals d) r12) parts.2 ok.1 (neither_first (body_refusal (behind e b) d) _ o)))
         (body_fit x l t (behind (behind e b) d) vs s w (begun j) (stands_behind (behind e b) d vs s w.caught kb) p (above_more ns c n.local j.local s (omega arith) a)
         (locals_back ns c n.local j.local (body_locals b ++ body_locals d) (body_locals x) (omega (arith, sizes)) r) parts.3 ok.2 (neither_second (body_refusal (behind e b) d) _ o))
     body_fit (WhileStmt at q b x) l t e vs s w n k p a r parts ok h =
@@ -287,9 +320,12 @@ module _ (base : Setting) (ns : Names) (c : ClassTree) (few_slots : length c.slo
         let i = item at (test_fault e.setting q) in
         let m = neither_second i _ h in
         joined_fit w.hand (joined w.hand (joined w.hand c0 c1) c2) (lowered ns c.slots s w (begun j) x)
-        (joined_fit w.hand (joined w.hand c0 c1) c2 (joined_fit w.hand c0 c1 (ends_fit w s false [] (PassLast n.block) refl refl) (test_fit e vs s w.caught at q w g.block j.block k (neither_first i _ h)))
-        (body_fit b true t (in_loop e) vs (Mark ∷ s) v (begun g) (stands_marked (in_loop e) vs s w.caught (stands_loop e vs s w.caught k)) (record { exit = refl; again = refl }) a (locals_front ns c n.local (body_locals b) (body_locals x) r) parts.1 ok.0 (neither_first (body_refusal (in_loop e) b) _ m)))
-        (body_fit x l t (behind e b) vs s w (begun j) (stands_behind e b vs s w.caught k) p (above_more ns c n.local j.local s (omega arith) a) (locals_after ns c b n.local (body_locals x) r) parts.2 ok.1 (neither_second (body_refusal (in_loop e) b) _ m))
+        (joined_fit w.hand (joined w.hand c0 c1) c2 (joined_fit w.hand c0 c1 (ends_fit w s false [] (PassLast n.block) refl refl)
+        (test_fit e vs s w.caught at q w g.block j.block k (neither_first i _ h)))
+        (body_fit b true t (in_loop e) vs (Mark ∷ s) v (begun g) (stands_marked (in_loop e) vs s w.caught (stands_loop e vs s w.caught k)) (record { exit = refl; again = refl }) a
+        (locals_front ns c n.local (body_locals b) (body_locals x) r) parts.1 ok.0 (neither_first (body_refusal (in_loop e) b) _ m)))
+        (body_fit x l t (behind e b) vs s w (begun j) (stands_behind e b vs s w.caught k) p (above_more ns c n.local j.local s (omega arith) a)
+        (locals_after ns c b n.local (body_locals x) r) parts.2 ok.1 (neither_second (body_refusal (in_loop e) b) _ m))
     body_fit (ForStmt at i q d b x) l t e vs s w n k p a r parts ok h =
         let tr = w.looped.tried in
         let hd = past tr i n in
@@ -319,7 +355,8 @@ module _ (base : Setting) (ns : Names) (c : ClassTree) (few_slots : length c.slo
         let r123 = locals_front ns c n.local (body_locals i ++ body_locals d ++ body_locals b) (body_locals x) r in
         let r12 = locals_front ns c n.local (body_locals i ++ body_locals d) (body_locals b) r123 in
         let r1 = locals_front ns c n.local (body_locals i) (body_locals d) r12 in
-        let r2 : LocalsAt ns c g.local (body_locals b) = locals_back ns c n.local g.local (body_locals i ++ body_locals d) (body_locals b) (omega (arith, tl, n12, locals_count i, locals_count d, none)) r123 in
+        let r2 : LocalsAt ns c g.local (body_locals b) = locals_back ns c n.local g.local (body_locals i ++ body_locals d) (body_locals b)
+        (omega (arith, tl, n12, locals_count i, locals_count d, none)) r123 in
         let r4 : LocalsAt ns c o.local (body_locals x) =
         locals_back ns c n.local o.local (body_locals i ++ body_locals d ++ body_locals b) (body_locals x) (omega (arith, tl, n12, n123, locals_count i, locals_count d, locals_count b)) r in
         let r3 : LocalsAt ns c j.local (body_locals d) = subst (λ ls. LocalsAt ns c j.local ls) (sym (step_locals d parts.0.1)) tt in
@@ -327,13 +364,18 @@ module _ (base : Setting) (ns : Names) (c : ClassTree) (few_slots : length c.slo
         let st = begins i e vs s1 w.caught n.local l t parts.0.0 k1 (neither_first (body_refusal e i) _ h) a r1 ok.0 in
         let a2 : Above g.local sc = subst (λ z. Above z sc) (sym tl) st.above in
         let kb = stands_behind e' d st.vars sc w.caught st.stands in
-        let f1 = for_test e' st.vars sc w.caught at q v g.block o.block c0 st.stands (neither_first it _ m1) (body_fit i l t e vs s1 v n k1 pv a r1 parts.1 ok.0 (neither_first (body_refusal e i) _ h)) in
-        let f2 = body_fit b true t e'' st.vars (Mark ∷ sc) f (begun g) (stands_marked e'' st.vars sc w.caught (stands_loop (behind e' d) st.vars sc w.caught kb)) (record { exit = refl; again = refl }) a2 r2 parts.3
+        let f1 = for_test e' st.vars sc w.caught at q v g.block o.block c0 st.stands (neither_first it _ m1) (body_fit i l t e vs s1 v n k1 pv a r1 parts.1 ok.0 (neither_first (body_refusal e i) _ h))
+        in
+        let f2 = body_fit b true t e'' st.vars (Mark ∷ sc) f (begun g) (stands_marked e'' st.vars sc w.caught (stands_loop (behind e' d) st.vars sc w.caught kb))
+        (record { exit = refl; again = refl }) a2 r2 parts.3
         (subst (λ xs. InPlace c.slots true t xs b) (sym st.named) ok.2) (neither_first (body_refusal e'' b) _ m3) in
-        let f3 = body_fit d l t e' st.vars sc v (begun j) st.stands pv (above_more ns c g.local j.local sc (omega arith) a2) r3 parts.2 (subst (λ xs. InPlace c.slots l t xs d) (sym st.named) ok.1) (neither_first (body_refusal e' d) _ m2) in
+        let f3 = body_fit d l t e' st.vars sc v (begun j) st.stands pv (above_more ns c g.local j.local sc (omega arith) a2) r3 parts.2 (subst (λ xs. InPlace c.slots l t xs d) (sym st.named) ok.1)
+        (neither_first (body_refusal e' d) _ m2) in
         let kx = stands_behind (behind (behind e i) d) b vs s w.caught (stands_behind (behind e i) d vs s w.caught (stands_behind e i vs s w.caught k)) in
-        let f4 = body_fit x l t (behind (behind (behind e i) d) b) vs s w (begun o) kx p (above_more ns c n.local o.local s (omega (arith, tl)) a) r4 parts.4 ok.3 (neither_second (body_refusal e'' b) _ m3) in
-        joined_fit w.hand (joined w.hand (joined w.hand c1 c2) c3) (dropping (scope (later d j.local sc)) c4) (joined_fit w.hand (joined w.hand c1 c2) c3 (joined_fit w.hand c1 c2 f1 f2) f3) (dropping_fit (scope (later d j.local sc)) c4 f4)
+        let f4 = body_fit x l t (behind (behind (behind e i) d) b) vs s w (begun o) kx p (above_more ns c n.local o.local s (omega (arith, tl)) a) r4 parts.4 ok.3
+        (neither_second (body_refusal e'' b) _ m3) in
+        joined_fit w.hand (joined w.hand (joined w.hand c1 c2) c3) (dropping (scope (later d j.local sc)) c4) (joined_fit w.hand (joined w.hand c1 c2) c3 (joined_fit w.hand c1 c2 f1 f2) f3)
+        (dropping_fit (scope (later d j.local sc)) c4 f4)
     body_fit (LoopStmt at b x) l t e vs s w n k p a r parts ok h =
         let j = past false b (begun n) in
         let v = pass w 1 (PassLast n.block) j.block in
@@ -341,8 +383,10 @@ module _ (base : Setting) (ns : Names) (c : ClassTree) (few_slots : length c.slo
         let c1 = lowered ns c.slots (Mark ∷ s) v (begun n) b in
         joined_fit w.hand (joined w.hand c0 c1) (lowered ns c.slots s w (begun j) x)
         (joined_fit w.hand c0 c1 (ends_fit w s false [] (PassLast n.block) refl refl)
-        (body_fit b true t (in_loop e) vs (Mark ∷ s) v (begun n) (stands_marked (in_loop e) vs s w.caught (stands_loop e vs s w.caught k)) (record { exit = refl; again = refl }) a (locals_front ns c n.local (body_locals b) (body_locals x) r) parts.1 ok.0 (neither_first (body_refusal (in_loop e) b) _ h)))
-        (body_fit x l t (behind e b) vs s w (begun j) (stands_behind e b vs s w.caught k) p (above_more ns c n.local j.local s (omega arith) a) (locals_after ns c b n.local (body_locals x) r) parts.2 ok.1 (neither_second (body_refusal (in_loop e) b) _ h))
+        (body_fit b true t (in_loop e) vs (Mark ∷ s) v (begun n) (stands_marked (in_loop e) vs s w.caught (stands_loop e vs s w.caught k)) (record { exit = refl; again = refl }) a
+        (locals_front ns c n.local (body_locals b) (body_locals x) r) parts.1 ok.0 (neither_first (body_refusal (in_loop e) b) _ h)))
+        (body_fit x l t (behind e b) vs s w (begun j) (stands_behind e b vs s w.caught k) p (above_more ns c n.local j.local s (omega arith) a)
+        (locals_after ns c b n.local (body_locals x) r) parts.2 ok.1 (neither_second (body_refusal (in_loop e) b) _ h))
     body_fit (BreakStmt at x) l t e vs s w n k p a r parts ok h =
         let m = exited w.looped.tried n in
         let el = exited_local w.looped.tried n in
@@ -363,7 +407,8 @@ module _ (base : Setting) (ns : Names) (c : ClassTree) (few_slots : length c.slo
         let i = item at (throw_fault e.setting e.caught q) in
         let f = at_item e vs at (λ z. throw_fault z e.caught q) k.setting (neither_first i _ h) in
         let last = ThrowLast (thrown ns c.slots s at q w.caught) in
-        rest_fit (has_statement x) w.hand (ends w s true [] last) (lowered ns c.slots s w (begun n) x) (ends_fit w s true [] last refl (throw_fits base ns c agree vs s k.sees at q e.caught w.caught k.caught f))
+        rest_fit (has_statement x) w.hand (ends w s true [] last) (lowered ns c.slots s w (begun n) x)
+        (ends_fit w s true [] last refl (throw_fits base ns c agree vs s k.sees at q e.caught w.caught k.caught f))
         (body_fit x l t e vs s w (begun n) k p a r parts.1 ok.1 (neither_second i _ h))
     body_fit (TryStmt at b q u d x) l t e vs s w n k p a r parts ok h =
         let tr = w.looped.tried in
@@ -383,7 +428,8 @@ module _ (base : Setting) (ns : Names) (c : ClassTree) (few_slots : length c.slo
         let r12 = locals_front ns c n.local (body_locals b ++ (ErrorType ∷ [])) (body_locals d) r123 in
         let error = locals_after ns c b n.local (ErrorType ∷ []) r12 in
         let n12 : length (body_locals b ++ (ErrorType ∷ [])) ≡ suc (locals_in b) = omega (arith, length-append (body_locals b) (ErrorType ∷ []), locals_count b) in
-        let n123 : length (body_locals b ++ (ErrorType ∷ []) ++ body_locals d) ≡ suc (locals_in b) + locals_in d = omega (arith, length-append (body_locals b ++ (ErrorType ∷ [])) (body_locals d), n12, locals_count d) in
+        let n123 : length (body_locals b ++ (ErrorType ∷ []) ++ body_locals d) ≡ suc (locals_in b) + locals_in d =
+        omega (arith, length-append (body_locals b ++ (ErrorType ∷ [])) (body_locals d), n12, locals_count d) in
         let eb = behind e b in
         let kb = stands_behind e b vs s w.caught k in
         let ec = in_catch (with_var eb u.name ErrorType) in
@@ -401,7 +447,8 @@ module _ (base : Setting) (ns : Names) (c : ClassTree) (few_slots : length c.slo
         joined_fit w.hand (joined w.hand (joined (Some hand) c0 c1) c2) (lowered ns c.slots s w (begun j) x)
         (joined_fit w.hand (joined (Some hand) c0 c1) c2
         (joined_fit (Some hand) c0 c1 (ends_fit w s false [] (GotoLast n.block) refl refl)
-        (body_fit b l t e vs (Mark ∷ s) v (begun n) (stands_marked e vs s w.caught k) (record { exit = refl; again = p.again }) a (locals_front ns c n.local (body_locals b) (ErrorType ∷ []) r12) parts.1 ok.0 (neither_first (body_refusal e b) _ h)))
+        (body_fit b l t e vs (Mark ∷ s) v (begun n) (stands_marked e vs s w.caught k) (record { exit = refl; again = p.again }) a
+        (locals_front ns c n.local (body_locals b) (ErrorType ∷ []) r12) parts.1 ok.0 (neither_first (body_refusal e b) _ h)))
         (body_fit d l true ec (vs ++ (u.name, ErrorType) ∷ []) s2 f g kc (record { exit = refl; again = p.again }) (omega arith, above_more ns c n.local g.local s (omega arith) a)
         (locals_back ns c n.local g.local (body_locals b ++ (ErrorType ∷ [])) (body_locals d) (omega (arith, n12)) r123) parts.2 ok.1 (neither_first (body_refusal ec d) _ h2)))
         (body_fit x l t (behind eb d) vs s w (begun j) (stands_behind eb d vs s w.caught kb) p (above_more ns c n.local j.local s (omega arith) a)
@@ -420,7 +467,8 @@ module _ (base : Setting) (ns : Names) (c : ClassTree) (few_slots : length c.slo
         let f0 : Fit c0 = record { body = refl; last = refl; more = refl; groups = both (list_all (callback_fits c places) ks) true (callbacks_fit bs l t e vs s w.caught tr g k a rb ok.0 hb) refl } in
         joined_fit w.hand (branches ns c.slots c0 s v g bs) (lowered ns c.slots s w (begun j) x)
         (branches_fit bs l t e vs s v g c0 k (plain_inner w (Scoped (GotoLast j.block)) refl p) a rb parts.1 ok.0 hb f0)
-        (body_fit x l t (with_states e (slot_names (branch_slots bs))) vs s w (begun j) (stands_states e (slot_names (branch_slots bs)) vs s w.caught k) p (above_more ns c n.local j.local s (omega arith) a)
+        (body_fit x l t (with_states e (slot_names (branch_slots bs))) vs s w (begun j) (stands_states e (slot_names (branch_slots bs)) vs s w.caught k) p
+        (above_more ns c n.local j.local s (omega arith) a)
         (locals_back ns c n.local j.local (branch_locals bs) (body_locals x) (omega (arith, branch_locals_count bs)) r) parts.2 ok.1 (neither_second (branch_refusal e bs) _ m))
     body_fit (DeclareStmt at i q x) l t e vs s w n k p a r parts ok h =
         let f = item at (declare_fault e.setting e.states i q) in
@@ -431,22 +479,27 @@ module _ (base : Setting) (ns : Names) (c : ClassTree) (few_slots : length c.slo
         let pl = placing ns c few_slots few_locals s n.local i a room ok.0 in
         let n1 = into_locals_count (Some i) in
         let z = taken (Some i) n in
-        acting_fit (declares ns c.slots s n.local i q) (lowered ns c.slots (with_into i n.local s) w z x) (declare_fits base ns c agree vs s k.sees n.local i q (own_place s n.local i vs k.sees pl) value)
+        acting_fit (declares ns c.slots s n.local i q) (lowered ns c.slots (with_into i n.local s) w z x)
+        (declare_fits base ns c agree vs s k.sees n.local i q (own_place s n.local i vs k.sees pl) value)
         (body_fit x l t (declared e i) (vs ++ (i.name.name, i.ty) ∷ []) (with_into i n.local s) w z (stands_into e vs s w.caught n.local i k into pl) p (above_taken (Some i) n.local s a)
-        (locals_back ns c n.local z.local (declared_locals i) (body_locals x) (omega (arith, n1)) r) parts.1 (subst (λ xs. InPlace c.slots l t xs x) (sym (names_with i.state i.name.name n.local s)) ok.1) (neither_second f _ h))
+        (locals_back ns c n.local z.local (declared_locals i) (body_locals x) (omega (arith, n1)) r) parts.1
+        (subst (λ xs. InPlace c.slots l t xs x) (sym (names_with i.state i.name.name n.local s)) ok.1) (neither_second f _ h))
     body_fit (AssignStmt at xs q x) l t e vs s w n k p a r parts ok h =
         let f = item at (assign_fault e.setting xs q) in
         let i = assigned ns c.slots s (path_over c.slots s xs) q in
-        acting_fit (i ∷ []) (lowered ns c.slots s w n x) (both (instr_fits c places i) true (assign_fits base ns c agree vs s k.sees xs q (at_item e vs at (λ z. assign_fault z xs q) k.setting (neither_first f _ h))) refl)
+        acting_fit (i ∷ []) (lowered ns c.slots s w n x) (both (instr_fits c places i) true
+        (assign_fits base ns c agree vs s k.sees xs q (at_item e vs at (λ z. assign_fault z xs q) k.setting (neither_first f _ h))) refl)
         (body_fit x l t e vs s w n k p a r parts.1 ok (neither_second f _ h))
     body_fit (ModifyStmt at xs d x) l t e vs s w n k p a r parts ok h =
         let f = item at (modify_fault e.setting xs d) in
-        acting_fit (changed ns c.slots s xs (change xs d)) (lowered ns c.slots s w n x) (change_fits base ns c agree vs s k.sees xs d (at_item e vs at (λ z. modify_fault z xs d) k.setting (neither_first f _ h)))
+        acting_fit (changed ns c.slots s xs (change xs d)) (lowered ns c.slots s w n x)
+        (change_fits base ns c agree vs s k.sees xs d (at_item e vs at (λ z. modify_fault z xs d) k.setting (neither_first f _ h)))
         (body_fit x l t e vs s w n k p a r parts.1 ok (neither_second f _ h))
     body_fit (CallStmt at xs es x) l t e vs s w n k p a r parts ok h =
         let f = item at (call_fault e.setting xs es) in
         let i = ActInstr (act_over c.slots s xs) (over_all c.slots s es) in
-        acting_fit (i ∷ []) (lowered ns c.slots s w n x) (both (instr_fits c places i) true (act_fits base ns c agree vs s k.sees xs es (at_item e vs at (λ z. call_fault z xs es) k.setting (neither_first f _ h))) refl)
+        acting_fit (i ∷ []) (lowered ns c.slots s w n x) (both (instr_fits c places i) true
+        (act_fits base ns c agree vs s k.sees xs es (at_item e vs at (λ z. call_fault z xs es) k.setting (neither_first f _ h))) refl)
         (body_fit x l t e vs s w n k p a r parts.1 ok (neither_second f _ h))
     body_fit (WaitStmt at u x) l t e vs s w n k p a r parts ok h =
         let f = item at (wait_fault e.setting e.states u) in
@@ -459,10 +512,13 @@ module _ (base : Setting) (ns : Names) (c : ClassTree) (few_slots : length c.slo
         let i = wait_fits e vs s w.caught at u n.local n.block k (neither_first f _ h) a mine ok.0 in
         let f0 : Fit c0 = record { body = refl; last = refl; more = refl; groups = both (list_all (callback_fits c places) (cb ∷ [])) true (both (callback_fits c places cb) true i refl) refl } in
         joined_fit w.hand c0 (lowered ns c.slots s2 w z x) f0
-        (body_fit x l t (waited e u.into) (waited_vars vs u.into) s2 w z (stands_taken e vs s w.caught n.local u.into k (into_of_wait e at u (neither_first f _ h)) a mine ok.0) p (above_taken u.into n.local s a)
-        (locals_back ns c n.local z.local (into_locals u.into) (body_locals x) (omega (arith, n1)) r) parts.1 (subst (λ xs. InPlace c.slots l t xs x) (sym (names_taken ns c u.into n.local s)) ok.1) (neither_second f _ h))
+        (body_fit x l t (waited e u.into) (waited_vars vs u.into) s2 w z (stands_taken e vs s w.caught n.local u.into k (into_of_wait e at u (neither_first f _ h)) a mine ok.0) p
+        (above_taken u.into n.local s a)
+        (locals_back ns c n.local z.local (into_locals u.into) (body_locals x) (omega (arith, n1)) r) parts.1 (subst (λ xs. InPlace c.slots l t xs x) (sym (names_taken ns c u.into n.local s)) ok.1)
+        (neither_second f _ h))
 
-    callbacks_fit : (bs : Branches) (l t : Bool) (e : Env) (vs : List (List ℕ × TypeTree)) (s : Scope) (o : Option (List ℕ)) (tr : Bool) (n : Next) → Stands e vs s o → Above n.local s → LocalsAt ns c n.local (branch_locals bs) → AllInPlace c.slots l t (names s) bs
+    callbacks_fit : (bs : Branches) (l t : Bool) (e : Env) (vs : List (List ℕ × TypeTree)) (s : Scope) (o : Option (List ℕ)) (tr : Bool) (n : Next) → Stands e vs s o → Above n.local s
+        → LocalsAt ns c n.local (branch_locals bs) → AllInPlace c.slots l t (names s) bs
         → branch_refusal e bs ≡ None → list_all (callback_fits c places) (callbacks ns c.slots s tr n bs) ≡ true
     callbacks_fit NoBranches l t e vs s o tr n k a r ok h = refl
     callbacks_fit (MoreBranches at w b bs) l t e vs s o tr n k a r ok h =
@@ -476,9 +532,11 @@ module _ (base : Setting) (ns : Names) (c : ClassTree) (few_slots : length c.slo
         let xs = slot_names (waited_slots w ++ body_slots b) in
         both (callback_fits c places (callback ns c.slots s w n.local n.block)) _ (wait_fits e vs s o at w n.local n.block k (neither_first f _ h) a mine ok.0)
         (callbacks_fit bs l t (with_states e xs) vs s o tr j (stands_states e xs vs s o k) (above_more ns c n.local j.local s (omega arith) a)
-        (locals_back ns c n.local j.local (into_locals w.into ++ body_locals b) (branch_locals bs) (omega (arith, n1, n12, locals_count b)) r) ok.2 (neither_second (body_refusal (waited e w.into) b) _ m))
+        (locals_back ns c n.local j.local (into_locals w.into ++ body_locals b) (branch_locals bs) (omega (arith, n1, n12, locals_count b)) r) ok.2
+        (neither_second (body_refusal (waited e w.into) b) _ m))
 
-    branches_fit : (bs : Branches) (l t : Bool) (e : Env) (vs : List (List ℕ × TypeTree)) (s : Scope) (w : Around) (n : Next) (ch : Chunk) → Stands e vs s w.caught → IsPlain w → Above n.local s → LocalsAt ns c n.local (branch_locals bs) → HaveParts bs
+    branches_fit : (bs : Branches) (l t : Bool) (e : Env) (vs : List (List ℕ × TypeTree)) (s : Scope) (w : Around) (n : Next) (ch : Chunk) → Stands e vs s w.caught → IsPlain w → Above n.local s
+        → LocalsAt ns c n.local (branch_locals bs) → HaveParts bs
         → AllInPlace c.slots l t (names s) bs → branch_refusal e bs ≡ None → Fit ch → Fit (branches ns c.slots ch s w n bs)
     branches_fit NoBranches l t e vs s w n ch k p a r parts ok h f = f
     branches_fit (MoreBranches at u b bs) l t e vs s w n ch k p a r parts ok h f =
@@ -496,7 +554,9 @@ module _ (base : Setting) (ns : Names) (c : ClassTree) (few_slots : length c.slo
         let n12 = length-append (into_locals u.into) (body_locals b) in
         let xs = slot_names (waited_slots u ++ body_slots b) in
         let k2 = stands_taken e vs s1 w.caught n.local u.into (stands_marked e vs s w.caught k) (into_of_wait e at u (neither_first i _ h)) a mine ok.0 in
-        let f2 = body_fit b l t (waited e u.into) (waited_vars vs u.into) s2 w z k2 p (above_taken u.into n.local s1 a) (locals_back ns c n.local z.local (into_locals u.into) (body_locals b) (omega (arith, n1)) r12) parts.1
+        let f2 = body_fit b l t (waited e u.into) (waited_vars vs u.into) s2 w z k2 p (above_taken u.into n.local s1 a)
+        (locals_back ns c n.local z.local (into_locals u.into) (body_locals b) (omega (arith, n1)) r12) parts.1
         (subst (λ ys. InPlace c.slots l t ys b) (sym (names_taken ns c u.into n.local s1)) ok.1) (neither_first (body_refusal (waited e u.into) b) _ m) in
         branches_fit bs l t (with_states e xs) vs s w j (joined w.hand ch d) (stands_states e xs vs s w.caught k) p (above_more ns c n.local j.local s (omega arith) a)
-        (locals_back ns c n.local j.local (into_locals u.into ++ body_locals b) (branch_locals bs) (omega (arith, n1, n12, locals_count b)) r) parts.2 ok.2 (neither_second (body_refusal (waited e u.into) b) _ m) (joined_fit w.hand ch d f f2)
+        (locals_back ns c n.local j.local (into_locals u.into ++ body_locals b) (branch_locals bs) (omega (arith, n1, n12, locals_count b)) r) parts.2 ok.2
+        (neither_second (body_refusal (waited e u.into) b) _ m) (joined_fit w.hand ch d f f2)

@@ -84,7 +84,8 @@ module _ (base : Setting) (ns : Names) (c : ClassTree) (few_slots : length c.slo
     pub looped : w.looped.tried ≡ false → AllFrom a.hand.from (inner_locals w.looped.depth s)
 
   -- further on, at another point
-  pub ground_past : (w : Around) (s : Scope) (l m : ℕ) (rows : List (List ℕ × TypeTree)) (vs : List Variable) (gs : List Slotted) (p q : Point) (a : Aims) → l ≤ m → q.from ≡ 0 → Ground w s l rows vs gs p a → Ground w s m rows vs gs q a
+  pub ground_past : (w : Around) (s : Scope) (l m : ℕ) (rows : List (List ℕ × TypeTree)) (vs : List Variable) (gs : List Slotted) (p q : Point) (a : Aims) → l ≤ m → q.from ≡ 0
+      → Ground w s l rows vs gs p a → Ground w s m rows vs gs q a
   ground_past w s l m rows vs gs p q a le z g = record {
     line = lined_past base c vs gs rows s l m le g.line;
     start = z;
@@ -97,10 +98,12 @@ module _ (base : Setting) (ns : Names) (c : ClassTree) (few_slots : length c.slo
   }
 
   -- with a declared variable
-  line_into : (vs : List Variable) (gs : List Slotted) (rows : List (List ℕ × TypeTree)) (s : Scope) (l : ℕ) (i : IntoTree) (pl : Placing ns c few_slots few_locals s l i) → Lined base c vs gs rows s l → New rows i.name.name
+  line_into : (vs : List Variable) (gs : List Slotted) (rows : List (List ℕ × TypeTree)) (s : Scope) (l : ℕ) (i : IntoTree) (pl : Placing ns c few_slots few_locals s l i) → Lined base c vs gs rows s l
+      → New rows i.name.name
       → Lined base c (declared i ∷ vs) (pl.to ∷ gs) (rows ++ (i.name.name, i.ty) ∷ []) (with_into i l s) (local_count i + l)
   line_into vs gs rows s l i pl h new =
-      lined_more base c ns few_slots few_locals vs gs rows s (with_into i l s) l (local_count i + l) (declared i) i.ty pl.to h new (grows_declared base ns c few_slots few_locals s (with_into i l s) i pl.to pl.declared) pl.named
+      lined_more base c ns few_slots few_locals vs gs rows s (with_into i l s) l (local_count i + l) (declared i) i.ty pl.to h new
+      (grows_declared base ns c few_slots few_locals s (with_into i l s) i pl.to pl.declared) pl.named
       (kind_of pl.to pl.declared) (omega arith) (λ k e. small pl.to pl.declared k e)
     where
       kind_of : (to : Slotted) → DeclaredAs ns c s i to (with_into i l s) → is_local to ≡ is_there (declared i).local
@@ -115,21 +118,26 @@ module _ (base : Setting) (ns : Names) (c : ClassTree) (few_slots : length c.slo
           let one : local_count i ≡ 1 = ap (λ b. if b then 0 else 1) d.0 in
           omega (arith, same, first, one)
 
-  pub ground_into : (w : Around) (s : Scope) (l : ℕ) (rows : List (List ℕ × TypeTree)) (vs : List Variable) (gs : List Slotted) (p : Point) (a : Aims) (i : IntoTree) (pl : Placing ns c few_slots few_locals s l i) → New rows i.name.name
+  pub ground_into : (w : Around) (s : Scope) (l : ℕ) (rows : List (List ℕ × TypeTree)) (vs : List Variable) (gs : List Slotted) (p : Point) (a : Aims) (i : IntoTree)
+      (pl : Placing ns c few_slots few_locals s l i) → New rows i.name.name
       → Ground w s l rows vs gs p a → Ground w (with_into i l s) (local_count i + l) (rows ++ (i.name.name, i.ty) ∷ []) (declared i ∷ vs) (pl.to ∷ gs) p a
   ground_into w s l rows vs gs p a i pl new g = record {
     line = line_into vs gs rows s l i pl g.line new;
     start = g.start;
     end = lies_more a.end gs pl.to (scope s) (scope (with_into i l s)) l (local_count i + l) (omega arith) (λ le h. from_scope i.state a.end.from i.name.name l s le h) g.end;
-    out = lies_more a.out gs pl.to (inner_locals w.looped.depth s) (inner_locals w.looped.depth (with_into i l s)) l (local_count i + l) (omega arith) (λ le h. from_inner i.state a.out.from w.looped.depth i.name.name l s le h) g.out;
-    again = lies_more a.again gs pl.to (inner_locals w.looped.depth s) (inner_locals w.looped.depth (with_into i l s)) l (local_count i + l) (omega arith) (λ le h. from_inner i.state a.again.from w.looped.depth i.name.name l s le h) g.again;
-    hand = lies_more a.hand gs pl.to (inner_locals w.depth s) (inner_locals w.depth (with_into i l s)) l (local_count i + l) (omega arith) (λ le h. from_inner i.state a.hand.from w.depth i.name.name l s le h) g.hand;
+    out = lies_more a.out gs pl.to (inner_locals w.looped.depth s) (inner_locals w.looped.depth (with_into i l s)) l (local_count i + l) (omega arith)
+        (λ le h. from_inner i.state a.out.from w.looped.depth i.name.name l s le h) g.out;
+    again = lies_more a.again gs pl.to (inner_locals w.looped.depth s) (inner_locals w.looped.depth (with_into i l s)) l (local_count i + l) (omega arith)
+        (λ le h. from_inner i.state a.again.from w.looped.depth i.name.name l s le h) g.again;
+    hand = lies_more a.hand gs pl.to (inner_locals w.depth s) (inner_locals w.depth (with_into i l s)) l (local_count i + l) (omega arith)
+        (λ le h. from_inner i.state a.hand.from w.depth i.name.name l s le h) g.hand;
     scoped = from_scope i.state a.hand.from i.name.name l s g.hand.low g.scoped;
     looped = λ t. from_inner i.state a.hand.from w.looped.depth i.name.name l s g.hand.low (g.looped t);
   }
 
   -- a scope of its own, whose end leads there
-  pub ground_inner : (w : Around) (x : Exit) (s : Scope) (l m : ℕ) (rows : List (List ℕ × TypeTree)) (vs : List Variable) (gs : List Slotted) (p q : Point) (a : Aims) (st : ℕ) → l ≤ m → q.from ≡ 0 → Ground w s l rows vs gs p a
+  pub ground_inner : (w : Around) (x : Exit) (s : Scope) (l m : ℕ) (rows : List (List ℕ × TypeTree)) (vs : List Variable) (gs : List Slotted) (p q : Point) (a : Aims) (st : ℕ) → l ≤ m → q.from ≡ 0
+      → Ground w s l rows vs gs p a
       → Ground (inner w x) (Mark ∷ s) m rows vs gs q (record a { end = here_aim gs st m })
   ground_inner w x s l m rows vs gs p q a st le z g = record {
     line = lined_marked base c vs gs rows s l m le g.line;
@@ -143,7 +151,8 @@ module _ (base : Setting) (ns : Names) (c : ClassTree) (few_slots : length c.slo
   }
 
   -- the body of a loop
-  pub ground_pass : (w : Around) (s : Scope) (d k : ℕ) (l m : ℕ) (again : LastTree) (out : ℕ) (rows : List (List ℕ × TypeTree)) (vs : List Variable) (gs : List Slotted) (q : Point) (hand : Aim) (st lost : ℕ) → l ≤ m → q.from ≡ 0 → Lined base c vs gs rows s l
+  pub ground_pass : (w : Around) (s : Scope) (d k : ℕ) (l m : ℕ) (again : LastTree) (out : ℕ) (rows : List (List ℕ × TypeTree)) (vs : List Variable) (gs : List Slotted) (q : Point) (hand : Aim)
+      (st lost : ℕ) → l ≤ m → q.from ≡ 0 → Lined base c vs gs rows s l
       → Lies hand gs (inner_locals d s) l → w.depth + k ≡ suc d
       → Ground (pass w k again out) (Mark ∷ s) m rows vs gs q (record { end = here_aim gs st m; out = here_aim gs lost m; again = here_aim gs st m; hand = hand })
   ground_pass w s d k l m again out rows vs gs q hand st lost le z line h e =
@@ -160,7 +169,8 @@ module _ (base : Setting) (ns : Names) (c : ClassTree) (few_slots : length c.slo
       }
 
   -- a try body
-  pub ground_guarded : (w : Around) (x : Exit) (k : Hand) (s : Scope) (l m : ℕ) (rows : List (List ℕ × TypeTree)) (vs : List Variable) (gs : List Slotted) (p q : Point) (a : Aims) (st lost : ℕ) → l ≤ m → q.from ≡ 0 → Ground w s l rows vs gs p a
+  pub ground_guarded : (w : Around) (x : Exit) (k : Hand) (s : Scope) (l m : ℕ) (rows : List (List ℕ × TypeTree)) (vs : List Variable) (gs : List Slotted) (p q : Point) (a : Aims) (st lost : ℕ)
+      → l ≤ m → q.from ≡ 0 → Ground w s l rows vs gs p a
       → Ground (guarded w x k) (Mark ∷ s) m rows vs gs q (record a { end = here_aim gs st m; hand = here_aim gs lost m })
   ground_guarded w x k s l m rows vs gs p q a st lost le z g =
       let below = (lined_past base c vs gs rows s l m le g.line).below in
@@ -176,14 +186,16 @@ module _ (base : Setting) (ns : Names) (c : ClassTree) (few_slots : length c.slo
       }
 
   -- chunks
-  pub live_to : (h : Option Hand) (a : Aim) (gs : List Slotted) (st : ℕ) (outer : Entries c → Type 0) (n m o g i j : ℕ) (ch : Chunk) → m ≡ o → i ≡ j → Live c h a gs st outer n m g i ch → Live c h a gs st outer n o g j ch
+  pub live_to : (h : Option Hand) (a : Aim) (gs : List Slotted) (st : ℕ) (outer : Entries c → Type 0) (n m o g i j : ℕ) (ch : Chunk) → m ≡ o → i ≡ j → Live c h a gs st outer n m g i ch
+      → Live c h a gs st outer n o g j ch
   live_to h a gs st outer n m o g i j ch e f v = record { entries = v.entries; size = v.size ∙ e; gsize = v.gsize ∙ f; acts = v.acts; held = v.held; kept = v.kept }
 
   pub later_map : (h : Option Hand) (outer near : Entries c → Type 0) (n m g i : ℕ) (ch : Chunk) → ((e : Entries c) → near e → outer e) → Later c h outer n m g i ch → Later c h near n m g i ch
   later_map h outer near n m g i ch f v = record { entry = v.entry; entries = v.entries; size = v.size; gsize = v.gsize; kept = λ e is at o gr. v.kept e is at (f e o) gr }
 
   -- the end of a block without further ones
-  pub leaf : (w : Around) (s : Scope) (gs : List Slotted) (p : Point) (a : Aims) (near : Entries c → Type 0) (n g : ℕ) (acts : Bool) (is : List InstrTree) (l : LastTree) → AllFrom a.hand.from (inner_locals w.depth s)
+  pub leaf : (w : Around) (s : Scope) (gs : List Slotted) (p : Point) (a : Aims) (near : Entries c → Type 0) (n g : ℕ) (acts : Bool) (is : List InstrTree) (l : LastTree)
+      → AllFrom a.hand.from (inner_locals w.depth s)
       → (acts ≡ true → (e : Entries c) → near e → HandFact c e w.hand a.hand p.stale)
       → ((e : Entries c) → near e → (kc : Option CatcherTree) (z : Places) → Covers z gs p.stale → Guard c e w.hand a.hand kc p.stale → Kept c e kc z is l)
       → Live c w.hand a.hand gs p.stale near n n g g (ends w s acts is l)
@@ -197,8 +209,10 @@ module _ (base : Setting) (ns : Names) (c : ClassTree) (few_slots : length c.slo
   }
 
   -- an instruction before a chunk
-  pub acting_live : (h : Option Hand) (a : Aim) (gs hs : List Slotted) (st : ℕ) (near far : Entries c → Type 0) (n m g j : ℕ) (i : InstrTree) (ch : Chunk) → Live c h a hs st far n m g j ch → ((e : Entries c) → near e → far e)
-      → ((z : Places) → Covers z gs st → AllIn (instr_reads i) z) → ((z : Places) → Covers z gs st → Covers (after i z) hs st) → Sub a.places gs → IsBelow a → ((e : Entries c) → near e → HandFact c e h a st)
+  pub acting_live : (h : Option Hand) (a : Aim) (gs hs : List Slotted) (st : ℕ) (near far : Entries c → Type 0) (n m g j : ℕ) (i : InstrTree) (ch : Chunk) → Live c h a hs st far n m g j ch
+      → ((e : Entries c) → near e → far e)
+      → ((z : Places) → Covers z gs st → AllIn (instr_reads i) z) → ((z : Places) → Covers z gs st → Covers (after i z) hs st) → Sub a.places gs → IsBelow a
+      → ((e : Entries c) → near e → HandFact c e h a st)
       → Live c h a gs st near n m g j (acting (i ∷ []) ch)
   acting_live h a gs hs st near far n m g j i ch v f reads grows sub below fact = record {
     entries = v.entries;
@@ -219,13 +233,17 @@ module _ (base : Setting) (ns : Names) (c : ClassTree) (few_slots : length c.slo
     pub later : Later c h outer n m g i ch
     pub entry_is : is_reached u.ends ≡ true → later.entry ≡ Some (filled gs (behind d p u.ends).stale)
 
-  pub rest_of : (h : Option Hand) (a : Aim) (outer near : Entries c → Type 0) (gs : List Slotted) (d : ℕ) (p : Point) (u : Ways) (n m g i : ℕ) (ch : Chunk) → suc n + length ch.more ≡ m → g + length ch.groups ≡ i
+  pub rest_of : (h : Option Hand) (a : Aim) (outer near : Entries c → Type 0) (gs : List Slotted) (d : ℕ) (p : Point) (u : Ways) (n m g i : ℕ) (ch : Chunk) → suc n + length ch.more ≡ m
+      → g + length ch.groups ≡ i
       → (is_reached u.ends ≡ true → (e : Entries c) → near e → outer e) → (is_reached u.ends ≡ true → Live c h a gs (behind d p u.ends).stale outer (suc n) m g i ch) → Rest h near gs d p u n m g i ch
   unfolding later_map
   rest_of h a outer near gs d p u n m g i ch size gsize f live = by_way (is_reached u.ends) refl
     where
       by_way : (b : Bool) → is_reached u.ends ≡ b → Rest h near gs d p u n m g i ch
-      by_way true e = record { later = later_map h outer near n m g i ch (f e) (later_live c h a gs (behind d p u.ends).stale outer n m g i ch (live e)); entry_is = λ t. later_entry c h a gs (behind d p u.ends).stale outer n m g i ch (live e) }
+      by_way true e = record {
+        later = later_map h outer near n m g i ch (f e) (later_live c h a gs (behind d p u.ends).stale outer n m g i ch (live e));
+        entry_is = λ t. later_entry c h a gs (behind d p u.ends).stale outer n m g i ch (live e);
+      }
       by_way false e = record { later = later_dead c h near n m g i ch size gsize; entry_is = λ t. absurd (false≢true (sym e ∙ t)) }
 
   -- what a point behind asks of the one before

@@ -57,7 +57,8 @@ use Rattle.flow_validity_laws.proofs.Lines.{lined_more, lined_marked}
 use Rattle.flow_validity_laws.proofs.Grounds.{lies_more}
 use Rattle.flow_validity_laws.proofs.Choosings.{jump_leaf, monus_twice}
 
-module _ (base : Setting) (ns : Names) (c : ClassTree) (few_slots : length c.slots < 2 ^ 64) (few_locals : length c.locals < 2 ^ 64) (agree : (f : List ℕ) → is_there (effectful ns f) ≡ calls_effect (called base f)) where
+module _ (base : Setting) (ns : Names) (c : ClassTree) (few_slots : length c.slots < 2 ^ 64) (few_locals : length c.locals < 2 ^ 64)
+    (agree : (f : List ℕ) → is_there (effectful ns f) ≡ calls_effect (called base f)) where
   abbrev Alives : Body → Type 0
   Alives b = Lives base ns c few_slots few_locals agree b
 
@@ -68,10 +69,13 @@ module _ (base : Setting) (ns : Names) (c : ClassTree) (few_slots : length c.slo
   RowsHere = List (List ℕ × TypeTree)
 
   -- the handler begins with its error
-  ground_error : (w : Around) (x : Exit) (y : Ident) (s : Scope) (l m : ℕ) (rows : RowsHere) (vs : List Variable) (gs : List Slotted) (p q : Point) (a : Aims) (st : ℕ) → l ≤ m → m < length c.locals → q.from ≡ 0 → New rows y.name → Ground base ns c few_slots few_locals w s l rows vs gs p a
-      → Ground base ns c few_slots few_locals (handling w x y.name) (Var y.name m ∷ Mark ∷ s) (suc m) (rows ++ (y.name, ErrorType) ∷ []) (caught_as y ∷ vs) (place.Local m ∷ gs) q (record a { end = here_aim gs st l })
+  ground_error : (w : Around) (x : Exit) (y : Ident) (s : Scope) (l m : ℕ) (rows : RowsHere) (vs : List Variable) (gs : List Slotted) (p q : Point) (a : Aims) (st : ℕ) → l ≤ m → m < length c.locals
+      → q.from ≡ 0 → New rows y.name → Ground base ns c few_slots few_locals w s l rows vs gs p a
+      → Ground base ns c few_slots few_locals (handling w x y.name) (Var y.name m ∷ Mark ∷ s) (suc m) (rows ++ (y.name, ErrorType) ∷ []) (caught_as y ∷ vs) (place.Local m ∷ gs) q
+      (record a { end = here_aim gs st l })
   ground_error w x y s l m rows vs gs p q a st le own z new g = record {
-    line = lined_more base c ns few_slots few_locals vs gs rows (Mark ∷ s) (Var y.name m ∷ Mark ∷ s) m (suc m) (caught_as y) ErrorType (place.Local m) (lined_marked base c vs gs rows s l m le g.line) new (grows_local base ns c few_slots few_locals (Mark ∷ s) y.name m)
+    line = lined_more base c ns few_slots few_locals vs gs rows (Mark ∷ s) (Var y.name m ∷ Mark ∷ s) m (suc m) (caught_as y) ErrorType (place.Local m)
+        (lined_marked base c vs gs rows s l m le g.line) new (grows_local base ns c few_slots few_locals (Mark ∷ s) y.name m)
         (local_named m (omega (arith, own, few_locals))) refl (omega arith) (λ k e. small k (ap number_in e));
     start = z;
     end = record { sub = λ j r k. inr k; below = λ j k h. g.line.below j k h; from = (le, tt); low = omega arith };
@@ -124,14 +128,16 @@ module _ (base : Setting) (ns : Names) (c : ClassTree) (few_slots : length c.slo
       let i = item spot (rule_fresh e.setting eb.states false y.name) in
       let h2 = neither_second i _ h1 in
       let stb = stands_behind base ns c few_slots few_locals agree e b rows s w.caught said.stands in
-      let new = is_new (over_names base c rows) eb.states false y.name (at_item base ns c few_slots few_locals agree e rows spot (λ z. rule_fresh z eb.states false y.name) said.stands.setting (neither_first i _ h1)) in
+      let new = is_new (over_names base c rows) eb.states false y.name
+      (at_item base ns c few_slots few_locals agree e rows spot (λ z. rule_fresh z eb.states false y.name) said.stands.setting (neither_first i _ h1)) in
       let whole = try_room ns c b o (body_locals x) n.local said.room in
       let room123 = locals_front ns c n.local (body_locals b ++ (ErrorType ∷ []) ++ body_locals o) (body_locals x) whole in
       let room12 = locals_front ns c n.local (body_locals b ++ (ErrorType ∷ [])) (body_locals o) room123 in
       let error = locals_after ns c b n.local (ErrorType ∷ []) room12 in
       let own = slice_get_within c.locals m.local ErrorType error.0 in
       let n12 : length (body_locals b ++ (ErrorType ∷ [])) ≡ suc (locals_in b) = omega (arith, length-append (body_locals b) (ErrorType ∷ []), locals_count b) in
-      let n123 : length (body_locals b ++ (ErrorType ∷ []) ++ body_locals o) ≡ suc (locals_in b) + locals_in o = omega (arith, length-append (body_locals b ++ (ErrorType ∷ [])) (body_locals o), n12, locals_count o) in
+      let n123 : length (body_locals b ++ (ErrorType ∷ []) ++ body_locals o) ≡ suc (locals_in b) + locals_in o =
+      omega (arith, length-append (body_locals b ++ (ErrorType ∷ [])) (body_locals o), n12, locals_count o) in
       let sees2 = sees_error base ns c few_slots few_locals rows (Mark ∷ s) m.local y.name (sees_marked base ns c few_slots few_locals agree rows s said.stands.sees) new error.0 in
       let stands2 : Stands base ns c few_slots few_locals agree ec rows2 s2 (Some y.name) = record {
         setting = ap (with_row y.name ErrorType) said.stands.setting;
@@ -168,7 +174,8 @@ module _ (base : Setting) (ns : Names) (c : ClassTree) (few_slots : length c.slo
         placed = said.placed.0;
         judged = neither_first (body_refusal e b) _ said.judged;
       })
-      (ground_guarded base ns c few_slots few_locals w exit hand s n.local n.local rows vs gs p p a st hp.stale (omega arith) g.start g) (thrown_marked base ns c few_slots few_locals agree rows gs s cu w.caught e.caught th) (fresh_left us os fresh12)
+      (ground_guarded base ns c few_slots few_locals w exit hand s n.local n.local rows vs gs p p a st hp.stale (omega arith) g.start g)
+      (thrown_marked base ns c few_slots few_locals agree rows gs s cu w.caught e.caught th) (fresh_left us os fresh12)
       (omega (arith, many, sum1, sum2)) in
       let r2 = rest_lives base ns c few_slots few_locals agree x rest l t (rule_behind eb o) rows vs gs s w n j p point a cu k1 k2 u
       (record {
@@ -181,19 +188,25 @@ module _ (base : Setting) (ns : Names) (c : ClassTree) (few_slots : length c.slo
         judged = neither_second (body_refusal ec o) _ h2;
       })
       g (omega arith) th (behind_once (length vs) p u)
-      (ap (λ z. k - length z) (append-nil (body_groups b ++ body_groups o)) ∙ monus_twice k (length (body_groups b)) (length (body_groups o)) (length (body_groups b ++ body_groups o)) sum1) (fresh_right (us ++ os) ws fresh) (omega (arith, many, sum1, sum2)) in
+      (ap (λ z. k - length z) (append-nil (body_groups b ++ body_groups o)) ∙ monus_twice k (length (body_groups b)) (length (body_groups o)) (length (body_groups b ++ body_groups o)) sum1)
+      (fresh_right (us ++ os) ws fresh) (omega (arith, many, sum1, sum2)) in
       let near1 : Entries c → Type 0 = λ en. outer en × (en j.block ≡ r2.later.entry) in
       let near0 : Entries c → Type 0 = λ en. en n.block ≡ Some (filled gs p.stale) in
       let one = jump_leaf base ns c few_slots few_locals agree gs s w n.local p a near0 n.block n.group n.block p.stale (GotoLast n.block) g.hand (λ en q. q) (inr (omega arith)) refl in
       let owed1 = Owed l w1 a1 p r in
       let later1 = later_live c (Some hand) a1.hand gs p.stale owed1 n.block m.block n.group m.group c1 live1 in
       let entry1 = later_entry c (Some hand) a1.hand gs p.stale owed1 n.block m.block n.group m.group c1 live1 in
-      let two = rest_of base ns c few_slots few_locals w.hand a.hand (Owed l w2 a2 hp r') near1 gs2 (length vs) p (plain r.throws) m.block j.block m.group j.group c2 (ap (λ z. suc m.block + z) (lowered_more ns c.slots s2 w2 gg o)) (ap (λ z. m.group + z) (lowered_groups ns c.slots s2 w2 gg o))
+      let two = rest_of base ns c few_slots few_locals w.hand a.hand (Owed l w2 a2 hp r') near1 gs2 (length vs) p (plain r.throws) m.block j.block m.group j.group c2
+      (ap (λ z. suc m.block + z) (lowered_more ns c.slots s2 w2 gg o)) (ap (λ z. m.group + z) (lowered_groups ns c.slots s2 w2 gg o))
       (λ h en q. let sides = sides_first c en l w a p u v q.0.1 in (
-        record { reached = λ z. q.1 ∙ r2.entry_is (reached_right r.ends (onward r.throws r'.ends) (reached_onward r.throws r'.ends h z)); exits = exits_onward st (length gs) (length vs) p r.throws r'.ends h (exits_right st (length gs) p.stale r.ends (onward r.throws r'.ends) ex) },
+        record {
+          reached = λ z. q.1 ∙ r2.entry_is (reached_right r.ends (onward r.throws r'.ends) (reached_onward r.throws r'.ends h z));
+          exits = exits_onward st (length gs) (length vs) p r.throws r'.ends h (exits_right st (length gs) p.stale r.ends (onward r.throws r'.ends) ex);
+        },
         record {
           out = λ z. way_onward c en w.looped.out a.out (length vs) p r.throws r'.breaks h (way_right c en w.looped.out a.out p r.breaks (onward r.throws r'.breaks) (sides.out z));
-          again = λ z. last_onward c en w.looped.again a.again (length vs) p r.throws r'.continues h (last_right c en w.looped.again a.again p r.continues (onward r.throws r'.continues) (sides.again z));
+          again = λ z. last_onward c en w.looped.again a.again (length vs) p r.throws r'.continues h
+              (last_right c en w.looped.again a.again p r.continues (onward r.throws r'.continues) (sides.again z));
           hand = hand_onward c en w.hand a.hand (length vs) p r.throws r'.throws h (hand_right c en w.hand a.hand p at_once (onward r.throws r'.throws) sides.hand);
         },
       ))
@@ -207,8 +220,10 @@ module _ (base : Setting) (ns : Names) (c : ClassTree) (few_slots : length c.slo
         placed = said.placed.1;
         judged = neither_first (body_refusal ec o) _ h2;
       })
-      (ground_error w exit y s n.local m.local rows vs gs p hp a st (omega arith) own ((behind_is (length vs) p r.throws h).from ∙ g.start) new g) th2 (fresh_right us os fresh12) (omega (arith, many, sum1, sum2))) in
-      let all = join_two c w.hand (Some hand) w.hand a.hand gs p.stale near1 near0 owed1 near1 n.block n.block m.block j.block n.group n.group m.group j.group c0 c1 c2 one later1 two.later (λ en q i1 i2. i1 ∙ entry1)
+      (ground_error w exit y s n.local m.local rows vs gs p hp a st (omega arith) own ((behind_is (length vs) p r.throws h).from ∙ g.start) new g) th2 (fresh_right us os fresh12)
+      (omega (arith, many, sum1, sum2))) in
+      let all = join_two c w.hand (Some hand) w.hand a.hand gs p.stale near1 near0 owed1 near1 n.block n.block m.block j.block n.group n.group m.group j.group c0 c1 c2 one later1 two.later
+      (λ en q i1 i2. i1 ∙ entry1)
       (λ en q i1 i2. let sides = sides_first c en l w a p u v q.0.1 in (
         record { reached = λ h. q.1 ∙ r2.entry_is (reached_left r.ends (onward r.throws r'.ends) h); exits = exits_left st (length gs) p.stale r.ends (onward r.throws r'.ends) ex },
         record {
@@ -218,6 +233,8 @@ module _ (base : Setting) (ns : Names) (c : ClassTree) (few_slots : length c.slo
         },
       ))
       (λ en q i1 i2. q) in
-      live_to base ns c few_slots few_locals w.hand a.hand gs p.stale outer n.block (suc j.block + blocks_in tr x) (n.block + (suc (blocks_in true b) + suc (blocks_in tr o) + suc (blocks_in tr x))) n.group (j.group + groups_in x) (n.group + (groups_in b + groups_in o + groups_in x))
+      live_to base ns c few_slots few_locals w.hand a.hand gs p.stale outer n.block (suc j.block + blocks_in tr x) (n.block + (suc (blocks_in true b) + suc (blocks_in tr o) + suc (blocks_in tr x)))
+      n.group (j.group + groups_in x) (n.group + (groups_in b + groups_in o + groups_in x))
       (joined w.hand (joined w.hand (joined (Some hand) c0 c1) c2) c3) (omega arith) (omega arith)
-      (join c w.hand w.hand a.hand gs p.stale outer near1 outer n.block j.block (suc j.block + blocks_in tr x) n.group j.group (j.group + groups_in x) (joined w.hand (joined (Some hand) c0 c1) c2) c3 all r2.later (λ en q is. (q, is)) (λ en q is. q))
+      (join c w.hand w.hand a.hand gs p.stale outer near1 outer n.block j.block (suc j.block + blocks_in tr x) n.group j.group (j.group + groups_in x)
+      (joined w.hand (joined (Some hand) c0 c1) c2) c3 all r2.later (λ en q is. (q, is)) (λ en q is. q))

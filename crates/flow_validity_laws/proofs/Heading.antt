@@ -36,7 +36,8 @@ params_known s taken (p ∷ ps) h =
     let f = param_fault s taken p in
     let r = params_fault s (with_name p.name.name taken) ps in
     let w = no_first (written s p.ty) _ (no_first f r h) in
-    both (type_known s.known p.ty) _ (holds (type_known s.known p.ty) UNKNOWN_NAME (no_first (unless (type_known s.known p.ty) UNKNOWN_NAME) _ w)) (params_known s (with_name p.name.name taken) ps (no_second f r h))
+    both (type_known s.known p.ty) _ (holds (type_known s.known p.ty) UNKNOWN_NAME (no_first (unless (type_known s.known p.ty) UNKNOWN_NAME) _ w))
+    (params_known s (with_name p.name.name taken) ps (no_second f r h))
 
 slots_count : (ps : List ParamTree) → length (map param_slot ps) ≡ length ps
 slots_count [] = refl
@@ -57,7 +58,8 @@ module _ (ns : Names) (all : Bool → Setting) where
   abbrev plain : List DeclTree → List DeclTree
   plain ds = structs ds ++ functions ds
 
-  plain_apart : (x : List ℕ) (before ds : List DeclTree) (d : DeclTree) → RowsApart x (rows (structs before)) → RowsApart x (rows (structs ds)) → RowsApart x (rows (functions before)) → RowsApart x (rows (functions ds))
+  plain_apart : (x : List ℕ) (before ds : List DeclTree) (d : DeclTree) → RowsApart x (rows (structs before)) → RowsApart x (rows (structs ds)) → RowsApart x (rows (functions before))
+      → RowsApart x (rows (functions ds))
       → structs (d ∷ []) ≡ [] → functions (d ∷ []) ≡ [] → RowsApart x (rows (plain (before ++ d ∷ ds)))
   plain_apart x before ds d a b c e f g =
       let s : RowsApart x (rows (structs (before ++ d ∷ ds))) =
@@ -107,7 +109,8 @@ module _ (ns : Names) (all : Bool → Setting) where
       let new = not_known (whole ++ heads before) x (no_packet x fresh) others in
       let types = body_known s.known r.body (body_env s r) refl body in
       let named : not (is_predefined x || is_there (known (whole ++ heads before) x)) ≡ true = ap₂ (λ p q. not (p || q)) fresh new in
-      let many : nat_le c.params (length c.slots) ≡ true = le_is (length r.params) (length (slots_of r)) (omega (arith, length-append (map param_slot r.params) (body_slots r.body), slots_count r.params)) in
+      let many : nat_le c.params (length c.slots) ≡ true = le_is (length r.params) (length (slots_of r))
+      (omega (arith, length-append (map param_slot r.params) (body_slots r.body), slots_count r.params)) in
       let slots : SlotsKnown s.known c.slots = all_both _ (map param_slot r.params) (body_slots r.body) (params_known s (λ z. false) r.params params) types.slots in
       let next = before ++ ActorDecl r ∷ [] in
       let free = not (is_predefined x || is_there (known (whole ++ heads before) x)) in

@@ -79,10 +79,12 @@ if_other : {A : Type 0} (b : Bool) (x y : A) → b ≡ false → (if b then x el
 if_other true x y e = cc
 if_other false x y e = refl
 
-slot_found : (n k : ℕ) (ss : List SlotTree) (t : SlotTree) (rest : List (List ℕ × TypeTree)) → n + length ss ≤ 2 ^ 64 → k < length ss → slice_get ss k ≡ Some t → named (slot_rows n ss ++ rest) (place_name (place.Slot (n + k))) ≡ Some t.ty
+slot_found : (n k : ℕ) (ss : List SlotTree) (t : SlotTree) (rest : List (List ℕ × TypeTree)) → n + length ss ≤ 2 ^ 64 → k < length ss → slice_get ss k ≡ Some t
+    → named (slot_rows n ss ++ rest) (place_name (place.Slot (n + k))) ≡ Some t.ty
 slot_found n k [] t rest le lt e = absurd (none_some e)
 slot_found n zero (s ∷ ss) t rest le lt e =
-    if_same (bytes_eq (place_name (place.Slot (n + 0))) (place_name (place.Slot n))) (Some s.ty) _ (ap (λ m. bytes_eq (place_name (place.Slot m)) (place_name (place.Slot n))) plus_zero ∙ bytes_self (place_name (place.Slot n)))
+    if_same (bytes_eq (place_name (place.Slot (n + 0))) (place_name (place.Slot n))) (Some s.ty) _
+    (ap (λ m. bytes_eq (place_name (place.Slot m)) (place_name (place.Slot n))) plus_zero ∙ bytes_self (place_name (place.Slot n)))
     ∙ ap (λ (u : SlotTree). Some u.ty) (some_same s t e)
   where
     plus_zero : n + 0 ≡ n
@@ -94,7 +96,8 @@ slot_found n (suc k) (s ∷ ss) t rest le lt e =
     plus_suc : n + suc k ≡ suc n + k
     plus_suc = omega arith
 
-slots_skipped : (n k : ℕ) (ss : List SlotTree) (rest : List (List ℕ × TypeTree)) → n + length ss ≤ 2 ^ 64 → k < 2 ^ 64 → named (slot_rows n ss ++ rest) (place_name (place.Local k)) ≡ named rest (place_name (place.Local k))
+slots_skipped : (n k : ℕ) (ss : List SlotTree) (rest : List (List ℕ × TypeTree)) → n + length ss ≤ 2 ^ 64 → k < 2 ^ 64
+    → named (slot_rows n ss ++ rest) (place_name (place.Local k)) ≡ named rest (place_name (place.Local k))
 slots_skipped n k [] rest le lt = refl
 slots_skipped n k (s ∷ ss) rest le lt =
     if_other (bytes_eq (place_name (place.Local k)) (place_name (place.Slot n))) (Some s.ty) _ (kinds_differ k n lt (omega (arith, le))) ∙ slots_skipped (suc n) k ss rest (omega (arith, le)) lt
@@ -102,7 +105,8 @@ slots_skipped n k (s ∷ ss) rest le lt =
 local_found : (n k : ℕ) (ts : List TypeTree) (t : TypeTree) → n + length ts ≤ 2 ^ 64 → k < length ts → slice_get ts k ≡ Some t → named (local_rows n ts) (place_name (place.Local (n + k))) ≡ Some t
 local_found n k [] t le lt e = absurd (none_some e)
 local_found n zero (s ∷ ts) t le lt e =
-    if_same (bytes_eq (place_name (place.Local (n + 0))) (place_name (place.Local n))) (Some s) _ (ap (λ m. bytes_eq (place_name (place.Local m)) (place_name (place.Local n))) plus_zero ∙ bytes_self (place_name (place.Local n))) ∙ e
+    if_same (bytes_eq (place_name (place.Local (n + 0))) (place_name (place.Local n))) (Some s) _
+    (ap (λ m. bytes_eq (place_name (place.Local m)) (place_name (place.Local n))) plus_zero ∙ bytes_self (place_name (place.Local n))) ∙ e
   where
     plus_zero : n + 0 ≡ n
     plus_zero = omega arith
@@ -159,7 +163,8 @@ module _ (base : Setting) (ns : Names) (c : ClassTree) (few_slots : length c.slo
   abbrev vars_of_class : List (List ℕ × TypeTree)
   vars_of_class = class_vars base c
 
-  by_slot : (n : ℕ) (t : TypeTree) (o : Option SlotTree) → slice_get c.slots n ≡ o → option_map (λ (s : SlotTree). s.ty) o ≡ Some t → n < length c.slots → named vars_of_class (place_name (place.Slot n)) ≡ Some t
+  by_slot : (n : ℕ) (t : TypeTree) (o : Option SlotTree) → slice_get c.slots n ≡ o → option_map (λ (s : SlotTree). s.ty) o ≡ Some t → n < length c.slots
+      → named vars_of_class (place_name (place.Slot n)) ≡ Some t
   by_slot n t None e h lt = absurd (none_some h)
   by_slot n t (Some s) e h lt =
       ap (λ m. named vars_of_class (place_name (place.Slot m))) zero_plus ∙ slot_found 0 n c.slots s (local_rows 0 c.locals) (omega (arith, few_slots)) lt e ∙ h
@@ -203,7 +208,8 @@ module _ (base : Setting) (ns : Names) (c : ClassTree) (few_slots : length c.slo
   grows_declared s later i (place.Local n) d = subst (λ z. Grows s z i.name.name (place.Local n)) (sym d.2) (grows_local s i.name.name n)
 
   -- what is in force with one more variable
-  sees_grown : (vs : List (List ℕ × TypeTree)) (s later : Scope) (x : List ℕ) (t : TypeTree) (to : Slotted) → Sees base c vs s → New vs x → Grows s later x to → type_at c to ≡ Some t → place_named (place_name to) ≡ Some to
+  sees_grown : (vs : List (List ℕ × TypeTree)) (s later : Scope) (x : List ℕ) (t : TypeTree) (to : Slotted) → Sees base c vs s → New vs x → Grows s later x to → type_at c to ≡ Some t
+      → place_named (place_name to) ≡ Some to
       → Sees base c (vs ++ (x, t) ∷ []) later
   sees_grown vs s later x t to sees new grows type read y u e = by_found (named vs y) refl (sym (named_append vs ((x, t) ∷ []) y) ∙ e)
     where
@@ -232,10 +238,12 @@ module _ (base : Setting) (ns : Names) (c : ClassTree) (few_slots : length c.slo
           record { to = p.to; is = grows.others y (old_name v is) ∙ p.is; typed = p.typed; plain = p.plain; variable = p.variable }
       by_found None is k = this_name (bytes_eq y x) refl k
 
-  pub sees_into : (vs : List (List ℕ × TypeTree)) (s : Scope) (l : ℕ) (i : IntoTree) → Sees base c vs s → New vs i.name.name → Placing ns c few_slots few_locals s l i → Sees base c (vs ++ (i.name.name, i.ty) ∷ []) (with_into i l s)
+  pub sees_into : (vs : List (List ℕ × TypeTree)) (s : Scope) (l : ℕ) (i : IntoTree) → Sees base c vs s → New vs i.name.name → Placing ns c few_slots few_locals s l i
+      → Sees base c (vs ++ (i.name.name, i.ty) ∷ []) (with_into i l s)
   sees_into vs s l i sees new p = sees_grown vs s (with_into i l s) i.name.name i.ty p.to sees new (grows_declared s (with_into i l s) i p.to p.declared) p.type p.named
 
-  pub sees_error : (vs : List (List ℕ × TypeTree)) (s : Scope) (l : ℕ) (x : List ℕ) → Sees base c vs s → New vs x → type_at c (place.Local l) ≡ Some ErrorType → Sees base c (vs ++ (x, ErrorType) ∷ []) (Var x l ∷ s)
+  pub sees_error : (vs : List (List ℕ × TypeTree)) (s : Scope) (l : ℕ) (x : List ℕ) → Sees base c vs s → New vs x → type_at c (place.Local l) ≡ Some ErrorType
+      → Sees base c (vs ++ (x, ErrorType) ∷ []) (Var x l ∷ s)
   sees_error vs s l x sees new type =
       let lt = there_within c.locals l (ap (λ (o : Option TypeTree). is_there o) type) in
       sees_grown vs s (Var x l ∷ s) x ErrorType (place.Local l) sees new (grows_local s x l) type (local_named l (omega (arith, lt, few_locals)))
@@ -257,16 +265,30 @@ module _ (base : Setting) (ns : Names) (c : ClassTree) (few_slots : length c.slo
       plus_suc : (n : ℕ) → k + 1 + n ≡ k + suc n
       plus_suc n = omega arith
 
-      by_name : (b : Bool) → bytes_eq x p.name.name ≡ b → (if b then Some p.ty else named (map field_row ps) x) ≡ Some t → (named (map field_row ps) x ≡ Some t → FirstSlot x t (k + 1) (length ps) (map param_slot ps ++ ss))
+      by_name : (b : Bool) → bytes_eq x p.name.name ≡ b → (if b then Some p.ty else named (map field_row ps) x) ≡ Some t
+          → (named (map field_row ps) x ≡ Some t → FirstSlot x t (k + 1) (length ps) (map param_slot ps ++ ss))
           → FirstSlot x t k (suc (length ps)) (param_slot p ∷ (map param_slot ps ++ ss))
-      by_name true h q f = record { at = 0; low = omega arith; is = ap (λ b. cond b (Some k) (position_from (λ (s : SlotTree). bytes_eq x s.name) (k + 1) (map param_slot ps ++ ss))) h ∙ ap Some plus_zero; typed = q }
+      by_name true h q f = record {
+        at = 0;
+        low = omega arith;
+        is = ap (λ b. cond b (Some k) (position_from (λ (s : SlotTree). bytes_eq x s.name) (k + 1) (map param_slot ps ++ ss))) h
+            ∙ ap Some plus_zero;
+        typed = q;
+      }
       by_name false h q f =
           let r = f q in
-          record { at = suc r.at; low = (let l = r.low in omega (arith, l)); is = ap (λ b. cond b (Some k) (position_from (λ (s : SlotTree). bytes_eq x s.name) (k + 1) (map param_slot ps ++ ss))) h ∙ r.is ∙ ap Some (plus_suc r.at); typed = r.typed }
+          record {
+            at = suc r.at;
+            low = (let l = r.low in omega (arith, l));
+            is = ap (λ b. cond b (Some k) (position_from (λ (s : SlotTree). bytes_eq x s.name) (k + 1) (map param_slot ps ++ ss))) h ∙ r.is ∙ ap Some (plus_suc r.at);
+            typed = r.typed;
+          }
 
-  params_plain : (s : Setting) (taken : List ℕ → Bool) (ps : List ParamTree) (x : List ℕ) (t : TypeTree) → params_fault s taken ps ≡ None → named (map field_row ps) x ≡ Some t → named constant_names x ≡ None
+  params_plain : (s : Setting) (taken : List ℕ → Bool) (ps : List ParamTree) (x : List ℕ) (t : TypeTree) → params_fault s taken ps ≡ None → named (map field_row ps) x ≡ Some t
+      → named constant_names x ≡ None
   params_plain s taken [] x t h e = absurd (none_some e)
-  params_plain s taken (p ∷ ps) x t h e = by_name (bytes_eq x p.name.name) refl e (params_plain s (with_name p.name.name taken) ps x t (no_second (param_fault s taken p) (params_fault s (with_name p.name.name taken) ps) h))
+  params_plain s taken (p ∷ ps) x t h e = by_name (bytes_eq x p.name.name) refl e
+      (params_plain s (with_name p.name.name taken) ps x t (no_second (param_fault s taken p) (params_fault s (with_name p.name.name taken) ps) h))
     where
       own : named constant_names p.name.name ≡ None
       own =
@@ -274,7 +296,8 @@ module _ (base : Setting) (ns : Names) (c : ClassTree) (few_slots : length c.slo
           let n = not_true (taken p.name.name || is_predefined p.name.name || is_there (s.known p.name.name)) (holds _ TWICE f) in
           plain_of p.name.name (neither_right (taken p.name.name) (is_predefined p.name.name) (neither_left (taken p.name.name || is_predefined p.name.name) (is_there (s.known p.name.name)) n))
 
-      by_name : (b : Bool) → bytes_eq x p.name.name ≡ b → (if b then Some p.ty else named (map field_row ps) x) ≡ Some t → (named (map field_row ps) x ≡ Some t → named constant_names x ≡ None) → named constant_names x ≡ None
+      by_name : (b : Bool) → bytes_eq x p.name.name ≡ b → (if b then Some p.ty else named (map field_row ps) x) ≡ Some t → (named (map field_row ps) x ≡ Some t → named constant_names x ≡ None)
+          → named constant_names x ≡ None
       by_name true h k f = ap (named constant_names) (bytes_same x p.name.name h) ∙ own
       by_name false h k f = f k
 
@@ -285,7 +308,8 @@ module _ (base : Setting) (ns : Names) (c : ClassTree) (few_slots : length c.slo
       let to = place.Slot f.at in
       let typed : type_at c to ≡ Some t = ap (λ l. option_map (λ (u : SlotTree). u.ty) (slice_get l f.at)) same ∙ f.typed in
       let within = there_within c.slots f.at (typed_there (λ (u : SlotTree). u.ty) (slice_get c.slots f.at) t typed) in
-      let at : position (λ (u : SlotTree). bytes_eq x u.name) c.slots ≡ Some f.at = ap (position (λ (u : SlotTree). bytes_eq x u.name)) same ∙ position_from-zero (λ (u : SlotTree). bytes_eq x u.name) (map param_slot ps ++ ss) ∙ f.is ∙ ap Some zero_plus in
+      let at : position (λ (u : SlotTree). bytes_eq x u.name) c.slots ≡ Some f.at =
+      ap (position (λ (u : SlotTree). bytes_eq x u.name)) same ∙ position_from-zero (λ (u : SlotTree). bytes_eq x u.name) (map param_slot ps ++ ss) ∙ f.is ∙ ap Some zero_plus in
       record {
         to = to;
         is = ap slot_place at;
@@ -308,5 +332,6 @@ module _ (base : Setting) (ns : Names) (c : ClassTree) (few_slots : length c.slo
       let to = place.Slot f.at in
       let typed : type_at c to ≡ Some t = ap (λ l. option_map (λ (u : SlotTree). u.ty) (slice_get l f.at)) same ∙ f.typed in
       let within = there_within c.slots f.at (typed_there (λ (u : SlotTree). u.ty) (slice_get c.slots f.at) t typed) in
-      let at : position (λ (u : SlotTree). bytes_eq x u.name) c.slots ≡ Some f.at = ap (position (λ (u : SlotTree). bytes_eq x u.name)) same ∙ position_from-zero (λ (u : SlotTree). bytes_eq x u.name) (map param_slot ps ++ ss) ∙ f.is ∙ ap Some zero_plus in
+      let at : position (λ (u : SlotTree). bytes_eq x u.name) c.slots ≡ Some f.at =
+      ap (position (λ (u : SlotTree). bytes_eq x u.name)) same ∙ position_from-zero (λ (u : SlotTree). bytes_eq x u.name) (map param_slot ps ++ ss) ∙ f.is ∙ ap Some zero_plus in
       record { at = f.at; low = f.low; is = ap slot_place at; read = slot_named f.at (omega (arith, within, few_slots)) }

@@ -143,7 +143,8 @@ changes s old o DownChange f h k =
       suits = difference_suits o (Some IntType) y;
     }
 
-module _ (base : Setting) (ns : Names) (c : ClassTree) (agree : (f : List ℕ) → is_there (effectful ns f) ≡ calls_effect (called base f)) (vs : List (List ℕ × TypeTree)) (s : Scope) (sees : Sees base c vs s) where
+module _ (base : Setting) (ns : Names) (c : ClassTree) (agree : (f : List ℕ) → is_there (effectful ns f) ≡ calls_effect (called base f)) (vs : List (List ℕ × TypeTree)) (s : Scope)
+    (sees : Sees base c vs s) where
   abbrev names : Setting
   names = over_names base c vs
 
@@ -170,7 +171,8 @@ module _ (base : Setting) (ns : Names) (c : ClassTree) (agree : (f : List ℕ) �
   effect_over _ = refl
 
   -- what is put at a path, by whether it is an effect
-  put_by : (path : List Ident) (e : ExprTree) → fault names true e ≡ None → ((effect : Bool) → fault names effect e ≡ None → put_fault places effect path (over c.slots s e) ≡ None) → instr_fits c places (assigned ns c.slots s path e) ≡ true
+  put_by : (path : List Ident) (e : ExprTree) → fault names true e ≡ None → ((effect : Bool) → fault names effect e ≡ None → put_fault places effect path (over c.slots s e) ≡ None)
+      → instr_fits c places (assigned ns c.slots s path e) ≡ true
   put_by path e h put = by_kind (is_there (effect_in ns e)) refl
     where
       by_kind : (b : Bool) → is_there (effect_in ns e) ≡ b → instr_fits c places (assign_by ns c.slots b path (over c.slots s e)) ≡ true
@@ -205,7 +207,8 @@ module _ (base : Setting) (ns : Names) (c : ClassTree) (agree : (f : List ℕ) �
       (put_by (path_over c.slots s (x ∷ xs)) e (whole_fault d old.sound new.sound)
       (λ effect q. put_same base c vs s sees effect (x ∷ xs) e (no_lesser (lesser t (fault names effect e)) (fits_target (form names e) o) (no_lesser t (fault names effect e) a q) new.suits)))
     where
-      whole_fault : (d : ChangeTree) → fault names false (path_from (VarExpr x) xs) ≡ None → fault names false (modified d (path_from (VarExpr x) xs)) ≡ None → fault names true (modified d (path_from (VarExpr x) xs)) ≡ None
+      whole_fault : (d : ChangeTree) → fault names false (path_from (VarExpr x) xs) ≡ None → fault names false (modified d (path_from (VarExpr x) xs)) ≡ None
+          → fault names true (modified d (path_from (VarExpr x) xs)) ≡ None
       whole_fault (PlusChange e) k h = h
       whole_fault (MinusChange e) k h = h
       whole_fault UpChange k h = h
@@ -227,16 +230,20 @@ module _ (base : Setting) (ns : Names) (c : ClassTree) (agree : (f : List ℕ) �
   own_form : (o : Option Slotted) (t : TypeTree) (x : Ident) → IsAt o t → named (class_vars base c) (ident_at o x).name ≡ Some t
   own_form o t x p = ap (λ q. named (class_vars base c) (var_over q)) p.is ∙ p.variable
 
-  put_own : (effect : Bool) (o : Option Slotted) (t : TypeTree) (x : Ident) (e : ExprTree) → IsAt o t → fault places effect e ≡ None → wants (form places e) t ≡ None → put_fault places effect (ident_at o x ∷ []) e ≡ None
+  put_own : (effect : Bool) (o : Option Slotted) (t : TypeTree) (x : Ident) (e : ExprTree) → IsAt o t → fault places effect e ≡ None → wants (form places e) t ≡ None
+      → put_fault places effect (ident_at o x ∷ []) e ≡ None
   put_own effect o t x e p h w =
       let own = own_form o t x p in
       no_lesser (lesser (target_fault places (ident_at o x ∷ [])) (fault places effect e)) _
       (no_lesser (target_fault places (ident_at o x ∷ [])) (fault places effect e) (ap (λ q. lesser (unless (is_there q) UNKNOWN_NAME) None) own) h) (ap (λ q. fits_target (form places e) q) own ∙ w)
 
   literal_fits : (t : TypeTree) (i : IntoTree) (o : Option Slotted) → has_default t ≡ true → IsAt o t → InstrsFit (first_at i o (first_value t))
-  literal_fits IntType i o h p = one_fits (SetInstr (ident_at o i.name ∷ []) (IntExpr (pos 0))) (none_is (put_fault places false (ident_at o i.name ∷ []) (IntExpr (pos 0))) (put_own false o IntType i.name (IntExpr (pos 0)) p refl refl))
-  literal_fits BoolType i o h p = one_fits (SetInstr (ident_at o i.name ∷ []) (BoolExpr false)) (none_is (put_fault places false (ident_at o i.name ∷ []) (BoolExpr false)) (put_own false o BoolType i.name (BoolExpr false) p refl refl))
-  literal_fits StringType i o h p = one_fits (SetInstr (ident_at o i.name ∷ []) (TextExpr [])) (none_is (put_fault places false (ident_at o i.name ∷ []) (TextExpr [])) (put_own false o StringType i.name (TextExpr []) p refl refl))
+  literal_fits IntType i o h p = one_fits (SetInstr (ident_at o i.name ∷ []) (IntExpr (pos 0)))
+      (none_is (put_fault places false (ident_at o i.name ∷ []) (IntExpr (pos 0))) (put_own false o IntType i.name (IntExpr (pos 0)) p refl refl))
+  literal_fits BoolType i o h p = one_fits (SetInstr (ident_at o i.name ∷ []) (BoolExpr false))
+      (none_is (put_fault places false (ident_at o i.name ∷ []) (BoolExpr false)) (put_own false o BoolType i.name (BoolExpr false) p refl refl))
+  literal_fits StringType i o h p = one_fits (SetInstr (ident_at o i.name ∷ []) (TextExpr []))
+      (none_is (put_fault places false (ident_at o i.name ∷ []) (TextExpr [])) (put_own false o StringType i.name (TextExpr []) p refl refl))
   literal_fits (PromiseType t) i o h p = subst (λ q. InstrsFit (new_at q)) (sym p.is) (one_fits (NewInstr p.to) (ap is_promise p.typed))
   literal_fits (PromiseStreamType t) i o h p = subst (λ q. InstrsFit (new_at q)) (sym p.is) (one_fits (NewInstr p.to) (ap is_promise p.typed))
   literal_fits t i o h p = cc
@@ -258,12 +265,14 @@ module _ (base : Setting) (ns : Names) (c : ClassTree) (agree : (f : List ℕ) �
   pub record Caught (caught : Bool) (o : Option (List ℕ)) : Type 0 where
     pub known : caught ≡ true → (x : List ℕ) × (o ≡ Some x) × (named vs x ≡ Some ErrorType)
 
-  pub throw_fits : (at : Place) (v : Option ExprTree) (caught : Bool) (o : Option (List ℕ)) → Caught caught o → throw_fault names caught v ≡ None → last_fits c places (ThrowLast (thrown ns c.slots s at v o)) ≡ true
+  pub throw_fits : (at : Place) (v : Option ExprTree) (caught : Bool) (o : Option (List ℕ)) → Caught caught o → throw_fault names caught v ≡ None
+      → last_fits c places (ThrowLast (thrown ns c.slots s at v o)) ≡ true
   throw_fits at (Some v) caught o k h = type_fits false v ErrorType h
   throw_fits at None caught o k h =
       let q = k.known (holds caught _ h) in
       let p = sees q.0 ErrorType q.2 in
-      let e : variable_form places (var_over (option_and_then (place_of c.slots s) o)) ≡ Some ErrorType = ap (λ z. variable_form places (var_over (option_and_then (place_of c.slots s) z))) q.1 ∙ place_form base c vs s sees q.0 ErrorType p in
+      let e : variable_form places (var_over (option_and_then (place_of c.slots s) o)) ≡ Some ErrorType =
+      ap (λ z. variable_form places (var_over (option_and_then (place_of c.slots s) z))) q.1 ∙ place_form base c vs s sees q.0 ErrorType p in
       none_is (wanted places false (thrown ns c.slots s at None o) ErrorType) (ap (λ z. lesser (unless (is_there z) UNKNOWN_NAME) (wants z ErrorType)) e)
 
   -- a callback
@@ -288,7 +297,8 @@ module _ (base : Setting) (ns : Names) (c : ClassTree) (agree : (f : List ℕ) �
       ap (λ q. operand_fits c places (record { next = next; operand = over c.slots s e; into = o; block = 0 }) q) (ap (taken_type c places) k.is ∙ k.typed)
       ∙ type_fits true e (operand_type next i.ty) (ap (λ t. wanted names true e t) (waits_type next i) ∙ h)
 
-  pub callback_suits : (w : WaitTree) (l b : ℕ) → IsTaken w.into (taken_in ns c.slots w.into l s) → wanted names true w.operand (wait_type w.next w.into) ≡ None → callback_fits c places (callback ns c.slots s w l b) ≡ true
+  pub callback_suits : (w : WaitTree) (l b : ℕ) → IsTaken w.into (taken_in ns c.slots w.into l s) → wanted names true w.operand (wait_type w.next w.into) ≡ None
+      → callback_fits c places (callback ns c.slots s w l b) ≡ true
   callback_suits w l b k h = taken_as (taken_in ns c.slots w.into l s) w.next w.operand w.into k h
 
   -- the end of a text throws an error

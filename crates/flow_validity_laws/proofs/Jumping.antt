@@ -49,7 +49,8 @@ use Rattle.flow_split.proofs.Lengths.{none_behind}
 use Rattle.flow_validity_laws.proofs.Grounds.{no_aim, lies_nowhere}
 use Rattle.flow_validity_laws.proofs.Alive.{Rows, Thrown, thrown_marked, Outer, Lives, rest_lives}
 
-module _ (base : Setting) (ns : Names) (c : ClassTree) (few_slots : length c.slots < 2 ^ 64) (few_locals : length c.locals < 2 ^ 64) (agree : (f : List ℕ) → is_there (effectful ns f) ≡ calls_effect (called base f)) where
+module _ (base : Setting) (ns : Names) (c : ClassTree) (few_slots : length c.slots < 2 ^ 64) (few_locals : length c.locals < 2 ^ 64)
+    (agree : (f : List ℕ) → is_there (effectful ns f) ≡ calls_effect (called base f)) where
   abbrev pub Alives : Body → Type 0
   Alives b = Lives base ns c few_slots few_locals agree b
 
@@ -57,11 +58,13 @@ module _ (base : Setting) (ns : Names) (c : ClassTree) (few_slots : length c.slo
   Owed l w a p v e = Outer base ns c few_slots few_locals agree l w a p v e
 
   -- a statement that nothing goes on from
-  dead_live : (b : Bool) (x : Body) (h : Option Hand) (a : Aim) (gs : List Slotted) (st : ℕ) (outer : Entries c → Type 0) (n m z g : ℕ) (one d : Chunk) → has_statement x ≡ b → Live c h a gs st outer n m g g one → length d.more ≡ z → length d.groups ≡ groups_in x
+  dead_live : (b : Bool) (x : Body) (h : Option Hand) (a : Aim) (gs : List Slotted) (st : ℕ) (outer : Entries c → Type 0) (n m z g : ℕ) (one d : Chunk) → has_statement x ≡ b
+      → Live c h a gs st outer n m g g one → length d.more ≡ z → length d.groups ≡ groups_in x
       → Live c h a gs st outer n (m + (if b then suc z else 0)) g (g + groups_in x) (if b then joined h one d else one)
   dead_live true x h a gs st outer n m z g one d e v size gsize =
       live_to base ns c few_slots few_locals h a gs st outer n (suc m + z) (m + suc z) g (g + groups_in x) (g + groups_in x) (joined h one d) (omega arith) refl
-      (join c h h a gs st outer outer outer n m (suc m + z) g g (g + groups_in x) one d v (later_dead c h outer m (suc m + z) g (g + groups_in x) d (ap (λ k. suc m + k) size) (ap (λ k. g + k) gsize)) (λ en o is. o) (λ en o is. o))
+      (join c h h a gs st outer outer outer n m (suc m + z) g g (g + groups_in x) one d v (later_dead c h outer m (suc m + z) g (g + groups_in x) d (ap (λ k. suc m + k) size) (ap (λ k. g + k) gsize))
+      (λ en o is. o) (λ en o is. o))
   dead_live false x h a gs st outer n m z g one d e v size gsize =
       live_to base ns c few_slots few_locals h a gs st outer n m (m + 0) g g (g + groups_in x) one (omega arith) (omega (arith, none_behind x e)) v
 
@@ -80,11 +83,14 @@ module _ (base : Setting) (ns : Names) (c : ClassTree) (few_slots : length c.slo
         catches c en w.hand a.hand kc p.stale z g.hand.below guard (covers_sub z gs a.hand.places p.stale g.hand.sub cover),
         tt,
       )) in
-      dead_live (has_statement x) x w.hand a.hand gs p.stale near n.block n.block (blocks_in w.looped.tried x) n.group (ends w s true [] (ReturnLast (over c.slots s q))) d refl one (lowered_more ns c.slots s w (begun n) x) (lowered_groups ns c.slots s w (begun n) x)
+      dead_live (has_statement x) x w.hand a.hand gs p.stale near n.block n.block (blocks_in w.looped.tried x) n.group (ends w s true [] (ReturnLast (over c.slots s q))) d refl one
+      (lowered_more ns c.slots s w (begun n) x) (lowered_groups ns c.slots s w (begun n) x)
 
   -- the error that is thrown
-  thrown_in : (rows : Rows base ns c few_slots few_locals agree) (vs : List Variable) (gs : List Slotted) (s : Scope) (m : ℕ) (p : Point) (o : Option (List ℕ)) (cu : Option Caught) (caught : Bool) (z : Places) (at : Place) (q : Option ExprTree) → Sees base c rows s → Lined base c vs gs rows s m → p.from ≡ 0
-      → Covers z gs p.stale → Thrown base ns c few_slots few_locals agree rows gs s cu o caught → throw_fault (over_names base c rows) caught q ≡ None → AllFresh (thrown_uses p cu at q vs) → AllIn (expr_places (thrown ns c.slots s at q o)) z
+  thrown_in : (rows : Rows base ns c few_slots few_locals agree) (vs : List Variable) (gs : List Slotted) (s : Scope) (m : ℕ) (p : Point) (o : Option (List ℕ)) (cu : Option Caught) (caught : Bool)
+      (z : Places) (at : Place) (q : Option ExprTree) → Sees base c rows s → Lined base c vs gs rows s m → p.from ≡ 0
+      → Covers z gs p.stale → Thrown base ns c few_slots few_locals agree rows gs s cu o caught → throw_fault (over_names base c rows) caught q ≡ None → AllFresh (thrown_uses p cu at q vs)
+      → AllIn (expr_places (thrown ns c.slots s at q o)) z
   thrown_in rows vs gs s m p o cu caught z at (Some q) sees line start cover th f fresh =
       let names = over_names base c rows in
       whole_in base ns c rows s sees vs gs m line p start z cover false q (no_first (fault names false q) (wants (form names q) ErrorType) f) fresh
@@ -109,16 +115,19 @@ module _ (base : Setting) (ns : Names) (c : ClassTree) (few_slots : length c.slo
         catches c en w.hand a.hand kc p.stale z g.hand.below guard (covers_sub z gs a.hand.places p.stale g.hand.sub cover),
         tt,
       )) in
-      dead_live (has_statement x) x w.hand a.hand gs p.stale near n.block n.block (blocks_in w.looped.tried x) n.group (ends w s true [] last) d refl one (lowered_more ns c.slots s w (begun n) x) (lowered_groups ns c.slots s w (begun n) x)
+      dead_live (has_statement x) x w.hand a.hand gs p.stale near n.block n.block (blocks_in w.looped.tried x) n.group (ends w s true [] last) d refl one (lowered_more ns c.slots s w (begun n) x)
+      (lowered_groups ns c.slots s w (begun n) x)
 
   -- a break or a continue
-  exits_live : (b : Bool) (l : Bool) (rows : Rows base ns c few_slots few_locals agree) (vs : List Variable) (gs : List Slotted) (s : Scope) (w : Around) (n : Next) (p : Point) (a : Aims) (aim : Aim) (last : LastTree) (near : Entries c → Type 0) → w.looped.tried ≡ b
+  exits_live : (b : Bool) (l : Bool) (rows : Rows base ns c few_slots few_locals agree) (vs : List Variable) (gs : List Slotted) (s : Scope) (w : Around) (n : Next) (p : Point) (a : Aims) (aim : Aim)
+      (last : LastTree) (near : Entries c → Type 0) → w.looped.tried ≡ b
       → Ground base ns c few_slots few_locals w s n.local rows vs gs p a → Lies aim gs (inner_locals w.looped.depth s) n.local → ((e : Entries c) → near e → LastWay c e last aim p at_once)
       → Live c w.hand a.hand gs p.stale near n.block (n.block + exit_blocks b) n.group n.group (exits b w s n last)
   exits_live false l rows vs gs s w n p a aim last near e g lies way =
       live_to base ns c few_slots few_locals w.hand a.hand gs p.stale near n.block n.block (n.block + 0) n.group n.group n.group (exits false w s n last) (omega arith) refl
       (leaf base ns c few_slots few_locals w s gs p a near n.block n.group false (map DropInstr (left_lists w.looped.depth s)) last g.hand.from (λ z en o. absurd (false≢true z))
-      (λ en o kc z cover guard. lists_kept c en w.hand a.hand kc (left_lists w.looped.depth s) last aim p at_once z refl (way en o) lies.below g.hand.below (lists_from aim.from w.looped.depth s lies.from) (lists_from a.hand.from w.looped.depth s (g.looped e))
+      (λ en o kc z cover guard. lists_kept c en w.hand a.hand kc (left_lists w.looped.depth s) last aim p at_once z refl (way en o) lies.below g.hand.below
+      (lists_from aim.from w.looped.depth s lies.from) (lists_from a.hand.from w.looped.depth s (g.looped e))
       (covers_sub z gs aim.places p.stale lies.sub cover) (covers_sub z gs a.hand.places p.stale g.hand.sub cover) guard))
   exits_live true l rows vs gs s w n p a aim last near e g lies way =
       let nowhere = lies_nowhere gs (inner_locals w.looped.depth s) n.local in
@@ -135,7 +144,8 @@ module _ (base : Setting) (ns : Names) (c : ClassTree) (few_slots : length c.slo
             enters c en z n.block gs gs p.stale p.stale cover at.0 (λ j q k. k) (inr (omega arith)),
           );
           more = (
-            lists_kept c en None no_aim None (left_lists w.looped.depth s) last aim p at_once (among (filled gs p.stale)) refl (way en o) lies.below nowhere.below (lists_from aim.from w.looped.depth s lies.from) (lists_from 0 w.looped.depth s nowhere.from)
+            lists_kept c en None no_aim None (left_lists w.looped.depth s) last aim p at_once (among (filled gs p.stale)) refl (way en o) lies.below nowhere.below
+                (lists_from aim.from w.looped.depth s lies.from) (lists_from 0 w.looped.depth s nowhere.from)
                 (covers_sub (among (filled gs p.stale)) gs aim.places p.stale lies.sub (covers_filled gs p.stale)) (λ q h. absurd h.1) tt,
             tt,
           );
@@ -146,7 +156,8 @@ module _ (base : Setting) (ns : Names) (c : ClassTree) (few_slots : length c.slo
   exited_block true n = omega arith
   exited_block false n = omega arith
 
-  leave_lives : (x : Body) (l : Bool) (rows : Rows base ns c few_slots few_locals agree) (vs : List Variable) (gs : List Slotted) (s : Scope) (w : Around) (n : Next) (p : Point) (a : Aims) (aim : Aim) (last : LastTree) (near : Entries c → Type 0)
+  leave_lives : (x : Body) (l : Bool) (rows : Rows base ns c few_slots few_locals agree) (vs : List Variable) (gs : List Slotted) (s : Scope) (w : Around) (n : Next) (p : Point) (a : Aims) (aim : Aim)
+      (last : LastTree) (near : Entries c → Type 0)
       → Ground base ns c few_slots few_locals w s n.local rows vs gs p a → Lies aim gs (inner_locals w.looped.depth s) n.local → ((e : Entries c) → near e → LastWay c e last aim p at_once)
       → Live c w.hand a.hand gs p.stale near n.block (n.block + (exit_blocks w.looped.tried + count_behind x (blocks_in w.looped.tried x))) n.group (n.group + groups_in x)
       (before_rest w.hand (exits w.looped.tried w s n last) x (lowered ns c.slots s w (begun (exited w.looped.tried n)) x))
@@ -155,8 +166,10 @@ module _ (base : Setting) (ns : Names) (c : ClassTree) (few_slots : length c.slo
       let j = exited t n in
       let d = lowered ns c.slots s w (begun j) x in
       let z = blocks_in t x in
-      live_to base ns c few_slots few_locals w.hand a.hand gs p.stale near n.block (n.block + exit_blocks t + count_behind x z) (n.block + (exit_blocks t + count_behind x z)) n.group (n.group + groups_in x) (n.group + groups_in x) (before_rest w.hand (exits t w s n last) x d) (omega arith) refl
-      (dead_live (has_statement x) x w.hand a.hand gs p.stale near n.block (n.block + exit_blocks t) z n.group (exits t w s n last) d refl (exits_live t l rows vs gs s w n p a aim last near refl g lies way)
+      live_to base ns c few_slots few_locals w.hand a.hand gs p.stale near n.block (n.block + exit_blocks t + count_behind x z) (n.block + (exit_blocks t + count_behind x z)) n.group
+      (n.group + groups_in x) (n.group + groups_in x) (before_rest w.hand (exits t w s n last) x d) (omega arith) refl
+      (dead_live (has_statement x) x w.hand a.hand gs p.stale near n.block (n.block + exit_blocks t) z n.group (exits t w s n last) d refl
+      (exits_live t l rows vs gs s w n p a aim last near refl g lies way)
       (lowered_more ns c.slots s w (begun j) x) (lowered_groups ns c.slots s w (begun j) x))
 
   pub break_lives : (at : Place) (x : Body) → Alives (BreakStmt at x)
@@ -174,7 +187,8 @@ module _ (base : Setting) (ns : Names) (c : ClassTree) (few_slots : length c.slo
   abbrev pub ended : Aims → List Slotted → ℕ → ℕ → Aims
   ended a gs st m = record a { end = here_aim gs st m }
 
-  pub inner_owed : (en : Entries c) (l : Bool) (w : Around) (t m : ℕ) (a : Aims) (gs : List Slotted) (p : Point) (st : ℕ) (v : Ways) → (is_reached v.ends ≡ true → en t ≡ Some (filled gs st)) → Exits st (length gs) p.stale v.ends → Sides c en l w a p v
+  pub inner_owed : (en : Entries c) (l : Bool) (w : Around) (t m : ℕ) (a : Aims) (gs : List Slotted) (p : Point) (st : ℕ) (v : Ways) → (is_reached v.ends ≡ true → en t ≡ Some (filled gs st))
+      → Exits st (length gs) p.stale v.ends → Sides c en l w a p v
       → Owed l (scoped w t) (ended a gs st m) p v en
   inner_owed en l w t m a gs p st v is ex s = (record { reached = is; exits = ex }, record { out = s.out; again = s.again; hand = s.hand })
 
@@ -206,7 +220,8 @@ module _ (base : Setting) (ns : Names) (c : ClassTree) (few_slots : length c.slo
         placed = said.placed.0;
         judged = neither_first (body_refusal e b) _ said.judged;
       })
-      (ground_inner base ns c few_slots few_locals w (Scoped (GotoLast j.block)) s n.local n.local rows vs gs p p a st (omega arith) g.start g) (thrown_marked base ns c few_slots few_locals agree rows gs s cu w.caught e.caught th) (fresh_left us ws fresh)
+      (ground_inner base ns c few_slots few_locals w (Scoped (GotoLast j.block)) s n.local n.local rows vs gs p p a st (omega arith) g.start g)
+      (thrown_marked base ns c few_slots few_locals agree rows gs s cu w.caught e.caught th) (fresh_left us ws fresh)
       (omega (arith, many, sum)) in
       let r2 = rest_lives base ns c few_slots few_locals agree x rest l t (rule_behind e b) rows vs gs s w n j p q a cu k1 k2 u
       (record {
@@ -219,8 +234,11 @@ module _ (base : Setting) (ns : Names) (c : ClassTree) (few_slots : length c.slo
         judged = neither_second (body_refusal e b) _ said.judged;
       })
       g (omega arith) th (behind_once (length vs) p u) (waits_alone k b) (fresh_right us ws fresh) (omega (arith, many, sum)) in
-      live_to base ns c few_slots few_locals w.hand a.hand gs p.stale (Owed l w a p (sequence u v)) n.block (suc j.block + blocks_in w.looped.tried x) (n.block + (blocks_in w.looped.tried b + suc (blocks_in w.looped.tried x))) n.group (j.group + groups_in x)
+      live_to base ns c few_slots few_locals w.hand a.hand gs p.stale (Owed l w a p (sequence u v)) n.block (suc j.block + blocks_in w.looped.tried x)
+      (n.block + (blocks_in w.looped.tried b + suc (blocks_in w.looped.tried x))) n.group (j.group + groups_in x)
       (n.group + (groups_in b + groups_in x)) (joined w.hand c1 (lowered ns c.slots s w (begun j) x)) (omega arith) (omega arith)
-      (join c w.hand w.hand a.hand gs p.stale (Owed l w a p (sequence u v)) (Owed l (scoped w j.block) (ended a gs st n.local) p r) (Owed l w a p (sequence u v)) n.block j.block (suc j.block + blocks_in w.looped.tried x) n.group j.group (j.group + groups_in x) c1
+      (join c w.hand w.hand a.hand gs p.stale (Owed l w a p (sequence u v)) (Owed l (scoped w j.block) (ended a gs st n.local) p r) (Owed l w a p (sequence u v)) n.block j.block
+      (suc j.block + blocks_in w.looped.tried x) n.group j.group (j.group + groups_in x) c1
       (lowered ns c.slots s w (begun j) x) live r2.later
-      (λ en o is. inner_owed en l w j.block n.local a gs p st r (λ h. is ∙ r2.entry_is h) (exits_here base ns c few_slots few_locals vs gs p r.ends g.line.size) (sides_right c en l w a p (node at_once) r (sides_first c en l w a p u v o.1))) (λ en o is. o))
+      (λ en o is. inner_owed en l w j.block n.local a gs p st r (λ h. is ∙ r2.entry_is h) (exits_here base ns c few_slots few_locals vs gs p r.ends g.line.size)
+      (sides_right c en l w a p (node at_once) r (sides_first c en l w a p u v o.1))) (λ en o is. o))

@@ -92,7 +92,8 @@ filled_holds (g ∷ gs) st q e = by_kept (is_local g && nat_lt (length gs) st) r
     with_more : Holds gs st q → Holds (g ∷ gs) st q
     with_more h = (h.0, inr h.1, h.2)
 
-    by_kept : (b : Bool) → is_local g && nat_lt (length gs) st ≡ b → among (if b then filled gs st else g ∷ filled gs st) q ≡ true → (among (filled gs st) q ≡ true → Holds gs st q) → Holds (g ∷ gs) st q
+    by_kept : (b : Bool) → is_local g && nat_lt (length gs) st ≡ b → among (if b then filled gs st else g ∷ filled gs st) q ≡ true → (among (filled gs st) q ≡ true → Holds gs st q)
+        → Holds (g ∷ gs) st q
     by_kept true k e f = with_more (f e)
     by_kept false k e f = by_first (or_split (same_place q g) (among (filled gs st) q) e)
       where
@@ -132,7 +133,8 @@ covers_filled (g ∷ gs) st q h = by_kept (is_local g && nat_lt (length gs) st) 
         below : (n st : ℕ) → nat_lt n st ≡ true → st ≤ n → ⊥
         below n st e le = grind (arith, e)
 
-    by_kept : (b : Bool) → is_local g && nat_lt (length gs) st ≡ b → ((h.0 ≡ length gs) × (g ≡ q)) ⊎ Has gs h.0 q → (Has gs h.0 q → among (filled gs st) q ≡ true) → among (if b then filled gs st else g ∷ filled gs st) q ≡ true
+    by_kept : (b : Bool) → is_local g && nat_lt (length gs) st ≡ b → ((h.0 ≡ length gs) × (g ≡ q)) ⊎ Has gs h.0 q → (Has gs h.0 q → among (filled gs st) q ≡ true)
+        → among (if b then filled gs st else g ∷ filled gs st) q ≡ true
     by_kept true e (inl k) f = absurd (gone e k)
     by_kept true e (inr k) f = f k
     by_kept false e (inl k) f = ap (λ z. same_place z g || among (filled gs st) z) (sym k.1) ∙ ap (λ z. z || among (filled gs st) g) (same_self g)
@@ -213,8 +215,10 @@ module _ (base : Setting) (c : ClassTree) where
       less h = omega arith
 
   -- with one more variable
-  pub lined_more : (ns : Names) (few_slots : length c.slots < 2 ^ 64) (few_locals : length c.locals < 2 ^ 64) (vs : List Variable) (gs : List Slotted) (rows : List (List ℕ × TypeTree)) (s later : Scope) (l m : ℕ) (v : Variable) (t : TypeTree) (to : Slotted)
-      → Lined vs gs rows s l → New rows v.name → Grows base ns c few_slots few_locals s later v.name to → place_named (place_name to) ≡ Some to → is_local to ≡ is_there v.local → l ≤ m → ((k : ℕ) → to ≡ place.Local k → k < m)
+  pub lined_more : (ns : Names) (few_slots : length c.slots < 2 ^ 64) (few_locals : length c.locals < 2 ^ 64) (vs : List Variable) (gs : List Slotted) (rows : List (List ℕ × TypeTree))
+      (s later : Scope) (l m : ℕ) (v : Variable) (t : TypeTree) (to : Slotted)
+      → Lined vs gs rows s l → New rows v.name → Grows base ns c few_slots few_locals s later v.name to → place_named (place_name to) ≡ Some to → is_local to ≡ is_there v.local → l ≤ m
+      → ((k : ℕ) → to ≡ place.Local k → k < m)
       → Lined (v ∷ vs) (to ∷ gs) (rows ++ (v.name, t) ∷ []) later m
   lined_more ns few_slots few_locals vs gs rows s later l m v t to h new grows read kind le small = record {
     size = ap suc h.size;
@@ -311,11 +315,13 @@ module _ (base : Setting) (c : ClassTree) where
             let r = no_first (lesser (fault n false a) (fault n false b)) (operands op (form n a) (form n b)) f in
             let us = expr_uses vs p a in
             let ws = expr_uses vs p b in
-            in_both set (expr_places (over c.slots s a)) (expr_places (over c.slots s b)) (expr_in false a (no_first (fault n false a) (fault n false b) r) (fresh_left us ws h)) (expr_in false b (no_second (fault n false a) (fault n false b) r) (fresh_right us ws h))
+            in_both set (expr_places (over c.slots s a)) (expr_places (over c.slots s b)) (expr_in false a (no_first (fault n false a) (fault n false b) r) (fresh_left us ws h))
+            (expr_in false b (no_second (fault n false a) (fault n false b) r) (fresh_right us ws h))
         expr_in whole (ParenExpr e) f h = expr_in false e f h
         expr_in whole _ f h = in_none set
 
-        pub exprs_in : (k : ℕ) (needs : List Need) (es : ExprTrees) → faults (over_names base c rows) k needs es ≡ None → AllFresh (exprs_uses vs p es) → AllIn (exprs_places (over_all c.slots s es)) set
+        pub exprs_in : (k : ℕ) (needs : List Need) (es : ExprTrees) → faults (over_names base c rows) k needs es ≡ None → AllFresh (exprs_uses vs p es)
+            → AllIn (exprs_places (over_all c.slots s es)) set
         exprs_in k needs NoExprs f h = in_none set
         exprs_in k needs (MoreExprs e es) f h =
             let n = over_names base c rows in

@@ -13,7 +13,8 @@ use Rattle.flow_validity_laws.proofs.Waitings.{BranchesLive, wait_lives, no_bran
 use Rattle.flow_validity_laws.proofs.Handling.{try_lives}
 use Rattle.flow_validity_laws.proofs.Rounds.{for_lives}
 
-module _ (base : Setting) (ns : Names) (c : ClassTree) (few_slots : length c.slots < 2 ^ 64) (few_locals : length c.locals < 2 ^ 64) (agree : (f : List ℕ) → is_there (effectful ns f) ≡ calls_effect (called base f)) where
+module _ (base : Setting) (ns : Names) (c : ClassTree) (few_slots : length c.slots < 2 ^ 64) (few_locals : length c.locals < 2 ^ 64)
+    (agree : (f : List ℕ) → is_there (effectful ns f) ≡ calls_effect (called base f)) where
   -- one level up, as what is said of branches
   record LivesUp (b : Body) : Type 1 where
     lives : Lives base ns c few_slots few_locals agree b

@@ -88,7 +88,8 @@ module _ (base : Setting) (c : ClassTree) where
     calls_same es None may can e h = h
     calls_same es (Some k) may can e h = ap₂ (λ b f. lesser (unless b WRONG_COUNT) f) (as_many_same es k.needs) (e k.kind) ∙ h
 
-    calls_on_same : (o : Option TypeTree) (es : ExprTrees) (m : List ℕ) → calls_on o es (called_on o m) (placed (over_names vs) false) ≡ None → calls_on o (over_all c.slots s es) (called_on o m) (placed over_class false) ≡ None
+    calls_on_same : (o : Option TypeTree) (es : ExprTrees) (m : List ℕ) → calls_on o es (called_on o m) (placed (over_names vs) false) ≡ None
+        → calls_on o (over_all c.slots s es) (called_on o m) (placed over_class false) ≡ None
     calls_on_same None es m h = refl
     calls_on_same (Some t) es m h = calls_same es (called_on (Some t) m) (placed (over_names vs) false) (placed over_class false) (placed_same vs false) h
 
@@ -96,7 +97,8 @@ module _ (base : Setting) (c : ClassTree) where
     pub place_form : (x : List ℕ) (t : TypeTree) → Placed s x t → variable_form over_class (var_over (place_of c.slots s x)) ≡ Some t
     place_form x t p = ap (λ o. variable_form over_class (var_over o)) p.is ∙ ap (λ o. variable_as over_class (place_name p.to) o) p.variable ∙ p.typed
 
-    by_constant : (x : List ℕ) (o : Option ℕ) → named constant_names x ≡ o → is_there (variable_as (over_names vs) x o) ≡ true → variable_form over_class (name_over o (place_of c.slots s x) x) ≡ variable_as (over_names vs) x o
+    by_constant : (x : List ℕ) (o : Option ℕ) → named constant_names x ≡ o → is_there (variable_as (over_names vs) x o) ≡ true
+        → variable_form over_class (name_over o (place_of c.slots s x) x) ≡ variable_as (over_names vs) x o
     by_constant x (Some n) e h = ap (λ o. variable_as over_class x o) e
     by_constant x None e h = let f = there (named vs x) h in place_form x f.value (sees x f.value f.is) ∙ sym f.is
 
@@ -134,11 +136,13 @@ module _ (base : Setting) (c : ClassTree) where
           let i = same false e (no_first (fault (over_names vs) false e) (lesser l k) h) in
           let args = all_same 0 (needs_of (called_on t m.name)) es (no_first l k r) in
           let call = calls_on_same t es m.name (no_second l k r) in
-          let rest = no_lesser (faults over_class 0 (needs_of (called_on t m.name)) (over_all c.slots s es)) (calls_on t (over_all c.slots s es) (called_on t m.name) (placed over_class false)) args call in
+          let rest = no_lesser (faults over_class 0 (needs_of (called_on t m.name)) (over_all c.slots s es)) (calls_on t (over_all c.slots s es) (called_on t m.name) (placed over_class false)) args
+          call in
           record {
             by_form = ap (λ o. gives_of (called_on o m.name)) i.by_form;
             sound = no_lesser (fault over_class false (over c.slots s e)) _ i.sound
-                (subst (λ o. lesser (faults over_class 0 (needs_of (called_on o m.name)) (over_all c.slots s es)) (calls_on o (over_all c.slots s es) (called_on o m.name) (placed over_class false)) ≡ None) (sym i.by_form) rest);
+                (subst (λ o. lesser (faults over_class 0 (needs_of (called_on o m.name)) (over_all c.slots s es)) (calls_on o (over_all c.slots s es) (called_on o m.name) (placed over_class false))
+                ≡ None) (sym i.by_form) rest);
           }
       same whole (NotExpr e) h =
           let f = wants (form (over_names vs) e) BoolType in
@@ -191,7 +195,8 @@ module _ (base : Setting) (c : ClassTree) where
         let p = sees x.name f.value f.is in
         let e : named class_vars (var_over (place_of c.slots s x.name)) ≡ named vs x.name = ap (λ o. named class_vars (var_over o)) p.is ∙ p.typed ∙ sym f.is in
         record {
-          sound = ap (λ o. lesser (unless (is_there o) UNKNOWN_NAME) (path_fault over_class o xs)) e ∙ ap (λ q. lesser (unless (is_there (named vs x.name)) UNKNOWN_NAME) q) (path_fault_same vs xs (named vs x.name)) ∙ h;
+          sound = ap (λ o. lesser (unless (is_there o) UNKNOWN_NAME) (path_fault over_class o xs)) e
+              ∙ ap (λ q. lesser (unless (is_there (named vs x.name)) UNKNOWN_NAME) q) (path_fault_same vs xs (named vs x.name)) ∙ h;
           by_form = ap (λ o. path_form over_class o xs) e ∙ path_form_same vs xs (named vs x.name);
         }
 
@@ -207,7 +212,8 @@ module _ (base : Setting) (c : ClassTree) where
 
     -- calls as statements: a constant is no base of one
     no_base : (xs : List Ident) (es : ExprTrees) (m : List ℕ)
-        → lesser (path_fault (over_names vs) (Some IntType) xs) (lesser (faults (over_names vs) 0 (needs_of (called_on (path_form (over_names vs) (Some IntType) xs) m)) es) (calls es (called_on (path_form (over_names vs) (Some IntType) xs) m) (said (over_names vs)))) ≡ None
+        → lesser (path_fault (over_names vs) (Some IntType) xs) (lesser (faults (over_names vs) 0 (needs_of (called_on (path_form (over_names vs) (Some IntType) xs) m)) es)
+        (calls es (called_on (path_form (over_names vs) (Some IntType) xs) m) (said (over_names vs)))) ≡ None
         → ⊥
     no_base (x ∷ xs) es m h = some_none (no_first (Some UNKNOWN_NAME) (path_fault (over_names vs) None xs) (no_first (lesser (Some UNKNOWN_NAME) (path_fault (over_names vs) None xs)) _ h))
     no_base [] es m h = by_method (named method_names m) (no_second (faults (over_names vs) 0 (needs_of (called_on (Some IntType) m)) es) _ h)
@@ -219,14 +225,16 @@ module _ (base : Setting) (c : ClassTree) where
     -- a call behind a base of this type
     abbrev judged : Setting → List Ident → List ℕ → Option TypeTree → ExprTrees → Option ℕ
     judged st zs m t es =
-        lesser (lesser (unless (is_there t) UNKNOWN_NAME) (path_fault st t zs)) (lesser (faults st 0 (needs_of (called_on (path_form st t zs) m)) es) (calls es (called_on (path_form st t zs) m) (said st)))
+        lesser (lesser (unless (is_there t) UNKNOWN_NAME) (path_fault st t zs))
+        (lesser (faults st 0 (needs_of (called_on (path_form st t zs) m)) es) (calls es (called_on (path_form st t zs) m) (said st)))
 
     rest_same : (m : List ℕ) (es : ExprTrees) (t : Option TypeTree) → lesser (faults (over_names vs) 0 (needs_of (called_on t m)) es) (calls es (called_on t m) (said (over_names vs))) ≡ None
         → lesser (faults over_class 0 (needs_of (called_on t m)) (over_all c.slots s es)) (calls (over_all c.slots s es) (called_on t m) (said over_class)) ≡ None
     rest_same m es t k =
         let l = faults (over_names vs) 0 (needs_of (called_on t m)) es in
         let q = calls es (called_on t m) (said (over_names vs)) in
-        no_lesser (faults over_class 0 (needs_of (called_on t m)) (over_all c.slots s es)) _ (all_same 0 (needs_of (called_on t m)) es (no_first l q k)) (calls_same es (called_on t m) (said (over_names vs)) (said over_class) (said_same vs) (no_second l q k))
+        no_lesser (faults over_class 0 (needs_of (called_on t m)) (over_all c.slots s es)) _ (all_same 0 (needs_of (called_on t m)) es (no_first l q k))
+        (calls_same es (called_on t m) (said (over_names vs)) (said over_class) (said_same vs) (no_second l q k))
 
     judged_same : (zs : List Ident) (m : List ℕ) (es : ExprTrees) (t : Option TypeTree) → judged (over_names vs) zs m t es ≡ None → judged over_class zs m t (over_all c.slots s es) ≡ None
     judged_same zs m es t k =
@@ -234,15 +242,18 @@ module _ (base : Setting) (c : ClassTree) where
         let l = lesser (unless (is_there t) UNKNOWN_NAME) (path_fault (over_names vs) t zs) in
         let r = lesser (faults (over_names vs) 0 (needs_of (called_on u m)) es) (calls es (called_on u m) (said (over_names vs))) in
         no_lesser (lesser (unless (is_there t) UNKNOWN_NAME) (path_fault over_class t zs)) _ (ap (λ q. lesser (unless (is_there t) UNKNOWN_NAME) q) (path_fault_same vs zs t) ∙ no_first l r k)
-        (ap (λ q. lesser (faults over_class 0 (needs_of (called_on q m)) (over_all c.slots s es)) (calls (over_all c.slots s es) (called_on q m) (said over_class))) (path_form_same vs zs t) ∙ rest_same m es u (no_second l r k))
+        (ap (λ q. lesser (faults over_class 0 (needs_of (called_on q m)) (over_all c.slots s es)) (calls (over_all c.slots s es) (called_on q m) (said over_class))) (path_form_same vs zs t)
+        ∙ rest_same m es u (no_second l r k))
 
-    by_base : (zs : List Ident) (y : Ident) (m : List ℕ) (es : ExprTrees) (o : Option ℕ) → named constant_names y.name ≡ o → judged (over_names vs) zs m (variable_form (over_names vs) y.name) es ≡ None
+    by_base : (zs : List Ident) (y : Ident) (m : List ℕ) (es : ExprTrees) (o : Option ℕ) → named constant_names y.name ≡ o
+        → judged (over_names vs) zs m (variable_form (over_names vs) y.name) es ≡ None
         → judged over_class zs m (variable_form over_class (var_over (place_of c.slots s y.name))) (over_all c.slots s es) ≡ None
     by_base zs y m es (Some n) e h = absurd (no_base zs es m (subst (λ q. judged (over_names vs) zs m (variable_as (over_names vs) y.name q) es ≡ None) e h))
     by_base zs y m es None e h =
         let k = subst (λ q. judged (over_names vs) zs m (variable_as (over_names vs) y.name q) es ≡ None) e h in
         let known = unless (is_there (named vs y.name)) UNKNOWN_NAME in
-        let f = there (named vs y.name) (holds (is_there (named vs y.name)) UNKNOWN_NAME (no_first known (path_fault (over_names vs) (named vs y.name) zs) (no_first (lesser known (path_fault (over_names vs) (named vs y.name) zs)) _ k))) in
+        let f = there (named vs y.name) (holds (is_there (named vs y.name)) UNKNOWN_NAME
+        (no_first known (path_fault (over_names vs) (named vs y.name) zs) (no_first (lesser known (path_fault (over_names vs) (named vs y.name) zs)) _ k))) in
         subst (λ q. judged over_class zs m q (over_all c.slots s es) ≡ None) (sym (place_form y.name f.value (sees y.name f.value f.is) ∙ sym f.is)) (judged_same zs m es (named vs y.name) k)
 
     pub call_same : (xs : List Ident) (es : ExprTrees) → call_fault (over_names vs) xs es ≡ None → call_fault over_class (act_over c.slots s xs) (over_all c.slots s es) ≡ None
@@ -251,7 +262,8 @@ module _ (base : Setting) (c : ClassTree) where
         let o = called (over_names vs) f.name in
         let l = faults (over_names vs) 0 (needs_of o) es in
         let k = calls es o (said (over_names vs)) in
-        no_lesser (faults over_class 0 (needs_of o) (over_all c.slots s es)) _ (all_same 0 (needs_of o) es (no_first l k h)) (calls_same es o (said (over_names vs)) (said over_class) (said_same vs) (no_second l k h))
+        no_lesser (faults over_class 0 (needs_of o) (over_all c.slots s es)) _ (all_same 0 (needs_of o) es (no_first l k h))
+        (calls_same es o (said (over_names vs)) (said over_class) (said_same vs) (no_second l k h))
     call_same (x ∷ (y ∷ ys)) es h = by_base (ends_of y ys).0 x (ends_of y ys).1.name es (named constant_names x.name) refl h
 
     -- a statement call is on a variable in force
@@ -259,11 +271,13 @@ module _ (base : Setting) (c : ClassTree) where
     base_known x y ys es h = by_kind (named constant_names x.name) refl
       where
         by_kind : (o : Option ℕ) → named constant_names x.name ≡ o → is_there (named vs x.name) ≡ true
-        by_kind (Some n) e = absurd (no_base (ends_of y ys).0 es (ends_of y ys).1.name (subst (λ q. judged (over_names vs) (ends_of y ys).0 (ends_of y ys).1.name (variable_as (over_names vs) x.name q) es ≡ None) e h))
+        by_kind (Some n) e = absurd (no_base (ends_of y ys).0 es (ends_of y ys).1.name
+            (subst (λ q. judged (over_names vs) (ends_of y ys).0 (ends_of y ys).1.name (variable_as (over_names vs) x.name q) es ≡ None) e h))
         by_kind None e =
             let k = subst (λ q. judged (over_names vs) (ends_of y ys).0 (ends_of y ys).1.name (variable_as (over_names vs) x.name q) es ≡ None) e h in
             let known = unless (is_there (named vs x.name)) UNKNOWN_NAME in
-            holds (is_there (named vs x.name)) UNKNOWN_NAME (no_first known (path_fault (over_names vs) (named vs x.name) (ends_of y ys).0) (no_first (lesser known (path_fault (over_names vs) (named vs x.name) (ends_of y ys).0)) _ k))
+            holds (is_there (named vs x.name)) UNKNOWN_NAME (no_first known (path_fault (over_names vs) (named vs x.name) (ends_of y ys).0)
+            (no_first (lesser known (path_fault (over_names vs) (named vs x.name) (ends_of y ys).0)) _ k))
 
     -- what is no effect may stand where none may
     quiet_kind : (k : Kind) → is_effect_kind k ≡ false → placed (over_names vs) true k ≡ None → placed (over_names vs) false k ≡ None
@@ -283,5 +297,6 @@ module _ (base : Setting) (c : ClassTree) where
     quiet (CallExpr f es) q h =
         let o = called (over_names vs) f.name in
         let l = faults (over_names vs) 0 (needs_of o) es in
-        no_lesser l (calls es o (placed (over_names vs) false)) (no_first l (calls es o (placed (over_names vs) true)) h) (quiet_calls es o q (no_second l (calls es o (placed (over_names vs) true)) h))
+        no_lesser l (calls es o (placed (over_names vs) false)) (no_first l (calls es o (placed (over_names vs) true)) h)
+        (quiet_calls es o q (no_second l (calls es o (placed (over_names vs) true)) h))
     quiet _ q h = h

@@ -93,7 +93,8 @@ part_groups _ h = absurd h
 pub same_point : (k : ℕ) (vs : List Variable) (p : Point) (i : Body) → IsInit i → beyond k vs p i ≡ p
 same_point k vs p i h = ap (behind (length vs) p) (part_ends k i h)
 
-module _ (base : Setting) (ns : Names) (c : ClassTree) (few_slots : length c.slots < 2 ^ 64) (few_locals : length c.locals < 2 ^ 64) (agree : (f : List ℕ) → is_there (effectful ns f) ≡ calls_effect (called base f)) where
+module _ (base : Setting) (ns : Names) (c : ClassTree) (few_slots : length c.slots < 2 ^ 64) (few_locals : length c.locals < 2 ^ 64)
+    (agree : (f : List ℕ) → is_there (effectful ns f) ≡ calls_effect (called base f)) where
   abbrev RowsHere : Type 0
   RowsHere = List (List ℕ × TypeTree)
 
@@ -116,23 +117,29 @@ module _ (base : Setting) (ns : Names) (c : ClassTree) (few_slots : length c.slo
     pub live : (y st : ℕ) (last : LastTree) → w.exit ≡ Part last → IsJump y last → Meets p.stale st (length places)
         → Live c w.hand a.hand gs p.stale (Into w.hand a.hand p places y st (ways k i)) n.block n.block n.group n.group (lowered ns c.slots s w n i)
 
-  part_leaf : (gs : List Slotted) (s : Scope) (w : Around) (m : ℕ) (p : Point) (a : Aims) (u : Ways) (n g : ℕ) (y st : ℕ) (last : LastTree) → Lies a.hand gs (inner_locals w.depth s) m → w.exit ≡ Part last → IsJump y last → Meets p.stale st (length gs)
+  part_leaf : (gs : List Slotted) (s : Scope) (w : Around) (m : ℕ) (p : Point) (a : Aims) (u : Ways) (n g : ℕ) (y st : ℕ) (last : LastTree) → Lies a.hand gs (inner_locals w.depth s) m
+      → w.exit ≡ Part last → IsJump y last → Meets p.stale st (length gs)
       → Live c w.hand a.hand gs p.stale (Into w.hand a.hand p gs y st u) n n g g (finished w s w.exit)
   part_leaf gs s w m p a u n g y st last lies e jump meets =
       subst (λ x. Live c w.hand a.hand gs p.stale (Into w.hand a.hand p gs y st u) n n g g (finished w s x)) (sym e)
       (jump_leaf base ns c few_slots few_locals agree gs s w m p a (Into w.hand a.hand p gs y st u) n g y st last lies (λ en o. o.0) meets jump)
 
   -- an instruction, and the end of the part
-  part_acts : (gs hs : List Slotted) (s s2 : Scope) (w : Around) (m : ℕ) (p : Point) (a : Aims) (u : Ways) (n g : ℕ) (y st : ℕ) (last : LastTree) (i : InstrTree) → Lies a.hand gs (inner_locals w.depth s) m → Lies a.hand hs (inner_locals w.depth s2) m → u.throws ≡ at_once
-      → ((z : Places) → Covers z gs p.stale → AllIn (instr_reads i) z) → ((z : Places) → Covers z gs p.stale → Covers (after i z) hs p.stale) → w.exit ≡ Part last → IsJump y last → Meets p.stale st (length hs)
+  part_acts : (gs hs : List Slotted) (s s2 : Scope) (w : Around) (m : ℕ) (p : Point) (a : Aims) (u : Ways) (n g : ℕ) (y st : ℕ) (last : LastTree) (i : InstrTree)
+      → Lies a.hand gs (inner_locals w.depth s) m → Lies a.hand hs (inner_locals w.depth s2) m → u.throws ≡ at_once
+      → ((z : Places) → Covers z gs p.stale → AllIn (instr_reads i) z) → ((z : Places) → Covers z gs p.stale → Covers (after i z) hs p.stale) → w.exit ≡ Part last → IsJump y last
+      → Meets p.stale st (length hs)
       → Live c w.hand a.hand gs p.stale (Into w.hand a.hand p hs y st u) n n g g (acting (i ∷ []) (finished w s2 w.exit))
   part_acts gs hs s s2 w m p a u n g y st last i near lies once reads grows e jump meets =
       let into = Into w.hand a.hand p hs y st u in
-      acting_live base ns c few_slots few_locals w.hand a.hand gs hs p.stale into into n n g g i (finished w s2 w.exit) (part_leaf hs s2 w m p a u n g y st last lies e jump meets) (λ en o. o) reads grows near.sub near.below
+      acting_live base ns c few_slots few_locals w.hand a.hand gs hs p.stale into into n n g g i (finished w s2 w.exit) (part_leaf hs s2 w m p a u n g y st last lies e jump meets)
+      (λ en o. o) reads grows near.sub near.below
       (λ en o. hand_fact c en w.hand a.hand p u.throws (ap is_reached once) o.1)
 
-  pub opens : (i : Body) (l t : Bool) (e : Env) (rows : RowsHere) (vs : List Variable) (gs : List Slotted) (s : Scope) (w : Around) (n : Next) (p : Point) (a : Aims) (cu : Option Caught) (k : ℕ) → IsInit i → Stands base ns c few_slots few_locals agree e rows s w.caught
-      → Above n.local s → LocalsAt ns c n.local (body_locals i) → HasPaths i → InPlace c.slots l t (names s) i → body_refusal e i ≡ None → Ground base ns c few_slots few_locals w s n.local rows vs gs p a
+  pub opens : (i : Body) (l t : Bool) (e : Env) (rows : RowsHere) (vs : List Variable) (gs : List Slotted) (s : Scope) (w : Around) (n : Next) (p : Point) (a : Aims) (cu : Option Caught) (k : ℕ)
+      → IsInit i → Stands base ns c few_slots few_locals agree e rows s w.caught
+      → Above n.local s → LocalsAt ns c n.local (body_locals i) → HasPaths i → InPlace c.slots l t (names s) i → body_refusal e i ≡ None
+      → Ground base ns c few_slots few_locals w s n.local rows vs gs p a
       → Thrown base ns c few_slots few_locals agree rows gs s cu w.caught e.caught → AllFresh (uses k vs p cu i) → Opened e vs gs s w n p a cu k i
   opens (DeclareStmt at i q End) l t e rows vs gs s w n p a cu k is st above room paths placed judged g th fresh =
       let f = item at (declare_fault e.setting e.states i q) in
@@ -232,10 +239,12 @@ module _ (base : Setting) (ns : Names) (c : ClassTree) (few_slots : length c.slo
       let hp = behind (length vs) p (head big) in
       at_once_meets hp.stale (length gs) (behind (length vs) hp (round r)).stale
       (exits_onward hp.stale (length gs) (length vs) hp (round r) at_once reach
-      (subst (Exits hp.stale (length gs) hp.stale) (sym (onward_once (round r))) (round_exits base ns c few_slots few_locals agree vs gs p big (round r) size (λ z. waited_on (round r) step.ends once z))))
+      (subst (Exits hp.stale (length gs) hp.stale) (sym (onward_once (round r)))
+      (round_exits base ns c few_slots few_locals agree vs gs p big (round r) size (λ z. waited_on (round r) step.ends once z))))
 
   -- the drop of the variable of a `for`
-  pub dropping_live : (h : Option Hand) (a : Aim) (gs : List Slotted) (st low : ℕ) (outer : Entries c → Type 0) (n m g j : ℕ) (ds : List ℕ) (ch : Chunk) → Sub a.places gs → IsBelow a → ((i k : ℕ) → Has gs i (place.Local k) → k < low) → AllFrom low ds
+  pub dropping_live : (h : Option Hand) (a : Aim) (gs : List Slotted) (st low : ℕ) (outer : Entries c → Type 0) (n m g j : ℕ) (ds : List ℕ) (ch : Chunk) → Sub a.places gs → IsBelow a
+      → ((i k : ℕ) → Has gs i (place.Local k) → k < low) → AllFrom low ds
       → Live c h a gs st outer n m g j ch → Live c h a gs st outer n m g j (dropping ds ch)
   dropping_live h a gs st low outer n m g j [] ch sub below small from v = v
   dropping_live h a gs st low outer n m g j (d ∷ ds) ch sub below small from v =
@@ -249,14 +258,20 @@ module _ (base : Setting) (ns : Names) (c : ClassTree) (few_slots : length c.slo
         kept = λ e at o gr.
             let k = v.kept e at o gr in
             record {
-              first = λ kc z cover guard. (in_none z, catches c e h a kc st z below guard (covers_sub z gs a.places st sub cover), k.first kc (after (DropInstr (d ∷ ds)) z) (covers_dropped own (d ∷ ds) st z small from cover) guard);
+              first = λ kc z cover guard. (
+                in_none z,
+                catches c e h a kc st z below guard (covers_sub z gs a.places st sub cover),
+                k.first kc (after (DropInstr (d ∷ ds)) z)
+                    (covers_dropped own (d ∷ ds) st z small from cover) guard,
+              );
               more = k.more;
             };
       }
 
   -- the init, the test, the body and the step, whose entries all may know
 
-  pub ring : (q : Option ExprTree) (w : Around) (sc : Scope) (a : Aim) (gs hs : List Slotted) (st sh : ℕ) (outer near0 near1 near2 near3 : Entries c → Type 0) (hd : Next) (n m o g j r out : ℕ) (c0 c2 c3 : Chunk) → Live c w.hand a gs st near0 n hd.block g hd.group c0
+  pub ring : (q : Option ExprTree) (w : Around) (sc : Scope) (a : Aim) (gs hs : List Slotted) (st sh : ℕ) (outer near0 near1 near2 near3 : Entries c → Type 0) (hd : Next) (n m o g j r out : ℕ)
+      (c0 c2 c3 : Chunk) → Live c w.hand a gs st near0 n hd.block g hd.group c0
       → ((e : ExprTree) → q ≡ Some e → Live c w.hand a hs sh near1 (suc hd.block) (suc hd.block) hd.group hd.group (ends w sc true [] (TestLast (over c.slots sc e) (tested q hd).block out)))
       → Live c w.hand a hs sh near2 (suc (tested q hd).block) m (tested q hd).group j c2 → (z : Later c w.hand near3 m o j r c3)
       → ((e : Entries c) → outer e → e hd.block ≡ Some (filled hs sh) → e (tested q hd).block ≡ Some (filled hs sh) → e m ≡ z.entry → near0 e)
@@ -267,7 +282,8 @@ module _ (base : Setting) (ns : Names) (c : ClassTree) (few_slots : length c.slo
   ring None w sc a gs hs st sh outer near0 near1 near2 near3 hd n m o g j r out c0 c2 c3 one two three z f0 f1 f2 f3 =
       let y = later_live c w.hand a hs sh near2 hd.block m hd.group j c2 three in
       let i = later_entry c w.hand a hs sh near2 hd.block m hd.group j c2 three in
-      join_two c w.hand w.hand w.hand a gs st outer near0 near2 near3 n hd.block m o g hd.group j r c0 c2 c3 one y z (λ e q i1 i2. f0 e q (i1 ∙ i) (i1 ∙ i) i2) (λ e q i1 i2. f2 e q (i1 ∙ i) (i1 ∙ i) i2) (λ e q i1 i2. f3 e q (i1 ∙ i) (i1 ∙ i) i2)
+      join_two c w.hand w.hand w.hand a gs st outer near0 near2 near3 n hd.block m o g hd.group j r c0 c2 c3 one y z (λ e q i1 i2. f0 e q (i1 ∙ i) (i1 ∙ i) i2)
+      (λ e q i1 i2. f2 e q (i1 ∙ i) (i1 ∙ i) i2) (λ e q i1 i2. f3 e q (i1 ∙ i) (i1 ∙ i) i2)
   ring (Some t) w sc a gs hs st sh outer near0 near1 near2 near3 hd n m o g j r out c0 c2 c3 one two three z f0 f1 f2 f3 =
       let c1 = ends w sc true [] (TestLast (over c.slots sc t) (suc hd.block) out) in
       let l1 = two t refl in
@@ -275,5 +291,6 @@ module _ (base : Setting) (ns : Names) (c : ClassTree) (few_slots : length c.slo
       let e1 = later_entry c w.hand a hs sh near1 hd.block (suc hd.block) hd.group hd.group c1 l1 in
       let y2 = later_live c w.hand a hs sh near2 (suc hd.block) m hd.group j c2 three in
       let e2 = later_entry c w.hand a hs sh near2 (suc hd.block) m hd.group j c2 three in
-      join_three c w.hand w.hand w.hand w.hand a gs st outer near0 near1 near2 near3 n hd.block (suc hd.block) m o g hd.group hd.group j r c0 c1 c2 c3 one y1 y2 z (λ e q i1 i2 i3. f0 e q (i1 ∙ e1) (i2 ∙ e2) i3) (λ e q i1 i2 i3. f1 e q (i1 ∙ e1) (i2 ∙ e2) i3)
+      join_three c w.hand w.hand w.hand w.hand a gs st outer near0 near1 near2 near3 n hd.block (suc hd.block) m o g hd.group hd.group j r c0 c1 c2 c3 one y1 y2 z
+      (λ e q i1 i2 i3. f0 e q (i1 ∙ e1) (i2 ∙ e2) i3) (λ e q i1 i2 i3. f1 e q (i1 ∙ e1) (i2 ∙ e2) i3)
       (λ e q i1 i2 i3. f2 e q (i1 ∙ e1) (i2 ∙ e2) i3) (λ e q i1 i2 i3. f3 e q (i1 ∙ e1) (i2 ∙ e2) i3)

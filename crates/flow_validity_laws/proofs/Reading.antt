@@ -72,7 +72,8 @@ module _ (base : Setting) (ns : Names) (c : ClassTree) where
         by_kind true = refl
         by_kind false = refl
 
-  module _ (rows : List (List ℕ × TypeTree)) (s : Scope) (sees : Sees base c rows s) (vs : List Variable) (gs : List Slotted) (l : ℕ) (line : Lined base c vs gs rows s l) (p : Point) (start : p.from ≡ 0) (z : Places) (cover : Covers z gs p.stale) where
+  module _ (rows : List (List ℕ × TypeTree)) (s : Scope) (sees : Sees base c rows s) (vs : List Variable) (gs : List Slotted) (l : ℕ) (line : Lined base c vs gs rows s l) (p : Point)
+      (start : p.from ≡ 0) (z : Places) (cover : Covers z gs p.stale) where
     abbrev names : Setting
     names = over_names base c rows
 
@@ -87,20 +88,25 @@ module _ (base : Setting) (ns : Names) (c : ClassTree) where
     target_in (x ∷ []) f h = in_none z
     target_in (x ∷ (y ∷ ys)) f h = root_in x (holds (is_there (named rows x.name)) UNKNOWN_NAME (no_first (unless (is_there (named rows x.name)) UNKNOWN_NAME) _ f)) h
 
-    pub assign_in : (xs : List Ident) (e : ExprTree) → assign_fault names xs e ≡ None → AllFresh (target_uses vs p xs ++ expr_uses vs p e) → AllIn (instr_reads (assigned ns c.slots s (path_over c.slots s xs) e)) z
+    pub assign_in : (xs : List Ident) (e : ExprTree) → assign_fault names xs e ≡ None → AllFresh (target_uses vs p xs ++ expr_uses vs p e)
+        → AllIn (instr_reads (assigned ns c.slots s (path_over c.slots s xs) e)) z
     assign_in xs e f h =
         let t = target_fault names xs in
         let r = no_first (lesser t (fault names true e)) (fits_target (form names e) (target_form names xs)) f in
         let us = target_uses vs p xs in
-        reads_assigned s (path_over c.slots s xs) e z (target_in xs (no_first t (fault names true e) r) (fresh_left us (expr_uses vs p e) h)) (whole_in true e (no_second t (fault names true e) r) (fresh_right us (expr_uses vs p e) h))
+        reads_assigned s (path_over c.slots s xs) e z (target_in xs (no_first t (fault names true e) r) (fresh_left us (expr_uses vs p e) h))
+        (whole_in true e (no_second t (fault names true e) r) (fresh_right us (expr_uses vs p e) h))
 
     from_path : (xs : List Ident) (e : ExprTree) → AllIn (expr_places (over c.slots s e)) z → AllIn (expr_places (over c.slots s (path_from e xs))) z
     from_path [] e h = h
     from_path (x ∷ xs) e h = from_path xs (FieldExpr e x) h
 
-    changed_in : (d : ChangeTree) (old : ExprTree) (o : Option TypeTree) → change_fault names o d ≡ None → AllFresh (change_uses vs p d) → AllIn (expr_places (over c.slots s old)) z → AllIn (expr_places (over c.slots s (modified d old))) z
-    changed_in (PlusChange e) old o f h k = in_both z (expr_places (over c.slots s old)) (expr_places (over c.slots s e)) k (whole_in false e (no_first (fault names false e) (operands Add o (form names e)) f) h)
-    changed_in (MinusChange e) old o f h k = in_both z (expr_places (over c.slots s old)) (expr_places (over c.slots s e)) k (whole_in false e (no_first (fault names false e) (operands Sub o (form names e)) f) h)
+    changed_in : (d : ChangeTree) (old : ExprTree) (o : Option TypeTree) → change_fault names o d ≡ None → AllFresh (change_uses vs p d) → AllIn (expr_places (over c.slots s old)) z
+        → AllIn (expr_places (over c.slots s (modified d old))) z
+    changed_in (PlusChange e) old o f h k = in_both z (expr_places (over c.slots s old)) (expr_places (over c.slots s e)) k
+        (whole_in false e (no_first (fault names false e) (operands Add o (form names e)) f) h)
+    changed_in (MinusChange e) old o f h k = in_both z (expr_places (over c.slots s old)) (expr_places (over c.slots s e)) k
+        (whole_in false e (no_first (fault names false e) (operands Sub o (form names e)) f) h)
     changed_in UpChange old o f h k = in_both z (expr_places (over c.slots s old)) [] k (in_none z)
     changed_in DownChange old o f h k = in_both z (expr_places (over c.slots s old)) [] k (in_none z)
 
@@ -123,7 +129,8 @@ module _ (base : Setting) (ns : Names) (c : ClassTree) where
     args_in : (k : ℕ) (needs : List Need) (es : ExprTrees) → faults names k needs es ≡ None → AllFresh (exprs_uses vs p es) → AllIn (exprs_places (over_all c.slots s es)) z
     args_in k needs es f h = exprs_in base c vs gs rows s l line p start z cover k needs es f h
 
-    pub act_in : (xs : List Ident) (es : ExprTrees) → call_fault names xs es ≡ None → AllFresh (base_uses vs p xs ++ exprs_uses vs p es) → IsNamed xs → AllIn (instr_reads (ActInstr (act_over c.slots s xs) (over_all c.slots s es))) z
+    pub act_in : (xs : List Ident) (es : ExprTrees) → call_fault names xs es ≡ None → AllFresh (base_uses vs p xs ++ exprs_uses vs p es) → IsNamed xs
+        → AllIn (instr_reads (ActInstr (act_over c.slots s xs) (over_all c.slots s es))) z
     act_in [] es f h k = absurd k
     act_in (x ∷ []) es f h k =
         let o = called names x.name in
@@ -135,7 +142,8 @@ module _ (base : Setting) (ns : Names) (c : ClassTree) where
         let a = faults names 0 (needs_of o) es in
         let r = calls es o (said names) in
         let us = named_use vs p x in
-        in_both z (listed (place_named (var_over (place_of c.slots s x.name)))) (exprs_places (over_all c.slots s es)) (root_in x (base_known base c rows s sees x y ys es f) (fresh_left us (exprs_uses vs p es) h))
+        in_both z (listed (place_named (var_over (place_of c.slots s x.name)))) (exprs_places (over_all c.slots s es))
+        (root_in x (base_known base c rows s sees x y ys es f) (fresh_left us (exprs_uses vs p es) h))
         (args_in 0 (needs_of o) es (no_first a r (no_second (base_fault names b) (lesser a r) f)) (fresh_right us (exprs_uses vs p es) h))
 
   -- a declared variable is filled
@@ -150,7 +158,8 @@ module _ (base : Setting) (ns : Names) (c : ClassTree) where
   fills_own o to x e read =
       ap (λ q. among (listed (place_named (var_over q))) to) e ∙ ap (λ q. among (listed q) to) read ∙ ap (λ b. b || false) (same_self to)
 
-  literal : (t : TypeTree) (i : IntoTree) (o : Option Slotted) (to : Slotted) (s : Scope) (l : ℕ) → o ≡ Some to → place_named (place_name to) ≡ Some to → place_in ns c.slots i l s ≡ o → i.ty ≡ t → Declared s l i None to
+  literal : (t : TypeTree) (i : IntoTree) (o : Option Slotted) (to : Slotted) (s : Scope) (l : ℕ) → o ≡ Some to → place_named (place_name to) ≡ Some to → place_in ns c.slots i l s ≡ o → i.ty ≡ t
+      → Declared s l i None to
   literal IntType i o to s l e read p t = record {
     instr = SetInstr (ident_at o i.name ∷ []) (IntExpr (pos 0));
     is = ap₂ (λ q u. first_at i q (first_value u)) p t;

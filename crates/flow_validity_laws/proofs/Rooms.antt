@@ -58,13 +58,15 @@ module _ (ns : Names) (c : ClassTree) (few_slots : length c.slots < 2 ^ 64) (few
       let i = fits_scoped l e f g w le lg lt h in
       record { within = i.within; exit = i.exit; hand = i.hand; out = i.out; again = i.again }
 
-  pub fits_guarded : (l : Bool) (e f g : ℕ) (w : Around) (k : Hand) → f ≤ e → f ≤ g → g < length c.blocks → HandGood c few_slots few_locals f (Some k) → Fits l e w → Fits l f (guarded w (Scoped (GotoLast g)) k)
+  pub fits_guarded : (l : Bool) (e f g : ℕ) (w : Around) (k : Hand) → f ≤ e → f ≤ g → g < length c.blocks → HandGood c few_slots few_locals f (Some k) → Fits l e w
+      → Fits l f (guarded w (Scoped (GotoLast g)) k)
   fits_guarded l e f g w k le lg lt hand h =
       let i = fits_scoped l e f g w le lg lt h in
       record { within = i.within; exit = i.exit; hand = hand; out = i.out; again = i.again }
 
   -- the body of a loop
-  pub fits_loop : (l : Bool) (e f d : ℕ) (w : Around) (again : LastTree) (out : ℕ) → f ≤ e → f ≤ out → out < length c.blocks → Leads c few_slots few_locals f again → Fits l e w → Fits true f (pass w d again out)
+  pub fits_loop : (l : Bool) (e f d : ℕ) (w : Around) (again : LastTree) (out : ℕ) → f ≤ e → f ≤ out → out < length c.blocks → Leads c few_slots few_locals f again → Fits l e w
+      → Fits true f (pass w d again out)
   fits_loop l e f d w again out le lo lt leads h = record {
     within = omega (arith, h.within);
     exit = leads;
@@ -88,7 +90,8 @@ module _ (ns : Names) (c : ClassTree) (few_slots : length c.slots < 2 ^ 64) (few
       → GoodHere m n.block (n.block + blocks_in w.looped.tried b) (lowered ns c.slots s w n b)
 
   -- what stands behind a statement, in a block of its own
-  pub rest_kept : (k : Body) → Kept k → (l t : Bool) (xs : List (List ℕ)) (s : Scope) (w : Around) (n j : Next) (m e : ℕ) (a : Chunk) → Fits l e w → Room w.looped.tried (begun j) e k → Falling n.local s → n.local ≤ j.local
+  pub rest_kept : (k : Body) → Kept k → (l t : Bool) (xs : List (List ℕ)) (s : Scope) (w : Around) (n j : Next) (m e : ℕ) (a : Chunk) → Fits l e w → Room w.looped.tried (begun j) e k
+      → Falling n.local s → n.local ≤ j.local
       → HasParts k → InPlace c.slots l t xs k → GoodHere m n.block j.block a → GoodHere m n.block (suc j.block + blocks_in w.looped.tried k) (joined w.hand a (lowered ns c.slots s w (begun j) k))
   rest_kept k kept l t xs s w n j m e a fits room fall le parts ok g =
       joined_good c few_slots few_locals e m n.block j.block (suc j.block + blocks_in w.looped.tried k) w.hand a (lowered ns c.slots s w (begun j) k) fits.hand (omega (arith, room.blocks)) g
@@ -106,14 +109,22 @@ module _ (ns : Names) (c : ClassTree) (few_slots : length c.slots < 2 ^ 64) (few
   dead_if false e m n j x h a d hand g lt f = good_up_to c few_slots few_locals m n j (j + 0) a (omega arith) g
 
   pub dead_kept : (k : Body) → Kept k → (l t : Bool) (xs : List (List ℕ)) (s : Scope) (w : Around) (n j : Next) (m e : ℕ) (a : Chunk) → Fits l e w → j.block + behind k (blocks_in w.looped.tried k) ≤ e
-      → n.local + locals_in k ≤ length c.locals → n.group + groups_in k ≤ suc (length c.groups) → 0 < n.group → LocalsAt ns c n.local (body_locals k) → Falling n.local s → j.local ≡ n.local → j.group ≡ n.group
-      → HasParts k → InPlace c.slots l t xs k → GoodHere m n.block j.block a → GoodHere m n.block (j.block + behind k (blocks_in w.looped.tried k)) (before_rest w.hand a k (lowered ns c.slots s w (begun j) k))
+      → n.local + locals_in k ≤ length c.locals → n.group + groups_in k ≤ suc (length c.groups) → 0 < n.group → LocalsAt ns c n.local (body_locals k) → Falling n.local s → j.local ≡ n.local
+      → j.group ≡ n.group
+      → HasParts k → InPlace c.slots l t xs k → GoodHere m n.block j.block a
+      → GoodHere m n.block (j.block + behind k (blocks_in w.looped.tried k)) (before_rest w.hand a k (lowered ns c.slots s w (begun j) k))
   dead_kept k kept l t xs s w n j m e a fits blocks locals groups first types fall el eg parts ok g =
       let x = blocks_in w.looped.tried k in
       let enough : has_statement k ≡ true → j.block + suc x ≤ e = λ h. subst (λ z. j.block + z ≤ e) (behind_if (has_statement k) x h) blocks in
       dead_if (has_statement k) e m n.block j.block x w.hand a (lowered ns c.slots s w (begun j) k) fits.hand g (λ h. omega (arith, enough h))
       (λ h. kept l t xs s w (begun j) j.block e fits
-      (record { blocks = omega (arith, enough h); locals = omega (arith, locals, el); groups = omega (arith, groups, eg); first = omega (arith, first, eg); types = subst (λ z. LocalsAt ns c z (body_locals k)) (sym el) types })
+      (record {
+        blocks = omega (arith, enough h);
+        locals = omega (arith, locals, el);
+        groups = omega (arith, groups, eg);
+        first = omega (arith, first, eg);
+        types = subst (λ z. LocalsAt ns c z (body_locals k)) (sym el) types;
+      })
       (subst (λ z. Falling z s) (sym el) fall) (omega arith) parts ok)
 
   -- with a declared variable

@@ -57,7 +57,8 @@ use Rattle.flow_split.specs.Counts.{test_blocks}
 use Rattle.flow_lowering_laws.proofs.Actors.Fors.{step_later}
 use Rattle.flow_validity_laws.proofs.Parting.{part_ends, part_blocks, part_groups, same_point, Into, opens, step_meets, dropping_live, ring}
 
-module _ (base : Setting) (ns : Names) (c : ClassTree) (few_slots : length c.slots < 2 ^ 64) (few_locals : length c.locals < 2 ^ 64) (agree : (f : List ℕ) → is_there (effectful ns f) ≡ calls_effect (called base f)) where
+module _ (base : Setting) (ns : Names) (c : ClassTree) (few_slots : length c.slots < 2 ^ 64) (few_locals : length c.locals < 2 ^ 64)
+    (agree : (f : List ℕ) → is_there (effectful ns f) ≡ calls_effect (called base f)) where
   abbrev Alives : Body → Type 0
   Alives b = Lives base ns c few_slots few_locals agree b
 
@@ -77,7 +78,8 @@ module _ (base : Setting) (ns : Names) (c : ClassTree) (few_slots : length c.slo
   abbrev for_aims : Aims → List Slotted → List Slotted → (st lost low m : ℕ) → Aims
   for_aims a gs hs st lost low m = record { end = here_aim hs st m; out = record { places = gs; stale = lost; from = low }; again = here_aim hs st m; hand = a.hand }
 
-  body_owed : (w : Around) (a : Aims) (gs : List Slotted) (st out m low n : ℕ) (vs : List Variable) (hs : List Slotted) (hp : Point) (r step : Ways) (next : Entry) (en : Entries c) → length vs ≡ length hs
+  body_owed : (w : Around) (a : Aims) (gs : List Slotted) (st out m low n : ℕ) (vs : List Variable) (hs : List Slotted) (hp : Point) (r step : Ways) (next : Entry) (en : Entries c)
+      → length vs ≡ length hs
       → (is_reached (round r) ≡ true → next ≡ Some (filled hs (behind (length vs) hp (round r)).stale)) → Rounds w a gs st out m vs hs hp r step next en
       → Owed true (pass w 2 (GotoLast m) out) (for_aims a gs hs (behind (length vs) hp (round r)).stale st low n) hp r en
   body_owed w a gs st out m low n vs hs hp r step next en size is k =
@@ -136,7 +138,8 @@ module _ (base : Setting) (ns : Names) (c : ClassTree) (few_slots : length c.slo
       let k2 = left k (ForStmt at i q d b End) in
       let us0 = uses k vs p cu i in
       let ux = uses k2 vs point cu x in
-      let all : Point → List Use = λ z. us0 ++ maybe_uses vs2 (behind (length vs2) z (head big)) q ++ uses kl vs2 (behind (length vs2) (behind (length vs2) z (head big)) (round r)) cu d ++ uses km vs2 (behind (length vs2) z (head big)) cu b ++ ux in
+      let all : Point → List Use = λ z. us0 ++ maybe_uses vs2 (behind (length vs2) z (head big)) q ++ uses kl vs2 (behind (length vs2) (behind (length vs2) z (head big)) (round r)) cu d
+      ++ uses km vs2 (behind (length vs2) z (head big)) cu b ++ ux in
       let fresh2 : AllFresh (all p) = subst (λ z. AllFresh (all z)) (same_point k vs p i is_init) fresh in
       let us1 = maybe_uses vs2 hp q in
       let us2 = uses kl vs2 sp cu d in
@@ -162,14 +165,16 @@ module _ (base : Setting) (ns : Names) (c : ClassTree) (few_slots : length c.slo
       let r123 = locals_front ns c n.local (body_locals i ++ body_locals d ++ body_locals b) (body_locals x) said.room in
       let r12 = locals_front ns c n.local (body_locals i ++ body_locals d) (body_locals b) r123 in
       let r1 = locals_front ns c n.local (body_locals i) (body_locals d) r12 in
-      let r2 : LocalsAt ns c gg.local (body_locals b) = locals_back ns c n.local gg.local (body_locals i ++ body_locals d) (body_locals b) (omega (arith, tl, n12, locals_count i, locals_count d, none)) r123 in
+      let r2 : LocalsAt ns c gg.local (body_locals b) = locals_back ns c n.local gg.local (body_locals i ++ body_locals d) (body_locals b)
+      (omega (arith, tl, n12, locals_count i, locals_count d, none)) r123 in
       let r4 : LocalsAt ns c o.local (body_locals x) =
       locals_back ns c n.local o.local (body_locals i ++ body_locals d ++ body_locals b) (body_locals x) (omega (arith, tl, n12, n123, locals_count i, locals_count d, locals_count b)) said.room in
       let r3 : LocalsAt ns c j.local (body_locals d) = subst (λ ls. LocalsAt ns c j.local ls) (sym (step_locals d is_step)) tt in
       let kin = stands_marked base ns c few_slots few_locals agree e rows s w.caught said.stands in
       let av : Aims = record a { end = here_aim gs p.stale n.local } in
       let gv = ground_inner base ns c few_slots few_locals w f s n.local n.local rows vs gs p p a p.stale (omega arith) g.start g in
-      let op = opens base ns c few_slots few_locals agree i l t e rows vs gs s1 v n p av cu k is_init kin said.above r1 said.paths.1 said.placed.0 (neither_first (body_refusal e i) _ said.judged) gv (thrown_marked base ns c few_slots few_locals agree rows gs s cu w.caught e.caught th)
+      let op = opens base ns c few_slots few_locals agree i l t e rows vs gs s1 v n p av cu k is_init kin said.above r1 said.paths.1 said.placed.0 (neither_first (body_refusal e i) _ said.judged) gv
+      (thrown_marked base ns c few_slots few_locals agree rows gs s cu w.caught e.caught th)
       (fresh_left us0 us1 fresh01) in
       let rows2 = op.rows in
       let hs = op.places in
@@ -182,18 +187,22 @@ module _ (base : Setting) (ns : Names) (c : ClassTree) (few_slots : length c.slo
       let cx = lowered ns c.slots s w (begun o) x in
       let ds = scope (later d j.local sc) in
       let dropped : AllFrom n.local ds = subst (λ z. AllFrom n.local (scope z)) (sym (step_later d j.local sc is_step)) (op.low tt) in
-      let less : kx ≡ k2 = sym (ap (λ z. k - length z) (append-nil (body_groups i ++ body_groups d ++ body_groups b)) ∙ three_less k (length (body_groups i)) (length (body_groups d)) (length (body_groups b)) (length (body_groups i ++ body_groups d ++ body_groups b)) (omega (arith, g12, g123))) in
+      let less : kx ≡ k2 = sym (ap (λ z. k - length z) (append-nil (body_groups i ++ body_groups d ++ body_groups b))
+      ∙ three_less k (length (body_groups i)) (length (body_groups d)) (length (body_groups b)) (length (body_groups i ++ body_groups d ++ body_groups b)) (omega (arith, g12, g123))) in
       let past_e = rule_behind (rule_behind (rule_behind e i) d) b in
-      let past_s = stands_behind base ns c few_slots few_locals agree (rule_behind (rule_behind e i) d) b rows s w.caught (stands_behind base ns c few_slots few_locals agree (rule_behind e i) d rows s w.caught (stands_behind base ns c few_slots few_locals agree e i rows s w.caught said.stands)) in
+      let past_s = stands_behind base ns c few_slots few_locals agree (rule_behind (rule_behind e i) d) b rows s w.caught
+      (stands_behind base ns c few_slots few_locals agree (rule_behind e i) d rows s w.caught (stands_behind base ns c few_slots few_locals agree e i rows s w.caught said.stands)) in
       let c0 = lowered ns c.slots s1 v n i in
       let c1 = test_before ns c.slots v sc q gg.block o.block c0 in
       let c2 = lowered ns c.slots (Mark ∷ sc) (pass w 2 (GotoLast j.block) o.block) (begun gg) b in
       let c3 = lowered ns c.slots sc v (begun j) d in
       let c4 = dropping ds cx in
-      let rx = rest_of base ns c few_slots few_locals w.hand a.hand (Owed l w a (behind (length vs) p u.ends) vx) outer gs (length vs) p u o.block (suc o.block + blocks_in tr x) o.group (o.group + groups_in x) c4
+      let rx = rest_of base ns c few_slots few_locals w.hand a.hand (Owed l w a (behind (length vs) p u.ends) vx) outer gs (length vs) p u o.block (suc o.block + blocks_in tr x) o.group
+      (o.group + groups_in x) c4
       (ap (λ z. suc o.block + z) (lowered_more ns c.slots s w (begun o) x)) (ap (λ z. o.group + z) (lowered_groups ns c.slots s w (begun o) x))
       (λ h en z. (end_onward c en w.exit a.end (length vs) p u.ends vx.ends h z.0, sides_second c en l w a (length vs) p u vx h z.1))
-      (λ h. dropping_live base ns c few_slots few_locals agree w.hand a.hand gs st4 n.local (Owed l w a (behind (length vs) p u.ends) vx) (suc o.block) (suc o.block + blocks_in tr x) o.group (o.group + groups_in x) ds cx g.hand.sub g.hand.below g.line.below dropped
+      (λ h. dropping_live base ns c few_slots few_locals agree w.hand a.hand gs st4 n.local (Owed l w a (behind (length vs) p u.ends) vx) (suc o.block) (suc o.block + blocks_in tr x) o.group
+      (o.group + groups_in x) ds cx g.hand.sub g.hand.below g.line.below dropped
       (rest l t past_e rows vs gs s w (begun o) (behind (length vs) p u.ends) a cu kx
       (record {
         stands = past_s;
@@ -205,12 +214,15 @@ module _ (base : Setting) (ns : Names) (c : ClassTree) (few_slots : length c.slo
         judged = neither_second (body_refusal e2 b) _ m3;
       })
       (ground_past base ns c few_slots few_locals w s n.local o.local rows vs gs p (behind (length vs) p u.ends) a (omega (arith, tl)) ((behind_is (length vs) p u.ends h).from ∙ g.start) g) th
-      (subst (λ m. AllFresh (uses m vs (behind (length vs) p u.ends) cu x)) (sym less) (subst (λ m. AllFresh (uses k2 vs m cu x)) (behind_once (length vs) p u) (fresh_right (us0 ++ us1 ++ us2 ++ us3) ux fresh2))) (omega (arith, many, g12, g123, g1234)))) in
+      (subst (λ m. AllFresh (uses m vs (behind (length vs) p u.ends) cu x)) (sym less)
+      (subst (λ m. AllFresh (uses k2 vs m cu x)) (behind_once (length vs) p u) (fresh_right (us0 ++ us1 ++ us2 ++ us3) ux fresh2))) (omega (arith, many, g12, g123, g1234)))) in
       let sp_aims = for_aims a gs hs sp.stale st4 n.local gg.local in
-      let pass_ground = ground_pass base ns c few_slots few_locals w sc (suc w.depth) 2 hd.local gg.local (GotoLast j.block) o.block rows2 vs2 hs hp a.hand sp.stale sp.stale (omega (arith, tl)) reach_hp line2 hand2 (omega arith) in
+      let pass_ground = ground_pass base ns c few_slots few_locals w sc (suc w.depth) 2 hd.local gg.local (GotoLast j.block) o.block rows2 vs2 hs hp a.hand sp.stale sp.stale
+      (omega (arith, tl)) reach_hp line2 hand2 (omega arith) in
       let live_b = body true t e2 rows2 vs2 hs (Mark ∷ sc) (pass w 2 (GotoLast j.block) o.block) (begun gg) hp sp_aims cu km
       (record {
-        stands = stands_marked base ns c few_slots few_locals agree e2 rows2 sc w.caught (stands_loop base ns c few_slots few_locals agree (rule_behind e' d) rows2 sc w.caught (stands_behind base ns c few_slots few_locals agree e' d rows2 sc w.caught op.stands));
+        stands = stands_marked base ns c few_slots few_locals agree e2 rows2 sc w.caught
+            (stands_loop base ns c few_slots few_locals agree (rule_behind e' d) rows2 sc w.caught (stands_behind base ns c few_slots few_locals agree e' d rows2 sc w.caught op.stands));
         above = a2;
         room = r2;
         parts = said.parts.3;
@@ -237,25 +249,34 @@ module _ (base : Setting) (ns : Names) (c : ClassTree) (few_slots : length c.slo
       (λ h.
       let os = opens base ns c few_slots few_locals agree d l t e' rows2 vs2 hs sc v (begun j) sp av cu kl step_init op.stands (above_more ns c gg.local j.local sc (omega arith) a2) r3 said.paths.2
       (subst (λ xs. InPlace c.slots l t xs d) (sym op.called_so) said.placed.1) (neither_first (body_refusal e' d) _ m2)
-      (ground_past base ns c few_slots few_locals v sc hd.local j.local rows2 vs2 hs p sp av (omega (arith, tl)) ((behind_is (length vs2) hp (round r) h).from ∙ reach_hp) op.ground) op.thrown (fresh_right (us0 ++ us1) us2 fresh012) in
+      (ground_past base ns c few_slots few_locals v sc hd.local j.local rows2 vs2 hs p sp av (omega (arith, tl)) ((behind_is (length vs2) hp (round r) h).from ∙ reach_hp) op.ground) op.thrown
+      (fresh_right (us0 ++ us1) us2 fresh012) in
       let ps = os.same is_step in
-      let raw = os.live hd.block hp.stale (PassLast hd.block) refl refl (subst (λ z. Meets sp.stale hp.stale (length z)) (sym ps) (step_meets base ns c few_slots few_locals agree vs2 hs p r step size2 (part_ends kl d step_init) h)) in
-      live_to base ns c few_slots few_locals w.hand a.hand hs sp.stale nearS (suc j.block) (suc j.block) o.block j.group j.group o.group c3 (omega (arith, part_blocks tr d step_init)) (omega (arith, part_groups d step_init))
+      let raw = os.live hd.block hp.stale (PassLast hd.block) refl refl
+      (subst (λ z. Meets sp.stale hp.stale (length z)) (sym ps) (step_meets base ns c few_slots few_locals agree vs2 hs p r step size2 (part_ends kl d step_init) h)) in
+      live_to base ns c few_slots few_locals w.hand a.hand hs sp.stale nearS (suc j.block) (suc j.block) o.block j.group j.group o.group c3 (omega (arith, part_blocks tr d step_init))
+      (omega (arith, part_groups d step_init))
       (subst (λ z. Live c w.hand a.hand hs sp.stale (Into base ns c few_slots few_locals agree w.hand a.hand sp z hd.block hp.stale step) (suc j.block) (suc j.block) j.group j.group c3) ps raw)) in
       let near1 : Entries c → Type 0 = λ en. outer en × (en o.block ≡ rx.later.entry) in
       let near0 = Into base ns c few_slots few_locals agree w.hand a.hand p hs hd.block hp.stale first in
       let near2 = Owed true (pass w 2 (GotoLast j.block) o.block) sp_aims hp r in
       let nearT : Entries c → Type 0 = λ en. outer en × (en o.block ≡ rx.later.entry) × (en gg.block ≡ Some (filled hs hp.stale)) in
       let ex4 : Exits st4 (length gs) p.stale lp.ends = subst (Exits st4 (length gs) p.stale) same (exits_here base ns c few_slots few_locals vs gs p u.ends g.line.size) in
-      let one = live_to base ns c few_slots few_locals w.hand a.hand gs p.stale near0 n.block n.block hd.block n.group n.group hd.group c0 (omega (arith, part_blocks tr i is_init)) (omega (arith, part_groups i is_init))
+      let one = live_to base ns c few_slots few_locals w.hand a.hand gs p.stale near0 n.block n.block hd.block n.group n.group hd.group c0 (omega (arith, part_blocks tr i is_init))
+      (omega (arith, part_groups i is_init))
       (op.live hd.block hp.stale (PassLast hd.block) refl refl (head_meets base ns c few_slots few_locals agree vs2 hs p big size2)) in
-      let around : (en : Entries c) → outer en → HandWay c en w.hand a.hand p lp.throws = λ en z. subst (λ y. HandWay c en w.hand a.hand p (onward y lp.throws)) once (hand_right c en w.hand a.hand p first.throws (onward first.ends lp.throws) (sides_first c en l w a p u vx z.1).hand) in
-      let test = λ (t : ExprTree) (is : q ≡ Some t). test_leaf base ns c few_slots few_locals agree rows2 vs2 hs gs sc v hd.local hp a nearT (suc hd.block) hd.group t gg.block o.block st4 op.stands.sees line2 reach_hp hand2
+      let around : (en : Entries c) → outer en → HandWay c en w.hand a.hand p lp.throws =
+      λ en z. subst (λ y. HandWay c en w.hand a.hand p (onward y lp.throws)) once
+      (hand_right c en w.hand a.hand p first.throws (onward first.ends lp.throws) (sides_first c en l w a p u vx z.1).hand) in
+      let test = λ (t : ExprTree) (is : q ≡ Some t). test_leaf base ns c few_slots few_locals agree rows2 vs2 hs gs sc v hd.local hp a nearT
+      (suc hd.block) hd.group t gg.block o.block st4 op.stands.sees line2 reach_hp hand2
       (test_sound rows2 q t is (at_item base ns c few_slots few_locals agree e' rows2 at (λ z. maybe_test z q) op.stands.setting (neither_first it _ m1)))
-      (subst (λ z. AllFresh (maybe_uses vs2 hp z)) is (fresh_right us0 us1 fresh01)) (λ en z. z.2) (λ en z. z.1 ∙ rx.entry_is (ap is_reached same ∙ ap (λ y. is_reached (looped (is_there y) big).ends) is)) op.sub
+      (subst (λ z. AllFresh (maybe_uses vs2 hp z)) is (fresh_right us0 us1 fresh01)) (λ en z. z.2)
+      (λ en z. z.1 ∙ rx.entry_is (ap is_reached same ∙ ap (λ y. is_reached (looped (is_there y) big).ends) is)) op.sub
       (test_meets st4 (length gs) (length vs2) p big (subst (λ y. Exits st4 (length gs) p.stale (looped (is_there y) big).ends) is ex4))
       (λ en z. hand_fact c en w.hand a.hand hp at_once refl (head_hand base ns c few_slots few_locals agree en w.hand a.hand (length vs2) p big (around en z.0))) in
-      let all_rounds = ring base ns c few_slots few_locals agree q v sc a.hand gs hs p.stale hp.stale near1 near0 nearT near2 near3 hd n.block j.block o.block n.group j.group o.group o.block c0 c2 c3 one test live_b rs.later
+      let all_rounds = ring base ns c few_slots few_locals agree q v sc a.hand gs hs p.stale hp.stale near1 near0 nearT near2 near3 hd n.block j.block o.block n.group j.group o.group o.block c0 c2 c3
+      one test live_b rs.later
       (λ en z i1 i2 i3. (i1, hand_left c en w.hand a.hand p first.throws (onward first.ends lp.throws) (sides_first c en l w a p u vx z.0.1).hand))
       (λ en z i1 i2 i3. (z.0, z.1, i2))
       (λ en z i1 i2 i3. body_owed w a gs st4 o.block j.block n.local gg.local vs2 hs hp r step rs.later.entry en size2 rs.entry_is
@@ -265,7 +286,13 @@ module _ (base : Setting) (ns : Names) (c : ClassTree) (few_slots : length c.slo
         out_exits = exits_onward st4 (length gs) (length vs2) p (head big) r.breaks refl (exits_right st4 (length gs) p.stale (past_of (is_there q) (head big)) (onward (head big) r.breaks) ex4);
         hand = body_hand base ns c few_slots few_locals agree en w.hand a.hand (length vs2) p big (around en z.0);
       }))
-      (λ en z i1 i2 i3. (i1, hand_right c en w.hand a.hand hp r.throws (onward (round r) step.throws) (body_hand base ns c few_slots few_locals agree en w.hand a.hand (length vs2) p big (around en z.0)))) in
-      live_to base ns c few_slots few_locals w.hand a.hand gs p.stale outer n.block (suc o.block + blocks_in tr x) (n.block + (blocks_in tr i + test_blocks q + suc (blocks_in false b) + suc (blocks_in tr d) + suc (blocks_in tr x))) n.group (o.group + groups_in x)
+      (λ en z i1 i2 i3. (
+        i1,
+        hand_right c en w.hand a.hand hp r.throws (onward (round r) step.throws)
+            (body_hand base ns c few_slots few_locals agree en w.hand a.hand (length vs2) p big (around en z.0)),
+      )) in
+      live_to base ns c few_slots few_locals w.hand a.hand gs p.stale outer n.block (suc o.block + blocks_in tr x)
+      (n.block + (blocks_in tr i + test_blocks q + suc (blocks_in false b) + suc (blocks_in tr d) + suc (blocks_in tr x))) n.group (o.group + groups_in x)
       (n.group + (groups_in i + groups_in d + groups_in b + groups_in x)) (joined w.hand (joined w.hand (joined w.hand c1 c2) c3) c4) (omega (arith, tb)) (omega (arith, tg))
-      (join c w.hand w.hand a.hand gs p.stale outer near1 outer n.block o.block (suc o.block + blocks_in tr x) n.group o.group (o.group + groups_in x) (joined w.hand (joined w.hand c1 c2) c3) c4 all_rounds rx.later (λ en z is. (z, is)) (λ en z is. z))
+      (join c w.hand w.hand a.hand gs p.stale outer near1 outer n.block o.block (suc o.block + blocks_in tr x) n.group o.group (o.group + groups_in x)
+      (joined w.hand (joined w.hand c1 c2) c3) c4 all_rounds rx.later (λ en z is. (z, is)) (λ en z is. z))

@@ -67,7 +67,8 @@ moved_front : {A : Type 0} (rs ss : List (List ℕ × A)) (r : List ℕ × A) (x
 moved_front [] ss r x a = refl
 moved_front (q ∷ rs) ss r x a = by_name (bytes_eq x q.0) (bytes_eq x r.0) refl refl (moved_front rs ss r x a.1)
   where
-    by_name : (b d : Bool) → bytes_eq x q.0 ≡ b → bytes_eq x r.0 ≡ d → named (rs ++ r ∷ ss) x ≡ (if bytes_eq x r.0 then Some r.1 else named (rs ++ ss) x) → (if b then Some q.1 else named (rs ++ r ∷ ss) x) ≡ (if d then Some r.1 else if b then Some q.1 else named (rs ++ ss) x)
+    by_name : (b d : Bool) → bytes_eq x q.0 ≡ b → bytes_eq x r.0 ≡ d → named (rs ++ r ∷ ss) x ≡ (if bytes_eq x r.0 then Some r.1 else named (rs ++ ss) x)
+        → (if b then Some q.1 else named (rs ++ r ∷ ss) x) ≡ (if d then Some r.1 else if b then Some q.1 else named (rs ++ ss) x)
     by_name true true e f g = absurd (true_false (sym (ap (λ z. bytes_eq z q.0) (sym (bytes_same x r.0 f)) ∙ e) ∙ a.0))
     by_name true false e f g = refl
     by_name false d e f g = g ∙ ap (λ z. if z then Some r.1 else named (rs ++ ss) x) f
@@ -107,7 +108,8 @@ sorted_same (ActorDecl f ∷ ds) x d =
     let s = rows (structs ds) in
     let g = rows (functions ds) in
     let r = row_of (ActorDecl f) in
-    ap (λ l. named l x) (sym (append_assoc s g (r ∷ rows (actors ds)))) ∙ moved_front (s ++ g) (rows (actors ds)) r x (apart_both f.name.name s g (structs_apart f.name.name ds d.0) (functions_apart f.name.name ds d.0))
+    ap (λ l. named l x) (sym (append_assoc s g (r ∷ rows (actors ds))))
+    ∙ moved_front (s ++ g) (rows (actors ds)) r x (apart_both f.name.name s g (structs_apart f.name.name ds d.0) (functions_apart f.name.name ds d.0))
     ∙ ap (λ l. if bytes_eq x f.name.name then Some r.1 else named l x) (append_assoc s g (rows (actors ds))) ∙ ap (λ o. if bytes_eq x f.name.name then Some r.1 else o) (sorted_same ds x d.1)
 
 -- the heads of the classes are those of the actors

@@ -40,10 +40,12 @@ module _ (ns : Names) (c : ClassTree) (few_slots : length c.slots < 2 ^ 64) (few
   whole_falling l s le f = falling_more l (length c.locals) s le f
 
   -- the end of a body
-  finished_good : (m n e : ℕ) (w : Around) (s : Scope) (x : Exit) → Falling (length c.locals) s → m < e → ExitGood ns c few_slots few_locals e x → GoodHere ns c few_slots few_locals m n n (finished w s x)
+  finished_good : (m n e : ℕ) (w : Around) (s : Scope) (x : Exit) → Falling (length c.locals) s → m < e → ExitGood ns c few_slots few_locals e x
+      → GoodHere ns c few_slots few_locals m n n (finished w s x)
   finished_good m n e w s (Text close) f lt h = ends_good c few_slots few_locals m n w s false [] _ f refl (record { named = refl; on = refl })
   finished_good m n e w s (Scoped l) f lt h =
-      ends_good c few_slots few_locals m n w s false (drop_of (scope s)) l f (drop_named c few_slots few_locals (length c.locals) (scope s) (omega arith) (scope_falls (length c.locals) s f)) (leads_good c few_slots few_locals e m l lt h)
+      ends_good c few_slots few_locals m n w s false (drop_of (scope s)) l f (drop_named c few_slots few_locals (length c.locals) (scope s) (omega arith) (scope_falls (length c.locals) s f))
+      (leads_good c few_slots few_locals e m l lt h)
   finished_good m n e w s (Part l) f lt h = ends_good c few_slots few_locals m n w s false [] l f refl (leads_good c few_slots few_locals e m l lt h)
 
   pub end_kept : Keeps End
@@ -57,7 +59,8 @@ module _ (ns : Names) (c : ClassTree) (few_slots : length c.slots < 2 ^ 64) (few
       let j = past d b n in
       let v = inner w (Scoped (GotoLast j.block)) in
       let c1 = lowered ns c.slots (Mark ∷ s) v n b in
-      let g1 = body l t xs (Mark ∷ s) v n m j.block (fits_scoped ns c few_slots few_locals l e j.block j.block w (omega (arith, room.blocks)) (omega arith) (omega (arith, room.blocks, fits.within)) fits)
+      let g1 = body l t xs (Mark ∷ s) v n m j.block (fits_scoped ns c few_slots few_locals l e j.block j.block w (omega (arith, room.blocks)) (omega arith)
+      (omega (arith, room.blocks, fits.within)) fits)
       (record {
         blocks = omega arith;
         locals = omega (arith, room.locals);
@@ -75,7 +78,8 @@ module _ (ns : Names) (c : ClassTree) (few_slots : length c.slots < 2 ^ 64) (few
         types = locals_after ns c b n.local (body_locals k) room.types;
       })
       fall (omega arith) parts.2 ok.1 g1 in
-      good_up_to c few_slots few_locals m n.block (suc j.block + blocks_in d k) (n.block + (blocks_in d b + suc (blocks_in d k))) (joined w.hand c1 (lowered ns c.slots s w (begun j) k)) (omega arith) g
+      good_up_to c few_slots few_locals m n.block (suc j.block + blocks_in d k) (n.block + (blocks_in d b + suc (blocks_in d k))) (joined w.hand c1 (lowered ns c.slots s w (begun j) k))
+      (omega arith) g
 
   -- a test in the block at hand
   pub test_ends : (m n y z : ℕ) (l : ℕ) (w : Around) (s : Scope) (e : ExprTree) → l ≤ length c.locals → Falling l s → m < y → m < z → y < length c.blocks → z < length c.blocks
@@ -91,8 +95,10 @@ module _ (ns : Names) (c : ClassTree) (few_slots : length c.slots < 2 ^ 64) (few
       let v = inner w (Scoped (GotoLast j.block)) in
       let c0 = ends w s true [] (TestLast (over c.slots s q) n.block j.block) in
       let c1 = lowered ns c.slots (Mark ∷ s) v (begun n) b in
-      let g0 = test_ends m n.block n.block j.block n.local w s q (omega (arith, room.locals)) fall lt (omega (arith, lt)) (omega (arith, room.blocks, fits.within)) (omega (arith, room.blocks, fits.within)) in
-      let g1 = body l t xs (Mark ∷ s) v (begun n) n.block j.block (fits_scoped ns c few_slots few_locals l e j.block j.block w (omega (arith, room.blocks)) (omega arith) (omega (arith, room.blocks, fits.within)) fits)
+      let g0 = test_ends m n.block n.block j.block n.local w s q (omega (arith, room.locals)) fall lt (omega (arith, lt)) (omega (arith, room.blocks, fits.within))
+      (omega (arith, room.blocks, fits.within)) in
+      let g1 = body l t xs (Mark ∷ s) v (begun n) n.block j.block (fits_scoped ns c few_slots few_locals l e j.block j.block w (omega (arith, room.blocks)) (omega arith)
+      (omega (arith, room.blocks, fits.within)) fits)
       (record {
         blocks = omega arith;
         locals = omega (arith, room.locals);
@@ -111,7 +117,8 @@ module _ (ns : Names) (c : ClassTree) (few_slots : length c.slots < 2 ^ 64) (few
         types = locals_after ns c b n.local (body_locals k) room.types;
       })
       fall (omega arith) parts.2 ok.1 g01 in
-      good_up_to c few_slots few_locals m n.block (suc j.block + blocks_in d k) (n.block + (suc (blocks_in d b) + suc (blocks_in d k))) (joined w.hand (joined w.hand c0 c1) (lowered ns c.slots s w (begun j) k)) (omega arith) g
+      good_up_to c few_slots few_locals m n.block (suc j.block + blocks_in d k) (n.block + (suc (blocks_in d b) + suc (blocks_in d k)))
+      (joined w.hand (joined w.hand c0 c1) (lowered ns c.slots s w (begun j) k)) (omega arith) g
 
   pub if_else_kept : (at : Place) (q : ExprTree) (b o k : Body) → Keeps b → Keeps o → Keeps k → Keeps (IfElseStmt at q b o k)
   if_else_kept at q b o k body other rest l t xs s w n m e fits room fall lt parts ok =
@@ -122,10 +129,12 @@ module _ (ns : Names) (c : ClassTree) (few_slots : length c.slots < 2 ^ 64) (few
       let c0 = ends w s true [] (TestLast (over c.slots s q) n.block i.block) in
       let c1 = lowered ns c.slots (Mark ∷ s) v (begun n) b in
       let c2 = lowered ns c.slots (Mark ∷ s) v (begun i) o in
-      let g0 = test_ends m n.block n.block i.block n.local w s q (omega (arith, room.locals)) fall lt (omega (arith, lt)) (omega (arith, room.blocks, fits.within)) (omega (arith, room.blocks, fits.within)) in
+      let g0 = test_ends m n.block n.block i.block n.local w s q (omega (arith, room.locals)) fall lt (omega (arith, lt)) (omega (arith, room.blocks, fits.within))
+      (omega (arith, room.blocks, fits.within)) in
       let types12 = locals_front ns c n.local (body_locals b ++ body_locals o) (body_locals k) room.types in
       let sizes : length (body_locals b ++ body_locals o) ≡ locals_in b + locals_in o = omega (arith, length-append (body_locals b) (body_locals o), locals_count b, locals_count o) in
-      let g1 = body l t xs (Mark ∷ s) v (begun n) n.block i.block (fits_scoped ns c few_slots few_locals l e i.block j.block w (omega (arith, room.blocks)) (omega arith) (omega (arith, room.blocks, fits.within)) fits)
+      let g1 = body l t xs (Mark ∷ s) v (begun n) n.block i.block (fits_scoped ns c few_slots few_locals l e i.block j.block w (omega (arith, room.blocks)) (omega arith)
+      (omega (arith, room.blocks, fits.within)) fits)
       (record {
         blocks = omega arith;
         locals = omega (arith, room.locals);
@@ -134,7 +143,8 @@ module _ (ns : Names) (c : ClassTree) (few_slots : length c.slots < 2 ^ 64) (few
         types = locals_front ns c n.local (body_locals b) (body_locals o) types12;
       })
       fall (omega arith) parts.1 ok.0 in
-      let g2 = other l t xs (Mark ∷ s) v (begun i) i.block j.block (fits_scoped ns c few_slots few_locals l e j.block j.block w (omega (arith, room.blocks)) (omega arith) (omega (arith, room.blocks, fits.within)) fits)
+      let g2 = other l t xs (Mark ∷ s) v (begun i) i.block j.block
+      (fits_scoped ns c few_slots few_locals l e j.block j.block w (omega (arith, room.blocks)) (omega arith) (omega (arith, room.blocks, fits.within)) fits)
       (record {
         blocks = omega arith;
         locals = omega (arith, room.locals);
@@ -170,9 +180,11 @@ module _ (ns : Names) (c : ClassTree) (few_slots : length c.slots < 2 ^ 64) (few
       let c1 = ends w s true [] (TestLast (over c.slots s q) h.block j.block) in
       let c2 = lowered ns c.slots (Mark ∷ s) v (begun h) b in
       let g0 = pass_ends m n.block w s n.local (omega (arith, room.locals)) fall (omega (arith, room.blocks, fits.within)) in
-      let g1 = test_ends n.block (suc n.block) h.block j.block n.local w s q (omega (arith, room.locals)) fall (omega arith) (omega arith) (omega (arith, room.blocks, fits.within)) (omega (arith, room.blocks, fits.within)) in
+      let g1 = test_ends n.block (suc n.block) h.block j.block n.local w s q (omega (arith, room.locals)) fall (omega arith) (omega arith) (omega (arith, room.blocks, fits.within))
+      (omega (arith, room.blocks, fits.within)) in
       let g2 = body true t xs (Mark ∷ s) v (begun h) h.block j.block
-      (fits_loop ns c few_slots few_locals l e j.block 1 w (PassLast n.block) j.block (omega (arith, room.blocks)) (omega arith) (omega (arith, room.blocks, fits.within)) (omega (arith, room.blocks, fits.within)) fits)
+      (fits_loop ns c few_slots few_locals l e j.block 1 w (PassLast n.block) j.block (omega (arith, room.blocks)) (omega arith) (omega (arith, room.blocks, fits.within))
+      (omega (arith, room.blocks, fits.within)) fits)
       (record {
         blocks = omega arith;
         locals = omega (arith, room.locals);
@@ -203,7 +215,8 @@ module _ (ns : Names) (c : ClassTree) (few_slots : length c.slots < 2 ^ 64) (few
       let c1 = lowered ns c.slots (Mark ∷ s) v (begun n) b in
       let g0 = pass_ends m n.block w s n.local (omega (arith, room.locals)) fall (omega (arith, room.blocks, fits.within)) in
       let g1 = body true t xs (Mark ∷ s) v (begun n) n.block j.block
-      (fits_loop ns c few_slots few_locals l e j.block 1 w (PassLast n.block) j.block (omega (arith, room.blocks)) (omega arith) (omega (arith, room.blocks, fits.within)) (omega (arith, room.blocks, fits.within)) fits)
+      (fits_loop ns c few_slots few_locals l e j.block 1 w (PassLast n.block) j.block (omega (arith, room.blocks)) (omega arith) (omega (arith, room.blocks, fits.within))
+      (omega (arith, room.blocks, fits.within)) fits)
       (record {
         blocks = omega arith;
         locals = omega (arith, room.locals);
@@ -231,7 +244,8 @@ module _ (ns : Names) (c : ClassTree) (few_slots : length c.slots < 2 ^ 64) (few
 
   -- a break or a continue
   exit_kept : (k : Body) → Keeps k → (l t : Bool) (xs : List (List ℕ)) (s : Scope) (w : Around) (n : Next) (m e : ℕ) (last : LastTree) → Leads c few_slots few_locals e last → FitsHere l e w
-      → n.block + (exit_blocks w.looped.tried + behind k (blocks_in w.looped.tried k)) ≤ e → n.local + locals_in k ≤ length c.locals → n.group + groups_in k ≤ suc (length c.groups) → 0 < n.group → LocalsAt ns c n.local (body_locals k)
+      → n.block + (exit_blocks w.looped.tried + behind k (blocks_in w.looped.tried k)) ≤ e → n.local + locals_in k ≤ length c.locals → n.group + groups_in k ≤ suc (length c.groups) → 0 < n.group
+      → LocalsAt ns c n.local (body_locals k)
       → Falling n.local s → m < n.block → HasParts k → InPlace c.slots l t xs k
       → GoodHere ns c few_slots few_locals m n.block (n.block + (exit_blocks w.looped.tried + behind k (blocks_in w.looped.tried k)))
       (lowering.before_rest w.hand (exits w.looped.tried w s n last) k (lowered ns c.slots s w (begun (exited w.looped.tried n)) k))
@@ -244,7 +258,8 @@ module _ (ns : Names) (c : ClassTree) (few_slots : length c.slots < 2 ^ 64) (few
       let g = exits_good c few_slots few_locals e m d w s n last (whole_falling n.local s (omega (arith, locals)) fall) lt (omega (arith, blocks)) (omega (arith, blocks, fits.within)) leads in
       let g' = good_up_to c few_slots few_locals m n.block (n.block + exit_blocks d) j.block a (sym eb) g in
       let r = dead_kept ns c few_slots few_locals k rest l t xs s w n j m e a fits (omega (arith, eb, blocks)) locals groups first types fall (exited_local d n) (exited_group d n) parts ok g' in
-      good_up_to c few_slots few_locals m n.block (j.block + behind k x) (n.block + (exit_blocks d + behind k x)) (lowering.before_rest w.hand a k (lowered ns c.slots s w (begun j) k)) (omega (arith, eb)) r
+      good_up_to c few_slots few_locals m n.block (j.block + behind k x) (n.block + (exit_blocks d + behind k x)) (lowering.before_rest w.hand a k (lowered ns c.slots s w (begun j) k))
+      (omega (arith, eb)) r
 
   pub break_kept : (at : Place) (k : Body) → Keeps k → Keeps (BreakStmt at k)
   break_kept at k rest l t xs s w n m e fits room fall lt parts ok =
@@ -256,7 +271,8 @@ module _ (ns : Names) (c : ClassTree) (few_slots : length c.slots < 2 ^ 64) (few
 
   -- a return or a throw
   leave_kept : (k : Body) → Keeps k → (l t : Bool) (xs : List (List ℕ)) (s : Scope) (w : Around) (n : Next) (m e : ℕ) (last : LastTree) → LastGood c few_slots few_locals m last → FitsHere l e w
-      → n.block + behind k (blocks_in w.looped.tried k) ≤ e → n.local + locals_in k ≤ length c.locals → n.group + groups_in k ≤ suc (length c.groups) → 0 < n.group → LocalsAt ns c n.local (body_locals k)
+      → n.block + behind k (blocks_in w.looped.tried k) ≤ e → n.local + locals_in k ≤ length c.locals → n.group + groups_in k ≤ suc (length c.groups) → 0 < n.group
+      → LocalsAt ns c n.local (body_locals k)
       → Falling n.local s → HasParts k → InPlace c.slots l t xs k
       → GoodHere ns c few_slots few_locals m n.block (n.block + behind k (blocks_in w.looped.tried k)) (lowering.before_rest w.hand (ends w s true [] last) k (lowered ns c.slots s w (begun n) k))
   leave_kept k rest l t xs s w n m e last good fits blocks locals groups first types fall parts ok =
@@ -294,9 +310,11 @@ module _ (ns : Names) (c : ClassTree) (few_slots : length c.slots < 2 ^ 64) (few
       let types12 = locals_front ns c n.local (body_locals b ++ (ErrorType ∷ [])) (body_locals o) types123 in
       let error = locals_after ns c b n.local (ErrorType ∷ []) types12 in
       let n12 : length (body_locals b ++ (ErrorType ∷ [])) ≡ suc (locals_in b) = omega (arith, length-append (body_locals b) (ErrorType ∷ []), locals_count b) in
-      let n123 : length (body_locals b ++ (ErrorType ∷ []) ++ body_locals o) ≡ suc (locals_in b) + locals_in o = omega (arith, length-append (body_locals b ++ (ErrorType ∷ [])) (body_locals o), n12, locals_count o) in
+      let n123 : length (body_locals b ++ (ErrorType ∷ []) ++ body_locals o) ≡ suc (locals_in b) + locals_in o =
+      omega (arith, length-append (body_locals b ++ (ErrorType ∷ [])) (body_locals o), n12, locals_count o) in
       let known : HandGood c few_slots few_locals i.block (Some hand) = (omega arith, omega (arith, room.blocks, fits.within), error.0) in
-      let g0 = ends_good c few_slots few_locals m n.block w s false [] (GotoLast n.block) (whole_falling n.local s (omega (arith, room.locals)) fall) refl (goto_good c few_slots few_locals m n.block lt (omega (arith, room.blocks, fits.within))) in
+      let g0 = ends_good c few_slots few_locals m n.block w s false [] (GotoLast n.block) (whole_falling n.local s (omega (arith, room.locals)) fall) refl
+      (goto_good c few_slots few_locals m n.block lt (omega (arith, room.blocks, fits.within))) in
       let g1 = body l t xs (Mark ∷ s) v (begun n) n.block i.block
       (fits_guarded ns c few_slots few_locals l e i.block j.block w hand (omega (arith, room.blocks)) (omega arith) (omega (arith, room.blocks, fits.within)) known fits)
       (record {
@@ -307,7 +325,8 @@ module _ (ns : Names) (c : ClassTree) (few_slots : length c.slots < 2 ^ 64) (few
         types = locals_front ns c n.local (body_locals b) (ErrorType ∷ []) types12;
       })
       fall (omega arith) parts.1 ok.0 in
-      let g2 = handler l true (u.name ∷ xs) s2 f g i.block j.block (fits_handling ns c few_slots few_locals l e j.block j.block w u.name (omega (arith, room.blocks)) (omega arith) (omega (arith, room.blocks, fits.within)) fits)
+      let g2 = handler l true (u.name ∷ xs) s2 f g i.block j.block
+      (fits_handling ns c few_slots few_locals l e j.block j.block w u.name (omega (arith, room.blocks)) (omega arith) (omega (arith, room.blocks, fits.within)) fits)
       (record {
         blocks = omega arith;
         locals = omega (arith, room.locals);

@@ -179,8 +179,10 @@ module _ (c : ClassTree) (e : Entries c) where
 
   -- a jump
   pub leads_last : (kc : Option CatcherTree) (s : Places) (l : LastTree) (a : Aim) (p : Point) (r : Reached) → is_reached r ≡ true → LastWay l a p r → Covers s a.places p.stale → Leads c e kc s l
-  leads_last kc s (GotoLast t) a p r h w cover = enters c e s t a.places a.places p.stale a.stale cover (w.reached h) (λ j q k. k) (meets_by a.stale (length a.places) p.stale r.fresh r.waited h w.exits.waited w.exits.fresh)
-  leads_last kc s (PassLast t) a p r h w cover = enters c e s t a.places a.places p.stale a.stale cover (w.reached h) (λ j q k. k) (meets_by a.stale (length a.places) p.stale r.fresh r.waited h w.exits.waited w.exits.fresh)
+  leads_last kc s (GotoLast t) a p r h w cover = enters c e s t a.places a.places p.stale a.stale cover (w.reached h) (λ j q k. k)
+      (meets_by a.stale (length a.places) p.stale r.fresh r.waited h w.exits.waited w.exits.fresh)
+  leads_last kc s (PassLast t) a p r h w cover = enters c e s t a.places a.places p.stale a.stale cover (w.reached h) (λ j q k. k)
+      (meets_by a.stale (length a.places) p.stale r.fresh r.waited h w.exits.waited w.exits.fresh)
   leads_last kc s _ a p r h w cover = absurd w
 
   reads_no_place : (s : Places) (l : LastTree) (a : Aim) (p : Point) (r : Reached) → LastWay l a p r → AllIn (reads c (Last l)) s
@@ -189,16 +191,20 @@ module _ (c : ClassTree) (e : Entries c) where
   reads_no_place s _ a p r w = absurd w
 
   -- scopes are left, and then comes a jump
-  pub lists_kept : (h : Option Hand) (hand : Aim) (kc : Option CatcherTree) (lists : List (List ℕ)) (l : LastTree) (a : Aim) (p : Point) (r : Reached) (s : Places) → is_reached r ≡ true → LastWay l a p r → IsBelow a → IsBelow hand
+  pub lists_kept : (h : Option Hand) (hand : Aim) (kc : Option CatcherTree) (lists : List (List ℕ)) (l : LastTree) (a : Aim) (p : Point) (r : Reached) (s : Places) → is_reached r ≡ true
+      → LastWay l a p r → IsBelow a → IsBelow hand
       → EachFrom a.from lists → EachFrom hand.from lists → Covers s a.places p.stale → Covers s hand.places p.stale → Guard c e h hand kc p.stale → Kept c e kc s (map DropInstr lists) l
-  lists_kept h hand kc [] l a p r s reached way below under from over cover near g = (reads_no_place s l a p r way, catches c e h hand kc p.stale s under g near, leads_last kc s l a p r reached way cover)
+  lists_kept h hand kc [] l a p r s reached way below under from over cover near g =
+      (reads_no_place s l a p r way, catches c e h hand kc p.stale s under g near, leads_last kc s l a p r reached way cover)
   lists_kept h hand kc (ns ∷ lists) l a p r s reached way below under from over cover near g = (
     in_none s,
     catches c e h hand kc p.stale s under g near,
-    lists_kept h hand kc lists l a p r (after (DropInstr ns) s) reached way below under from.1 over.1 (covers_dropped a ns p.stale s below from.0 cover) (covers_dropped hand ns p.stale s under over.0 near) g,
+    lists_kept h hand kc lists l a p r (after (DropInstr ns) s) reached way below under from.1 over.1 (covers_dropped a ns p.stale s below from.0 cover)
+        (covers_dropped hand ns p.stale s under over.0 near) g,
   )
 
-  pub drop_kept : (h : Option Hand) (hand : Aim) (kc : Option CatcherTree) (ds : List ℕ) (l : LastTree) (a : Aim) (p : Point) (r : Reached) (s : Places) → is_reached r ≡ true → LastWay l a p r → IsBelow a → IsBelow hand
+  pub drop_kept : (h : Option Hand) (hand : Aim) (kc : Option CatcherTree) (ds : List ℕ) (l : LastTree) (a : Aim) (p : Point) (r : Reached) (s : Places) → is_reached r ≡ true → LastWay l a p r
+      → IsBelow a → IsBelow hand
       → AllFrom a.from ds → AllFrom hand.from ds → Covers s a.places p.stale → Covers s hand.places p.stale → Guard c e h hand kc p.stale → Kept c e kc s (drop_of ds) l
   drop_kept h hand kc [] l a p r s reached way below under from over cover near g = lists_kept h hand kc [] l a p r s reached way below under tt tt cover near g
   drop_kept h hand kc (d ∷ ds) l a p r s reached way below under from over cover near g = lists_kept h hand kc ((d ∷ ds) ∷ []) l a p r s reached way below under (from, tt) (over, tt) cover near g

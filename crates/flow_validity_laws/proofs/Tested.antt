@@ -62,7 +62,8 @@ actors_well text p h =
     let formed = decls_formed (program_decls _ d.marked t d.rule) in
     let few : length d.marked < 2 ^ 64 = few_tokens (length d.marked) _ (sym (as_many d.marked) ∙ ap length d.is) h.read.parsed.0 in
     let kept = neither_first (decls_refusal (setting_of t.decls) [] t.decls) _ h.accepted in
-    all_well (setting_of t.decls false) (length d.marked) t.decls few formed (decls_placed (setting_of t.decls) [] t.decls (length d.marked) formed kept) (actors_judged (setting_of t.decls) [] t.decls kept)
+    all_well (setting_of t.decls false) (length d.marked) t.decls few formed (decls_placed (setting_of t.decls) [] t.decls (length d.marked) formed kept)
+    (actors_judged (setting_of t.decls) [] t.decls kept)
 
 -- each class is that of an actor
 pub record IsOf (P : RoutineTree → Type 0) (ns : Names) (c : ClassTree) : Type 0 where
@@ -90,7 +91,8 @@ types_well p h a k =
     let params = no_second (written base a.returns) (params_fault base (λ x. false) a.params) (no_second (name_fault k.judged.before a.name.name) _ k.judged.header) in
     let sees = sees_params base ns c k.small.slots k.small.locals base a.params (body_slots a.body) refl params in
     let f = body_fit base ns c k.small.slots k.small.locals agree a.body false false (body_env base a) vs [] w (record { block = 1; local = 0; group = 1 })
-    (record { setting = refl; returns = refl; sees = sees; caught = record { known = λ t. absurd (false≢true t) } }) (record { exit = tt; again = refl }) tt (all_types ns c [] c.locals refl) k.parts k.placed k.judged.body in
+    (record { setting = refl; returns = refl; sees = sees; caught = record { known = λ t. absurd (false≢true t) } }) (record { exit = tt; again = refl }) tt
+    (all_types ns c [] c.locals refl) k.parts k.placed k.judged.body in
     let same : class_setting (compiled p) c ≡ over_class base c = ap (λ (s : Setting). over_class s c) (setting_same p h.apart false) in
     subst (λ s. list_all (block_fits c s) c.blocks && list_all (list_all (callback_fits c s)) c.groups ≡ true) (sym same)
     (both (list_all (block_fits c (over_class base c)) c.blocks) _

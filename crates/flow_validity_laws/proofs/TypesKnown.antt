@@ -67,19 +67,23 @@ module _ (k : List ℕ → Option Meaning) where
   mutual
     pub body_known : (b : Body) (e : Env) → e.setting.known ≡ k → body_refusal e b ≡ None → AreKnown (body_slots b) (body_locals b)
     body_known End e g h = none_known
-    body_known (BlockStmt at b c) e g h = and_known (body_slots b) (body_slots c) (body_locals b) (body_locals c) (body_known b e g (neither_first (body_refusal e b) _ h)) (body_known c (behind e b) g (neither_second (body_refusal e b) _ h))
+    body_known (BlockStmt at b c) e g h = and_known (body_slots b) (body_slots c) (body_locals b) (body_locals c) (body_known b e g (neither_first (body_refusal e b) _ h))
+        (body_known c (behind e b) g (neither_second (body_refusal e b) _ h))
     body_known (IfStmt at q b c) e g h =
         let l = neither_second (item at _) _ h in
-        and_known (body_slots b) (body_slots c) (body_locals b) (body_locals c) (body_known b e g (neither_first (body_refusal e b) _ l)) (body_known c (behind e b) g (neither_second (body_refusal e b) _ l))
+        and_known (body_slots b) (body_slots c) (body_locals b) (body_locals c) (body_known b e g (neither_first (body_refusal e b) _ l))
+        (body_known c (behind e b) g (neither_second (body_refusal e b) _ l))
     body_known (IfElseStmt at q b o c) e g h =
         let l = neither_second (item at _) _ h in
         let m = neither_second (body_refusal e b) _ l in
         and_known (body_slots b ++ body_slots o) (body_slots c) (body_locals b ++ body_locals o) (body_locals c)
-        (and_known (body_slots b) (body_slots o) (body_locals b) (body_locals o) (body_known b e g (neither_first (body_refusal e b) _ l)) (body_known o (behind e b) g (neither_first (body_refusal (behind e b) o) _ m)))
+        (and_known (body_slots b) (body_slots o) (body_locals b) (body_locals o) (body_known b e g (neither_first (body_refusal e b) _ l))
+        (body_known o (behind e b) g (neither_first (body_refusal (behind e b) o) _ m)))
         (body_known c (behind (behind e b) o) g (neither_second (body_refusal (behind e b) o) _ m))
     body_known (WhileStmt at q b c) e g h =
         let l = neither_second (item at _) _ h in
-        and_known (body_slots b) (body_slots c) (body_locals b) (body_locals c) (body_known b (in_loop e) g (neither_first (body_refusal (in_loop e) b) _ l)) (body_known c (behind e b) g (neither_second (body_refusal (in_loop e) b) _ l))
+        and_known (body_slots b) (body_slots c) (body_locals b) (body_locals c) (body_known b (in_loop e) g (neither_first (body_refusal (in_loop e) b) _ l))
+        (body_known c (behind e b) g (neither_second (body_refusal (in_loop e) b) _ l))
     body_known (ForStmt at i q n b c) e g h =
         let e' = started e i in
         let g' = started_known e i g in
@@ -93,7 +97,8 @@ module _ (k : List ℕ → Option Meaning) where
         (body_known b inside g' (neither_first (body_refusal inside b) _ o)))
         (body_known c (behind (behind (behind e i) n) b) g (neither_second (body_refusal inside b) _ o))
     body_known (LoopStmt at b c) e g h =
-        and_known (body_slots b) (body_slots c) (body_locals b) (body_locals c) (body_known b (in_loop e) g (neither_first (body_refusal (in_loop e) b) _ h)) (body_known c (behind e b) g (neither_second (body_refusal (in_loop e) b) _ h))
+        and_known (body_slots b) (body_slots c) (body_locals b) (body_locals c) (body_known b (in_loop e) g (neither_first (body_refusal (in_loop e) b) _ h))
+        (body_known c (behind e b) g (neither_second (body_refusal (in_loop e) b) _ h))
     body_known (BreakStmt at c) e g h = body_known c e g (neither_second (item at _) _ h)
     body_known (ContinueStmt at c) e g h = body_known c e g (neither_second (item at _) _ h)
     body_known (ReturnStmt at v c) e g h = body_known c e g (neither_second (item at _) _ h)
@@ -115,13 +120,15 @@ module _ (k : List ℕ → Option Meaning) where
     body_known (DeclareStmt at i v c) e g h =
         let f = item at (declare_fault e.setting e.states i v) in
         and_known (declared_slots i) (body_slots c) (declared_locals i) (body_locals c)
-        (into_known e.setting e.states i g (no_first (into_fault e.setting e.states i) _ (no_item at (declare_fault e.setting e.states i v) (neither_first f _ h)))) (body_known c (declared e i) g (neither_second f _ h))
+        (into_known e.setting e.states i g (no_first (into_fault e.setting e.states i) _ (no_item at (declare_fault e.setting e.states i v) (neither_first f _ h))))
+        (body_known c (declared e i) g (neither_second f _ h))
     body_known (AssignStmt at xs v c) e g h = body_known c e g (neither_second (item at _) _ h)
     body_known (ModifyStmt at xs d c) e g h = body_known c e g (neither_second (item at _) _ h)
     body_known (CallStmt at xs es c) e g h = body_known c e g (neither_second (item at _) _ h)
     body_known (WaitStmt at w c) e g h =
         let f = item at (wait_fault e.setting e.states w) in
-        and_known (into_slots w.into) (body_slots c) (into_locals w.into) (body_locals c) (wait_known e at w g (neither_first f _ h)) (body_known c (waited e w.into) (waited_known e w.into g) (neither_second f _ h))
+        and_known (into_slots w.into) (body_slots c) (into_locals w.into) (body_locals c) (wait_known e at w g (neither_first f _ h))
+        (body_known c (waited e w.into) (waited_known e w.into g) (neither_second f _ h))
 
     pub branches_known : (bs : Branches) (e : Env) → e.setting.known ≡ k → branch_refusal e bs ≡ None → AreKnown (branch_slots bs) (branch_locals bs)
     branches_known NoBranches e g h = none_known
@@ -130,5 +137,6 @@ module _ (k : List ℕ → Option Meaning) where
         let e' = waited e w.into in
         let l = neither_second f _ h in
         and_known (into_slots w.into ++ body_slots b) (branch_slots bs) (into_locals w.into ++ body_locals b) (branch_locals bs)
-        (and_known (into_slots w.into) (body_slots b) (into_locals w.into) (body_locals b) (wait_known e at w g (neither_first f _ h)) (body_known b e' (waited_known e w.into g) (neither_first (body_refusal e' b) _ l)))
+        (and_known (into_slots w.into) (body_slots b) (into_locals w.into) (body_locals b) (wait_known e at w g (neither_first f _ h))
+        (body_known b e' (waited_known e w.into g) (neither_first (body_refusal e' b) _ l)))
         (branches_known bs (with_states e (slot_names (into_slots w.into ++ body_slots b))) g (neither_second (body_refusal e' b) _ l))

@@ -97,10 +97,12 @@ covers_taken b z gs st cover = by_into b.into refl
     by_into (Some to) e q h = by_side h.1
       where
         by_side : ((h.0 ≡ length gs) × (to ≡ q)) ⊎ Has gs h.0 q → taken_set b z q ≡ true
-        by_side (inl k) = or_first (among (listed b.into) q) (waited_set z q) (ap (λ o. among (listed o) q) e ∙ ap (λ x. among (to ∷ []) x) (sym k.1) ∙ or_first (same_place to to) false (same_self to))
+        by_side (inl k) = or_first (among (listed b.into) q) (waited_set z q)
+            (ap (λ o. among (listed o) q) e ∙ ap (λ x. among (to ∷ []) x) (sym k.1) ∙ or_first (same_place to to) false (same_self to))
         by_side (inr k) = or_second (among (listed b.into) q) (waited_set z q) (covers_waited gs st z cover q (h.0, k, h.2))
 
-module _ (base : Setting) (ns : Names) (c : ClassTree) (few_slots : length c.slots < 2 ^ 64) (few_locals : length c.locals < 2 ^ 64) (agree : (f : List ℕ) → is_there (effectful ns f) ≡ calls_effect (called base f)) where
+module _ (base : Setting) (ns : Names) (c : ClassTree) (few_slots : length c.slots < 2 ^ 64) (few_locals : length c.locals < 2 ^ 64)
+    (agree : (f : List ℕ) → is_there (effectful ns f) ≡ calls_effect (called base f)) where
   abbrev Alives : Body → Type 0
   Alives b = Lives base ns c few_slots few_locals agree b
 
@@ -119,7 +121,8 @@ module _ (base : Setting) (ns : Names) (c : ClassTree) (few_slots : length c.slo
   abbrev after_wait : RowsHere → Option IntoTree → RowsHere
   after_wait rows into = waited_vars base ns c few_slots few_locals agree rows into
 
-  ground_taken : (into : Option IntoTree) (e : Env) (w : Around) (s : Scope) (l : ℕ) (rows : RowsHere) (vs : List Variable) (gs : List Slotted) (p : Point) (a : Aims) → e.setting ≡ over_names base c rows → maybe_into e.setting e.states into ≡ None → Above l s → LocalsAt ns c l (into_locals into)
+  ground_taken : (into : Option IntoTree) (e : Env) (w : Around) (s : Scope) (l : ℕ) (rows : RowsHere) (vs : List Variable) (gs : List Slotted) (p : Point) (a : Aims)
+      → e.setting ≡ over_names base c rows → maybe_into e.setting e.states into ≡ None → Above l s → LocalsAt ns c l (into_locals into)
       → MayTake c.slots (names s) into → Ground base ns c few_slots few_locals w s l rows vs gs p a
       → Ground base ns c few_slots few_locals w (with_taken into l s) (into_count into + l) (after_wait rows into) (with_variable vs into) (with_place (taken_in ns c.slots into l s) gs) p a
   ground_taken None e w s l rows vs gs p a k h ab r m g = ground_past base ns c few_slots few_locals w s l (0 + l) rows vs gs p p a (omega arith) g.start g
@@ -128,7 +131,8 @@ module _ (base : Setting) (ns : Names) (c : ClassTree) (few_slots : length c.slo
       subst (λ o. Ground base ns c few_slots few_locals w (with_into i l s) (local_count i + l) (rows ++ (i.name.name, i.ty) ∷ []) (declared i ∷ vs) (with_place o gs) p a) (sym pl.is)
       (ground_into base ns c few_slots few_locals w s l rows vs gs p a i pl (new_here base ns c few_slots few_locals agree e rows i k h) g)
 
-  thrown_taken : (into : Option IntoTree) (e : Env) (s : Scope) (l : ℕ) (rows : RowsHere) (gs : List Slotted) (cu : Option Caught) (o : Option (List ℕ)) (caught : Bool) → e.setting ≡ over_names base c rows → maybe_into e.setting e.states into ≡ None → Above l s → LocalsAt ns c l (into_locals into)
+  thrown_taken : (into : Option IntoTree) (e : Env) (s : Scope) (l : ℕ) (rows : RowsHere) (gs : List Slotted) (cu : Option Caught) (o : Option (List ℕ)) (caught : Bool)
+      → e.setting ≡ over_names base c rows → maybe_into e.setting e.states into ≡ None → Above l s → LocalsAt ns c l (into_locals into)
       → MayTake c.slots (names s) into → Thrown base ns c few_slots few_locals agree rows gs s cu o caught
       → Thrown base ns c few_slots few_locals agree (after_wait rows into) (with_place (taken_in ns c.slots into l s) gs) (with_taken into l s) cu o caught
   thrown_taken None e s l rows gs cu o caught k h ab r m th = th
@@ -142,7 +146,8 @@ module _ (base : Setting) (ns : Names) (c : ClassTree) (few_slots : length c.slo
   waited_caught e (Some i) = refl
 
   -- an error of a wait
-  guard_waited : (en : Entries c) (h : Option Hand) (a : Aim) (kc : Option CatcherTree) (p : Point) (r : Reached) (st z : ℕ) → r.waited ≡ true → HandWay c en h a p r → Guard c en h a kc st → Guard c en h a kc z
+  guard_waited : (en : Entries c) (h : Option Hand) (a : Aim) (kc : Option CatcherTree) (p : Point) (r : Reached) (st z : ℕ) → r.waited ≡ true → HandWay c en h a p r → Guard c en h a kc st
+      → Guard c en h a kc z
   guard_waited en h a None p r st z e w g = tt
   guard_waited en h a (Some kc) p r st z e w g =
       let side : HandSide c en g.hand a p r = subst (λ o. HandWay c en o a p r) g.around w in
@@ -153,7 +158,8 @@ module _ (base : Setting) (ns : Names) (c : ClassTree) (few_slots : length c.slo
   edge_of g m ks b e h = sym (ap (λ o. option_and_then (λ cs. slice_get cs m) o) e) ∙ h
 
   -- a wait at the end of a block
-  choose_leaf : (rows : RowsHere) (vs : List Variable) (gs : List Slotted) (s : Scope) (w : Around) (m : ℕ) (p : Point) (a : Aims) (near : Entries c → Type 0) (n g : ℕ) (ks : List CallbackTree) (r : Reached) → r.waited ≡ true → Lies a.hand gs (inner_locals w.depth s) m
+  choose_leaf : (rows : RowsHere) (vs : List Variable) (gs : List Slotted) (s : Scope) (w : Around) (m : ℕ) (p : Point) (a : Aims) (near : Entries c → Type 0) (n g : ℕ) (ks : List CallbackTree)
+      (r : Reached) → r.waited ≡ true → Lies a.hand gs (inner_locals w.depth s) m
       → ((z : Places) → Covers z gs p.stale → AllIn (operand_places ks) z) → ((e : Entries c) → near e → HandWay c e w.hand a.hand p r)
       → ((e : Entries c) → near e → (z : Places) → Covers z gs p.stale → (i : ℕ) (b : CallbackTree) → slice_get ks i ≡ Some b → Enters c e (taken_set b z) b.block)
       → Live c w.hand a.hand gs p.stale near n n g (suc g) (record (ends w s true [] (ChooseLast g)) { groups = ks ∷ [] })
@@ -169,7 +175,8 @@ module _ (base : Setting) (ns : Names) (c : ClassTree) (few_slots : length c.slo
         catches c en w.hand a.hand kc p.stale z lies.below guard (covers_sub z gs a.hand.places p.stale lies.sub cover),
         (
           λ i b is. edges en o z cover i b (edge_of g i ks b gr.0 is),
-          catches c en w.hand a.hand kc (length gs) (waited_set z) lies.below (guard_waited en w.hand a.hand kc p r p.stale (length gs) e (hand en o) guard) (covers_sub (waited_set z) gs a.hand.places (length gs) lies.sub (covers_waited gs p.stale z cover)),
+          catches c en w.hand a.hand kc (length gs) (waited_set z) lies.below (guard_waited en w.hand a.hand kc p r p.stale (length gs) e (hand en o) guard)
+              (covers_sub (waited_set z) gs a.hand.places (length gs) lies.sub (covers_waited gs p.stale z cover)),
         ),
       );
       more = tt;
@@ -177,8 +184,10 @@ module _ (base : Setting) (ns : Names) (c : ClassTree) (few_slots : length c.slo
   }
 
   -- a branch is entered behind the wait
-  enters_taken : (en : Entries c) (b : CallbackTree) (z : Places) (gs : List Slotted) (st lost : ℕ) → Covers z gs st → length gs ≤ lost → en b.block ≡ Some (filled (with_place b.into gs) lost) → Enters c en (taken_set b z) b.block
-  enters_taken en b z gs st lost cover le is = enters c en (taken_set b z) b.block (with_place b.into gs) (with_place b.into gs) (length gs) lost (covers_taken b z gs st cover) is (λ j q k. k) (inr le)
+  enters_taken : (en : Entries c) (b : CallbackTree) (z : Places) (gs : List Slotted) (st lost : ℕ) → Covers z gs st → length gs ≤ lost → en b.block ≡ Some (filled (with_place b.into gs) lost)
+      → Enters c en (taken_set b z) b.block
+  enters_taken en b z gs st lost cover le is = enters c en (taken_set b z) b.block (with_place b.into gs) (with_place b.into gs) (length gs) lost (covers_taken b z gs st cover) is (λ j q k. k)
+      (inr le)
 
   pub wait_lives : (at : Place) (u : WaitTree) (x : Body) → Alives x → Alives (WaitStmt at u x)
   wait_lives at u x rest l t e rows vs gs s w n p a cu k said g th fresh many =
@@ -218,30 +227,38 @@ module _ (base : Setting) (ns : Names) (c : ClassTree) (few_slots : length c.slo
         placed = subst (λ xs. InPlace c.slots l t xs x) (sym (names_taken ns c u.into n.local s)) said.placed.1;
         judged = neither_second f _ said.judged;
       })
-      (ground_taken u.into e w s n.local rows vs gs q a said.stands.setting into said.above mine said.placed.0 (ground_past base ns c few_slots few_locals w s n.local n.local rows vs gs p q a (omega arith) (is_behind.from ∙ g.start) g))
-      (subst (λ y. Thrown base ns c few_slots few_locals agree (after_wait rows u.into) gs2 s2 cu w.caught y) (sym (waited_caught e u.into)) (thrown_taken u.into e s n.local rows gs cu w.caught e.caught said.stands.setting into said.above mine said.placed.0 th))
+      (ground_taken u.into e w s n.local rows vs gs q a said.stands.setting into said.above mine said.placed.0
+      (ground_past base ns c few_slots few_locals w s n.local n.local rows vs gs p q a (omega arith) (is_behind.from ∙ g.start) g))
+      (subst (λ y. Thrown base ns c few_slots few_locals agree (after_wait rows u.into) gs2 s2 cu w.caught y) (sym (waited_caught e u.into))
+      (thrown_taken u.into e s n.local rows gs cu w.caught e.caught said.stands.setting into said.above mine said.placed.0 th))
       (subst (λ y. AllFresh (uses (k - 1) (with_variable vs u.into) y cu x)) (behind_once (length vs) p way) (fresh_right es ws fresh)) (omega (arith, many)) in
       let owed = Owed l w a q v in
       let later = later_live c w.hand a.hand gs2 q.stale owed n.block (suc n.block + blocks_in w.looped.tried x) z.group (z.group + groups_in x) c1 live in
       let entry = later_entry c w.hand a.hand gs2 q.stale owed n.block (suc n.block + blocks_in w.looped.tried x) z.group (z.group + groups_in x) c1 live in
       let near0 : Entries c → Type 0 = λ en. outer en × (en n.block ≡ Some (filled gs2 q.stale)) in
       let one = choose_leaf rows vs gs s w n.local p a near0 n.block n.group (cb ∷ []) r wt g.hand
-      (λ y cover. in_both y (expr_places (over c.slots s u.operand)) [] (whole_in base ns c rows s said.stands.sees vs gs n.local g.line p g.start y cover true u.operand (no_first (fault names' true u.operand) _ operand) (fresh_left es ws fresh)) (in_none y))
+      (λ y cover. in_both y (expr_places (over c.slots s u.operand)) []
+      (whole_in base ns c rows s said.stands.sees vs gs n.local g.line p g.start y cover true u.operand (no_first (fault names' true u.operand) _ operand) (fresh_left es ws fresh)) (in_none y))
       (λ en o. (sides_first c en l w a p way v o.0.1).hand) (λ en o y cover i b is. one_edge en y gs cb p.stale q.stale i b cover (omega (arith, lost, g.line.size)) o.1 is) in
-      live_to base ns c few_slots few_locals w.hand a.hand gs p.stale outer n.block (suc n.block + blocks_in w.looped.tried x) (n.block + suc (blocks_in w.looped.tried x)) n.group (z.group + groups_in x) (n.group + suc (groups_in x)) (joined w.hand c0 c1) (omega arith) (omega arith)
-      (join c w.hand w.hand a.hand gs p.stale outer near0 owed n.block n.block (suc n.block + blocks_in w.looped.tried x) n.group z.group (z.group + groups_in x) c0 c1 one later (λ en o is. (o, is ∙ entry))
+      live_to base ns c few_slots few_locals w.hand a.hand gs p.stale outer n.block (suc n.block + blocks_in w.looped.tried x) (n.block + suc (blocks_in w.looped.tried x)) n.group
+      (z.group + groups_in x) (n.group + suc (groups_in x)) (joined w.hand c0 c1) (omega arith) (omega arith)
+      (join c w.hand w.hand a.hand gs p.stale outer near0 owed n.block n.block (suc n.block + blocks_in w.looped.tried x) n.group z.group (z.group + groups_in x) c0 c1 one later
+      (λ en o is. (o, is ∙ entry))
       (λ en o is. (end_onward c en w.exit a.end (length vs) p r v.ends (or_second r.fresh r.waited wt) o.0, sides_second c en l w a (length vs) p way v (or_second r.fresh r.waited wt) o.1)))
     where
-      one_edge : (en : Entries c) (y : Places) (gs : List Slotted) (cb : CallbackTree) (st lost i : ℕ) (b : CallbackTree) → Covers y gs st → length gs ≤ lost → en cb.block ≡ Some (filled (with_place cb.into gs) lost) → slice_get (cb ∷ []) i ≡ Some b → Enters c en (taken_set b y) b.block
+      one_edge : (en : Entries c) (y : Places) (gs : List Slotted) (cb : CallbackTree) (st lost i : ℕ) (b : CallbackTree) → Covers y gs st → length gs ≤ lost
+          → en cb.block ≡ Some (filled (with_place cb.into gs) lost) → slice_get (cb ∷ []) i ≡ Some b → Enters c en (taken_set b y) b.block
       one_edge en y gs cb st lost zero b cover le is e = subst (λ z. Enters c en (taken_set z y) z.block) (some_same cb b e) (enters_taken en cb y gs st lost cover le is)
       one_edge en y gs cb st lost (suc i) b cover le is e = absurd (none_some e)
 
   -- the branches of a choose
   abbrev BranchEntries : Entries c → Scope → List Slotted → ℕ → Bool → Next → Branches → Type 0
   BranchEntries en s gs lost tr n NoBranches = Unit {0}
-  BranchEntries en s gs lost tr n (MoreBranches at w b bs) = (en n.block ≡ Some (filled (with_place (taken_in ns c.slots w.into n.local s) gs) lost)) × BranchEntries en s gs lost tr (past tr b (taken w.into (begun n))) bs
+  BranchEntries en s gs lost tr n (MoreBranches at w b bs) = (en n.block ≡ Some (filled (with_place (taken_in ns c.slots w.into n.local s) gs) lost))
+      × BranchEntries en s gs lost tr (past tr b (taken w.into (begun n))) bs
 
-  operands_in : (bs : Branches) (e : Env) (rows : RowsHere) (vs : List Variable) (gs : List Slotted) (s : Scope) (m : ℕ) (p q : Point) (cu : Option Caught) (k : ℕ) (tr : Bool) (n : Next) → e.setting ≡ over_names base c rows → Sees base c rows s → Lined base c vs gs rows s m → p.from ≡ 0 → branch_refusal e bs ≡ None
+  operands_in : (bs : Branches) (e : Env) (rows : RowsHere) (vs : List Variable) (gs : List Slotted) (s : Scope) (m : ℕ) (p q : Point) (cu : Option Caught) (k : ℕ) (tr : Bool) (n : Next)
+      → e.setting ≡ over_names base c rows → Sees base c rows s → Lined base c vs gs rows s m → p.from ≡ 0 → branch_refusal e bs ≡ None
       → AllFresh (branch_uses k vs p q cu bs) → (z : Places) → Covers z gs p.stale → AllIn (operand_places (callbacks ns c.slots s tr n bs)) z
   operands_in NoBranches e rows vs gs s m p q cu k tr n st sees line start h fresh z cover = in_none z
   operands_in (MoreBranches at w b bs) e rows vs gs s m p q cu k tr n st sees line start h fresh z cover =
@@ -255,9 +272,11 @@ module _ (base : Setting) (ns : Names) (c : ClassTree) (few_slots : length c.slo
       let j = past tr b (taken w.into (begun n)) in
       in_both z (expr_places (over c.slots s w.operand)) (operand_places (callbacks ns c.slots s tr j bs))
       (whole_in base ns c rows s sees vs gs m line p start z cover true w.operand (no_first (fault names' true w.operand) _ operand) (fresh_left es us (fresh_left (es ++ us) ws fresh)))
-      (operands_in bs (with_states e (slot_names (waited_slots w ++ body_slots b))) rows vs gs s m p q cu (left k b) tr j st sees line start (neither_second (body_refusal (waited e w.into) b) _ (neither_second f _ h)) (fresh_right (es ++ us) ws fresh) z cover)
+      (operands_in bs (with_states e (slot_names (waited_slots w ++ body_slots b))) rows vs gs s m p q cu (left k b) tr j st sees line start
+      (neither_second (body_refusal (waited e w.into) b) _ (neither_second f _ h)) (fresh_right (es ++ us) ws fresh) z cover)
 
-  edges_in : (bs : Branches) (en : Entries c) (s : Scope) (gs : List Slotted) (st lost : ℕ) (tr : Bool) (n : Next) (z : Places) (i : ℕ) (b : CallbackTree) → Covers z gs st → length gs ≤ lost → BranchEntries en s gs lost tr n bs → slice_get (callbacks ns c.slots s tr n bs) i ≡ Some b
+  edges_in : (bs : Branches) (en : Entries c) (s : Scope) (gs : List Slotted) (st lost : ℕ) (tr : Bool) (n : Next) (z : Places) (i : ℕ) (b : CallbackTree) → Covers z gs st → length gs ≤ lost
+      → BranchEntries en s gs lost tr n bs → slice_get (callbacks ns c.slots s tr n bs) i ≡ Some b
       → Enters c en (taken_set b z) b.block
   edges_in NoBranches en s gs st lost tr n z i b cover le es e = absurd (none_some e)
   edges_in (MoreBranches at w x bs) en s gs st lost tr n z zero b cover le es e =
@@ -265,7 +284,8 @@ module _ (base : Setting) (ns : Names) (c : ClassTree) (few_slots : length c.slo
       subst (λ y. Enters c en (taken_set y z) y.block) (some_same cb b e) (enters_taken en cb z gs st lost cover le es.0)
   edges_in (MoreBranches at w x bs) en s gs st lost tr n z (suc i) b cover le es e = edges_in bs en s gs st lost tr (past tr x (taken w.into (begun n))) z i b cover le es.1 e
 
-  live_map : (h : Option Hand) (a : Aim) (gs : List Slotted) (st : ℕ) (outer near : Entries c → Type 0) (n m g i : ℕ) (ch : Chunk) → ((e : Entries c) → near e → outer e) → Live c h a gs st outer n m g i ch → Live c h a gs st near n m g i ch
+  live_map : (h : Option Hand) (a : Aim) (gs : List Slotted) (st : ℕ) (outer near : Entries c → Type 0) (n m g i : ℕ) (ch : Chunk) → ((e : Entries c) → near e → outer e)
+      → Live c h a gs st outer n m g i ch → Live c h a gs st near n m g i ch
   live_map h a gs st outer near n m g i ch f v = record {
     entries = v.entries;
     size = v.size;
@@ -285,8 +305,10 @@ module _ (base : Setting) (ns : Names) (c : ClassTree) (few_slots : length c.slo
 
   abbrev pub BranchesLive : Branches → Type 1
   BranchesLive bs =
-      (l t : Bool) (e : Env) (rows : RowsHere) (vs : List Variable) (gs : List Slotted) (s : Scope) (w : Around) (n : Next) (p q : Point) (a : Aims) (cu : Option Caught) (k first g0 : ℕ) (ch : Chunk) (outer : Entries c → Type 0) → Stands base ns c few_slots few_locals agree e rows s w.caught → Above n.local s
-      → LocalsAt ns c n.local (branch_locals bs) → HaveParts bs → HavePaths bs → AllInPlace c.slots l t (names s) bs → branch_refusal e bs ≡ None → Ground base ns c few_slots few_locals w (Mark ∷ s) n.local rows vs gs q a → Thrown base ns c few_slots few_locals agree rows gs s cu w.caught e.caught
+      (l t : Bool) (e : Env) (rows : RowsHere) (vs : List Variable) (gs : List Slotted) (s : Scope) (w : Around) (n : Next) (p q : Point) (a : Aims) (cu : Option Caught) (k first g0 : ℕ) (ch : Chunk)
+      (outer : Entries c → Type 0) → Stands base ns c few_slots few_locals agree e rows s w.caught → Above n.local s
+      → LocalsAt ns c n.local (branch_locals bs) → HaveParts bs → HavePaths bs → AllInPlace c.slots l t (names s) bs → branch_refusal e bs ≡ None
+      → Ground base ns c few_slots few_locals w (Mark ∷ s) n.local rows vs gs q a → Thrown base ns c few_slots few_locals agree rows gs s cu w.caught e.caught
       → AllFresh (branch_uses k vs p q cu bs) → length (branch_groups bs) ≤ k → ((en : Entries c) → outer en → Owed l w a q (branch_ways k bs) en)
       → Live c w.hand a.hand gs p.stale (λ en. outer en × BranchEntries en s gs q.stale w.looped.tried n bs) first n.block g0 n.group ch
       → Live c w.hand a.hand gs p.stale outer first (n.block + branch_blocks w.looped.tried bs) g0 (n.group + branch_group_count bs) (branches ns c.slots ch s w n bs)
@@ -341,12 +363,16 @@ module _ (base : Setting) (ns : Names) (c : ClassTree) (few_slots : length c.slo
       let near : Entries c → Type 0 = λ en. outer en × BranchEntries en s gs q.stale tr n (MoreBranches at u b bs) in
       let next : Entries c → Type 0 = λ en. outer en × BranchEntries en s gs q.stale tr j bs in
       let both_way = λ (en : Entries c) (o : outer en). owed en o in
-      let acc = join c w.hand w.hand a.hand gs p.stale next near owed1 first n.block j.block g0 n.group j.group ch d live later (λ en o is. (o.0, (is ∙ entry ∙ ap (λ y. Some (filled (with_place y gs) q.stale)) (marked_place u.into n.local s), o.1)))
+      let acc = join c w.hand w.hand a.hand gs p.stale next near owed1 first n.block j.block g0 n.group j.group ch d live later
+      (λ en o is. (o.0, (is ∙ entry ∙ ap (λ y. Some (filled (with_place y gs) q.stale)) (marked_place u.into n.local s), o.1)))
       (λ en o is. (end_left en w.exit a.end q rb.ends rbs.ends (owed en o.0).0, sides_left c en l w a q rb rbs (owed en o.0).1)) in
-      live_to base ns c few_slots few_locals w.hand a.hand gs p.stale outer first (j.block + branch_blocks tr bs) (n.block + (suc (blocks_in tr b) + branch_blocks tr bs)) g0 (j.group + branch_group_count bs) (n.group + (groups_in b + branch_group_count bs))
+      live_to base ns c few_slots few_locals w.hand a.hand gs p.stale outer first (j.block + branch_blocks tr bs) (n.block + (suc (blocks_in tr b) + branch_blocks tr bs)) g0
+      (j.group + branch_group_count bs) (n.group + (groups_in b + branch_group_count bs))
       (branches ns c.slots (joined w.hand ch d) s w j bs) (omega arith) (omega arith)
-      (others l t (with_states e xs) rows vs gs s w j p q a cu (k - length (body_groups b)) first g0 (joined w.hand ch d) outer (stands_states base ns c few_slots few_locals agree e xs rows s w.caught st) (above_more ns c n.local j.local s (omega arith) above)
-      (locals_back ns c n.local j.local (into_locals u.into ++ body_locals b) (branch_locals bs) (omega (arith, n1, n12, locals_count b)) room) parts.2 paths.2 placed.2 (neither_second (body_refusal (waited e u.into) b) _ h2)
+      (others l t (with_states e xs) rows vs gs s w j p q a cu (k - length (body_groups b)) first g0 (joined w.hand ch d) outer
+      (stands_states base ns c few_slots few_locals agree e xs rows s w.caught st) (above_more ns c n.local j.local s (omega arith) above)
+      (locals_back ns c n.local j.local (into_locals u.into ++ body_locals b) (branch_locals bs) (omega (arith, n1, n12, locals_count b)) room) parts.2 paths.2 placed.2
+      (neither_second (body_refusal (waited e u.into) b) _ h2)
       (ground_past base ns c few_slots few_locals w s1 n.local j.local rows vs gs q q a (omega arith) g.start g) th (fresh_right (es ++ us) ws fresh) (omega (arith, many, sum))
       (λ en o. (end_right en w.exit a.end q rb.ends rbs.ends (owed en o).0, sides_right c en l w a q rb rbs (owed en o).1)) acc)
     where
@@ -406,23 +432,32 @@ module _ (base : Setting) (ns : Names) (c : ClassTree) (few_slots : length c.slo
         placed = said.placed.1;
         judged = neither_second (branch_refusal e bs) _ h2;
       })
-      g (omega arith) th (behind_once (length vs) p way) (ap (λ y. k - suc (length y)) (append-nil (branch_groups bs)) ∙ monus_twice k 1 (length (branch_groups bs)) (suc (length (branch_groups bs))) (omega arith)) (fresh_right us ws fresh) (omega (arith, many, sum)) in
+      g (omega arith) th (behind_once (length vs) p way) (ap (λ y. k - suc (length y)) (append-nil (branch_groups bs))
+      ∙ monus_twice k 1 (length (branch_groups bs)) (suc (length (branch_groups bs))) (omega arith)) (fresh_right us ws fresh) (omega (arith, many, sum)) in
       let near1 : Entries c → Type 0 = λ en. outer en × (en j.block ≡ r2.later.entry) in
       let near0 : Entries c → Type 0 = λ en. near1 en × BranchEntries en s gs q.stale tr g' bs in
-      let one = choose_leaf rows vs gs s w n.local p a near0 n.block n.group ks r wt g.hand (operands_in bs e rows vs gs s n.local p q cu (k - 1) tr g' said.stands.setting said.stands.sees g.line g.start hb (fresh_left us ws fresh))
-      (λ en o. hand_waited en w.hand a.hand p r bw.throws (sides_first c en l w a p way v o.0.0.1).hand) (λ en o y cover i b is. edges_in bs en s gs p.stale q.stale tr g' y i b cover (omega (arith, lost, g.line.size)) o.1 is) in
+      let one = choose_leaf rows vs gs s w n.local p a near0 n.block n.group ks r wt g.hand
+      (operands_in bs e rows vs gs s n.local p q cu (k - 1) tr g' said.stands.setting said.stands.sees g.line g.start hb (fresh_left us ws fresh))
+      (λ en o. hand_waited en w.hand a.hand p r bw.throws (sides_first c en l w a p way v o.0.0.1).hand)
+      (λ en o y cover i b is. edges_in bs en s gs p.stale q.stale tr g' y i b cover (omega (arith, lost, g.line.size)) o.1 is) in
       let two = each l t e rows vs gs s w1 g' p q a1 cu (k - 1) n.block n.group c0 near1 said.stands said.above room_bs said.parts.1 said.paths.1 said.placed.0 hb
       (ground_inner base ns c few_slots few_locals w (Scoped (GotoLast j.block)) s n.local n.local rows vs gs p q a st (omega arith) start g) th (fresh_left us ws fresh) (omega (arith, many, sum))
-      (λ en o. inner_owed base ns c few_slots few_locals agree en l w j.block n.local a gs q st bw (λ h. o.1 ∙ r2.entry_is (reached_onward r bw.ends reached h)) (exits_onward st (length gs) (length vs) p r bw.ends reached ex)
+      (λ en o. inner_owed base ns c few_slots few_locals agree en l w j.block n.local a gs q st bw (λ h. o.1 ∙ r2.entry_is (reached_onward r bw.ends reached h))
+      (exits_onward st (length gs) (length vs) p r bw.ends reached ex)
       (sides_right c en l w a q (node at_once) bw (sides_onward c en l w a (length vs) p r (both (node at_once) bw) reached (sides_first c en l w a p way v o.0.1)))) one in
-      live_to base ns c few_slots few_locals w.hand a.hand gs p.stale outer n.block (suc j.block + blocks_in tr x) (n.block + (branch_blocks tr bs + suc (blocks_in tr x))) n.group (j.group + groups_in x) (n.group + suc (branch_group_count bs + groups_in x)) (joined w.hand c1 c3) (omega arith) (omega arith)
-      (join c w.hand w.hand a.hand gs p.stale outer near1 outer n.block j.block (suc j.block + blocks_in tr x) n.group j.group (j.group + groups_in x) c1 c3 two r2.later (λ en o is. (o, is)) (λ en o is. o))
+      live_to base ns c few_slots few_locals w.hand a.hand gs p.stale outer n.block (suc j.block + blocks_in tr x) (n.block + (branch_blocks tr bs + suc (blocks_in tr x))) n.group
+      (j.group + groups_in x) (n.group + suc (branch_group_count bs + groups_in x)) (joined w.hand c1 c3) (omega arith) (omega arith)
+      (join c w.hand w.hand a.hand gs p.stale outer near1 outer n.block j.block (suc j.block + blocks_in tr x) n.group j.group (j.group + groups_in x) c1 c3 two r2.later (λ en o is. (o, is))
+      (λ en o is. o))
     where
       hand_waited : (en : Entries c) (h : Option Hand) (m : Aim) (p : Point) (r y : Reached) → HandWay c en h m p (onward r (either at_once y)) → HandWay c en h m p r
       hand_waited en None m p r y w = tt
       hand_waited en (Some k) m p r y w = record {
         reached = λ z. w.reached (reached_onward r (either at_once y) z refl);
-        exits = record { waited = λ z. w.exits.waited (or_first (r.waited && is_reached (either at_once y)) (r.fresh && (either at_once y).waited) (and_true r.waited z)); fresh = λ z. w.exits.fresh (and_true r.fresh z) };
+        exits = record {
+          waited = λ z. w.exits.waited (or_first (r.waited && is_reached (either at_once y)) (r.fresh && (either at_once y).waited) (and_true r.waited z));
+          fresh = λ z. w.exits.fresh (and_true r.fresh z);
+        };
       }
         where
           and_true : (x : Bool) → x ≡ true → x && true ≡ true

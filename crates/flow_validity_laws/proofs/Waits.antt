@@ -33,8 +33,10 @@ module _ (ns : Names) (c : ClassTree) (few_slots : length c.slots < 2 ^ 64) (few
   Keeps b = Kept ns c few_slots few_locals b
 
   -- the test of a `for`, if it has one
-  test_kept : (m e : ℕ) (v : Around) (s : Scope) (n h : Next) (l : ℕ) (q : Option ExprTree) (out : ℕ) (a : Chunk) → HandGood c few_slots few_locals e v.hand → h.block < e → l ≤ length c.locals → Falling l s → (tested q h).block < out
-      → out < length c.blocks → GoodHere ns c few_slots few_locals m n.block h.block a → GoodHere ns c few_slots few_locals m n.block (tested q h).block (test_before ns c.slots v s q (tested q h).block out a)
+  test_kept : (m e : ℕ) (v : Around) (s : Scope) (n h : Next) (l : ℕ) (q : Option ExprTree) (out : ℕ) (a : Chunk) → HandGood c few_slots few_locals e v.hand → h.block < e → l ≤ length c.locals
+      → Falling l s → (tested q h).block < out
+      → out < length c.blocks → GoodHere ns c few_slots few_locals m n.block h.block a
+      → GoodHere ns c few_slots few_locals m n.block (tested q h).block (test_before ns c.slots v s q (tested q h).block out a)
   test_kept m e v s n h l None out a hand lt le f lo ob g = g
   test_kept m e v s n h l (Some q) out a hand lt le f lo ob g =
       joined_good c few_slots few_locals e m n.block h.block (suc h.block) v.hand a (ends v s true [] (TestLast (over c.slots s q) (suc h.block) out)) hand lt g
@@ -66,7 +68,8 @@ module _ (ns : Names) (c : ClassTree) (few_slots : length c.slots < 2 ^ 64) (few
       let t123 = locals_front ns c n.local (body_locals i ++ body_locals p ++ body_locals b) (body_locals k) room.types in
       let t12 = locals_front ns c n.local (body_locals i ++ body_locals p) (body_locals b) t123 in
       let t1 = locals_front ns c n.local (body_locals i) (body_locals p) t12 in
-      let t2 : LocalsAt ns c g.local (body_locals b) = locals_back ns c n.local g.local (body_locals i ++ body_locals p) (body_locals b) (omega (arith, tl, n12, locals_count i, locals_count p, none)) t123 in
+      let t2 : LocalsAt ns c g.local (body_locals b) = locals_back ns c n.local g.local (body_locals i ++ body_locals p) (body_locals b)
+      (omega (arith, tl, n12, locals_count i, locals_count p, none)) t123 in
       let t4 : LocalsAt ns c o.local (body_locals k) =
       locals_back ns c n.local o.local (body_locals i ++ body_locals p ++ body_locals b) (body_locals k) (omega (arith, tl, n12, n123, locals_count i, locals_count p, locals_count b)) room.types in
       let t3 : LocalsAt ns c j.local (body_locals p) = subst (λ ls. LocalsAt ns c j.local ls) (sym (step_locals p parts.0.1)) tt in
@@ -78,17 +81,20 @@ module _ (ns : Names) (c : ClassTree) (few_slots : length c.slots < 2 ^ 64) (few
       (record { blocks = omega arith; locals = omega (arith, room.locals); groups = omega (arith, room.groups); first = room.first; types = t1 })
       fall lt parts.1 ok.0 in
       let g1 = test_kept m e v r n h g.local q o.block c0 fits.hand (omega (arith, ends_in, tb)) (omega (arith, room.locals, tl)) fall_g (omega arith) out_in g0 in
-      let g2 = body true t (started i xs) (Mark ∷ r) f (begun g) g.block j.block (fits_loop ns c few_slots few_locals l e j.block 2 w (GotoLast j.block) o.block (omega (arith, ends_in)) (omega arith) out_in (omega arith, omega (arith, out_in)) fits)
+      let g2 = body true t (started i xs) (Mark ∷ r) f (begun g) g.block j.block
+      (fits_loop ns c few_slots few_locals l e j.block 2 w (GotoLast j.block) o.block (omega (arith, ends_in)) (omega arith) out_in (omega arith, omega (arith, out_in)) fits)
       (record { blocks = omega arith; locals = omega (arith, room.locals, tl); groups = omega (arith, room.groups, tg); first = omega (arith, room.first, tg); types = t2 })
       fall_g (omega arith) parts.3 ok.2 in
-      let g3 = step l t (started i xs) r v (begun j) j.block o.block (fits_inner ns c few_slots few_locals l e o.block w (Part (PassLast h.block)) (omega (arith, ends_in)) (omega (arith, out_in, tb)) fits)
+      let g3 = step l t (started i xs) r v (begun j) j.block o.block
+      (fits_inner ns c few_slots few_locals l e o.block w (Part (PassLast h.block)) (omega (arith, ends_in)) (omega (arith, out_in, tb)) fits)
       (record { blocks = omega arith; locals = omega (arith, room.locals, tl); groups = omega (arith, room.groups, tg); first = omega (arith, room.first, tg); types = t3 })
       (falling_more g.local j.local r (omega arith) fall_g) (omega arith) parts.2 ok.1 in
       let g4 = rest l t xs s w (begun o) o.block e fits
       (record { blocks = omega (arith, room.blocks, tb); locals = omega (arith, room.locals, tl); groups = omega (arith, room.groups, tg); first = omega (arith, room.first, tg); types = t4 })
       (falling_more n.local o.local s (omega (arith, tl)) fall) (omega arith) parts.4 ok.3 in
       let dropped : Falls (length c.locals) ds =
-      subst (λ z. Falls (length c.locals) (scope z)) (sym (step_later p j.local r parts.0.1)) (scope_falls (length c.locals) r (whole_falling ns c few_slots few_locals g.local r (omega (arith, room.locals, tl)) fall_g)) in
+      subst (λ z. Falls (length c.locals) (scope z)) (sym (step_later p j.local r parts.0.1))
+      (scope_falls (length c.locals) r (whole_falling ns c few_slots few_locals g.local r (omega (arith, room.locals, tl)) fall_g)) in
       let g4' = dropping_good c few_slots few_locals o.block (suc o.block) (suc o.block + blocks_in d k) ds c4 dropped g4 in
       let g12 = joined_good c few_slots few_locals e m n.block g.block j.block w.hand c1 c2 fits.hand (omega (arith, ends_in)) g1 g2 in
       let g123 = joined_good c few_slots few_locals e m n.block j.block o.block w.hand (joined w.hand c1 c2) c3 fits.hand (omega (arith, ends_in)) g12 g3 in
@@ -151,7 +157,8 @@ module _ (ns : Names) (c : ClassTree) (few_slots : length c.slots < 2 ^ 64) (few
       let a = ends_good c few_slots few_locals m n w s true [] (ChooseLast g) (whole_falling ns c few_slots few_locals l s le f) refl (choose_good m g lt lg) in
       record { body = a.body; last = a.last; on = a.on; held = a.held; more = a.more; size = a.size; groups = both (list_all (has_operand c) ks) true h refl }
 
-  callback_named : (s : Scope) (w : WaitTree) (l b : ℕ) → Knows c few_slots few_locals s → l + into_count w.into ≤ length c.locals → b < length c.blocks → has_operand c (callback ns c.slots s w l b) ≡ true
+  callback_named : (s : Scope) (w : WaitTree) (l b : ℕ) → Knows c few_slots few_locals s → l + into_count w.into ≤ length c.locals → b < length c.blocks
+      → has_operand c (callback ns c.slots s w l b) ≡ true
   callback_named s w l b know le lt =
       both (has_block c b) _ (less_is b (length c.blocks) lt)
       (there_both c few_slots few_locals (expr_places (over c.slots s w.operand)) (listed (taken_in ns c.slots w.into l s)) (expr_there c few_slots few_locals s know w.operand)
@@ -181,7 +188,8 @@ module _ (ns : Names) (c : ClassTree) (few_slots : length c.slots < 2 ^ 64) (few
       (joined_good c few_slots few_locals e m n.block n.block (suc n.block + blocks_in d k) w.hand c0 c1 fits.hand (omega (arith, room.blocks)) g0 g1)
 
   -- the branches of a choose
-  callbacks_named : (s : Scope) (t : Bool) (n : Next) (bs : Branches) → Knows c few_slots few_locals s → n.local + branch_local_count bs ≤ length c.locals → n.block + branch_blocks t bs ≤ length c.blocks
+  callbacks_named : (s : Scope) (t : Bool) (n : Next) (bs : Branches) → Knows c few_slots few_locals s → n.local + branch_local_count bs ≤ length c.locals
+      → n.block + branch_blocks t bs ≤ length c.blocks
       → list_all (has_operand c) (callbacks ns c.slots s t n bs) ≡ true
   callbacks_named s t n NoBranches know le lb = refl
   callbacks_named s t n (MoreBranches at w b bs) know le lb =
@@ -190,8 +198,10 @@ module _ (ns : Names) (c : ClassTree) (few_slots : length c.slots < 2 ^ 64) (few
 
   abbrev pub BranchesKept : Branches → Type 0
   BranchesKept bs =
-      (l t : Bool) (xs : List (List ℕ)) (s : Scope) (v : Around) (n : Next) (m first e : ℕ) (a : Chunk) → Fits ns c few_slots few_locals l e v → n.block + branch_blocks v.looped.tried bs ≤ e → n.local + branch_local_count bs ≤ length c.locals
-      → n.group + branch_group_count bs ≤ suc (length c.groups) → 0 < n.group → LocalsAt ns c n.local (branch_locals bs) → Falling n.local s → HaveParts bs → AllInPlace c.slots l t xs bs → GoodHere ns c few_slots few_locals m first n.block a
+      (l t : Bool) (xs : List (List ℕ)) (s : Scope) (v : Around) (n : Next) (m first e : ℕ) (a : Chunk) → Fits ns c few_slots few_locals l e v → n.block + branch_blocks v.looped.tried bs ≤ e
+      → n.local + branch_local_count bs ≤ length c.locals
+      → n.group + branch_group_count bs ≤ suc (length c.groups) → 0 < n.group → LocalsAt ns c n.local (branch_locals bs) → Falling n.local s → HaveParts bs → AllInPlace c.slots l t xs bs
+      → GoodHere ns c few_slots few_locals m first n.block a
       → GoodHere ns c few_slots few_locals m first (n.block + branch_blocks v.looped.tried bs) (branches ns c.slots a s v n bs)
 
   pub no_branches_kept : BranchesKept NoBranches
@@ -218,8 +228,10 @@ module _ (ns : Names) (c : ClassTree) (few_slots : length c.slots < 2 ^ 64) (few
       (falling_taken ns c few_slots few_locals w.into n.local (Mark ∷ s) fall) (omega arith) parts.1 ok.1 in
       let g01 = joined_good c few_slots few_locals e m first n.block j.block v.hand a ch fits.hand (omega (arith, blocks)) g g1 in
       let r = others l t xs s v j m first e (joined v.hand a ch) fits (omega (arith, blocks)) (omega (arith, locals)) (omega (arith, groups)) (omega (arith, some))
-      (locals_back ns c n.local j.local (into_locals w.into ++ body_locals b) (branch_locals bs) (omega (arith, n1, n12, locals_count b)) types) (falling_more n.local j.local s (omega arith) fall) parts.2 ok.2 g01 in
-      good_up_to c few_slots few_locals m first (j.block + branch_blocks d bs) (n.block + (suc (blocks_in d b) + branch_blocks d bs)) (branches ns c.slots (joined v.hand a ch) s v j bs) (omega arith) r
+      (locals_back ns c n.local j.local (into_locals w.into ++ body_locals b) (branch_locals bs) (omega (arith, n1, n12, locals_count b)) types)
+      (falling_more n.local j.local s (omega arith) fall) parts.2 ok.2 g01 in
+      good_up_to c few_slots few_locals m first (j.block + branch_blocks d bs) (n.block + (suc (blocks_in d b) + branch_blocks d bs)) (branches ns c.slots (joined v.hand a ch) s v j bs)
+      (omega arith) r
 
   pub choose_kept : (at : Place) (bs : Branches) (k : Body) → BranchesKept bs → Keeps k → Keeps (ChooseStmt at bs k)
   choose_kept at bs k each rest l t xs s w n m e fits room fall lt parts ok =
@@ -231,8 +243,10 @@ module _ (ns : Names) (c : ClassTree) (few_slots : length c.slots < 2 ^ 64) (few
       let ks = callbacks ns c.slots s d g bs in
       let c0 : Chunk = record (ends w s true [] (ChooseLast n.group)) { groups = ks ∷ [] } in
       let c1 = branches ns c.slots c0 s v g bs in
-      let g0 = choose_ends m n.block n.group n.local w s ks (omega (arith, room.locals)) fall room.first (omega (arith, room.groups)) (callbacks_named s d g bs know (omega (arith, room.locals)) (omega (arith, room.blocks, fits.within))) in
-      let g1 = each l t xs s v g m n.block j.block c0 (fits_scoped ns c few_slots few_locals l e j.block j.block w (omega (arith, room.blocks)) (omega arith) (omega (arith, room.blocks, fits.within)) fits) (omega arith) (omega (arith, room.locals))
+      let g0 = choose_ends m n.block n.group n.local w s ks (omega (arith, room.locals)) fall room.first (omega (arith, room.groups))
+      (callbacks_named s d g bs know (omega (arith, room.locals)) (omega (arith, room.blocks, fits.within))) in
+      let g1 = each l t xs s v g m n.block j.block c0 (fits_scoped ns c few_slots few_locals l e j.block j.block w (omega (arith, room.blocks)) (omega arith)
+      (omega (arith, room.blocks, fits.within)) fits) (omega arith) (omega (arith, room.locals))
       (omega (arith, room.groups)) (omega arith) (locals_front ns c n.local (branch_locals bs) (body_locals k) room.types) fall parts.1 ok.0 g0 in
       let r = rest_kept ns c few_slots few_locals k rest l t xs s w n j m e c1 fits
       (record {
@@ -243,4 +257,5 @@ module _ (ns : Names) (c : ClassTree) (few_slots : length c.slots < 2 ^ 64) (few
         types = locals_back ns c n.local j.local (branch_locals bs) (body_locals k) (omega (arith, branch_locals_count bs)) room.types;
       })
       fall (omega arith) parts.2 ok.1 g1 in
-      good_up_to c few_slots few_locals m n.block (suc j.block + blocks_in d k) (n.block + (branch_blocks d bs + suc (blocks_in d k))) (joined w.hand c1 (lowered ns c.slots s w (begun j) k)) (omega arith) r
+      good_up_to c few_slots few_locals m n.block (suc j.block + blocks_in d k) (n.block + (branch_blocks d bs + suc (blocks_in d k))) (joined w.hand c1 (lowered ns c.slots s w (begun j) k))
+      (omega arith) r

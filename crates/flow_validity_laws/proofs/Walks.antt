@@ -200,7 +200,8 @@ module _ (c : ClassTree) (entry : ℕ → Option (List Slotted)) where
     handled_holds k s filled f h =
         ap (λ x. x || (filled && not (dropped k.drops p))) (sym (same_caught k.error p)) ∙ moved (is_caught k.error p) (dropped k.drops p) (s p) filled f h
 
-    caught_at : (b : ℕ) (filled : Bool) (k : CatcherTree) (s : Places) → Catches (catcher_at c b) s → catcher_at c b ≡ Some k → (s p ≡ true → filled ≡ true) → At k.block 0 (filling.handled c p k filled)
+    caught_at : (b : ℕ) (filled : Bool) (k : CatcherTree) (s : Places) → Catches (catcher_at c b) s → catcher_at c b ≡ Some k → (s p ≡ true → filled ≡ true)
+        → At k.block 0 (filling.handled c p k filled)
     caught_at b filled k s h e f = entered (handled k s) k.block (filling.handled c p k filled) (subst (λ o. Catches o s) e h) (handled_holds k s filled f)
 
     come : {b n : ℕ} {filled : Bool} → ((ps : List Slotted) × (entry 0 ≡ Some ps) × ((q : Slotted) → among ps q ≡ true → is_parameter c p q ≡ true)) → Comes c p b n filled → At b n filled

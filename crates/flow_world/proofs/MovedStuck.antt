@@ -51,7 +51,11 @@ module _ {A B : Type 0} (f : A → B) (puts : A → Line → Result (Unit {0}) O
   inside g = inside_by f puts puts_there there g
 
   acts_by : (code : Code) (turns : ℕ) (p : ProcId) (d : EventAction) (at : Place) (m : Surroundings) (a : A) → ActsStuck puts code turns p d at m a → ActsStuck puts_there code turns p d at m (f a)
-  acts_by code turns p d at m a t = record { left = inside t.left; gets_stuck = gets_stuck_by inside meaning.host shows (wrote puts_there) anything (wrote puts) anything (λ g h ls w. lines_by f puts puts_there there g.out h.out ls w) (λ g h ls w. tt) code d at.machine _ _ t.left t.gets_stuck }
+  acts_by code turns p d at m a t = record {
+    left = inside t.left;
+    gets_stuck = gets_stuck_by inside meaning.host shows (wrote puts_there) anything (wrote puts) anything (λ g h ls w. lines_by f puts puts_there there g.out h.out ls w)
+        (λ g h ls w. tt) code d at.machine _ _ t.left t.gets_stuck;
+  }
 
   acts_at_by : (p : ProcId) (d : EventAction) (w : Seen) (a : A) → ActsAtStuck puts p d w a → ActsAtStuck puts_there p d w (f a)
   acts_at_by p d w a (no_process t) = no_process t

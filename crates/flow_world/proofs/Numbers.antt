@@ -68,7 +68,8 @@ others : (p : ProcId) (n : ℕ) (es : List (Pending kept.What)) → having n es 
 others p n [] h = record {}
 others p n (e ∷ es) h = by_test (is_request_of p e.what) (nat_eq n e.number) refl (others p n es (omega (arith, h)))
   where
-    by_test : (t u : Bool) → nat_eq n e.number ≡ u → Others n (request_keys p es) → Others n (map (λ x. (x.time, x.number)) (if t then e ∷ filter (λ x. is_request_of p x.what) es else filter (λ x. is_request_of p x.what) es))
+    by_test : (t u : Bool) → nat_eq n e.number ≡ u → Others n (request_keys p es)
+        → Others n (map (λ x. (x.time, x.number)) (if t then e ∷ filter (λ x. is_request_of p x.what) es else filter (λ x. is_request_of p x.what) es))
     by_test true true f rest = let one : having n (e ∷ es) ≡ 1 + having n es = ap (λ t. (if t then 1 else 0) + having n es) f in absurd (omega (arith, h, one))
     by_test true false f rest = (f, rest)
     by_test false u f rest = rest
@@ -95,7 +96,8 @@ dropped made p (e ∷ es) h = by_test (is_request_of p e.what) (dropped made p e
     by_test : (t : Bool) → without_events (request_keys p es) es ≡ requests_gone p es
         → without_events (map (λ x. (x.time, x.number)) (if t then e ∷ filter (λ x. is_request_of p x.what) es else filter (λ x. is_request_of p x.what) es)) (e ∷ es)
         ≡ (if not t then e ∷ requests_gone p es else requests_gone p es)
-    by_test true rest = ap (λ t. without_events (request_keys p es) (if t then es else e ∷ without_event e.time e.number es)) (together (nat_eq e.time e.time) (nat_eq e.number e.number) same_time same) ∙ rest
+    by_test true rest = ap (λ t. without_events (request_keys p es) (if t then es else e ∷ without_event e.time e.number es))
+        (together (nat_eq e.time e.time) (nat_eq e.number e.number) same_time same) ∙ rest
     by_test false rest = stays e es (request_keys p es) (others p e.number es alone) ∙ ap (λ xs. e ∷ xs) rest
 
 pub requests_dropped : (made : ℕ) (p : ProcId) (w : Surroundings) → NumbersOnce made w.timers.pending → without_keys (request_keys p w.timers.pending) w ≡ without_requests p w

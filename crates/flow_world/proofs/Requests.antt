@@ -167,6 +167,10 @@ packet_is_sent m w p q port text s me h i =
     by_fate : (f : Fate)
         → ((line.Send (suc m.net.sent) q port text ∷ fate_lines f (suc m.net.sent)) ≡ (line.Send (suc w.sent) (process_id q.0) port text ∷ (outcome f).0))
         × OutsideRepresents (with_arrival f q (suc m.net.sent) (does.sent_by f (does.letter p q port text) m)) (outcome f).1
-    by_fate Cut = (rw s.sent refl, subst (λ n. OutsideRepresents (with_arrival Cut q (suc m.net.sent) (does.sent_by Cut (does.letter p q port text) m)) (record w { sent = suc w.sent; drawn = n })) (omega arith) (lost_packet m w 0 s))
+    by_fate Cut = (
+      rw s.sent refl,
+      subst (λ n. OutsideRepresents (with_arrival Cut q (suc m.net.sent) (does.sent_by Cut (does.letter p q port text) m)) (record w { sent = suc w.sent; drawn = n }))
+          (omega arith) (lost_packet m w 0 s),
+    )
     by_fate Drawn = (rw s.sent refl, lost_packet m w 1 s)
     by_fate (At time) = (rw s.sent refl, coming_packet m w p q port text time s me)

@@ -80,7 +80,8 @@ pub record DiskLoses (p : ProcId) (before after : Surroundings) (fates : List Ke
   pub kept : List (List ℕ × File)
   pub lost : losing kept after.draws.used fates ≡ power_lost (drawn_words before.draws) before.draws.used disk.files
   pub left : after
-      ≡ record (with_disk p.0 (record { fails = disk.fails; files = kept }) before) { draws = record before.draws { used = after.draws.used } }
+      ≡ record (with_disk p.0 (record { fails = disk.fails; files = kept }) before)
+      { draws = record before.draws { used = after.draws.used } }
 
 -- a timer or a disk request of this process
 abbrev pub is_request_of : ProcId → What → Bool

@@ -127,9 +127,11 @@ module _ {A : Type 0} (puts : A → Line → Result (Unit {0}) OutFault → A �
   abbrev pub inside : ProcId → Ports → Surroundings → A → Inside A
   inside p ports m a = record { me = p; ports = ports; outside = m; out = a }
 
-  pub record Acts (code : Code) (turns : ℕ) (p : ProcId) (d : EventAction) (at : Place) (m : Surroundings) (a : A) (e : Burst) (left : Place) (n : Surroundings) (b : A) : Type 0 where
+  pub record Acts (code : Code) (turns : ℕ) (p : ProcId) (d : EventAction) (at : Place) (m : Surroundings) (a : A) (e : Burst)
+      (left : Place) (n : Surroundings) (b : A) : Type 0 where
     pub me : ProcId
-    pub does : Does meaning.host shows (wrote puts) code m.time turns d at.machine (inside p at.ports m a) e left.machine (inside me left.ports n b)
+    pub does : Does meaning.host shows (wrote puts) code m.time turns d at.machine (inside p at.ports m a) e left.machine
+        (inside me left.ports n b)
     pub up : left.up ≡ up_after d at.up
 
   pub record Acted (p : ProcId) (d : EventAction) (at : Place) (w : Seen) (a : A) (e : Burst) (v : Seen) (b : A) : Type 0 where

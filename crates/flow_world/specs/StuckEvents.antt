@@ -61,7 +61,8 @@ NoLink p q w = (w.outside.net.processes ≤ p.0) ⊎ (w.outside.net.processes �
 abbrev pub NotAmong : ProcId → Place → Seen → Type 0
 NotAmong p at w = (w.outside.net.processes ≤ p.0) ⊎ (at.machine.processes ≡ w.outside.net.processes → ⊥)
 
-module _ {A W : Type 0} (serves : Host W) (shows : A → Numbered ℕ → W → Type 0) (wrote broke : A → List Line → A → Type 0) (code : Code) where
+module _ {A W : Type 0} (serves : Host W) (shows : A → Numbered ℕ → W → Type 0) (wrote broke : A → List Line → A → Type 0)
+    (code : Code) where
   -- what follows of a deed goes astray
   abbrev pub ActionStuck : EventAction → Machine → (begun : Process) → A → A → Type 0
   ActionStuck Boots m p a b = MainBreaksOff serves shows wrote broke code m.processes m.me p a Stuck b

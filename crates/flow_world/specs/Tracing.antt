@@ -71,7 +71,8 @@ module _ {A : Type 0} (puts : A → Line → Result (Unit {0}) OutFault → A �
   -- events run one after another, each followed by the frames where they are asked for
   pub data RunsEvents : Seen → A → Seen → A → Type 0 where
     no_event : {w : Seen} {a : A} → RunsEvents w a w a
-    one_more : {w u v : Seen} {a b c d : A} → RunsEvents w a u b → EventDoes puts event.Ran u b v c → Puts puts c (lines_if with_frames v) d → RunsEvents w a v d
+    one_more : {w u v : Seen} {a b c d : A} → RunsEvents w a u b → EventDoes puts event.Ran u b v c → Puts puts c (lines_if with_frames v) d
+        → RunsEvents w a v d
 
   -- they do so up to the end of the run
   pub record RunsToEnd (w : Seen) (a : A) (e : Ending) (v : Seen) (b : A) : Type 0 where

@@ -49,7 +49,9 @@ fn does<H: Host>(
     match deed {
         EventAction::Boots => machine.start_main(code, now, turns, host),
         EventAction::Stops => machine.stop(code, now, turns, host),
-        EventAction::Delivers(cell, outcome) => machine.deliver(code, cell, outcome, now, turns, host),
+        EventAction::Delivers(cell, outcome) => machine.deliver(
+            code, cell, outcome, now, turns, host,
+        ),
         EventAction::Brings(cell, item) => machine.arrive(code, cell, item, now, turns, host),
     }
 }

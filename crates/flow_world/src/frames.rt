@@ -10,15 +10,15 @@ ghost use Rattle.flow_world.specs.Tracing.{name_of, own_count, callback_line, fr
 ghost use Rattle.flow_world.specs.Tracing.{process_lines, world_lines, lines_if};
 ghost use Rattle.flow_world.specs.StuckTraces.{SomeNoClass, ProcessFramesStuck, FramesStuck, FramesStuckIf};
 
+use crate::World;
+use crate::put::put;
+use crate::teller::{Teller, unless_failed};
 use flow_base::ids::{ActorId, ProcId};
 use flow_base::name::Name;
 use flow_machine::host::RunFault;
 use flow_machine::views::{CallbackView, FrameView};
 use flow_trace::line::Line;
 use flow_trace::out::LineOut;
-use crate::World;
-use crate::put::put;
-use crate::teller::{Teller, unless_failed};
 use std::alloc::Global;
 use std::snapshot::Snapshot;
 

@@ -21,7 +21,7 @@ mod to_sink;
 pub mod trace;
 pub mod world;
 
-pub use event::Event;
-pub use world::World;
 pub use ending::Ending;
+pub use event::Event;
 pub use to_sink::write_trace;
+pub use world::World;

@@ -15,12 +15,12 @@ ghost use Rattle.flow_world.specs.StuckTraces.{EventsStuck, TraceStuck};
 
 use crate::ending::Ending;
 use crate::frames::put_frames_if;
+use crate::put::put;
+use crate::{Event, World};
 use flow_machine::host::RunFault;
 use flow_trace::line::Line;
 use flow_trace::out::LineOut;
 use flow_valid::program::ClassProgram;
-use crate::put::put;
-use crate::{Event, World};
 use flow_worldfile::World0;
 use std::alloc::Global;
 

@@ -19,9 +19,9 @@ ghost use Rattle.flow_world.specs.StuckEvents.{AnsweredStuck, HappenedStuck, Lin
 ghost use Rattle.flow_world.specs.Starting.{Starts};
 ghost use Rattle.flow_world.specs.Views.{frames_at, callbacks_at, live_in};
 
-use crate::asked::Asked;
-use crate::answers::{disk_line, disk_outcome, packet_value};
 use crate::action::{EventAction, acts, holds_already};
+use crate::answers::{disk_line, disk_outcome, packet_value};
+use crate::asked::Asked;
 use crate::event::Event;
 use crate::outside::{LAST_TIME, Outside, What};
 use crate::place::Place;
@@ -321,7 +321,11 @@ impl World {
             What::Rings(p, cell) => {
                 let n = self.number();
                 put(out, Line::Timer(n, self.outside.time, p, cell))?;
-                self.runs(p, EventAction::Delivers(cell, Outcome::Value(Value::Void)), out)
+                self.runs(
+                    p,
+                    EventAction::Delivers(cell, Outcome::Value(Value::Void)),
+                    out,
+                )
             }
             What::Arrives(p, packet) => self.arrives(p, packet, out),
             What::Answers(p, cell, asked) => self.answers(p, cell, &asked, out),
@@ -519,7 +523,12 @@ impl World {
 
     #[tactic(auto, using(flow_machine::proofs::Causes::cause_before))]
     /// A process does what follows of a deed.
-    fn runs<L: LineOut>(&mut self, p: ProcId, deed: EventAction, out: &mut L) -> Result<Burst, RunFault>
+    fn runs<L: LineOut>(
+        &mut self,
+        p: ProcId,
+        deed: EventAction,
+        out: &mut L,
+    ) -> Result<Burst, RunFault>
         ensures happens { IfOk result (λ e. Runs L.puts p deed
             (world_seen self.old) out.old e (world_seen self.new) out.new) }
         ensures within { WithinEvent (world_seen self.old) (world_seen self.new) }
@@ -547,7 +556,12 @@ impl World {
     }
 
     /// A process of the world does what follows of a deed.
-    fn acts<L: LineOut>(&mut self, p: ProcId, deed: EventAction, out: &mut L) -> Result<Burst, RunFault>
+    fn acts<L: LineOut>(
+        &mut self,
+        p: ProcId,
+        deed: EventAction,
+        out: &mut L,
+    ) -> Result<Burst, RunFault>
         ensures acts { IfOk result (λ e. ActsAt L.puts p deed
             (world_seen self.old) out.old e (world_seen self.new) out.new) }
         ensures within { WithinEvent (world_seen self.old) (world_seen self.new) }

@@ -43,20 +43,29 @@ whole s t seed processes events turns latency diskdelay loss words script =
 -- what is said with one line more, where it may be said
 pub said_more : (ds : List Directive) (d : Directive) → is_repeated (said ds) d ≡ false → said (ds ++ d ∷ []) ≡ added (said ds) d
 said_more ds (Seed n) once =
-    whole _ _ (newly seed_in ds _ _ once refl) (still processes_in ds _ refl) (still events_in ds _ refl) (still turns_in ds _ refl) (still latency_in ds _ refl) (still diskdelay_in ds _ refl) (still loss_in ds _ refl) (other word_in ds _ refl) (other order_in ds _ refl)
+    whole _ _ (newly seed_in ds _ _ once refl) (still processes_in ds _ refl) (still events_in ds _ refl) (still turns_in ds _ refl) (still latency_in ds _ refl) (still diskdelay_in ds _ refl)
+    (still loss_in ds _ refl) (other word_in ds _ refl) (other order_in ds _ refl)
 said_more ds (Processes n) once =
-    whole _ _ (still seed_in ds _ refl) (newly processes_in ds _ _ once refl) (still events_in ds _ refl) (still turns_in ds _ refl) (still latency_in ds _ refl) (still diskdelay_in ds _ refl) (still loss_in ds _ refl) (other word_in ds _ refl) (other order_in ds _ refl)
+    whole _ _ (still seed_in ds _ refl) (newly processes_in ds _ _ once refl) (still events_in ds _ refl) (still turns_in ds _ refl) (still latency_in ds _ refl) (still diskdelay_in ds _ refl)
+    (still loss_in ds _ refl) (other word_in ds _ refl) (other order_in ds _ refl)
 said_more ds (Events n) once =
-    whole _ _ (still seed_in ds _ refl) (still processes_in ds _ refl) (newly events_in ds _ _ once refl) (still turns_in ds _ refl) (still latency_in ds _ refl) (still diskdelay_in ds _ refl) (still loss_in ds _ refl) (other word_in ds _ refl) (other order_in ds _ refl)
+    whole _ _ (still seed_in ds _ refl) (still processes_in ds _ refl) (newly events_in ds _ _ once refl) (still turns_in ds _ refl) (still latency_in ds _ refl) (still diskdelay_in ds _ refl)
+    (still loss_in ds _ refl) (other word_in ds _ refl) (other order_in ds _ refl)
 said_more ds (Turns n) once =
-    whole _ _ (still seed_in ds _ refl) (still processes_in ds _ refl) (still events_in ds _ refl) (newly turns_in ds _ _ once refl) (still latency_in ds _ refl) (still diskdelay_in ds _ refl) (still loss_in ds _ refl) (other word_in ds _ refl) (other order_in ds _ refl)
+    whole _ _ (still seed_in ds _ refl) (still processes_in ds _ refl) (still events_in ds _ refl) (newly turns_in ds _ _ once refl) (still latency_in ds _ refl) (still diskdelay_in ds _ refl)
+    (still loss_in ds _ refl) (other word_in ds _ refl) (other order_in ds _ refl)
 said_more ds (Latency lo hi) once =
-    whole _ _ (still seed_in ds _ refl) (still processes_in ds _ refl) (still events_in ds _ refl) (still turns_in ds _ refl) (newly latency_in ds _ _ once refl) (still diskdelay_in ds _ refl) (still loss_in ds _ refl) (other word_in ds _ refl) (other order_in ds _ refl)
+    whole _ _ (still seed_in ds _ refl) (still processes_in ds _ refl) (still events_in ds _ refl) (still turns_in ds _ refl) (newly latency_in ds _ _ once refl) (still diskdelay_in ds _ refl)
+    (still loss_in ds _ refl) (other word_in ds _ refl) (other order_in ds _ refl)
 said_more ds (DiskDelay lo hi) once =
-    whole _ _ (still seed_in ds _ refl) (still processes_in ds _ refl) (still events_in ds _ refl) (still turns_in ds _ refl) (still latency_in ds _ refl) (newly diskdelay_in ds _ _ once refl) (still loss_in ds _ refl) (other word_in ds _ refl) (other order_in ds _ refl)
+    whole _ _ (still seed_in ds _ refl) (still processes_in ds _ refl) (still events_in ds _ refl) (still turns_in ds _ refl) (still latency_in ds _ refl) (newly diskdelay_in ds _ _ once refl)
+    (still loss_in ds _ refl) (other word_in ds _ refl) (other order_in ds _ refl)
 said_more ds (Loss n) once =
-    whole _ _ (still seed_in ds _ refl) (still processes_in ds _ refl) (still events_in ds _ refl) (still turns_in ds _ refl) (still latency_in ds _ refl) (still diskdelay_in ds _ refl) (newly loss_in ds _ _ once refl) (other word_in ds _ refl) (other order_in ds _ refl)
+    whole _ _ (still seed_in ds _ refl) (still processes_in ds _ refl) (still events_in ds _ refl) (still turns_in ds _ refl) (still latency_in ds _ refl) (still diskdelay_in ds _ refl)
+    (newly loss_in ds _ _ once refl) (other word_in ds _ refl) (other order_in ds _ refl)
 said_more ds (Word n) once =
-    whole _ _ (still seed_in ds _ refl) (still processes_in ds _ refl) (still events_in ds _ refl) (still turns_in ds _ refl) (still latency_in ds _ refl) (still diskdelay_in ds _ refl) (still loss_in ds _ refl) (same word_in ds _ _ refl) (other order_in ds _ refl)
+    whole _ _ (still seed_in ds _ refl) (still processes_in ds _ refl) (still events_in ds _ refl) (still turns_in ds _ refl) (still latency_in ds _ refl) (still diskdelay_in ds _ refl)
+    (still loss_in ds _ refl) (same word_in ds _ _ refl) (other order_in ds _ refl)
 said_more ds (At t order) once =
-    whole _ _ (still seed_in ds _ refl) (still processes_in ds _ refl) (still events_in ds _ refl) (still turns_in ds _ refl) (still latency_in ds _ refl) (still diskdelay_in ds _ refl) (still loss_in ds _ refl) (other word_in ds _ refl) (same order_in ds _ _ refl)
+    whole _ _ (still seed_in ds _ refl) (still processes_in ds _ refl) (still events_in ds _ refl) (still turns_in ds _ refl) (still latency_in ds _ refl) (still diskdelay_in ds _ refl)
+    (still loss_in ds _ refl) (other word_in ds _ refl) (same order_in ds _ _ refl)

@@ -36,7 +36,8 @@ module _ {W : Type 0} (h : Host W) (r : RawTree) where
       rests (ap (λ o. advanced h w (step_if (classes r) (h.supply w) o p)) e ∙ ap (λ ts. advanced h w (step_tasks (classes r) (h.supply w) ts p)) t)
 
   module _ (valid : AreValid r) where
-    served_keeps : (o : Option Request) (p : Proc Frame) (w : W) → UnlessStopped p.core.halted (ProcessInvariant r p) → UnlessStopped (serve h o p w).proc.core.halted (ProcessInvariant r (serve h o p w).proc)
+    served_keeps : (o : Option Request) (p : Proc Frame) (w : W) → UnlessStopped p.core.halted (ProcessInvariant r p)
+        → UnlessStopped (serve h o p w).proc.core.halted (ProcessInvariant r (serve h o p w).proc)
     served_keeps None p w k = k
     served_keeps (Some q) p w k = unless_map p.core.halted (lines_keep r (h.serve q w).0 p) k
 

@@ -83,7 +83,8 @@ module _ {A W : Type 0} (serves : Host W) (shown_by : A → Numbered ℕ → W �
   kept_then p q w u k here_goes goes reach =
       subst (λ x. UnlessStopped x (ProcessInvariant r q)) goes (reaches_keep serves r run.valid (live p w) (live q u) (subst (λ x. UnlessStopped x (ProcessInvariant r p)) (sym here_goes) k) reach)
 
-  pub in_then : (ls : List Line) (m n : Process) (a : A) (p q : Proc Frame) (w : W) → In ls m a p w → Stays m n → NoStaleWaits n.heap → To p w q w → ProcessRepresents r ls nothing_in_hand n q → n.asked ≡ None → (n.spent ≡ false → q.core.ports ≡ ports_left n.asked p.core.ports) → In ls n a q w
+  pub in_then : (ls : List Line) (m n : Process) (a : A) (p q : Proc Frame) (w : W) → In ls m a p w → Stays m n → NoStaleWaits n.heap → To p w q w → ProcessRepresents r ls nothing_in_hand n q
+      → n.asked ≡ None → (n.spent ≡ false → q.core.ports ≡ ports_left n.asked p.core.ports) → In ls n a q w
   in_then ls m n a p q w now stays poised reach s none ports = record {
     between = record { shown = s; sorted = sorted_stays m n stays now.between.sorted; kept = kept_then p q w w now.between.kept now.between.shown.goes s.goes reach };
     asked = none;
@@ -106,8 +107,10 @@ module _ {A W : Type 0} (serves : Host W) (shown_by : A → Numbered ℕ → W �
   onward_end : (ls : List Line) (m k : Process) (a : A) (p q : Proc Frame) (w : W) (e : Next) (n : Process) → To p w q w → TasksEnd ls k a q w e n → TasksEnd ls m a p w e n
   onward_end ls m k a p q w _ n reach (rested _ o more now none) = rested n o (reaches_then serves r (live p w) (live q w) (live o w) reach more) now none
   onward_end ls m k a p q w _ n reach (spent _ o more are none) = spent n o (reaches_then serves r (live p w) (live q w) (live o w) reach more) are none
-  onward_end ls m k a p q w _ n reach (told_last _ j o x more now stays poised last s is ports some) = told_last n j o x (reaches_then serves r (live p w) (live q w) (live o w) reach more) now stays poised last s is ports some
-  onward_end ls m k a p q w _ n reach (asked_last _ j o x more now stays poised last world) = asked_last n j o x (reaches_then serves r (live p w) (live q w) (live o w) reach more) now stays poised last world
+  onward_end ls m k a p q w _ n reach (told_last _ j o x more now stays poised last s is ports some) =
+      told_last n j o x (reaches_then serves r (live p w) (live q w) (live o w) reach more) now stays poised last s is ports some
+  onward_end ls m k a p q w _ n reach (asked_last _ j o x more now stays poised last world) =
+      asked_last n j o x (reaches_then serves r (live p w) (live q w) (live o w) reach more) now stays poised last world
 
   -- a spent event goes on with nothing
   pub spent_tasks : (m n : Process) (e : Next) → m.spent ≡ true → Tasks code m e n → (e ≡ next.Spent) × (n ≡ m)
@@ -119,7 +122,8 @@ module _ {A W : Type 0} (serves : Host W) (shown_by : A → Numbered ℕ → W �
   -- What a step asked is served: then the process is in its world again, with the lines that were written; or the event is spent.
   pub data ServedThen (ls : List Line) (a : A) (p : Proc Frame) (w : W) (j : Process) (b : A) : Type 0 where
     lives_on : (more : List Line) (t : Proc Frame) (u : W) → To p w t u → WroteOrQuiet serves shown_by wrote r nothing_in_hand a more b → In (ls ++ more) j b t u → ServedThen ls a p w j b
-    is_spent : (more : List Line) (t : Proc Frame) → To p w t w → WroteOrQuiet serves shown_by wrote r nothing_in_hand a more b → j.spent ≡ true → t.core.halted ≡ Some Spent → t.core.lines ≡ ls ++ more
+    is_spent : (more : List Line) (t : Proc Frame) → To p w t w → WroteOrQuiet serves shown_by wrote r nothing_in_hand a more b → j.spent ≡ true → t.core.halted ≡ Some Spent
+        → t.core.lines ≡ ls ++ more
         → ServedThen ls a p w j b
 
   module _ (branched : Branched code.classes.items) (steady : HostKeepsTime serves) (go : TasksGo serves shown_by wrote code processes r) where
@@ -154,7 +158,8 @@ module _ {A W : Type 0} (serves : Host W) (shown_by : A → Numbered ℕ → W �
     Goes ls a p w e n b = SimulatesBurst serves shown_by wrote code processes r ls a p w e n b
 
     -- steps before a burst, with their lines
-    before : (ls more : List Line) (a b c : A) (p q : Proc Frame) (w u : W) (e : Burst) (n : Process) → To p w q u → WroteOrQuiet serves shown_by wrote r nothing_in_hand a more b → Goes (ls ++ more) b q u e n c → Goes ls a p w e n c
+    before : (ls more : List Line) (a b c : A) (p q : Proc Frame) (w u : W) (e : Burst) (n : Process) → To p w q u → WroteOrQuiet serves shown_by wrote r nothing_in_hand a more b
+        → Goes (ls ++ more) b q u e n c → Goes ls a p w e n c
     before ls more a b c p q w u e n reach said f = record {
       after = f.after;
       out = f.out;
@@ -212,12 +217,14 @@ module _ {A W : Type 0} (serves : Host W) (shown_by : A → Numbered ℕ → W �
       told_then some (Some (call.Line l)) is fits ports (shows s) served =
           let x = line_written serves shown_by wrote r nothing_in_hand ls n j a b q w processes l s is (subst (λ ps. shown_by a ps w) (sym (ports s.unspent)) now.world) served in
           lives_on (l ∷ []) q w reach (serving.told x.0)
-          (told_in (ls ++ l ∷ []) x.1 (served_serves serves shown_by wrote (unasked n) j a b (free s) processes (call.Line l) served) (served_poised serves shown_by wrote (unasked n) j a b processes (call.Line l) served poised))
+          (told_in (ls ++ l ∷ []) x.1 (served_serves serves shown_by wrote (unasked n) j a b (free s) processes (call.Line l) served)
+          (served_poised serves shown_by wrote (unasked n) j a b processes (call.Line l) served poised))
       told_then some (Some (call.Unlisten k)) is fits ports (shows s) served =
           let x = port_unheard serves shown_by wrote r nothing_in_hand ls n j a b q w processes k o.core.ports s is now.world (sym (ports s.unspent)) served in
           lives_on [] q w reach (serving.told x.0)
           (subst (λ ks. In ks j b q w) (sym (no_more ls))
-          (told_in ls x.1 (served_serves serves shown_by wrote (unasked n) j a b (free s) processes (call.Unlisten k) served) (served_poised serves shown_by wrote (unasked n) j a b processes (call.Unlisten k) served poised)))
+          (told_in ls x.1 (served_serves serves shown_by wrote (unasked n) j a b (free s) processes (call.Unlisten k) served)
+          (served_poised serves shown_by wrote (unasked n) j a b processes (call.Unlisten k) served poised)))
       told_then some (Some (call.Line l)) is fits ports (ends s) served =
           is_spent (l ∷ []) q reach (serving.told served.1.0) (ap (λ (z : Process). z.spent) served.0 ∙ s.spent) s.halted (s.lines ∙ ap (λ z. ls ++ told z) is)
       told_then some (Some (call.Unlisten k)) is fits ports (ends s) served =
@@ -252,7 +259,8 @@ module _ {A W : Type 0} (serves : Host W) (shown_by : A → Numbered ℕ → W �
             poised = served_poised serves shown_by wrote (unasked n) j a b processes world.called served poised;
           })
         where
-          world_keeps : (x : Option Request) (t : Proc Frame) → ((serves.supply (serve serves x t w).out).now ≡ (serves.supply w).now) × ((serves.supply (serve serves x t w).out).processes ≡ (serves.supply w).processes)
+          world_keeps : (x : Option Request) (t : Proc Frame) → ((serves.supply (serve serves x t w).out).now ≡ (serves.supply w).now)
+              × ((serves.supply (serve serves x t w).out).processes ≡ (serves.supply w).processes)
           world_keeps None t = (refl, refl)
           world_keeps (Some x) t = steady x w
 
@@ -263,14 +271,16 @@ module _ {A W : Type 0} (serves : Host W) (shown_by : A → Numbered ℕ → W �
         is_spent more t (reaches_then serves r (live p w) (live o w) (live t w) reach further) said spent_now halted lines
 
     -- tasks up to one that asks something, which is served
-    pub served_then : (ls : List Line) (m k j : Process) (a b : A) (p : Proc Frame) (w : W) → In ls m a p w → Tasks code m next.Asks k → ServedIf serves shown_by wrote processes k.asked (unasked k) a j b → ServedThen ls a p w j b
+    pub served_then : (ls : List Line) (m k j : Process) (a b : A) (p : Proc Frame) (w : W) → In ls m a p w → Tasks code m next.Asks k
+        → ServedIf serves shown_by wrote processes k.asked (unasked k) a j b → ServedThen ls a p w j b
     served_then ls m k j a b p w now tasks served = by_end (tasks_end ls m k next.Asks a p w now tasks)
       where
         by_end : TasksEnd ls m a p w next.Asks k → ServedThen ls a p w j b
         by_end (told_last _ z o q reach last stays poised step f is ports some) =
             reached_then ls j a b p o w reach (told_then ls z k j a b o q w last stays poised step some k.asked refl is ports f served)
         by_end (asked_last _ z o q reach last stays poised step world) =
-            reached_then ls j a b p o w reach (asked_then ls z k j a b o q w last stays poised step world (subst (λ x. ServedIf serves shown_by wrote processes x (unasked k) a j b) world.asked served))
+            reached_then ls j a b p o w reach (asked_then ls z k j a b o q w last stays poised step world
+            (subst (λ x. ServedIf serves shown_by wrote processes x (unasked k) a j b) world.asked served))
 
     -- a burst after that
     goes_after : (ls : List Line) (j n : Process) (a b d : A) (p : Proc Frame) (w : W) (e : Burst) → ServedThen ls a p w j d → Bursts serves shown_by wrote code processes j d e n b
@@ -308,5 +318,7 @@ module _ {A W : Type 0} (serves : Host W) (shown_by : A → Numbered ℕ → W �
     burst_goes ls m n a b p w e now (asks _ k j _ _ d _ _ tasks served more) =
         goes_after ls j n a b d p w e (served_then ls m k j a d p w now tasks served) more (λ ks q u here_now. burst_goes ks j n d b q u e here_now more)
 
-pub burst_follows : {A W : Type 0} (serves : Host W) (shown_by : A → Numbered ℕ → W → Type 0) (wrote : A → List Line → A → Type 0) (code : Code) (processes : ℕ) (r : RawTree) → law.BurstFollows serves shown_by wrote code processes r
-burst_follows serves shown_by wrote code processes r run branched steady go ls m n a b p w e now bursts = burst_goes serves shown_by wrote code processes r run branched steady go ls m n a b p w e now bursts
+pub burst_follows : {A W : Type 0} (serves : Host W) (shown_by : A → Numbered ℕ → W → Type 0) (wrote : A → List Line → A → Type 0) (code : Code) (processes : ℕ) (r : RawTree)
+    → law.BurstFollows serves shown_by wrote code processes r
+burst_follows serves shown_by wrote code processes r run branched steady go ls m n a b p w e now bursts =
+    burst_goes serves shown_by wrote code processes r run branched steady go ls m n a b p w e now bursts

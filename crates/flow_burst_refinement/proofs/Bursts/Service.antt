@@ -65,7 +65,8 @@ port_serves g i k m n none h =
           (record { cells = r.cells; streams = r.streams; actors = r.actors; frames = r.frames; ports = once_more k.0 b.heap.ports free (subst Once (sym quiet.calm.heap.ports) s.ports) });
     }
 
-module _ {A W : Type 0} (serves : Host W) (shows : A → Numbered ℕ → W → Type 0) (wrote : A → List Line → A → Type 0) (m n : Process) (a b : A) (none : has_number m.heap.ports (next_cell m.heap) ≡ false) where
+module _ {A W : Type 0} (serves : Host W) (shows : A → Numbered ℕ → W → Type 0) (wrote : A → List Line → A → Type 0) (m n : Process) (a b : A)
+    (none : has_number m.heap.ports (next_cell m.heap) ≡ false) where
   thrown_serves : (i : ActorId) (e : ℕ) → Thrown serves shows wrote i e m a n b → Serves m n
   thrown_serves i e h = quiet_serves m n (quiet_is m n _ h.thrown (doing_quiet _ m))
 

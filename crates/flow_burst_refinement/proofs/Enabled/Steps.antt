@@ -69,7 +69,8 @@ body_named c (i ∷ is) l zero x e h =
 body_named c (i ∷ is) l (suc n) x e h =
     body_named c is l n x e (second_true (list_all (has_place c) (instr_places i)) (list_all (λ (i : InstrTree). list_all (has_place c) (instr_places i)) is) h)
 
-pub instr_named : (r : RawTree) → IsValid r → (k : ℕ) (c : ClassTree) → slice_get r.classes k ≡ Some c → (b n : ℕ) (x : InstrTree) → fetch c b n ≡ Body x → list_all (has_place c) (instr_places x) ≡ true
+pub instr_named : (r : RawTree) → IsValid r → (k : ℕ) (c : ClassTree) → slice_get r.classes k ≡ Some c → (b n : ℕ) (x : InstrTree) → fetch c b n ≡ Body x
+    → list_all (has_place c) (instr_places x) ≡ true
 instr_named r valid k c at b n x e = by_block (slice_get c.blocks b) refl e
   where
     by_block : (o : Option BlockTree) → slice_get c.blocks b ≡ o → fetch_at o n ≡ Body x → list_all (has_place c) (instr_places x) ≡ true
@@ -150,7 +151,8 @@ module _ (r : RawTree) (w : Supply) (p : Proc Frame) (i : ℕ) (e : Entry) (f : 
   gives_there t = value_there r p f w i t holds_there set_there
 
   -- what it asks for fits
-  pub asks_fit : (o : Fetched) → fetch f.code f.block f.instr ≡ o → AsksFit r (class_vars f.code) (typed_by k.types) f.code (kept_by (thing p.core.entries i)) (fetched (class_names r) (view w i p.core) f o)
+  pub asks_fit : (o : Fetched) → fetch f.code f.block f.instr ≡ o → AsksFit r (class_vars f.code) (typed_by k.types) f.code (kept_by (thing p.core.entries i))
+      (fetched (class_names r) (view w i p.core) f o)
   asks_fit o at =
       subst (λ z. AsksFit r (class_vars f.code) (typed_by k.types) f.code (kept_by (thing p.core.entries i)) (fetched (class_names r) (view w i p.core) f z)) at
       (next_fits r (heads r) (class_vars f.code) (typed_by k.types) (view w i p.core) f own_rules rules.functions (cells_seen r k.types w i full.core full.actors k.fits) standing)
@@ -158,8 +160,11 @@ module _ (r : RawTree) (w : Supply) (p : Proc Frame) (i : ℕ) (e : Entry) (f : 
   can_assign : (path : List Ident) (t : ExprTree) → fetch f.code f.block f.instr ≡ Body (SetInstr path t) → CanAssignAll r.records f path (value (class_names r) (view w i p.core) (look f.mem) t)
   can_assign path t at v left is none =
       let fit = asks_fit (Body (SetInstr path t)) at in
-      let one = subst (λ z. AsksFit r (class_vars f.code) (typed_by k.types) f.code (kept_by (thing p.core.entries i)) (evaluated f z (λ u left. Rattle.flow_meaning.specs.Evaluating.given f (assign r.records f.mem path u) (Rattle.flow_meaning.specs.Class.placed (class_names r) (view w i p.core) f left)))) is fit in
-      let two = subst (λ z. AsksFit r (class_vars f.code) (typed_by k.types) f.code (kept_by (thing p.core.entries i)) (Rattle.flow_meaning.specs.Evaluating.given f z (Rattle.flow_meaning.specs.Class.placed (class_names r) (view w i p.core) f left))) none one in two.0
+      let one = subst (λ z. AsksFit r (class_vars f.code) (typed_by k.types) f.code (kept_by (thing p.core.entries i))
+      (evaluated f z (λ u left. Rattle.flow_meaning.specs.Evaluating.given f (assign r.records f.mem path u)
+      (Rattle.flow_meaning.specs.Class.placed (class_names r) (view w i p.core) f left)))) is fit in
+      let two = subst (λ z. AsksFit r (class_vars f.code) (typed_by k.types) f.code (kept_by (thing p.core.entries i))
+      (Rattle.flow_meaning.specs.Evaluating.given f z (Rattle.flow_meaning.specs.Class.placed (class_names r) (view w i p.core) f left))) none one in two.0
 
   rooted : (path : List Ident) (t : ExprTree) → fetch f.code f.block f.instr ≡ Body (SetInstr path t) → Rooted f path
   rooted path t at q root =
@@ -173,15 +178,19 @@ module _ (r : RawTree) (w : Supply) (p : Proc Frame) (i : ℕ) (e : Entry) (f : 
       let spot = spot_of f.code g in
       let kept = kept_by (thing p.core.entries i) in
       let fit = asks_fit (Last (ChooseLast g)) at in
-      let one = subst (λ z. AsksFit r (class_vars f.code) (typed_by k.types) f.code kept (choose (class_names r) (view w i p.core) f spot z)) (ap (λ o. callback_at f.code g (kept_by o)) run.entered ∙ next) fit in
+      let one = subst (λ z. AsksFit r (class_vars f.code) (typed_by k.types) f.code kept (choose (class_names r) (view w i p.core) f spot z))
+      (ap (λ o. callback_at f.code g (kept_by o)) run.entered ∙ next) fit in
       let two = subst (λ z. AsksFit r (class_vars f.code) (typed_by k.types) f.code kept (operand_by (class_names r) (view w i p.core) f spot b.operand z)) none one in
-      let three = subst (λ z. AsksFit r (class_vars f.code) (typed_by k.types) f.code kept (evaluated f z (λ u left. Rattle.flow_meaning.specs.Class.operand_ref (class_names r) (view w i p.core) f left spot u))) is two in
-      let c = there.operand_cell r k.types p k.fits.cells kd n three.0.1.1.callback.next three.0.1.1.takes (subst (Rattle.flow_progress.specs.Fitting.Fits r k.types (RefValue kd n)) three.0.1.1.type three.0.1.2) in
+      let three = subst (λ z. AsksFit r (class_vars f.code) (typed_by k.types) f.code kept
+      (evaluated f z (λ u left. Rattle.flow_meaning.specs.Class.operand_ref (class_names r) (view w i p.core) f left spot u))) is two in
+      let c = there.operand_cell r k.types p k.fits.cells kd n three.0.1.1.callback.next three.0.1.1.takes
+      (subst (Rattle.flow_progress.specs.Fitting.Fits r k.types (RefValue kd n)) three.0.1.1.type three.0.1.2) in
       record { cell = c.cell; takeable = record { at = c.at; there = there.content_there r k.types p k.fits.cells c.cell c.type c.fits }; kind = c.kind; there = c.there }
 
   contents : (n : ℕ) (c : Cell) (o : OutcomeTree) → thing p.core.cells n ≡ Some c → taken c ≡ Some o → AllThere p (refs_in (value_in o))
   contents n c o at is =
-      let t = type_there r k.types n c (k.types n) (subst (Rattle.flow_progress.specs.Fitting.CellAt r k.types (k.types n)) at (k.fits.cells n)) in there.content_there r k.types p k.fits.cells c t.0 t.2 o is
+      let t = type_there r k.types n c (k.types n) (subst (Rattle.flow_progress.specs.Fitting.CellAt r k.types (k.types n)) at (k.fits.cells n)) in there.content_there r k.types p k.fits.cells c t.0
+      t.2 o is
 
   all_waitable : (n : ℕ) (qs : List Ref) → OperandsFit r k.types f n qs → Waitable p.core.cells qs
   all_waitable n [] h = tt
@@ -194,7 +203,8 @@ module _ (r : RawTree) (w : Supply) (p : Proc Frame) (i : ℕ) (e : Entry) (f : 
     where
       by_operands : (qs : List Ref) → e.operands ≡ qs → AllKept r w p i e f
       by_operands [] is =
-          absurd (group_begins r run.whole.valid.valid e.class f.code class_is (run.whole.groups e.class f.code class_is) f.block f.instr g at (ap (λ qs. callback_at f.code g (length qs)) (sym is) ∙ none))
+          absurd (group_begins r run.whole.valid.valid e.class f.code class_is (run.whole.groups e.class f.code class_is) f.block f.instr g at
+          (ap (λ qs. callback_at f.code g (length qs)) (sym is) ∙ none))
       by_operands (q ∷ qs) is = record { first = q; others = qs; operands = is; waitable = all_waitable 0 e.operands operands; contents = contents }
 
   by_fetched : (o : Fetched) → fetch f.code f.block f.instr ≡ o → MayDoNext r w p i e f o

@@ -96,7 +96,8 @@ at_no_wait r f vars (Body (NewInstr q)) t h = refl
 at_no_wait r f vars o t h = absurd h
 
 -- the last of some operands
-pub last_fits : (r : RawTree) (types : CellTypes) (f : Frame) (n : ℕ) (qs : List Ref) (q : Ref) → OperandsFit r types f n (qs ++ q ∷ []) → (t : TypeTree) × NextOperand f (n + length qs) t × Fits r types (RefValue q.0 q.1) t
+pub last_fits : (r : RawTree) (types : CellTypes) (f : Frame) (n : ℕ) (qs : List Ref) (q : Ref) → OperandsFit r types f n (qs ++ q ∷ [])
+    → (t : TypeTree) × NextOperand f (n + length qs) t × Fits r types (RefValue q.0 q.1) t
 last_fits r types f n [] q h = let z : n ≡ n + 0 = omega arith in (h.0.0, subst (λ b. NextOperand f b h.0.0) z h.0.1, h.0.2)
 last_fits r types f n (x ∷ qs) q h =
     let a = last_fits r types f (suc n) qs q h.1 in
@@ -131,7 +132,8 @@ module _ (r : RawTree) (code : Code) (program : IsProgram r code) (ls : List Lin
     q = popped o.below p
 
     -- where an actor is in no state of a wait, it stands at the instruction of its frame
-    pub instruction_is : (i : ℕ) (e : Entry) (f : Frame) (s : ControlPoint) → (a : Acts r start.heap q i e f) → a.memory.state ≡ 0 → IsAtPoint code.classes.items (actor_id i) start s → s.instruction ≡ f.instr
+    pub instruction_is : (i : ℕ) (e : Entry) (f : Frame) (s : ControlPoint) → (a : Acts r start.heap q i e f) → a.memory.state ≡ 0 → IsAtPoint code.classes.items (actor_id i) start s
+        → s.instruction ≡ f.instr
     instruction_is i e f s a state stands =
         stands.stands.instruction ∙ ap (λ x. x.instruction) (same_of (sym stands.at ∙ a.framed)) ∙ by_position a.stands.position
       where
@@ -217,7 +219,8 @@ module _ (r : RawTree) (code : Code) (program : IsProgram r code) (ls : List Lin
                     stands = λ s z. (stands_by r code program.whole.valid program.coded start q i a.entry a.frame s acts z).standing;
                     same = λ s br z w.
                         branch_coded r ls start q i a.entry a.frame code.classes.items s g.waiting.group b g.callback br code_by
-                        (begins_in_code r code.classes.items start q i a.entry a.frame s code_by acts z) (stands_by r code program.whole.valid program.coded start q i a.entry a.frame s acts z).standing g.waiting.there g.there
+                        (begins_in_code r code.classes.items start q i a.entry a.frame s code_by acts z)
+                        (stands_by r code program.whole.valid program.coded start q i a.entry a.frame s acts z).standing g.waiting.there g.there
                         g.waiting.holds.slots (few_places a.entry a.frame acts g.waiting.holds.locals) (λ place into. into_there a.frame g.callback g.takes g.into g.waiting.holds place into) w;
                   },
                 ),
@@ -227,7 +230,8 @@ module _ (r : RawTree) (code : Code) (program : IsProgram r code) (ls : List Lin
             few_places : (e : Entry) (f : Frame) → Acts r start.heap q i e f → length f.mem.locals ≡ length f.code.locals → length f.code.slots + length f.mem.locals ≤ 2 ^ 32
             few_places e f acts long = let x = program.few acts.memory.class f.code acts.stands.code in subst (λ n. length f.code.slots + n ≤ 2 ^ 32) (sym long) x
 
-            into_there : (f : Frame) (c : CallbackTree) (takes : TypeTree) → takes_type f.code c.into ≡ Some takes → HoldsTypes r.records (typed_by k.types) f.code f.mem → (place : Slotted) → c.into ≡ Some place → HasPlace f place
+            into_there : (f : Frame) (c : CallbackTree) (takes : TypeTree) → takes_type f.code c.into ≡ Some takes → HoldsTypes r.records (typed_by k.types) f.code f.mem → (place : Slotted)
+                → c.into ≡ Some place → HasPlace f place
             into_there f c takes e holds place into = by_place place (ap (takes_type f.code) (sym into) ∙ e)
               where
                 by_place : (place : Slotted) → takes_type f.code (Some place) ≡ Some takes → HasPlace f place
@@ -240,7 +244,8 @@ module _ (r : RawTree) (code : Code) (program : IsProgram r code) (ls : List Lin
             let z = with_actor (outcome_of (outcome.Error x)) (o.tasks ∙ ap (λ u. u ∷ o.below) is) in (z.0, (z.1.0, z.1.1.0))
 
     -- the result of an effect, which is stored where its instruction aims
-    store_allowed : (i : ℕ) (v : Value) (n : Process) → o.top ≡ Store i (value_of v) → Stored code (actor_id i) v start n → (e : Entry) × ((f : Frame) × (Acts r start.heap q i e f × MayStore code r start q i (value_of v) e f))
+    store_allowed : (i : ℕ) (v : Value) (n : Process) → o.top ≡ Store i (value_of v) → Stored code (actor_id i) v start n
+        → (e : Entry) × ((f : Frame) × (Acts r start.heap q i e f × MayStore code r start q i (value_of v) e f))
     store_allowed i v n is h = (
       a.entry,
       (
@@ -256,7 +261,8 @@ module _ (r : RawTree) (code : Code) (program : IsProgram r code) (ls : List Lin
             can = has_place r (heads r) (class_vars a.frame.code) (typed_by k.types) a.frame own_rules (value_of v) a.doing.2.0 text.path text.expr a.doing.1 fetched stores a.doing.2.2;
             stands = λ s z. (by_stand s z, instruction_is i a.entry a.frame s acts state z);
             aims = λ s aim eff args z at.
-                effect_aims r code.classes.items code s i a.frame text.path text.expr aim eff args code_by (begins_in_code r code.classes.items start q i a.entry a.frame s code_by acts z) (by_stand s z) (instruction_is i a.entry a.frame s acts state z) fetched at
+                effect_aims r code.classes.items code s i a.frame text.path text.expr aim eff args code_by (begins_in_code r code.classes.items start q i a.entry a.frame s code_by acts z)
+                (by_stand s z) (instruction_is i a.entry a.frame s acts state z) fetched at
                 program.coded.coded.are_numbers rooted;
           },
         ),
@@ -286,11 +292,13 @@ module _ (r : RawTree) (code : Code) (program : IsProgram r code) (ls : List Lin
 
         at_text : AtInstruction (coding code_by.names code_by.class (length a.frame.code.slots)) a.frame (instruction.Effect h.aim h.effect h.args)
         at_text =
-            instruction_there r code.classes.items h.stand i a.frame (instruction.Effect h.aim h.effect h.args) code_by (begins_in_code r code.classes.items start q i a.entry a.frame h.stand code_by acts h.stands) (by_stand h.stand h.stands)
+            instruction_there r code.classes.items h.stand i a.frame (instruction.Effect h.aim h.effect h.args) code_by
+            (begins_in_code r code.classes.items start q i a.entry a.frame h.stand code_by acts h.stands) (by_stand h.stand h.stands)
             (instruction_is i a.entry a.frame h.stand acts state h.stands) h.at
 
         text : EffectInstruction r (coding code_by.names code_by.class (length a.frame.code.slots)) at_text.text (aim_of h.aim) h.effect (nodes_of h.args.items)
-        text = effect_coded r (coding code_by.names code_by.class (length a.frame.code.slots)) a.frame.code at_text.text (aim_of h.aim) h.effect (nodes_of h.args.items) program.coded.coded.are_classes at_text.coded
+        text = effect_coded r (coding code_by.names code_by.class (length a.frame.code.slots)) a.frame.code at_text.text (aim_of h.aim) h.effect
+            (nodes_of h.args.items) program.coded.coded.are_classes at_text.coded
 
         fetched : fetch a.frame.code a.frame.block a.frame.instr ≡ Body (EffectInstr text.path text.expr)
         fetched = at_text.fetched ∙ ap Body text.is
@@ -301,7 +309,8 @@ module _ (r : RawTree) (code : Code) (program : IsProgram r code) (ls : List Lin
         rooted : Rooted a.frame text.path
         rooted place root =
             let named = instr_named r program.whole.valid.valid acts.memory.class a.frame.code acts.stands.code a.frame.block a.frame.instr (EffectInstr text.path text.expr) fetched in
-            place_there r.records (typed_by k.types) a.frame place a.doing.1.holds (root_listed a.frame.code text.path place root (both_parts (names.has_place a.frame.code) (path_place text.path) (expr_places text.expr) named).0)
+            place_there r.records (typed_by k.types) a.frame place a.doing.1.holds
+            (root_listed a.frame.code text.path place root (both_parts (names.has_place a.frame.code) (path_place text.path) (expr_places text.expr) named).0)
 
     -- an operand, by an actor whose task is next
     pub keep_allowed : (i n cell : ℕ) → SameTask q (task.Keep (actor_id i) n (record { 0 = cell })) o.top → StateIsNone start.heap i → MayKeepOne code r start q i cell o.top

@@ -49,7 +49,8 @@ acts_at r h p i e f s at acting there =
       class = sym (ap (λ (y : Entry). y.class) same_entry) ∙ x.same.class;
       result = sym (ap (λ (y : Entry). y.result) same_entry) ∙ x.same.result;
       marked = sym (ap (λ (y : Entry). y.marked) same_entry) ∙ x.same.marked;
-      stands = subst (λ y. Rattle.flow_heap_refinement.specs.Representing.LiveFrameRepresents r x.memory y f) same_entry (subst (λ y. Rattle.flow_heap_refinement.specs.Representing.LiveFrameRepresents r x.memory x.entry y) same_frame st);
+      stands = subst (λ y. Rattle.flow_heap_refinement.specs.Representing.LiveFrameRepresents r x.memory y f) same_entry
+          (subst (λ y. Rattle.flow_heap_refinement.specs.Representing.LiveFrameRepresents r x.memory x.entry y) same_frame st);
     }
     by_frame x same_entry same_frame (ended en) = absurd (there (ap (λ (y : Frame). fetch y.code y.block y.instr) (sym same_frame ∙ en.frame)))
 

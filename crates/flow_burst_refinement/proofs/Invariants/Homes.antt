@@ -94,7 +94,8 @@ counted_at (x ∷ bs) g zero block at e =
     let a = here_chosen g x.last (ap (λ (y : BlockTree). y.last) s ∙ e) in omega (arith, a)
 counted_at (x ∷ bs) g (suc b) block at e = let a = counted_at bs g b block at e in omega (arith, a)
 
-home_at : (bs : List BlockTree) (k g b : ℕ) (block : BlockTree) (hs : List ℕ) → slice_get bs b ≡ Some block → block.last ≡ ChooseLast (suc g) → times_chosen (suc g) bs ≡ 1 → g < length hs → slice_get (homes_from k bs hs) g ≡ Some (k + b)
+home_at : (bs : List BlockTree) (k g b : ℕ) (block : BlockTree) (hs : List ℕ) → slice_get bs b ≡ Some block → block.last ≡ ChooseLast (suc g) → times_chosen (suc g) bs ≡ 1 → g < length hs
+    → slice_get (homes_from k bs hs) g ≡ Some (k + b)
 home_at [] k g b block hs at e once l = cc
 home_at (x ∷ bs) k g zero block hs at e once l =
     let s : x ≡ block = cc in
@@ -132,11 +133,13 @@ module _ (r : RawTree) (valid : IsValid r) (k : ℕ) (c : ClassTree) (at : slice
   at_home b g block is e =
       let sound = sound_of r c (valid.classes k c at).tested in
       let named = second_true (has_catcher c block.catcher && list_all (λ i. list_all (has_place c) (instr_places i)) block.body) (has_last c block.last) (named_block b block is) in
-      let group = first_true (has_group c (ChooseLast (suc g))) (list_all (has_block c) []) (first_true (has_group c (ChooseLast (suc g)) && list_all (has_block c) []) (list_all (has_place c) []) (subst (λ l. has_last c l ≡ true) e named)) in
+      let group = first_true (has_group c (ChooseLast (suc g))) (list_all (has_block c) [])
+      (first_true (has_group c (ChooseLast (suc g)) && list_all (has_block c) []) (list_all (has_place c) []) (subst (λ l. has_last c l ≡ true) e named)) in
       let below = there_below c.groups g group in
       let long = as_long {A = ℕ} (length c.groups) 0 in
       let zero_plus : 0 + b ≡ b = omega arith in
-      subst (λ n. slice_get (homes_of c) g ≡ Some n) zero_plus (home_at c.blocks 0 g b block (replicate (length c.groups) 0) is e (let z : 1 + g ≡ suc g = omega arith in subst (λ n. times_chosen n c.blocks ≡ 1) z (once_at c.blocks c.groups 1 g sound.groups below)) (omega (arith, below, long)))
+      subst (λ n. slice_get (homes_of c) g ≡ Some n) zero_plus (home_at c.blocks 0 g b block (replicate (length c.groups) 0) is e
+      (let z : 1 + g ≡ suc g = omega arith in subst (λ n. times_chosen n c.blocks ≡ 1) z (once_at c.blocks c.groups 1 g sound.groups below)) (omega (arith, below, long)))
 
   -- the places that the catch part of a block names
   pub catcher_there : (b : ℕ) (t : CatcherTree) → catcher_at c b ≡ Some t → list_all (has_place c) (catcher_places t) ≡ true
@@ -145,5 +148,6 @@ module _ (r : RawTree) (valid : IsValid r) (k : ℕ) (c : ClassTree) (at : slice
       by_block : (x : Option BlockTree) → slice_get c.blocks b ≡ x → catcher_in x ≡ Some t → list_all (has_place c) (catcher_places t) ≡ true
       by_block None is e = cc
       by_block (Some d) is e =
-          let named = first_true (has_catcher c d.catcher) (list_all (λ i. list_all (has_place c) (instr_places i)) d.body) (first_true (has_catcher c d.catcher && list_all (λ i. list_all (has_place c) (instr_places i)) d.body) (has_last c d.last) (named_block b d is)) in
+          let named = first_true (has_catcher c d.catcher) (list_all (λ i. list_all (has_place c) (instr_places i)) d.body)
+          (first_true (has_catcher c d.catcher && list_all (λ i. list_all (has_place c) (instr_places i)) d.body) (has_last c d.last) (named_block b d is)) in
           second_true (has_block c t.block) (list_all (has_place c) (catcher_places t)) (subst (λ o. has_catcher c o ≡ true) e named)

@@ -40,7 +40,8 @@ step_in_order r s p q o e =
     by_ask (Some x) h = unless_map q.0.core.halted (λ (o : Orderly (add_lines [] q.0.core)). record { actors = o.actors; paired = o.paired; waiting = o.waiting; numbered = o.numbered }) h
 
 module _ (r : RawTree) where
-  assembled : (p : Proc Frame) (before : _) (ask : Option Request) (h : Option Halt) → UnlessStopped h (Orderly p.core) → UnlessStopped h (CellsTied p.core) → UnlessStopped h (OwnedAlone p) → UnlessStopped h (Unset p.core)
+  assembled : (p : Proc Frame) (before : _) (ask : Option Request) (h : Option Halt) → UnlessStopped h (Orderly p.core) → UnlessStopped h (CellsTied p.core) → UnlessStopped h (OwnedAlone p)
+      → UnlessStopped h (Unset p.core)
       → FineAsking r before ask h p.core p.actors → UnlessStopped h (ProcessInvariant r p)
   assembled p before ask None o t a u f = record { orderly = o; tied = t; alone = a; unset = u; types = f.0; fits = f.1 }
   assembled p before ask (Some h) o t a u f = tt
@@ -51,7 +52,8 @@ module _ (r : RawTree) where
       let fine : FineAsking r k.types q.1 q.0.core.halted q.0.core q.0.actors =
       subst (IsFine r k.types) e
       (steps_keep r v.valid (heads r) rules s k.types p k.orderly go k.fits (ports_alone p.core p.actors k.tied k.alone) (results_alone p.core p.actors k.tied k.alone)) in
-      assembled q.0 k.types q.1 q.0.core.halted (step_in_order r s p q k.orderly e) (steps_tied r s p q k.orderly k.tied e) (steps_lonely r s p q k.orderly k.tied k.alone e) (steps_unset r s p q k.orderly k.tied k.alone k.unset e) fine
+      assembled q.0 k.types q.1 q.0.core.halted (step_in_order r s p q k.orderly e) (steps_tied r s p q k.orderly k.tied e) (steps_lonely r s p q k.orderly k.tied k.alone e)
+      (steps_unset r s p q k.orderly k.tied k.alone k.unset e) fine
 
   pub lines_keep : law.LinesKeep r
   lines_keep ls p k =
@@ -63,7 +65,18 @@ module _ (r : RawTree) where
         alone = k.alone;
         unset = k.unset;
         types = k.types;
-        fits = record { cells = f.cells; waiting = f.waiting; actors = f.actors; work = f.work; ports = f.ports; main = f.main; requests = f.requests; numbered = f.numbered; framed = f.framed; registered = f.registered };
+        fits = record {
+          cells = f.cells;
+          waiting = f.waiting;
+          actors = f.actors;
+          work = f.work;
+          ports = f.ports;
+          main = f.main;
+          requests = f.requests;
+          numbered = f.numbered;
+          framed = f.framed;
+          registered = f.registered;
+        };
       }
 
   pub among_kept : law.AmongKept r

@@ -134,7 +134,8 @@ module _ (r : RawTree) (code : Code) (valid : AreValid r) (coded : IsCodeOf r co
   rules = class_rules r valid.valid valid.written (functions_kept r valid.valid valid.functions)
 
   -- whoever waits at a cell is suspended
-  waiter_suspended : (start : Process) → Represents r start.heap q → (j : ℕ) (cell : Cell) (w : Waiter) (ws : List Waiter) → thing p.core.cells j ≡ Some cell → waiters cell ≡ w ∷ ws → Suspended code r start q w
+  waiter_suspended : (start : Process) → Represents r start.heap q → (j : ℕ) (cell : Cell) (w : Waiter) (ws : List Waiter) → thing p.core.cells j ≡ Some cell → waiters cell ≡ w ∷ ws
+      → Suspended code r start q w
   waiter_suspended start s j cell w ws at is =
       let all : AllWait p.core.entries (w ∷ ws) = subst (AllWait p.core.entries) is (cell_waits p.core.entries p.core.cells j cell k.orderly.waiting at) in
       let en = suspended_entry (thing p.core.entries w.actor) all.0 in
@@ -164,15 +165,19 @@ module _ (r : RawTree) (code : Code) (valid : AreValid r) (coded : IsCodeOf r co
       }
 
   -- the catch part of a frame fits
-  catcher_fits : (class : ClassTree) (key : ℕ) (f : Frame) → slice_get r.classes key ≡ Some class → f.code ≡ class → HoldsTypes r.records (typed_by k.types) f.code f.mem → KeepsRules r (heads r) f.code (class_vars f.code)
+  catcher_fits : (class : ClassTree) (key : ℕ) (f : Frame) → slice_get r.classes key ≡ Some class → f.code ≡ class → HoldsTypes r.records (typed_by k.types) f.code f.mem
+      → KeepsRules r (heads r) f.code (class_vars f.code)
       → (t : CatcherTree) → catcher_at f.code f.block ≡ Some t → CatcherFits f t
   catcher_fits class key f is code_is holds keeps t e =
       let names = both_parts (has_place f.code) (listed (option_map Local t.error)) (map Local t.drops) (catcher_there r valid.valid key f.code (is ∙ ap (λ c. Some c) (sym code_is)) f.block t e) in
       record {
         drops = locals_there f.code f t.drops holds.locals names.1;
         error = λ n q.
-            let one : HasLocals f (n ∷ []) = locals_there f.code f (n ∷ []) holds.locals (subst (λ o. list_all (has_place f.code) (listed (option_map Local o)) ≡ true) q names.0) in
-            (one.0, error_holds r.records (typed_by k.types) (read (emptied t.drops f.mem) (Local n)) (λ v z. (emptied_holds r.records (typed_by k.types) f.code t.drops f.mem holds).types (Local n) ErrorType v ((keeps.catchers f.block t e).1 n q) z));
+            let one : HasLocals f (n ∷ []) = locals_there f.code f (n ∷ []) holds.locals (subst (λ o. list_all (has_place f.code) (listed (option_map Local o)) ≡ true) q names.0) in (
+              one.0,
+              error_holds r.records (typed_by k.types) (read (emptied t.drops f.mem) (Local n))
+                  (λ v z. (emptied_holds r.records (typed_by k.types) f.code t.drops f.mem holds).types (Local n) ErrorType v ((keeps.catchers f.block t e).1 n q) z),
+            );
       }
 
   pub may_throw : (start : Process) (i err : ℕ) → Represents r start.heap q → u ≡ Throw i err → (e : Entry) × ((f : Frame) × (Acts r start.heap q i e f × MayThrow code start q (actor_id i) e f))
@@ -189,7 +194,8 @@ module _ (r : RawTree) (code : Code) (valid : AreValid r) (coded : IsCodeOf r co
             record {
               go = go_off r p k u below top i a.entry a.at rest;
               stands = λ st now. let b = stands_by r code valid coded start q i a.entry a.frame st acts now in (b.standing, b.catcher);
-              fits = catcher_fits a.class a.entry.class a.frame a.owner.is a.doing.0 (holds_either a.frame a.doing.1) (frame_rules r (heads r) rules (record { word = 0; now = 0; processes = 0 }) k.types a.entry a.class a.frame a.owner a.doing.0);
+              fits = catcher_fits a.class a.entry.class a.frame a.owner.is a.doing.0 (holds_either a.frame a.doing.1)
+                  (frame_rules r (heads r) rules (record { word = 0; now = 0; processes = 0 }) k.types a.entry a.class a.frame a.owner a.doing.0);
             },
           ),
         ),
@@ -228,7 +234,8 @@ module _ (r : RawTree) (code : Code) (valid : AreValid r) (coded : IsCodeOf r co
       same_frame : {x y : Frame} → Some x ≡ Some y → x ≡ y
       same_frame h = cc
 
-      by_side : (a : Actor r k.types i (Close i (outcome_of o)) below p.core p.actors) (v : OutcomeTree) → p.core.tasks ≡ Close i v ∷ below → (z : Side) (j : ℕ) → a.entry.result ≡ Some j → count z j (refs_in (value_in v)) ≡ 0
+      by_side : (a : Actor r k.types i (Close i (outcome_of o)) below p.core p.actors) (v : OutcomeTree) → p.core.tasks ≡ Close i v ∷ below → (z : Side) (j : ℕ) → a.entry.result ≡ Some j
+          → count z j (refs_in (value_in v)) ≡ 0
       by_side a v t FutureSide j own = ends_apart r valid.valid k.types p.core p.actors k.fits k.orderly i j a.entry v below t a.at own
       by_side a v t PromiseSide j own =
           let one = results_alone p.core p.actors k.tied k.alone i j a.entry a.at own in

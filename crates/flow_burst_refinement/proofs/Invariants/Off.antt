@@ -51,7 +51,8 @@ request_counts : (k : ℕ) (ks : List ℕ) → has k ks ≡ true → 0 < in_requ
 request_counts k [] h = absurd cc
 request_counts k (x ∷ ks) h = by_test (nat_eq k x) refl h (request_counts k ks)
   where
-    by_test : (b : Bool) → nat_eq k x ≡ b → (if b then true else has k ks) ≡ true → (has k ks ≡ true → 0 < in_requests PromiseSide k ks) → 0 < one PromiseSide k PromiseSide x + in_requests PromiseSide k ks
+    by_test : (b : Bool) → nat_eq k x ≡ b → (if b then true else has k ks) ≡ true → (has k ks ≡ true → 0 < in_requests PromiseSide k ks)
+        → 0 < one PromiseSide k PromiseSide x + in_requests PromiseSide k ks
     by_test true q f rest = let a : one PromiseSide k PromiseSide x ≡ 1 = ap (λ (b : Bool). if b then 1 else 0) q in omega (arith, a)
     by_test false q f rest = let a = rest f in omega (arith, a)
 

@@ -34,9 +34,11 @@ still_none : (j k : ℕ) (ns : List ℕ) → has_number ns k ≡ false → has_n
 still_none j k [] h = h
 still_none j k (x ∷ xs) h =
     let e = sym (has_first k x xs) ∙ h in
-    subst (λ ns. has_number ns k ≡ false) (sym (less_first j x xs)) (by_test (nat_eq j x) (not_either (nat_eq k x) (has_number xs k) e) (nor_second (nat_eq k x) (has_number xs k) e) (still_none j k xs))
+    subst (λ ns. has_number ns k ≡ false) (sym (less_first j x xs))
+    (by_test (nat_eq j x) (not_either (nat_eq k x) (has_number xs k) e) (nor_second (nat_eq k x) (has_number xs k) e) (still_none j k xs))
   where
-    by_test : (b : Bool) → nat_eq k x ≡ false → has_number xs k ≡ false → (has_number xs k ≡ false → has_number (without_number xs j) k ≡ false) → has_number (cond b xs (x ∷ without_number xs j)) k ≡ false
+    by_test : (b : Bool) → nat_eq k x ≡ false → has_number xs k ≡ false → (has_number xs k ≡ false → has_number (without_number xs j) k ≡ false)
+        → has_number (cond b xs (x ∷ without_number xs j)) k ≡ false
     by_test true f g rest = g
     by_test false f g rest = has_first k x (without_number xs j) ∙ ap (λ b. b || has_number (without_number xs j) k) f ∙ rest g
 

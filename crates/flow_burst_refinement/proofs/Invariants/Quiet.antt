@@ -152,7 +152,8 @@ pub left_over : (s : ControlPoint) (vs : List Value) (m n : Process) (pace : Pac
 left_over s [] m n pace none h = on_is pace s m n h.0 (quiet_is m n m h.1 (quiet_still m))
 left_over s (v ∷ vs) m n pace none h =
     let k = doing _ (noted s m) in
-    off_is pace m n h.0 (quiet_speaks m n none (quiet_is m n (on_heap (dropping (v ∷ vs)) k) h.1 (quiet_then m k (on_heap (dropping (v ∷ vs)) k) (noted_doing s _ m) (on_heap_quiet (dropping (v ∷ vs)) k (other_tasks k.heap _)))))
+    off_is pace m n h.0 (quiet_speaks m n none (quiet_is m n (on_heap (dropping (v ∷ vs)) k) h.1
+    (quiet_then m k (on_heap (dropping (v ∷ vs)) k) (noted_doing s _ m) (on_heap_quiet (dropping (v ∷ vs)) k (other_tasks k.heap _)))))
 
 -- evaluation
 pub evaluates : {A B : Type 0} (s : ControlPoint) (seen : B → A) (comes_to : Res A) (m n : Process) (goes : B → Process → Pace → Process → Type 0) (pace : Pace) → m.asked ≡ None
@@ -163,7 +164,8 @@ evaluates s seen comes_to m n goes pace none further (throws e left _ fails h) =
     let k = with_left left m in quiet_speaks m n none (quiet_is m n _ h (quiet_then m k _ (left_quiet left m) (noted_doing s _ k)))
 evaluates s seen comes_to m n goes pace none further (runs_out _ spent h) =
     let k = with_left 0 m in
-    quiet_speaks m n none (quiet_is m n _ h (quiet_then m k _ (left_quiet 0 m) (quiet_then k (noted s k) _ (noted_quiet s k) (record { calm = record { time = refl; heap = still (noted s k).heap }; asked = refl }))))
+    quiet_speaks m n none (quiet_is m n _ h (quiet_then m k _ (left_quiet 0 m)
+    (quiet_then k (noted s k) _ (noted_quiet s k) (record { calm = record { time = refl; heap = still (noted s k).heap }; asked = refl }))))
 
 -- a result is given
 pub gives_quiet : (g : Goal) (i : ActorId) (v : Value) (m n : Process) → Gives g i v m n → Quiet m n
@@ -196,7 +198,8 @@ actor_called code i g class vs m n none (actor_starts t h) =
     let held = hold_all_stays (refs_in vs) (made kind.Future a.heap) in
     let enrols : Quiet a h.enrolled =
     quiet_is a h.enrolled (on_heap f a) h.enrols.made
-    (on_heap_quiet f a (and_then a.heap (with_args vs a.heap) _ (and_then a.heap (made kind.Future a.heap) (with_args vs a.heap) made_one held) (started_stays class h.enrols.of.places _ (Some h.cell) (with_args vs a.heap)))) in
+    (on_heap_quiet f a (and_then a.heap (with_args vs a.heap) _ (and_then a.heap (made kind.Future a.heap) (with_args vs a.heap) made_one held)
+    (started_stays class h.enrols.of.places _ (Some h.cell) (with_args vs a.heap)))) in
     let all = quiet_then m a h.enrolled (turned_quiet m) enrols in
     let given = quiet_then m h.enrolled h.given all (gives_quiet g i _ h.enrolled h.given h.gives) in
     let runs = quiet_then m h.given _ given (doing_quiet _ h.given) in
@@ -236,7 +239,8 @@ sending_quiet i kd k o m = by_test (complete_at kd k m.heap) (nat_lt 0 m.left)
         let one = hold_all (outcome_refs o) a.heap in
         let two = pushed _ one in
         quiet_then m a (on_heap (sent_into i kd k o) a) (turned_quiet m)
-        (on_heap_quiet (sent_into i kd k o) a (and_then a.heap one (filled_in kd k o two) (hold_all_stays (outcome_refs o) a.heap) (and_then one two (filled_in kd k o two) (push_stays _ one) (filled_stays kd k o two))))
+        (on_heap_quiet (sent_into i kd k o) a (and_then a.heap one (filled_in kd k o two) (hold_all_stays (outcome_refs o) a.heap)
+        (and_then one two (filled_in kd k o two) (push_stays _ one) (filled_stays kd k o two))))
 
 pub stopped_speaks : (i : ℕ) (m : Process) → Speaks m (stopped i m)
 stopped_speaks i m = record { calm = record { time = refl; heap = cancelled_stays i m.heap }; says = λ ps. refl }
@@ -251,11 +255,13 @@ method_called i called kind.PromiseStream k arg m n none h = quiet_speaks m n no
 method_called i called kind.Future k arg m n none h = speaks_is m n _ h.1 (then_speaks m (doing _ m) _ (doing_quiet _ m).calm (owner_speaks _ (doing _ m) none))
 method_called i called kind.FutureStream k arg m n none h = absurd h
 
-method_is : (code : Code) (s : ControlPoint) (aim : Aim) (called : Method) (sent : Option Value) (m n : Process) (pace : Pace) → m.asked ≡ None → IsMethod code s aim called sent m pace n → After pace m n
+method_is : (code : Code) (s : ControlPoint) (aim : Aim) (called : Method) (sent : Option Value) (m n : Process) (pace : Pace) → m.asked ≡ None → IsMethod code s aim called sent m pace n
+    → After pace m n
 method_is code s aim called sent m n pace none h =
     off_is pace m n h.off (then_speaks m (noted (next_stand s) m) n (noted_quiet (next_stand s) m).calm (method_called s.actor called h.kind h.cell sent (noted (next_stand s) m) n none h.calls))
 
-method_step : (code : Code) (s : ControlPoint) (aim : Aim) (called : Method) (es : List Resolved) (m n : Process) (pace : Pace) → m.asked ≡ None → MethodStep code s aim called es m pace n → After pace m n
+method_step : (code : Code) (s : ControlPoint) (aim : Aim) (called : Method) (es : List Resolved) (m n : Process) (pace : Pace) → m.asked ≡ None → MethodStep code s aim called es m pace n
+    → After pace m n
 method_step code s aim called [] m n pace none h = method_is code s aim called None m n pace none h
 method_step code s aim called (e ∷ []) m n pace none h =
     evaluates s value_of _ m n _ pace none (λ v k n pace none h. method_is code s aim called (Some v) k n pace none h) h
@@ -279,7 +285,8 @@ new_is s place kd m n pace none h =
     let f = made_in_place s.actor.0 place kd h.cell in
     let one = made kd m.heap in
     let two = hold kd h.cell.0 one in
-    after_then pace m (on_heap f m) n (on_heap_quiet f m (and_then m.heap one (f m.heap) (made_stays kd m.heap) (and_then one two (f m.heap) (hold_stays kd h.cell.0 one) (frame_stays _ s.actor.0 two)))) (left_over _ _ (on_heap f m) n pace none h.after)
+    after_then pace m (on_heap f m) n (on_heap_quiet f m (and_then m.heap one (f m.heap) (made_stays kd m.heap)
+    (and_then one two (f m.heap) (hold_stays kd h.cell.0 one) (frame_stays _ s.actor.0 two)))) (left_over _ _ (on_heap f m) n pace none h.after)
 
 does : (code : Code) (s : ControlPoint) (x : Instruction) (m n : Process) (pace : Pace) → m.asked ≡ None → Does code s x m pace n → After pace m n
 does code s (instruction.Set aim e) m n pace none h = evaluates s value_of _ m n _ pace none (λ v k n pace none h. set_is code s aim v k n pace none h) h
@@ -325,7 +332,8 @@ branch_speaks s b k m n none (takes_branch t h) =
 pub keeps_after : (s : ControlPoint) (x : Held) (m n : Process) (pace : Pace) → m.asked ≡ None → KeepsOperand s x m pace n → After pace m n
 keeps_after s x m n pace none (kept_marked _ marked e) =
     let k = on_heap (operand_kept s.actor.0 x) m in
-    quiet_speaks m n none (quiet_is m n _ e (quiet_then m k _ (on_heap_quiet (operand_kept s.actor.0 x) m (frame_stays _ s.actor.0 m.heap)) (on_heap_quiet (left_for s _) k (left_for_stays s _ k.heap))))
+    quiet_speaks m n none (quiet_is m n _ e (quiet_then m k _ (on_heap_quiet (operand_kept s.actor.0 x) m (frame_stays _ s.actor.0 m.heap))
+    (on_heap_quiet (left_for s _) k (left_for_stays s _ k.heap))))
 keeps_after s x m n pace none (kept_unready _ marked ready e) = quiet_is m n _ e (on_heap_quiet (operand_kept s.actor.0 x) m (frame_stays _ s.actor.0 m.heap))
 keeps_after s x m n pace none (kept_ready _ b marked ready of h) =
     let k = on_heap (operand_kept s.actor.0 x) m in
@@ -360,7 +368,10 @@ waits_speak s group m n none (waits_refused h first all e) =
 waits_speak s group m n none (waits_suspended h first all e) =
     let a : HeapStays m.heap h = subst (HeapStays m.heap) (ap (λ (r : Registered). r.1) all) (register_all_stays s.actor.0 _ m.heap) in
     let two = lost_from s.actor.0 s.class.now.slots h in
-    speaks_is m n _ e (record { calm = record { time = refl; heap = and_then m.heap h _ a (and_then h two _ (lost_from_stays s.actor.0 s.class.now.slots h) (frame_stays _ s.actor.0 two)) }; says = λ ps. refl })
+    speaks_is m n _ e (record {
+      calm = record { time = refl; heap = and_then m.heap h _ a (and_then h two _ (lost_from_stays s.actor.0 s.class.now.slots h) (frame_stays _ s.actor.0 two)) };
+      says = λ ps. refl;
+    })
 
 reference_kept : (s : ControlPoint) (n : ℕ) (v : ValueTree) (m k : Process) (pace : Pace) → m.asked ≡ None → ReferenceKept s n v m pace k → After pace m k
 reference_kept s n (RefValue kd c) m k pace none h =

@@ -90,7 +90,15 @@ pub stream_gone_stays : (k : ℕ) (h : HeapTree) → HeapStays h (record h { str
 stream_gone_stays k h = record { rise = λ s. record { cells = s.cells; streams = rise_removed h.streams.things 0 h.streams.greatest k s.streams; actors = s.actors; frames = s.frames }; ports = refl }
 
 pub finished_stays : (i : ℕ) (h : HeapTree) → HeapStays h (finished i h)
-finished_stays i h = record { rise = λ s. record { cells = s.cells; streams = s.streams; actors = rise_removed h.actors.things 0 h.actors.greatest i s.actors; frames = rise_removed h.frames.things 0 h.frames.greatest i s.frames }; ports = refl }
+finished_stays i h = record {
+  rise = λ s. record {
+    cells = s.cells;
+    streams = s.streams;
+    actors = rise_removed h.actors.things 0 h.actors.greatest i s.actors;
+    frames = rise_removed h.frames.things 0 h.frames.greatest i s.frames;
+  };
+  ports = refl;
+}
 
 -- new things
 less_left : (a b c : ℕ) → b < suc (max a (max b c))
@@ -109,10 +117,27 @@ pub made_stays : (kd : Kind) (h : HeapTree) → HeapStays h (made kd h)
 made_stays kd h = by_kind kd
   where
     result : HeapStays h (with_result (next_cell h) h)
-    result = record { rise = λ s. record { cells = rise_added h.cells.things 0 h.cells.greatest (next_cell h) _ (less_left h.made h.cells.greatest h.streams.greatest) s.cells; streams = s.streams; actors = s.actors; frames = s.frames }; ports = refl }
+    result = record {
+      rise = λ s. record {
+        cells = rise_added h.cells.things 0 h.cells.greatest (next_cell h) _ (less_left h.made h.cells.greatest h.streams.greatest) s.cells;
+        streams = s.streams;
+        actors = s.actors;
+        frames = s.frames;
+      };
+      ports = refl;
+    }
 
     stream : HeapStays h (with_stream (next_cell h) h)
-    stream = record { rise = λ s. record { cells = s.cells; streams = rise_added h.streams.things 0 h.streams.greatest (next_cell h) _ (less_right h.made h.cells.greatest h.streams.greatest) s.streams; actors = s.actors; frames = s.frames }; ports = refl }
+    stream = record {
+      rise = λ s. record {
+        cells = s.cells;
+        streams = rise_added h.streams.things 0 h.streams.greatest (next_cell h) _
+            (less_right h.made h.cells.greatest h.streams.greatest) s.streams;
+        actors = s.actors;
+        frames = s.frames;
+      };
+      ports = refl;
+    }
 
     by_kind : (kd : Kind) → HeapStays h (made kd h)
     by_kind kind.Promise = result

@@ -130,7 +130,8 @@ result_calm k o m = by_turn (nat_lt 0 m.left)
     by_turn true =
         let a = turned m in
         let b = on_heap (without_promise k) a in
-        calm_then m a _ (turned_quiet m).calm (calm_then a b _ (on_heap_quiet (without_promise k) a (without_promise_stays k a.heap)).calm (on_heap_quiet (filled_in kind.Future k o) b (filled_stays kind.Future k o b.heap)).calm)
+        calm_then m a _ (turned_quiet m).calm (calm_then a b _ (on_heap_quiet (without_promise k) a (without_promise_stays k a.heap)).calm
+        (on_heap_quiet (filled_in kind.Future k o) b (filled_stays kind.Future k o b.heap)).calm)
 
 ended_calm : (r : Option CellId) (o : Outcome) (m : Process) → m.asked ≡ None → Calm m (ended_with r o m)
 ended_calm None o m none = (on_heap_quiet (refs_dropped (outcome_refs o)) m (other_tasks m.heap _)).calm
@@ -210,7 +211,8 @@ done_stays code (task.Store i v) m n none h =
     let put = quiet_is m h.between _ h.assigns.put (on_heap_quiet (place_put i.0 h.aim.place h.assigns.root) m (frame_stays _ i.0 m.heap)) in
     let f = dropping (values h.old) in
     let a = on_heap f h.between in
-    speaks_stay m n (quiet_speaks m n none (quiet_is m n _ h.goes (quiet_then m a _ (quiet_then m h.between a put (on_heap_quiet f h.between (other_tasks h.between.heap _))) (noted_quiet (next_stand h.stand) a))))
+    speaks_stay m n (quiet_speaks m n none (quiet_is m n _ h.goes (quiet_then m a _ (quiet_then m h.between a put (on_heap_quiet f h.between (other_tasks h.between.heap _)))
+    (noted_quiet (next_stand h.stand) a))))
 done_stays code (task.Keep i b k) m n none h =
     let start = popped_quiet (task.Run i) m h.start h.next in
     let one = start.asked ∙ none in

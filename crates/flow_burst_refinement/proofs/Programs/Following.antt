@@ -51,7 +51,8 @@ module _ {A W : Type 0} (serves : Host W) (shows : A → Numbered ℕ → W → 
     ends = (are.spent, are.halted, are.lines ∙ ap (λ z. [] ++ told z) none);
   }
 
-  spent_follows : (m n : Process) (a b : A) (p : Proc Frame) (w : W) (e : Burst) → AreSpent [] m p → m.asked ≡ None → Bursts serves shows wrote code processes m a e n b → SimulatesBurst serves shows wrote code processes r [] a p w e n b
+  spent_follows : (m n : Process) (a b : A) (p : Proc Frame) (w : W) (e : Burst) → AreSpent [] m p → m.asked ≡ None → Bursts serves shows wrote code processes m a e n b
+      → SimulatesBurst serves shows wrote code processes r [] a p w e n b
   spent_follows m n a b p w _ are none (rests _ _ _ tasks) = let x = (spent_tasks code m n next.Rested are.spent tasks).0 in absurd cc
   spent_follows m n a b p w _ are none (runs_out _ _ _ tasks) =
       let x = (spent_tasks code m n next.Spent are.spent tasks).1 in

@@ -108,7 +108,13 @@ leads_quiet code m n none (goes_on s t _ between _ one rest) =
 pub calm_sorted : (m n : Process) → Calm m n → Sorted m.heap → Sorted n.heap
 calm_sorted m n calm s =
     let r = calm.heap.rise (record { cells = s.cells; streams = s.streams; actors = s.actors; frames = s.frames }) in
-    record { cells = r.cells; streams = r.streams; actors = r.actors; frames = r.frames; ports = subst (λ ps. (k : ℕ) → has_number (Rattle.flow_cancel.specs.Heap.without_number ps k) k ≡ false) (sym calm.heap.ports) s.ports }
+    record {
+      cells = r.cells;
+      streams = r.streams;
+      actors = r.actors;
+      frames = r.frames;
+      ports = subst (λ ps. (k : ℕ) → has_number (Rattle.flow_cancel.specs.Heap.without_number ps k) k ≡ false) (sym calm.heap.ports) s.ports;
+    }
 
 pub leads_sorted : (code : Code) (m n : Process) → Leads code m n → n.asked ≡ None → Sorted m.heap → Sorted n.heap
 leads_sorted code m n leads none sorted = calm_sorted m n (leads_quiet code m n (sym (leads_asked code m n leads) ∙ none) leads).calm sorted
@@ -152,7 +158,8 @@ module _ (r : RawTree) (code : Code) (program : IsProgram r code) where
       let same : u.frame ≡ f = same_of (sym u.acting ∙ acting) in
       subst (λ g. length g.code.slots + length g.mem.locals ≤ 2 ^ 32) same (by_posture e.suspended u.fits.class u.frame u.fits.is u.fits.posture)
     where
-      few_held : (c : ClassTree) (g : Frame) → slice_get r.classes e.class ≡ Some c → g.code ≡ c → HoldsTypes r.records (typed_by k.types) g.code g.mem → length g.code.slots + length g.mem.locals ≤ 2 ^ 32
+      few_held : (c : ClassTree) (g : Frame) → slice_get r.classes e.class ≡ Some c → g.code ≡ c → HoldsTypes r.records (typed_by k.types) g.code g.mem
+          → length g.code.slots + length g.mem.locals ≤ 2 ^ 32
       few_held c g is same holds =
           let z = program.few e.class g.code (is ∙ ap Some (sym same)) in subst (λ n. length g.code.slots + n ≤ 2 ^ 32) (sym holds.locals) z
 
@@ -172,7 +179,8 @@ module _ (r : RawTree) (code : Code) (program : IsProgram r code) where
       by_doing c g (Fire j ∷ ts) is h = absurd h
       by_doing c g (Drop kd j ∷ ts) is h = absurd h
 
-      by_posture : (b : Bool) (c : ClassTree) (g : Frame) → slice_get r.classes e.class ≡ Some c → PostureFits r k.types b c e g (tasks_of i p.core.tasks) → length g.code.slots + length g.mem.locals ≤ 2 ^ 32
+      by_posture : (b : Bool) (c : ClassTree) (g : Frame) → slice_get r.classes e.class ≡ Some c → PostureFits r k.types b c e g (tasks_of i p.core.tasks)
+          → length g.code.slots + length g.mem.locals ≤ 2 ^ 32
       by_posture true c g is h = few_held c g is h.0 h.1.holds
       by_posture false c g is h = by_doing c g (tasks_of i p.core.tasks) is h
 
@@ -222,7 +230,8 @@ module _ (r : RawTree) (code : Code) (program : IsProgram r code) where
     silent_reaches w p q (no_more _) = here
     silent_reaches w p q (then_on _ b _ one rest) = onward (live b w) (ap (advanced serves w) one) (silent_reaches w b q rest)
 
-    module _ (ls : List Line) (m start n : Process) (a : A) (p : Proc Frame) (w : W) (t : stack.Task) (now : RepresentsInWorld serves shown_by wrote code processes r ls m a p w) (taken : TopTaken t m start) (done : IsDone code t start n) where
+    module _ (ls : List Line) (m start n : Process) (a : A) (p : Proc Frame) (w : W) (t : stack.Task) (now : RepresentsInWorld serves shown_by wrote code processes r ls m a p w)
+        (taken : TopTaken t m start) (done : IsDone code t start n) where
       stays : Stays m n
       stays = task_stays code t m start n now.asked taken done
 
@@ -246,7 +255,8 @@ module _ (r : RawTree) (code : Code) (program : IsProgram r code) where
       asks_last : (i : ℕ) (from : Process) → Sorted from.heap → AsksAtLast r ls nothing_in_hand (serves.supply w) (ProcessInvariant r) code program.coded i p from n → Goes
       asks_last i from sorted x =
           by_answer
-          (ask_follows r ls x.memory x.process i x.entry x.frame nothing_in_hand x.stand (serves.supply w) code Off n x.may x.standing (record { sound = sound; sorted = at_ask; asked = x.none }) x.time
+          (ask_follows r ls x.memory x.process i x.entry x.frame nothing_in_hand x.stand (serves.supply w) code Off n x.may x.standing
+          (record { sound = sound; sorted = at_ask; asked = x.none }) x.time
           (ask_allowed r code (serves.supply w) x.process i x.entry x.frame (running x.process i x.entry x.frame x.held at acts) program.coded) x.asks)
         where
           full : Proc Frame
@@ -291,18 +301,23 @@ module _ (r : RawTree) (code : Code) (program : IsProgram r code) where
           let after = began_after start g.pace g.between none g.began in
           let calm = after_calm g.pace start g.between after in
           by_end i g.between (calm_sorted start g.between calm (calm_sorted m start off.calm now.between.sorted))
-          (further_follows r ls nothing_in_hand (serves.supply w) (ProcessInvariant r) code i class p start n program.coded (allows (serves.supply w)) now.between.kept g (after_asked g.pace start g.between none after)
+          (further_follows r ls nothing_in_hand (serves.supply w) (ProcessInvariant r) code i class p start n program.coded (allows (serves.supply w)) now.between.kept g
+          (after_asked g.pace start g.between none after)
           (ap program_time (calm.time ∙ off.calm.time) ∙ clock))
         where
-          by_end : (i : ℕ) (from : Process) → Sorted from.heap → RanOff r ls nothing_in_hand (serves.supply w) (ProcessInvariant r) code p n ⊎ AsksAtLast r ls nothing_in_hand (serves.supply w) (ProcessInvariant r) code program.coded i p from n → Goes
+          by_end : (i : ℕ) (from : Process) → Sorted from.heap → RanOff r ls nothing_in_hand (serves.supply w) (ProcessInvariant r) code p n
+              ⊎ AsksAtLast r ls nothing_in_hand (serves.supply w) (ProcessInvariant r) code program.coded i p from n → Goes
           by_end i from sorted (inl x) = ran_off x
           by_end i from sorted (inr x) = asks_last i from sorted x
       by_goes (runs i q e f is begins) =
-          by_end (subst (λ z. RanOff r ls nothing_in_hand (serves.supply w) (ProcessInvariant r) code z n ⊎ AsksAtLast r ls nothing_in_hand (serves.supply w) (ProcessInvariant r) code program.coded i z start n) (sym is)
-          (runs_follow r ls nothing_in_hand (serves.supply w) (ProcessInvariant r) code start q i e f begins.stand n program.coded (allows (serves.supply w)) (subst (ProcessInvariant r) is now.between.kept) begins.may begins.stands (off.asked ∙ now.asked)
+          by_end (subst (λ z. RanOff r ls nothing_in_hand (serves.supply w) (ProcessInvariant r) code z n
+          ⊎ AsksAtLast r ls nothing_in_hand (serves.supply w) (ProcessInvariant r) code program.coded i z start n) (sym is)
+          (runs_follow r ls nothing_in_hand (serves.supply w) (ProcessInvariant r) code start q i e f begins.stand n program.coded (allows (serves.supply w))
+          (subst (ProcessInvariant r) is now.between.kept) begins.may begins.stands (off.asked ∙ now.asked)
           (ap program_time off.calm.time ∙ clock) begins.runs))
         where
-          by_end : RanOff r ls nothing_in_hand (serves.supply w) (ProcessInvariant r) code p n ⊎ AsksAtLast r ls nothing_in_hand (serves.supply w) (ProcessInvariant r) code program.coded i p start n → Goes
+          by_end : RanOff r ls nothing_in_hand (serves.supply w) (ProcessInvariant r) code p n ⊎ AsksAtLast r ls nothing_in_hand (serves.supply w) (ProcessInvariant r) code program.coded i p start n
+              → Goes
           by_end (inl x) = ran_off x
           by_end (inr x) = asks_last i start (calm_sorted m start off.calm now.between.sorted) x
 
@@ -311,7 +326,8 @@ module _ (r : RawTree) (code : Code) (program : IsProgram r code) where
           by_goes
           (any_goes r code program ls m p now.between (serves.supply w) t start n now.asked taken (no_wait ls m p now.between now.poised t start taken) done)
 
-pub program_goes : {A W : Type 0} (serves : Host W) (shown_by : A → Numbered ℕ → W → Type 0) (wrote : A → List Line → A → Type 0) (code : Code) (processes : ℕ) (r : RawTree) → law.ProgramGoes serves shown_by wrote code processes r
+pub program_goes : {A W : Type 0} (serves : Host W) (shown_by : A → Numbered ℕ → W → Type 0) (wrote : A → List Line → A → Type 0) (code : Code) (processes : ℕ) (r : RawTree)
+    → law.ProgramGoes serves shown_by wrote code processes r
 program_goes serves shown_by wrote code processes r program ls m start n a p w t now taken done =
     task_goes r code program serves shown_by wrote processes ls m start n a p w t now taken done
 
@@ -322,7 +338,8 @@ branches_of r code program =
     branched r code.classes.items coded
     (λ k c n g at there none. subst HasCallback none (callback_there c.groups n g (program.whole.groups k c at) there))
 
-pub program_follows : {A W : Type 0} (serves : Host W) (shown_by : A → Numbered ℕ → W → Type 0) (wrote : A → List Line → A → Type 0) (code : Code) (processes : ℕ) (r : RawTree) → law.ProgramFollows serves shown_by wrote code processes r
+pub program_follows : {A W : Type 0} (serves : Host W) (shown_by : A → Numbered ℕ → W → Type 0) (wrote : A → List Line → A → Type 0) (code : Code) (processes : ℕ) (r : RawTree)
+    → law.ProgramFollows serves shown_by wrote code processes r
 program_follows serves shown_by wrote code processes r program steady ls m n a b p w e now bursts =
     burst_follows serves shown_by wrote code processes r (record { valid = program.whole.valid; coded = program.coded }) (branches_of r code program) steady
     (program_goes serves shown_by wrote code processes r program) ls m n a b p w e now bursts

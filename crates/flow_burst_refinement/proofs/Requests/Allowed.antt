@@ -106,7 +106,8 @@ module _ (r : RawTree) (code : Code) (w : Supply) (p : Proc Frame) (i : ℕ) (e 
         fits = params;
       }
 
-  affects : (goal : Goal) (t : ExprTree) → ((g : Effectful × ExprTrees) → effect_in (class_names r) t ≡ Some g → Fit (effects (class_names r) (view w i p.core) f goal g)) → MayAffect r code w p i e f t
+  affects : (goal : Goal) (t : ExprTree) → ((g : Effectful × ExprTrees) → effect_in (class_names r) t ≡ Some g → Fit (effects (class_names r) (view w i p.core) f goal g))
+      → MayAffect r code w p i e f t
   affects goal t fit called es at = record {
     cells = (making_allowed r p i e f run).cells;
     starts = λ k actor vs left done. starts goal k es vs left (fit (Actor k, es) (at ∙ ap (λ c. Some (c, es)) actor)) done;

@@ -94,7 +94,10 @@ module _ (r : RawTree) (ls : List Line) (m : Process) (p : Proc Frame) (i : ℕ)
   -- a method aims where its path leads
   aims_at : (st : MayBeStale r ls x s m p i e f) (aim : Aim) (y z : Ident) (ys : List Ident) (es : ExprTrees) → aimed by (y ∷ before_last z ys) ≡ Some (aim_of aim)
       → MayCallOn r code w p i e f y z ys es → AimsAtRef r code m p i f aim (read_in r.records (look f.mem y.name) (before_last z ys))
-  aims_at st aim y z ys es aims may = record { same = by_aim (aim_there r code.classes.items code f (y ∷ before_last z ys) aim (coded_by inp.program) inp.program.coded.are_numbers may.rooted aims); there = may.there }
+  aims_at st aim y z ys es aims may = record {
+    same = by_aim (aim_there r code.classes.items code f (y ∷ before_last z ys) aim (coded_by inp.program) inp.program.coded.are_numbers may.rooted aims);
+    there = may.there;
+  }
     where
       by_aim : AimsAt r.records code f (y ∷ before_last z ys) aim
           → field_path (places_in code.fields) aim.path.items (option_map value_of (place_held i aim.place m.heap)) ≡ read_in r.records (look f.mem y.name) (before_last z ys)
@@ -118,7 +121,8 @@ module _ (r : RawTree) (ls : List Line) (m : Process) (p : Proc Frame) (i : ℕ)
       ∙ ap length at.stood.acts.stands.callbacks
       ∙ as_many (wait_spot f).first e.operands in
       let entered : machine.kept_by (thing p.core.entries i) ≡ length e.operands = ap machine.kept_by at.stood.acts.entered in
-      let c = both_there branch_of (coded_branch by) b (slice_get g.callbacks kept) (sym (ap (option_map branch_of) there) ∙ both_mapped branch_of (coded_branch by) group.branches.items g.callbacks kept g.coded) in
+      let c = both_there branch_of (coded_branch by) b (slice_get g.callbacks kept)
+      (sym (ap (option_map branch_of) there) ∙ both_mapped branch_of (coded_branch by) group.branches.items g.callbacks kept g.coded) in
       let callback : callback_at f.code number (length e.operands) ≡ Some c.0 = ap (option_and_then (λ cs. slice_get cs (length e.operands))) g.at ∙ ap (slice_get g.callbacks) (sym many) ∙ c.1.0 in
       let coded : operand_of (operand.Effect eff args) ≡ coded_operand by c.0.operand = ap operand_of (sym is) ∙ ap (λ (y : BranchCode). y.operand) c.1.1 in
       operand_does r ls (noted s m) p i e f x (noted_stand s) w code number (group.first + kept) c.0 eff args pace n
@@ -142,7 +146,8 @@ module _ (r : RawTree) (ls : List Line) (m : Process) (p : Proc Frame) (i : ℕ)
       method_does r ls m p i e f x s w code aim called args a.text pace n st call judged (record { fetched = a.fetched; coded = a.coded })
       (method_may st aim a.text of.root of.second of.others of.exprs of.is of.aims on) does
     where
-      method_may : (st : MayBeStale r ls x s m p i e f) (aim : Aim) (text : InstrTree) (y z : Ident) (ys : List Ident) (es : ExprTrees) → text ≡ ActInstr (y ∷ z ∷ ys) es → aimed by (y ∷ before_last z ys) ≡ Some (aim_of aim)
+      method_may : (st : MayBeStale r ls x s m p i e f) (aim : Aim) (text : InstrTree) (y z : Ident) (ys : List Ident) (es : ExprTrees) → text ≡ ActInstr (y ∷ z ∷ ys) es
+          → aimed by (y ∷ before_last z ys) ≡ Some (aim_of aim)
           → MayCallOn r code w p i e f y z ys es → MethodMay r ls m p i e f code w aim text
       method_may st aim text y z ys es is aims on = record {
         aims = λ k l ks fs same.

@@ -212,12 +212,14 @@ effect_changes s i goal (Delay ticks) c =
     (as_change c (gives_open i goal c) (open_stays i goal c)) (thrown i out_of_range c)
 effect_changes s i goal Never c = as_change c (gives_new i goal kind.Future (Single None []) c) (new_stays i goal kind.Future (Single None []) c)
 effect_changes s i goal (Listen port) c =
-    either c (is_port port) (open_port i goal (natural port) (thing c.ports (natural port)) c) (throws i bad_argument c) (by_port (natural port) (thing c.ports (natural port))) (thrown i bad_argument c)
+    either c (is_port port) (open_port i goal (natural port) (thing c.ports (natural port)) c) (throws i bad_argument c) (by_port (natural port) (thing c.ports (natural port)))
+    (thrown i bad_argument c)
   where
     by_port : (number : ℕ) (o : Option ℕ) → PortsChange c (open_port i goal number o c).0
     by_port number (Some cell) = same refl (omega arith)
     by_port number None =
-        let a = push_stays i (result_task i goal (RefValue kind.FutureStream (suc c.made))) (new_cell (Stream [] None None) (record c { ports = added c.ports number (suc c.made) })) in more number a.ports a.made
+        let a = push_stays i (result_task i goal (RefValue kind.FutureStream (suc c.made))) (new_cell (Stream [] None None) (record c { ports = added c.ports number (suc c.made) }))
+        in more number a.ports a.made
 effect_changes s i goal (Disk call) c = by_call (judged call)
   where
     by_call : (o : Option (DiskCall ℕ)) → PortsChange c (ask_disk i goal o c).0
@@ -235,7 +237,8 @@ react_changes s i (Sends k o) c = as_change c (send_in (thing c.cells k) i k o c
 react_changes s i (Cancels k) c = let a = owner_stays (owner k c.entries) (pushed (Run i) c) in same a.ports a.made
 react_changes s i (Prints v) c = as_change c (print i (print_line i v) c) (print_stays i (print_line i v) c)
 react_changes s i (SendsTo q port text) c =
-    either c (int_le (pos 0) q && nat_lt (natural q) s.processes && is_port port) (pushed (Run i) c, Some (Packet (natural q) (natural port) text)) (throws i bad_argument c) (same refl (omega arith)) (thrown i bad_argument c)
+    either c (int_le (pos 0) q && nat_lt (natural q) s.processes && is_port port) (pushed (Run i) c, Some (Packet (natural q) (natural port) text)) (throws i bad_argument c) (same refl (omega arith))
+    (thrown i bad_argument c)
 react_changes s i (Returns v vs) c = same refl (omega arith)
 react_changes s i (Throws e) c = same refl (omega arith)
 react_changes s i RunsOut c = same refl (omega arith)

@@ -193,7 +193,8 @@ ports_remain r s h g p q told sh sg numbers once steps is_told streams = by_told
             (λ j. sym (sg.ports j) ∙ ap (λ ns. has_number ns j) e ∙ has_without j k h.ports none ∙ sh.ports j)
         by_port (Some port) f =
             let gone = port_gone r h p port k sh f (one_each p.core.ports 0 p.core.made numbers.ports) (once k) in
-            same_left 0 p.core.made p.core.ports q.core.ports (removed p.core.ports port) numbers.ports thin (thinned_removed p.core.made port p.core.ports p.core.ports (whole p.core.made p.core.ports))
+            same_left 0 p.core.made p.core.ports q.core.ports (removed p.core.ports port) numbers.ports thin
+            (thinned_removed p.core.made port p.core.ports p.core.ports (whole p.core.made p.core.ports))
             (λ j l. none_removed j port p.core.ports (none_over 0 p.core.made j p.core.ports l numbers.ports))
             (λ j. sym (sg.ports j) ∙ ap (λ ns. has_number ns j) e ∙ gone.ports j)
 
@@ -204,7 +205,9 @@ ports_remain r s h g p q told sh sg numbers once steps is_told streams = by_told
     by_told (Some c) t e = absurd t
 
 -- Where as many streams have a port before and after such steps, the ports are the same.
-pub ports_stay : (r : RawTree) (s : Supply) (p q : Proc Frame) → InNumbers p.core → Silent r s p q → ((k : ℕ) → is_some (port_of k q.core.ports) ≡ is_some (port_of k p.core.ports)) → q.core.ports ≡ p.core.ports
+pub ports_stay : (r : RawTree) (s : Supply) (p q : Proc Frame) → InNumbers p.core → Silent r s p q → ((k : ℕ) → is_some (port_of k q.core.ports) ≡ is_some (port_of k p.core.ports))
+    → q.core.ports ≡ p.core.ports
 ports_stay r s p q numbers steps many =
-    same_left 0 p.core.made p.core.ports q.core.ports p.core.ports numbers.ports (steps_thin r s p.core.made p.core.ports p q (omega arith) (whole p.core.made p.core.ports) steps) (whole p.core.made p.core.ports)
+    same_left 0 p.core.made p.core.ports q.core.ports p.core.ports numbers.ports (steps_thin r s p.core.made p.core.ports p q (omega arith) (whole p.core.made p.core.ports) steps)
+    (whole p.core.made p.core.ports)
     (λ k l. none_over 0 p.core.made k p.core.ports l numbers.ports) many

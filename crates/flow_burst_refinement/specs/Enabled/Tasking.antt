@@ -36,7 +36,8 @@ InNoWait h (task.Run i) = StateIsNone h i.0
 InNoWait h (task.Keep i n k) = StateIsNone h i.0
 InNoWait h t = Unit {0}
 
-module _ (r : RawTree) (code : Code) (program : IsProgram r code) (ls : List Line) (m : Process) (p : Proc Frame) (now : BetweenTasks r ls m p) where
+module _ (r : RawTree) (code : Code) (program : IsProgram r code) (ls : List Line) (m : Process) (p : Proc Frame)
+    (now : BetweenTasks r ls m p) where
   -- the newest task may be done, as it is in memory
   abbrev pub AnyAllowed : Type 0
   AnyAllowed =

@@ -40,7 +40,8 @@ pub record BetweenTasks (r : RawTree) (ls : List Line) (m : Process) (p : Proc F
   pub sorted : Sorted m.heap
   pub kept : ProcessInvariant r p
 
-module _ (r : RawTree) (code : Code) (run : IsValidCode r code) (ls : List Line) (m : Process) (p : Proc Frame) (now : BetweenTasks r ls m p) where
+module _ (r : RawTree) (code : Code) (run : IsValidCode r code) (ls : List Line) (m : Process) (p : Proc Frame)
+    (now : BetweenTasks r ls m p) where
   -- the newest task may be done, once it is off
   abbrev pub TaskAllowed : Type 0
   TaskAllowed =

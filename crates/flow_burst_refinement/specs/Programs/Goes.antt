@@ -13,7 +13,8 @@ use Rattle.flow_machine.specs.Bursts.{Bursts}
 use Rattle.flow_burst_refinement.specs.Enabled.Tasking.{IsProgram}
 use Rattle.flow_burst_refinement.specs.Bursts.{HostKeepsTime, RepresentsInWorld, TasksGo, SimulatesBurst}
 
-module _ {A W : Type 0} (serves : Host W) (shows : A → Numbered ℕ → W → Type 0) (wrote : A → List Line → A → Type 0) (code : Code) (processes : ℕ) (r : RawTree) where
+module _ {A W : Type 0} (serves : Host W) (shows : A → Numbered ℕ → W → Type 0) (wrote : A → List Line → A → Type 0) (code : Code)
+    (processes : ℕ) (r : RawTree) where
   -- each task is a row of steps
   abbrev pub ProgramGoes : Type 0
   ProgramGoes = IsProgram r code → TasksGo serves shows wrote code processes r

@@ -43,7 +43,8 @@ all_kept ks ls [] (r ∷ rs) kept h = absurd h
 all_kept ks ls (v ∷ vs) [] kept h = absurd h
 all_kept ks ls (v ∷ vs) (r ∷ rs) kept h = (are_kept ks ls v.items r.fields kept h.0, all_kept ks ls vs rs kept h.1)
 
-all_last : (ks : List Key) (vs : List (Vec ℕ Global)) (rs : List RecordTree) (v : Vec ℕ Global) (r : RecordTree) → AllNamed ks vs rs → AreNamed param_name ks v.items r.fields → AllNamed ks (vs ++ v ∷ []) (rs ++ r ∷ [])
+all_last : (ks : List Key) (vs : List (Vec ℕ Global)) (rs : List RecordTree) (v : Vec ℕ Global) (r : RecordTree) → AllNamed ks vs rs → AreNamed param_name ks v.items r.fields
+    → AllNamed ks (vs ++ v ∷ []) (rs ++ r ∷ [])
 all_last ks [] [] v r h one = (one, tt)
 all_last ks [] (q ∷ rs) v r h one = absurd h
 all_last ks (w ∷ vs) [] v r h one = absurd h
@@ -71,13 +72,15 @@ fields_step fs i d name ks ls ns ms n lt is m kept one h =
 pub fields_end : (fs : List Param) (i : ℕ) (ks : List Key) (ns : List ℕ) → length fs ≤ i → AreNamed param_name ks ns (map param_of (take i fs)) → AreNamed param_name ks ns (map param_of fs)
 fields_end fs i ks ns le h = subst (λ l. AreNamed param_name ks ns (map param_of l)) (take_all fs i le) h
 
-pub records_step : (rs : List RecordDecl) (i : ℕ) (d : RecordDecl) (of : RecordDecl) (ks ls : List Key) (vs ws : List (Vec ℕ Global)) (v : Vec ℕ Global) → i < length rs → of ≡ get_or rs i d → ws ≡ vs ++ v ∷ []
+pub records_step : (rs : List RecordDecl) (i : ℕ) (d : RecordDecl) (of : RecordDecl) (ks ls : List Key) (vs ws : List (Vec ℕ Global)) (v : Vec ℕ Global) → i < length rs → of ≡ get_or rs i d
+    → ws ≡ vs ++ v ∷ []
     → Keeps ks ls → AreNamed param_name ls v.items (map param_of of.fields.items) → AllNamed ks vs (map record_of (take i rs)) → AllNamed ls ws (map record_of (take (i + 1) rs))
 records_step rs i d of ks ls vs ws v lt is m kept one h =
     rw add-one
     (subst (λ z. AllNamed ls z (map record_of (take (suc i) rs))) (sym m)
     (subst (λ l. AllNamed ls (vs ++ v ∷ []) l) (sym (take_more record_of rs i d lt))
-    (all_last ls vs (map record_of (take i rs)) v (record_of (get_or rs i d)) (all_kept ks ls vs (map record_of (take i rs)) kept h) (subst (λ r. AreNamed param_name ls v.items (map param_of r.fields.items)) is one))))
+    (all_last ls vs (map record_of (take i rs)) v (record_of (get_or rs i d)) (all_kept ks ls vs (map record_of (take i rs)) kept h)
+    (subst (λ r. AreNamed param_name ls v.items (map param_of r.fields.items)) is one))))
 
 pub records_end : (rs : List RecordDecl) (i : ℕ) (ks : List Key) (vs : List (Vec ℕ Global)) → length rs ≤ i → AllNamed ks vs (map record_of (take i rs)) → AllNamed ks vs (map record_of rs)
 records_end rs i ks vs le h = subst (λ l. AllNamed ks vs (map record_of l)) (take_all rs i le) h

@@ -205,7 +205,8 @@ module _ (ks : List Key) (distinct : IsDistinct same ks) (x : List ℕ) where
   of_record names None k = refl
   of_record names (Some f) k = refl
 
-  by_record : (names : FieldNames) (rs : List RecordTree) (o : Option ℕ) → key_from 0 ks x ≡ o → AreNamed (λ (f : List ℕ × TypeTree). f.0) ks (0 ∷ 1 ∷ 2 ∷ []) packet_fields → AllNamed ks names.records.items rs
+  by_record : (names : FieldNames) (rs : List RecordTree) (o : Option ℕ) → key_from 0 ks x ≡ o → AreNamed (λ (f : List ℕ × TypeTree). f.0) ks (0 ∷ 1 ∷ 2 ∷ []) packet_fields
+      → AllNamed ks names.records.items rs
       → (r : RecordId) → place_by (places_in names) r o ≡ fields.field_place rs r x
   by_record names rs o e p h Packet = packet names o ∙ by_key (λ (f : List ℕ × TypeTree). f.0) ks distinct x o e (0 ∷ 1 ∷ 2 ∷ []) packet_fields p
   by_record names rs o e p h (Declared k) = of_record names o k ∙ declared o e names.records.items rs k h

@@ -38,7 +38,8 @@ module _ (s : ActorViewTree) where
     value_at (PlaceNode n) left = at_once (found (s.held n)) left
     value_at (CallNode p xs) left = then (values_at xs left) (λ vs left. at_once (call_answer p s.setting.now vs) left)
     value_at (RecordNode r xs) left = then (values_at xs left) (λ vs left. at_once (Given (RecordValue r (values_of_list vs))) left)
-    value_at (FunctionNode k xs) left = then (values_at xs left) (λ vs left. function_called s.setting s.run (slice_get s.setting.functions k) vs left)
+    value_at (FunctionNode k xs) left = then (values_at xs left)
+        (λ vs left. function_called s.setting s.run (slice_get s.setting.functions k) vs left)
     value_at (UnknownNode xs) left = then (values_at xs left) (λ vs left. Meaningless)
     value_at (FieldNode e f) left = then (value_at e left) (λ v left. at_once (field_answer (field_by s.places v f)) left)
     value_at (MethodNode e m xs) left =

@@ -33,13 +33,77 @@ id x = record { name = x; at = nowhere }
 
 -- a packet that is lost by a draw, and a timeout; the second process waits on
 lost_ping_times_out_program : ProgramTree
-lost_ping_times_out_program = record { decls = ((ActorDecl (record { at = nowhere; returns = VoidType; name = (id (codes "main")); params = ((record { ty = IntType; name = (id (codes "p")) }) ∷ []); body = (DeclareStmt nowhere (record { state = true; ty = (FutureStreamType (NamedType (codes "Packet"))); name = (id (codes "in")) }) (Some (CallExpr (id (codes "listen")) (MoreExprs (IntExpr (pos 7)) NoExprs))) (IfElseStmt nowhere (BinaryExpr Eq (VarExpr (id (codes "p"))) (IntExpr (pos 0))) (CallStmt nowhere ((id (codes "sendTo")) ∷ []) (MoreExprs (IntExpr (pos 1)) (MoreExprs (IntExpr (pos 7)) (MoreExprs (TextExpr (codes "ping")) NoExprs))) (TryStmt nowhere (ChooseStmt nowhere (MoreBranches nowhere (record { into = (Some (record { state = false; ty = (NamedType (codes "Packet")); name = (id (codes "k")) })); next = true; operand = (VarExpr (id (codes "in"))) }) (CallStmt nowhere ((id (codes "trace")) ∷ []) (MoreExprs (FieldExpr (VarExpr (id (codes "k"))) (id (codes "text"))) NoExprs) End) (MoreBranches nowhere (record { into = None; next = false; operand = (CallExpr (id (codes "delay")) (MoreExprs (IntExpr (pos 10)) NoExprs)) }) (ThrowStmt nowhere (Some (CallExpr (id (codes "timed_out")) NoExprs)) End) NoBranches)) End) nowhere (id (codes "e")) (CallStmt nowhere ((id (codes "trace")) ∷ []) (MoreExprs (MethodExpr (VarExpr (id (codes "e"))) (id (codes "code")) NoExprs) NoExprs) End) End)) (WaitStmt nowhere (record { into = (Some (record { state = false; ty = (NamedType (codes "Packet")); name = (id (codes "k")) })); next = true; operand = (VarExpr (id (codes "in"))) }) (CallStmt nowhere ((id (codes "sendTo")) ∷ []) (MoreExprs (FieldExpr (VarExpr (id (codes "k"))) (id (codes "from"))) (MoreExprs (IntExpr (pos 7)) (MoreExprs (TextExpr (codes "pong")) NoExprs))) End)) (ReturnStmt nowhere VoidExpr End))); close = nowhere })) ∷ []); end = nowhere }
+lost_ping_times_out_program = record {
+  decls = ((ActorDecl (record {
+    at = nowhere;
+    returns = VoidType;
+    name = (id (codes "main"));
+    params = ((record { ty = IntType; name = (id (codes "p")) }) ∷ []);
+    body = (DeclareStmt nowhere (record { state = true; ty = (FutureStreamType (NamedType (codes "Packet"))); name = (id (codes "in")) })
+        (Some (CallExpr (id (codes "listen")) (MoreExprs (IntExpr (pos 7)) NoExprs)))
+        (IfElseStmt nowhere (BinaryExpr Eq (VarExpr (id (codes "p"))) (IntExpr (pos 0)))
+        (CallStmt nowhere ((id (codes "sendTo")) ∷ []) (MoreExprs (IntExpr (pos 1)) (MoreExprs (IntExpr (pos 7)) (MoreExprs (TextExpr (codes "ping")) NoExprs)))
+        (TryStmt nowhere (ChooseStmt nowhere (MoreBranches nowhere (record
+        { into = (Some (record { state = false; ty = (NamedType (codes "Packet")); name = (id (codes "k")) })); next = true; operand = (VarExpr (id (codes "in"))) })
+        (CallStmt nowhere ((id (codes "trace")) ∷ []) (MoreExprs (FieldExpr (VarExpr (id (codes "k"))) (id (codes "text"))) NoExprs) End)
+        (MoreBranches nowhere (record { into = None; next = false; operand = (CallExpr (id (codes "delay")) (MoreExprs (IntExpr (pos 10)) NoExprs)) })
+        (ThrowStmt nowhere (Some (CallExpr (id (codes "timed_out")) NoExprs)) End) NoBranches)) End) nowhere (id (codes "e"))
+        (CallStmt nowhere ((id (codes "trace")) ∷ []) (MoreExprs (MethodExpr (VarExpr (id (codes "e"))) (id (codes "code")) NoExprs) NoExprs) End) End))
+        (WaitStmt nowhere (record { into = (Some (record { state = false; ty = (NamedType (codes "Packet")); name = (id (codes "k")) })); next = true; operand = (VarExpr (id (codes "in"))) })
+        (CallStmt nowhere ((id (codes "sendTo")) ∷ []) (MoreExprs (FieldExpr (VarExpr (id (codes "k"))) (id (codes "from")))
+            (MoreExprs (IntExpr (pos 7)) (MoreExprs (TextExpr (codes "pong")) NoExprs)))
+        End)) (ReturnStmt nowhere VoidExpr End)));
+    close = nowhere;
+  })) ∷ []);
+  end = nowhere;
+}
 
 lost_ping_times_out_world : World
 lost_ping_times_out_world = record { seed = 0; words = []; processes = 2; events = 1000; turns = 100000; latency = (1, 2); loss = 1000; diskdelay = (1, 2); script = [] }
 
 lost_ping_times_out_classes : RawTree
-lost_ping_times_out_classes = record { records = []; functions = []; classes = ((record { name = (codes "main"); returns = VoidType; params = 1; slots = ((record { ty = IntType; name = (codes "p") }) ∷ (record { ty = (FutureStreamType (NamedType (codes "Packet"))); name = (codes "in") }) ∷ []); locals = ((NamedType (codes "Packet")) ∷ ErrorType ∷ (NamedType (codes "Packet")) ∷ []); blocks = ((record { catcher = None; body = ((EffectInstr ((id (codes "s1")) ∷ []) (CallExpr (id (codes "listen")) (MoreExprs (IntExpr (pos 7)) NoExprs))) ∷ []); last = (TestLast (BinaryExpr Eq (VarExpr (id (codes "s0"))) (IntExpr (pos 0))) 1 8) }) ∷ (record { catcher = None; body = ((ActInstr ((id (codes "sendTo")) ∷ []) (MoreExprs (IntExpr (pos 1)) (MoreExprs (IntExpr (pos 7)) (MoreExprs (TextExpr (codes "ping")) NoExprs)))) ∷ []); last = (GotoLast 2) }) ∷ (record { catcher = (Some (record { block = 6; error = (Some 1); drops = [] })); body = []; last = (ChooseLast 1) }) ∷ (record { catcher = (Some (record { block = 6; error = (Some 1); drops = (0 ∷ []) })); body = ((ActInstr ((id (codes "trace")) ∷ []) (MoreExprs (FieldExpr (VarExpr (id (codes "l0"))) (id (codes "text"))) NoExprs)) ∷ (DropInstr (0 ∷ [])) ∷ []); last = (GotoLast 5) }) ∷ (record { catcher = (Some (record { block = 6; error = (Some 1); drops = [] })); body = []; last = (ThrowLast (CallExpr (id (codes "timed_out")) NoExprs)) }) ∷ (record { catcher = None; body = []; last = (GotoLast 7) }) ∷ (record { catcher = None; body = ((ActInstr ((id (codes "trace")) ∷ []) (MoreExprs (MethodExpr (VarExpr (id (codes "l1"))) (id (codes "code")) NoExprs) NoExprs)) ∷ (DropInstr (1 ∷ [])) ∷ []); last = (GotoLast 7) }) ∷ (record { catcher = None; body = []; last = (GotoLast 10) }) ∷ (record { catcher = None; body = []; last = (ChooseLast 2) }) ∷ (record { catcher = None; body = ((ActInstr ((id (codes "sendTo")) ∷ []) (MoreExprs (FieldExpr (VarExpr (id (codes "l2"))) (id (codes "from"))) (MoreExprs (IntExpr (pos 7)) (MoreExprs (TextExpr (codes "pong")) NoExprs)))) ∷ (DropInstr (2 ∷ [])) ∷ []); last = (GotoLast 10) }) ∷ (record { catcher = None; body = []; last = (ReturnLast VoidExpr) }) ∷ []); groups = (((record { next = true; operand = (VarExpr (id (codes "s1"))); into = (Some (Local 0)); block = 3 }) ∷ (record { next = false; operand = (CallExpr (id (codes "delay")) (MoreExprs (IntExpr (pos 10)) NoExprs)); into = None; block = 4 }) ∷ []) ∷ ((record { next = true; operand = (VarExpr (id (codes "s1"))); into = (Some (Local 2)); block = 9 }) ∷ []) ∷ []) }) ∷ []) }
+lost_ping_times_out_classes = record {
+  records = [];
+  functions = [];
+  classes = ((record {
+    name = (codes "main");
+    returns = VoidType;
+    params = 1;
+    slots = ((record { ty = IntType; name = (codes "p") }) ∷ (record { ty = (FutureStreamType (NamedType (codes "Packet"))); name = (codes "in") }) ∷ []);
+    locals = ((NamedType (codes "Packet")) ∷ ErrorType ∷ (NamedType (codes "Packet")) ∷ []);
+    blocks = ((record {
+      catcher = None;
+      body = ((EffectInstr ((id (codes "s1")) ∷ []) (CallExpr (id (codes "listen")) (MoreExprs (IntExpr (pos 7)) NoExprs))) ∷ []);
+      last = (TestLast (BinaryExpr Eq (VarExpr (id (codes "s0"))) (IntExpr (pos 0))) 1 8);
+    })
+        ∷ (record {
+          catcher = None;
+          body = ((ActInstr ((id (codes "sendTo")) ∷ []) (MoreExprs (IntExpr (pos 1)) (MoreExprs (IntExpr (pos 7)) (MoreExprs (TextExpr (codes "ping")) NoExprs)))) ∷ []);
+          last = (GotoLast 2);
+        }) ∷ (record { catcher = (Some (record { block = 6; error = (Some 1); drops = [] })); body = []; last = (ChooseLast 1) })
+        ∷ (record {
+          catcher = (Some (record { block = 6; error = (Some 1); drops = (0 ∷ []) }));
+          body = ((ActInstr ((id (codes "trace")) ∷ []) (MoreExprs (FieldExpr (VarExpr (id (codes "l0"))) (id (codes "text"))) NoExprs)) ∷ (DropInstr (0 ∷ [])) ∷ []);
+          last = (GotoLast 5);
+        })
+        ∷ (record { catcher = (Some (record { block = 6; error = (Some 1); drops = [] })); body = []; last = (ThrowLast (CallExpr (id (codes "timed_out")) NoExprs)) })
+        ∷ (record { catcher = None; body = []; last = (GotoLast 7) }) ∷
+        (record {
+          catcher = None;
+          body = ((ActInstr ((id (codes "trace")) ∷ []) (MoreExprs (MethodExpr (VarExpr (id (codes "l1"))) (id (codes "code")) NoExprs) NoExprs)) ∷ (DropInstr (1 ∷ [])) ∷ []);
+          last = (GotoLast 7);
+        }) ∷ (record { catcher = None; body = []; last = (GotoLast 10) }) ∷ (record { catcher = None; body = []; last = (ChooseLast 2) })
+        ∷ (record {
+          catcher = None;
+          body = ((ActInstr ((id (codes "sendTo")) ∷ [])
+              (MoreExprs (FieldExpr (VarExpr (id (codes "l2"))) (id (codes "from"))) (MoreExprs (IntExpr (pos 7)) (MoreExprs (TextExpr (codes "pong")) NoExprs)))) ∷ (DropInstr (2 ∷ [])) ∷ []);
+          last = (GotoLast 10);
+        }) ∷ (record { catcher = None; body = []; last = (ReturnLast VoidExpr) }) ∷ []);
+    groups = (((record { next = true; operand = (VarExpr (id (codes "s1"))); into = (Some (Local 0)); block = 3 })
+        ∷ (record { next = false; operand = (CallExpr (id (codes "delay")) (MoreExprs (IntExpr (pos 10)) NoExprs)); into = None; block = 4 }) ∷ [])
+        ∷ ((record { next = true; operand = (VarExpr (id (codes "s1"))); into = (Some (Local 2)); block = 9 }) ∷ []) ∷ []);
+  }) ∷ []);
+}
 
 -- a frame and a callback
 abbrev framed : (process actor group : ℕ) → Line

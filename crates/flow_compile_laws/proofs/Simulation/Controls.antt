@@ -36,7 +36,8 @@ simple_outside ns c s r ts b p q s2 h = absurd h
 
 module _ (d : Engine Frame) (ns : Names) (steps : (v : View) (f : Frame) → d.next v f ≡ class.next_step ns v f) (v : View) (c : ClassTree) (m : Memory) where
   -- what quietly stays where it is, or is at a point further on
-  quiet_row : (s : Scope) (ts : List Target) (r : List Item) (p q : Pos) (n : ℕ) → Held c m s → RestAt ns c s r ts q → JumpsTo ns c p q → Replied d ns steps v (quietly (actor (vars_of c m s) r)) (frame_at c m p n)
+  quiet_row : (s : Scope) (ts : List Target) (r : List Item) (p q : Pos) (n : ℕ) → Held c m s → RestAt ns c s r ts q → JumpsTo ns c p q
+      → Replied d ns steps v (quietly (actor (vars_of c m s) r)) (frame_at c m p n)
   quiet_row s ts r p q n held at g = (frame_at c m p n, still, free d ns steps c m s ts r p q n held at g)
 
   resumed : (s : Scope) (r : List Item) (p : Pos) (n : ℕ) → Held c m s → Resumes ns c s r p → Replied d ns steps v (quietly (actor (vars_of c m s) r)) (frame_at c m p n)
@@ -56,7 +57,18 @@ module _ (d : Engine Frame) (ns : Names) (steps : (v : View) (f : Frame) → d.n
         → Replied d ns steps v (text.do_body ns v (actor (vars_of c m s) (Do x (IfStmt at e b k) ∷ r)) x (IfStmt at e b k) r) (frame_at c m p n)
     if_row at e b k h =
         let w = whole ns c s r ts x (IfStmt at e b k) p tt h in
-        let t : Point ns = record { c = c; m = m; p = p; n = n; s = s; ts = ts; rest = Do x (IfStmt at e b k) ∷ r; held = held; at = h; throws = throws_behind ns c s r ts x (IfStmt at e b k) p w.0.0 w.1 } in
+        let t : Point ns = record {
+          c = c;
+          m = m;
+          p = p;
+          n = n;
+          s = s;
+          ts = ts;
+          rest = Do x (IfStmt at e b k) ∷ r;
+          held = held;
+          at = h;
+          throws = throws_behind ns c s r ts x (IfStmt at e b k) p w.0.0 w.1;
+        } in
         test_row d ns steps t v e w.0.1 w.0.2 _ _ w.0.4
         (free d ns steps c m (Mark ∷ s) (At w.0.3 ∷ ts) (Do x b ∷ Leave ∷ Do (site_past b x) k ∷ r) (entry w.0.1) (entry w.0.1) 0 (held_mark c m s held) (body w.0.5 (w.0.7, w.1)) here)
         (free d ns steps c m s ts (Do (site_past b x) k ∷ r) (entry w.0.2) w.0.3 0 held (body w.0.7 w.1) w.0.6)
@@ -65,7 +77,18 @@ module _ (d : Engine Frame) (ns : Names) (steps : (v : View) (f : Frame) → d.n
         → Replied d ns steps v (text.do_body ns v (actor (vars_of c m s) (Do x (IfElseStmt at e b g k) ∷ r)) x (IfElseStmt at e b g k) r) (frame_at c m p n)
     if_else_row at e b g k h =
         let w = whole ns c s r ts x (IfElseStmt at e b g k) p tt h in
-        let t : Point ns = record { c = c; m = m; p = p; n = n; s = s; ts = ts; rest = Do x (IfElseStmt at e b g k) ∷ r; held = held; at = h; throws = throws_behind ns c s r ts x (IfElseStmt at e b g k) p w.0.0 w.1 } in
+        let t : Point ns = record {
+          c = c;
+          m = m;
+          p = p;
+          n = n;
+          s = s;
+          ts = ts;
+          rest = Do x (IfElseStmt at e b g k) ∷ r;
+          held = held;
+          at = h;
+          throws = throws_behind ns c s r ts x (IfElseStmt at e b g k) p w.0.0 w.1;
+        } in
         let y = site_past b x in
         test_row d ns steps t v e w.0.1 w.0.2 _ _ w.0.4
         (free d ns steps c m (Mark ∷ s) (At w.0.3 ∷ ts) (Do x b ∷ Leave ∷ Do (site_past g y) k ∷ r) (entry w.0.1) (entry w.0.1) 0 (held_mark c m s held) (body w.0.5 (w.0.7, w.1)) here)
@@ -128,10 +151,12 @@ module _ (d : Engine Frame) (ns : Names) (steps : (v : View) (f : Frame) → d.n
       a : Actor
       a = actor (vars_of c m s) (Check l ∷ r)
 
-      inside : (q : Pos) → JumpsTo ns c q q → BodyAt ns c (Mark ∷ s) (Leave ∷ Made l ∷ r) (Again h.0 ∷ ts) l.site l.inner q → RestAt ns c (Mark ∷ s) (Do l.site l.inner ∷ Leave ∷ Made l ∷ r) (Again h.0 ∷ ts) q
+      inside : (q : Pos) → JumpsTo ns c q q → BodyAt ns c (Mark ∷ s) (Leave ∷ Made l ∷ r) (Again h.0 ∷ ts) l.site l.inner q
+          → RestAt ns c (Mark ∷ s) (Do l.site l.inner ∷ Leave ∷ Made l ∷ r) (Again h.0 ∷ ts) q
       inside q g w = body w (h.2, h.3)
 
-      by_condition : (o : Option ExprTree) → LoopAt ns c s r ts o h.0 (BodyAt ns c (Mark ∷ s) (Leave ∷ Made l ∷ r) (Again h.0 ∷ ts) l.site l.inner) → Replied d ns steps v (text.check ns v a l o r) (frame_at c m (entry h.0) n)
+      by_condition : (o : Option ExprTree) → LoopAt ns c s r ts o h.0 (BodyAt ns c (Mark ∷ s) (Leave ∷ Made l ∷ r) (Again h.0 ∷ ts) l.site l.inner)
+          → Replied d ns steps v (text.check ns v a l o r) (frame_at c m (entry h.0) n)
       by_condition None w =
           quiet_row (Mark ∷ s) (Again h.0 ∷ ts) (Do l.site l.inner ∷ Leave ∷ Made l ∷ r) (entry h.0) (entry h.0) n (held_mark c m s held) (inside (entry h.0) here w) here
       by_condition (Some e) w =

@@ -43,7 +43,8 @@ use Rattle.flow_compile_laws.proofs.Simulation.Row.{Agree, Replied, later, next_
 use Rattle.flow_compile_laws.proofs.Simulation.Parts.{whole, throws_behind}
 use Rattle.flow_compile_laws.proofs.Simulation.Points.{Point, point_actor, point_frame, may_go, may_throw, answered, error_agree}
 
-module _ (d : Engine Frame) (ns : Names) (steps : (v : View) (f : Frame) → d.next v f ≡ class.next_step ns v f) (v : View) (c : ClassTree) (m : Memory) (p : Pos) (n : ℕ) (s : Scope) (ts : List Target) (held : Held c m s) where
+module _ (d : Engine Frame) (ns : Names) (steps : (v : View) (f : Frame) → d.next v f ≡ class.next_step ns v f) (v : View) (c : ClassTree) (m : Memory) (p : Pos) (n : ℕ) (s : Scope) (ts : List Target)
+    (held : Held c m s) where
   -- the end of a text throws
   pub over_row : RestAt ns c s [] ts p → Replied d ns steps v (text.do_item ns v (actor (vars_of c m s) []) []) (frame_at c m p n)
   over_row h =
@@ -88,7 +89,18 @@ module _ (d : Engine Frame) (ns : Names) (steps : (v : View) (f : Frame) → d.n
         → Replied d ns steps v (text.do_body ns v (actor (vars_of c m s) (Do x (ReturnStmt at e k) ∷ r)) x (ReturnStmt at e k) r) (frame_at c m p n)
     return_row at e k h =
         let w = whole ns c s r ts x (ReturnStmt at e k) p tt h in
-        let t : Point ns = record { c = c; m = m; p = p; n = n; s = s; ts = ts; rest = Do x (ReturnStmt at e k) ∷ r; held = held; at = h; throws = throws_behind ns c s r ts x (ReturnStmt at e k) p w.0.0 w.1 } in
+        let t : Point ns = record {
+          c = c;
+          m = m;
+          p = p;
+          n = n;
+          s = s;
+          ts = ts;
+          rest = Do x (ReturnStmt at e k) ∷ r;
+          held = held;
+          at = h;
+          throws = throws_behind ns c s r ts x (ReturnStmt at e k) p w.0.0 w.1;
+        } in
         answered d ns steps t v (Last (ReturnLast (over c.slots s e))) (text.do_body ns v (point_actor d ns steps t) x (ReturnStmt at e k) r) w.0.1
         (evaluated_agree d ns steps (point_actor d ns steps t) (point_frame d ns steps t)
         (value ns v (source.look (vars_of c m s)) e) (value ns v (frame.look m) (over c.slots s e))
@@ -103,14 +115,26 @@ module _ (d : Engine Frame) (ns : Names) (steps : (v : View) (f : Frame) → d.n
     caught_row at k h throws y z stands same =
         let t : Point ns = record { c = c; m = m; p = p; n = n; s = s; ts = ts; rest = Do x (ThrowStmt at None k) ∷ r; held = held; at = h; throws = throws } in
         answered d ns steps t v (Last (ThrowLast (VarExpr z))) (text.throw_value ns v (point_actor d ns steps t) (bind (source.look (vars_of c m s) y) error_of) v.left) stands
-        (subst (λ o. Agree d ns steps (text.throw_value ns v (point_actor d ns steps t) (bind (flat o) error_of) v.left) (thrown t (variable (frame.look m) z.name (named constant_names z.name)))) (sym (place_found c m s held y))
+        (subst (λ o. Agree d ns steps (text.throw_value ns v (point_actor d ns steps t) (bind (flat o) error_of) v.left) (thrown t (variable (frame.look m) z.name (named constant_names z.name))))
+        (sym (place_found c m s held y))
         (caught_agree t z.name (place_of c.slots s y) same (named constant_names z.name) refl))
 
     pub throw_row : (at : Place) (e : Option ExprTree) (k : Body) → StmtsAt ns c s r ts x (ThrowStmt at e k) p
         → Replied d ns steps v (text.do_body ns v (actor (vars_of c m s) (Do x (ThrowStmt at e k) ∷ r)) x (ThrowStmt at e k) r) (frame_at c m p n)
     throw_row at (Some e) k h =
         let w = whole ns c s r ts x (ThrowStmt at (Some e) k) p tt h in
-        let t : Point ns = record { c = c; m = m; p = p; n = n; s = s; ts = ts; rest = Do x (ThrowStmt at (Some e) k) ∷ r; held = held; at = h; throws = throws_behind ns c s r ts x (ThrowStmt at (Some e) k) p w.0.0 w.1 } in
+        let t : Point ns = record {
+          c = c;
+          m = m;
+          p = p;
+          n = n;
+          s = s;
+          ts = ts;
+          rest = Do x (ThrowStmt at (Some e) k) ∷ r;
+          held = held;
+          at = h;
+          throws = throws_behind ns c s r ts x (ThrowStmt at (Some e) k) p w.0.0 w.1;
+        } in
         answered d ns steps t v (Last (ThrowLast (over c.slots s e))) (text.do_body ns v (point_actor d ns steps t) x (ThrowStmt at (Some e) k) r) w.0.1
         (evaluated_agree d ns steps (point_actor d ns steps t) (point_frame d ns steps t)
         (value ns v (source.look (vars_of c m s)) e) (value ns v (frame.look m) (over c.slots s e))
@@ -152,9 +176,22 @@ module _ (d : Engine Frame) (ns : Names) (steps : (v : View) (f : Frame) → d.n
         → Replied d ns steps v (text.do_body ns v (actor (vars_of c m s) (Do x (CallStmt at xs es k) ∷ r)) x (CallStmt at xs es k) r) (frame_at c m p n)
     call_row at xs es k h =
         let w = whole ns c s r ts x (CallStmt at xs es k) p tt h in
-        let t : Point ns = record { c = c; m = m; p = p; n = n; s = s; ts = ts; rest = Do x (CallStmt at xs es k) ∷ r; held = held; at = h; throws = throws_behind ns c s r ts x (CallStmt at xs es k) p w.0.0 w.1 } in
-        let next = risky d ns steps c m s ts (Do x k ∷ r) (after p) (after p) n held (body w.0.2 w.1) here (throws_behind ns c s r ts x k (after p) (caught_after (unwind [] s r) (hand_of ns c r ts) w.0.0) w.1) in
+        let t : Point ns = record {
+          c = c;
+          m = m;
+          p = p;
+          n = n;
+          s = s;
+          ts = ts;
+          rest = Do x (CallStmt at xs es k) ∷ r;
+          held = held;
+          at = h;
+          throws = throws_behind ns c s r ts x (CallStmt at xs es k) p w.0.0 w.1;
+        } in
+        let next = risky d ns steps c m s ts (Do x k ∷ r) (after p) (after p) n held (body w.0.2 w.1) here
+        (throws_behind ns c s r ts x k (after p) (caught_after (unwind [] s r) (hand_of ns c r ts) w.0.0) w.1) in
         answered d ns steps t v (code.Body (ActInstr (act_over c.slots s xs) (over_all c.slots s es))) (text.do_body ns v (point_actor d ns steps t) x (CallStmt at xs es k) r) w.0.1
-        (subst (λ q. Agree d ns steps (text.do_body ns v (point_actor d ns steps t) x (CallStmt at xs es k) r) (evaluated (point_frame d ns steps t) q (λ act left. asks left act (frame_at c m (after p) n))))
+        (subst (λ q. Agree d ns steps (text.do_body ns v (point_actor d ns steps t) x (CallStmt at xs es k) r)
+        (evaluated (point_frame d ns steps t) q (λ act left. asks left act (frame_at c m (after p) n))))
         (sym (call_over c m s held ns v xs es))
         (call_agree t (actor (vars_of c m s) (Do x k ∷ r)) (frame_at c m (after p) n) (call_act ns v (source.look (vars_of c m s)) xs es) (call_mild ns v (source.look (vars_of c m s)) xs es) next))

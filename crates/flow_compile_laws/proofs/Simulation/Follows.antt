@@ -90,14 +90,16 @@ module _ (d : Engine Frame) (ns : Names) (steps : (v : View) (f : Frame) → d.n
       later d ns steps v x.0 x.1 f (frame_at f.code f.mem b.to j.0) j.1 (item_row f.code f.mem b.to j.0 b.s b.ts b.held a.rest b.at))
 
   -- a quiet step makes the actor lighter
-  pub answers : (a : Actor) (x : StepOf Actor) (f : Frame) → (x.0 ≡ None → actor_weight x.1 < actor_weight a) → Replied d ns steps v x f → MatchesAsk (ActorMatches ns) d v (actor_weight x.1 < actor_weight a) x.0 x.1 f
+  pub answers : (a : Actor) (x : StepOf Actor) (f : Frame) → (x.0 ≡ None → actor_weight x.1 < actor_weight a) → Replied d ns steps v x f
+      → MatchesAsk (ActorMatches ns) d v (actor_weight x.1 < actor_weight a) x.0 x.1 f
   answers a x f w h = by_ask x.0 w h
     where
       by_ask : (o : Option Ask) → (o ≡ None → actor_weight x.1 < actor_weight a) → Replies d ns steps v o x.1 f → MatchesAsk (ActorMatches ns) d v (actor_weight x.1 < actor_weight a) o x.1 f
       by_ask None w h = (h.0, inr (h.1, w refl), h.2)
       by_ask (Some k) w h = h
 
-  pub follows : (a : Actor) (f : Frame) → ActorMatches ns Free a f → MatchesAsk (ActorMatches ns) d v (actor_weight (text.next_step ns v a).1 < actor_weight a) (text.next_step ns v a).0 (text.next_step ns v a).1 f
+  pub follows : (a : Actor) (f : Frame) → ActorMatches ns Free a f
+      → MatchesAsk (ActorMatches ns) d v (actor_weight (text.next_step ns v a).1 < actor_weight a) (text.next_step ns v a).0 (text.next_step ns v a).1 f
   follows a f h = answers a (text.next_step ns v a) f (falls ns v a) (next_row a f h)
 
 -- both refer to the same cells

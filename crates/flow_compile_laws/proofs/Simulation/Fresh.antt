@@ -76,7 +76,8 @@ module _ (ns : Names) where
         way = here;
       })
 
-  one_fresh : (a : RoutineTree) (c : ClassTree) (vs : List ValueTree) → IsClassOf a c → Carries ns a c → IsNumbered c → BothOrNone (ActorMatches ns Free) (source.fresh_from (Some a) vs) (class.fresh_from (Some c) vs)
+  one_fresh : (a : RoutineTree) (c : ClassTree) (vs : List ValueTree) → IsClassOf a c → Carries ns a c → IsNumbered c
+      → BothOrNone (ActorMatches ns Free) (source.fresh_from (Some a) vs) (class.fresh_from (Some c) vs)
   one_fresh a c vs k h few = by_test (nat_eq (length vs) c.params) refl
     where
       by_test : (b : Bool) → nat_eq (length vs) c.params ≡ b → BothOrNone (ActorMatches ns Free) (source.fresh_from (Some a) vs) (if b then Some (class.begun c vs) else None)

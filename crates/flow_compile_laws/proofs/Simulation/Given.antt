@@ -52,7 +52,8 @@ lose_row ns a f b = (
 )
 
 -- an assignment and a declaration are instructions
-assign_instr : (ns : Names) (c : ClassTree) (o : Option (Effectful × ExprTrees)) (path : List Ident) (e : ExprTree) (p : Pos) → AssignBy ns c o path e p → (i : InstrTree) × (carry.at ns c p ≡ code.Body i)
+assign_instr : (ns : Names) (c : ClassTree) (o : Option (Effectful × ExprTrees)) (path : List Ident) (e : ExprTree) (p : Pos) → AssignBy ns c o path e p
+    → (i : InstrTree) × (carry.at ns c p ≡ code.Body i)
 assign_instr ns c None path e p h = (SetInstr path e, h)
 assign_instr ns c (Some g) path e p h = (EffectInstr path e, h)
 
@@ -64,14 +65,16 @@ declare_instr : (ns : Names) (c : ClassTree) (s : Scope) (to : Slotted) (t : Typ
 declare_instr ns c s to t None p h = first_instr ns c to t (default_expr ns c t) p h
 declare_instr ns c s to t (Some e) p h = assign_instr ns c (effect_in ns e) (h.0 ∷ []) (over c.slots s e) p h.1
 
-module _ (d : Engine Frame) (ns : Names) (steps : (v : View) (f : Frame) → d.next v f ≡ class.next_step ns v f) (c : ClassTree) (m : Memory) (p : Pos) (n : ℕ) (s : Scope) (ts : List Target) (held : Held c m s) (u : ValueTree) where
+module _ (d : Engine Frame) (ns : Names) (steps : (v : View) (f : Frame) → d.next v f ≡ class.next_step ns v f) (c : ClassTree) (m : Memory) (p : Pos) (n : ℕ) (s : Scope) (ts : List Target)
+    (held : Held c m s) (u : ValueTree) where
   abbrev f : Frame
   f = frame_at c m p n
 
   abbrev Same : List ValueTree × Actor → List ValueTree × Frame → Type 0
   Same = Alike (ActorMatches ns Free)
 
-  stored_alike : (a : Actor) (later : Scope) (r : List Item) (o : Option (List ValueTree × Vars)) (q : Option (List ValueTree × Memory)) → Puts c later o q → RestAt ns c later r ts (after p) → ActorMatches ns Free a f
+  stored_alike : (a : Actor) (later : Scope) (r : List Item) (o : Option (List ValueTree × Vars)) (q : Option (List ValueTree × Memory)) → Puts c later o q → RestAt ns c later r ts (after p)
+      → ActorMatches ns Free a f
       → Same (source.stored a r o) (class.stored f q)
   stored_alike a later r None None h at stands = (refl, stands)
   stored_alike a later r None (Some b) h at stands = absurd h
@@ -80,7 +83,8 @@ module _ (d : Engine Frame) (ns : Names) (steps : (v : View) (f : Frame) → d.n
       (h.0, subst (λ vs. ActorMatches ns Free (actor vs r) (frame_at c q.1 (after p) n)) (sym h.1) (free d ns steps c q.1 later ts r (after p) (after p) n h.2 at here))
 
   -- the effect of a statement gives its result
-  effect_alike : (a : Actor) (later : Scope) (r : List Item) (o : Option (List ValueTree × Vars)) (e : ExprTree) (g : Option (Effectful × ExprTrees)) (path : List Ident) (to : ExprTree) → effect_in ns e ≡ g → is_effect_in ns e ≡ true
+  effect_alike : (a : Actor) (later : Scope) (r : List Item) (o : Option (List ValueTree × Vars)) (e : ExprTree) (g : Option (Effectful × ExprTrees)) (path : List Ident) (to : ExprTree)
+      → effect_in ns e ≡ g → is_effect_in ns e ≡ true
       → AssignBy ns c g path to p → Puts c later o (frame.assign ns.records m path u) → RestAt ns c later r ts (after p) → ActorMatches ns Free a f
       → Same (store_if (is_effect_in ns e) a r o) (class.store_at ns u f (carry.at ns c p))
   effect_alike a later r o e None path to eg first h puts at stands = absurd (not_both (ap is_some eg) first)
@@ -92,7 +96,8 @@ module _ (d : Engine Frame) (ns : Names) (steps : (v : View) (f : Frame) → d.n
       (subst (λ q. Same (source.stored a r o) (class.store_at ns u f q)) (sym h) (stored_alike a later r o (frame.assign ns.records m path u) puts at stands))
 
   -- a new cell
-  new_alike : (a : Actor) (later : Scope) (r : List Item) (o : Option (List ValueTree × Vars)) (t : TypeTree) (to : Slotted) → makes_cell t ≡ true → FirstAt ns c to t (default_expr ns c t) p → Puts c later o (put_at ns.records m to [] u)
+  new_alike : (a : Actor) (later : Scope) (r : List Item) (o : Option (List ValueTree × Vars)) (t : TypeTree) (to : Slotted) → makes_cell t ≡ true → FirstAt ns c to t (default_expr ns c t) p
+      → Puts c later o (put_at ns.records m to [] u)
       → RestAt ns c later r ts (after p) → ActorMatches ns Free a f → Same (store_if (makes_cell t) a r o) (class.store_at ns u f (carry.at ns c p))
   new_alike a later r o (PromiseType t) to first h puts at stands =
       subst (λ q. Same (source.stored a r o) (class.store_at ns u f q)) (sym h.0) (stored_alike a later r o (put_at ns.records m to [] u) puts at stands)
@@ -104,7 +109,8 @@ module _ (d : Engine Frame) (ns : Names) (steps : (v : View) (f : Frame) → d.n
       → Same (source.store_at ns u (actor (vars_of c m s) rest) rest) (class.store_at ns u f (carry.at ns c p))
   store_there (Do x (DeclareStmt at i (Some e) k) ∷ r) h first stands =
       let w = declares_at ns c s r ts x at i (Some e) k p h in
-      effect_alike (actor (vars_of c m s) (Do x (DeclareStmt at i (Some e) k) ∷ r)) w.later (Do x k ∷ r) (Some (declare i u (vars_of c m s))) e (effect_in ns e) (w.puts.0 ∷ []) (over c.slots s e) refl first w.puts.1
+      effect_alike (actor (vars_of c m s) (Do x (DeclareStmt at i (Some e) k) ∷ r)) w.later (Do x k ∷ r) (Some (declare i u (vars_of c m s))) e (effect_in ns e) (w.puts.0 ∷ [])
+      (over c.slots s e) refl first w.puts.1
       (named_puts ns c m w.later w.puts.0 w.to u (declare i u (vars_of c m s)) w.puts.2 (declare_puts ns c m s held i w.to w.later u w.declared)) w.next stands
   store_there (Do x (DeclareStmt at i None k) ∷ r) h first stands =
       let w = declares_at ns c s r ts x at i None k p h in
@@ -112,7 +118,8 @@ module _ (d : Engine Frame) (ns : Names) (steps : (v : View) (f : Frame) → d.n
       (declare_puts ns c m s held i w.to w.later u w.declared) w.next stands
   store_there (Do x (AssignStmt at xs e k) ∷ r) h first stands =
       let w = assigns_at ns c s r ts x at xs e k p h in
-      effect_alike (actor (vars_of c m s) (Do x (AssignStmt at xs e k) ∷ r)) s (Do x k ∷ r) (item.assign ns.records xs u (vars_of c m s)) e (effect_in ns e) (path_over c.slots s xs) (over c.slots s e) refl first w.stands
+      effect_alike (actor (vars_of c m s) (Do x (AssignStmt at xs e k) ∷ r)) s (Do x k ∷ r) (item.assign ns.records xs u (vars_of c m s)) e (effect_in ns e) (path_over c.slots s xs)
+      (over c.slots s e) refl first w.stands
       (assign_puts ns c m s held xs u) w.next stands
   store_there (Do x (WaitStmt at w k) ∷ r) h first stands =
       subst (λ q. Same ([], actor (vars_of c m s) (Do x (WaitStmt at w k) ∷ r)) (class.store_at ns u f q)) (sym (wait_stands ns c s r ts x at w k p h)) (refl, stands)

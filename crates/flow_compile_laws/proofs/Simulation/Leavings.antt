@@ -28,12 +28,15 @@ use Rattle.flow_compile_laws.proofs.Simulation.Seen.{seen_scope, held_leave, see
 use Rattle.flow_compile_laws.proofs.Simulation.Row.{Replied, later, next_is, jumps, agreed, free}
 use Rattle.flow_compile_laws.proofs.Simulation.Parts.{Resumes, resumes, breaks_at, continues_at}
 
-module _ (d : Engine Frame) (ns : Names) (steps : (v : View) (f : Frame) → d.next v f ≡ class.next_step ns v f) (v : View) (c : ClassTree) (m : Memory) (p : Pos) (n : ℕ) (s : Scope) (held : Held c m s) where
+module _ (d : Engine Frame) (ns : Names) (steps : (v : View) (f : Frame) → d.next v f ≡ class.next_step ns v f) (v : View) (c : ClassTree) (m : Memory) (p : Pos) (n : ℕ) (s : Scope)
+    (held : Held c m s) where
   -- the scope's locals are dropped, if it has any, and then the class goes on as the items do
-  drop_row : (r : List Item) (follows : Pos → Type 0) → DropThen ns c (scope s) p follows → ((q : Pos) → follows q → Resumes ns c (outside s) r q) → Replied d ns steps v (left_scope v.left (vars_of c m s) r) (frame_at c m p n)
+  drop_row : (r : List Item) (follows : Pos → Type 0) → DropThen ns c (scope s) p follows → ((q : Pos) → follows q → Resumes ns c (outside s) r q)
+      → Replied d ns steps v (left_scope v.left (vars_of c m s) r) (frame_at c m p n)
   drop_row r follows h goes_on =
       subst (λ l. Replied d ns steps v (leave_scope (scope (seen m s)) v.left (actor (record { states = slots_seen c.slots m.slots; locals = l }) r)) (frame_at c m p n)) (sym (seen_leave c m s held))
-      (subst (λ o. Replied d ns steps v (leave_scope (scope (seen m s)) v.left (actor (record { states = slots_seen c.slots o; locals = seen (emptied (scope s) m) (outside s) }) r)) (frame_at c m p n)) (emptied_slots (scope s) m)
+      (subst (λ o. Replied d ns steps v (leave_scope (scope (seen m s)) v.left (actor (record { states = slots_seen c.slots o; locals = seen (emptied (scope s) m) (outside s) }) r))
+      (frame_at c m p n)) (emptied_slots (scope s) m)
       (by_scope (scope s) (scope (seen m s)) (seen_scope m s) (scope_values c m s held) (held_leave c m s held) h))
     where
       by_scope : (ks : List ℕ) (os : List (Option ValueTree)) → os ≡ at_numbers m.locals ks → filled os ≡ held_in m ks → Held c (emptied ks m) (outside s) → DropThen ns c ks p follows
@@ -64,7 +67,8 @@ module _ (d : Engine Frame) (ns : Names) (steps : (v : View) (f : Frame) → d.n
     stays : (r : List Item) (ts : List Target) → ExitAt ns c how s r ts p → Below ns c s r ts → Replied d ns steps v (quietly (actor (vars_of c m s) (me ∷ r))) (frame_at c m p n)
     stays r ts h u = (frame_at c m p n, still, free d ns steps c m s ts (me ∷ r) p p n held (leaves (leaving s r ts p h) u) here)
 
-  pub exit_row : (how : Exit) (x : Site) (k : Body) → ((s : Scope) (r : List Item) (ts : List Target) (q : Pos) → ExitAt ns c how s r ts q → LeavesAt ns c s r ts k q) → (r : List Item) (ts : List Target)
+  pub exit_row : (how : Exit) (x : Site) (k : Body) → ((s : Scope) (r : List Item) (ts : List Target) (q : Pos) → ExitAt ns c how s r ts q → LeavesAt ns c s r ts k q)
+      → (r : List Item) (ts : List Target)
       → ExitAt ns c how s r ts p → Below ns c s r ts → Replied d ns steps v (exit v.left how (Do x k) (actor (vars_of c m s) (Do x k ∷ r)) r) (frame_at c m p n)
   exit_row how x k leaving [] ts h u = absurd h
   exit_row how x k leaving (Leave ∷ r) ts h u =

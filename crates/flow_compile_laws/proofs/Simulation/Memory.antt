@@ -107,7 +107,8 @@ no_value None vs e = refl
 no_value (Some v) vs e = cc
 
 -- A drop list that covers locals gives their values: what it names besides is empty.
-pub covered_values : (s : Scope) (m : Memory) {ds ns : List ℕ} (top : ℕ) → Covers s ds ns → Falling top ns → ((n : ℕ) → NotIn n (all_locals s) → local m n ≡ None) → held_in m ds ≡ filled (at_numbers m.locals ns)
+pub covered_values : (s : Scope) (m : Memory) {ds ns : List ℕ} (top : ℕ) → Covers s ds ns → Falling top ns → ((n : ℕ) → NotIn n (all_locals s) → local m n ≡ None)
+    → held_in m ds ≡ filled (at_numbers m.locals ns)
 covered_values s m top none f h = refl
 covered_values s m top (this {n = n} {ds = ds} {ps = ps} c) f h =
     first_values (local m n) (held_in (without m n) ds) (at_numbers m.locals ps)

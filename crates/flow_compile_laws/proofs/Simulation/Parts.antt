@@ -64,12 +64,14 @@ module _ (ns : Names) (c : ClassTree) where
   whole s r ts x b p w (part h) = absurd (not_both b (part_simple s r ts b p h) w)
   whole s r ts x b p w (leaves h u) = absurd (leaves_not s r ts b p w h)
 
-  pub breaks_at : (s : Scope) (r : List Item) (ts : List Target) (x : Site) (at : Place) (k : Body) (p : Pos) → StmtsAt ns c s r ts x (BreakStmt at k) p → ExitAt ns c Breaks s r ts p × Below ns c s r ts
+  pub breaks_at : (s : Scope) (r : List Item) (ts : List Target) (x : Site) (at : Place) (k : Body) (p : Pos) → StmtsAt ns c s r ts x (BreakStmt at k) p
+      → ExitAt ns c Breaks s r ts p × Below ns c s r ts
   breaks_at s r ts x at k p (body h u) = (h.0, u)
   breaks_at s r ts x at k p (part h) = absurd (part_simple s r ts (BreakStmt at k) p h)
   breaks_at s r ts x at k p (leaves h u) = (h, u)
 
-  pub continues_at : (s : Scope) (r : List Item) (ts : List Target) (x : Site) (at : Place) (k : Body) (p : Pos) → StmtsAt ns c s r ts x (ContinueStmt at k) p → ExitAt ns c Continues s r ts p × Below ns c s r ts
+  pub continues_at : (s : Scope) (r : List Item) (ts : List Target) (x : Site) (at : Place) (k : Body) (p : Pos) → StmtsAt ns c s r ts x (ContinueStmt at k) p
+      → ExitAt ns c Continues s r ts p × Below ns c s r ts
   continues_at s r ts x at k p (body h u) = (h.0, u)
   continues_at s r ts x at k p (part h) = absurd (part_simple s r ts (ContinueStmt at k) p h)
   continues_at s r ts x at k p (leaves h u) = (h, u)
@@ -78,7 +80,8 @@ module _ (ns : Names) (c : ClassTree) where
   pub throws_behind : (s : Scope) (r : List Item) (ts : List Target) (x : Site) (b : Body) (p : Pos) → CaughtAt ns c s r ts p → Below ns c s r ts → ThrowsAt ns c s (Do x b ∷ r) p
   throws_behind s r ts x b p h u = record { items = r; targets = ts; same = λ ps ls. refl; below = u; caught = h }
 
-  throws_part : (s : Scope) (l : Loop) (r : List Item) (y : ℕ) (ts : List Target) (x : Site) (b : Body) (p : Pos) → CaughtAt ns c s (Round l ∷ r) (Again y ∷ ts) p → Below ns c s r ts → ThrowsAt ns c s (Do x b ∷ Round l ∷ r) p
+  throws_part : (s : Scope) (l : Loop) (r : List Item) (y : ℕ) (ts : List Target) (x : Site) (b : Body) (p : Pos) → CaughtAt ns c s (Round l ∷ r) (Again y ∷ ts) p → Below ns c s r ts
+      → ThrowsAt ns c s (Do x b ∷ Round l ∷ r) p
   throws_part s l r y ts x b p h u = record { items = r; targets = ts; same = λ ps ls. refl; below = u; caught = h }
 
   -- a new variable is of the innermost scope
@@ -106,10 +109,12 @@ module _ (ns : Names) (c : ClassTree) where
     pub declared : DeclaredAs ns c s i to later
     pub next : RestAt ns c later (Do x k ∷ r) ts (after p)
 
-  part_next : (s later : Scope) (l : Loop) (r : List Item) (y : ℕ) (ts : List Target) (x : Site) (p q : Pos) → p ≡ q → PassAt ns c q y → LoopStands ns c later r ts l y → Below ns c later r ts → StmtsAt ns c later (Round l ∷ r) (Again y ∷ ts) x End p
+  part_next : (s later : Scope) (l : Loop) (r : List Item) (y : ℕ) (ts : List Target) (x : Site) (p q : Pos) → p ≡ q → PassAt ns c q y → LoopStands ns c later r ts l y → Below ns c later r ts
+      → StmtsAt ns c later (Round l ∷ r) (Again y ∷ ts) x End p
   part_next s later l r y ts x p q e h w u = part (q, later, (e, refl), h, w, u, u)
 
-  declare_part : (s : Scope) (r : List Item) (ts : List Target) (x : Site) (at : Place) (i : IntoTree) (e : Option ExprTree) (k : Body) (p : Pos) → PartAt ns c s r ts (DeclareStmt at i e k) p → DeclaresAt s r ts x at i e k p
+  declare_part : (s : Scope) (r : List Item) (ts : List Target) (x : Site) (at : Place) (i : IntoTree) (e : Option ExprTree) (k : Body) (p : Pos) → PartAt ns c s r ts (DeclareStmt at i e k) p
+      → DeclaresAt s r ts x at i e k p
   declare_part s (Round l ∷ r) (Again y ∷ ts) x at i e End p h =
       record {
         throws = throws_part s l r y ts x (DeclareStmt at i e End) p h.2.0 h.5;
@@ -122,7 +127,8 @@ module _ (ns : Names) (c : ClassTree) where
   declare_part s (Round l ∷ r) (Again y ∷ ts) x at i e k p h = absurd h.2
   declare_part s r ts x at i e k p h = absurd h
 
-  pub declares_at : (s : Scope) (r : List Item) (ts : List Target) (x : Site) (at : Place) (i : IntoTree) (e : Option ExprTree) (k : Body) (p : Pos) → StmtsAt ns c s r ts x (DeclareStmt at i e k) p → DeclaresAt s r ts x at i e k p
+  pub declares_at : (s : Scope) (r : List Item) (ts : List Target) (x : Site) (at : Place) (i : IntoTree) (e : Option ExprTree) (k : Body) (p : Pos) → StmtsAt ns c s r ts x (DeclareStmt at i e k) p
+      → DeclaresAt s r ts x at i e k p
   declares_at s r ts x at i e k p (body h u) =
       record {
         throws = throws_behind s r ts x (DeclareStmt at i e k) p h.0 u;

@@ -99,7 +99,8 @@ module _ (d : Engine Frame) (ns : Names) (steps : (v : View) (f : Frame) → d.n
       → Replied d ns steps v (text.store ns v point_actor goal e r) point_frame
   store_row v goal path e later r stands puts at first = by_effect (effect_in ns e) refl stands
     where
-      by_effect : (o : Option (Effectful × ExprTrees)) → effect_in ns e ≡ o → AssignBy ns t.c o path (over t.c.slots t.s e) t.p → Replied d ns steps v (text.store_by ns v o point_actor goal e r) point_frame
+      by_effect : (o : Option (Effectful × ExprTrees)) → effect_in ns e ≡ o → AssignBy ns t.c o path (over t.c.slots t.s e) t.p
+          → Replied d ns steps v (text.store_by ns v o point_actor goal e r) point_frame
       by_effect None eo h =
           answered v (code.Body (SetInstr path (over t.c.slots t.s e))) (text.store_by ns v None point_actor goal e r) h
           (evaluated_agree d ns steps point_actor point_frame
@@ -141,7 +142,8 @@ module _ (d : Engine Frame) (ns : Names) (steps : (v : View) (f : Frame) → d.n
   SameOperand (Some e) None = ⊥
   SameOperand (Some e) (Some k) = k.operand ≡ over t.c.slots t.s e
 
-  reference_agree : (v : View) (left : ℕ) (spot : Spot) (u : ValueTree) → AsksFirst ns t.rest → Agree d ns steps (text.operand_ref ns v left spot point_actor u) (class.operand_ref ns v point_frame left spot u)
+  reference_agree : (v : View) (left : ℕ) (spot : Spot) (u : ValueTree) → AsksFirst ns t.rest
+      → Agree d ns steps (text.operand_ref ns v left spot point_actor u) (class.operand_ref ns v point_frame left spot u)
   reference_agree v left spot (RefValue k cell) first = (refl, is_due first)
   reference_agree v left spot u first = (refl, may_go)
 
@@ -173,5 +175,6 @@ module _ (d : Engine Frame) (ns : Names) (steps : (v : View) (f : Frame) → d.n
   await_agree v spot (Some e) None h first same = absurd h
   await_agree v spot (Some e) (Some k) h first same =
       subst (λ x. Agree d ns steps (text.operand_by ns v (effect_in ns e) point_actor spot e) (class.operand_by ns v point_frame spot x (effect_in ns x))) (sym h)
-      (subst (λ o. Agree d ns steps (text.operand_by ns v (effect_in ns e) point_actor spot e) (class.operand_by ns v point_frame spot (over t.c.slots t.s e) o)) (sym (effect_in_over ns t.c.slots t.s e))
+      (subst (λ o. Agree d ns steps (text.operand_by ns v (effect_in ns e) point_actor spot e) (class.operand_by ns v point_frame spot (over t.c.slots t.s e) o))
+      (sym (effect_in_over ns t.c.slots t.s e))
       (operand_agree v spot e (effect_in ns e) refl first))

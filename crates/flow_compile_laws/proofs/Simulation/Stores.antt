@@ -53,7 +53,8 @@ pub named_puts : (ns : Names) (c : ClassTree) (m : Memory) (later : Scope) (y : 
     → Puts c later (Some a) (put_at ns.records m to [] u) → Puts c later (Some a) (frame.assign ns.records m (y ∷ []) u)
 named_puts ns c m later y to u a e h = subst (λ o. Puts c later (Some a) (bind o (λ p. put_at ns.records m p [] u))) (sym e) h
 
-module _ (d : Engine Frame) (ns : Names) (steps : (v : View) (f : Frame) → d.next v f ≡ class.next_step ns v f) (v : View) (c : ClassTree) (m : Memory) (p : Pos) (n : ℕ) (s : Scope) (ts : List carry.Target) (held : Held c m s) (r : List Item) (x : Site) (k : Body) where
+module _ (d : Engine Frame) (ns : Names) (steps : (v : View) (f : Frame) → d.next v f ≡ class.next_step ns v f) (v : View) (c : ClassTree) (m : Memory) (p : Pos) (n : ℕ) (s : Scope)
+    (ts : List carry.Target) (held : Held c m s) (r : List Item) (x : Site) (k : Body) where
   -- a declared variable, with the value of an expression, or of an effect, or what its type has at first
   module _ (at : Place) (i : IntoTree) where
     abbrev declare_point : (e : Option ExprTree) → DeclaresAt ns c s r ts x at i e k p → StmtsAt ns c s r ts x (DeclareStmt at i e k) p → Point ns

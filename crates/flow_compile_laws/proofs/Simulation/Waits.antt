@@ -37,13 +37,16 @@ group_callbacks : (c : ClassTree) (g n : ℕ) (cs : List CallbackTree) → group
 group_callbacks c g n cs e = ap (option_and_then (λ ds. slice_get ds n)) e
 
 -- where a wait or a choose stands
-pub wait_stands : (ns : Names) (c : ClassTree) (s : Scope) (r : List Item) (ts : List Target) (x : Site) (at : Place) (w : WaitTree) (k : Body) (p : Pos) → StmtsAt ns c s r ts x (WaitStmt at w k) p → carry.at ns c p ≡ Last (ChooseLast x.spot.group)
+pub wait_stands : (ns : Names) (c : ClassTree) (s : Scope) (r : List Item) (ts : List Target) (x : Site) (at : Place) (w : WaitTree) (k : Body) (p : Pos) → StmtsAt ns c s r ts x (WaitStmt at w k) p
+    → carry.at ns c p ≡ Last (ChooseLast x.spot.group)
 wait_stands ns c s r ts x at w k p h = let g = whole ns c s r ts x (WaitStmt at w k) p tt h in g.0.4.0
 
-pub choose_stands : (ns : Names) (c : ClassTree) (s : Scope) (r : List Item) (ts : List Target) (x : Site) (at : Place) (bs : Branches) (k : Body) (p : Pos) → StmtsAt ns c s r ts x (ChooseStmt at bs k) p → carry.at ns c p ≡ Last (ChooseLast x.spot.group)
+pub choose_stands : (ns : Names) (c : ClassTree) (s : Scope) (r : List Item) (ts : List Target) (x : Site) (at : Place) (bs : Branches) (k : Body) (p : Pos)
+    → StmtsAt ns c s r ts x (ChooseStmt at bs k) p → carry.at ns c p ≡ Last (ChooseLast x.spot.group)
 choose_stands ns c s r ts x at bs k p h = let g = whole ns c s r ts x (ChooseStmt at bs k) p tt h in g.0.3.0
 
-module _ (d : Engine Frame) (ns : Names) (steps : (v : View) (f : Frame) → d.next v f ≡ class.next_step ns v f) (c : ClassTree) (m : Memory) (p : Pos) (n : ℕ) (s : Scope) (ts : List Target) (held : Held c m s) (r : List Item) (x : Site) where
+module _ (d : Engine Frame) (ns : Names) (steps : (v : View) (f : Frame) → d.next v f ≡ class.next_step ns v f) (c : ClassTree) (m : Memory) (p : Pos) (n : ℕ) (s : Scope) (ts : List Target)
+    (held : Held c m s) (r : List Item) (x : Site) where
   abbrev wait_point : (b : Body) → StmtsAt ns c s r ts x b p → carry.CaughtAt ns c s r ts p → Below ns c s r ts → Point ns
   wait_point b h caught u = record { c = c; m = m; p = p; n = n; s = s; ts = ts; rest = Do x b ∷ r; held = held; at = h; throws = throws_behind ns c s r ts x b p caught u }
 
@@ -52,7 +55,8 @@ module _ (d : Engine Frame) (ns : Names) (steps : (v : View) (f : Frame) → d.n
   single_operand t w k zero e = e
   single_operand t w k (suc i) e = tt
 
-  branch_operands : (t : Point ns) (r : List Item) (ts : List Target) (x : Site) (bs : Branches) (cs : List CallbackTree) (i : ℕ) → BranchesAt ns t.c t.s r ts x bs cs → SameOperand d ns steps t (branch_operand bs i) (slice_get cs i)
+  branch_operands : (t : Point ns) (r : List Item) (ts : List Target) (x : Site) (bs : Branches) (cs : List CallbackTree) (i : ℕ) → BranchesAt ns t.c t.s r ts x bs cs
+      → SameOperand d ns steps t (branch_operand bs i) (slice_get cs i)
   branch_operands t r ts x NoBranches [] i h = tt
   branch_operands t r ts x NoBranches (k ∷ cs) i h = absurd h
   branch_operands t r ts x (MoreBranches at w b bs) [] i h = absurd h
@@ -90,7 +94,8 @@ module _ (d : Engine Frame) (ns : Names) (steps : (v : View) (f : Frame) → d.n
   Taken = Alike (ActorMatches ns Free)
 
   -- its value is put in place, and its body follows
-  onward_taken : (f : Frame) (later : Scope) (rest : List Item) (targets : List Target) (b : ℕ) (o : List ValueTree × Vars) (q : Option (List ValueTree × Memory)) → f.code ≡ c → Puts c later (Some o) q
+  onward_taken : (f : Frame) (later : Scope) (rest : List Item) (targets : List Target) (b : ℕ) (o : List ValueTree × Vars) (q : Option (List ValueTree × Memory)) → f.code ≡ c
+      → Puts c later (Some o) q
       → RestAt ns c later rest targets (entry b) → Taken (source.onward rest o) (class.onward f b q)
   onward_taken f later rest targets b o None e h at = absurd h
   onward_taken f later rest targets b o (Some q) e h at = (
@@ -99,7 +104,8 @@ module _ (d : Engine Frame) (ns : Names) (steps : (v : View) (f : Frame) → d.n
         (subst (λ vs. ActorMatches ns Free (actor vs rest) (frame_at c q.1 (entry b) 0)) (sym h.1) (free d ns steps c q.1 later targets rest (entry b) (entry b) 0 h.2 at here)),
   )
 
-  case_taken : (bs : Branches) (cs : List CallbackTree) (i : ℕ) (y : Site) (u : ValueTree) (a : Actor) (rest : List Item) (targets : List Target) → a.vars ≡ vars_of c m s → BranchesAt ns c s rest targets y bs cs → Below ns c s rest targets
+  case_taken : (bs : Branches) (cs : List CallbackTree) (i : ℕ) (y : Site) (u : ValueTree) (a : Actor) (rest : List Item) (targets : List Target) → a.vars ≡ vars_of c m s
+      → BranchesAt ns c s rest targets y bs cs → Below ns c s rest targets
       → ActorMatches ns Free a (frame_at c m p n) → Taken (source.take_case bs i y u a rest) (class.take_callback ns u (frame_at c m p n) (slice_get cs i))
   case_taken NoBranches [] i y u a rest targets e h below stands = (refl, stands)
   case_taken NoBranches (k ∷ cs) i y u a rest targets e h below stands = absurd h
@@ -112,11 +118,13 @@ module _ (d : Engine Frame) (ns : Names) (steps : (v : View) (f : Frame) → d.n
   case_taken (MoreBranches at w b bs) (k ∷ cs) (suc i) y u a rest targets e h below stands =
       case_taken bs cs i (site_past b y) u a rest targets e h.3 below stands
 
-  pub wait_taken : (at : Place) (w : WaitTree) (k : Body) (i : ℕ) (u : ValueTree) → StmtsAt ns c s r ts x (WaitStmt at w k) p → ActorMatches ns Free (actor (vars_of c m s) (Do x (WaitStmt at w k) ∷ r)) (frame_at c m p n)
+  pub wait_taken : (at : Place) (w : WaitTree) (k : Body) (i : ℕ) (u : ValueTree) → StmtsAt ns c s r ts x (WaitStmt at w k) p
+      → ActorMatches ns Free (actor (vars_of c m s) (Do x (WaitStmt at w k) ∷ r)) (frame_at c m p n)
       → Taken (source.take_at i u (actor (vars_of c m s) (Do x (WaitStmt at w k) ∷ r)) (Do x (WaitStmt at w k) ∷ r)) (class.take_at ns i u (frame_at c m p n) (carry.at ns c p))
   wait_taken at w k i u h stands =
       subst (λ q. Taken (source.take_at i u a (Do x (WaitStmt at w k) ∷ r)) (class.take_at ns i u (frame_at c m p n) q)) (sym group.0)
-      (subst (λ o. Taken (source.take_at i u a (Do x (WaitStmt at w k) ∷ r)) (class.take_callback ns u (frame_at c m p n) o)) (sym (group_callbacks c x.spot.group i (g.0.0 ∷ []) group.2)) (by_branch i))
+      (subst (λ o. Taken (source.take_at i u a (Do x (WaitStmt at w k) ∷ r)) (class.take_callback ns u (frame_at c m p n) o)) (sym (group_callbacks c x.spot.group i (g.0.0 ∷ []) group.2))
+      (by_branch i))
     where
       a : Actor
       a = actor (vars_of c m s) (Do x (WaitStmt at w k) ∷ r)
@@ -136,12 +144,14 @@ module _ (d : Engine Frame) (ns : Names) (steps : (v : View) (f : Frame) → d.n
 
   -- a choose takes the branch of any number
   chosen : (at : Place) (bs : Branches) (k : Body) (i : ℕ) (u : ValueTree) {q : List ValueTree × Frame}
-      → Taken (source.take_case bs i (site_at (next_spot (branch_count bs) x.spot) x) u (actor (vars_of c m s) (Do x (ChooseStmt at bs k) ∷ r)) (Do (site_at (past_branches bs (next_spot (branch_count bs) x.spot)) x) k ∷ r)) q
+      → Taken (source.take_case bs i (site_at (next_spot (branch_count bs) x.spot) x) u (actor (vars_of c m s) (Do x (ChooseStmt at bs k) ∷ r))
+      (Do (site_at (past_branches bs (next_spot (branch_count bs) x.spot)) x) k ∷ r)) q
       → Taken (source.take_at i u (actor (vars_of c m s) (Do x (ChooseStmt at bs k) ∷ r)) (Do x (ChooseStmt at bs k) ∷ r)) q
   chosen at bs k zero u t = t
   chosen at bs k (suc i) u t = t
 
-  pub choose_taken : (at : Place) (bs : Branches) (k : Body) (i : ℕ) (u : ValueTree) → StmtsAt ns c s r ts x (ChooseStmt at bs k) p → ActorMatches ns Free (actor (vars_of c m s) (Do x (ChooseStmt at bs k) ∷ r)) (frame_at c m p n)
+  pub choose_taken : (at : Place) (bs : Branches) (k : Body) (i : ℕ) (u : ValueTree) → StmtsAt ns c s r ts x (ChooseStmt at bs k) p
+      → ActorMatches ns Free (actor (vars_of c m s) (Do x (ChooseStmt at bs k) ∷ r)) (frame_at c m p n)
       → Taken (source.take_at i u (actor (vars_of c m s) (Do x (ChooseStmt at bs k) ∷ r)) (Do x (ChooseStmt at bs k) ∷ r)) (class.take_at ns i u (frame_at c m p n) (carry.at ns c p))
   choose_taken at bs k i u h stands =
       let a = actor (vars_of c m s) (Do x (ChooseStmt at bs k) ∷ r) in

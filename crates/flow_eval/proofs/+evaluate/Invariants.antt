@@ -51,16 +51,19 @@ abbrev pub decreases-statements::run_pass : goal.decreases-statements::run_pass
 decreases-statements::run_pass g l = l.nest * room l.setting.now.functions.now + (maybe_weight (option_map expr_of (option_copied l.test)) + body_weight l.body.now.items + 5)
 
 abbrev pub decreases-statements::run_loop : goal.decreases-statements::run_loop
-decreases-statements::run_loop g l = l.nest * room l.setting.now.functions.now + (maybe_weight (option_map expr_of (option_copied l.test)) + part_of (option_copied l.step) + body_weight l.body.now.items + 12)
+decreases-statements::run_loop g l = l.nest * room l.setting.now.functions.now +
+    (maybe_weight (option_map expr_of (option_copied l.test)) + part_of (option_copied l.step) + body_weight l.body.now.items + 12)
 
 abbrev pub decreases-statements::run_part : goal.decreases-statements::run_part
 decreases-statements::run_part g l = l.nest * room l.setting.now.functions.now + (part_of (option_copied l.part) + 1)
 
 abbrev pub decreases-statements::run_for : goal.decreases-statements::run_for
-decreases-statements::run_for g l = l.nest * room l.setting.now.functions.now + (part_of l.init.now + maybe_weight (option_map expr_of l.test.now) + part_of l.step.now + body_weight l.body.now.items + 25)
+decreases-statements::run_for g l = l.nest * room l.setting.now.functions.now +
+    (part_of l.init.now + maybe_weight (option_map expr_of l.test.now) + part_of l.step.now + body_weight l.body.now.items + 25)
 
 abbrev pub decreases-statements::run_for_parts : goal.decreases-statements::run_for_parts
-decreases-statements::run_for_parts g l = l.nest * room l.setting.now.functions.now + (part_of l.init.now + maybe_weight (option_map expr_of l.test.now) + part_of l.step.now + body_weight l.body.now.items + 20)
+decreases-statements::run_for_parts g l = l.nest * room l.setting.now.functions.now +
+    (part_of l.init.now + maybe_weight (option_map expr_of l.test.now) + part_of l.step.now + body_weight l.body.now.items + 20)
 
 abbrev pub decreases-statements::run_try : goal.decreases-statements::run_try
 decreases-statements::run_try g l = l.nest * room l.setting.now.functions.now + (body_weight l.body.now.items + body_weight l.handler.now.items + 10)
@@ -96,28 +99,39 @@ abbrev pub decreases-statements::evaluate_in : goal.decreases-statements::evalua
 decreases-statements::evaluate_in g l = l.nest * room l.setting.now.functions.now + (weight (expr_of l.expr.now) + 1)
 
 abbrev pub decreases-statements::run_turn : goal.decreases-statements::run_turn
-decreases-statements::run_turn g l = l.nest * room l.setting.now.functions.now + (maybe_weight (option_map expr_of (option_copied l.test)) + part_of (option_copied l.step) + body_weight l.body.now.items + 8)
+decreases-statements::run_turn g l = l.nest * room l.setting.now.functions.now +
+    (maybe_weight (option_map expr_of (option_copied l.test)) + part_of (option_copied l.step) + body_weight l.body.now.items + 8)
 
 abbrev pub invariant-evaluate::evaluate_all-loop-arg : goal.invariant-evaluate::evaluate_all-loop-arg
 invariant-evaluate::evaluate_all-loop-arg g l = record {
   fewer : l.turns.left ≤ l.initial.turns.left;
-  comes : eval_all (setting_of g.C.CellView.content l.setting) (run_function (setting_of g.C.CellView.content l.setting) l.nest) (look_of g.V.Variables.by_name l.vars) (exprs_of l.args) l.initial.turns.left
-      ≡ prefixed (setting_of g.C.CellView.content l.setting) (run_function (setting_of g.C.CellView.content l.setting) l.nest) (map value_of l.values.items) (eval_all (setting_of g.C.CellView.content l.setting) (run_function (setting_of g.C.CellView.content l.setting) l.nest) (look_of g.V.Variables.by_name l.vars) (exprs_of (drop l.arg-index l.args)) l.turns.left);
+  comes : eval_all (setting_of g.C.CellView.content l.setting) (run_function (setting_of g.C.CellView.content l.setting) l.nest) (look_of g.V.Variables.by_name l.vars)
+      (exprs_of l.args) l.initial.turns.left
+      ≡ prefixed (setting_of g.C.CellView.content l.setting) (run_function (setting_of g.C.CellView.content l.setting) l.nest) (map value_of l.values.items)
+      (eval_all (setting_of g.C.CellView.content l.setting) (run_function (setting_of g.C.CellView.content l.setting) l.nest) (look_of g.V.Variables.by_name l.vars)
+      (exprs_of (drop l.arg-index l.args)) l.turns.left);
 }
 
 abbrev pub invariant-statements::run_body-loop-stmt : goal.invariant-statements::run_body-loop-stmt
 invariant-statements::run_body-loop-stmt g l = record {
   fewer : l.turns.left ≤ l.initial.turns.left;
-  comes : exec (setting_of g.C.CellView.content l.setting) (run_function (setting_of g.C.CellView.content l.setting) l.nest) (body_of l.stmts) (option_copied l.caught) (map var_of l.initial.locals.items) l.initial.turns.left
-      ≡ exec (setting_of g.C.CellView.content l.setting) (run_function (setting_of g.C.CellView.content l.setting) l.nest) (body_of (drop l.stmt-index l.stmts)) (option_copied l.caught) (map var_of l.locals.items) l.turns.left;
+  comes : exec (setting_of g.C.CellView.content l.setting) (run_function (setting_of g.C.CellView.content l.setting) l.nest) (body_of l.stmts) (option_copied l.caught)
+      (map var_of l.initial.locals.items) l.initial.turns.left
+      ≡ exec (setting_of g.C.CellView.content l.setting) (run_function (setting_of g.C.CellView.content l.setting) l.nest) (body_of (drop l.stmt-index l.stmts)) (option_copied l.caught)
+      (map var_of l.locals.items) l.turns.left;
 }
 
 abbrev pub invariant-statements::run_loop-loop-turns : goal.invariant-statements::run_loop-loop-turns
 invariant-statements::run_loop-loop-turns g l = record {
   fewer : l.turns.left ≤ l.initial.turns.left;
   comes : LoopAt
-      (turn_run (setting_of g.C.CellView.content l.setting) (run_function (setting_of g.C.CellView.content l.setting) l.nest) (option_map expr_of (option_copied l.test)) (exec (setting_of g.C.CellView.content l.setting) (run_function (setting_of g.C.CellView.content l.setting) l.nest) (simple_of (option_copied l.step)) (option_copied l.caught)) (exec (setting_of g.C.CellView.content l.setting) (run_function (setting_of g.C.CellView.content l.setting) l.nest) (body_of l.body.items) (option_copied l.caught)))
-      (loop_run (setting_of g.C.CellView.content l.setting) (run_function (setting_of g.C.CellView.content l.setting) l.nest) (option_map expr_of (option_copied l.test)) (exec (setting_of g.C.CellView.content l.setting) (run_function (setting_of g.C.CellView.content l.setting) l.nest) (simple_of (option_copied l.step)) (option_copied l.caught)) (exec (setting_of g.C.CellView.content l.setting) (run_function (setting_of g.C.CellView.content l.setting) l.nest) (body_of l.body.items) (option_copied l.caught)) (map var_of l.initial.locals.items) l.initial.turns.left)
+      (turn_run (setting_of g.C.CellView.content l.setting) (run_function (setting_of g.C.CellView.content l.setting) l.nest) (option_map expr_of (option_copied l.test))
+      (exec (setting_of g.C.CellView.content l.setting) (run_function (setting_of g.C.CellView.content l.setting) l.nest) (simple_of (option_copied l.step)) (option_copied l.caught))
+      (exec (setting_of g.C.CellView.content l.setting) (run_function (setting_of g.C.CellView.content l.setting) l.nest) (body_of l.body.items) (option_copied l.caught)))
+      (loop_run (setting_of g.C.CellView.content l.setting) (run_function (setting_of g.C.CellView.content l.setting) l.nest) (option_map expr_of (option_copied l.test))
+      (exec (setting_of g.C.CellView.content l.setting) (run_function (setting_of g.C.CellView.content l.setting) l.nest) (simple_of (option_copied l.step)) (option_copied l.caught))
+      (exec (setting_of g.C.CellView.content l.setting) (run_function (setting_of g.C.CellView.content l.setting) l.nest) (body_of l.body.items) (option_copied l.caught))
+      (map var_of l.initial.locals.items) l.initial.turns.left)
       (map var_of l.locals.items) l.turns.left;
 }
 

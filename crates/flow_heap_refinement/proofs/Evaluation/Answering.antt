@@ -175,7 +175,8 @@ module _ (p : Rule) where
     method_named cells h m (RefValue k c) vs n = reference_named cells h m k c n
     method_named cells h m _ vs n = tt
 
-    pub maybe_method : (cells : ℕ → Option OutcomeTree) → ((k : ℕ) → Content (cells k)) → (m : Option Method) (v : ValueTree) (vs : List ValueTree) → Named p v → AnswerNamed (method_called cells m v vs)
+    pub maybe_method : (cells : ℕ → Option OutcomeTree) → ((k : ℕ) → Content (cells k)) → (m : Option Method) (v : ValueTree) (vs : List ValueTree) → Named p v
+        → AnswerNamed (method_called cells m v vs)
     maybe_method cells h None v vs n = tt
     maybe_method cells h (Some m) v vs n = method_named cells h m v vs n
 
@@ -206,7 +207,8 @@ module _ (p : Rule) where
   record_named (v ∷ vs) h = (h.0, record_named vs h.1)
 
   -- one after another
-  pub then_named : {A : Type 0} (Q : Res A → Type 0) (P : A → Type 0) → ((x : A) (left : ℕ) → Q (Done x left) → P x) → (r : Res A) (go : A → ℕ → Res ValueTree) → Q r → ((x : A) (left : ℕ) → P x → ResNamed p (go x left)) → ResNamed p (goes_on r go)
+  pub then_named : {A : Type 0} (Q : Res A → Type 0) (P : A → Type 0) → ((x : A) (left : ℕ) → Q (Done x left) → P x) → (r : Res A) (go : A → ℕ → Res ValueTree) → Q r
+      → ((x : A) (left : ℕ) → P x → ResNamed p (go x left)) → ResNamed p (goes_on r go)
   then_named Q P q (Done x left) go h f = f x left (q x left h)
   then_named Q P q (Fails e left) go h f = tt
   then_named Q P q Spent go h f = tt
@@ -215,7 +217,8 @@ module _ (p : Rule) where
   pub value_then : (r : Res ValueTree) (go : ValueTree → ℕ → Res ValueTree) → ResNamed p r → ((v : ValueTree) (left : ℕ) → Named p v → ResNamed p (go v left)) → ResNamed p (goes_on r go)
   value_then r go h f = then_named (ResNamed p) (Named p) (λ x left z. z) r go h f
 
-  pub values_then : (r : Res (List ValueTree)) (go : List ValueTree → ℕ → Res ValueTree) → AllResNamed p r → ((vs : List ValueTree) (left : ℕ) → AllNamed p vs → ResNamed p (go vs left)) → ResNamed p (goes_on r go)
+  pub values_then : (r : Res (List ValueTree)) (go : List ValueTree → ℕ → Res ValueTree) → AllResNamed p r → ((vs : List ValueTree) (left : ℕ) → AllNamed p vs → ResNamed p (go vs left))
+      → ResNamed p (goes_on r go)
   values_then r go h f = then_named (AllResNamed p) (AllNamed p) (λ x left z. z) r go h f
 
   pub truth_then : (r : Res ValueTree) → ResNamed p (truth_of r)

@@ -52,11 +52,14 @@ module _ (p : Rule) where
           value_then p (eval s run look e left) (λ v left. at_once (field_answer (field s.records v x.name)) left) (eval_named look e left h)
           (λ v l n. once_named p (field_answer (field s.records v x.name)) l (answer_named p (field s.records v x.name) (field_named p s.records v x.name n)))
       eval_named look (MethodExpr e m xs) left h =
-          value_then p (eval s run look e left) (λ v left. goes_on (eval_all s run look xs left) (λ vs left. at_once (method_called s.cells (named method_names m.name) v vs) left)) (eval_named look e left h)
+          value_then p (eval s run look e left) (λ v left. goes_on (eval_all s run look xs left) (λ vs left. at_once (method_called s.cells (named method_names m.name) v vs) left))
+          (eval_named look e left h)
           (λ v l n. values_then p (eval_all s run look xs l) (λ vs left. at_once (method_called s.cells (named method_names m.name) v vs) left) (all_named look xs l h)
           (λ vs k a. once_named p (method_called s.cells (named method_names m.name) v vs) k (maybe_method p gives s.cells cells (named method_names m.name) v vs n)))
-      eval_named look (NotExpr e) left h = value_then p (eval s run look e left) (λ v left. at_once (inverted v) left) (eval_named look e left h) (λ v l n. once_named p (inverted v) l (inverted_named p v))
-      eval_named look (NegExpr e) left h = value_then p (eval s run look e left) (λ v left. at_once (negated v) left) (eval_named look e left h) (λ v l n. once_named p (negated v) l (negated_named p v))
+      eval_named look (NotExpr e) left h = value_then p (eval s run look e left) (λ v left. at_once (inverted v) left) (eval_named look e left h)
+          (λ v l n. once_named p (inverted v) l (inverted_named p v))
+      eval_named look (NegExpr e) left h = value_then p (eval s run look e left) (λ v left. at_once (negated v) left) (eval_named look e left h)
+          (λ v l n. once_named p (negated v) l (negated_named p v))
       eval_named look (BinaryExpr op x y) left h =
           value_then p (eval s run look x left) (λ v left. second op v (eval s run look y) left) (eval_named look x left h) (λ v l n. second_named p op v (eval s run look y) l)
       eval_named look (ParenExpr e) left h = eval_named look e left h
@@ -130,13 +133,15 @@ module _ (p : Rule) where
     scope_named : (go : Locals → ℕ → Run) → GoNamed go → GoNamed (scope go)
     scope_named go f vars left h = scoped_named (length vars) (go vars left) (f vars left h)
 
-    valued_named : (r : Res ValueTree) (vars : Locals) (go : ValueTree → ℕ → Run) → ResNamed p r → VarsNamed vars → ((v : ValueTree) (left : ℕ) → Named p v → RunNamed (go v left)) → RunNamed (valued r vars go)
+    valued_named : (r : Res ValueTree) (vars : Locals) (go : ValueTree → ℕ → Run) → ResNamed p r → VarsNamed vars → ((v : ValueTree) (left : ℕ) → Named p v → RunNamed (go v left))
+        → RunNamed (valued r vars go)
     valued_named (Done v left) vars go n h f = f v left n
     valued_named (Fails e left) vars go n h f = h
     valued_named Spent vars go n h f = tt
     valued_named Meaningless vars go n h f = tt
 
-    valued_all : (r : Res (List ValueTree)) (vars : Locals) (go : List ValueTree → ℕ → Run) → AllResNamed p r → VarsNamed vars → ((vs : List ValueTree) (left : ℕ) → AllNamed p vs → RunNamed (go vs left)) → RunNamed (valued r vars go)
+    valued_all : (r : Res (List ValueTree)) (vars : Locals) (go : List ValueTree → ℕ → Run) → AllResNamed p r → VarsNamed vars
+        → ((vs : List ValueTree) (left : ℕ) → AllNamed p vs → RunNamed (go vs left)) → RunNamed (valued r vars go)
     valued_all (Done v left) vars go n h f = f v left n
     valued_all (Fails e left) vars go n h f = h
     valued_all Spent vars go n h f = tt
@@ -200,7 +205,8 @@ module _ (p : Rule) where
     set_var vars k x None h n = tt
     set_var vars k x (Some u) h n = vars_set vars k x u h n
 
-    put_var : (vars : Locals) (k : ℕ) (o : Option (List ℕ × ValueTree)) (xs : List Ident) (w : ValueTree) → slice_get vars k ≡ o → VarsNamed vars → Named p w → MaybeVars (put_at_var s.records vars k o xs w)
+    put_var : (vars : Locals) (k : ℕ) (o : Option (List ℕ × ValueTree)) (xs : List Ident) (w : ValueTree) → slice_get vars k ≡ o → VarsNamed vars → Named p w
+        → MaybeVars (put_at_var s.records vars k o xs w)
     put_var vars k None xs w e h n = tt
     put_var vars k (Some v) xs w e h n = set_var vars k v.0 (put_in s.records (Some v.1) xs w) h (put_in_named p s.records (Some v.1) xs w (var_at vars k (Some v) e h) n)
 
@@ -221,7 +227,8 @@ module _ (p : Rule) where
     value_of e vars left h = eval_named (named vars) e left (vars_look vars h)
 
     if_named : (e : ExprTree) (main other : Locals → ℕ → Run) → GoNamed main → GoNamed other → GoNamed (if_run s run e main other)
-    if_named e main other f g vars left h = valued_named (evaluated s run e vars left) vars (λ v left. chosen (bool_of v) main other vars left) (value_of e vars left h) h (λ v l n. chosen_named (bool_of v) main other f g vars l h)
+    if_named e main other f g vars left h = valued_named (evaluated s run e vars left) vars (λ v left. chosen (bool_of v) main other vars left) (value_of e vars left h) h
+        (λ v l n. chosen_named (bool_of v) main other f g vars l h)
 
     pass_named : (o : Option ExprTree) (body : Locals → ℕ → Run) → GoNamed body → GoNamed (pass_run s run o body)
     pass_named None body f = scope_named body f
@@ -233,15 +240,18 @@ module _ (p : Rule) where
 
     throw_named : (o : Option ExprTree) (caught : Option (List ℕ)) → GoNamed (throw_run s run o caught)
     throw_named None caught vars left h = rethrown_named caught vars left h
-    throw_named (Some e) caught vars left h = valued_named (evaluated s run e vars left) vars (λ v left. thrown (error_of v) vars left) (value_of e vars left h) h (λ v l n. thrown_named (error_of v) vars l h)
+    throw_named (Some e) caught vars left h = valued_named (evaluated s run e vars left) vars (λ v left. thrown (error_of v) vars left) (value_of e vars left h) h
+        (λ v l n. thrown_named (error_of v) vars l h)
 
     declare_named : (i : IntoTree) (o : Option ExprTree) → GoNamed (declare_run s run i o)
     declare_named i None vars left h = declared_maybe (default_value i.ty) i.name.name (default_named i.ty) vars left h
-    declare_named i (Some e) vars left h = valued_named (evaluated s run e vars left) vars (λ v left. declared (Some v) i.name.name vars left) (value_of e vars left h) h (λ v l n. vars_more vars i.name.name v h n)
+    declare_named i (Some e) vars left h = valued_named (evaluated s run e vars left) vars (λ v left. declared (Some v) i.name.name vars left) (value_of e vars left h) h
+        (λ v l n. vars_more vars i.name.name v h n)
 
     assign_named : (xs : List Ident) (e : ExprTree) → GoNamed (assign_run s run xs e)
     assign_named xs e vars left h =
-        valued_named (evaluated s run e vars left) vars (λ v left. assigned (put_path s.records vars xs v) left) (value_of e vars left h) h (λ v l n. assigned_named (put_path s.records vars xs v) l (put_path_named vars xs v h n))
+        valued_named (evaluated s run e vars left) vars (λ v left. assigned (put_path s.records vars xs v) left) (value_of e vars left h) h
+        (λ v l n. assigned_named (put_path s.records vars xs v) l (put_path_named vars xs v h n))
 
     operand_named : (c : ChangeTree) (vars : Locals) (left : ℕ) → VarsNamed vars → ResNamed p (change_operand s run c vars left)
     operand_named (PlusChange e) vars left h = value_of e vars left h
@@ -252,8 +262,10 @@ module _ (p : Rule) where
     changed_named : (o : Option ValueTree) (c : ChangeTree) (xs : List Ident) (vars : Locals) (left : ℕ) → VarsNamed vars → RunNamed (changed s run o c xs vars left)
     changed_named None c xs vars left h = tt
     changed_named (Some v) c xs vars left h =
-        valued_named (change_operand s run c vars left) vars (λ w left. valued (at_once (operated (change_sign c) v w) left) vars (λ u left. assigned (put_path s.records vars xs u) left)) (operand_named c vars left h) h
-        (λ w l n. valued_named (at_once (operated (change_sign c) v w) l) vars (λ u left. assigned (put_path s.records vars xs u) left) (once_named p (operated (change_sign c) v w) l (operated_named p (change_sign c) v w)) h
+        valued_named (change_operand s run c vars left) vars (λ w left. valued (at_once (operated (change_sign c) v w) left) vars (λ u left. assigned (put_path s.records vars xs u) left))
+        (operand_named c vars left h) h
+        (λ w l n. valued_named (at_once (operated (change_sign c) v w) l) vars (λ u left. assigned (put_path s.records vars xs u) left)
+        (once_named p (operated (change_sign c) v w) l (operated_named p (change_sign c) v w)) h
         (λ u k m. assigned_named (put_path s.records vars xs u) k (put_path_named vars xs u h m)))
 
     call_by_named : (xs : List Ident) (vs : List ValueTree) (left : ℕ) → AllNamed p vs → ResNamed p (call_by s run xs vs left)
@@ -284,16 +296,19 @@ module _ (p : Rule) where
     exec_named End c vars left h = h
     exec_named (BlockStmt at b k) c vars left h = after_named (scope (exec s run b c) vars left) (exec s run k c) (scope_named (exec s run b c) (exec_named b c) vars left h) (exec_named k c)
     exec_named (IfStmt at e b k) c vars left h =
-        after_named (if_run s run e (scope (exec s run b c)) skip vars left) (exec s run k c) (if_named e (scope (exec s run b c)) skip (scope_named (exec s run b c) (exec_named b c)) (λ vars left h. h) vars left h) (exec_named k c)
+        after_named (if_run s run e (scope (exec s run b c)) skip vars left) (exec s run k c)
+        (if_named e (scope (exec s run b c)) skip (scope_named (exec s run b c) (exec_named b c)) (λ vars left h. h) vars left h) (exec_named k c)
     exec_named (IfElseStmt at e b d k) c vars left h =
         after_named (if_run s run e (scope (exec s run b c)) (scope (exec s run d c)) vars left) (exec s run k c)
         (if_named e (scope (exec s run b c)) (scope (exec s run d c)) (scope_named (exec s run b c) (exec_named b c)) (scope_named (exec s run d c) (exec_named d c)) vars left h) (exec_named k c)
     exec_named (WhileStmt at e b k) c vars left h =
-        after_named (loop_run s run (Some e) skip (exec s run b c) vars left) (exec s run k c) (loop_named (Some e) skip (exec s run b c) (λ vars left h. h) (exec_named b c) vars left h) (exec_named k c)
+        after_named (loop_run s run (Some e) skip (exec s run b c) vars left) (exec s run k c) (loop_named (Some e) skip (exec s run b c) (λ vars left h. h) (exec_named b c) vars left h)
+        (exec_named k c)
     exec_named (ForStmt at i e t b k) c vars left h =
         after_named (scope (for_run s run (exec s run i c) e (exec s run t c) (exec s run b c)) vars left) (exec s run k c)
         (scope_named (for_run s run (exec s run i c) e (exec s run t c) (exec s run b c))
-        (λ vars left h. after_named (exec s run i c vars left) (loop_run s run e (exec s run t c) (exec s run b c)) (exec_named i c vars left h) (loop_named e (exec s run t c) (exec s run b c) (exec_named t c) (exec_named b c))) vars left h)
+        (λ vars left h. after_named (exec s run i c vars left) (loop_run s run e (exec s run t c) (exec s run b c)) (exec_named i c vars left h)
+        (loop_named e (exec s run t c) (exec s run b c) (exec_named t c) (exec_named b c))) vars left h)
         (exec_named k c)
     exec_named (LoopStmt at b k) c vars left h =
         after_named (loop_run s run None skip (exec s run b c) vars left) (exec s run k c) (loop_named None skip (exec s run b c) (λ vars left h. h) (exec_named b c) vars left h) (exec_named k c)
@@ -334,7 +349,8 @@ module _ (p : Rule) where
   run_named s g c zero f vs zero h = tt
   run_named s g c zero f vs (suc left) h = tt
   run_named s g c (suc n) f vs zero h = tt
-  run_named s g c (suc n) f vs (suc left) h = body_named s (run_function s n) g c (run_named s g c n) f (entered f.params vs) left (entered_named s (run_function s n) g c (run_named s g c n) f.params vs h)
+  run_named s g c (suc n) f vs (suc left) h = body_named s (run_function s n) g c (run_named s g c n) f (entered f.params vs) left
+      (entered_named s (run_function s n) g c (run_named s g c n) f.params vs h)
 
 pub eval_names : law.EvalNamed
 eval_names p s look e left g c h = eval_named p s (run_function s deepest) g c (run_named p s g c deepest) look e left h

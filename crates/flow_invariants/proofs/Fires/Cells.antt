@@ -82,7 +82,8 @@ none_ready : (cells : Numbered Cell) (b : ℕ) (qs : List Ref) → first_ready c
 none_ready cells b [] e = tt
 none_ready cells b (q ∷ qs) e = by_test (is_ready_at (thing cells q.1)) refl e (none_ready cells (suc b) qs)
   where
-    by_test : (t : Bool) → is_ready_at (thing cells q.1) ≡ t → (if t then Some (b, q.1) else first_ready cells (suc b) qs) ≡ None → (first_ready cells (suc b) qs ≡ None → AllUnready cells qs) → AllUnready cells (q ∷ qs)
+    by_test : (t : Bool) → is_ready_at (thing cells q.1) ≡ t → (if t then Some (b, q.1) else first_ready cells (suc b) qs) ≡ None → (first_ready cells (suc b) qs ≡ None → AllUnready cells qs)
+        → AllUnready cells (q ∷ qs)
     by_test true g f rest = absurd (no_thing (sym f))
     by_test false g f rest = (g, rest f)
 
@@ -119,7 +120,8 @@ module _ (k : ℕ) where
       by_test true e = same (grind (arith, e))
       by_test false e = other (λ q. let f : ⊥ = grind (arith, e, q) in f)
 
-  put_due : (j : ℕ) (cell new : Cell) (cells : Numbered Cell) → thing cells j ≡ Some cell → (is_due (Some new) ≡ true → is_due (Some cell) ≡ true) → is_due (thing (put cells j new) k) ≡ true → is_due (thing cells k) ≡ true
+  put_due : (j : ℕ) (cell new : Cell) (cells : Numbered Cell) → thing cells j ≡ Some cell → (is_due (Some new) ≡ true → is_due (Some cell) ≡ true) → is_due (thing (put cells j new) k) ≡ true
+      → is_due (thing cells k) ≡ true
   put_due j cell new cells at f =
       each_number j (λ n. is_due (thing (put cells j new) n) ≡ true → is_due (thing cells n) ≡ true)
       (λ e. ap is_due at ∙ f (sym (ap is_due (thing_put cells j cell new at)) ∙ e))
@@ -163,7 +165,8 @@ module _ (k : ℕ) where
       by_cell (Some cell) q =
           after_turn P (λ d. give i b e vs (taken cell) (record (writes (take_line i e.spot.group b) d) { cells = put d.cells j (after_taking cell) })) c c.left (λ m. by_outcome m (taken cell))
         where
-          by_outcome : (m : ℕ) (o : Option OutcomeTree) → Unless P (give i b e vs o (record (writes (take_line i e.spot.group b) (record c { left = m })) { cells = put c.cells j (after_taking cell) }))
+          by_outcome : (m : ℕ) (o : Option OutcomeTree) → Unless P
+              (give i b e vs o (record (writes (take_line i e.spot.group b) (record c { left = m })) { cells = put c.cells j (after_taking cell) }))
           by_outcome m None = tt
           by_outcome m (Some o) =
               let d = record (writes (take_line i e.spot.group b) (record c { left = m })) { cells = put c.cells j (after_taking cell) } in
@@ -191,7 +194,8 @@ module _ (k : ℕ) where
         w : Waiter
         w = record { actor = i; branch = b }
 
-        by_cell : (x : Option Cell) → thing cells q.1 ≡ x → ((more : Numbered Cell) → AllUnready more qs → (is_due (thing more k) ≡ true → Fires k ts) → After (register i (suc b) qs (Registered more)))
+        by_cell : (x : Option Cell) → thing cells q.1 ≡ x → ((more : Numbered Cell) → AllUnready more qs → (is_due (thing more k) ≡ true → Fires k ts)
+            → After (register i (suc b) qs (Registered more)))
             → After (register i (suc b) qs (register_at w q.1 cells x))
         by_cell None g rest = missing i (suc b) qs
         by_cell (Some cell) g rest = by_test (is_busy cell)

@@ -41,7 +41,8 @@ module _ (k : ℕ) where
     where
       by_test : (b : Bool) → Unless (P k) (suffer j (promises_gone b) c)
       by_test true = unless c.halted h
-      by_test false = after_turn (P k) (λ d. fill j (BadOutcome broken_promise) (writes (broken_line j) d)) c c.left (λ n. fill_fired k j (BadOutcome broken_promise) (writes (broken_line j) (record c { left = n })) h)
+      by_test false = after_turn (P k) (λ d. fill j (BadOutcome broken_promise) (writes (broken_line j) d)) c c.left
+          (λ n. fill_fired k j (BadOutcome broken_promise) (writes (broken_line j) (record c { left = n })) h)
   suffer_fired PromiseSide j (suc m) zero cell c up h = unless c.halted h
   suffer_fired PromiseSide j (suc m) (suc f) cell c up h = unless c.halted h
   suffer_fired FutureSide j zero (suc f) cell c up h = unless c.halted h

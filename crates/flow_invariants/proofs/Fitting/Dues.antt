@@ -110,7 +110,8 @@ pub has_request : (k : ℕ) (ks : List ℕ) → 0 < in_requests PromiseSide k ks
 has_request k [] h = absurd (omega (arith, h))
 has_request k (x ∷ ks) h = by_test (nat_eq k x) refl h (has_request k ks)
   where
-    by_test : (b : Bool) → nat_eq k x ≡ b → 0 < one PromiseSide k PromiseSide x + in_requests PromiseSide k ks → (0 < in_requests PromiseSide k ks → has k ks ≡ true) → (if b then true else has k ks) ≡ true
+    by_test : (b : Bool) → nat_eq k x ≡ b → 0 < one PromiseSide k PromiseSide x + in_requests PromiseSide k ks → (0 < in_requests PromiseSide k ks → has k ks ≡ true)
+        → (if b then true else has k ks) ≡ true
     by_test true q l rest = refl
     by_test false q l rest =
         let m : one PromiseSide k PromiseSide x ≡ 0 = ap weight q in
@@ -120,7 +121,8 @@ pub one_closed : (k n : ℕ) (ks : List ℕ) → has n ks ≡ true → in_reques
 one_closed k n [] h = absurd cc
 one_closed k n (x ∷ ks) h = by_test (nat_eq n x) refl h (one_closed k n ks)
   where
-    by_test : (b : Bool) → nat_eq n x ≡ b → (if b then true else has n ks) ≡ true → (has n ks ≡ true → in_requests PromiseSide k ks ≡ weight (nat_eq k n) + in_requests PromiseSide k (closed_request n ks))
+    by_test : (b : Bool) → nat_eq n x ≡ b → (if b then true else has n ks) ≡ true
+        → (has n ks ≡ true → in_requests PromiseSide k ks ≡ weight (nat_eq k n) + in_requests PromiseSide k (closed_request n ks))
         → one PromiseSide k PromiseSide x + in_requests PromiseSide k ks ≡ weight (nat_eq k n) + in_requests PromiseSide k (if b then ks else x ∷ closed_request n ks)
     by_test true q f rest = let same : n ≡ x = grind (arith, q) in ap (λ m. weight (nat_eq k m) + in_requests PromiseSide k ks) (sym same)
     by_test false q f rest =

@@ -58,7 +58,8 @@ module _ (r : RawTree) (valid : IsValid r) (actors : List RoutineTree) (rules : 
 
   module _ (places : List (Place Frame)) (count n : ℕ) where
     -- what the world does for a step
-    around_asked : (s : Live Outside Frame) (q : Stepped Frame) → Around r places count n s.out → step (classes r) (host.supply s.out) s.proc ≡ Some q → Around r places count n (serve host q.1 q.0 s.out).out
+    around_asked : (s : Live Outside Frame) (q : Stepped Frame) → Around r places count n s.out → step (classes r) (host.supply s.out) s.proc ≡ Some q
+        → Around r places count n (serve host q.1 q.0 s.out).out
     around_asked s q a e =
         by_ask q.1 (subst (λ m. Names m q.1) a.processes (step_named (host.supply s.out) (classes r) s.proc q e))
       where
@@ -110,7 +111,8 @@ module _ (r : RawTree) (valid : IsValid r) (actors : List RoutineTree) (rules : 
   abbrev pub BeginsGood : World Frame → ℕ → Begun Frame → Type 0
   BeginsGood w n b = Good w.places w.out.file.processes n (before b)
 
-  around_start : (w : World Frame) (n : ℕ) (v : Outside) → WorldFits r w → n < w.out.file.processes → v.active ≡ n → v.file ≡ w.out.file → ((m : ℕ) → (m ≡ n → ⊥) → Fewer m w.out.events.pending v.events.pending)
+  around_start : (w : World Frame) (n : ℕ) (v : Outside) → WorldFits r w → n < w.out.file.processes → v.active ≡ n → v.file ≡ w.out.file
+      → ((m : ℕ) → (m ≡ n → ⊥) → Fewer m w.out.events.pending v.events.pending)
       → AllByRecursion (EventNames w.out.file.processes) v.events.pending → AllByRecursion (LineNames w.out.file.processes) v.script → Around r w.places w.out.file.processes n v
   around_start w n v h is active same fewer events script = record {
     active = active;
@@ -135,12 +137,14 @@ module _ (r : RawTree) (valid : IsValid r) (actors : List RoutineTree) (rules : 
     abbrev turned : ℕ → Outside
     turned n = counted t n (record w.out { script = left })
 
-    same_around : (n : ℕ) (v : Outside) → n < w.out.file.processes → v.active ≡ n → v.file ≡ w.out.file → v.events.pending ≡ w.out.events.pending → v.script ≡ left → Around r w.places w.out.file.processes n v
+    same_around : (n : ℕ) (v : Outside) → n < w.out.file.processes → v.active ≡ n → v.file ≡ w.out.file → v.events.pending ≡ w.out.events.pending → v.script ≡ left
+        → Around r w.places w.out.file.processes n v
     same_around n v is active same pending script =
         around_start w n v h is active same (λ m o. subst (Fewer m w.out.events.pending) (sym pending) (fewer_same m w.out.events.pending))
         (subst (AllByRecursion (EventNames w.out.file.processes)) (sym pending) h.events) (subst (AllByRecursion (LineNames w.out.file.processes)) (sym script) lines)
 
-    by_order : (x : Order) → process_of x < w.out.file.processes → InNow (ordered (classes r) x (ready w (process_of x)) (turned (process_of x))).place → BeginsGood w (process_of x) (ordered (classes r) x (ready w (process_of x)) (turned (process_of x)))
+    by_order : (x : Order) → process_of x < w.out.file.processes → InNow (ordered (classes r) x (ready w (process_of x)) (turned (process_of x))).place
+        → BeginsGood w (process_of x) (ordered (classes r) x (ready w (process_of x)) (turned (process_of x)))
     by_order (Boot p) is i =
         let a = ready w p in
         record { own = boots r valid actors rules p w.out.events.pending a refl (at_process w p h is) a.proc.core.main i; around = same_around p (turned p) is refl refl refl refl }
@@ -209,13 +213,19 @@ module _ (r : RawTree) (valid : IsValid r) (actors : List RoutineTree) (rules : 
         record { own = unchanged r valid actors rules to left (ready w to) refl (fits_left w h x left e); around = left_around w h x left e (counted t to (with_left w.out left)) refl refl refl refl }
     packet_begins m from to port text e (Some k) q i =
         let x = pending (Arrives m from to port text) in
-        record { own = arrives r valid actors rules to left (ready w to) refl (fits_left w h x left e) from port k text q i; around = left_around w h x left e (counted t to (with_left w.out left)) refl refl refl refl }
+        record {
+          own = arrives r valid actors rules to left (ready w to) refl (fits_left w h x left e) from port k text q i;
+          around = left_around w h x left e (counted t to (with_left w.out left)) refl refl refl refl;
+        }
 
     by_what : (x : What) → w.out.events.pending ≡ pending x ∷ left → InNow (happens x).place → BeginsGood w (process_in x) (happens x)
     by_what (Boots p) e i =
         let x = pending (Boots p) in
         let a = ready w p in
-        record { own = boots r valid actors rules p left a refl (fits_left w h x left e) a.proc.core.main i; around = left_around w h x left e (counted t p (with_left w.out left)) refl refl refl refl }
+        record {
+          own = boots r valid actors rules p left a refl (fits_left w h x left e) a.proc.core.main i;
+          around = left_around w h x left e (counted t p (with_left w.out left)) refl refl refl refl;
+        }
     by_what (Rings p k) e i =
         let x = pending (Rings p k) in
         let a = ready w p in
@@ -231,7 +241,8 @@ module _ (r : RawTree) (valid : IsValid r) (actors : List RoutineTree) (rules : 
         let f = fits_all w h x left e in
         let d = disk_of (counted t p (with_left w.out left)) p in
         record {
-          own = answers r valid actors rules p x left a refl f k (disk_outcome (served call d.fails d.files).1) (Rattle.flow_progress.specs.Asking.reply_type call) (λ j. ap (λ b. b && nat_eq j k) (same_number p)) (own_sets p k) (f.brought.0 refl)
+          own = answers r valid actors rules p x left a refl f k (disk_outcome (served call d.fails d.files).1) (Rattle.flow_progress.specs.Asking.reply_type call)
+              (λ j. ap (λ b. b && nat_eq j k) (same_number p)) (own_sets p k) (f.brought.0 refl)
               (reply_fits r f.types call d.fails d.files) (λ j. reply_plain j call d.fails d.files) i;
           around = left_around w h x left e _ refl refl refl refl;
         }
@@ -252,13 +263,22 @@ module _ (r : RawTree) (valid : IsValid r) (actors : List RoutineTree) (rules : 
       by_next (Script t o left) e k i =
           let s = k.script t o left refl in
           let q = same_of e in
-          record { process = process_of o; good = subst (BeginsGood w (process_of o)) q (by_order w h t left s.1 o (order_process w.out.file.processes o s.0) (subst (λ (z : Begun Frame). InNow z.place) (sym q) i)) }
+          record {
+            process = process_of o;
+            good = subst (BeginsGood w (process_of o)) q
+                (by_order w h t left s.1 o (order_process w.out.file.processes o s.0) (subst (λ (z : Begun Frame). InNow z.place) (sym q) i));
+          }
       by_next (Event p left) e k i =
           let q = same_of e in
-          record { process = process_in p.what; good = subst (BeginsGood w (process_in p.what)) q (by_what w h p.time p.number left p.what (k.event p left refl) (subst (λ (z : Begun Frame). InNow z.place) (sym q) i)) }
+          record {
+            process = process_in p.what;
+            good = subst (BeginsGood w (process_in p.what)) q
+                (by_what w h p.time p.number left p.what (k.event p left refl) (subst (λ (z : Begun Frame). InNow z.place) (sym q) i));
+          }
 
   -- the world after it
-  pub event_kept : (w : World Frame) (b : Begun Frame) (l : Live Outside Frame) → WorldFits r w → begun_by (classes r) w (next_of w.out) ≡ Some b → Burst (classes r) host (before b) l → l.proc.core.halted ≡ None → WorldFits r (after w b l)
+  pub event_kept : (w : World Frame) (b : Begun Frame) (l : Live Outside Frame) → WorldFits r w → begun_by (classes r) w (next_of w.out) ≡ Some b → Burst (classes r) host (before b) l
+      → l.proc.core.halted ≡ None → WorldFits r (after w b l)
   event_kept w b l h g q go =
       let start = event_begins w b h g in
       let count = w.out.file.processes in

@@ -49,7 +49,18 @@ tied_lined : (ls : List Line) (c : Core) → CellsTied c → CellsTied (add_line
 tied_lined ls c t = let n = t.numbers in record { agree = t.agree; numbers = record { ports = n.ports; cells = n.cells; requests = n.requests }; once = t.once }
 
 fits_lined : (r : RawTree) (types : CellTypes) (ls : List Line) (c : Core) (xs : Numbered Frame) → ProcessFits r types c xs → ProcessFits r types (add_lines ls c) xs
-fits_lined r types ls c xs p = record { cells = p.cells; waiting = p.waiting; actors = p.actors; work = p.work; ports = p.ports; main = p.main; requests = p.requests; numbered = p.numbered; framed = p.framed; registered = p.registered }
+fits_lined r types ls c xs p = record {
+  cells = p.cells;
+  waiting = p.waiting;
+  actors = p.actors;
+  work = p.work;
+  ports = p.ports;
+  main = p.main;
+  requests = p.requests;
+  numbered = p.numbered;
+  framed = p.framed;
+  registered = p.registered;
+}
 
 module _ (r : RawTree) (n : ℕ) where
   -- put together
@@ -72,7 +83,8 @@ module _ (r : RawTree) (n : ℕ) where
       by_halt (Some NoMeaning) i m = m
 
   -- events that were pending before, of cells that keep their types
-  pub brought_still : (before after : CellTypes) (es : List (Pending What)) (ks : List ℕ) → StillTyped before after ks → ((k : ℕ) → due n k es ≤ in_requests PromiseSide k ks) → AllBring n before es → AllBring n after es
+  pub brought_still : (before after : CellTypes) (es : List (Pending What)) (ks : List ℕ) → StillTyped before after ks → ((k : ℕ) → due n k es ≤ in_requests PromiseSide k ks) → AllBring n before es
+      → AllBring n after es
   brought_still before after es ks still awaited b =
       all_still_bring n before after es (λ k t l e. still_at before after ks k t still (let a = awaited k in omega (arith, a, l)) e) b
 
@@ -80,7 +92,8 @@ module _ (r : RawTree) (leads : LeadOn r) (steps_fit : StepsKeepFitting r) where
   abbrev pub NowFits : ℕ → Live Outside Frame → Type 0
   NowFits n l = Meant l.proc.core.halted (FitsAmong r n l.out.events.pending l.proc)
 
-  module _ (n : ℕ) (s : Live Outside Frame) (is : n ≡ s.out.active) (f : FitsAmong r n s.out.events.pending s.proc) (go : s.proc.core.halted ≡ None) (q : Stepped Frame) (e : step (classes r) (host.supply s.out) s.proc ≡ Some q) where
+  module _ (n : ℕ) (s : Live Outside Frame) (is : n ≡ s.out.active) (f : FitsAmong r n s.out.events.pending s.proc) (go : s.proc.core.halted ≡ None) (q : Stepped Frame)
+      (e : step (classes r) (host.supply s.out) s.proc ≡ Some q) where
     abbrev c : Core
     c = s.proc.core
 
@@ -134,7 +147,11 @@ module _ (r : RawTree) (leads : LeadOn r) (steps_fit : StepsKeepFitting r) where
       where
         unlined : (ls : List Line) → UnlessStopped d.halted (InPlace r (add_lines ls d) q.0.actors) → UnlessStopped d.halted (InPlace r d q.0.actors)
         unlined ls i =
-            unless_map d.halted (λ (p : InPlace r (add_lines ls d) q.0.actors). record { orderly = record { actors = p.orderly.actors; paired = p.orderly.paired; waiting = p.orderly.waiting; numbered = p.orderly.numbered }; frames = record { all = p.frames.all; phases = p.frames.phases } }) i
+            unless_map d.halted (λ (p : InPlace r (add_lines ls d) q.0.actors).
+            record {
+              orderly = record { actors = p.orderly.actors; paired = p.orderly.paired; waiting = p.orderly.waiting; numbered = p.orderly.numbered };
+              frames = record { all = p.frames.all; phases = p.frames.phases };
+            }) i
 
   same_live : {x y : Live Outside Frame} → Some x ≡ Some y → x ≡ y
   same_live h = cc

@@ -24,7 +24,8 @@ port_owned : (k : ℕ) (ps : Numbered ℕ) (port : ℕ) → port_of k ps ≡ Som
 port_owned k [] port e = absurd cc
 port_owned k (x ∷ ps) port e = by_test (nat_eq k x.1) refl e (port_owned k ps port)
   where
-    by_test : (b : Bool) → nat_eq k x.1 ≡ b → (if b then Some x.0 else port_of k ps) ≡ Some port → (port_of k ps ≡ Some port → 0 < in_ports PromiseSide k ps) → 0 < one PromiseSide k PromiseSide x.1 + in_ports PromiseSide k ps
+    by_test : (b : Bool) → nat_eq k x.1 ≡ b → (if b then Some x.0 else port_of k ps) ≡ Some port → (port_of k ps ≡ Some port → 0 < in_ports PromiseSide k ps)
+        → 0 < one PromiseSide k PromiseSide x.1 + in_ports PromiseSide k ps
     by_test true q f rest = let m : one PromiseSide k PromiseSide x.1 ≡ 1 = ap (λ (b : Bool). if b then 1 else 0) q in omega (arith, m)
     by_test false q f rest = let m = rest f in omega (arith, m)
 

@@ -150,7 +150,8 @@ throws_grow c = sym (append-nil c.requests)
 
 port_grows : (i : ℕ) (goal : Goal) (port : ℕ) (x : Option ℕ) (c : Core) → Grows c (open_port i goal port x c)
 port_grows i goal port (Some k) c = throws_grow c
-port_grows i goal port None c = none_more c.requests _ (push_same i (result_task i goal (RefValue kind.FutureStream (suc c.made))) (new_cell (Stream [] None None) (record c { ports = added c.ports port (suc c.made) })))
+port_grows i goal port None c = none_more c.requests _ (push_same i (result_task i goal (RefValue kind.FutureStream (suc c.made)))
+    (new_cell (Stream [] None None) (record c { ports = added c.ports port (suc c.made) })))
 
 -- a new cell, with an open request
 open_same : (i : ℕ) (goal : Goal) (c : Core) → (gives_open i goal c).requests ≡ c.requests ++ suc c.made ∷ []
@@ -166,7 +167,8 @@ disk_grows i goal (Some call) c = open_same i goal c
 effect_grows : (s : Supply) (i : ℕ) (goal : Goal) (eff : Effect) (c : Core) → Grows c (effect s i goal eff c)
 effect_grows s i goal (Make k) c = none_more c.requests _ (new_same i goal k (empty_cell k) c)
 effect_grows s i goal (Start class args) c = throws_grow c
-effect_grows s i goal (Draw lo hi) c = either (between (hi -ℤ lo) 1 (2 ^ 32)) _ _ c (none_more c.requests _ (push_same i (result_task i goal (IntValue (scaled lo (natural (hi -ℤ lo)) s.word))) c)) (throws_grow c)
+effect_grows s i goal (Draw lo hi) c = either (between (hi -ℤ lo) 1 (2 ^ 32)) _ _ c (none_more c.requests _ (push_same i (result_task i goal (IntValue (scaled lo (natural (hi -ℤ lo)) s.word))) c))
+    (throws_grow c)
 effect_grows s i goal (Delay ticks) c = either (nat_le (s.now + natural ticks) (2 ^ 62)) _ _ c (open_same i goal c) (throws_grow c)
 effect_grows s i goal Never c = none_more c.requests _ (new_same i goal kind.Future (Single None []) c)
 effect_grows s i goal (Listen port) c = either (is_port port) _ _ c (port_grows i goal (natural port) (thing c.ports (natural port)) c) (throws_grow c)
@@ -226,7 +228,8 @@ module _ {A : Type 0} (e : Engine A) (s : Supply) where
 
   throw_grows : (i err : ℕ) (x : Option A) (p : Proc A) → StepGrows p.core (steps.throw e i err x p)
   throw_grows i err None p = throws_grow p.core
-  throw_grows i err (Some a) p = none_more p.core.requests (throw_core i err (e.raise err a).0 (thing p.core.entries i) p.core).requests (throw_core_same i err (e.raise err a).0 (thing p.core.entries i) p.core)
+  throw_grows i err (Some a) p = none_more p.core.requests (throw_core i err (e.raise err a).0 (thing p.core.entries i) p.core).requests
+      (throw_core_same i err (e.raise err a).0 (thing p.core.entries i) p.core)
 
   leave_kept_same : (i b : ℕ) (v : OperandFate) (r : Ref) (en : Entry) (vs : List ValueTree) (c : Core) → Same c (leave_kept i b v r en vs c)
   leave_kept_same i b GoesOn r en vs c = refl

@@ -117,7 +117,8 @@ asked_brought types (Disks cell call) w m a h = all_placed (λ (e : Pending What
 abbrev pub more_due : Request → ℕ → ℕ
 more_due q k = in_requests PromiseSide k (asked (Some q))
 
-one_more : (m n k cell : ℕ) (x : Pending What) (es : List (Pending What)) → sets m k x.what ≡ nat_eq m n && nat_eq k cell → due m k (placed x es) ≤ due m k es + (one PromiseSide k PromiseSide cell + 0)
+one_more : (m n k cell : ℕ) (x : Pending What) (es : List (Pending What)) → sets m k x.what ≡ nat_eq m n && nat_eq k cell
+    → due m k (placed x es) ≤ due m k es + (one PromiseSide k PromiseSide cell + 0)
 one_more m n k cell x es h =
     let a = due_placed m k x es in
     let b = ap weight h in
@@ -133,12 +134,14 @@ asked_due (Packet q port text) w m k =
 asked_due (Disks cell call) w m k = one_more m w.active k cell _ w.events.pending refl
 
 -- events name processes of the world
-sent_events : (count : ℕ) (f : Fate) (w : Outside) (n q port : ℕ) (text : List ℕ) → q < count → AllByRecursion (EventNames count) w.events.pending → AllByRecursion (EventNames count) (sent_by f w n q port text).1.events.pending
+sent_events : (count : ℕ) (f : Fate) (w : Outside) (n q port : ℕ) (text : List ℕ) → q < count → AllByRecursion (EventNames count) w.events.pending
+    → AllByRecursion (EventNames count) (sent_by f w n q port text).1.events.pending
 sent_events count Cut w n q port text l h = h
 sent_events count Drawn w n q port text l h = h
 sent_events count (At time) w n q port text l h = all_placed (EventNames count) _ w.events.pending l h
 
-pub asked_events : (count : ℕ) (q : Request) (w : Outside) → w.active < count → Names count (Some q) → AllByRecursion (EventNames count) w.events.pending → AllByRecursion (EventNames count) (after_ask q w).events.pending
+pub asked_events : (count : ℕ) (q : Request) (w : Outside) → w.active < count → Names count (Some q) → AllByRecursion (EventNames count) w.events.pending
+    → AllByRecursion (EventNames count) (after_ask q w).events.pending
 asked_events count Drew w l n h = h
 asked_events count (Timer cell time) w l n h = all_placed (EventNames count) _ w.events.pending l h
 asked_events count (Packet q port text) w l n h = let v = record w { sent = suc w.sent } in sent_events count (fate_in v q) v v.sent q port text n h

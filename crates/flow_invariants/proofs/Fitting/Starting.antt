@@ -66,7 +66,18 @@ ready_fits r n turns es p f =
       tied = record { agree = t.agree; numbers = record { ports = m.ports; cells = m.cells; requests = m.requests }; once = t.once };
       alone = f.alone;
       types = f.types;
-      fits = record { cells = q.cells; waiting = q.waiting; actors = q.actors; work = q.work; ports = q.ports; main = q.main; requests = q.requests; numbered = q.numbered; framed = q.framed; registered = q.registered };
+      fits = record {
+        cells = q.cells;
+        waiting = q.waiting;
+        actors = q.actors;
+        work = q.work;
+        ports = q.ports;
+        main = q.main;
+        requests = q.requests;
+        numbered = q.numbered;
+        framed = q.framed;
+        registered = q.registered;
+      };
       brought = f.brought;
       awaited = f.awaited;
     }
@@ -107,7 +118,8 @@ all_gone p types (x ∷ xs) = by_test (is_of p x.what) refl (all_gone p types xs
     by_test false q h = (brings_gone p types x.what q, h)
 
 -- what the disk answers has its type, and refers to nothing
-pub reply_fits : (r : RawTree) (types : CellTypes) (call : DiskCall ℕ) (fails : ℕ) (fs : List (List ℕ × File)) → OutcomeFits r.records (typed_by types) (disk_outcome (served call fails fs).1) (reply_type call)
+pub reply_fits : (r : RawTree) (types : CellTypes) (call : DiskCall ℕ) (fails : ℕ) (fs : List (List ℕ × File))
+    → OutcomeFits r.records (typed_by types) (disk_outcome (served call fails fs).1) (reply_type call)
 reply_fits r types call (suc n) fs = tt
 reply_fits r types (ReadCall x offset count) zero fs = refl
 reply_fits r types (WriteCall x offset bytes) zero fs = refl
@@ -133,7 +145,8 @@ module _ (r : RawTree) (valid : IsValid r) (actors : List RoutineTree) (rules : 
     unchanged = meant_of a.proc.core.halted go f
 
     -- the same requests are open
-    same_requests : (c : Core) (xs : Numbered Frame) → Same a.proc.core c → UnlessStopped c.halted (InPlace r c xs) → TiedUnlessStopped c → UnlessStopped c.halted (OwnedAlone (proc c xs)) → Fine r f.types c.halted c xs
+    same_requests : (c : Core) (xs : Numbered Frame) → Same a.proc.core c → UnlessStopped c.halted (InPlace r c xs) → TiedUnlessStopped c → UnlessStopped c.halted (OwnedAlone (proc c xs))
+        → Fine r f.types c.halted c xs
         → Meant c.halted (FitsAmong r n es (proc c xs))
     same_requests c xs same i t alone fine =
         let awaited : (k : ℕ) → due n k es ≤ in_requests PromiseSide k c.requests = λ k. subst (λ ks. due n k es ≤ in_requests PromiseSide k ks) (sym same) (f.awaited k) in
@@ -192,7 +205,8 @@ module _ (r : RawTree) (valid : IsValid r) (actors : List RoutineTree) (rules : 
 
   -- an open request is answered
   module _ (x : Pending What) (es : List (Pending What)) (a : Place Frame) (go : a.proc.core.halted ≡ None) (f : FitsAmong r n (x ∷ es) a.proc) where
-    pub answers : (k : ℕ) (o : OutcomeTree) (u : TypeTree) → ((j : ℕ) → sets n j x.what ≡ nat_eq j k) → sets n k x.what ≡ true → f.types k ≡ Some (FutureType u) → OutcomeFits r.records (typed_by f.types) o u
+    pub answers : (k : ℕ) (o : OutcomeTree) (u : TypeTree) → ((j : ℕ) → sets n j x.what ≡ nat_eq j k) → sets n k x.what ≡ true → f.types k ≡ Some (FutureType u)
+        → OutcomeFits r.records (typed_by f.types) o u
         → ((j : ℕ) → OutcomeNamed (spares j) o) → Placed (with_core a (deliver k o)) → Begins es (with_core a (deliver k o))
     answers k o u which own at fits plain i =
         let c = a.proc.core in

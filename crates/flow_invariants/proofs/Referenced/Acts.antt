@@ -66,7 +66,8 @@ module _ (k : ℕ) (ys : Numbered Frame) (i : ℕ) where
   Fresh c = suc c.made ≡ k → Wants k c → ⊥
 
   -- a new cell, which a task refers to
-  new_refers : (kd : Kind) (cell : Cell) (c : Core) → Refers k c ys → Fresh c → (t : Task) → ((s : Side) → one s k (side_of kd) (suc c.made) ≤ in_task s k t) → Refers k (pushed t (pushed (Run i) (new_cell cell c))) ys
+  new_refers : (kd : Kind) (cell : Cell) (c : Core) → Refers k c ys → Fresh c → (t : Task) → ((s : Side) → one s k (side_of kd) (suc c.made) ≤ in_task s k t)
+      → Refers k (pushed t (pushed (Run i) (new_cell cell c))) ys
   new_refers kd cell c h fresh t holds = by_test (nat_eq (suc c.made) k) refl
     where
       more : (s : Side) → refs k s c ys + in_task s k t ≤ refs k s (pushed t (pushed (Run i) (new_cell cell c))) ys
@@ -122,15 +123,18 @@ module _ (k : ℕ) (ys : Numbered Frame) (i : ℕ) where
       (gives_refers goal (IntValue (scaled lo (natural (hi -ℤ lo)) s.word)) c h) (push_fine (Throw i bad_argument) c h)
   effect_refers s goal (Delay ticks) c h fresh =
       let time = s.now + natural ticks in
-      by_if (nat_le time (2 ^ 62)) (gives_open i goal c, Some (Rattle.flow_meaning.specs.Requests.Timer (suc c.made) time)) (throws i out_of_range c) (gives_open_refers goal c h fresh) (push_fine (Throw i out_of_range) c h)
+      by_if (nat_le time (2 ^ 62)) (gives_open i goal c, Some (Rattle.flow_meaning.specs.Requests.Timer (suc c.made) time)) (throws i out_of_range c) (gives_open_refers goal c h fresh)
+      (push_fine (Throw i out_of_range) c h)
   effect_refers s goal Never c h fresh = gives_new_refers goal kind.Future (Single None []) c h fresh
   effect_refers s goal (Listen port) c h fresh =
-      by_if (is_port port) (open_port i goal (natural port) (thing c.ports (natural port)) c) (throws i bad_argument c) (port_refers goal (natural port) (thing c.ports (natural port)) c h fresh) (push_fine (Throw i bad_argument) c h)
+      by_if (is_port port) (open_port i goal (natural port) (thing c.ports (natural port)) c) (throws i bad_argument c) (port_refers goal (natural port) (thing c.ports (natural port)) c h fresh)
+      (push_fine (Throw i bad_argument) c h)
   effect_refers s goal (Disk call) c h fresh = disk_refers goal (judged call) c h fresh
 
   pub send_to_refers : (s : Supply) (q port : ℤ) (text : List ℕ) (c : Core) → Refers k c ys → Fine (send_to s i q port text c).0
   send_to_refers s q port text c h =
-      by_if (int_le (pos 0) q && nat_lt (natural q) s.processes && is_port port) (pushed (Run i) c, Some (Rattle.flow_meaning.specs.Requests.Packet (natural q) (natural port) text)) (throws i bad_argument c)
+      by_if (int_le (pos 0) q && nat_lt (natural q) s.processes && is_port port) (pushed (Run i) c, Some (Rattle.flow_meaning.specs.Requests.Packet (natural q) (natural port) text))
+      (throws i bad_argument c)
       (push_fine (Run i) c h) (push_fine (Throw i bad_argument) c h)
 
   pub print_refers : (l : Option Line) (c : Core) → Refers k c ys → Fine (print i l c)
@@ -152,7 +156,8 @@ module _ (k : ℕ) (ys : Numbered Frame) (i : ℕ) where
               let x = filling_onward k j cell o d ys at (is_open k cell q) in
               let y = push_onward k (Fire j) e ys in
               subst (λ z. Fine (fill_cell j o z d)) (sym at)
-              (unless c.halted (refers_on k c ys (fill_cell j o (Some cell) d) ys ((λ z. x.0 z), (λ s. let a = (push_onward k (Run i) c ys).1 s in let b = x.1 s in let f = y.1 s in omega (arith, a, b, f)), (λ w. w)) h))
+              (unless c.halted (refers_on k c ys (fill_cell j o (Some cell) d) ys
+              ((λ z. x.0 z), (λ s. let a = (push_onward k (Run i) c ys).1 s in let b = x.1 s in let f = y.1 s in omega (arith, a, b, f)), (λ w. w)) h))
 
       by_cell : (x : Option Cell) → thing c.cells j ≡ x → Fine (send_in x i j o c)
       by_cell None q = tt
@@ -163,7 +168,8 @@ module _ (k : ℕ) (ys : Numbered Frame) (i : ℕ) where
     abbrev zs : Core → Numbered Frame
     zs c = added ys (suc c.started) a
 
-    started : (c : Core) → Refers k c ys → Rising 0 c.started c.entries → (t : Task) → ((s : Side) → one s k FutureSide (suc c.made) ≤ in_task s k t) → Refers k (enrol class name (pushed t (pushed (Run i) c))) (zs c)
+    started : (c : Core) → Refers k c ys → Rising 0 c.started c.entries → (t : Task) → ((s : Side) → one s k FutureSide (suc c.made) ≤ in_task s k t)
+        → Refers k (enrol class name (pushed t (pushed (Run i) c))) (zs c)
     started c h up t holds = by_test (nat_eq (suc c.made) k) refl
       where
         d : Core
@@ -196,7 +202,8 @@ module _ (k : ℕ) (ys : Numbered Frame) (i : ℕ) where
         by_test : (b : Bool) → nat_eq (suc c.made) k ≡ b → Refers k (enrol class name (pushed t (pushed (Run i) c))) (added ys (suc c.started) a)
         by_test true q =
             let same : suc c.made ≡ k = grind (arith, q) in
-            let x : one FutureSide k FutureSide (suc c.made) ≡ 1 = let z : one PromiseSide k FutureSide (suc c.made) ≡ 0 = refl in let y = one_side k FutureSide (suc c.made) same in omega (arith, y, z) in
+            let x : one FutureSide k FutureSide (suc c.made) ≡ 1 = let z : one PromiseSide k FutureSide (suc c.made) ≡ 0 = refl in let y =
+            one_side k FutureSide (suc c.made) same in omega (arith, y, z) in
             let b = more FutureSide in
             let v = holds FutureSide in ((λ z. omega (arith, x, b, v)), (λ w. omega (arith, x, b, v)))
         by_test false q =
@@ -211,6 +218,7 @@ module _ (k : ℕ) (ys : Numbered Frame) (i : ℕ) where
     start_refers c h up =
         after_turn (λ d. Refers k d (added ys (suc c.started) a)) (λ d. enrol class name (push_result i (result_task i goal (RefValue kind.Future (suc d.made))) d)) c c.left (λ n. by_goal goal n)
       where
-        by_goal : (goal : Goal) (n : ℕ) → Unless (λ d. Refers k d (added ys (suc c.started) a)) (enrol class name (push_result i (result_task i goal (RefValue kind.Future (suc c.made))) (record c { left = n })))
+        by_goal : (goal : Goal) (n : ℕ) → Unless (λ d. Refers k d (added ys (suc c.started) a))
+            (enrol class name (push_result i (result_task i goal (RefValue kind.Future (suc c.made))) (record c { left = n })))
         by_goal Stored n = unless c.halted (started (record c { left = n }) h up (Store i (RefValue kind.Future (suc c.made))) (λ s. omega arith))
         by_goal (Kept spot) n = unless c.halted (started (record c { left = n }) h up (Keep i spot (kind.Future, suc c.made)) (λ s. omega arith))

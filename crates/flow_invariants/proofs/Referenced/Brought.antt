@@ -52,7 +52,8 @@ module _ (k : ℕ) where
       after_turn (λ d. Refers k d ys) (λ d. fill j o d) d c.left (λ n. fill_on j o (record d { left = n }) ys (λ cell at. unset_open cell (subst IsUnset at unset)) g)
 
   pub arrive_refers : (j : ℕ) (v : ValueTree) (c : Core) (ys : Numbered Frame) → IsStream (thing c.cells j) → Refers k c ys → Unless (λ d. Refers k d ys) (arrive j v c)
-  arrive_refers j v c ys stream h = after_turn (λ d. Refers k d ys) (λ d. fill j (GoodOutcome v) d) c c.left (λ n. fill_on j (GoodOutcome v) (record c { left = n }) ys (λ cell at. stream_open cell (subst IsStream at stream)) h)
+  arrive_refers j v c ys stream h = after_turn (λ d. Refers k d ys) (λ d. fill j (GoodOutcome v) d) c c.left
+      (λ n. fill_on j (GoodOutcome v) (record c { left = n }) ys (λ cell at. stream_open cell (subst IsStream at stream)) h)
 
   -- `main` is called, and the process refers to its result
   module _ (class : ℕ) (name : List ℕ) (a : Frame) (c : Core) (ys : Numbered Frame) (none : c.main ≡ None) (up : Rising 0 c.started c.entries) (h : Refers k c ys) where
@@ -85,7 +86,8 @@ module _ (k : ℕ) where
         by_test : (b : Bool) → nat_eq (suc c.made) k ≡ b → Refers k held (added ys (suc c.started) a)
         by_test true q =
             let same : suc c.made ≡ k = grind (arith, q) in
-            let x : one FutureSide k FutureSide (suc c.made) ≡ 1 = let z : one PromiseSide k FutureSide (suc c.made) ≡ 0 = refl in let y = one_side k FutureSide (suc c.made) same in omega (arith, y, z) in
+            let x : one FutureSide k FutureSide (suc c.made) ≡ 1 = let z : one PromiseSide k FutureSide (suc c.made) ≡ 0 = refl in let y =
+            one_side k FutureSide (suc c.made) same in omega (arith, y, z) in
             let b = more FutureSide in ((λ z. omega (arith, x, b)), (λ w. omega (arith, x, b)))
         by_test false q =
             let other : suc c.made ≡ k → ⊥ = (λ z. let f : ⊥ = grind (arith, q, z) in f) in
@@ -95,7 +97,8 @@ module _ (k : ℕ) where
               λ w. let n = h.1 (before other w) in omega (arith, b, n),
             )
 
-  pub boot_refers : (r : RawTree) (me : ℕ) (p : Proc Frame) → p.core.main ≡ None → Rising 0 p.core.started p.core.entries → Refers k p.core p.actors → Unless (λ d. Refers k d (boot (classes r) me p).actors) (boot (classes r) me p).core
+  pub boot_refers : (r : RawTree) (me : ℕ) (p : Proc Frame) → p.core.main ≡ None → Rising 0 p.core.started p.core.entries → Refers k p.core p.actors
+      → Unless (λ d. Refers k d (boot (classes r) me p).actors) (boot (classes r) me p).core
   boot_refers r me p none up h = by_frame ((classes r).fresh (classes r).main (IntValue (pos me) ∷ []))
     where
       by_frame : (x : Option Frame) → Unless (λ d. Refers k d (boot_with (classes r) x p).actors) (boot_with (classes r) x p).core
@@ -111,4 +114,9 @@ module _ (k : ℕ) where
       by_main : (x : Option ℕ) → c.main ≡ x → Refers k (stop_main x c) ys
       by_main None q = h
       by_main (Some j) q =
-          refers_on k c ys (stop_main (Some j) c) ys ((λ z. z), (λ s. let a = ap (count_maybe s k FutureSide) q in let b : in_task s k (Drop kind.Future j) ≡ one s k FutureSide j = refl in omega (arith, a, b)), (λ w. w)) h
+          refers_on k c ys (stop_main (Some j) c) ys (
+            (λ z. z),
+            (λ s. let a = ap (count_maybe s k FutureSide) q in let b : in_task s k (Drop kind.Future j)
+                ≡ one s k FutureSide j = refl in omega (arith, a, b)),
+            (λ w. w),
+          ) h

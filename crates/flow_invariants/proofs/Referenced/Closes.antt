@@ -37,7 +37,8 @@ unset_single (Some (Single None ws)) h = (ws, refl)
 unset_single (Some (Single (Some o) ws)) h = absurd h
 unset_single (Some (Stream q e w)) h = absurd h
 
-module _ (k : ℕ) (r : RawTree) (types : CellTypes) (c : Core) (xs : Numbered Frame) (o : Orderly c) (p : ProcessFits r types c xs) (t : CellsTied c) (results : ResultsAlone c xs) (ts : List Task) (h : Refers k c xs) (i : ℕ) (oc : OutcomeTree) (top : c.tasks ≡ Close i oc ∷ ts)
+module _ (k : ℕ) (r : RawTree) (types : CellTypes) (c : Core) (xs : Numbered Frame) (o : Orderly c) (p : ProcessFits r types c xs) (t : CellsTied c) (results : ResultsAlone c xs) (ts : List Task)
+    (h : Refers k c xs) (i : ℕ) (oc : OutcomeTree) (top : c.tasks ≡ Close i oc ∷ ts)
     (unset : (j : ℕ) (e : Entry) → thing c.entries i ≡ Some e → e.result ≡ Some j → IsUnset (thing c.cells j)) where
   abbrev ys : Numbered Frame
   ys = removed xs i
@@ -81,7 +82,9 @@ module _ (k : ℕ) (r : RawTree) (types : CellTypes) (c : Core) (xs : Numbered F
       cell = Single None ws
 
       -- no future of it is left: the cell is gone
-      removed_refers : (d : Core) → d.cells ≡ removed c.cells result → d.entries ≡ removed c.entries i → ((s : Side) → refs k s gone ys + 0 ≤ refs k s (record gone { cells = removed c.cells result }) ys + 0 → refs k s gone ys + count s k (refs_in (value_in oc)) ≤ refs k s d ys) → Refers k d ys
+      removed_refers : (d : Core) → d.cells ≡ removed c.cells result → d.entries ≡ removed c.entries i
+          → ((s : Side) → refs k s gone ys + 0 ≤ refs k s (record gone { cells = removed c.cells result }) ys + 0 → refs k s gone ys + count s k (refs_in (value_in oc)) ≤ refs k s d ys)
+          → Refers k d ys
       removed_refers d cs es more = by_test (nat_eq result k) refl
         where
           to_gone : Wants k d → Wants k gone
@@ -115,7 +118,8 @@ module _ (k : ℕ) (r : RawTree) (types : CellTypes) (c : Core) (xs : Numbered F
           d : Core
           d = fill_cell result oc (Some cell) (writes (end_line i oc) (record gone { left = m }))
 
-          more : (s : Side) → refs k s gone ys + (count s k (refs_in (value_in oc)) + one s k FutureSide result) ≤ refs k s (fill_cell result oc (Some cell) (writes (end_line i oc) (record gone { left = m }))) ys
+          more : (s : Side) → refs k s gone ys + (count s k (refs_in (value_in oc)) + one s k FutureSide result) ≤ refs k s
+              (fill_cell result oc (Some cell) (writes (end_line i oc) (record gone { left = m }))) ys
           more s =
               let x = (filling_onward k result cell oc gone ys at tt).1 s in
               let y = (push_onward k (Fire result) (record gone { cells = put c.cells result (filled cell oc) }) ys).1 s in omega (arith, x, y)
@@ -128,7 +132,8 @@ module _ (k : ℕ) (r : RawTree) (types : CellTypes) (c : Core) (xs : Numbered F
               ((λ z. omega (arith, x, y)), (λ w. omega (arith, x, y)))
           by_test false q =
               let other : result ≡ k → ⊥ = (λ z. let f : ⊥ = grind (arith, q, z) in f) in
-              let less : (s : Side) → refs k s c xs ≤ refs k s (fill_cell result oc (Some cell) (writes (end_line i oc) (record gone { left = m }))) ys = (λ s. let y = counted s in let z = no_one s result k PromiseSide other in let n = more s in omega (arith, y, z, n)) in (
+              let less : (s : Side) → refs k s c xs ≤ refs k s (fill_cell result oc (Some cell) (writes (end_line i oc) (record gone { left = m }))) ys =
+              (λ s. let y = counted s in let z = no_one s result k PromiseSide other in let n = more s in omega (arith, y, z, n)) in (
                 λ z. let n = h.0 ((filling_onward k result cell oc gone ys at tt).0 z) in let u = less PromiseSide in let v = less FutureSide in omega (arith, n, u, v),
                 λ w. let n = h.1 (wanted w) in let v = less FutureSide in omega (arith, n, v),
               )

@@ -23,7 +23,8 @@ use Rattle.flow_progress.specs.Fitting.{CellTypes, ActorAt, TasksFit, ProcessFit
 use Rattle.flow_invariants.proofs.Referenced.Onward.{refs, Wants, Refers}
 use Rattle.flow_invariants.proofs.Referenced.Losses.{other_lost, own_lost}
 
-module _ (k : ℕ) (r : RawTree) (types : CellTypes) (c : Core) (xs : Numbered Frame) (o : Orderly c) (p : ProcessFits r types c xs) (t : CellsTied c) (results : ResultsAlone c xs) (ts : List Task) (h : Refers k c xs) where
+module _ (k : ℕ) (r : RawTree) (types : CellTypes) (c : Core) (xs : Numbered Frame) (o : Orderly c) (p : ProcessFits r types c xs) (t : CellsTied c) (results : ResultsAlone c xs) (ts : List Task)
+    (h : Refers k c xs) where
   -- the newest task is off, which is no actor's
   abbrev off : ℕ → Core
   off n = record c { tasks = ts; left = n }
@@ -69,15 +70,19 @@ module _ (k : ℕ) (r : RawTree) (types : CellTypes) (c : Core) (xs : Numbered F
     lose_refers = by_cell (thing c.cells j) refl
       where
         by_number : (cell : Cell) → thing c.cells j ≡ Some cell → (b : Bool) → nat_eq j k ≡ b
-            → Unless (λ d. Refers k d xs) (suffer j (loss s (reference_count (frames_hold xs) PromiseSide j (off n)) (reference_count (frames_hold xs) FutureSide j (off n)) cell (owner j c.entries) (port_of j c.ports)) (off n))
+            → Unless (λ d. Refers k d xs) (suffer j (loss s (reference_count (frames_hold xs) PromiseSide j (off n)) (reference_count (frames_hold xs) FutureSide j (off n)) cell (owner j c.entries)
+            (port_of j c.ports)) (off n))
         by_number cell at true e =
             let same : j ≡ k = grind (arith, e) in
-            subst (λ z. Unless (λ d. Refers k d xs) (suffer z (loss s (reference_count (frames_hold xs) PromiseSide z (off n)) (reference_count (frames_hold xs) FutureSide z (off n)) cell (owner z c.entries) (port_of z c.ports)) (off n))) (sym same)
-            (own_lost k r types (off n) xs q o.numbered (off_tied n) cell (subst (λ z. thing c.cells z ≡ Some cell) same at) few s (refs k PromiseSide (off n) xs) (refs k FutureSide (off n) xs) refl refl
+            subst (λ z. Unless (λ d. Refers k d xs) (suffer z (loss s (reference_count (frames_hold xs) PromiseSide z (off n)) (reference_count (frames_hold xs) FutureSide z (off n)) cell
+            (owner z c.entries) (port_of z c.ports)) (off n))) (sym same)
+            (own_lost k r types (off n) xs q o.numbered (off_tied n) cell (subst (λ z. thing c.cells z ≡ Some cell) same at) few s (refs k PromiseSide (off n) xs)
+            (refs k FutureSide (off n) xs) refl refl
             (λ e w. let a = popped FutureSide in let b = no_future e in let g = h.1 w in omega (arith, a, b, g)))
         by_number cell at false e =
             let other : j ≡ k → ⊥ = (λ z. let f : ⊥ = grind (arith, e, z) in f) in
-            other_lost k r types (off n) xs q o.numbered (off_tied n) j cell at other (others other) s (reference_count (frames_hold xs) PromiseSide j (off n)) (reference_count (frames_hold xs) FutureSide j (off n))
+            other_lost k r types (off n) xs q o.numbered (off_tied n) j cell at other (others other) s (reference_count (frames_hold xs) PromiseSide j (off n))
+            (reference_count (frames_hold xs) FutureSide j (off n))
 
         by_cell : (x : Option Cell) → thing c.cells j ≡ x → Unless (λ d. Refers k d xs) (lose_cell (frames_hold xs) s j x (off n))
         by_cell None q = tt

@@ -57,7 +57,8 @@ module _ (c : Core) (j : ℕ) (cell : Cell) (at : thing c.cells j ≡ Some cell)
 
 -- a branch is taken: from the same process, whose actor leaves with these values
 module _ (k : ℕ) (c : Core) (xs : Numbered Frame) (i b j : ℕ) (e : Entry) (vs : List ValueTree) where
-  pub given_onward : (cell : Cell) (o : OutcomeTree) (m : ℕ) → thing c.cells j ≡ Some cell → taken cell ≡ Some o → thing c.entries i ≡ Some e → Agree c → RightKinds c.cells e.operands → Rising 0 c.made c.cells
+  pub given_onward : (cell : Cell) (o : OutcomeTree) (m : ℕ) → thing c.cells j ≡ Some cell → taken cell ≡ Some o → thing c.entries i ≡ Some e → Agree c → RightKinds c.cells e.operands
+      → Rising 0 c.made c.cells
       → (let d = record (writes (take_line i e.spot.group b) (record c { left = m })) { cells = put c.cells j (after_taking cell) } in
       Onward k (λ s. count s k (refs_in vs)) no_refs c xs (leave_for i e vs (Give i b o) d) xs)
   given_onward cell o m at got entry agree kinds up =
@@ -67,7 +68,8 @@ module _ (k : ℕ) (c : Core) (xs : Numbered Frame) (i b j : ℕ) (e : Entry) (v
       (Rattle.flow_meaning.proofs.Order.rising_put c.cells 0 c.made j (after_taking cell) up) in
       ((λ z. a.0 (l.0 z)), (λ s. let x = a.1 s in let y = l.1 s in let w : in_task s k (Give i b o) ≡ in_task s k (Give 0 0 o) = refl in omega (arith, x, y, w)), (λ w. a.2 (l.2 w)))
 
-module _ (k : ℕ) (r : RawTree) (actors : List RoutineTree) (rules : Rattle.flow_progress.specs.Rules.ClassRules r actors) (types : CellTypes) (c : Core) (xs : Numbered Frame) (o : Orderly c) (p : ProcessFits r types c xs) (t : CellsTied c) (ts : List Task) (h : Refers k c xs) where
+module _ (k : ℕ) (r : RawTree) (actors : List RoutineTree) (rules : Rattle.flow_progress.specs.Rules.ClassRules r actors) (types : CellTypes) (c : Core) (xs : Numbered Frame) (o : Orderly c)
+    (p : ProcessFits r types c xs) (t : CellsTied c) (ts : List Task) (h : Refers k c xs) where
   abbrev now : Core
   now = record c { tasks = ts }
 
@@ -80,7 +82,8 @@ module _ (k : ℕ) (r : RawTree) (actors : List RoutineTree) (rules : Rattle.flo
   -- the actor leaves with what its frame lost
   lost_frame : (i : ℕ) (f : Frame) → thing xs i ≡ Some f → (a : Side → ℕ) → Onward k a (λ s. count s k (refs_in (lose f).0) + a s) now xs now (put xs i (lose f).1)
   lost_frame i f at a =
-      Rattle.flow_invariants.proofs.Referenced.Onward.frame_onward k a (λ s. count s k (refs_in (lose f).0) + a s) i f (lose f).1 now xs at (λ s. let m = Rattle.flow_heap_refinement.proofs.Holding.of_all_locals s k f.mem in omega (arith, m))
+      Rattle.flow_invariants.proofs.Referenced.Onward.frame_onward k a (λ s. count s k (refs_in (lose f).0) + a s) i f (lose f).1 now xs at
+      (λ s. let m = Rattle.flow_heap_refinement.proofs.Holding.of_all_locals s k f.mem in omega (arith, m))
 
   -- an operand is kept
   kept_holds : (s : Side) (spot : _) (q : Ref) (e : Entry) → e.suspended ≡ false → entry_holds s k e + in_task s k (Keep 0 spot q) ≤ entry_holds s k (with_operand spot q e)
@@ -90,7 +93,8 @@ module _ (k : ℕ) (r : RawTree) (actors : List RoutineTree) (rules : Rattle.flo
       let d = Rattle.flow_heap_refinement.proofs.Sums.count_joined s k e.operands (q ∷ []) in omega (arith, a, b, d)
 
   -- nothing but the actor's next step is taken from below
-  below_onward : (i : ℕ) (us : List Task) (ys : Numbered Frame) → Rattle.flow_meaning.specs.Orderly.NextStep i us → (b : Side → ℕ) → Onward k b b (record c { tasks = us }) ys (record c { tasks = below us }) ys
+  below_onward : (i : ℕ) (us : List Task) (ys : Numbered Frame) → Rattle.flow_meaning.specs.Orderly.NextStep i us → (b : Side → ℕ)
+      → Onward k b b (record c { tasks = us }) ys (record c { tasks = below us }) ys
   below_onward i [] ys n b = absurd n
   below_onward i (Run j ∷ us) ys n b =
       let m = Rattle.flow_invariants.proofs.Referenced.Onward.pop_onward k (Run j) us (record c { tasks = Run j ∷ us }) ys refl in
@@ -119,7 +123,8 @@ module _ (k : ℕ) (r : RawTree) (actors : List RoutineTree) (rules : Rattle.flo
     goes_on e at awake =
         let a : Side → ℕ = λ s. in_task s k (Keep i spot q) in
         let d = record now { entries = put c.entries i (with_operand spot q e) } in
-        let m = Rattle.flow_invariants.proofs.Referenced.Onward.entry_onward k a no_refs i e (with_operand spot q e) now xs at (inr (refl, refl)) (λ s. let n = kept_holds s spot q e awake in omega (arith, n)) in
+        let m = Rattle.flow_invariants.proofs.Referenced.Onward.entry_onward k a no_refs i e (with_operand spot q e) now xs at (inr (refl, refl))
+        (λ s. let n = kept_holds s spot q e awake in omega (arith, n)) in
         fine_on d xs (onward_on k no_refs a no_refs c xs now xs d xs popped m)
 
     -- the actor leaves its wait with what its frame lost: by a task that holds nothing, or by a branch that it takes
@@ -134,7 +139,9 @@ module _ (k : ℕ) (r : RawTree) (actors : List RoutineTree) (rules : Rattle.flo
       ys = put xs i (lose f).1
 
       agree : Agree (record c { entries = put c.entries i kept })
-      agree = Rattle.flow_invariants.proofs.Referenced.Tasks.agree_put c i e kept at (ap (λ b. Rattle.flow_heap_refinement.specs.Counted.waiting_by b (e.operands ++ q ∷ [])) awake ∙ sym (ap (λ b. Rattle.flow_heap_refinement.specs.Counted.waiting_by b e.operands) awake)) t.agree
+      agree = Rattle.flow_invariants.proofs.Referenced.Tasks.agree_put c i e kept at
+          (ap (λ b. Rattle.flow_heap_refinement.specs.Counted.waiting_by b (e.operands ++ q ∷ [])) awake ∙ sym (ap (λ b. Rattle.flow_heap_refinement.specs.Counted.waiting_by b e.operands) awake))
+          t.agree
 
       -- so far: the tasks are off, the frame has lost
       so_far : Onward k no_refs (λ s. count s k (refs_in (lose f).0) + in_task s k (Keep i spot q)) c xs low ys
@@ -154,9 +161,12 @@ module _ (k : ℕ) (r : RawTree) (actors : List RoutineTree) (rules : Rattle.flo
       -- the operand that is kept is the branch that is taken
       taken_on : (b : ℕ) (x : Option Cell) → thing c.cells q.1 ≡ x → Fine (take_branch i b q.1 kept (lose f).0 x low) ys
       taken_on b None found = tt
-      taken_on b (Some cell) found = after_turn (λ d. Refers k d ys) (λ d. give i b kept (lose f).0 (taken cell) (record (writes (take_line i kept.spot.group b) d) { cells = put d.cells q.1 (after_taking cell) })) low c.left (λ n. by_taken n (taken cell) refl)
+      taken_on b (Some cell) found = after_turn (λ d. Refers k d ys)
+          (λ d. give i b kept (lose f).0 (taken cell) (record (writes (take_line i kept.spot.group b) d) { cells = put d.cells q.1 (after_taking cell) })) low c.left
+          (λ n. by_taken n (taken cell) refl)
         where
-          by_taken : (n : ℕ) (o : Option OutcomeTree) → taken cell ≡ o → Fine (give i b kept (lose f).0 o (record (writes (take_line i kept.spot.group b) (record low { left = n })) { cells = put c.cells q.1 (after_taking cell) })) ys
+          by_taken : (n : ℕ) (o : Option OutcomeTree) → taken cell ≡ o
+              → Fine (give i b kept (lose f).0 o (record (writes (take_line i kept.spot.group b) (record low { left = n })) { cells = put c.cells q.1 (after_taking cell) })) ys
           by_taken n None got = tt
           by_taken n (Some o) got =
               let a : Side → ℕ = λ s. in_task s k (Keep i spot q) in
@@ -167,7 +177,8 @@ module _ (k : ℕ) (r : RawTree) (actors : List RoutineTree) (rules : Rattle.flo
               let l = replaced_onward k a i e kept (lose f).0 (Give i b o) d ys at (inr (refl, refl)) (λ s. kept_holds s spot q e awake)
               (taken_agrees (record c { entries = put c.entries i kept }) q.1 cell found agree) (taken_kinds c q.1 cell found kept.operands kinds)
               (Rattle.flow_meaning.proofs.Order.rising_put c.cells 0 c.made q.1 (after_taking cell) p.numbered) in
-              fine_on z ys (onward_on k no_refs g no_refs c xs low ys z ys so_far ((λ w. m.0 (l.0 w)), (λ s. let x = m.1 s in let y = l.1 s in let w : in_task s k (Give i b o) ≡ in_task s k (Give 0 0 o) = refl in omega (arith, x, y, w)), (λ w. m.2 (l.2 w))))
+              fine_on z ys (onward_on k no_refs g no_refs c xs low ys z ys so_far
+              ((λ w. m.0 (l.0 w)), (λ s. let x = m.1 s in let y = l.1 s in let w : in_task s k (Give i b o) ≡ in_task s k (Give 0 0 o) = refl in omega (arith, x, y, w)), (λ w. m.2 (l.2 w))))
 
       by_verdict : (b : ℕ) (v : OperandFate) → Fine (keep_by (classes r) i b v q kept f (proc now xs)).0.core (keep_by (classes r) i b v q kept f (proc now xs)).0.actors
       by_verdict b GoesOn = goes_on e at awake
@@ -182,4 +193,5 @@ module _ (k : ℕ) (r : RawTree) (actors : List RoutineTree) (rules : Rattle.flo
         let a = Rattle.flow_progress.proofs.StepFits.actor_here r types i (Keep i spot q) ts c xs o top (keep_of i spot q) p in
         subst (λ x. Kept_on (keep (classes r) i spot q x (thing c.entries i) (proc now xs))) (sym a.stands)
         (subst (λ x. Kept_on (keep (classes r) i spot q (Some a.frame) x (proc now xs))) (sym a.at)
-        (by_verdict a.entry a.frame a.at a.awake a.stands (Rattle.flow_invariants.proofs.Referenced.Tasks.right_kinds r types c p.cells a.frame 0 (a.entry.operands ++ q ∷ []) a.doing.2) (length a.entry.operands) (verdict a.entry.marked (is_ready_at (thing c.cells q.1)))))
+        (by_verdict a.entry a.frame a.at a.awake a.stands (Rattle.flow_invariants.proofs.Referenced.Tasks.right_kinds r types c p.cells a.frame 0 (a.entry.operands ++ q ∷ []) a.doing.2)
+        (length a.entry.operands) (verdict a.entry.marked (is_ready_at (thing c.cells q.1)))))

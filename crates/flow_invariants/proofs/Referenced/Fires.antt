@@ -31,7 +31,8 @@ suspended_of (Some e) h = (e, refl, same e.suspended h)
     same : (b : Bool) → Some b ≡ Some true → b ≡ true
     same b h = cc
 
-module _ (k : ℕ) (r : RawTree) (types : CellTypes) (c : Core) (xs : Numbered Frame) (o : Orderly c) (p : ProcessFits r types c xs) (t : CellsTied c) (results : ResultsAlone c xs) (ts : List Task) (h : Refers k c xs) (j : ℕ) (top : c.tasks ≡ Fire j ∷ ts) where
+module _ (k : ℕ) (r : RawTree) (types : CellTypes) (c : Core) (xs : Numbered Frame) (o : Orderly c) (p : ProcessFits r types c xs) (t : CellsTied c) (results : ResultsAlone c xs) (ts : List Task)
+    (h : Refers k c xs) (j : ℕ) (top : c.tasks ≡ Fire j ∷ ts) where
   abbrev now : Core
   now = record c { tasks = ts }
 
@@ -42,7 +43,8 @@ module _ (k : ℕ) (r : RawTree) (types : CellTypes) (c : Core) (xs : Numbered F
   Fine d = Unless (λ d. Refers k d xs) d
 
   ends : Fine (Rattle.flow_meaning.specs.Dropping.lose_ref (frames_hold xs) FutureSide j now)
-  ends = lose_refers k r types c xs o p t results ts h FutureSide j (Fire j) top (λ z. refl) c.left (off_fits k r types c xs o p t results ts h c.left (subst (TasksFit r types) top p.work).1 (λ i. ap (tasks_of i) top))
+  ends = lose_refers k r types c xs o p t results ts h FutureSide j (Fire j) top (λ z. refl) c.left
+      (off_fits k r types c xs o p t results ts h c.left (subst (TasksFit r types) top p.work).1 (λ i. ap (tasks_of i) top))
 
   -- whoever waits has operands of the kinds of their cells
   kinds_of : (i : ℕ) (e : Entry) → thing c.entries i ≡ Some e → e.suspended ≡ true → RightKinds c.cells e.operands
@@ -54,9 +56,11 @@ module _ (k : ℕ) (r : RawTree) (types : CellTypes) (c : Core) (xs : Numbered F
 
   module _ (cell : Cell) (at : thing c.cells j ≡ Some cell) where
     takes : (i b : ℕ) (e : Entry) → thing c.entries i ≡ Some e → e.suspended ≡ true → Fine (take_branch i b j e [] (Some cell) again)
-    takes i b e here s = after_turn (λ d. Refers k d xs) (λ d. give i b e [] (taken cell) (record (writes (take_line i e.spot.group b) d) { cells = put d.cells j (after_taking cell) })) again c.left (λ n. by_taken n (taken cell) refl)
+    takes i b e here s = after_turn (λ d. Refers k d xs) (λ d. give i b e [] (taken cell) (record (writes (take_line i e.spot.group b) d) { cells = put d.cells j (after_taking cell) })) again c.left
+        (λ n. by_taken n (taken cell) refl)
       where
-        by_taken : (n : ℕ) (x : Option OutcomeTree) → taken cell ≡ x → Fine (give i b e [] x (record (writes (take_line i e.spot.group b) (record again { left = n })) { cells = put c.cells j (after_taking cell) }))
+        by_taken : (n : ℕ) (x : Option OutcomeTree) → taken cell ≡ x
+            → Fine (give i b e [] x (record (writes (take_line i e.spot.group b) (record again { left = n })) { cells = put c.cells j (after_taking cell) }))
         by_taken n None got = tt
         by_taken n (Some x) got =
             let d = record (writes (take_line i e.spot.group b) (record again { left = n })) { cells = put c.cells j (after_taking cell) } in

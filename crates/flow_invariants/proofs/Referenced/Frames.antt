@@ -107,7 +107,8 @@ module _ (s : Side) (k : ℕ) where
 
     effects_give : (goal : Goal) (e : Effectful × ExprTrees) → Gives (class.effects ns v f goal e)
     effects_give goal e =
-        evaluated_gives (values ns v (look f.mem) e.1) (λ vs left. given f (effect_of e.0 vs) (λ eff. asks left (Effects goal eff) f)) (λ vs left. given_gives (effect_of e.0 vs) (λ eff. asks left (Effects goal eff) f) (λ eff q. still))
+        evaluated_gives (values ns v (look f.mem) e.1) (λ vs left. given f (effect_of e.0 vs) (λ eff. asks left (Effects goal eff) f))
+        (λ vs left. given_gives (effect_of e.0 vs) (λ eff. asks left (Effects goal eff) f) (λ eff q. still))
 
     -- a call hands out nothing that stood in the frame
     asked_gives : (act : Act) (left : ℕ) → Gives (asks left act (next_instr f.mem f))

@@ -38,18 +38,22 @@ module _ (rs : List RecordTree) (typed : ℕ → TypeTree → Type 0) (c : Class
   no_fields (y ∷ ys) t e = no_thing e
 
   -- where a path begins
-  path_place : (vars : List ParamTree) (x : Ident) (xs : List Ident) (t : TypeTree) → AreNamed c vars → path_type rs vars (x ∷ xs) ≡ Some t → (q : Slotted) × (u : TypeTree) × (place_named x.name ≡ Some q) × (type_at c q ≡ Some u)
+  path_place : (vars : List ParamTree) (x : Ident) (xs : List Ident) (t : TypeTree) → AreNamed c vars → path_type rs vars (x ∷ xs) ≡ Some t
+      → (q : Slotted) × (u : TypeTree) × (place_named x.name ≡ Some q) × (type_at c q ≡ Some u)
   path_place vars x xs t named e = by_var (param_named vars x.name) refl e
     where
-      by_var : (o : Option ParamTree) → param_named vars x.name ≡ o → fields_type rs (option_map (λ (p : ParamTree). p.ty) o) xs ≡ Some t → (q : Slotted) × (u : TypeTree) × (place_named x.name ≡ Some q) × (type_at c q ≡ Some u)
+      by_var : (o : Option ParamTree) → param_named vars x.name ≡ o → fields_type rs (option_map (λ (p : ParamTree). p.ty) o) xs ≡ Some t
+          → (q : Slotted) × (u : TypeTree) × (place_named x.name ≡ Some q) × (type_at c q ≡ Some u)
       by_var None q f = absurd (no_fields xs t f)
       by_var (Some p) q f = let n = named x.name p q in (n.0, p.ty, n.1, n.2)
 
   module _ (s : Side) (k : ℕ) where
-    put_takes : (m : Memory) (q : Slotted) (xs : List Ident) (v : ValueTree) (x : List ValueTree × Memory) → InMemory m q → put_at rs m q xs v ≡ Some x → holds s k m + all s k (v ∷ []) ≤ holds s k x.1 + all s k x.0
+    put_takes : (m : Memory) (q : Slotted) (xs : List Ident) (v : ValueTree) (x : List ValueTree × Memory) → InMemory m q → put_at rs m q xs v ≡ Some x
+        → holds s k m + all s k (v ∷ []) ≤ holds s k x.1 + all s k x.0
     put_takes m q xs v x l e = let a = of_path s k m rs q xs v x.0 x.1 l e in omega (arith, a)
 
-    assign_takes : (m : Memory) (vars : List ParamTree) (xs : List Ident) (t : TypeTree) (v : ValueTree) (x : List ValueTree × Memory) → HoldsTypes rs typed c m → AreNamed c vars → path_type rs vars xs ≡ Some t → assign rs m xs v ≡ Some x
+    assign_takes : (m : Memory) (vars : List ParamTree) (xs : List Ident) (t : TypeTree) (v : ValueTree) (x : List ValueTree × Memory) → HoldsTypes rs typed c m → AreNamed c vars
+        → path_type rs vars xs ≡ Some t → assign rs m xs v ≡ Some x
         → holds s k m + all s k (v ∷ []) ≤ holds s k x.1 + all s k x.0
     assign_takes m vars [] t v x h named e f = absurd (no_thing f)
     assign_takes m vars (y ∷ ys) t v x h named e f =
@@ -76,7 +80,8 @@ module _ (r : RawTree) (typed : ℕ → TypeTree → Type 0) (vars : List ParamT
   abbrev Takes : ValueTree → List ValueTree × Frame → Type 0
   Takes u z = holds s k f.mem + all s k (u ∷ []) ≤ holds s k z.1.mem + all s k z.0
 
-  pub store_takes : (u : ValueTree) (t : TypeTree) (o : Fetched) → Stores r f.code vars o t → ((path : List Ident) (e : _) → o ≡ Body (EffectInstr path e) → assign r.records f.mem path u ≡ None → ⊥) → Takes u (store_at (class_names r) u f o)
+  pub store_takes : (u : ValueTree) (t : TypeTree) (o : Fetched) → Stores r f.code vars o t → ((path : List Ident) (e : _) → o ≡ Body (EffectInstr path e) → assign r.records f.mem path u ≡ None → ⊥)
+      → Takes u (store_at (class_names r) u f o)
   store_takes u t (Body (EffectInstr path e)) at some = by_put (assign r.records f.mem path u) refl
     where
       by_put : (o : Option (List ValueTree × Memory)) → assign r.records f.mem path u ≡ o → Takes u (stored f o)
@@ -97,14 +102,16 @@ module _ (r : RawTree) (typed : ℕ → TypeTree → Type 0) (vars : List ParamT
       by_into None e = omega arith
       by_into (Some p) e = let t = e p refl in put_takes r.records typed f.code s k f.mem p [] u _ (in_memory r.records typed f.code f.mem p t.0 h t.1) refl
 
-  pub take_takes : (n : ℕ) (u : ValueTree) (g : ℕ) (x : CallbackTree) → fetch f.code f.block f.instr ≡ Last (ChooseLast g) → callback_at f.code g n ≡ Some x → ((p : Slotted) → x.into ≡ Some p → (t : TypeTree) × (type_at f.code p ≡ Some t))
+  pub take_takes : (n : ℕ) (u : ValueTree) (g : ℕ) (x : CallbackTree) → fetch f.code f.block f.instr ≡ Last (ChooseLast g) → callback_at f.code g n ≡ Some x
+      → ((p : Slotted) → x.into ≡ Some p → (t : TypeTree) × (type_at f.code p ≡ Some t))
       → Takes u (take_at (class_names r) n u f (fetch f.code f.block f.instr))
   take_takes n u g x here there e =
       subst (λ z. Takes u (take_at (class_names r) n u f z)) (sym here)
       (subst (λ o. Takes u (take_callback (class_names r) u f o)) (sym there) (callback_takes u x e))
 
   -- an error that is thrown
-  pub raise_takes : (err : ℕ) (x : Option CatcherTree) → ((y : CatcherTree) (n : ℕ) → x ≡ Some y → y.error ≡ Some n → type_at f.code (Local n) ≡ Some ErrorType) → holds s k f.mem ≤ holds s k (raised err f x).1.mem + all s k (raised err f x).0.values
+  pub raise_takes : (err : ℕ) (x : Option CatcherTree) → ((y : CatcherTree) (n : ℕ) → x ≡ Some y → y.error ≡ Some n → type_at f.code (Local n) ≡ Some ErrorType)
+      → holds s k f.mem ≤ holds s k (raised err f x).1.mem + all s k (raised err f x).0.values
   raise_takes err None e = omega arith
   raise_takes err (Some y) e =
       let a = of_locals s k f.mem y.drops in

@@ -56,14 +56,16 @@ module _ (k : ℕ) (r : RawTree) (types : CellTypes) (c : Core) (xs : Numbered F
   cancel_by_onward : (b : Bool) (i : ℕ) (e : Entry) → thing c.entries i ≡ Some e → e.suspended ≡ b → Kept (cancel_by b i e (writes (cancel_line i) c))
   cancel_by_onward false i e at s = entry_onward k no_refs no_refs i e (marked e) (writes (cancel_line i) c) xs at (inl refl) (λ z. omega arith)
   cancel_by_onward true i e at s =
-      let m = replaced_onward k no_refs i e (marked e) [] (Throw i operation_cancelled) (writes (cancel_line i) c) xs at (inl refl) (λ z. omega arith) (agree_put c i e (marked e) at refl t.agree) kinds p.numbered in
+      let m = replaced_onward k no_refs i e (marked e) [] (Throw i operation_cancelled) (writes (cancel_line i) c) xs at (inl refl) (λ z. omega arith)
+      (agree_put c i e (marked e) at refl t.agree) kinds p.numbered in
       (m.0, (λ s. let n = m.1 s in omega (arith, n)), m.2)
     where
       kinds : Rattle.flow_heap_refinement.specs.Leaving.RightKinds c.cells e.operands
       kinds = by_frame (thing xs i) refl
         where
           by_frame : (x : Option Frame) → thing xs i ≡ x → Rattle.flow_heap_refinement.specs.Leaving.RightKinds c.cells e.operands
-          by_frame None q = absurd (subst (λ x. Rattle.flow_progress.specs.Fitting.ActorAt r types (Some e) x (tasks_of i c.tasks)) q (subst (λ x. Rattle.flow_progress.specs.Fitting.ActorAt r types x (thing xs i) (tasks_of i c.tasks)) at (p.actors i)))
+          by_frame None q = absurd (subst (λ x. Rattle.flow_progress.specs.Fitting.ActorAt r types (Some e) x (tasks_of i c.tasks)) q
+              (subst (λ x. Rattle.flow_progress.specs.Fitting.ActorAt r types x (thing xs i) (tasks_of i c.tasks)) at (p.actors i)))
           by_frame (Some f) q =
               let a = actor_of r types e f (thing c.entries i) (thing xs i) (tasks_of i c.tasks) at q (p.actors i) in
               let o = subst (λ b. Rattle.flow_progress.specs.Fitting.PostureFits r types b a.class e f (tasks_of i c.tasks)) s a.posture in right_kinds r types c p.cells f 0 e.operands o.2
@@ -77,7 +79,8 @@ module _ (k : ℕ) (r : RawTree) (types : CellTypes) (c : Core) (xs : Numbered F
       let d = record c { cells = removed c.cells j } in
       onward_on k no_refs (λ s. count s k (refs_in (held cell))) no_refs c xs d xs (dropping_values (held cell) d) xs (gone_onward k j cell c xs at other) (drop_onward k (held cell) d xs)
 
-  broken_onward : (j : ℕ) (cell : Cell) (m : ℕ) → thing c.cells j ≡ Some cell → is_complete cell ≡ false → Kept (fill_cell j (BadOutcome broken_promise) (Some cell) (writes (broken_line j) (record c { left = m })))
+  broken_onward : (j : ℕ) (cell : Cell) (m : ℕ) → thing c.cells j ≡ Some cell → is_complete cell ≡ false
+      → Kept (fill_cell j (BadOutcome broken_promise) (Some cell) (writes (broken_line j) (record c { left = m })))
   broken_onward j cell m at done =
       let d = record c { cells = put c.cells j (filled cell (BadOutcome broken_promise)) } in
       let a = filling_onward k j cell (BadOutcome broken_promise) c xs at (is_open cell done) in
@@ -98,7 +101,8 @@ module _ (k : ℕ) (r : RawTree) (types : CellTypes) (c : Core) (xs : Numbered F
       let a = gone_onward k j cell d xs at other in
       let b = drop_onward k (held cell) e xs in (
         (λ z. a.0 z),
-        (λ s. let x = a.1 s in let y = b.1 s in let z = of_port_gone (proc c xs) s k port j there in let w = Rattle.flow_heap_refinement.proofs.Keeping.no_one s j k PromiseSide other in omega (arith, x, y, z, w)),
+        (λ s. let x = a.1 s in let y = b.1 s in let z = of_port_gone (proc c xs) s k port j there in let w = Rattle.flow_heap_refinement.proofs.Keeping.no_one s j k PromiseSide other in omega
+            (arith, x, y, z, w)),
         (λ w. w),
       )
 
@@ -229,7 +233,8 @@ module _ (k : ℕ) (r : RawTree) (types : CellTypes) (c : Core) (xs : Numbered F
     promises_here n b false q = break_here n b q
 
     -- a promise that is lost takes no future
-    pub own_lost : (s : Side) (m n : ℕ) → refs k PromiseSide c xs ≡ m → refs k FutureSide c xs ≡ n → (s ≡ PromiseSide → Wants k c → 0 < refs k FutureSide c xs) → Here (suffer k (loss s m n cell (owner k c.entries) (port_of k c.ports)) c)
+    pub own_lost : (s : Side) (m n : ℕ) → refs k PromiseSide c xs ≡ m → refs k FutureSide c xs ≡ n → (s ≡ PromiseSide → Wants k c → 0 < refs k FutureSide c xs)
+        → Here (suffer k (loss s m n cell (owner k c.entries) (port_of k c.ports)) c)
     own_lost PromiseSide zero zero a b h = free_here a
     own_lost FutureSide zero zero a b h = free_here a
     own_lost PromiseSide zero (suc n) a b h = promises_here n b (is_complete cell) refl

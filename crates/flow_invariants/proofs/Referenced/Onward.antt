@@ -42,7 +42,8 @@ module _ (k : ℕ) where
   abbrev pub Onward : (a b : Side → ℕ) (c : Core) (xs : Numbered Frame) (d : Core) (ys : Numbered Frame) → Type 0
   Onward a b c xs d ys = (IsThere (thing d.cells k) → IsThere (thing c.cells k)) × ((s : Side) → refs s c xs + a s ≤ refs s d ys + b s) × (Wants d → Wants c)
 
-  pub onward_on : (a b g : Side → ℕ) (c : Core) (xs : Numbered Frame) (d : Core) (ys : Numbered Frame) (e : Core) (zs : Numbered Frame) → Onward a b c xs d ys → Onward b g d ys e zs → Onward a g c xs e zs
+  pub onward_on : (a b g : Side → ℕ) (c : Core) (xs : Numbered Frame) (d : Core) (ys : Numbered Frame) (e : Core) (zs : Numbered Frame) → Onward a b c xs d ys → Onward b g d ys e zs
+      → Onward a g c xs e zs
   onward_on a b g c xs d ys e zs f h = (
     λ t. f.0 (h.0 t),
     λ s. let m = f.1 s in let n = h.1 s in omega (arith, m, n),
@@ -74,7 +75,8 @@ module _ (k : ℕ) where
     λ w. w,
   )
 
-  pub frame_onward : (a b : Side → ℕ) (i : ℕ) (f g : Frame) (c : Core) (xs : Numbered Frame) → thing xs i ≡ Some f → ((s : Side) → frame_holds s k f + a s ≤ frame_holds s k g + b s) → Onward a b c xs c (put xs i g)
+  pub frame_onward : (a b : Side → ℕ) (i : ℕ) (f g : Frame) (c : Core) (xs : Numbered Frame) → thing xs i ≡ Some f → ((s : Side) → frame_holds s k f + a s ≤ frame_holds s k g + b s)
+      → Onward a b c xs c (put xs i g)
   frame_onward a b i f g c xs at h = (
     λ t. t,
     λ s. let m = of_frame (proc c xs) s k i f g at in let n = h s in omega (arith, m, n),
@@ -82,7 +84,8 @@ module _ (k : ℕ) where
   )
 
   -- an entry is replaced by one that is marked or wants the same
-  entry_wants : (i : ℕ) (e0 e : Entry) (c d : Core) → d.entries ≡ put c.entries i e → thing c.entries i ≡ Some e0 → (e.marked ≡ true) ⊎ ((e.marked ≡ e0.marked) × (e.result ≡ e0.result)) → Wants d → Wants c
+  entry_wants : (i : ℕ) (e0 e : Entry) (c d : Core) → d.entries ≡ put c.entries i e → thing c.entries i ≡ Some e0 → (e.marked ≡ true) ⊎ ((e.marked ≡ e0.marked) × (e.result ≡ e0.result)) → Wants d
+      → Wants c
   entry_wants i e0 e c d same at how w = by_test (nat_eq i w.0) refl
     where
       here : thing (put c.entries i e) w.0 ≡ Some w.1
@@ -119,7 +122,8 @@ module _ (k : ℕ) where
       by_cell None z = z
       by_cell (Some cell) z = tt
 
-  pub leave_onward : (i : ℕ) (e : Entry) (vs : List ValueTree) (t : Task) (c : Core) (xs : Numbered Frame) → thing c.entries i ≡ Some e → Agree c → RightKinds c.cells e.operands → Rising 0 c.made c.cells
+  pub leave_onward : (i : ℕ) (e : Entry) (vs : List ValueTree) (t : Task) (c : Core) (xs : Numbered Frame) → thing c.entries i ≡ Some e → Agree c → RightKinds c.cells e.operands
+      → Rising 0 c.made c.cells
       → Onward (λ s. count s k (refs_in vs) + in_task s k t) no_refs c xs (leave_for i e vs t c) xs
   leave_onward i e vs t c xs at agree kinds up =
       let d = dropping_values vs (pushed t c) in (
@@ -132,7 +136,8 @@ module _ (k : ℕ) where
       )
 
   -- an entry that is replaced, and leaves
-  pub replaced_onward : (g : Side → ℕ) (i : ℕ) (e0 e : Entry) (vs : List ValueTree) (t : Task) (c : Core) (xs : Numbered Frame) → thing c.entries i ≡ Some e0 → (e.marked ≡ true) ⊎ ((e.marked ≡ e0.marked) × (e.result ≡ e0.result))
+  pub replaced_onward : (g : Side → ℕ) (i : ℕ) (e0 e : Entry) (vs : List ValueTree) (t : Task) (c : Core) (xs : Numbered Frame) → thing c.entries i ≡ Some e0
+      → (e.marked ≡ true) ⊎ ((e.marked ≡ e0.marked) × (e.result ≡ e0.result))
       → ((s : Side) → entry_holds s k e0 + g s ≤ entry_holds s k e) → Agree (record c { entries = put c.entries i e }) → RightKinds c.cells e.operands → Rising 0 c.made c.cells
       → Onward (λ s. g s + (count s k (refs_in vs) + in_task s k t)) no_refs c xs (leave_for i e vs t c) xs
   replaced_onward g i e0 e vs t c xs at how h agree kinds up =
@@ -179,7 +184,8 @@ module _ (k : ℕ) where
   IsOpen (Single (Some o) ws) = ⊥
   IsOpen (Stream q e w) = Unit {0}
 
-  pub filling_onward : (j : ℕ) (cell : Cell) (o : OutcomeTree) (c : Core) (xs : Numbered Frame) → thing c.cells j ≡ Some cell → IsOpen cell → Onward (λ s. count s k (refs_in (value_in o))) no_refs c xs (record c { cells = put c.cells j (filled cell o) }) xs
+  pub filling_onward : (j : ℕ) (cell : Cell) (o : OutcomeTree) (c : Core) (xs : Numbered Frame) → thing c.cells j ≡ Some cell → IsOpen cell
+      → Onward (λ s. count s k (refs_in (value_in o))) no_refs c xs (record c { cells = put c.cells j (filled cell o) }) xs
   filling_onward j cell o c xs at free = cell_onward (λ s. count s k (refs_in (value_in o))) no_refs j cell (filled cell o) c xs at (λ s. by_cell s cell o free)
     where
       by_cell : (s : Side) (cell : Cell) (o : OutcomeTree) → IsOpen cell → cell_holds s k j cell + count s k (refs_in (value_in o)) ≤ cell_holds s k j (filled cell o) + 0
@@ -190,7 +196,8 @@ module _ (k : ℕ) where
       by_cell s (Stream q e w) (BadOutcome n) free = omega arith
 
   -- a cell is removed, which is another
-  pub gone_onward : (j : ℕ) (cell : Cell) (c : Core) (xs : Numbered Frame) → thing c.cells j ≡ Some cell → (j ≡ k → ⊥) → Onward no_refs (λ s. count s k (refs_in (held cell))) c xs (record c { cells = removed c.cells j }) xs
+  pub gone_onward : (j : ℕ) (cell : Cell) (c : Core) (xs : Numbered Frame) → thing c.cells j ≡ Some cell → (j ≡ k → ⊥)
+      → Onward no_refs (λ s. count s k (refs_in (held cell))) c xs (record c { cells = removed c.cells j }) xs
   gone_onward j cell c xs at other = (
     λ h. subst IsThere (thing_removed_other c.cells j k other) h,
     λ s.

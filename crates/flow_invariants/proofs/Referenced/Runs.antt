@@ -54,7 +54,8 @@ module _ (k : ℕ) (r : RawTree) (types : CellTypes) (c : Core) (xs : Numbered F
       by_frame None f = absurd f
       by_frame (Some f) a = right_kinds r types c p.cells f 0 e.operands (subst (λ b. PostureFits r types b a.class e f (tasks_of i c.tasks)) s a.posture).2
 
-module _ (k : ℕ) (r : RawTree) (s : Supply) (types : CellTypes) (c : Core) (xs : Numbered Frame) (o : Orderly c) (p : ProcessFits r types c xs) (t : CellsTied c) (ts : List Task) (h : Refers k c xs) (i : ℕ) (top : c.tasks ≡ Run i ∷ ts) where
+module _ (k : ℕ) (r : RawTree) (s : Supply) (types : CellTypes) (c : Core) (xs : Numbered Frame) (o : Orderly c) (p : ProcessFits r types c xs) (t : CellsTied c) (ts : List Task) (h : Refers k c xs)
+    (i : ℕ) (top : c.tasks ≡ Run i ∷ ts) where
   abbrev After : steps.Stepped Frame → Type 0
   After z = Unless (λ d. Refers k d z.0.actors) z.0.core
 
@@ -114,7 +115,8 @@ module _ (k : ℕ) (r : RawTree) (s : Supply) (types : CellTypes) (c : Core) (xs
     act_on RunsOut f = tt
     act_on Stuck f = tt
 
-  next_on : (a : Actor r types i (Run i) ts c xs) (q : Option Ask × Frame) → ((z : Side) → holds z k a.frame.mem ≤ holds z k q.1.mem + all z k (handed_by z k q.0)) → After (run_next (classes r) s i ts q (proc c xs))
+  next_on : (a : Actor r types i (Run i) ts c xs) (q : Option Ask × Frame) → ((z : Side) → holds z k a.frame.mem ≤ holds z k q.1.mem + all z k (handed_by z k q.0))
+      → After (run_next (classes r) s i ts q (proc c xs))
   next_on a (None, g) f = unless c.halted (refers_on k c xs c (put xs i g) (frame_onward k no_refs no_refs i a.frame g c xs a.stands (λ z. let m = f z in omega (arith, m))) h)
   next_on a (Some ask, g) f = act_on a ask.left g ask.act f
 

@@ -34,7 +34,8 @@ module _ (k : ℕ) (r : RawTree) (actors : List RoutineTree) (rules : ClassRules
   MaybeRefers None = Unit {0}
   MaybeRefers (Some q) = Unless (λ d. Refers k d q.0.actors) q.0.core
 
-  module _ (types : CellTypes) (c : Core) (xs : Numbered Frame) (o : Orderly c) (p : ProcessFits r types c xs) (t : CellsTied c) (results : ResultsAlone c xs) (unset : ResultsUnset c) (h : Refers k c xs) where
+  module _ (types : CellTypes) (c : Core) (xs : Numbered Frame) (o : Orderly c) (p : ProcessFits r types c xs) (t : CellsTied c) (results : ResultsAlone c xs) (unset : ResultsUnset c)
+      (h : Refers k c xs) where
     by_tasks : (ts : List Task) → c.tasks ≡ ts → MaybeRefers (step_tasks (classes r) s ts (proc c xs))
     by_tasks [] e = tt
     by_tasks (Run i ∷ ts) e = run_refers k r s types c xs o p t ts h i e
@@ -51,6 +52,7 @@ module _ (k : ℕ) (r : RawTree) (actors : List RoutineTree) (rules : ClassRules
     by_halt (Some x) = tt
     by_halt None = by_tasks c.tasks refl
 
-  pub step_refers : (types : CellTypes) (p : Proc Frame) (q : Stepped Frame) → Orderly p.core → ProcessFits r types p.core p.actors → CellsTied p.core → ResultsAlone p.core p.actors → ResultsUnset p.core → Refers k p.core p.actors → step (classes r) s p ≡ Some q
+  pub step_refers : (types : CellTypes) (p : Proc Frame) (q : Stepped Frame) → Orderly p.core → ProcessFits r types p.core p.actors → CellsTied p.core → ResultsAlone p.core p.actors
+      → ResultsUnset p.core → Refers k p.core p.actors → step (classes r) s p ≡ Some q
       → Unless (λ d. Refers k d q.0.actors) q.0.core
   step_refers types p q o f t results unset h e = subst MaybeRefers e (by_halt types p.core p.actors o f t results unset h p.core.halted)

@@ -27,7 +27,8 @@ use Rattle.flow_invariants.proofs.Referenced.Onward.{Refers, refers_on}
 use Rattle.flow_invariants.proofs.Referenced.Hands.{store_takes, take_takes, raise_takes}
 use Rattle.flow_invariants.proofs.Referenced.Tasks.{right_kinds, Kept, now, swapped, handed_on, stored_on, leaves_on}
 
-module _ (k : ℕ) (r : RawTree) (actors : List RoutineTree) (rules : ClassRules r actors) (types : CellTypes) (c : Core) (xs : Numbered Frame) (o : Orderly c) (p : ProcessFits r types c xs) (t : CellsTied c) (ts : List Task) (h : Refers k c xs) where
+module _ (k : ℕ) (r : RawTree) (actors : List RoutineTree) (rules : ClassRules r actors) (types : CellTypes) (c : Core) (xs : Numbered Frame) (o : Orderly c) (p : ProcessFits r types c xs)
+    (t : CellsTied c) (ts : List Task) (h : Refers k c xs) where
   abbrev After : steps.Stepped Frame → Type 0
   After q = Unless (λ d. Refers k d q.0.actors) q.0.core
 
@@ -57,7 +58,8 @@ module _ (k : ℕ) (r : RawTree) (actors : List RoutineTree) (rules : ClassRules
           subst (λ x. After (steps.give (classes r) i b (GoodOutcome u) x (proc (now k c xs ts) xs))) (sym a.stands)
           (after_kept (dropping_values z.0 (pushed (Run i) (now k c xs ts))) (put xs i z.1)
           (handed_on k c xs ts (Give i b (GoodOutcome u)) i f z.1 z.0 (Run i) top a.stands
-          (λ s. take_takes r (typed_by types) (class_vars f.code) f w.places d.waiting.holds s k b u d.waiting.group d.callback d.waiting.there d.there (λ q e. (d.takes, sym (ap (Rattle.flow_progress.specs.Rules.takes_type f.code) e) ∙ d.into)))))
+          (λ s. take_takes r (typed_by types) (class_vars f.code) f w.places d.waiting.holds s k b u d.waiting.group d.callback d.waiting.there d.there
+          (λ q e. (d.takes, sym (ap (Rattle.flow_progress.specs.Rules.takes_type f.code) e) ∙ d.into)))))
 
   -- the result of an effect
   pub store_refers : (i : ℕ) (v : ValueTree) → c.tasks ≡ Store i v ∷ ts → After (steps.store (classes r) i v (thing xs i) (proc (now k c xs ts) xs))
@@ -71,7 +73,8 @@ module _ (k : ℕ) (r : RawTree) (actors : List RoutineTree) (rules : ClassRules
       (after_kept (dropping_values z.0 (now k c xs ts)) (put xs i z.1)
       (stored_on k c xs ts (Store i v) i f z.1 z.0 top a.stands
       (λ s. let m = store_takes r (typed_by types) (class_vars f.code) f w.places a.doing.1.holds s k v d.0 (fetch f.code f.block f.instr) d.1
-      (λ path e here none. has_place r actors (class_vars f.code) (typed_by types) f w v d.0 path e a.doing.1 here (subst (λ z. Rattle.flow_progress.specs.Asking.Stores r f.code (class_vars f.code) z d.0) here d.1) d.2 none) in
+      (λ path e here none. has_place r actors (class_vars f.code) (typed_by types) f w v d.0 path e a.doing.1 here
+      (subst (λ z. Rattle.flow_progress.specs.Asking.Stores r f.code (class_vars f.code) z d.0) here d.1) d.2 none) in
       let n = Rattle.flow_heap_refinement.proofs.Sums.count_joined s k (Rattle.flow_value.specs.Values.refs_of v) [] in omega (arith, m, n))))
 
   -- an error that is thrown

@@ -80,7 +80,8 @@ module _ (k : ℕ) (c : Core) (xs : Numbered Frame) (ts : List Task) where
 
   -- a value is handed to an actor, what it replaces is dropped, and a task follows that holds nothing
   pub handed_on : (u : Task) (i : ℕ) (f g : Frame) (vs : List ValueTree) (v : Task) → c.tasks ≡ u ∷ ts → thing xs i ≡ Some f
-      → ((s : Side) → Rattle.flow_meaning.specs.Frame.occ_memory s k f.mem + in_task s k u ≤ Rattle.flow_meaning.specs.Frame.occ_memory s k g.mem + count s k (refs_in vs)) → Kept (dropping_values vs (pushed v now)) (put xs i g)
+      → ((s : Side) → Rattle.flow_meaning.specs.Frame.occ_memory s k f.mem + in_task s k u ≤ Rattle.flow_meaning.specs.Frame.occ_memory s k g.mem + count s k (refs_in vs))
+      → Kept (dropping_values vs (pushed v now)) (put xs i g)
   handed_on u i f g vs v top at h =
       let ys = put xs i g in
       let a : Side → ℕ = λ s. in_task s k u in
@@ -90,7 +91,8 @@ module _ (k : ℕ) (c : Core) (xs : Numbered Frame) (ts : List Task) where
       onward_on k no_refs b no_refs c xs now ys (dropping_values vs (pushed v now)) ys first (last.0, λ s. let m = last.1 s in omega (arith, m), last.2)
 
   pub stored_on : (u : Task) (i : ℕ) (f g : Frame) (vs : List ValueTree) → c.tasks ≡ u ∷ ts → thing xs i ≡ Some f
-      → ((s : Side) → Rattle.flow_meaning.specs.Frame.occ_memory s k f.mem + in_task s k u ≤ Rattle.flow_meaning.specs.Frame.occ_memory s k g.mem + count s k (refs_in vs)) → Kept (dropping_values vs now) (put xs i g)
+      → ((s : Side) → Rattle.flow_meaning.specs.Frame.occ_memory s k f.mem + in_task s k u ≤ Rattle.flow_meaning.specs.Frame.occ_memory s k g.mem + count s k (refs_in vs))
+      → Kept (dropping_values vs now) (put xs i g)
   stored_on u i f g vs top at h =
       let ys = put xs i g in
       let a : Side → ℕ = λ s. in_task s k u in
@@ -101,7 +103,8 @@ module _ (k : ℕ) (c : Core) (xs : Numbered Frame) (ts : List Task) where
   -- an actor's frame gives values, and it leaves its wait with them
   pub leaves_on : (u : Task) (i : ℕ) (f g : Frame) (e : Entry) (vs : List ValueTree) (v : Task) (d : Core) → c.tasks ≡ u ∷ ts → thing xs i ≡ Some f
       → ((s : Side) → Rattle.flow_meaning.specs.Frame.occ_memory s k f.mem + in_task s k u ≤ Rattle.flow_meaning.specs.Frame.occ_memory s k g.mem + (count s k (refs_in vs) + in_task s k v))
-      → ((b : Side → ℕ) → Onward k b b now (put xs i g) d (put xs i g)) → thing d.entries i ≡ Some e → Agree d → RightKinds d.cells e.operands → Rattle.flow_meaning.specs.Orderly.Rising 0 d.made d.cells → Kept (leave_for i e vs v d) (put xs i g)
+      → ((b : Side → ℕ) → Onward k b b now (put xs i g) d (put xs i g)) → thing d.entries i ≡ Some e → Agree d → RightKinds d.cells e.operands
+      → Rattle.flow_meaning.specs.Orderly.Rising 0 d.made d.cells → Kept (leave_for i e vs v d) (put xs i g)
   leaves_on u i f g e vs v d top at h same entry agree kinds up =
       let ys = put xs i g in
       let a : Side → ℕ = λ s. in_task s k u in

@@ -65,7 +65,8 @@ module _ (k : ℕ) (ys : Numbered Frame) (i : ℕ) where
   registered d b [] h = ((λ z. z), (λ s. omega arith), (λ w. w))
   registered d b (q ∷ qs) h = by_cell (thing d.cells q.1) refl (λ c z. registered c (suc b) qs z)
     where
-      more : (cell : Cell) → thing d.cells q.1 ≡ Some cell → is_busy cell ≡ false → (x : Registration) → Reg (record d { cells = put d.cells q.1 (with_waiter cell (record { actor = i; branch = b })) }) qs x → Reg d (q ∷ qs) x
+      more : (cell : Cell) → thing d.cells q.1 ≡ Some cell → is_busy cell ≡ false → (x : Registration)
+          → Reg (record d { cells = put d.cells q.1 (with_waiter cell (record { actor = i; branch = b })) }) qs x → Reg d (q ∷ qs) x
       more cell at free (Registered cells) g =
           let e = record d { cells = put d.cells q.1 (with_waiter cell (record { actor = i; branch = b })) } in
           let there = (cell_onward k no_refs (λ s. cell_holds s k q.1 cell) q.1 cell (with_waiter cell (record { actor = i; branch = b })) d ys at (λ s. omega arith)).0 in (
@@ -79,24 +80,29 @@ module _ (k : ℕ) (ys : Numbered Frame) (i : ℕ) where
       more cell at free Refused g = tt
       more cell at free Missing g = tt
 
-      by_busy : (cell : Cell) → thing d.cells q.1 ≡ Some cell → (t : Bool) → is_busy cell ≡ t → ((c : Core) → RightKinds c.cells qs → Reg c qs (register i (suc b) qs (Registered c.cells))) → Reg d (q ∷ qs) (register i (suc b) qs (Rattle.std.specs.Prelude.if◌then◌else◌ t Refused (Registered (put d.cells q.1 (with_waiter cell (record { actor = i; branch = b }))))))
+      by_busy : (cell : Cell) → thing d.cells q.1 ≡ Some cell → (t : Bool) → is_busy cell ≡ t → ((c : Core) → RightKinds c.cells qs → Reg c qs (register i (suc b) qs (Registered c.cells)))
+          → Reg d (q ∷ qs) (register i (suc b) qs (Rattle.std.specs.Prelude.if◌then◌else◌ t Refused (Registered (put d.cells q.1 (with_waiter cell (record { actor = i; branch = b }))))))
       by_busy cell at true e later = refused d (q ∷ qs) (suc b) qs
       by_busy cell at false e later =
           let c = record d { cells = put d.cells q.1 (with_waiter cell (record { actor = i; branch = b })) } in
           more cell at e (register i (suc b) qs (Registered c.cells)) (later c (waited_kinds d.cells q.1 cell (record { actor = i; branch = b }) at qs h.1))
 
-      by_cell : (x : Option Cell) → thing d.cells q.1 ≡ x → ((c : Core) → RightKinds c.cells qs → Reg c qs (register i (suc b) qs (Registered c.cells))) → Reg d (q ∷ qs) (register i (suc b) qs (register_at (record { actor = i; branch = b }) q.1 d.cells x))
+      by_cell : (x : Option Cell) → thing d.cells q.1 ≡ x → ((c : Core) → RightKinds c.cells qs → Reg c qs (register i (suc b) qs (Registered c.cells)))
+          → Reg d (q ∷ qs) (register i (suc b) qs (register_at (record { actor = i; branch = b }) q.1 d.cells x))
       by_cell None e later = missing d (q ∷ qs) (suc b) qs
       by_cell (Some cell) e later = by_busy cell e (is_busy cell) refl later
 
   -- an actor is cancelled
-  cancel_by_on : (c : Core) → Agree c → Rising 0 c.made c.cells → (b : Bool) (j : ℕ) (e : Entry) → thing c.entries j ≡ Some e → (b ≡ true → RightKinds c.cells e.operands) → Onward k no_refs no_refs c ys (cancel_by b j e (writes (cancel_line j) c)) ys
+  cancel_by_on : (c : Core) → Agree c → Rising 0 c.made c.cells → (b : Bool) (j : ℕ) (e : Entry) → thing c.entries j ≡ Some e → (b ≡ true → RightKinds c.cells e.operands)
+      → Onward k no_refs no_refs c ys (cancel_by b j e (writes (cancel_line j) c)) ys
   cancel_by_on c agree up false j e at kinds = entry_onward k no_refs no_refs j e (marked e) (writes (cancel_line j) c) ys at (inl refl) (λ z. omega arith)
   cancel_by_on c agree up true j e at kinds =
-      let m = replaced_onward k no_refs j e (marked e) [] (Throw j operation_cancelled) (writes (cancel_line j) c) ys at (inl refl) (λ z. omega arith) (agree_put c j e (marked e) at refl agree) (kinds refl) up in
+      let m = replaced_onward k no_refs j e (marked e) [] (Throw j operation_cancelled) (writes (cancel_line j) c) ys at (inl refl) (λ z. omega arith) (agree_put c j e (marked e) at refl agree)
+      (kinds refl) up in
       (m.0, (λ s. let n = m.1 s in omega (arith, n)), m.2)
 
-  pub cancel_refers : (c : Core) → Refers k c ys → Agree c → Rising 0 c.made c.cells → Rising 0 c.started c.entries → ((j : ℕ) (e : Entry) → thing c.entries j ≡ Some e → e.suspended ≡ true → RightKinds c.cells e.operands) → (n : ℕ)
+  pub cancel_refers : (c : Core) → Refers k c ys → Agree c → Rising 0 c.made c.cells → Rising 0 c.started c.entries
+      → ((j : ℕ) (e : Entry) → thing c.entries j ≡ Some e → e.suspended ≡ true → RightKinds c.cells e.operands) → (n : ℕ)
       → Unless (λ d. Refers k d ys) (cancel_owner (owner n c.entries) c)
   cancel_refers c h agree up rising kinds n = by_owner (owner n c.entries) refl
     where
@@ -132,16 +138,23 @@ module _ (k : ℕ) (ys : Numbered Frame) (i : ℕ) where
 
       takes : (m : ℕ) (j : ℕ) (x : Option Cell) → thing c.cells j ≡ x → Fine (take_branch i m j there vs x c)
       takes m j None found = tt
-      takes m j (Some cell) found = after_turn (λ d. Refers k d ys) (λ d. give i m there vs (taken cell) (record (writes (take_line i there.spot.group m) d) { cells = put d.cells j (after_taking cell) })) c c.left (λ n. by_taken n (taken cell) refl)
+      takes m j (Some cell) found = after_turn (λ d. Refers k d ys)
+          (λ d. give i m there vs (taken cell) (record (writes (take_line i there.spot.group m) d) { cells = put d.cells j (after_taking cell) })) c c.left (λ n. by_taken n (taken cell) refl)
         where
-          by_taken : (n : ℕ) (o : Option OutcomeTree) → taken cell ≡ o → Fine (give i m there vs o (record (writes (take_line i there.spot.group m) (record c { left = n })) { cells = put c.cells j (after_taking cell) }))
+          by_taken : (n : ℕ) (o : Option OutcomeTree) → taken cell ≡ o
+              → Fine (give i m there vs o (record (writes (take_line i there.spot.group m) (record c { left = n })) { cells = put c.cells j (after_taking cell) }))
           by_taken n None got = tt
           by_taken n (Some o) got =
               let d = record (writes (take_line i there.spot.group m) (record c { left = n })) { cells = put c.cells j (after_taking cell) } in
               let x = taking_onward k j cell o c ys found got in
               let l = replaced_onward k no_refs i e there vs (Give i m o) d ys at (inr (refl, refl)) (λ s. omega arith)
-              (taken_agrees (record c { entries = put c.entries i there }) j cell found agree_there) (taken_kinds c j cell found e.operands kinds) (rising_put c.cells 0 c.made j (after_taking cell) up) in
-              finish (leave_for i there vs (Give i m o) d) ((λ w. x.0 (l.0 w)), (λ s. let y = x.1 s in let z = l.1 s in let w : in_task s k (Give i m o) ≡ in_task s k (Give 0 0 o) = refl in omega (arith, y, z, w)), (λ w. x.2 (l.2 w)))
+              (taken_agrees (record c { entries = put c.entries i there }) j cell found agree_there) (taken_kinds c j cell found e.operands kinds)
+              (rising_put c.cells 0 c.made j (after_taking cell) up) in
+              finish (leave_for i there vs (Give i m o) d) (
+                (λ w. x.0 (l.0 w)),
+                (λ s. let y = x.1 s in let z = l.1 s in let w : in_task s k (Give i m o) ≡ in_task s k (Give 0 0 o) = refl in omega (arith, y, z, w)),
+                (λ w. x.2 (l.2 w)),
+              )
 
       abbrev asleep : Core
       asleep = record (writes (wait_line i spot.group) c) { entries = put c.entries i (record there { suspended = true }) }
@@ -152,7 +165,8 @@ module _ (k : ℕ) (ys : Numbered Frame) (i : ℕ) where
           let m = replaced_onward k no_refs i e there vs (Throw i second_waiter) c ys at (inr (refl, refl)) (λ s. omega arith) agree_there kinds up in
           finish (leave_for i there vs (Throw i second_waiter) c) (m.0, (λ s. let n = m.1 s in omega (arith, n)), m.2)
       suspends (Registered cells) f =
-          let kept : (s : Side) → entry_holds s k e + 0 ≤ entry_holds s k (record there { suspended = true }) + count s k e.operands = (λ s. let a = ap (λ t. count_kept s k t e.operands) awake in omega (arith, a)) in
+          let kept : (s : Side) → entry_holds s k e + 0 ≤ entry_holds s k (record there { suspended = true }) + count s k e.operands =
+          (λ s. let a = ap (λ t. count_kept s k t e.operands) awake in omega (arith, a)) in
           let x = entry_onward k no_refs (λ s. count s k e.operands) i e (record there { suspended = true }) (writes (wait_line i spot.group) c) ys at (inr (refl, refl)) kept in
           let d = record asleep { cells = cells } in
           let y = drop_onward k vs d ys in

@@ -120,7 +120,8 @@ module _ (j : ℕ) where
   print_steady i (Some l) c none h = unless c.halted (run_steady i (writes l c) none h)
 
   -- waits: the actor isn't marked
-  suspend_steady : (i : ℕ) (spot : Spot) (e : Entry) (vs : List ValueTree) (r : Registration) (c : Core) → (i ≡ j → e.marked ≡ false) → tasks_of i c.tasks ≡ [] → ((i ≡ j → ⊥) → S j c) → Unless (S j) (suspend i spot e vs r c)
+  suspend_steady : (i : ℕ) (spot : Spot) (e : Entry) (vs : List ValueTree) (r : Registration) (c : Core) → (i ≡ j → e.marked ≡ false) → tasks_of i c.tasks ≡ [] → ((i ≡ j → ⊥) → S j c)
+      → Unless (S j) (suspend i spot e vs r c)
   suspend_steady i spot e vs Missing c clear none h = tt
   suspend_steady i spot e vs Refused c clear none h = unless c.halted (leave_steady j i e vs (Throw i second_waiter) c (throw_of i second_waiter) h)
   suspend_steady i spot e vs (Registered cells) c clear none h = unless c.halted (dropping_steady j vs asleep waits)
@@ -147,7 +148,8 @@ module _ (j : ℕ) where
           (λ q. subst (λ n. Steady (thing (put c.entries i waiter) n) (tasks_of n c.tasks)) q (put_steady c.entries i waiter (tasks_of i c.tasks) (no_mark q, idle (tasks_of i c.tasks) none)))
           (λ o. kept j c asleep (thing_put_other c.entries i j waiter o) refl (h o))
 
-  wait_steady : (i : ℕ) (spot : Spot) (vs : List ValueTree) (c : Core) → (i ≡ j → Unmarked (thing c.entries i)) → tasks_of i c.tasks ≡ [] → ((i ≡ j → ⊥) → S j c) → Unless (S j) (wait i spot (thing c.entries i) vs c)
+  wait_steady : (i : ℕ) (spot : Spot) (vs : List ValueTree) (c : Core) → (i ≡ j → Unmarked (thing c.entries i)) → tasks_of i c.tasks ≡ [] → ((i ≡ j → ⊥) → S j c)
+      → Unless (S j) (wait i spot (thing c.entries i) vs c)
   wait_steady i spot vs c clear none h = by_entry (thing c.entries i) clear
     where
       by_ready : (e : Entry) → (i ≡ j → e.marked ≡ false) → (o : Option (ℕ × ℕ)) → Unless (S j) (wait_by i spot (at_spot spot e) vs o c)

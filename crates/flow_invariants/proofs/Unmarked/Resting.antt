@@ -62,13 +62,15 @@ module _ (futures : ℕ → ℕ) where
           by_test true q = let same : i ≡ x.0 = grind (arith, q) in absurd (no_thing (sym (above_none es x.0 n i up.2 (omega (arith, same))) ∙ at))
           by_test false q = at
 
-pub rests : (r : RawTree) (n : ℕ) (events : List (Pending What)) (p : Proc Frame) → AtRest p.core → FitsAmong r n events p → Unset p.core → care.Referred p → ((j : ℕ) → S j p.core) → BoundaryInvariant r p
+pub rests : (r : RawTree) (n : ℕ) (events : List (Pending What)) (p : Proc Frame) → AtRest p.core → FitsAmong r n events p → Unset p.core → care.Referred p → ((j : ℕ) → S j p.core)
+    → BoundaryInvariant r p
 rests r n events p rest f u h steady = record {
   keeps = keeps r n events p f u h (λ j. inl (steady j));
   referred = all_held _ p.core.entries 0 p.core.started rest.orderly.numbered each;
 }
   where
-    each : (i : ℕ) (e : Entry) → thing p.core.entries i ≡ Some e → (e.marked ≡ false) × IsReferred e.result (λ k. Rattle.flow_meaning.specs.References.reference_count (Rattle.flow_meaning.specs.Step.scanned (classes r) p) Rattle.flow_meaning.specs.Cells.FutureSide k p.core)
+    each : (i : ℕ) (e : Entry) → thing p.core.entries i ≡ Some e → (e.marked ≡ false)
+        × IsReferred e.result (λ k. Rattle.flow_meaning.specs.References.reference_count (Rattle.flow_meaning.specs.Step.scanned (classes r) p) Rattle.flow_meaning.specs.Cells.FutureSide k p.core)
     each i e at = (unmarked, by_frame (thing p.actors i) (subst (λ z. ActorAt r f.types z (thing p.actors i) (tasks_of i p.core.tasks)) at (f.fits.actors i)))
       where
         by_mark : (b : Bool) → e.marked ≡ b → e.marked ≡ false
@@ -78,7 +80,9 @@ rests r n events p rest f u h steady = record {
         unmarked : e.marked ≡ false
         unmarked = by_mark e.marked refl
 
-        by_frame : (x : Option Frame) → ActorAt r f.types (Some e) x (tasks_of i p.core.tasks) → IsReferred e.result (λ k. Rattle.flow_meaning.specs.References.reference_count (Rattle.flow_meaning.specs.Step.scanned (classes r) p) Rattle.flow_meaning.specs.Cells.FutureSide k p.core)
+        by_frame : (x : Option Frame) → ActorAt r f.types (Some e) x (tasks_of i p.core.tasks)
+            → IsReferred e.result (λ k. Rattle.flow_meaning.specs.References.reference_count (Rattle.flow_meaning.specs.Step.scanned (classes r) p) Rattle.flow_meaning.specs.Cells.FutureSide k p.core)
         by_frame None a = absurd a
         by_frame (Some g) a =
-            subst (λ o. IsReferred o (λ k. Rattle.flow_meaning.specs.References.reference_count (Rattle.flow_meaning.specs.Step.scanned (classes r) p) Rattle.flow_meaning.specs.Cells.FutureSide k p.core)) (sym a.owns) ((h a.result).1 (i, e, at, unmarked, a.owns))
+            subst (λ o. IsReferred o (λ k. Rattle.flow_meaning.specs.References.reference_count (Rattle.flow_meaning.specs.Step.scanned (classes r) p) Rattle.flow_meaning.specs.Cells.FutureSide k
+            p.core)) (sym a.owns) ((h a.result).1 (i, e, at, unmarked, a.owns))

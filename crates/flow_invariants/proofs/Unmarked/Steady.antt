@@ -82,7 +82,8 @@ module _ (j : ℕ) where
   leave_steady i e vs t c own h =
       let d = leave_for i e vs t c in
       by_number i (S d)
-      (λ q. subst (λ n. Steady (thing (put c.entries i (running e)) n) (tasks_of j d.tasks)) q (put_steady c.entries i (running e) (tasks_of j d.tasks) (runs_steady (running e) (tasks_of j d.tasks) refl refl)))
+      (λ q. subst (λ n. Steady (thing (put c.entries i (running e)) n) (tasks_of j d.tasks)) q
+      (put_steady c.entries i (running e) (tasks_of j d.tasks) (runs_steady (running e) (tasks_of j d.tasks) refl refl)))
       (λ o. kept c d (thing_put_other c.entries i j (running e) o) (left_tasks j e vs (t ∷ c.tasks) ∙ other_task i j t c.tasks own o) (h o))
 
   pub branch_steady : (i b k : ℕ) (e : Entry) (vs : List ValueTree) (x : Option Cell) (c : Core) → ((i ≡ j → ⊥) → S c) → Unless S (take_branch i b k e vs x c)
@@ -152,7 +153,8 @@ module _ (j : ℕ) where
 
   -- the end of an actor
   pub close_steady : (scan : Scan) (i : ℕ) (result : Option ℕ) (o : OutcomeTree) (c : Core) → Rising 0 c.started c.entries → ((i ≡ j → ⊥) → S c) → Unless S (close scan i result o c)
-  close_steady scan i result o c up h = after_turn S (λ d. give_result scan result o (writes (end_line i o) d)) gone c.left (λ n. by_result (writes (end_line i o) (record gone { left = n })) result left)
+  close_steady scan i result o c up h = after_turn S (λ d. give_result scan result o (writes (end_line i o) d)) gone c.left
+      (λ n. by_result (writes (end_line i o) (record gone { left = n })) result left)
     where
       gone : Core
       gone = record c { entries = removed c.entries i }
@@ -175,7 +177,8 @@ module _ (j : ℕ) where
   pub push_steady : (i : ℕ) (t : Task) (c : Core) → IsOf i t → ((ts : List Task) → Steps (t ∷ ts) → i ≡ j → NoOperand (thing c.entries j)) → S c → S (pushed t c)
   push_steady i t c own none h =
       by_number i (S (pushed t c))
-      (λ q. subst (Steady (thing c.entries j)) (sym (subst (λ n. tasks_of n (t ∷ c.tasks) ≡ t ∷ tasks_of n c.tasks) q (own_task i t c.tasks own))) (here (thing c.entries j) (λ s. none (tasks_of j c.tasks) s q) h))
+      (λ q. subst (Steady (thing c.entries j)) (sym (subst (λ n. tasks_of n (t ∷ c.tasks) ≡ t ∷ tasks_of n c.tasks) q (own_task i t c.tasks own)))
+      (here (thing c.entries j) (λ s. none (tasks_of j c.tasks) s q) h))
       (λ o. kept c (pushed t c) refl (other_task i j t c.tasks own o) h)
     where
       here : (x : Option Entry) → (Steps (t ∷ tasks_of j c.tasks) → NoOperand x) → Steady x (tasks_of j c.tasks) → Steady x (t ∷ tasks_of j c.tasks)
@@ -187,7 +190,8 @@ module _ (j : ℕ) where
   two_steady i t c own first h =
       let d = pushed t (pushed (Run i) c) in
       by_number i (S d)
-      (λ q. subst (Steady (thing c.entries j)) (sym (subst (λ n. tasks_of n (t ∷ (Run i ∷ c.tasks)) ≡ t ∷ tasks_of n (Run i ∷ c.tasks)) q (own_task i t (Run i ∷ c.tasks) own))) (here (thing c.entries j) h))
+      (λ q. subst (Steady (thing c.entries j)) (sym (subst (λ n. tasks_of n (t ∷ (Run i ∷ c.tasks)) ≡ t ∷ tasks_of n (Run i ∷ c.tasks)) q (own_task i t (Run i ∷ c.tasks) own)))
+      (here (thing c.entries j) h))
       (λ o. kept c d refl (other_task i j t (Run i ∷ c.tasks) own o ∙ other_task i j (Run i) c.tasks (run_of i) o) h)
     where
       here : (x : Option Entry) → Steady x (tasks_of j c.tasks) → Steady x (t ∷ tasks_of j (Run i ∷ c.tasks))

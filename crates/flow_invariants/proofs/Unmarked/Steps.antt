@@ -86,7 +86,8 @@ module _ (j : ℕ) (r : RawTree) (actors : List RoutineTree) (rules : ClassRules
         by_fine (inr x) = absurd (unlike j (first_same (sym top ∙ x.next)))
 
     -- or its own
-    popped : (i : ℕ) (t : Task) (ts : List Task) (n : ℕ) (a : Actor r types i t ts c xs) → c.tasks ≡ t ∷ ts → IsOf i t → (Steps (tasks_of i ts) → a.entry.operands ≡ []) → S j (record c { tasks = ts; left = n })
+    popped : (i : ℕ) (t : Task) (ts : List Task) (n : ℕ) (a : Actor r types i t ts c xs) → c.tasks ≡ t ∷ ts → IsOf i t → (Steps (tasks_of i ts) → a.entry.operands ≡ [])
+        → S j (record c { tasks = ts; left = n })
     popped i t ts n a top own none =
         by_number j i (S j (record c { tasks = ts; left = n }))
         (λ q. subst (λ m. Steady (thing c.entries m) (tasks_of m ts)) q (subst (λ x. Steady x (tasks_of i ts)) (sym a.at) ((λ m. a.awake), none))) (λ diff. other i t ts n top own diff)
@@ -116,14 +117,16 @@ module _ (j : ℕ) (r : RawTree) (actors : List RoutineTree) (rules : ClassRules
       unkept none q = subst (λ m. NoOperand (thing c.entries m)) q (subst NoOperand (sym a.at) none)
 
       -- a wait has operands
-      waits_some : (g : Frame) (spot : Spot) (vs : List ValueTree) → AsksFit r (class_vars a.frame.code) (typed_by types) a.frame.code (view s i c).kept (Some (record { left = 0; act = Waits spot vs }), g) → a.entry.operands ≡ [] → ⊥
+      waits_some : (g : Frame) (spot : Spot) (vs : List ValueTree)
+          → AsksFit r (class_vars a.frame.code) (typed_by types) a.frame.code (view s i c).kept (Some (record { left = 0; act = Waits spot vs }), g) → a.entry.operands ≡ [] → ⊥
       waits_some g spot vs fit none =
           let kept : (view s i c).kept ≡ 0 = ap kept_by a.at ∙ ap length none in
           let code : g.code ≡ a.class = fit.1 ∙ a.doing.0 in
           let x = fit.0.2 fit.0.0.group fit.0.0.there in
           subst Begins (sym code) (begins a.entry.class a.class a.owner.is) g.block g.instr fit.0.0.group fit.0.0.there (subst (λ n. callback_at g.code fit.0.0.group n ≡ None) kept x)
 
-      asks_of : (left : ℕ) (act : Act) (g : Frame) → AsksFit r (class_vars a.frame.code) (typed_by types) a.frame.code (view s i c).kept (Some (record { left = left; act = act }), g) → ((OfWait act → ⊥) → a.entry.operands ≡ [])
+      asks_of : (left : ℕ) (act : Act) (g : Frame) → AsksFit r (class_vars a.frame.code) (typed_by types) a.frame.code (view s i c).kept (Some (record { left = left; act = act }), g)
+          → ((OfWait act → ⊥) → a.entry.operands ≡ [])
           → Asks j i act (record c { tasks = ts; left = left })
       asks_of left Goes g fit none = unkept (none (λ w. w))
       asks_of left Pass g fit none = unkept (none (λ w. w))
@@ -168,7 +171,8 @@ module _ (j : ℕ) (r : RawTree) (actors : List RoutineTree) (rules : ClassRules
         answer_good (Effects goal eff) asks = effect_good goal eff
         answer_good act asks = steady (react s i act now).0 (react_steady j s i act now o.numbered alone asks steady_now)
 
-      next_good : (q : Option Ask × Frame) → next_step (class_names r) (view s i c) a.frame ≡ q → AsksFit r (class_vars a.frame.code) (typed_by types) a.frame.code (view s i c).kept q → Good (run_next (classes r) s i ts q (proc c xs))
+      next_good : (q : Option Ask × Frame) → next_step (class_names r) (view s i c) a.frame ≡ q → AsksFit r (class_vars a.frame.code) (typed_by types) a.frame.code (view s i c).kept q
+          → Good (run_next (classes r) s i ts q (proc c xs))
       next_good (None, g) e fit = unless c.halted h
       next_good (Some ask, g) e fit =
           let none = (λ (n : OfWait ask.act → ⊥). none_kept r types (class_names r) (view s i c) a.frame a.entry.operands a.doing.2 (λ w. n (subst (AsksOfWaitAt a.frame) e w).0)) in
@@ -179,7 +183,8 @@ module _ (j : ℕ) (r : RawTree) (actors : List RoutineTree) (rules : ClassRules
         let a = actor_here r types i (Run i) ts c xs o top (run_of i) p in
         let f = a.frame in
         let v = view s i c in
-        let fit = next_fits r actors (class_vars f.code) (typed_by types) v f (frame_rules r actors rules s types a.entry a.class f a.owner a.doing.0) rules.functions (cells_seen r types s i c xs p) a.doing.1 in
+        let fit = next_fits r actors (class_vars f.code) (typed_by types) v f (frame_rules r actors rules s types a.entry a.class f a.owner a.doing.0) rules.functions
+        (cells_seen r types s i c xs p) a.doing.1 in
         subst (λ x. Good (run (classes r) s i ts x (proc c xs))) (sym a.stands) (next_good i ts top a (next_step (class_names r) v f) refl fit)
 
     module _ (ts : List Task) where
@@ -210,14 +215,16 @@ module _ (j : ℕ) (r : RawTree) (actors : List RoutineTree) (rules : ClassRules
           by_entry : (z : Raised) (x : Option Entry) → Unless (Fine j) (throw_core i err z x after)
           by_entry z None = tt
           by_entry z (Some e) =
-              unless c.halted (inl (leave_steady j i e z.values (fate i err z.caught) (writes (throw_line i err) after) (fate_of i err z.caught) (λ diff. other i (Throw i err) ts c.left top (throw_of i err) diff)))
+              unless c.halted (inl (leave_steady j i e z.values (fate i err z.caught) (writes (throw_line i err) after) (fate_of i err z.caught)
+              (λ diff. other i (Throw i err) ts c.left top (throw_of i err) diff)))
 
       catch_good : (i err : ℕ) → c.tasks ≡ Catch i err ∷ ts → Unless (Fine j) (handle i err after)
       catch_good i err top =
           let a = actor_here r types i (Catch i err) ts c xs o top (catch_of i err) p in
           let none : a.entry.operands ≡ [] = a.doing.2 in
           unless c.halted
-          (inl (run_steady j i (writes (catch_line i err) after) (λ q. subst (λ m. NoOperand (thing c.entries m)) q (subst NoOperand (sym a.at) none)) (popped i (Catch i err) ts c.left a top (catch_of i err) (λ w. none))))
+          (inl (run_steady j i (writes (catch_line i err) after) (λ q. subst (λ m. NoOperand (thing c.entries m)) q (subst NoOperand (sym a.at) none))
+          (popped i (Catch i err) ts c.left a top (catch_of i err) (λ w. none))))
 
       keep_good : (i : ℕ) (spot : Spot) (q : Ref) (x : Option Frame) → c.tasks ≡ Keep i spot q ∷ ts → Good (keep (classes r) i spot q x (thing c.entries i) (proc after xs))
       keep_good i spot q x top = by_entry x (thing c.entries i) refl
@@ -234,13 +241,16 @@ module _ (j : ℕ) (r : RawTree) (actors : List RoutineTree) (rules : ClassRules
           others_under : (i ≡ j → ⊥) → S j under
           others_under diff = kept j after under refl (below_unmoved i after step j diff).1 (others diff)
 
-          by_verdict : (f : Frame) (e : Entry) (b : ℕ) (m ready : Bool) → thing c.entries i ≡ Some e → e.marked ≡ m → Good (keep_by (classes r) i b (verdict m ready) q (with_operand spot q e) f (proc after xs))
-          by_verdict f e b true ready at is = unless c.halted (inl (leave_steady j i (with_operand spot q e) ((classes r).lose f).0 (Throw i operation_cancelled) under (throw_of i operation_cancelled) others_under))
+          by_verdict : (f : Frame) (e : Entry) (b : ℕ) (m ready : Bool) → thing c.entries i ≡ Some e → e.marked ≡ m
+              → Good (keep_by (classes r) i b (verdict m ready) q (with_operand spot q e) f (proc after xs))
+          by_verdict f e b true ready at is = unless c.halted (inl
+              (leave_steady j i (with_operand spot q e) ((classes r).lose f).0 (Throw i operation_cancelled) under (throw_of i operation_cancelled) others_under))
           by_verdict f e b false true at is =
               let en = with_operand spot q e in
               let vs = ((classes r).lose f).0 in
               steady (take_branch i b q.1 en vs (thing under.cells q.1) under) (branch_steady j i b q.1 en vs (thing under.cells q.1) under others_under)
-          by_verdict f e b false false at is = unless c.halted (by_number j i (Fine j held) (λ z. inr (own z)) (λ diff. inl (kept j after held (thing_put_other c.entries i j (with_operand spot q e) diff) refl (others diff))))
+          by_verdict f e b false false at is = unless c.halted (by_number j i (Fine j held) (λ z. inr (own z))
+              (λ diff. inl (kept j after held (thing_put_other c.entries i j (with_operand spot q e) diff) refl (others diff))))
             where
               held : Core
               held = record after { entries = put after.entries i (with_operand spot q e) }
@@ -290,5 +300,6 @@ module _ (j : ℕ) (r : RawTree) (actors : List RoutineTree) (rules : ClassRules
     if_good (Some x) = tt
     if_good None = tasks_good c.tasks refl
 
-  pub step_fine : (types : CellTypes) (p : Proc Frame) (q : Stepped Frame) → Orderly p.core → ProcessFits r types p.core p.actors → Fine j p.core → step (classes r) s p ≡ Some q → Unless (Fine j) q.0.core
+  pub step_fine : (types : CellTypes) (p : Proc Frame) (q : Stepped Frame) → Orderly p.core → ProcessFits r types p.core p.actors → Fine j p.core → step (classes r) s p ≡ Some q
+      → Unless (Fine j) q.0.core
   step_fine types p q o f h e = subst (MaybeGood types p.core p.actors o f h) e (if_good types p.core p.actors o f h p.core.halted)

@@ -143,7 +143,8 @@ module _ (ns : Names) (c : ClassTree) where
   leaves_more y k how last d s (Handler z x b ∷ r) ts i h = absurd i
   leaves_more y k how last d s (Over ∷ r) ts i h = absurd i
 
-  pub here_local : (l : Bool) (w : Around) (s : Scope) (n m : Next) (x : Site) (z : Spot) (r : List Item) (ts : List Target) (y : List ℕ) → n.local < m.local → n.local < length c.locals → m.group ≡ z.group → Here l w s n x r ts
+  pub here_local : (l : Bool) (w : Around) (s : Scope) (n m : Next) (x : Site) (z : Spot) (r : List Item) (ts : List Target) (y : List ℕ) → n.local < m.local → n.local < length c.locals
+      → m.group ≡ z.group → Here l w s n x r ts
       → Here l w (Var y n.local ∷ s) m (site_at z x) r ts
   here_local l w s n m x z r ts y lt own e h =
       let i = here_ends_scope l w s n x r ts h in
@@ -166,7 +167,8 @@ module _ (ns : Names) (c : ClassTree) where
   goto_on : (q : ℕ) (p : Pos) → at ns c p ≡ Last (GotoLast q) → JumpsTo ns c p (entry q)
   goto_on q p e = jump q e here
 
-  pub here_inner : (l : Bool) (w : Around) (s : Scope) (n m : Next) (x z : Site) (y : Spot) (k : Body) (q : ℕ) (r : List Item) (ts : List Target) → n.local ≤ m.local → m.group ≡ y.group → Here l w s n x r ts
+  pub here_inner : (l : Bool) (w : Around) (s : Scope) (n m : Next) (x z : Site) (y : Spot) (k : Body) (q : ℕ) (r : List Item) (ts : List Target) → n.local ≤ m.local → m.group ≡ y.group
+      → Here l w s n x r ts
       → Here l (inner w (Scoped (GotoLast q))) (Mark ∷ s) m (site_at y x) (Leave ∷ Do z k ∷ r) (At (entry q) ∷ ts)
   here_inner l w s n m x z y k q r ts le e h = record {
     ends = λ p at. goto_on q p at;
@@ -180,7 +182,8 @@ module _ (ns : Names) (c : ClassTree) where
   }
 
   -- the handler of a catch
-  pub here_handler : (l : Bool) (w : Around) (s : Scope) (n m : Next) (x z : Site) (y : Spot) (v : List ℕ) (k : Body) (e q : ℕ) (r : List Item) (ts : List Target) → n.local ≤ e → e < m.local → e < length c.locals → m.group ≡ y.group
+  pub here_handler : (l : Bool) (w : Around) (s : Scope) (n m : Next) (x z : Site) (y : Spot) (v : List ℕ) (k : Body) (e q : ℕ) (r : List Item) (ts : List Target) → n.local ≤ e → e < m.local
+      → e < length c.locals → m.group ≡ y.group
       → Here l w s n x r ts → Here l (handling w (Scoped (GotoLast q)) v) (Var v e ∷ Mark ∷ s) m (record { spot = y; caught = Some v }) (Leave ∷ Do z k ∷ r) (At (entry q) ∷ ts)
   here_handler l w s n m x z y v k e q r ts le lt own g h = record {
     ends = λ p at. goto_on q p at;
@@ -194,7 +197,8 @@ module _ (ns : Names) (c : ClassTree) where
   }
 
   -- a try body
-  pub here_try : (l : Bool) (w : Around) (s : Scope) (n m : Next) (x z u : Site) (y : Spot) (v : List ℕ) (k d : Body) (hand : Hand) (q : ℕ) (r : List Item) (ts : List Target) → n.local ≤ m.local → m.group ≡ y.group
+  pub here_try : (l : Bool) (w : Around) (s : Scope) (n m : Next) (x z u : Site) (y : Spot) (v : List ℕ) (k d : Body) (hand : Hand) (q : ℕ) (r : List Item) (ts : List Target) → n.local ≤ m.local
+      → m.group ≡ y.group
       → Here l w s n x r ts
       → Here l (guarded w (Scoped (GotoLast q)) hand) (Mark ∷ s) m (site_at y x) (Leave ∷ Handler v u d ∷ Do z k ∷ r) (carry.Hand hand.block hand.error ∷ At (entry q) ∷ ts)
   here_try l w s n m x z u y v k d hand q r ts le e h = record {
@@ -217,7 +221,8 @@ module _ (ns : Names) (c : ClassTree) where
       one_more : (d : ℕ) → suc d ≡ d + 1
       one_more d = omega arith
 
-  pub here_loop : (l : Bool) (w : Around) (s : Scope) (n m : Next) (x z : Site) (y : Spot) (loop : Loop) (k : Body) (h q : ℕ) (r : List Item) (ts : List Target) → loop.step ≡ End → n.local ≤ m.local → m.group ≡ y.group
+  pub here_loop : (l : Bool) (w : Around) (s : Scope) (n m : Next) (x z : Site) (y : Spot) (loop : Loop) (k : Body) (h q : ℕ) (r : List Item) (ts : List Target) → loop.step ≡ End → n.local ≤ m.local
+      → m.group ≡ y.group
       → Here l w s n x r ts → Here true (pass w 1 (PassLast h) q) (Mark ∷ s) m (site_at y x) (Leave ∷ Made loop ∷ Do z k ∷ r) (Again h ∷ At (entry q) ∷ ts)
   here_loop l w s n m x z y loop k h q r ts none le e i =
       let again : (p : Pos) → at ns c p ≡ Last (PassLast h) → GoesOn ns c s (Made loop ∷ Do z k ∷ r) (Again h ∷ At (entry q) ∷ ts) p =
@@ -238,7 +243,8 @@ module _ (ns : Names) (c : ClassTree) where
   drop_then [] p last follows f h = f p h
   drop_then (d ∷ ds) p last follows f h = (p, here, h.0, f (after p) h.1)
 
-  pub end_at : (w : Around) (x : Exit) (s : Scope) (r : List Item) (ts : List Target) (p : Pos) (n : ℕ) (y : Spot) → EndsBy x w.hand s r ts → Stands ns c p n y w.hand (finished w s x) → GoesOn ns c s r ts p
+  pub end_at : (w : Around) (x : Exit) (s : Scope) (r : List Item) (ts : List Target) (p : Pos) (n : ℕ) (y : Spot) → EndsBy x w.hand s r ts → Stands ns c p n y w.hand (finished w s x)
+      → GoesOn ns c s r ts p
   end_at w (Text close) s [] ts p n y e st = (p, _, here, st.code, refl, uncaught ns c p n y w.hand (finished w s (Text close)) e st)
   end_at w (Scoped last) s (Leave ∷ r) ts p n y e st = drop_then (scope s) p last (GoesOn ns c (outside s) r ts) e st.code
   end_at w _ s r ts p n y e st = absurd e

@@ -66,7 +66,8 @@ module _ (ns : Names) (c : ClassTree) (few_slots : length c.slots < 2 ^ 64) (few
         m.block,
         entry m.block,
         front.code,
-        body l (Mark ∷ s) v (begun n) x (Leave ∷ Do (site_past b x) k ∷ r) (At (entry m.block) ∷ ts) (entry n.block) inside (locals_front ns c n.local (body_locals b) (body_locals k) room) parts.1 ok.0
+        body l (Mark ∷ s) v (begun n) x (Leave ∷ Do (site_past b x) k ∷ r) (At (entry m.block) ∷ ts) (entry n.block) inside
+            (locals_front ns c n.local (body_locals b) (body_locals k) room) parts.1 ok.0
             (second ns c p n.block n.block x.spot x.spot w.hand w.hand c0 c1 (omega arith) refl front),
         here,
         rest_at ns c k rest l s w n m x y x.spot r ts p n.block w.hand (joined w.hand c0 c1) h (omega arith) group (locals_after ns c b n.local (body_locals k) room) parts.2 ok.1
@@ -140,7 +141,8 @@ module _ (ns : Names) (c : ClassTree) (few_slots : length c.slots < 2 ^ 64) (few
           g.block,
           m.block,
           test.code,
-          body true (Mark ∷ s) v (begun g) x (Leave ∷ Made loop ∷ Do behind k ∷ r) (Again n.block ∷ At (entry m.block) ∷ ts) (entry g.block) inside (locals_front ns c n.local (body_locals b) (body_locals k) room) parts.1 ok.0
+          body true (Mark ∷ s) v (begun g) x (Leave ∷ Made loop ∷ Do behind k ∷ r) (Again n.block ∷ At (entry m.block) ∷ ts) (entry g.block) inside
+              (locals_front ns c n.local (body_locals b) (body_locals k) room) parts.1 ok.0
               (second ns c p n.block g.block x.spot x.spot w.hand w.hand (joined w.hand c0 c1) c2 (omega arith) refl front),
           here,
         ),
@@ -166,7 +168,8 @@ module _ (ns : Names) (c : ClassTree) (few_slots : length c.slots < 2 ^ 64) (few
         n.block,
         entry m.block,
         (p, here, front.code),
-        body true (Mark ∷ s) v (begun n) x (Leave ∷ Made loop ∷ Do behind k ∷ r) (Again n.block ∷ At (entry m.block) ∷ ts) (entry n.block) inside (locals_front ns c n.local (body_locals b) (body_locals k) room) parts.1 ok.0
+        body true (Mark ∷ s) v (begun n) x (Leave ∷ Made loop ∷ Do behind k ∷ r) (Again n.block ∷ At (entry m.block) ∷ ts) (entry n.block) inside
+            (locals_front ns c n.local (body_locals b) (body_locals k) room) parts.1 ok.0
             (second ns c p n.block n.block x.spot x.spot w.hand w.hand c0 c1 (omega arith) refl front),
         rest_at ns c k rest l s w n m x y x.spot r ts p n.block w.hand (joined w.hand c0 c1) h (omega arith) group (locals_after ns c b n.local (body_locals k) room) parts.2 ok.1
             (omega (arith, b01)) m1 st,
@@ -203,7 +206,8 @@ module _ (ns : Names) (c : ClassTree) (few_slots : length c.slots < 2 ^ 64) (few
       let error = locals_after ns c b n.local (ErrorType ∷ []) room12 in
       let own = slice_get_within c.locals m.local ErrorType error.0 in
       let n12 : length (body_locals b ++ (ErrorType ∷ [])) ≡ suc (locals_in b) = omega (arith, length-append (body_locals b) (ErrorType ∷ []), locals_count b) in
-      let n123 : length (body_locals b ++ (ErrorType ∷ []) ++ body_locals d) ≡ suc (locals_in b) + locals_in d = omega (arith, length-append (body_locals b ++ (ErrorType ∷ [])) (body_locals d), n12, locals_count d) in
+      let n123 : length (body_locals b ++ (ErrorType ∷ []) ++ body_locals d) ≡ suc (locals_in b) + locals_in d =
+      omega (arith, length-append (body_locals b ++ (ErrorType ∷ [])) (body_locals d), n12, locals_count d) in
       let inside = here_try ns c l w s n (begun n) x behind there x.spot u.name k d hand j.block r ts (omega arith) h.group h in
       let caught = here_handler ns c l w s n g x behind y u.name k m.local j.block r ts (omega arith) (omega arith) own g1 h in
       let front = first ns c p n.block x.spot w.hand w.hand (joined w.hand (joined (Some hand) c0 c1) c2) (low s w (begun j) k) st in
@@ -213,7 +217,8 @@ module _ (ns : Names) (c : ClassTree) (few_slots : length c.slots < 2 ^ 64) (few
         m.local,
         entry j.block,
         jump n.block front.code here,
-        body l (Mark ∷ s) v (begun n) x (Leave ∷ Handler u.name there d ∷ Do behind k ∷ r) (carry.Hand m.block m.local ∷ At (entry j.block) ∷ ts) (entry n.block) inside (locals_front ns c n.local (body_locals b) (ErrorType ∷ []) room12) parts.1 ok.0
+        body l (Mark ∷ s) v (begun n) x (Leave ∷ Handler u.name there d ∷ Do behind k ∷ r) (carry.Hand m.block m.local ∷ At (entry j.block) ∷ ts) (entry n.block) inside
+            (locals_front ns c n.local (body_locals b) (ErrorType ∷ []) room12) parts.1 ok.0
             (second ns c p n.block n.block x.spot x.spot w.hand (Some hand) c0 c1 (omega arith) refl front1),
         (own, above_more ns c n.local m.local s (omega arith) h.above),
         handler l (Var u.name m.local ∷ Mark ∷ s) f g there (Leave ∷ Do behind k ∷ r) (At (entry j.block) ∷ ts) (entry m.block) caught
@@ -230,7 +235,8 @@ module _ (ns : Names) (c : ClassTree) (few_slots : length c.slots < 2 ^ 64) (few
       let a = exits t w s n (GotoLast w.looped.out) in
       let d = low s w (begun (exited t n)) k in (
         exit_at ns c Breaks t w s n (GotoLast w.looped.out) r ts p x.spot (h.breaks ok.0) (live_at ns c p n.block x.spot w.hand a d k st),
-        dead_at ns c k rest l s w n (exited t n) x r ts p a h (exited_local t n) (exited_group t n) room parts.1 ok.1 (exited_block t w s n (GotoLast w.looped.out)) (exits_still t w s n (GotoLast w.looped.out)) st,
+        dead_at ns c k rest l s w n (exited t n) x r ts p a h (exited_local t n) (exited_group t n) room parts.1 ok.1 (exited_block t w s n (GotoLast w.looped.out))
+            (exits_still t w s n (GotoLast w.looped.out)) st,
       )
 
   pub continue_stands : (at : Place) (k : Body) → Carried ns c k → Carried ns c (ContinueStmt at k)

@@ -30,12 +30,14 @@ use Rattle.flow_lowering_laws.proofs.Actors.Fors.{step_is_init, step_later, step
 
 module _ (ns : Names) (c : ClassTree) (few_slots : length c.slots < 2 ^ 64) (few_locals : length c.locals < 2 ^ 64) where
   -- the step, at the end of which the loop goes on
-  step_goes_on : (s : Scope) (loop : Loop) (behind : List Item) (h m : ℕ) (ts : List Target) → PartAt ns c few_slots few_locals s (Round loop ∷ behind) (Again h ∷ ts) loop.step (entry m) s (PassLast h)
+  step_goes_on : (s : Scope) (loop : Loop) (behind : List Item) (h m : ℕ) (ts : List Target)
+      → PartAt ns c few_slots few_locals s (Round loop ∷ behind) (Again h ∷ ts) loop.step (entry m) s (PassLast h)
       → (z : Pos) → at ns c z ≡ Last (GotoLast m) → GoesOn ns c s (Made loop ∷ behind) (Again h ∷ ts) z
   step_goes_on s loop behind h m ts step z e = (entry m, step.0, jump m e here, step.1, (step.0, here, step.2))
 
   -- the body of the loop
-  here_for : (l : Bool) (w : Around) (s s2 : Scope) (n g : Next) (x behind : Site) (u : Spot) (loop : Loop) (k : Body) (h m o : ℕ) (q : Pos) (r : List Item) (ts : List Target) → Here ns c l w s n x r ts → Above g.local s2 → InClass ns c s2
+  here_for : (l : Bool) (w : Around) (s s2 : Scope) (n g : Next) (x behind : Site) (u : Spot) (loop : Loop) (k : Body) (h m o : ℕ) (q : Pos) (r : List Item) (ts : List Target)
+      → Here ns c l w s n x r ts → Above g.local s2 → InClass ns c s2
       → g.group ≡ u.group → PartAt ns c few_slots few_locals s2 (Round loop ∷ Leave ∷ Do behind k ∷ r) (Again h ∷ At q ∷ ts) loop.step (entry m) s2 (PassLast h)
       → GoesOn ns c s2 (Leave ∷ Do behind k ∷ r) (At q ∷ ts) (entry o)
       → Here ns c true (pass w 2 (GotoLast m) o) (Mark ∷ s2) (begun g) (site_at u x) (Leave ∷ Made loop ∷ Leave ∷ Do behind k ∷ r) (Again h ∷ At q ∷ ts)
@@ -100,7 +102,8 @@ module _ (ns : Names) (c : ClassTree) (few_slots : length c.slots < 2 ^ 64) (few
       let tl = test_local ns c few_slots few_locals e h in
       let n12 = length-append (body_locals i) (body_locals p) in
       let n123 = length-append (body_locals i ++ body_locals p) (body_locals b) in
-      let r2 : LocalsAt ns c g.local (body_locals b) = locals_back ns c n.local g.local (body_locals i ++ body_locals p) (body_locals b) (omega (arith, tl, n12, locals_count i, locals_count p, none)) r123 in
+      let r2 : LocalsAt ns c g.local (body_locals b) = locals_back ns c n.local g.local (body_locals i ++ body_locals p) (body_locals b)
+      (omega (arith, tl, n12, locals_count i, locals_count p, none)) r123 in
       let r4 : LocalsAt ns c o.local (body_locals k) =
       locals_back ns c n.local o.local (body_locals i ++ body_locals p ++ body_locals b) (body_locals k) (omega (arith, tl, n12, n123, locals_count i, locals_count p, locals_count b)) room in
       let r3 : LocalsAt ns c m.local (body_locals p) = subst (λ ls. LocalsAt ns c m.local ls) (sym (step_locals p parts.0.1)) tt in
@@ -122,9 +125,11 @@ module _ (ns : Names) (c : ClassTree) (few_slots : length c.slots < 2 ^ 64) (few
       let q = last.to in
       let items = Leave ∷ Do behind k ∷ r in
       let inner_hand = hand_part ns c few_slots few_locals w.hand w.depth behind loop k h.block q r ts here0.hand in
-      let begins = init_at ns c few_slots few_locals i v (PassLast h.block) s1 n x.spot (Round loop ∷ items) (Again h.block ∷ At q ∷ ts) pos l (is_there x.caught) parts.0.0 parts.1 refl here0.above inner_hand r1 ok.0
+      let begins = init_at ns c few_slots few_locals i v (PassLast h.block) s1 n x.spot (Round loop ∷ items) (Again h.block ∷ At q ∷ ts) pos l
+      (is_there x.caught) parts.0.0 parts.1 refl here0.above inner_hand r1 ok.0
       (test_first ns c few_slots few_locals v s2 e g.block o.block n.block pos x.spot c0 st1) in
-      let steps = init_at ns c few_slots few_locals p v (PassLast h.block) s2 (begun m) y (Round loop ∷ items) (Again h.block ∷ At q ∷ ts) (entry m.block) l (is_there x.caught) (step_is_init p parts.0.1) parts.2 refl a3 inner_hand r3
+      let steps = init_at ns c few_slots few_locals p v (PassLast h.block) s2 (begun m) y (Round loop ∷ items) (Again h.block ∷ At q ∷ ts) (entry m.block) l (is_there x.caught)
+      (step_is_init p parts.0.1) parts.2 refl a3 inner_hand r3
       (subst (λ xs. InPlace c.slots l (is_there x.caught) xs p) (sym open_.named) ok.1) st3 in
       let step = subst (λ z. PartAt ns c few_slots few_locals s2 (Round loop ∷ items) (Again h.block ∷ At q ∷ ts) p (entry m.block) z (PassLast h.block)) (step_later p m.local s2 parts.0.1) steps in
       let inside = here_for l w s s2 n g x behind u loop k h.block m.block o.block q r ts here0 a2 open_.known g1 step last.drops in

@@ -113,12 +113,15 @@ module _ (ns : Names) (c : ClassTree) (few_slots : length c.slots < 2 ^ 64) (few
   test_more v s None m o n a h = omega (arith, h)
   test_more v s (Some e) m o n a h = blocks_joined ns c v.hand a (ends v s true [] (TestLast (over c.slots s e) m o)) n 0 h refl
 
-  pub test_first : (v : Around) (s : Scope) (e : Option ExprTree) (m o n : ℕ) (p : Pos) (x : Spot) (a : Chunk) → Stands ns c p n x v.hand (test_before ns c.slots v s e m o a) → Stands ns c p n x v.hand a
+  pub test_first : (v : Around) (s : Scope) (e : Option ExprTree) (m o n : ℕ) (p : Pos) (x : Spot) (a : Chunk) → Stands ns c p n x v.hand (test_before ns c.slots v s e m o a)
+      → Stands ns c p n x v.hand a
   test_first v s None m o n p x a st = st
   test_first v s (Some e) m o n p x a st = first ns c p n x v.hand v.hand a (ends v s true [] (TestLast (over c.slots s e) m o)) st
 
-  pub test_at : (v : Around) (s : Scope) (e : Option ExprTree) (h : Next) (o n l : ℕ) (p : Pos) (x : Spot) (a : Chunk) (r : List Item) (ts : List Target) (inside : Pos → Type 0) → Above l s → HandIn v.hand v.depth r ts
-      → h.block ≡ n + length a.more → Stands ns c p n x v.hand (test_before ns c.slots v s e (tested e h).block o a) → inside (entry (tested e h).block) → GoesOn ns c s r ts (entry o) → LoopAt ns c s r ts e h.block inside
+  pub test_at : (v : Around) (s : Scope) (e : Option ExprTree) (h : Next) (o n l : ℕ) (p : Pos) (x : Spot) (a : Chunk) (r : List Item) (ts : List Target) (inside : Pos → Type 0) → Above l s
+      → HandIn v.hand v.depth r ts
+      → h.block ≡ n + length a.more → Stands ns c p n x v.hand (test_before ns c.slots v s e (tested e h).block o a) → inside (entry (tested e h).block) → GoesOn ns c s r ts (entry o)
+      → LoopAt ns c s r ts e h.block inside
   test_at v s None h o n l p x a r ts inside above hand e st b g = b
   test_at v s (Some t) h o n l p x a r ts inside above hand e st b g =
       let d = ends v s true [] (TestLast (over c.slots s t) (suc h.block) o) in

@@ -108,15 +108,18 @@ module _ (ns : Names) (c : ClassTree) where
   blocks_joined h a b n m e f = join_more a.more b.more (block_with h b) n m e f
 
   -- what stands behind a statement, in a block of its own
-  pub rest_at : (k : Body) → Carried k → (l : Bool) (s : Scope) (w : Around) (n m : Next) (x : Site) (y u : Spot) (r : List Item) (ts : List Target) (p : Pos) (first_block : ℕ) (h : Option Hand) (a : Chunk)
+  pub rest_at : (k : Body) → Carried k → (l : Bool) (s : Scope) (w : Around) (n m : Next) (x : Site) (y u : Spot) (r : List Item) (ts : List Target) (p : Pos) (first_block : ℕ) (h : Option Hand)
+      (a : Chunk)
       → Here ns c l w s n x r ts → n.local ≤ m.local → m.group ≡ y.group → LocalsAt ns c m.local (body_locals k) → HasParts k → InPlace c.slots l (is_there x.caught) (names s) k
-      → m.block ≡ first_block + length a.more → moved a.groups u ≡ y → Stands ns c p first_block u h (joined w.hand a (lowered ns c.slots s w (begun m) k)) → BodyAt ns c s r ts (site_at y x) k (entry m.block)
+      → m.block ≡ first_block + length a.more → moved a.groups u ≡ y → Stands ns c p first_block u h (joined w.hand a (lowered ns c.slots s w (begun m) k))
+      → BodyAt ns c s r ts (site_at y x) k (entry m.block)
   rest_at k body l s w n m x y u r ts p first_block h a here le e room parts ok eb ey st =
       body l s w (begun m) (site_at y x) r ts (entry m.block) (here_past ns c l w s n (begun m) x y r ts le e here) room parts ok
       (second ns c p first_block m.block u y h w.hand a (lowered ns c.slots s w (begun m) k) eb ey st)
 
   -- behind a statement that nothing goes on from
-  dead_if : (b : Bool) (p : Pos) (n m : ℕ) (x : Spot) (h : Option Hand) (a d : Chunk) → b ≡ true → m ≡ n + length a.more → a.groups ≡ [] → Stands ns c p n x h (rest_if b h a d) → Stands ns c (entry m) (suc m) x h d
+  dead_if : (b : Bool) (p : Pos) (n m : ℕ) (x : Spot) (h : Option Hand) (a d : Chunk) → b ≡ true → m ≡ n + length a.more → a.groups ≡ [] → Stands ns c p n x h (rest_if b h a d)
+      → Stands ns c (entry m) (suc m) x h d
   dead_if true p n m x h a d t e g st = second ns c p n m x x h h a d e (ap (λ gs. moved gs x) g) st
   dead_if false p n m x h a d t e g st = absurd (no_true t)
     where
@@ -130,7 +133,8 @@ module _ (ns : Names) (c : ClassTree) where
   pub live_at : (p : Pos) (n : ℕ) (x : Spot) (h : Option Hand) (a d : Chunk) (k : Body) → Stands ns c p n x h (before_rest h a k d) → Stands ns c p n x h a
   live_at p n x h a d k st = live_if (has_statement k) p n x h a d st
 
-  pub dead_at : (k : Body) → Carried k → (l : Bool) (s : Scope) (w : Around) (n m : Next) (x : Site) (r : List Item) (ts : List Target) (p : Pos) (a : Chunk) → Here ns c l w s n x r ts → m.local ≡ n.local → m.group ≡ n.group
+  pub dead_at : (k : Body) → Carried k → (l : Bool) (s : Scope) (w : Around) (n m : Next) (x : Site) (r : List Item) (ts : List Target) (p : Pos) (a : Chunk) → Here ns c l w s n x r ts
+      → m.local ≡ n.local → m.group ≡ n.group
       → LocalsAt ns c n.local (body_locals k) → HasParts k → InPlace c.slots l (is_there x.caught) (names s) k → m.block ≡ n.block + length a.more → a.groups ≡ []
       → Stands ns c p n.block x.spot w.hand (before_rest w.hand a k (lowered ns c.slots s w (begun m) k)) → has_statement k ≡ true → (q : Pos) × BodyAt ns c s r ts x k q
   dead_at k body l s w n m x r ts p a here el eg room parts ok eb none st t = (
@@ -148,16 +152,19 @@ module _ (ns : Names) (c : ClassTree) where
       no_false h = cc
   own_local false l t h e = slice_get_within c.locals l t h.0
 
-  here_with : (b : Bool) (l : Bool) (w : Around) (s : Scope) (n m : Next) (x : Site) (z : Spot) (r : List Item) (ts : List Target) (y : List ℕ) → m.local ≡ (if b then 0 else 1) + n.local → (b ≡ false → n.local < length c.locals)
+  here_with : (b : Bool) (l : Bool) (w : Around) (s : Scope) (n m : Next) (x : Site) (z : Spot) (r : List Item) (ts : List Target) (y : List ℕ) → m.local ≡ (if b then 0 else 1) + n.local
+      → (b ≡ false → n.local < length c.locals)
       → m.group ≡ z.group → Here ns c l w s n x r ts → Here ns c l w (with_local b y n.local s) m (site_at z x) r ts
   here_with true l w s n m x z r ts y e own g h = here_past ns c l w s n m x z r ts (omega (arith, e)) g h
   here_with false l w s n m x z r ts y e own g h = here_local ns c l w s n m x z r ts y (omega (arith, e)) (own refl) g h
 
-  pub here_into : (i : IntoTree) (l : Bool) (w : Around) (s : Scope) (n m : Next) (x : Site) (z : Spot) (r : List Item) (ts : List Target) → m.local ≡ local_count i + n.local → LocalsAt ns c n.local (declared_locals i)
+  pub here_into : (i : IntoTree) (l : Bool) (w : Around) (s : Scope) (n m : Next) (x : Site) (z : Spot) (r : List Item) (ts : List Target) → m.local ≡ local_count i + n.local
+      → LocalsAt ns c n.local (declared_locals i)
       → m.group ≡ z.group → Here ns c l w s n x r ts → Here ns c l w (with_into i n.local s) m (site_at z x) r ts
   here_into i l w s n m x z r ts e room g h = here_with i.state l w s n m x z r ts i.name.name e (own_local i.state n.local i.ty room) g h
 
-  pub here_taken : (o : Option IntoTree) (l : Bool) (w : Around) (s : Scope) (n m : Next) (x : Site) (z : Spot) (r : List Item) (ts : List Target) → m.local ≡ into_count o + n.local → LocalsAt ns c n.local (into_locals o)
+  pub here_taken : (o : Option IntoTree) (l : Bool) (w : Around) (s : Scope) (n m : Next) (x : Site) (z : Spot) (r : List Item) (ts : List Target) → m.local ≡ into_count o + n.local
+      → LocalsAt ns c n.local (into_locals o)
       → m.group ≡ z.group → Here ns c l w s n x r ts → Here ns c l w (with_taken o n.local s) m (site_at z x) r ts
   here_taken None l w s n m x z r ts e room g h = here_past ns c l w s n m x z r ts (omega (arith, e)) g h
   here_taken (Some i) l w s n m x z r ts e room g h = here_into i l w s n m x z r ts e room g h

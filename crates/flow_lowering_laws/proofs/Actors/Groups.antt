@@ -46,7 +46,8 @@ is_end : (k : Body) → has_statement k ≡ false → k ≡ End
 is_end End e = refl
 is_end _ e = absurd (true_false e)
 
-rest_if : (b : Bool) (h : Option Hand) (c d : Chunk) (k : Body) → has_statement k ≡ b → c.groups ≡ [] → kinds d.groups ≡ wanted (body_groups k) → kinds (if b then joined h c d else c).groups ≡ wanted (body_groups k)
+rest_if : (b : Bool) (h : Option Hand) (c d : Chunk) (k : Body) → has_statement k ≡ b → c.groups ≡ [] → kinds d.groups ≡ wanted (body_groups k)
+    → kinds (if b then joined h c d else c).groups ≡ wanted (body_groups k)
 rest_if true h c d k e a m = ap (λ gs. kinds (gs ++ d.groups)) a ∙ m
 rest_if false h c d k e a m = ap kinds a ∙ ap (λ b. wanted (body_groups b)) (sym (is_end k e))
 
@@ -74,11 +75,13 @@ module _ (ns : Names) (slots : List SlotTree) where
     lowered_kinds s w n (BlockStmt at b k) h =
         let m = past w.looped.tried b n in
         let v = inner w (Scoped (GotoLast m.block)) in
-        both_kinds (lowered ns slots (Mark ∷ s) v n b).groups (lowered ns slots s w (begun m) k).groups (body_groups b) (body_groups k) (lowered_kinds (Mark ∷ s) v n b h.1) (lowered_kinds s w (begun m) k h.2)
+        both_kinds (lowered ns slots (Mark ∷ s) v n b).groups (lowered ns slots s w (begun m) k).groups (body_groups b) (body_groups k) (lowered_kinds (Mark ∷ s) v n b h.1)
+        (lowered_kinds s w (begun m) k h.2)
     lowered_kinds s w n (IfStmt at e b k) h =
         let m = past w.looped.tried b (begun n) in
         let v = inner w (Scoped (GotoLast m.block)) in
-        both_kinds (lowered ns slots (Mark ∷ s) v (begun n) b).groups (lowered ns slots s w (begun m) k).groups (body_groups b) (body_groups k) (lowered_kinds (Mark ∷ s) v (begun n) b h.1) (lowered_kinds s w (begun m) k h.2)
+        both_kinds (lowered ns slots (Mark ∷ s) v (begun n) b).groups (lowered ns slots s w (begun m) k).groups (body_groups b) (body_groups k) (lowered_kinds (Mark ∷ s) v (begun n) b h.1)
+        (lowered_kinds s w (begun m) k h.2)
     lowered_kinds s w n (IfElseStmt at e b d k) h =
         let t = w.looped.tried in
         let m = past t b (begun n) in
@@ -92,7 +95,8 @@ module _ (ns : Names) (slots : List SlotTree) where
         let g = begun n in
         let m = past false b (begun g) in
         let v = pass w 1 (PassLast n.block) m.block in
-        both_kinds (lowered ns slots (Mark ∷ s) v (begun g) b).groups (lowered ns slots s w (begun m) k).groups (body_groups b) (body_groups k) (lowered_kinds (Mark ∷ s) v (begun g) b h.1) (lowered_kinds s w (begun m) k h.2)
+        both_kinds (lowered ns slots (Mark ∷ s) v (begun g) b).groups (lowered ns slots s w (begun m) k).groups (body_groups b) (body_groups k) (lowered_kinds (Mark ∷ s) v (begun g) b h.1)
+        (lowered_kinds s w (begun m) k h.2)
     lowered_kinds s w n (ForStmt at i e p b k) h =
         let t = w.looped.tried in
         let f = past t i n in
@@ -109,21 +113,26 @@ module _ (ns : Names) (slots : List SlotTree) where
         let k1 : kinds c1.groups ≡ wanted (body_groups i) = ap kinds (test_groups v r e g.block o.block c0) ∙ lowered_kinds (Mark ∷ s) v n i h.1 in
         let k3 : kinds c3.groups ≡ wanted [] = lowered_kinds r v (begun m) p h.2 ∙ ap wanted (step_groups p h.0.1) in
         both_kinds (c1.groups ++ c2.groups ++ c3.groups) (lowered ns slots s w (begun o) k).groups (body_groups i ++ body_groups b ++ []) (body_groups k)
-        (both_kinds (c1.groups ++ c2.groups) c3.groups (body_groups i ++ body_groups b) [] (both_kinds c1.groups c2.groups (body_groups i) (body_groups b) k1 (lowered_kinds (Mark ∷ r) u (begun g) b h.3)) k3)
+        (both_kinds (c1.groups ++ c2.groups) c3.groups (body_groups i ++ body_groups b) []
+        (both_kinds c1.groups c2.groups (body_groups i) (body_groups b) k1 (lowered_kinds (Mark ∷ r) u (begun g) b h.3)) k3)
         (lowered_kinds s w (begun o) k h.4)
-        ∙ ap (λ gs. wanted (gs ++ body_groups k)) (append-nil (body_groups i ++ body_groups b) ∙ ap (λ gs. gs ++ body_groups b) (sym (append-nil (body_groups i)) ∙ ap (λ gs. body_groups i ++ gs) (sym (step_groups p h.0.1))))
+        ∙ ap (λ gs. wanted (gs ++ body_groups k)) (append-nil (body_groups i ++ body_groups b)
+        ∙ ap (λ gs. gs ++ body_groups b) (sym (append-nil (body_groups i)) ∙ ap (λ gs. body_groups i ++ gs) (sym (step_groups p h.0.1))))
     lowered_kinds s w n (LoopStmt at b k) h =
         let m = past false b (begun n) in
         let v = pass w 1 (PassLast n.block) m.block in
-        both_kinds (lowered ns slots (Mark ∷ s) v (begun n) b).groups (lowered ns slots s w (begun m) k).groups (body_groups b) (body_groups k) (lowered_kinds (Mark ∷ s) v (begun n) b h.1) (lowered_kinds s w (begun m) k h.2)
+        both_kinds (lowered ns slots (Mark ∷ s) v (begun n) b).groups (lowered ns slots s w (begun m) k).groups (body_groups b) (body_groups k) (lowered_kinds (Mark ∷ s) v (begun n) b h.1)
+        (lowered_kinds s w (begun m) k h.2)
     lowered_kinds s w n (BreakStmt at k) h =
         let m = exited w.looped.tried n in
-        rest_kinds w.hand (exits w.looped.tried w s n (GotoLast w.looped.out)) (lowered ns slots s w (begun m) k) k (exits_still w.looped.tried w s n (GotoLast w.looped.out)) (lowered_kinds s w (begun m) k h.1)
+        rest_kinds w.hand (exits w.looped.tried w s n (GotoLast w.looped.out)) (lowered ns slots s w (begun m) k) k (exits_still w.looped.tried w s n (GotoLast w.looped.out))
+        (lowered_kinds s w (begun m) k h.1)
     lowered_kinds s w n (ContinueStmt at k) h =
         let m = exited w.looped.tried n in
         rest_kinds w.hand (exits w.looped.tried w s n w.looped.again) (lowered ns slots s w (begun m) k) k (exits_still w.looped.tried w s n w.looped.again) (lowered_kinds s w (begun m) k h.1)
     lowered_kinds s w n (ReturnStmt at e k) h = rest_kinds w.hand (ends w s true [] (ReturnLast (over slots s e))) (lowered ns slots s w (begun n) k) k refl (lowered_kinds s w (begun n) k h.1)
-    lowered_kinds s w n (ThrowStmt at e k) h = rest_kinds w.hand (ends w s true [] (ThrowLast (thrown ns slots s at e w.caught))) (lowered ns slots s w (begun n) k) k refl (lowered_kinds s w (begun n) k h.1)
+    lowered_kinds s w n (ThrowStmt at e k) h = rest_kinds w.hand (ends w s true [] (ThrowLast (thrown ns slots s at e w.caught))) (lowered ns slots s w (begun n) k) k refl
+        (lowered_kinds s w (begun n) k h.1)
     lowered_kinds s w n (TryStmt at b p q d k) h =
         let t = w.looped.tried in
         let m = past true b (begun n) in
@@ -136,7 +145,8 @@ module _ (ns : Names) (slots : List SlotTree) where
         let c1 = lowered ns slots (Mark ∷ s) v (begun n) b in
         let c2 = lowered ns slots (Var q.name m.local ∷ Mark ∷ s) u g d in
         both_kinds (c1.groups ++ c2.groups) (lowered ns slots s w (begun j) k).groups (body_groups b ++ body_groups d) (body_groups k)
-        (both_kinds c1.groups c2.groups (body_groups b) (body_groups d) (lowered_kinds (Mark ∷ s) v (begun n) b h.1) (lowered_kinds (Var q.name m.local ∷ Mark ∷ s) u g d h.2)) (lowered_kinds s w (begun j) k h.3)
+        (both_kinds c1.groups c2.groups (body_groups b) (body_groups d) (lowered_kinds (Mark ∷ s) v (begun n) b h.1) (lowered_kinds (Var q.name m.local ∷ Mark ∷ s) u g d h.2))
+        (lowered_kinds s w (begun j) k h.3)
     lowered_kinds s w n (ChooseStmt at bs k) h =
         let t = w.looped.tried in
         let g = grouped n in

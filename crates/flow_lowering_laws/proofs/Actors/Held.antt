@@ -133,7 +133,8 @@ module _ (ns : Names) (c : ClassTree) where
   uncaught p n x h ch e st = st.caught ∙ ap (λ o. catch_part st.acts o ch.held) e ∙ uncaught_part st.acts ch.held
 
   -- where a statement stands in a chunk, its block catches as the items say
-  pub caught_by : (l d : ℕ) (s : Scope) (r : List Item) (ts : List Target) (p : Pos) (n : ℕ) (x : Spot) (h : Option Hand) (ch : Chunk) → Above l s → HandIn h d r ts → Grown l (inner_locals d s) ch.held
+  pub caught_by : (l d : ℕ) (s : Scope) (r : List Item) (ts : List Target) (p : Pos) (n : ℕ) (x : Spot) (h : Option Hand) (ch : Chunk) → Above l s → HandIn h d r ts
+      → Grown l (inner_locals d s) ch.held
       → ch.acts ≡ true → Stands ns c p n x h ch → CaughtAt ns c s r ts p
   caught_by l d s r ts p n x None ch a i g acts st =
       subst (λ o. CaughtBy ns c s o (hand_of ns c r ts) p) (sym (not_unwound [] s r i)) (uncaught p n x None ch refl st)

@@ -153,8 +153,10 @@ module _ (ns : Names) (c : ClassTree) (few_slots : length c.slots < 2 ^ 64) (few
   abbrev pub PartAt : Scope → List Item → List Target → Body → Pos → Scope → LastTree → Type 0
   PartAt s r ts b p later last = (q : Pos) × SimpleAt ns c s r ts b p q later × (at ns c q ≡ Last last)
 
-  pub init_at : (b : Body) (w : Around) (last : LastTree) (s : Scope) (n : Next) (x : Spot) (r : List Item) (ts : List Target) (p : Pos) (l t : Bool) → IsInit b → HasParts b → w.exit ≡ Part last → Above n.local s
-      → HandIn w.hand w.depth r ts → LocalsAt ns c n.local (body_locals b) → InPlace c.slots l t (names s) b → Stands ns c p n.block x w.hand (lowered ns c.slots s w n b) → PartAt s r ts b p (later b n.local s) last
+  pub init_at : (b : Body) (w : Around) (last : LastTree) (s : Scope) (n : Next) (x : Spot) (r : List Item) (ts : List Target) (p : Pos) (l t : Bool) → IsInit b → HasParts b → w.exit ≡ Part last
+      → Above n.local s
+      → HandIn w.hand w.depth r ts → LocalsAt ns c n.local (body_locals b) → InPlace c.slots l t (names s) b → Stands ns c p n.block x w.hand (lowered ns c.slots s w n b)
+      → PartAt s r ts b p (later b n.local s) last
   init_at (DeclareStmt place i e End) w last s n x r ts p l t is parts ex a hand room ok st =
       let v = placing ns c few_slots few_locals s n.local i a (locals_front ns c n.local (declared_locals i) [] room) ok.0 in
       let d = declares_at s n.local i v e in

@@ -87,7 +87,8 @@ module _ (ns : Names) (c : ClassTree) (few_slots : length c.slots < 2 ^ 64) (few
       )
 
   -- a group stands where its wait does
-  group_stands : (p : Pos) (n g : ℕ) (x : Spot) (cs : List CallbackTree) (w : Around) (s : Scope) → g ≡ x.group → Stands ns c p n x w.hand (record (ends w s true [] (ChooseLast g)) { groups = cs ∷ [] }) → GroupAt ns c x cs p
+  group_stands : (p : Pos) (n g : ℕ) (x : Spot) (cs : List CallbackTree) (w : Around) (s : Scope) → g ≡ x.group
+      → Stands ns c p n x w.hand (record (ends w s true [] (ChooseLast g)) { groups = cs ∷ [] }) → GroupAt ns c x cs p
   group_stands p n g x cs w s e st = (st.code ∙ ap (λ j. Last (ChooseLast j)) e, st.groups.1, st.groups.0)
 
   pub wait_stands : (place : Place) (v : WaitTree) (k : Body) → Carried ns c k → Carried ns c (WaitStmt place v k)
@@ -119,7 +120,8 @@ module _ (ns : Names) (c : ClassTree) (few_slots : length c.slots < 2 ^ 64) (few
       → LocalsAt ns c n.local (branch_locals bs) → HaveParts bs → AllInPlace c.slots l (is_there x.caught) (names s) bs → n.block ≡ first_block + length c0.more → moved c0.groups u ≡ x.spot
       → Stands ns c p first_block u v.hand (branches ns c.slots c0 s v n bs) → BranchesAt ns c s r ts x bs (callbacks ns c.slots s v.looped.tried n bs)
 
-  branches_front : (bs : Branches) (c0 : Chunk) (s : Scope) (v : Around) (n : Next) (p : Pos) (first_block : ℕ) (u : Spot) → Stands ns c p first_block u v.hand (branches ns c.slots c0 s v n bs) → Stands ns c p first_block u v.hand c0
+  branches_front : (bs : Branches) (c0 : Chunk) (s : Scope) (v : Around) (n : Next) (p : Pos) (first_block : ℕ) (u : Spot) → Stands ns c p first_block u v.hand (branches ns c.slots c0 s v n bs)
+      → Stands ns c p first_block u v.hand c0
   branches_front NoBranches c0 s v n p first_block u st = st
   branches_front (MoreBranches place w b bs) c0 s v n p first_block u st =
       let m = taken w.into (begun n) in
@@ -175,7 +177,8 @@ module _ (ns : Names) (c : ClassTree) (few_slots : length c.slots < 2 ^ 64) (few
       let moves = choose_moved ns c.slots c0 s v g bs x.spot (ap (λ ks. ks ∷ []) (branch_kinds ns c.slots s t g bs)) parts.1 in
       let blocks = branches_more ns c.slots c0 s v g bs in
       let group : j.group ≡ z.group =
-      after_groups n.group (length whole.groups) (branch_group_count bs) x.spot.group z.group h.group (branches_groups ns c.slots c0 s v g bs) (sym (moved_group whole.groups x.spot) ∙ ap (λ a. a.group) moves) in
+      after_groups n.group (length whole.groups) (branch_group_count bs) x.spot.group z.group h.group (branches_groups ns c.slots c0 s v g bs)
+      (sym (moved_group whole.groups x.spot) ∙ ap (λ a. a.group) moves) in
       let front = first ns c p n.block x.spot w.hand w.hand whole (low s w (begun j) k) st in
       let alone = branches_front bs c0 s v g p n.block x.spot front in
       let behind = site_at z x in
@@ -184,7 +187,8 @@ module _ (ns : Names) (c : ClassTree) (few_slots : length c.slots < 2 ^ 64) (few
         entry j.block,
         caught_by ns c n.local w.depth s r ts p n.block x.spot w.hand c0 h.above h.hand same refl alone,
         group_stands p n.block n.group x.spot cs w s h.group alone,
-        each l c0 s v g (site_at y x) (Do behind k ∷ r) (At (entry j.block) ∷ ts) p n.block x.spot inside (locals_front ns c n.local (branch_locals bs) (body_locals k) room) parts.1 ok.0 (omega arith) count front,
+        each l c0 s v g (site_at y x) (Do behind k ∷ r) (At (entry j.block) ∷ ts) p n.block x.spot inside (locals_front ns c n.local (branch_locals bs) (body_locals k) room) parts.1 ok.0
+            (omega arith) count front,
         rest_at ns c k rest l s w n j x z x.spot r ts p n.block w.hand whole h (omega arith) group
             (locals_back ns c n.local j.local (branch_locals bs) (body_locals k) (omega (arith, branch_locals_count bs)) room) parts.2 ok.1
             (omega (arith, blocks)) moves st,

@@ -106,7 +106,8 @@ either_false : (a b : Bool) → a || b ≡ false → (a ≡ false) × (b ≡ fal
 either_false true b h = absurd (true_false h)
 either_false false b h = (refl, h)
 
-found_behind : (before more : List SlotTree) (s : SlotTree) (x : List ℕ) → among (slot_names before) x ≡ false → bytes_eq x s.name ≡ true → find (λ (t : SlotTree). bytes_eq x t.name) (before ++ s ∷ more) ≡ Some s
+found_behind : (before more : List SlotTree) (s : SlotTree) (x : List ℕ) → among (slot_names before) x ≡ false → bytes_eq x s.name ≡ true
+    → find (λ (t : SlotTree). bytes_eq x t.name) (before ++ s ∷ more) ≡ Some s
 found_behind [] more s x h e = ap (λ b. cond b (Some s) (find (λ (t : SlotTree). bytes_eq x t.name) more)) e
 found_behind (r ∷ before) more s x h e =
     let a = either_false (bytes_eq x r.name) (among (slot_names before) x) h in
@@ -135,18 +136,21 @@ module _ (all_slots : List SlotTree) where
   first_of_two : (vars : List (List ℕ × TypeTree)) (states xs : List (List ℕ)) (before m n rest : List SlotTree) → Stand vars states xs before (m ++ n) rest → Stand vars states xs before m (n ++ rest)
   first_of_two vars states xs before m n rest s = record { known = s.known; names = s.names; slots = s.slots ∙ ap (λ l. before ++ l) (append_assoc m n rest) }
 
-  second_of_two : (vars : List (List ℕ × TypeTree)) (states xs : List (List ℕ)) (before m n rest : List SlotTree) → Stand vars states xs before (m ++ n) rest → Stand vars (states ++ slot_names m) xs (before ++ m) n rest
+  second_of_two : (vars : List (List ℕ × TypeTree)) (states xs : List (List ℕ)) (before m n rest : List SlotTree) → Stand vars states xs before (m ++ n) rest
+      → Stand vars (states ++ slot_names m) xs (before ++ m) n rest
   second_of_two vars states xs before m n rest s = record {
     known = s.known;
     names = map-append (λ (t : SlotTree). t.name) before m ∙ ap (λ l. l ++ slot_names m) s.names;
     slots = s.slots ∙ ap (λ l. before ++ l) (append_assoc m n rest) ∙ sym (append_assoc before m (n ++ rest));
   }
 
-  regrouped : (vars : List (List ℕ × TypeTree)) (states xs : List (List ℕ)) (before m n o rest : List SlotTree) → Stand vars states xs before (m ++ n ++ o) rest → Stand vars states xs before (m ++ (n ++ o)) rest
+  regrouped : (vars : List (List ℕ × TypeTree)) (states xs : List (List ℕ)) (before m n o rest : List SlotTree) → Stand vars states xs before (m ++ n ++ o) rest
+      → Stand vars states xs before (m ++ (n ++ o)) rest
   regrouped vars states xs before m n o rest s = record { known = s.known; names = s.names; slots = s.slots ∙ ap (λ l. before ++ (l ++ rest)) (append_assoc m n o) }
 
   -- with one more local
-  with_local : (vars : List (List ℕ × TypeTree)) (states xs : List (List ℕ)) (before mine rest : List SlotTree) (y : List ℕ) (t : TypeTree) → Stand vars states xs before mine rest → Stand (vars ++ (y, t) ∷ []) states (y ∷ xs) before mine rest
+  with_local : (vars : List (List ℕ × TypeTree)) (states xs : List (List ℕ)) (before mine rest : List SlotTree) (y : List ℕ) (t : TypeTree) → Stand vars states xs before mine rest
+      → Stand (vars ++ (y, t) ∷ []) states (y ∷ xs) before mine rest
   with_local vars states xs before mine rest y t s = record {
     known = λ x h. let u = unknown_more vars y x t h in (u.apart, s.known x u.before);
     names = s.names;
@@ -158,7 +162,8 @@ module _ (all_slots : List SlotTree) where
     may : MayDeclare all_slots xs i
     stands : Stand (vars ++ (i.name.name, i.ty) ∷ []) (states ++ if_state i.state i.name.name) (naming i xs) (before ++ declared_slots i) m rest
 
-  has_slot : (vars : List (List ℕ × TypeTree)) (states xs : List (List ℕ)) (before m rest : List SlotTree) (i : IntoTree) → New vars states i.state i.name.name → Stand vars states xs before (declared_slots i ++ m) rest → MayDeclare all_slots xs i
+  has_slot : (vars : List (List ℕ × TypeTree)) (states xs : List (List ℕ)) (before m rest : List SlotTree) (i : IntoTree) → New vars states i.state i.name.name
+      → Stand vars states xs before (declared_slots i ++ m) rest → MayDeclare all_slots xs i
   has_slot vars states xs before m rest i n s t =
       let own : SlotTree = record { ty = i.ty; name = i.name.name } in
       let mine : declared_slots i ≡ own ∷ [] = ap (λ b. if b then own ∷ [] else []) t in
@@ -170,7 +175,8 @@ module _ (all_slots : List SlotTree) where
             (ap (find (λ (u : SlotTree). bytes_eq i.name.name u.name)) slots ∙ found_behind before (m ++ rest) own i.name.name none (same_text i.name.name));
       }
 
-  known_if : (b : Bool) (vars : List (List ℕ × TypeTree)) (xs : List (List ℕ)) (y : List ℕ) (t : TypeTree) → ((x : List ℕ) → named vars x ≡ None → NotAmong xs x) → (x : List ℕ) → named (vars ++ (y, t) ∷ []) x ≡ None → NotAmong (naming_if b y xs) x
+  known_if : (b : Bool) (vars : List (List ℕ × TypeTree)) (xs : List (List ℕ)) (y : List ℕ) (t : TypeTree) → ((x : List ℕ) → named vars x ≡ None → NotAmong xs x) → (x : List ℕ)
+      → named (vars ++ (y, t) ∷ []) x ≡ None → NotAmong (naming_if b y xs) x
   known_if true vars xs y t known x h = known x (unknown_more vars y x t h).before
   known_if false vars xs y t known x h = let u = unknown_more vars y x t h in (u.apart, known x u.before)
 
@@ -178,7 +184,8 @@ module _ (all_slots : List SlotTree) where
   names_if true s = refl
   names_if false s = refl
 
-  declares : (s : Setting) (states xs : List (List ℕ)) (before m rest : List SlotTree) (i : IntoTree) → into_fault s states i ≡ None → Stand s.vars states xs before (declared_slots i ++ m) rest → Declares s.vars states xs before m rest i
+  declares : (s : Setting) (states xs : List (List ℕ)) (before m rest : List SlotTree) (i : IntoTree) → into_fault s states i ≡ None → Stand s.vars states xs before (declared_slots i ++ m) rest
+      → Declares s.vars states xs before m rest i
   declares s states xs before m rest i h st =
       let two = second_of_two s.vars states xs before (declared_slots i) m rest st in
       record {
@@ -194,7 +201,8 @@ module _ (all_slots : List SlotTree) where
     may : MayTake all_slots xs o
     stands : Stand (waited e o).setting.vars (waited e o).states (naming_any o xs) (before ++ into_slots o) m rest
 
-  takes : (e : Env) (xs : List (List ℕ)) (before m rest : List SlotTree) (o : Option IntoTree) → maybe_into e.setting e.states o ≡ None → Stand e.setting.vars e.states xs before (into_slots o ++ m) rest → Takes e xs before m rest o
+  takes : (e : Env) (xs : List (List ℕ)) (before m rest : List SlotTree) (o : Option IntoTree) → maybe_into e.setting e.states o ≡ None
+      → Stand e.setting.vars e.states xs before (into_slots o ++ m) rest → Takes e xs before m rest o
   takes e xs before m rest None h st = record {
     may = tt;
     stands = record { known = st.known; names = ap slot_names (append-nil before) ∙ st.names; slots = st.slots ∙ ap (λ l. l ++ (m ++ rest)) (sym (append-nil before)) };
@@ -263,7 +271,8 @@ module _ (all_slots : List SlotTree) where
         let f = behind e b in (
           in_place b e l t xs before (body_slots d ++ body_slots k ++ rest) p.1 a.0 el ec (first_of_two e.setting.vars e.states xs before (body_slots b) (body_slots d ++ body_slots k) rest s),
           in_place d f l t xs (before ++ body_slots b) (body_slots k ++ rest) p.2 c.0 el ec (first_of_two f.setting.vars f.states xs (before ++ body_slots b) (body_slots d) (body_slots k) rest s2),
-          in_place k (behind f d) l t xs (before ++ body_slots b ++ body_slots d) rest p.3 c.1 el ec (second_of_two f.setting.vars f.states xs (before ++ body_slots b) (body_slots d) (body_slots k) rest s2),
+          in_place k (behind f d) l t xs (before ++ body_slots b ++ body_slots d) rest p.3 c.1 el ec
+              (second_of_two f.setting.vars f.states xs (before ++ body_slots b) (body_slots d) (body_slots k) rest s2),
         )
     in_place (WhileStmt at v b k) e l t xs before rest p h el ec st =
         let a = neither (body_refusal (in_loop e) b) _ (neither _ _ h).1 in (
@@ -320,12 +329,14 @@ module _ (all_slots : List SlotTree) where
         (first_of_two f.setting.vars f.states xs (before ++ body_slots b) (body_slots d) (body_slots k) rest s2) in (
           in_place b e l t xs before (body_slots d ++ body_slots k ++ rest) p.1 a.0 el ec (first_of_two e.setting.vars e.states xs before (body_slots b) (body_slots d ++ body_slots k) rest s),
           in_place d (in_catch (with_var f x.name ErrorType)) l true (x.name ∷ xs) (before ++ body_slots b) (body_slots k ++ rest) p.2 c.0 el refl caught,
-          in_place k (behind f d) l t xs (before ++ body_slots b ++ body_slots d) rest p.3 c.1 el ec (second_of_two f.setting.vars f.states xs (before ++ body_slots b) (body_slots d) (body_slots k) rest s2),
+          in_place k (behind f d) l t xs (before ++ body_slots b ++ body_slots d) rest p.3 c.1 el ec
+              (second_of_two f.setting.vars f.states xs (before ++ body_slots b) (body_slots d) (body_slots k) rest s2),
         )
     in_place (ChooseStmt at bs k) e l t xs before rest p h el ec st =
         let a = neither (branch_refusal e bs) _ (neither _ _ h).1 in (
           all_in_place bs e l t xs before (body_slots k ++ rest) p.1 a.0 el ec (first_of_two e.setting.vars e.states xs before (branch_slots bs) (body_slots k) rest st),
-          in_place k (with_states e (slot_names (branch_slots bs))) l t xs (before ++ branch_slots bs) rest p.2 a.1 el ec (second_of_two e.setting.vars e.states xs before (branch_slots bs) (body_slots k) rest st),
+          in_place k (with_states e (slot_names (branch_slots bs))) l t xs (before ++ branch_slots bs) rest p.2 a.1 el ec
+              (second_of_two e.setting.vars e.states xs before (branch_slots bs) (body_slots k) rest st),
         )
     in_place (DeclareStmt at i v k) e l t xs before rest p h el ec st =
         let a = neither _ (body_refusal (declared e i) k) h in

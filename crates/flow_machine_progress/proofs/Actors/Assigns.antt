@@ -149,5 +149,6 @@ module _ (r : RawTree) (code : Code) (w : Supply) (ls : List Line) (x : Scan) (s
       let may = subst (MayDoNext r w p i e f) there (step_allowed r w p i e f now.running) in
       let n : FrameTree Value = st.stood.acts.memory in
       places_found i (places coding_now ns) m.heap n st.stood.acts.framed
-      (locals_below f (length n.places) ns may (let many : length n.places ≡ length f.mem.slots + length f.mem.locals = as_many_places r n e old st.stood.acts.stands in let slots : length f.mem.slots ≡ length f.code.slots = st.stood.acts.stands.slots in omega (arith, many, slots)))
+      (locals_below f (length n.places) ns may (let many : length n.places ≡ length f.mem.slots + length f.mem.locals = as_many_places r n e old st.stood.acts.stands in let slots : length f.mem.slots
+      ≡ length f.code.slots = st.stood.acts.stands.slots in omega (arith, many, slots)))
       (subst (λ l. SomePlaceMissing i l m.heap) same (subst (λ (a : ActorId). SomePlaceMissing a.0 ps m.heap) st.standing.actor missing))

@@ -107,7 +107,8 @@ module _ (r : RawTree) (code : Code) (w : Supply) (ls : List Line) (x : Scan) (s
   abbrev called : Ident → List ValueTree → ℕ → StepOf Frame
   called g us left = evaluated f (plain_act (class_names r) (view w i p.core) (look f.mem) (named call_names g.name) g.name us left) (onward r w p i e f run)
 
-  module _ (g : Ident) (es : ExprTrees) (args : List Resolved) (there : fetch f.code f.block f.instr ≡ Body (ActInstr (g ∷ []) es)) (nodes : nodes_of args ≡ resolved_all (coding_now r code w ls x s m p i e f now st).names es) where
+  module _ (g : Ident) (es : ExprTrees) (args : List Resolved) (there : fetch f.code f.block f.instr ≡ Body (ActInstr (g ∷ []) es))
+      (nodes : nodes_of args ≡ resolved_all (coding_now r code w ls x s m p i e f now st).names es) where
     abbrev comes_to : Res (List ValueTree)
     comes_to = values (class_names r) (view w i p.core) (look f.mem) es
 

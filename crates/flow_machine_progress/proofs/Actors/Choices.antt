@@ -196,7 +196,8 @@ module _ (r : RawTree) (code : Code) (w : Supply) (ls : List Line) (x : Scan) (s
       value_kept c there pure (ErrorValue z) left done fit stuck = fit.0
       value_kept c there pure (RecordValue n vs) left done fit stuck = fit.0
 
-      by_value : (c : CallbackTree) (res : Resolved) → callback_at f.code number (length e.operands) ≡ Some c → effects.effect_in (class_names r) c.operand ≡ None → node_of res ≡ resolved by.names c.operand
+      by_value : (c : CallbackTree) (res : Resolved) → callback_at f.code number (length e.operands) ≡ Some c → effects.effect_in (class_names r) c.operand ≡ None
+          → node_of res ≡ resolved by.names c.operand
           → EvaluatesStuck own value_of (value_for code s.actor.0 res told) told (ValueKeptStuck own (group.first + kept)) → ⊥
       by_value c res there pure same stuck = by_case stuck
         where
@@ -237,7 +238,8 @@ module _ (r : RawTree) (code : Code) (w : Supply) (ls : List Line) (x : Scan) (s
           by_code None effect same =
               let node : node_of res ≡ resolved by.names c.operand = cc (same) in
               let pure : effects.effect_in (class_names r) c.operand ≡ None =
-              nothing_mapped (λ y. (effect_of_name y.0, _)) (effects.effect_in (class_names r) c.operand) (sym effect ∙ effect_there r code.classes.items f c.operand (coded_by inp.program) inp.program.coded.are_classes) in
+              nothing_mapped (λ y. (effect_of_name y.0, _)) (effects.effect_in (class_names r) c.operand)
+              (sym effect ∙ effect_there r code.classes.items f c.operand (coded_by inp.program) inp.program.coded.are_classes) in
               by_value c res there pure node stuck
       by_operand b (operand.Effect eff args) is c there coded stuck =
           by_effect c eff args.items there (operand_coded r by c.operand eff (nodes_of args.items) inp.program.coded.are_classes coded) stuck

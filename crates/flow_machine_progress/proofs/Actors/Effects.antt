@@ -165,6 +165,7 @@ effect_meant r code w ls x s m p i e f aim eff args at there stuck = by_step at.
               (fits_at r w p i e f at.running (Body (EffectInstr of.path of.expr)) fetched);
           may = may of.effect.called of.effect.exprs of.effect.is_effect;
         })
-        (values_seen r ls x m (seen r ls m p i e f x s st) i e (old r ls m p i e f x s st) st.stood code w at.standing.program at.clock at.standing.few s.actor st.standing.actor of.effect.exprs args.items of.effect.resolved)
+        (values_seen r ls x m (seen r ls m p i e f x s st) i e (old r ls m p i e f x s st) st.stood code w at.standing.program at.clock at.standing.few s.actor st.standing.actor of.effect.exprs
+        args.items of.effect.resolved)
         stuck
     by_step (chooses wait) = no_instruction r ls x s m p i e f code at.standing wait (instruction.Effect aim eff args) there

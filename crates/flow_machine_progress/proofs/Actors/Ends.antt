@@ -143,7 +143,8 @@ module _ (r : RawTree) (code : Code) (w : Supply) (ls : List Line) (x : Scan) (s
     pub return_meant : fetch f.code f.block f.instr ≡ Last (ReturnLast t) → LastStuck code s (last.Return res) m → ⊥
     return_meant there =
         evaluation_there s value_of (value_for code s.actor.0 res m) m (ReturnStuck s)
-        (λ none. has_meaning r w p i e f run comes_to (λ u left. asks left (Returns u (everything f.mem)) over) (asked (ReturnLast t) there) (sym is ∙ none)) (framed r code w ls x s m p i e f now st) returned
+        (λ none. has_meaning r w p i e f run comes_to (λ u left. asks left (Returns u (everything f.mem)) over) (asked (ReturnLast t) there) (sym is ∙ none))
+        (framed r code w ls x s m p i e f now st) returned
       where
         returned : (v : Value) (left : ℕ) → value_for code s.actor.0 res m ≡ Done (value_of v) left → ReturnStuck s v (with_left left m) → ⊥
         returned v left done (inl missing) = refers r code w ls x s m p i e f now st (value_refs v) (gives_there r w p i e f run t (value_of v) left (sym is ∙ done)) missing
@@ -169,7 +170,8 @@ module _ (r : RawTree) (code : Code) (w : Supply) (ls : List Line) (x : Scan) (s
             (fits_onward r w p i e f run comes_to (throws r w p i e f run) (value_of v) left (asked (ThrowLast t) there) (sym is ∙ done)) stuck
 
   -- by what stands at the end
-  pub end_there : ((g : ℕ) → s.block.now.last ≡ last.Choose g → LastStuck code s (last.Choose g) m → ⊥) → (l : code_last.Last) → s.block.now.last ≡ l → (text : LastTree) → fetch f.code f.block f.instr ≡ Last text
+  pub end_there : ((g : ℕ) → s.block.now.last ≡ last.Choose g → LastStuck code s (last.Choose g) m → ⊥) → (l : code_last.Last) → s.block.now.last ≡ l → (text : LastTree)
+      → fetch f.code f.block f.instr ≡ Last text
       → EndOf (coding_now r code w ls x s m p i e f now st) text (end_of l) → LastStuck code s l m → ⊥
   end_there choices (last.Goto b) same text there of stuck = block_of_class b (fits (GotoLast b) (there ∙ ap Last of)) stuck
   end_there choices (last.Pass b) same text there of (inl stuck) = block_of_class b (fits (PassLast b) (there ∙ ap Last of)) stuck
@@ -187,5 +189,6 @@ end_meant r code w ls x s m p i e f now ends stuck = by_step now.may
     by_step (moves st zero_state) =
         let a = the_end r code.classes.items s i f (coded_by now.standing.program) now.standing.standing st.standing st.instruction ends in
         let c = coding_now r code w ls x s m p i e f now st in
-        end_there r code w ls x s m p i e f now st (λ g same is. choice_meant r code w ls x s m p i e f g now ends same is) s.block.now.last refl a.text a.fetched (subst (EndOf c a.text) (sym a.coded) (end_from c a.text)) stuck
+        end_there r code w ls x s m p i e f now st (λ g same is. choice_meant r code w ls x s m p i e f g now ends same is) s.block.now.last refl a.text a.fetched
+        (subst (EndOf c a.text) (sym a.coded) (end_from c a.text)) stuck
     by_step (chooses wait) = choice_meant r code w ls x s m p i e f wait.group now ends wait.wait.last (subst (λ l. LastStuck code s l m) wait.wait.last stuck)

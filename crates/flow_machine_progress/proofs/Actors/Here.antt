@@ -101,11 +101,13 @@ module _ (r : RawTree) (ls : List Line) (x : Scan) (m : Process) (p : Proc Frame
         ap (λ (b : ActorId). values_for code b.0 rs m) is ∙ ap (λ k. values_at (sight_in code i m) k m.left) same ∙ args_follow r ls x m p i e f code w st program time few es
 
 -- one that takes its next step does, also at its wait, where it stands at no instruction
-pub step_framed : (r : RawTree) (ls : List Line) (x : Scan) (s : ControlPoint) (m : Process) (p : Proc Frame) (i : ℕ) (e : Entry) (f : Frame) → MayStep r ls x s m p i e f → FrameMissing s.actor.0 m.heap → ⊥
+pub step_framed : (r : RawTree) (ls : List Line) (x : Scan) (s : ControlPoint) (m : Process) (p : Proc Frame) (i : ℕ) (e : Entry) (f : Frame) → MayStep r ls x s m p i e f
+    → FrameMissing s.actor.0 m.heap → ⊥
 step_framed r ls x s m p i e f (moves st zero_state) none = frame_of r ls x m _ i e _ st.stood s.actor st.standing.actor none
 step_framed r ls x s m p i e f (chooses at) none = frame_of r ls x m p i e f at.stood s.actor at.standing.actor none
 
-pub no_instruction : (r : RawTree) (ls : List Line) (x : Scan) (s : ControlPoint) (m : Process) (p : Proc Frame) (i : ℕ) (e : Entry) (f : Frame) (code : Code) → InProgram r code s f → AtOperands r ls x s m p i e f
+pub no_instruction : (r : RawTree) (ls : List Line) (x : Scan) (s : ControlPoint) (m : Process) (p : Proc Frame) (i : ℕ) (e : Entry) (f : Frame) (code : Code) → InProgram r code s f
+    → AtOperands r ls x s m p i e f
     → (y : Instruction) → slice_get s.block.now.body.items s.instruction ≡ Some y → ⊥
 no_instruction r ls x s m p i e f code inp at y there =
     let a = the_instruction r code.classes.items s i f (coded_by inp.program) inp.standing y at.standing at.instruction there in

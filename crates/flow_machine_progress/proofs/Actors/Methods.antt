@@ -157,7 +157,8 @@ module _ (r : RawTree) (code : Code) (w : Supply) (ls : List Line) (x : Scan) (s
         by_aim a =
             let first : a.name ≡ y = let b = a.names in cc (b) in
             let others : a.fields ≡ before_last z ys = let b = a.names in cc (b) in
-            path_seen r ls m (seen r code w ls x s m p i e f now st) i e (old r code w ls x s m p i e f now st) x code a.name a.fields aim a.place a.field st.stood a.named a.has a.number a.numbers a.numbering
+            path_seen r ls m (seen r code w ls x s m p i e f now st) i e (old r code w ls x s m p i e f now st) x code a.name a.fields aim a.place a.field st.stood a.named a.has a.number a.numbers
+            a.numbering
             ∙ ap (λ (k : Ident). read_in r.records (look f.mem k.name) a.fields) first ∙ ap (read_in r.records (look f.mem y.name)) others
 
     abbrev called_on : Option ValueTree → List ValueTree → ℕ → StepOf Frame
@@ -186,9 +187,11 @@ module _ (r : RawTree) (code : Code) (w : Supply) (ls : List Line) (x : Scan) (s
     -- the step of the class machine, with the arguments known
     fit : Fit r w p i e f run (evaluated f (values (class_names r) (view w i p.core) (look f.mem) es) (called_on path))
     fit =
-        subst (λ o. Fit r w p i e f run (evaluated f (values (class_names r) (view w i p.core) (look f.mem) es) (λ us left. evaluated f (based_act (class_names r) (view w i p.core) (look f.mem) path o us left) onward))) name
+        subst (λ o. Fit r w p i e f run (evaluated f (values (class_names r) (view w i p.core) (look f.mem) es)
+        (λ us left. evaluated f (based_act (class_names r) (view w i p.core) (look f.mem) path o us left) onward))) name
         (subst (λ q. Fit r w p i e f run q)
-        (evaluated_then f (values (class_names r) (view w i p.core) (look f.mem) es) (λ us left. based_act (class_names r) (view w i p.core) (look f.mem) path (named method_names (last_of z ys).name) us left) onward)
+        (evaluated_then f (values (class_names r) (view w i p.core) (look f.mem) es)
+        (λ us left. based_act (class_names r) (view w i p.core) (look f.mem) path (named method_names (last_of z ys).name) us left) onward)
         (fits_at r w p i e f run (Body (ActInstr (y ∷ z ∷ ys) es)) there))
 
   -- without an argument, with one; none has two

@@ -176,5 +176,6 @@ module _ (r : RawTree) (code : Code) (f : Frame) (own : KeepsRules r (heads r) f
           let on = fits.2 in
           let aim = aim_coded (y ∷ code_of.before_last z ys) on.0 (ap (λ l. path_type r.records (class_vars f.code) (y ∷ l)) (before_same z ys) ∙ on.2) in
           let called = ap (λ (n : Ident). named method_names n.name) (last_same z ys) ∙ on.3 in
-          let is = none ∙ ap (λ o. method_code o (named method_names (code_of.last_name z ys).name) (resolved_all now.names es)) aim.1 ∙ ap (λ o. method_code (Some aim.0) o (resolved_all now.names es)) called in cc (is)
+          let is = none ∙ ap (λ o. method_code o (named method_names (code_of.last_name z ys).name) (resolved_all now.names es)) aim.1
+          ∙ ap (λ o. method_code (Some aim.0) o (resolved_all now.names es)) called in cc (is)
       by_text (DropInstr ns) fits none = cc (none)

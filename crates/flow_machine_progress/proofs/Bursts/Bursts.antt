@@ -41,7 +41,8 @@ use Rattle.flow_steps.proofs.Amiss.{is_none}
 use Rattle.flow_machine_progress.proofs.Bursts.Draws.{draw_stored}
 use Rattle.flow_machine_progress.proofs.Bursts.Tasks.{task_sure}
 
-module _ {A W : Type 0} (serves : Host W) (shown_by : A → Numbered ℕ → W → Type 0) (wrote broke : A → List Line → A → Type 0) (code : Code) (processes : ℕ) (r : RawTree) (program : IsProgram r code) where
+module _ {A W : Type 0} (serves : Host W) (shown_by : A → Numbered ℕ → W → Type 0) (wrote broke : A → List Line → A → Type 0) (code : Code) (processes : ℕ) (r : RawTree)
+    (program : IsProgram r code) where
   abbrev In : List Line → Process → A → Proc Frame → W → Type 0
   In ls m a p w = RepresentsInWorld serves shown_by wrote code processes r ls m a p w
 
@@ -68,7 +69,8 @@ module _ {A W : Type 0} (serves : Host W) (shown_by : A → Numbered ℕ → W �
   pub tasks_sure : (ls : List Line) (m : Process) (a : A) (p : Proc Frame) (w : W) → In ls m a p w → NoPromiseStored m.heap → TasksStuck code m → ⊥
   tasks_sure ls m a p w now stores (task_now _ start t un taken stuck) = task_sure r code ls m start p t program now.between now.poised stores now.asked now.clock taken stuck
   tasks_sure ls m a p w now stores (task_later _ start between t un taken done quiet more) =
-      done_then ls m start between a p w t now taken done quiet (λ q here_now. tasks_sure ls between a q w here_now (task_stores code t m start between stores taken done) more) (λ s. spent_tasks code between s more)
+      done_then ls m start between a p w t now taken done quiet (λ q here_now. tasks_sure ls between a q w here_now (task_stores code t m start between stores taken done) more)
+      (λ s. spent_tasks code between s more)
 
   -- What the last of the tasks asks is served.
   asks_sure : (ls : List Line) (m n : Process) (e : Next) (a : A) (p : Proc Frame) (w : W) → In ls m a p w → Tasks code m e n → e ≡ next.Asks → ServingStuck n.asked → ⊥
@@ -96,15 +98,20 @@ module _ {A W : Type 0} (serves : Host W) (shown_by : A → Numbered ℕ → W �
   burst_sure steady ls m a b f p w now stores (gets_stuck _ _ stuck) is = tasks_sure ls m a p w now stores stuck
   burst_sure steady ls m a b f p w now stores (serving _ q _ _ _ tasks part why) is = asks_sure ls m q next.Asks a p w now tasks refl (why is)
   burst_sure steady ls m a b f p w now stores (further _ q j _ d _ _ tasks served more) is =
-      by_served (served_then serves shown_by wrote code processes r run (branches_of r code program) steady (program_goes serves shown_by wrote code processes r program) ls m q j a d p w now tasks served)
+      by_served (served_then serves shown_by wrote code processes r run (branches_of r code program) steady (program_goes serves shown_by wrote code processes r program) ls m q j a d p w now tasks
+      served)
       (λ ks t u here_now. burst_sure steady ks j d b f t u here_now (served_store q.asked (unasked q) j a d served (tasks_store m q next.Asks stores tasks)) more is)
     where
       by_served : ServedThen serves shown_by wrote code processes r run ls a p w j d → ((ks : List Line) (t : Proc Frame) (u : W) → In ks j d t u → ⊥) → ⊥
       by_served (lives_on ks t u reach said here_now) rest = rest (ls ++ ks) t u here_now
-      by_served (is_spent ks t reach said s halted lines) rest = spent_well serves shown_by wrote broke code processes r j d b s (subst (λ g. BreaksOff serves shown_by wrote broke code processes j d g b) is more)
+      by_served (is_spent ks t reach said s halted lines) rest = spent_well serves shown_by wrote broke code processes r j d b s
+          (subst (λ g. BreaksOff serves shown_by wrote broke code processes j d g b) is more)
 
-pub all_tasks_sure : {A W : Type 0} (serves : Host W) (shown_by : A → Numbered ℕ → W → Type 0) (wrote broke : A → List Line → A → Type 0) (code : Code) (processes : ℕ) (r : RawTree) → law.TasksNeverStuck serves shown_by wrote broke code processes r
+pub all_tasks_sure : {A W : Type 0} (serves : Host W) (shown_by : A → Numbered ℕ → W → Type 0) (wrote broke : A → List Line → A → Type 0) (code : Code) (processes : ℕ) (r : RawTree)
+    → law.TasksNeverStuck serves shown_by wrote broke code processes r
 all_tasks_sure serves shown_by wrote broke code processes r program ls m a p w now stores stuck = tasks_sure serves shown_by wrote broke code processes r program ls m a p w now stores stuck
 
-pub all_bursts_sure : {A W : Type 0} (serves : Host W) (shown_by : A → Numbered ℕ → W → Type 0) (wrote broke : A → List Line → A → Type 0) (code : Code) (processes : ℕ) (r : RawTree) → law.BurstNeverStuck serves shown_by wrote broke code processes r
-all_bursts_sure serves shown_by wrote broke code processes r program steady ls m a b p w now stores off = burst_sure serves shown_by wrote broke code processes r program steady ls m a b Stuck p w now stores off refl
+pub all_bursts_sure : {A W : Type 0} (serves : Host W) (shown_by : A → Numbered ℕ → W → Type 0) (wrote broke : A → List Line → A → Type 0) (code : Code) (processes : ℕ) (r : RawTree)
+    → law.BurstNeverStuck serves shown_by wrote broke code processes r
+all_bursts_sure serves shown_by wrote broke code processes r program steady ls m a b p w now stores off =
+    burst_sure serves shown_by wrote broke code processes r program steady ls m a b Stuck p w now stores off refl

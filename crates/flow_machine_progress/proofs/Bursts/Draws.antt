@@ -128,7 +128,8 @@ told_drawn (Some (call.Disk i g d)) told stuck = stuck
 told_drawn (Some (call.SendTo i t port text)) told stuck = stuck
 
 -- an effect of the world
-world_drawn : (i : ActorId) (g : Goal) (o : Option asks.Effect) (k n : Process) → k.asked ≡ None → EffectAsked i g o k n → ServingStuck n.asked → (lo : ℤ) × ((hi : ℤ) × ((o ≡ Some (Draw lo hi)) × IsOperand g))
+world_drawn : (i : ActorId) (g : Goal) (o : Option asks.Effect) (k n : Process) → k.asked ≡ None → EffectAsked i g o k n → ServingStuck n.asked
+    → (lo : ℤ) × ((hi : ℤ) × ((o ≡ Some (Draw lo hi)) × IsOperand g))
 world_drawn i g None k n none asked stuck = absurd asked
 world_drawn i g (Some (asks.Make kd)) k n none asked stuck = absurd asked
 world_drawn i g (Some (asks.Start class args)) k n none asked stuck = absurd asked
@@ -142,7 +143,8 @@ actor_drawn : (code : Code) (caller : ActorId) (g : Goal) (class : ℕ) (args : 
 actor_drawn code caller g class args k n none (not_called l e) stuck = quiet_drawn n (turned k) e (turned_asked k ∙ none) stuck
 actor_drawn code caller g class args k n none (actor_starts l h) stuck = asked_drawn n (doing (task.Run h.actor) h.given) (call.Line (line.Start h.actor h.starts.of.name)) h.starts.told stuck
 
-effect_drawn : (code : Code) (s : ControlPoint) (g : Goal) (e : Effect) (args : List Resolved) (m n : Process) (pace : Pace) → m.asked ≡ None → IsEffect code s g e args m pace n → ServingStuck n.asked → Drawn code s g e args m
+effect_drawn : (code : Code) (s : ControlPoint) (g : Goal) (e : Effect) (args : List Resolved) (m n : Process) (pace : Pace) → m.asked ≡ None → IsEffect code s g e args m pace n → ServingStuck n.asked
+    → Drawn code s g e args m
 effect_drawn code s g e args m n pace none (throws err left _ fails h) stuck = absurd (quiet_drawn n _ h none stuck)
 effect_drawn code s g e args m n pace none (runs_out _ spent h) stuck = absurd (quiet_drawn n _ h none stuck)
 effect_drawn code s g (effect.Actor class) args m n pace none (gives b left _ _ done h) stuck = absurd (actor_drawn code s.actor g class b.items (noted s (with_left left m)) n none h.1 stuck)
@@ -185,13 +187,16 @@ module _ (code : Code) (s : ControlPoint) (n : Process) where
   method_drawn : (aim : Aim) (called : Method) (args : List Resolved) (m : Process) (pace : Pace) → m.asked ≡ None → MethodStep code s aim called args m pace n → ServingStuck n.asked → ⊥
   method_drawn aim called [] m pace none h stuck = called_drawn s.actor called h.kind h.cell None (noted (next_stand s) m) n none h.calls stuck
   method_drawn aim called (e ∷ []) m pace none h stuck =
-      evaluated_drawn value_of (value_for code s.actor.0 e m) m (IsMethodOf code s aim called) pace none (λ v k none h stuck. called_drawn s.actor called h.kind h.cell (Some v) (noted (next_stand s) k) n none h.calls stuck) h stuck
+      evaluated_drawn value_of (value_for code s.actor.0 e m) m (IsMethodOf code s aim called) pace none
+      (λ v k none h stuck. called_drawn s.actor called h.kind h.cell (Some v) (noted (next_stand s) k) n none h.calls stuck) h stuck
   method_drawn aim called (e ∷ d ∷ es) m pace none h stuck = absurd h
 
-  act_drawn : (called : Predefined) (args : List Resolved) (m : Process) (pace : Pace) → m.asked ≡ None → Evaluates s args_of (values_for code s.actor.0 args m) m (IsAct code s (act.World called)) pace n
+  act_drawn : (called : Predefined) (args : List Resolved) (m : Process) (pace : Pace) → m.asked ≡ None
+      → Evaluates s args_of (values_for code s.actor.0 args m) m (IsAct code s (act.World called)) pace n
       → ServingStuck n.asked → ⊥
   act_drawn called args m pace none h stuck =
-      evaluated_drawn args_of (values_for code s.actor.0 args m) m (IsAct code s (act.World called)) pace none (λ v k none h stuck. predefined_drawn s.actor called v (noted (next_stand s) k) n h.1 stuck) h stuck
+      evaluated_drawn args_of (values_for code s.actor.0 args m) m (IsAct code s (act.World called)) pace none
+      (λ v k none h stuck. predefined_drawn s.actor called v (noted (next_stand s) k) n h.1 stuck) h stuck
 
 -- no operand's type is that of a number
 no_number : (next : Bool) (t : TypeTree) → IntType ≡ operand_type next t → ⊥
@@ -254,7 +259,8 @@ module _ (r : RawTree) (code : Code) (w : Supply) (ls : List Line) (x : Scan) (s
   asks_drawn n (chooses at) (by_operand number group b eff args end ends_in of_number there is does) stuck =
       let same : at.group ≡ number = let k = at.wait.last in cc (k, ends_in) in
       let fetched : fetch f.code f.block f.instr ≡ Last (ChooseLast number) = at.wait.fetched ∙ ap (λ k. Last (ChooseLast k)) same in
-      drawn_there number fetched ends_in (choices.at_told r code w ls x s m p i e f st at) group of_number b eff args there is (effect_drawn code own (goal.Kept (group.first + kept_by own told)) eff args.items told n Off st.unasked does stuck)
+      drawn_there number fetched ends_in (choices.at_told r code w ls x s m p i e f st at) group of_number b eff args there is
+      (effect_drawn code own (goal.Kept (group.first + kept_by own told)) eff args.items told n Off st.unasked does stuck)
   asks_drawn n (moves stale zero_state) (by_operand number group b eff args end ends_in of_number there is does) stuck =
       let here = the_end r code.classes.items s i f (coded_by inp.program) inp.standing stale.standing stale.instruction end in
       let text : here.text ≡ ChooseLast number = subst (EndOf by here.text) (sym here.coded ∙ ap end_of ends_in) (end_from by here.text) in
@@ -273,7 +279,8 @@ module _ (r : RawTree) (code : Code) (program : IsProgram r code) (ls : List Lin
   off = popped_quiet t m start taken
 
   -- the actor has come to a step that asks something
-  asks_at_last : (i : ℕ) (start_at : Proc Frame) (from : Process) → Sorted from.heap → AsksAtLast r ls nothing_in_hand supply (ProcessInvariant r) code program.coded i start_at from n → ServingStuck n.asked → ⊥
+  asks_at_last : (i : ℕ) (start_at : Proc Frame) (from : Process) → Sorted from.heap → AsksAtLast r ls nothing_in_hand supply (ProcessInvariant r) code program.coded i start_at from n
+      → ServingStuck n.asked → ⊥
   asks_at_last i start_at from sorted x stuck =
       asks_drawn r code supply ls nothing_in_hand x.stand x.memory x.process i x.entry x.frame
       (record {
@@ -287,7 +294,8 @@ module _ (r : RawTree) (code : Code) (program : IsProgram r code) (ls : List Lin
       }) n x.may x.asks stuck
 
   by_end : (i : ℕ) (start_at : Proc Frame) (from : Process) → Sorted from.heap
-      → RanOff r ls nothing_in_hand supply (ProcessInvariant r) code start_at n ⊎ AsksAtLast r ls nothing_in_hand supply (ProcessInvariant r) code program.coded i start_at from n → ServingStuck n.asked → ⊥
+      → RanOff r ls nothing_in_hand supply (ProcessInvariant r) code start_at n ⊎ AsksAtLast r ls nothing_in_hand supply (ProcessInvariant r) code program.coded i start_at from n
+      → ServingStuck n.asked → ⊥
   by_end i start_at from sorted (inl x) stuck = told_drawn n.asked x.told stuck
   by_end i start_at from sorted (inr x) stuck = asks_at_last i start_at from sorted x stuck
 
@@ -301,11 +309,13 @@ module _ (r : RawTree) (code : Code) (program : IsProgram r code) (ls : List Lin
       let after = goes.began_after start g.pace g.between none_off g.began in
       let calm = goes.after_calm g.pace start g.between after in
       by_end i p g.between (goes.calm_sorted start g.between calm sorted)
-      (further_follows r ls nothing_in_hand supply (ProcessInvariant r) code i class p start n program.coded (goes.allows r code program supply) now.kept g (goes.after_asked g.pace start g.between none_off after)
+      (further_follows r ls nothing_in_hand supply (ProcessInvariant r) code i class p start n program.coded (goes.allows r code program supply) now.kept g
+      (goes.after_asked g.pace start g.between none_off after)
       (ap program_time (calm.time ∙ off.calm.time) ∙ clock)) stuck
   by_goes (runs i q e f is begins) stuck =
       by_end i (on_core (pushed (Run i)) q) start sorted
-      (runs_follow r ls nothing_in_hand supply (ProcessInvariant r) code start q i e f begins.stand n program.coded (goes.allows r code program supply) (subst (ProcessInvariant r) is now.kept) begins.may begins.stands (off.asked ∙ none)
+      (runs_follow r ls nothing_in_hand supply (ProcessInvariant r) code start q i e f begins.stand n program.coded (goes.allows r code program supply)
+      (subst (ProcessInvariant r) is now.kept) begins.may begins.stands (off.asked ∙ none)
       (ap program_time off.calm.time ∙ clock) begins.runs) stuck
 
   pub draw_stored : ServingStuck n.asked → ⊥

@@ -64,9 +64,11 @@ module _ (r : RawTree) (code : Code) (program : IsProgram r code) (ls : List Lin
       rest a.process a.entry a.frame kept2 a.next (subst (λ k. InClass code k t) (sym a.same) here)
 
   -- so it is after one step
-  further : (s : ControlPoint) (m : Process) (p : Proc Frame) (e : Entry) (f : Frame) (t : ControlPoint) (between : Process) → ProcessInvariant r (full p) → MayStep r ls x s m p i e f → InClass code e.class s → m.asked ≡ None
+  further : (s : ControlPoint) (m : Process) (p : Proc Frame) (e : Entry) (f : Frame) (t : ControlPoint) (between : Process) → ProcessInvariant r (full p) → MayStep r ls x s m p i e f
+      → InClass code e.class s → m.asked ≡ None
       → program_time m.time ≡ pos w.now → StepsOn code s m (On t) between
-      → ((q : Proc Frame) (d : Entry) (g : Frame) → ProcessInvariant r (full q) → MayStep r ls x t between q i d g → InClass code d.class t → between.asked ≡ None → program_time between.time ≡ pos w.now → ⊥) → ⊥
+      → ((q : Proc Frame) (d : Entry) (g : Frame) → ProcessInvariant r (full q) → MayStep r ls x t between q i d g → InClass code d.class t → between.asked ≡ None
+      → program_time between.time ≡ pos w.now → ⊥) → ⊥
   further s m p e f t between kept may here none time one rest =
       by_step (step_follows r ls m p i e f x s w code (On t) between may (standing s m p e f kept may here) none time
       (allowed.next p i e f kept (entered r ls x s m p i e f may) (acting r ls x s m p i e f may)) one)
@@ -86,7 +88,8 @@ module _ (r : RawTree) (code : Code) (program : IsProgram r code) (ls : List Lin
       further s m p e f t between kept may here none time one (λ q d g kept next here none time. runs_sure t between q d g kept next here none time sorted_then rest)
 
   -- an actor that goes on after steps of the class machine
-  pub goes_sure : (number : ℕ) (start : Proc Frame) (t : ControlPoint) (between : Process) → ProcessInvariant r start → GoesBy r ls x w i number start (On t) between → InClass code number t → between.asked ≡ None
+  pub goes_sure : (number : ℕ) (start : Proc Frame) (t : ControlPoint) (between : Process) → ProcessInvariant r start → GoesBy r ls x w i number start (On t) between → InClass code number t
+      → between.asked ≡ None
       → program_time between.time ≡ pos w.now → Sorted between.heap → RunsStuck code t between → ⊥
   goes_sure number start t between kept g here none time sorted stuck =
       going_on number start t between kept g here (λ q d g kept next here. runs_sure t between q d g kept next here none time sorted stuck)

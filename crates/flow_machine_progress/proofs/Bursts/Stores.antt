@@ -204,7 +204,8 @@ module _ (r : RawTree) (code : Code) (program : IsProgram r code) (ls : List Lin
       -- which is an effect
       some_effect : (x : Instruction) → slice_get s.block.now.body.items s.instruction ≡ Some x → NoEffect x → ⊥
       some_effect x there none =
-          by_from (subst (CodedFrom (its_code r code program start q i.0 a.entry f acts) f.code here.text) (sym here.coded) (instruction_from (its_code r code program start q i.0 a.entry f acts) f.code here.text))
+          by_from (subst (CodedFrom (its_code r code program start q i.0 a.entry f acts) f.code here.text) (sym here.coded)
+          (instruction_from (its_code r code program start q i.0 a.entry f acts) f.code here.text))
         where
           here : AtInstruction (its_code r code program start q i.0 a.entry f acts) f x
           here = at x there

@@ -68,7 +68,8 @@ use Rattle.flow_cancel.specs.declared.task.Task as stack
 use Rattle.flow_cancel.specs.declared.task.Task.TheVariants as task
 use Rattle.flow_burst_refinement.proofs.Programs.Goes as goes
 
-module _ (r : RawTree) (code : Code) (program : IsProgram r code) (ls : List Line) (m : Process) (p : Proc Frame) (now : BetweenTasks r ls m p) (poised : NoStaleWaits m.heap) (stores_none : NoPromiseStored m.heap)
+module _ (r : RawTree) (code : Code) (program : IsProgram r code) (ls : List Line) (m : Process) (p : Proc Frame) (now : BetweenTasks r ls m p) (poised : NoStaleWaits m.heap)
+    (stores_none : NoPromiseStored m.heap)
     (none : m.asked ≡ None) (clock : program_time m.time ≡ pos m.time) where
   -- the world at the time of the process
   abbrev supply : Supply
@@ -119,7 +120,8 @@ module _ (r : RawTree) (code : Code) (program : IsProgram r code) (ls : List Lin
       where
         by_step : (e : Entry) (f : Frame) → Acts r start.heap q i.0 e f → MayStep r ls nothing_in_hand s start q i.0 e f → ⊥
         by_step e f acts may =
-            runs_sure r code program ls nothing_in_hand supply (step_meant r code supply ls nothing_in_hand) i.0 s start q e f (kept_full (Run i.0) is) may (in_class r ls start q i.0 e f code s acts stands) asks_none time sorted stuck
+            runs_sure r code program ls nothing_in_hand supply (step_meant r code supply ls nothing_in_hand) i.0 s start q e f (kept_full (Run i.0) is) may
+            (in_class r ls start q i.0 e f code s acts stands) asks_none time sorted stuck
 
         by_may : MayGo code r ls start q i.0 → ⊥
         by_may (is_free e f acts zero may) =
@@ -145,7 +147,8 @@ module _ (r : RawTree) (code : Code) (program : IsProgram r code) (ls : List Lin
         (given_goes r ls start q i.0 may.0 may.1.0 nothing_in_hand code supply b y s u x (On z) n st may.1.1.1 stands at to after) (by_value u _ i.0 x.into y after) stuck
 
     -- an operand that is kept
-    kept_sure : (i : ActorId) (n : ℕ) (k : CellId) → SameTask q (task.Keep i n k) o.top → StateIsNone start.heap i.0 → (y : Process) (s : ControlPoint) (pace : Pace) (z : Process) → TopTaken (task.Run i) start y
+    kept_sure : (i : ActorId) (n : ℕ) (k : CellId) → SameTask q (task.Keep i n k) o.top → StateIsNone start.heap i.0 → (y : Process) (s : ControlPoint) (pace : Pace) (z : Process)
+        → TopTaken (task.Run i) start y
         → IsAtPoint code.classes.items i y s → KeepsOperand s (record { callback = n; cell = k }) y pace z → GoesStuck code pace z → ⊥
     kept_sure i n k same zero_state y s Off z next stands keeps stuck = stuck
     kept_sure i n k same zero_state y s (On u) z next stands keeps stuck =

@@ -44,7 +44,8 @@ coded_there k first (h ∷ hs) [] n b cs a d e = cc (d)
 coded_there k first (h ∷ hs) (g ∷ gs) zero b cs a d e = cc (e)
 coded_there k first (h ∷ hs) (g ∷ gs) (suc n) b cs a d e = coded_there k (first + length g) hs gs n b cs a d e
 
-module _ (r : RawTree) (classes : List Class) (h : HeapTree) (p : Proc Frame) (i : ℕ) (e : Entry) (f : Frame) (c : CodedBy r classes) (home : AtHome f.code) (a : Acts r h p i e f) (stands : HasPoint f) where
+module _ (r : RawTree) (classes : List Class) (h : HeapTree) (p : Proc Frame) (i : ℕ) (e : Entry) (f : Frame) (c : CodedBy r classes) (home : AtHome f.code) (a : Acts r h p i e f)
+    (stands : HasPoint f) where
   abbrev code : Coding
   code = coding c.names c.class (length f.code.slots)
 

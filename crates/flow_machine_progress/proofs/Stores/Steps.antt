@@ -146,7 +146,8 @@ effect_made : (code : Code) (i : ActorId) (g : Goal) (e : Effect) (args : Values
 effect_made code i g (effect.World called) args m n h p = effect_asked i g _ m n h p
 effect_made code i g (effect.Actor class) args m n h p = actor_called code i g class args.items m n h p
 
-effect_done : (code : Code) (s : ControlPoint) (g : Goal) (e : Effect) (args : Values) (m n : Process) (pace : Pace) → EffectDone code s g e args m pace n → NoPromiseStored m.heap → NoPromiseStored n.heap
+effect_done : (code : Code) (s : ControlPoint) (g : Goal) (e : Effect) (args : Values) (m n : Process) (pace : Pace) → EffectDone code s g e args m pace n → NoPromiseStored m.heap
+    → NoPromiseStored n.heap
 effect_done code s g e args m n pace h p = effect_made code s.actor g e args (noted s m) n h.1 (noted_good s m p)
 
 -- call statements
@@ -173,10 +174,12 @@ method_called i called kind.PromiseStream k arg m n h p = good_is n _ h.sends (s
 method_called i called kind.Future k arg m n h p = good_is n _ h.1 (owner_good _ (doing (task.Run i) m) (tt, p))
 method_called i called kind.FutureStream k arg m n h p = absurd h
 
-method_is : (code : Code) (s : ControlPoint) (aim : Aim) (called : Method) (sent : Option Value) (m n : Process) (pace : Pace) → IsMethod code s aim called sent m pace n → NoPromiseStored m.heap → NoPromiseStored n.heap
+method_is : (code : Code) (s : ControlPoint) (aim : Aim) (called : Method) (sent : Option Value) (m n : Process) (pace : Pace) → IsMethod code s aim called sent m pace n → NoPromiseStored m.heap
+    → NoPromiseStored n.heap
 method_is code s aim called sent m n pace h p = method_called s.actor called h.kind h.cell sent (noted (next_stand s) m) n h.calls (noted_good (next_stand s) m p)
 
-method_step : (code : Code) (s : ControlPoint) (aim : Aim) (called : Method) (es : List Resolved) (m n : Process) (pace : Pace) → MethodStep code s aim called es m pace n → NoPromiseStored m.heap → NoPromiseStored n.heap
+method_step : (code : Code) (s : ControlPoint) (aim : Aim) (called : Method) (es : List Resolved) (m n : Process) (pace : Pace) → MethodStep code s aim called es m pace n → NoPromiseStored m.heap
+    → NoPromiseStored n.heap
 method_step code s aim called [] m n pace h p = method_is code s aim called None m n pace h p
 method_step code s aim called (e ∷ []) m n pace h p = evaluates s value_of _ m n _ pace (λ v k n pace h p. method_is code s aim called (Some v) k n pace h p) h p
 method_step code s aim called (e ∷ f ∷ es) m n pace h p = absurd h

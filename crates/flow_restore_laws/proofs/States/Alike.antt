@@ -97,7 +97,8 @@ module _ (h g : HeapTree) (u : RestsWith (parts_of h) h) (t : RestsWith (parts_o
   actors_alike : (i : ℕ) → Alike (as_actor g i) (as_actor h i) (thing g.frames.things i) (thing h.frames.things i)
   actors_alike i =
       alike (as_actor g i) (as_actor h i) (thing g.frames.things i) (thing h.frames.things i)
-      (sym (part_at (λ y. y.actor) (actor_part g.actors.things) (λ y. refl) g.frames.things i) ∙ ap (λ q. actor_at q i) t.parts ∙ part_at (λ y. y.actor) (actor_part h.actors.things) (λ y. refl) h.frames.things i)
+      (sym (part_at (λ y. y.actor) (actor_part g.actors.things) (λ y. refl) g.frames.things i) ∙ ap (λ q. actor_at q i) t.parts
+      ∙ part_at (λ y. y.actor) (actor_part h.actors.things) (λ y. refl) h.frames.things i)
 
   -- the cells
   single_shown : (spots : ℕ → Spot) (n : ℕ) (m l : CellTree Outcome) (x : Option Cell) → as_cell g n m ≡ as_cell h n l → CellRepresents spots (Some l) None x → CellRepresents spots (Some m) None x
@@ -111,7 +112,8 @@ module _ (h g : HeapTree) (u : RestsWith (parts_of h) h) (t : RestsWith (parts_o
   stream_shown spots n m l (Some (Stream q y w)) e s =
       (s.0 ∙ sym (ap (λ (q : StreamPart). q.queue) e), s.1 ∙ sym (ap (λ (q : StreamPart). option_map error_number q.end) e), ap (λ (q : StreamPart). q.waiter) e ∙ s.2)
 
-  cell_shown : (spots : ℕ → Spot) (n : ℕ) (x : Option Cell) → CellRepresents spots (thing h.cells.things n) (thing h.streams.things n) x → CellRepresents spots (thing g.cells.things n) (thing g.streams.things n) x
+  cell_shown : (spots : ℕ → Spot) (n : ℕ) (x : Option Cell) → CellRepresents spots (thing h.cells.things n) (thing h.streams.things n) x
+      → CellRepresents spots (thing g.cells.things n) (thing g.streams.things n) x
   cell_shown spots n x s = by_case (cells_alike n) (streams_alike n)
     where
       here_too : {a b : Option (CellTree Outcome)} {c d : Option (StreamTree Value)} → a ≡ b → c ≡ d → CellRepresents spots a c x → CellRepresents spots b d x
@@ -182,7 +184,8 @@ module _ (h g : HeapTree) (u : RestsWith (parts_of h) h) (t : RestsWith (parts_o
         by_position z (here a b c) = absurd (no_state l.state l.callbacks asleep a)
         by_position z (at_wait k a b) = at_wait k (z ∙ a) (z ∙ b)
 
-    actor_shown : (i : ℕ) (e : Option Entry) (f : Option Frame) → ActorRepresents r (thing h.actors.things i) (thing h.frames.things i) e f → ActorRepresents r (thing g.actors.things i) (thing g.frames.things i) e f
+    actor_shown : (i : ℕ) (e : Option Entry) (f : Option Frame) → ActorRepresents r (thing h.actors.things i) (thing h.frames.things i) e f
+        → ActorRepresents r (thing g.actors.things i) (thing g.frames.things i) e f
     actor_shown i e f s = by_case (actors_alike i) s
       where
         nobody_noted : (o : Option Note) → thing g.actors.things i ≡ o → thing g.frames.things i ≡ None → o ≡ None

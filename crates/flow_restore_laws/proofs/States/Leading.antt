@@ -162,7 +162,8 @@ module _ (r : RawTree) (h : HeapTree) (p : Proc Frame) (f : Fitting r h p) where
       by_main (Some k) e = let x = f.fits.main k.0 e in (ref_there r f.types p fits kind.Future k.0 x.0 x.1, tt)
 
   -- all of them
-  all_lead : {A P : Type 0} (refs : P → List Ref) (part : ℕ × A → P) (xs : List (ℕ × A)) (low n : ℕ) → Rising low n xs → ((k : ℕ) (a : A) → thing xs k ≡ Some a → AllThere p (refs (part (k, a)))) → AllThere p (flat_map refs (map part xs))
+  all_lead : {A P : Type 0} (refs : P → List Ref) (part : ℕ × A → P) (xs : List (ℕ × A)) (low n : ℕ) → Rising low n xs → ((k : ℕ) (a : A) → thing xs k ≡ Some a → AllThere p (refs (part (k, a))))
+      → AllThere p (flat_map refs (map part xs))
   all_lead {P = P} refs part xs low n up g = by_list (map part xs) (all_by (λ x. AllThere p (refs x)) part xs low n up g)
     where
       by_list : (ys : List P) → AllByRecursion (λ x. AllThere p (refs x)) ys → AllThere p (flat_map refs ys)

@@ -114,7 +114,8 @@ module _ (r : RawTree) where
     going = s.going;
   })
 
-module _ (r : RawTree) (whole : AreWhole r) (few : HaveFewerPlaces r) (f : file.World) (range : IsInRange f) (states : List (World Frame)) (trace : List Line) (run : IsRun (classes r) f states trace) where
+module _ (r : RawTree) (whole : AreWhole r) (few : HaveFewerPlaces r) (f : file.World) (range : IsInRange f) (states : List (World Frame)) (trace : List Line)
+    (run : IsRun (classes r) f states trace) where
   abbrev Keeps : World Frame → Type 0
   Keeps = Waits (Quiescent r) (MemoryWorldInvariant r) (IsProgram r)
 
@@ -287,7 +288,8 @@ module _ {A : Type 0} (puts : A → Line → Result (Unit {0}) OutFault → A �
 
   pub programs_rest_alike : ProgramsRestAlike puts
   programs_rest_alike text program c file with_frames first v a b sound light has range starts goes =
-      classes_rest_alike c file with_frames first v a b (subst AreWhole (sym has) (compiles_whole text program sound)) (subst HaveFewerPlaces (sym has) (compiled_fewer text program sound)) range starts goes
+      classes_rest_alike c file with_frames first v a b (subst AreWhole (sym has) (compiles_whole text program sound))
+      (subst HaveFewerPlaces (sym has) (compiled_fewer text program sound)) range starts goes
 
   pub programs_go_on : ProgramsGoOn puts
   programs_go_on text program c file with_frames first v a b y z e sound light has range starts goes rest =

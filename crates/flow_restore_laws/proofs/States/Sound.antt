@@ -48,7 +48,8 @@ use Rattle.flow_restore_laws.proofs.States.Times.{among, times_counted, requeste
 use Rattle.flow_restore_laws.proofs.States.Waiting.{part_at, waiters_call, callbacks_wait}
 
 -- the numbers of parts rise
-rise : {A P : Type 0} (part : ℕ × A → P) (number : P → ℕ) → ((x : ℕ × A) → number (part x) ≡ x.0) → (low most n : ℕ) (xs : Numbered A) → stored.IsRising low xs most → most ≤ n → RiseTo low (map number (map part xs)) n
+rise : {A P : Type 0} (part : ℕ × A → P) (number : P → ℕ) → ((x : ℕ × A) → number (part x) ≡ x.0) → (low most n : ℕ) (xs : Numbered A) → stored.IsRising low xs most → most ≤ n
+    → RiseTo low (map number (map part xs)) n
 rise part number same low most n [] h l = omega (arith, h, l)
 rise part number same low most n (x ∷ xs) h l =
     (subst (λ k. low < k) (sym (same x)) h.0, subst (λ k. RiseTo k (map number (map part xs)) n) (sym (same x)) (rise part number same x.0 most n xs h.1 l))
@@ -157,7 +158,8 @@ module _ (r : RawTree) (h : HeapTree) (p : Proc Frame) (few : HaveFewerPlaces r)
           let a = among kind.Promise n (λ (c : CellPart). noted c.requested kind.Promise c.cell) (cell_part h.requests) h.cells.things n m e in
           let b = noted_once kind.Promise n (has_number h.requests n) refl asked in omega (arith, a, b)
 
-      split : has_number h.requests n ≡ true → times kind.Promise n (parts.references (parts_of h)) ≡ times kind.Promise n (results (parts_of h)) + (times kind.Promise n (value_refs (parts_of h)) + times kind.Promise n (requested_refs (parts_of h)))
+      split : has_number h.requests n ≡ true → times kind.Promise n (parts.references (parts_of h))
+          ≡ times kind.Promise n (results (parts_of h)) + (times kind.Promise n (value_refs (parts_of h)) + times kind.Promise n (requested_refs (parts_of h)))
       split asked = promises_split n (parts_of h)
 
   sound_stream : (n : ℕ) (m : StreamTree Value) → thing h.streams.things n ≡ Some m → SoundStream (parts_of h) (stream_part h.ports (n, m))
@@ -195,7 +197,8 @@ module _ (r : RawTree) (h : HeapTree) (p : Proc Frame) (few : HaveFewerPlaces r)
       called : (s : StreamAt r h p f n m) (w : memory.Waiter) → m.waiter ≡ Some w → IsWaiting (parts_of h) n w
       called s w is = by_waiter s.waiter (sym s.waiter_is ∙ is) (waiters_call r h p f n (as_list s.waiter) (ap waiters_at s.at))
         where
-          by_waiter : (o : Option Waiter) → option_map (waiter_in (spots r h p f)) o ≡ Some w → AllByRecursion (IsWaiting (parts_of h) n) (map (waiter_in (spots r h p f)) (as_list o)) → IsWaiting (parts_of h) n w
+          by_waiter : (o : Option Waiter) → option_map (waiter_in (spots r h p f)) o ≡ Some w → AllByRecursion (IsWaiting (parts_of h) n) (map (waiter_in (spots r h p f)) (as_list o))
+              → IsWaiting (parts_of h) n w
           by_waiter None z t = absurd (no_thing z)
           by_waiter (Some v) z t = subst (IsWaiting (parts_of h) n) (same_of z) t.0
 
@@ -254,9 +257,12 @@ module _ (r : RawTree) (h : HeapTree) (p : Proc Frame) (few : HaveFewerPlaces r)
         streams_rise = rise (stream_part h.ports) (λ s. s.cell) (λ x. refl) 0 h.streams.greatest (last_cell h) h.streams.things sorted.streams (grind arith);
         actors_rise = rise (actor_part h.actors.things) (λ a. a.actor) (λ x. refl) 0 h.frames.greatest (last_actor h) h.frames.things sorted.frames (grind arith);
         named = all_named (parts.references (parts_of h)) (parts_lead r h p f);
-        cells = all_by (SoundCell (parts_of h)) (cell_part h.requests) h.cells.things 0 h.cells.greatest (rising 0 h.cells.greatest h.cells.greatest h.cells.things sorted.cells (omega arith)) sound_cell;
-        streams = all_by (SoundStream (parts_of h)) (stream_part h.ports) h.streams.things 0 h.streams.greatest (rising 0 h.streams.greatest h.streams.greatest h.streams.things sorted.streams (omega arith)) sound_stream;
-        actors = all_by (SoundActor (parts_of h)) (actor_part h.actors.things) h.frames.things 0 h.frames.greatest (rising 0 h.frames.greatest h.frames.greatest h.frames.things sorted.frames (omega arith)) sound_actor;
+        cells = all_by (SoundCell (parts_of h)) (cell_part h.requests) h.cells.things 0 h.cells.greatest (rising 0 h.cells.greatest h.cells.greatest h.cells.things sorted.cells (omega arith))
+            sound_cell;
+        streams = all_by (SoundStream (parts_of h)) (stream_part h.ports) h.streams.things 0 h.streams.greatest
+            (rising 0 h.streams.greatest h.streams.greatest h.streams.things sorted.streams (omega arith)) sound_stream;
+        actors = all_by (SoundActor (parts_of h)) (actor_part h.actors.things) h.frames.things 0 h.frames.greatest
+            (rising 0 h.frames.greatest h.frames.greatest h.frames.things sorted.frames (omega arith)) sound_actor;
       }
 
 pub heaps_sound : HeapsSound

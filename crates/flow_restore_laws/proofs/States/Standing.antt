@@ -57,7 +57,8 @@ module _ (r : RawTree) (h : HeapTree) (p : Proc Frame) (f : Fitting r h p) where
     pub waiters_are : m.waiters ≡ map (waiter_in spots) waiters
 
   pub single_at : (n : ℕ) (m : CellTree Outcome) → thing h.cells.things n ≡ Some m → SingleAt n m
-  single_at n m e = by_case (thing h.streams.things n) (thing p.core.cells n) refl refl (subst (λ o. CellRepresents spots o (thing h.streams.things n) (thing p.core.cells n)) e (f.rested.running.shows.cells n))
+  single_at n m e = by_case (thing h.streams.things n) (thing p.core.cells n) refl refl
+      (subst (λ o. CellRepresents spots o (thing h.streams.things n) (thing p.core.cells n)) e (f.rested.running.shows.cells n))
     where
       by_case : (s : Option (StreamTree Value)) (c : Option Cell) → thing h.streams.things n ≡ s → thing p.core.cells n ≡ c → CellRepresents spots (Some m) s c → SingleAt n m
       by_case None None a b s = absurd s
@@ -68,9 +69,11 @@ module _ (r : RawTree) (h : HeapTree) (p : Proc Frame) (f : Fitting r h p) where
       by_case (Some t) (Some (Stream q x w)) a b s = absurd s
 
   pub single_back : (n : ℕ) (content : Option OutcomeTree) (ws : List Waiter) → thing p.core.cells n ≡ Some (Single content ws) → (m : CellTree Outcome) × (thing h.cells.things n ≡ Some m)
-  single_back n content ws e = by_case (thing h.cells.things n) (thing h.streams.things n) refl (subst (CellRepresents spots (thing h.cells.things n) (thing h.streams.things n)) e (f.rested.running.shows.cells n))
+  single_back n content ws e = by_case (thing h.cells.things n) (thing h.streams.things n) refl
+      (subst (CellRepresents spots (thing h.cells.things n) (thing h.streams.things n)) e (f.rested.running.shows.cells n))
     where
-      by_case : (c : Option (CellTree Outcome)) (s : Option (StreamTree Value)) → thing h.cells.things n ≡ c → CellRepresents spots c s (Some (Single content ws)) → (m : CellTree Outcome) × (thing h.cells.things n ≡ Some m)
+      by_case : (c : Option (CellTree Outcome)) (s : Option (StreamTree Value)) → thing h.cells.things n ≡ c → CellRepresents spots c s (Some (Single content ws))
+          → (m : CellTree Outcome) × (thing h.cells.things n ≡ Some m)
       by_case None None a s = absurd s
       by_case None (Some t) a s = absurd s
       by_case (Some m) None a s = (m, a)
@@ -88,7 +91,8 @@ module _ (r : RawTree) (h : HeapTree) (p : Proc Frame) (f : Fitting r h p) where
     pub waiter_is : m.waiter ≡ option_map (waiter_in spots) waiter
 
   pub stream_at : (n : ℕ) (m : StreamTree Value) → thing h.streams.things n ≡ Some m → StreamAt n m
-  stream_at n m e = by_case (thing h.cells.things n) (thing p.core.cells n) refl refl (subst (λ o. CellRepresents spots (thing h.cells.things n) o (thing p.core.cells n)) e (f.rested.running.shows.cells n))
+  stream_at n m e = by_case (thing h.cells.things n) (thing p.core.cells n) refl refl
+      (subst (λ o. CellRepresents spots (thing h.cells.things n) o (thing p.core.cells n)) e (f.rested.running.shows.cells n))
     where
       by_case : (s : Option (CellTree Outcome)) (c : Option Cell) → thing h.cells.things n ≡ s → thing p.core.cells n ≡ c → CellRepresents spots s (Some m) c → StreamAt n m
       by_case None None a b s = absurd s
@@ -99,9 +103,11 @@ module _ (r : RawTree) (h : HeapTree) (p : Proc Frame) (f : Fitting r h p) where
       by_case (Some t) (Some (Stream q x w)) a b s = absurd s
 
   pub stream_back : (n : ℕ) (q : List ValueTree) (x : Option ℕ) (w : Option Waiter) → thing p.core.cells n ≡ Some (Stream q x w) → (m : StreamTree Value) × (thing h.streams.things n ≡ Some m)
-  stream_back n q x w e = by_case (thing h.cells.things n) (thing h.streams.things n) refl (subst (CellRepresents spots (thing h.cells.things n) (thing h.streams.things n)) e (f.rested.running.shows.cells n))
+  stream_back n q x w e = by_case (thing h.cells.things n) (thing h.streams.things n) refl
+      (subst (CellRepresents spots (thing h.cells.things n) (thing h.streams.things n)) e (f.rested.running.shows.cells n))
     where
-      by_case : (c : Option (CellTree Outcome)) (s : Option (StreamTree Value)) → thing h.streams.things n ≡ s → CellRepresents spots c s (Some (Stream q x w)) → (m : StreamTree Value) × (thing h.streams.things n ≡ Some m)
+      by_case : (c : Option (CellTree Outcome)) (s : Option (StreamTree Value)) → thing h.streams.things n ≡ s → CellRepresents spots c s (Some (Stream q x w))
+          → (m : StreamTree Value) × (thing h.streams.things n ≡ Some m)
       by_case None None a s = absurd s
       by_case None (Some t) a s = (t, a)
       by_case (Some m) None a s = absurd s

@@ -78,7 +78,8 @@ module _ (q : Kind) (k : ℕ) where
   times_flat refs part (x ∷ xs) = let a = times_joined (refs (part x)) (flat_map refs (map part xs)) in let b = times_flat refs part xs in omega (arith, a, b)
 
   -- what one part has, all have
-  pub among : {A P : Type 0} (refs : P → List Ref) (part : ℕ × A → P) (xs : List (ℕ × A)) (n : ℕ) (a : A) → thing xs n ≡ Some a → times q k (refs (part (n, a))) ≤ times q k (flat_map refs (map part xs))
+  pub among : {A P : Type 0} (refs : P → List Ref) (part : ℕ × A → P) (xs : List (ℕ × A)) (n : ℕ) (a : A) → thing xs n ≡ Some a
+      → times q k (refs (part (n, a))) ≤ times q k (flat_map refs (map part xs))
   among refs part xs n a e = let b = times_flat refs part xs in let c = sum_at (λ n a. times q k (refs (part (n, a)))) xs n a e in omega (arith, b, c)
 
   -- by their kinds

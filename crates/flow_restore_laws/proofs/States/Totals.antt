@@ -86,7 +86,8 @@ module _ {A : Type 0} where
   sum_at w xs n a e = let b = sum_removed w xs n a e in omega (arith, b)
 
   -- what holds of the thing at each number holds of all
-  pub all_by : {P : Type 0} (Q : P → Type 0) (part : ℕ × A → P) (xs : Numbered A) (low n : ℕ) → Rising low n xs → ((k : ℕ) (a : A) → thing xs k ≡ Some a → Q (part (k, a))) → AllByRecursion Q (map part xs)
+  pub all_by : {P : Type 0} (Q : P → Type 0) (part : ℕ × A → P) (xs : Numbered A) (low n : ℕ) → Rising low n xs → ((k : ℕ) (a : A) → thing xs k ≡ Some a → Q (part (k, a)))
+      → AllByRecursion Q (map part xs)
   all_by Q part [] low n h f = tt
   all_by Q part (x ∷ xs) low n h f = (f x.0 x.1 (ap (λ b. if b then Some x.1 else thing xs x.0) (same_number x.0)), all_by Q part xs x.0 n h.2 later)
     where

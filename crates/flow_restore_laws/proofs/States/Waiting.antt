@@ -34,7 +34,8 @@ Among b [] = ⊥
 Among b (c ∷ cs) = (c ≡ b) ⊎ Among b cs
 
 -- what stands at a number among the parts
-pub part_at : {A P : Type 0} (number : P → ℕ) (part : ℕ × A → P) → ((x : ℕ × A) → number (part x) ≡ x.0) → (xs : Numbered A) (n : ℕ) → at_number number (map part xs) n ≡ option_map (λ a. part (n, a)) (thing xs n)
+pub part_at : {A P : Type 0} (number : P → ℕ) (part : ℕ × A → P) → ((x : ℕ × A) → number (part x) ≡ x.0) → (xs : Numbered A) (n : ℕ)
+    → at_number number (map part xs) n ≡ option_map (λ a. part (n, a)) (thing xs n)
 part_at number part same [] n = refl
 part_at number part same (x ∷ xs) n = ap (λ m. if nat_eq n m then Some (part x) else at_number number (map part xs) n) (same x) ∙ by_test (nat_eq n x.0) refl (part_at number part same xs n)
   where
@@ -90,7 +91,8 @@ own_branch : (ws : List Waiter) → AllByRecursion (λ (w : Waiter). Among w.bra
 own_branch ws = each ws (λ w t. t)
   where
     -- those of a part of the list are among those of the list
-    each : (us : List Waiter) → ((w : Waiter) → Among w.branch (branches_of w.actor us) → Among w.branch (branches_of w.actor ws)) → AllByRecursion (λ (w : Waiter). Among w.branch (branches_of w.actor ws)) us
+    each : (us : List Waiter) → ((w : Waiter) → Among w.branch (branches_of w.actor us) → Among w.branch (branches_of w.actor ws))
+        → AllByRecursion (λ (w : Waiter). Among w.branch (branches_of w.actor ws)) us
     each [] f = tt
     each (u ∷ us) f = (f u (own u us), each us (λ w t. f w (more w u us t)))
       where

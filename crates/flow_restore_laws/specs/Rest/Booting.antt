@@ -30,4 +30,4 @@ module _ {A W : Type 0} (serves : Host W) (shows : A → Numbered ℕ → W → 
       → MayBoot r turns me memory process → HostRepresents serves shows processes now host process world
       → MainBursts serves shows wrote code processes me (begun now turns memory) host end after left
       → SimulatesBurst serves shows wrote code processes r [] host (boot (classes r) me.0 (on_core (begin turns) process)) world end
-        after left
+      after left

@@ -64,7 +64,8 @@ module _ (r : RawTree) (h : HeapTree) (p : Proc Frame) (x : Scan) (k : ℕ) (q :
       ap (λ c. references s j (on_core (fill_cell k (outcome_of o) c) p)) at
       ∙ (let a = of_cell p s j k (Stream q d w) (Stream (q ++ value_of v ∷ []) d w) at in let b = one_more s j k q d w (value_of v) in omega (arith, a, b))
 
-  element_holds : (m : StreamTree Value) → Holds r (with_refs (refs_in (value_in (outcome_of o))) x) h p → stored.thing h.streams.things k ≡ Some m → Holds r x (send_stream k o (stored.thing h.streams.things k) h) after
+  element_holds : (m : StreamTree Value) → Holds r (with_refs (refs_in (value_in (outcome_of o))) x) h p → stored.thing h.streams.things k ≡ Some m
+      → Holds r x (send_stream k o (stored.thing h.streams.things k) h) after
   element_holds m hs e =
       subst (λ y. Holds r x (send_stream k o y h) after) (sym e)
       (subst (λ g. Holds r x g after) (pushed_stream (memory_side FutureSide) k (stored.thing (stored.put h.streams.things k n) k) (fire k) (stream_put k n h))
@@ -97,7 +98,8 @@ module _ (r : RawTree) (ls : List Line) (x : Scan) (m : Process) (p : Proc Frame
       mid : Process
       mid = on_heap (hold_all rs) m
 
-      by_cell : (c : Cell) → thing p.core.cells k ≡ Some c → RightCell kind.PromiseStream c → ProcessRepresents r ls x (on_heap (content_brought kind.PromiseStream k (outcome.Value v)) m) (on_core (fill k (outcome_of (outcome.Value v))) p)
+      by_cell : (c : Cell) → thing p.core.cells k ≡ Some c → RightCell kind.PromiseStream c
+          → ProcessRepresents r ls x (on_heap (content_brought kind.PromiseStream k (outcome.Value v)) m) (on_core (fill k (outcome_of (outcome.Value v))) p)
       by_cell (Single o ws) at right = absurd right
       by_cell (Stream q d w) at right =
           let u = refs_held r ls x m p rs s all in

@@ -51,7 +51,8 @@ int_seen n = ap value_of (sym (rolls-Int n)) ∙ fold-roll-Value ValueTree value
 
 -- what comes out is what the definitions have
 as_booted : (p : Proc Frame) (class : ℕ) (f : Frame) (name : List ℕ)
-    → on_core (writes (start_line (suc p.core.started) name)) (on_core (pushed (Run (suc p.core.started))) (on_core (λ c. record c { main = Some (suc p.core.made) }) (with_actor class (suc p.core.made) f (on_core (new_cell (Single None [])) p))))
+    → on_core (writes (start_line (suc p.core.started) name)) (on_core (pushed (Run (suc p.core.started)))
+    (on_core (λ c. record c { main = Some (suc p.core.made) }) (with_actor class (suc p.core.made) f (on_core (new_cell (Single None [])) p))))
     ≡ proc (record (enrol class name p.core) { main = Some (suc p.core.made) }) (added p.actors (suc p.core.started) f)
 as_booted p class f name = refl
 
@@ -59,7 +60,8 @@ module _ (r : RawTree) (ls : List Line) (x : Scan) (m : Process) (p : Proc Frame
   -- where a turn is left
   starts_shown : (code : Code) (me : ProcId) (n : Process) → ProcessRepresents r ls x m p → m.asked ≡ None → p.core.main ≡ None → code.main ≡ Some (classes r).main
       → (may : MayStart r p code (classes r).main (IntValue (pos me.0) ∷ [])) → MainStarts code me m n
-      → ProcessRepresents r ls x n (proc (record (enrol (classes r).main may.tree.name p.core) { main = Some (suc p.core.made) }) (added p.actors (suc p.core.started) (begun may.tree (IntValue (pos me.0) ∷ []))))
+      → ProcessRepresents r ls x n (proc (record (enrol (classes r).main may.tree.name p.core) { main = Some (suc p.core.made) })
+      (added p.actors (suc p.core.started) (begun may.tree (IntValue (pos me.0) ∷ []))))
   starts_shown code me n s none no_main main may st =
       let class = (classes r).main in
       let vs : List Value = Int (pos me.0) ∷ [] in
@@ -86,7 +88,8 @@ module _ (r : RawTree) (ls : List Line) (x : Scan) (m : Process) (p : Proc Frame
       let m4 : Process = on_heap (λ h. record (hold kind.Future st.cell.0 h) { main = Some st.cell }) st.between in
       let p4 : Proc Frame = on_core (λ c. record c { main = Some st.cell.0 }) p3 in
       let as_main : ProcessRepresents r ls x m4 p4 =
-      changed r ls (with_refs ((kind.Future, st.cell.0) ∷ []) x) x (on_heap (hold kind.Future st.cell.0) st.between) p3 p4 (record (hold kind.Future st.cell.0 st.between.heap) { main = Some st.cell }) held (record {
+      changed r ls (with_refs ((kind.Future, st.cell.0) ∷ []) x) x (on_heap (hold kind.Future st.cell.0) st.between) p3 p4
+      (record (hold kind.Future st.cell.0 st.between.heap) { main = Some st.cell }) held (record {
         shows = main_shown r (hold kind.Future st.cell.0 st.between.heap) p3 (Some st.cell) held.holds.shows;
         counted = λ z j.
             let a = of_main p3 z j (Some st.cell.0) in
@@ -103,14 +106,19 @@ module _ (r : RawTree) (ls : List Line) (x : Scan) (m : Process) (p : Proc Frame
       st.starts.told ∙ ap (λ l. telling (line.Start st.actor l) (doing (task.Run st.actor) m4)) named in
       let actor : st.actor ≡ actor_id (suc p.core.started) = ap actor_id en.actor in
       subst (λ z. ProcessRepresents r ls x z (proc (record (enrol class may.tree.name p.core) { main = Some (suc p.core.made) }) (added p.actors (suc p.core.started) f))) (sym out)
-      (subst (λ k. ProcessRepresents r ls x (telling (line.Start st.actor may.tree.name) (doing (task.Run st.actor) m4)) (on_core (writes (start_line (suc p.core.started) may.tree.name)) (on_core (pushed (Run (suc p.core.started))) (on_core (λ c. record c { main = Some k }) (with_actor class k f (on_core (new_cell (Single None [])) p)))))) en.cell
-      (subst (λ (a : ActorId). ProcessRepresents r ls x (telling (line.Start st.actor may.tree.name) (doing (task.Run st.actor) m4)) (on_core (writes (line.Start a may.tree.name)) (on_core (pushed (Run a.0)) p4))) actor told))
+      (subst (λ k. ProcessRepresents r ls x (telling (line.Start st.actor may.tree.name) (doing (task.Run st.actor) m4))
+      (on_core (writes (start_line (suc p.core.started) may.tree.name))
+      (on_core (pushed (Run (suc p.core.started))) (on_core (λ c. record c { main = Some k }) (with_actor class k f (on_core (new_cell (Single None [])) p)))))) en.cell
+      (subst (λ (a : ActorId). ProcessRepresents r ls x (telling (line.Start st.actor may.tree.name) (doing (task.Run st.actor) m4))
+      (on_core (writes (line.Start a may.tree.name)) (on_core (pushed (Run a.0)) p4))) actor told))
 
 pub main_boots : (r : RawTree) (ls : List Line) (m : Process) (p : Proc Frame) → law.MainBoots r ls m p
 main_boots r ls m p x code me n s none no_main main may called =
     subst (λ o. Matches r ls x n (boot_with (classes r) o p)) (sym (fresh_actor r (classes r).main may.tree (IntValue (pos me.0) ∷ []) may.at may.taken))
-    (subst (λ l. Matches r ls x n (proc (turn p.core (λ d. record (enrol (classes r).main l d) { main = Some (suc d.made) })) (added p.actors (suc p.core.started) (begun may.tree (IntValue (pos me.0) ∷ []))))) (sym (label_is r (classes r).main may.tree may.at))
-    (by_turn r ls x m p x n (λ d. record (enrol (classes r).main may.tree.name d) { main = Some (suc d.made) }) p.core (added p.actors (suc p.core.started) (begun may.tree (IntValue (pos me.0) ∷ []))) s refl refl
+    (subst (λ l. Matches r ls x n (proc (turn p.core (λ d. record (enrol (classes r).main l d) { main = Some (suc d.made) }))
+    (added p.actors (suc p.core.started) (begun may.tree (IntValue (pos me.0) ∷ []))))) (sym (label_is r (classes r).main may.tree may.at))
+    (by_turn r ls x m p x n (λ d. record (enrol (classes r).main may.tree.name d) { main = Some (suc d.made) }) p.core (added p.actors (suc p.core.started) (begun may.tree (IntValue (pos me.0) ∷ [])))
+    s refl refl
     (by_none called) (by_some called)))
   where
     by_none : MainCalled code me m n → m.left ≡ 0 → n ≡ turned m
@@ -118,7 +126,9 @@ main_boots r ls m p x code me n s none no_main main may called =
     by_none (main_starts t st) l = let a = none_left r ls x m p l in absurd (cc (a, t))
 
     by_some : MainCalled code me m n → (k : ℕ) → m.left ≡ suc k → ProcessRepresents r ls x (turned m) (on_core (λ d. record d { left = k }) p)
-        → Matches r ls x n (proc (record (enrol (classes r).main may.tree.name (record p.core { left = k })) { main = Some (suc p.core.made) }) (added p.actors (suc p.core.started) (begun may.tree (IntValue (pos me.0) ∷ []))))
+        → Matches r ls x n (proc (record (enrol (classes r).main may.tree.name (record p.core { left = k })) { main = Some (suc p.core.made) })
+        (added p.actors (suc p.core.started) (begun may.tree (IntValue (pos me.0) ∷ []))))
     by_some (main_waits t q) k l now = let a = some_left r ls x m p k l in absurd (cc (a, t))
     by_some (main_starts t st) k l now =
-        shows (starts_shown r ls x (turned m) (on_core (λ d. record d { left = k }) p) code me n now (turned_asked m ∙ none) no_main main (may_turned r ls x m p k code (classes r).main (IntValue (pos me.0) ∷ []) may) st)
+        shows (starts_shown r ls x (turned m) (on_core (λ d. record d { left = k }) p) code me n now (turned_asked m ∙ none) no_main main
+        (may_turned r ls x m p k code (classes r).main (IntValue (pos me.0) ∷ []) may) st)

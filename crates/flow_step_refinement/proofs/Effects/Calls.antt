@@ -49,7 +49,8 @@ use Rattle.flow_step_refinement.proofs.Effects.Answering.{line_told, evaluated_t
 use Rattle.flow_step_refinement.proofs.Effects.Effecting.{asks_the_world}
 
 -- an actor whose frame may be stale may ask
-pub may_ask : (r : RawTree) (ls : List Line) (m : Process) (p : Proc Frame) (i : ℕ) (e : Entry) (f : Frame) (x : Scan) (s : ControlPoint) → MayBeStale r ls x s m p i e f → m.asked ≡ None → MayAsk r ls x s m p i e f
+pub may_ask : (r : RawTree) (ls : List Line) (m : Process) (p : Proc Frame) (i : ℕ) (e : Entry) (f : Frame) (x : Scan) (s : ControlPoint) → MayBeStale r ls x s m p i e f → m.asked ≡ None
+    → MayAsk r ls x s m p i e f
 may_ask r ls m p i e f x s st none = record { actor = st.standing.actor; stood = noted_follows r ls m p i e f x s st; asked = none }
 
 module _ (r : RawTree) (ls : List Line) (m : Process) (p : Proc Frame) (i : ℕ) (e : Entry) (f : Frame) where
@@ -67,7 +68,8 @@ module _ (r : RawTree) (ls : List Line) (m : Process) (p : Proc Frame) (i : ℕ)
       let here : record before { block = s.place; instr = suc s.instruction; state = f.state } ≡ next =
       ap (λ b. record f { block = b; instr = suc s.instruction }) st.standing.place ∙ ap (λ k. record f { instr = suc k }) st.instruction in
       let now : RepresentsActor r ls x (noted (next_stand s) m) (put_frame i next q) i e next = subst (λ g. RepresentsActor r ls x (noted (next_stand s) m) (put_frame i g q) i e g) here there in
-      let over : RepresentsActor r ls x (noted (next_stand s) m) (put_frame i next p) i e next = subst (λ xs. RepresentsActor r ls x (noted (next_stand s) m) (proc p.core xs) i e next) (put_over p.actors i before next) now in
+      let over : RepresentsActor r ls x (noted (next_stand s) m) (put_frame i next p) i e next =
+      subst (λ xs. RepresentsActor r ls x (noted (next_stand s) m) (proc p.core xs) i e next) (put_over p.actors i before next) now in
       with_turns r ls (noted (next_stand s) m) (put_frame i next p) i e next x left over
 
   module _ (x : Scan) (s : ControlPoint) (w : Supply) (st : MayBeStale r ls x s m p i e f) where
@@ -77,7 +79,8 @@ module _ (r : RawTree) (ls : List Line) (m : Process) (p : Proc Frame) (i : ℕ)
     stepped left a is = asked r ls m p i e f w (asking_for left a next) st.stood.shown.goes st.acting is
 
     -- a value is printed
-    printed : (left : ℕ) (v : ValueTree) (line : Line) (n : Process) → m.asked ≡ None → print_line i v ≡ Some line → n ≡ telling line (doing (task.Run (actor_id i)) (noted (next_stand s) (with_left left m)))
+    printed : (left : ℕ) (v : ValueTree) (line : Line) (n : Process) → m.asked ≡ None → print_line i v ≡ Some line
+        → n ≡ telling line (doing (task.Run (actor_id i)) (noted (next_stand s) (with_left left m)))
         → next_step (class_names r) (view w i p.core) f ≡ asking_for left (asks.Prints v) next → StepsAs r ls x w p i e Off n
     printed left v line n none prints out is =
         let k : Process = noted (next_stand s) (with_left left m) in
@@ -94,16 +97,20 @@ module _ (r : RawTree) (ls : List Line) (m : Process) (p : Proc Frame) (i : ℕ)
     -- a text is sent
     sent : (left : ℕ) (args : List ValueTree) (c : Call) (n : Process) → m.asked ≡ None → IsMessage (actor_id i) args c → n ≡ asking c (noted (next_stand s) (with_left left m))
         → next_step (class_names r) (view w i p.core) f
-        ≡ evaluated f (done (bind (int_of (arg args 0)) (λ q. bind (int_of (arg args 1)) (λ port. bind (text_of (arg args 2)) (λ text. Some (asks.SendsTo q port text))))) left) (λ a left. asking_for left a next)
+        ≡ evaluated f (done (bind (int_of (arg args 0)) (λ q. bind (int_of (arg args 1)) (λ port. bind (text_of (arg args 2)) (λ text. Some (asks.SendsTo q port text))))) left)
+        (λ a left. asking_for left a next)
         → Answered r ls x w p i e Off n
     sent left args (call.SendTo j process port text) n none is out step_is =
         let act_is : next_step (class_names r) (view w i p.core) f ≡ asking_for left (asks.SendsTo process port text) next =
         step_is
-        ∙ ap (λ o. evaluated f (done (bind o (λ q. bind (int_of (arg args 1)) (λ port. bind (text_of (arg args 2)) (λ text. Some (asks.SendsTo q port text))))) left) (λ a left. asking_for left a next)) is.1
+        ∙ ap (λ o. evaluated f (done (bind o (λ q. bind (int_of (arg args 1)) (λ port. bind (text_of (arg args 2)) (λ text. Some (asks.SendsTo q port text))))) left)
+        (λ a left. asking_for left a next)) is.1
         ∙ ap (λ o. evaluated f (done (bind o (λ port. bind (text_of (arg args 2)) (λ text. Some (asks.SendsTo process port text)))) left) (λ a left. asking_for left a next)) is.2
         ∙ ap (λ o. evaluated f (done (bind o (λ text. Some (asks.SendsTo process port text))) left) (λ a left. asking_for left a next)) is.3 in
-        by_the_world refl (asks_the_world r ls m p i e f x s w next left (call.SendTo (actor_id i) process port text) (asks.SendsTo process port text) (noted (next_stand s) (with_left left m)) n (next_stood x s left st) none
-        (sends process port text refl refl) (out ∙ ap (λ a. asking (call.SendTo a process port text) (noted (next_stand s) (with_left left m))) is.0) (stepped left (asks.SendsTo process port text) act_is))
+        by_the_world refl (asks_the_world r ls m p i e f x s w next left (call.SendTo (actor_id i) process port text) (asks.SendsTo process port text) (noted (next_stand s) (with_left left m)) n
+        (next_stood x s left st) none
+        (sends process port text refl refl) (out ∙ ap (λ a. asking (call.SendTo a process port text) (noted (next_stand s) (with_left left m))) is.0)
+        (stepped left (asks.SendsTo process port text) act_is))
     sent left args (call.Line l) n none is out step_is = absurd is
     sent left args (call.Draw a g lo hi) n none is out step_is = absurd is
     sent left args (call.Delay a g ticks) n none is out step_is = absurd is
@@ -133,8 +140,10 @@ module _ (r : RawTree) (ls : List Line) (m : Process) (p : Proc Frame) (i : ℕ)
       next_is : next_step (class_names r) (view w i p.core) f ≡ evaluated f comes_to (onward x s w st called name.name)
       next_is =
           ap (fetched (class_names r) (view w i p.core) f) there
-          ∙ evaluated_then f (values (class_names r) (view w i p.core) (look f.mem) es) (λ vs left. plain_act (class_names r) (view w i p.core) (look f.mem) (named call_names name.name) name.name vs left) (λ a left. asking_for left a next)
-          ∙ ap (λ o. evaluated f (values (class_names r) (view w i p.core) (look f.mem) es) (λ vs left. evaluated f (plain_act (class_names r) (view w i p.core) (look f.mem) o name.name vs left) (λ a left. asking_for left a next))) is_called
+          ∙ evaluated_then f (values (class_names r) (view w i p.core) (look f.mem) es)
+          (λ vs left. plain_act (class_names r) (view w i p.core) (look f.mem) (named call_names name.name) name.name vs left) (λ a left. asking_for left a next)
+          ∙ ap (λ o. evaluated f (values (class_names r) (view w i p.core) (look f.mem) es)
+          (λ vs left. evaluated f (plain_act (class_names r) (view w i p.core) (look f.mem) o name.name vs left) (λ a left. asking_for left a next))) is_called
           ∙ ap (λ k. evaluated f k (onward x s w st called name.name)) (sym same)
 
       by_case : GivesValue args_of comes_to m (IsAct code s (act.World called)) pace n ⊎ Answered r ls x w p i e pace n → Answered r ls x w p i e pace n

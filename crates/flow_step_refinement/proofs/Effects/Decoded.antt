@@ -97,7 +97,8 @@ module _ (r : RawTree) (c : Coding) (names : NamesClasses r c) where
   effect_text : (t : ExprTree) (eff : Effect) (args : Nodes) → coding.effect_in c t ≡ Some (eff, args) → EffectText r c t eff args
   effect_text (CallExpr f es) eff args e = by_name (effect_named (named call_names f.name) (c.class f.name)) refl e
     where
-      by_name : (o : Option Effect) → effect_named (named call_names f.name) (c.class f.name) ≡ o → option_map {U = Effect × Nodes} (λ k. (k, resolved_all c.names es)) o ≡ Some (eff, args) → EffectText r c (CallExpr f es) eff args
+      by_name : (o : Option Effect) → effect_named (named call_names f.name) (c.class f.name) ≡ o → option_map {U = Effect × Nodes} (λ k. (k, resolved_all c.names es)) o ≡ Some (eff, args)
+          → EffectText r c (CallExpr f es) eff args
       by_name None h g = absurd (cc (g))
       by_name (Some k) h g =
           let pair : (k, resolved_all c.names es) ≡ (eff, args) = cc (g) in
@@ -172,7 +173,8 @@ apart x y t e (inr a) other none = none (ap shape e ∙ a)
 pub effect_coded : law.EffectCoded
 effect_coded r c k (EffectInstr xs t) aim eff args names e = by_parts (aimed c xs) refl (coding.effect_in c t) refl e
   where
-    by_parts : (o : Option AimTree) → aimed c xs ≡ o → (f : Option (Effect × Nodes)) → coding.effect_in c t ≡ f → EffectCode aim eff args ≡ effect_code o f → EffectInstruction r c (EffectInstr xs t) aim eff args
+    by_parts : (o : Option AimTree) → aimed c xs ≡ o → (f : Option (Effect × Nodes)) → coding.effect_in c t ≡ f → EffectCode aim eff args ≡ effect_code o f
+        → EffectInstruction r c (EffectInstr xs t) aim eff args
     by_parts None a f b g = absurd (cc (g))
     by_parts (Some z) a None b g = absurd (cc (g))
     by_parts (Some z) a (Some f) b g =
@@ -185,11 +187,14 @@ effect_coded r c k (EffectInstr xs t) aim eff args names e = by_parts (aimed c x
           aims = a ∙ ap Some aims;
           effect = effect_text r c names t eff args (b ∙ ap (λ y. Some (y, f.1)) of ∙ ap (λ y. Some (eff, y)) with_args);
         }
-effect_coded r c k (SetInstr xs t) aim eff args names e = absurd (apart (EffectCode aim eff args) (set_code (aimed c xs) (resolved c.names t)) Sets e (set_shape (aimed c xs) (resolved c.names t)) (λ a. cc (a)) (λ a. cc (a)))
-effect_coded r c k (NewInstr q) aim eff args names e = absurd (apart (EffectCode aim eff args) (new_code (place_of c.slots q) (kind_at k q)) Makes e (new_shape (place_of c.slots q) (kind_at k q)) (λ a. cc (a)) (λ a. cc (a)))
+effect_coded r c k (SetInstr xs t) aim eff args names e = absurd (apart (EffectCode aim eff args) (set_code (aimed c xs) (resolved c.names t)) Sets e (set_shape (aimed c xs) (resolved c.names t))
+    (λ a. cc (a)) (λ a. cc (a)))
+effect_coded r c k (NewInstr q) aim eff args names e = absurd (apart (EffectCode aim eff args) (new_code (place_of c.slots q) (kind_at k q)) Makes e (new_shape (place_of c.slots q) (kind_at k q))
+    (λ a. cc (a)) (λ a. cc (a)))
 effect_coded r c k (ActInstr [] es) aim eff args names e = absurd (cc (e))
 effect_coded r c k (ActInstr (x ∷ []) es) aim eff args names e =
-    absurd (apart (EffectCode aim eff args) (plain_code (act_named (named call_names x.name) (c.names.function x.name)) (resolved_all c.names es)) Calls e (plain_shape (act_named (named call_names x.name) (c.names.function x.name)) (resolved_all c.names es)) (λ a. cc (a)) (λ a. cc (a)))
+    absurd (apart (EffectCode aim eff args) (plain_code (act_named (named call_names x.name) (c.names.function x.name)) (resolved_all c.names es)) Calls e
+    (plain_shape (act_named (named call_names x.name) (c.names.function x.name)) (resolved_all c.names es)) (λ a. cc (a)) (λ a. cc (a)))
 effect_coded r c k (ActInstr (x ∷ y ∷ ys) es) aim eff args names e =
     absurd (apart (EffectCode aim eff args) (coding.coded_method c (x ∷ coding.before_last y ys) (coding.last_name y ys).name (resolved_all c.names es)) CallsMethod e
     (method_shape (aimed c (x ∷ coding.before_last y ys)) (named method_names (coding.last_name y ys).name) (resolved_all c.names es)) (λ a. cc (a)) (λ a. cc (a)))
@@ -207,7 +212,8 @@ operand_coded r c t eff args names e = by_effect (coding.effect_in c t) refl e
 pub call_coded : law.CallCoded
 call_coded c k (ActInstr (x ∷ []) es) called args e = by_name (named call_names x.name) refl e
   where
-    by_name : (o : Option Predefined) → named call_names x.name ≡ o → ActCode (act.World called) args ≡ plain_code (act_named o (c.names.function x.name)) (resolved_all c.names es) → CallText c (ActInstr (x ∷ []) es) called args
+    by_name : (o : Option Predefined) → named call_names x.name ≡ o → ActCode (act.World called) args ≡ plain_code (act_named o (c.names.function x.name)) (resolved_all c.names es)
+        → CallText c (ActInstr (x ∷ []) es) called args
     by_name (Some z) a g =
         let same : z ≡ called = let b : ActCode (act.World called) args ≡ ActCode (act.World z) (resolved_all c.names es) = g in cc (b) in
         let with_args : args ≡ resolved_all c.names es = let b : ActCode (act.World called) args ≡ ActCode (act.World z) (resolved_all c.names es) = g in cc (b) in
@@ -221,9 +227,12 @@ call_coded c k (ActInstr [] es) called args e = absurd (cc (e))
 call_coded c k (ActInstr (x ∷ y ∷ ys) es) called args e =
     absurd (apart (ActCode (act.World called) args) (coding.coded_method c (x ∷ coding.before_last y ys) (coding.last_name y ys).name (resolved_all c.names es)) CallsMethod e
     (method_shape (aimed c (x ∷ coding.before_last y ys)) (named method_names (coding.last_name y ys).name) (resolved_all c.names es)) (λ a. cc (a)) (λ a. cc (a)))
-call_coded c k (SetInstr xs t) called args e = absurd (apart (ActCode (act.World called) args) (set_code (aimed c xs) (resolved c.names t)) Sets e (set_shape (aimed c xs) (resolved c.names t)) (λ a. cc (a)) (λ a. cc (a)))
-call_coded c k (EffectInstr xs t) called args e = absurd (apart (ActCode (act.World called) args) (effect_code (aimed c xs) (coding.effect_in c t)) Affects e (effect_shape (aimed c xs) (coding.effect_in c t)) (λ a. cc (a)) (λ a. cc (a)))
-call_coded c k (NewInstr q) called args e = absurd (apart (ActCode (act.World called) args) (new_code (place_of c.slots q) (kind_at k q)) Makes e (new_shape (place_of c.slots q) (kind_at k q)) (λ a. cc (a)) (λ a. cc (a)))
+call_coded c k (SetInstr xs t) called args e = absurd (apart (ActCode (act.World called) args) (set_code (aimed c xs) (resolved c.names t)) Sets e (set_shape (aimed c xs) (resolved c.names t))
+    (λ a. cc (a)) (λ a. cc (a)))
+call_coded c k (EffectInstr xs t) called args e = absurd (apart (ActCode (act.World called) args) (effect_code (aimed c xs) (coding.effect_in c t)) Affects e
+    (effect_shape (aimed c xs) (coding.effect_in c t)) (λ a. cc (a)) (λ a. cc (a)))
+call_coded c k (NewInstr q) called args e = absurd (apart (ActCode (act.World called) args) (new_code (place_of c.slots q) (kind_at k q)) Makes e (new_shape (place_of c.slots q) (kind_at k q))
+    (λ a. cc (a)) (λ a. cc (a)))
 call_coded c k (DropInstr ns) called args e = absurd (cc (e))
 
 -- both take paths apart alike
@@ -238,7 +247,8 @@ last_same y (z ∷ zs) = last_same z zs
 pub method_coded : law.MethodCoded
 method_coded c k (ActInstr (x ∷ y ∷ ys) es) aim called args e = by_parts (aimed c (x ∷ coding.before_last y ys)) refl (named method_names (coding.last_name y ys).name) refl e
   where
-    by_parts : (o : Option AimTree) → aimed c (x ∷ coding.before_last y ys) ≡ o → (z : Option Method) → named method_names (coding.last_name y ys).name ≡ z → MethodCode aim called args ≡ method_code o z (resolved_all c.names es)
+    by_parts : (o : Option AimTree) → aimed c (x ∷ coding.before_last y ys) ≡ o → (z : Option Method) → named method_names (coding.last_name y ys).name ≡ z
+        → MethodCode aim called args ≡ method_code o z (resolved_all c.names es)
         → MethodText c (ActInstr (x ∷ y ∷ ys) es) aim called args
     by_parts None a z b g = absurd (cc (g))
     by_parts (Some o) a None b g = absurd (cc (g))
@@ -258,10 +268,14 @@ method_coded c k (ActInstr (x ∷ y ∷ ys) es) aim called args e = by_parts (ai
         }
 method_coded c k (ActInstr [] es) aim called args e = absurd (cc (e))
 method_coded c k (ActInstr (x ∷ []) es) aim called args e =
-    absurd (apart (MethodCode aim called args) (plain_code (act_named (named call_names x.name) (c.names.function x.name)) (resolved_all c.names es)) Calls e (plain_shape (act_named (named call_names x.name) (c.names.function x.name)) (resolved_all c.names es)) (λ a. cc (a)) (λ a. cc (a)))
-method_coded c k (SetInstr xs t) aim called args e = absurd (apart (MethodCode aim called args) (set_code (aimed c xs) (resolved c.names t)) Sets e (set_shape (aimed c xs) (resolved c.names t)) (λ a. cc (a)) (λ a. cc (a)))
-method_coded c k (EffectInstr xs t) aim called args e = absurd (apart (MethodCode aim called args) (effect_code (aimed c xs) (coding.effect_in c t)) Affects e (effect_shape (aimed c xs) (coding.effect_in c t)) (λ a. cc (a)) (λ a. cc (a)))
-method_coded c k (NewInstr q) aim called args e = absurd (apart (MethodCode aim called args) (new_code (place_of c.slots q) (kind_at k q)) Makes e (new_shape (place_of c.slots q) (kind_at k q)) (λ a. cc (a)) (λ a. cc (a)))
+    absurd (apart (MethodCode aim called args) (plain_code (act_named (named call_names x.name) (c.names.function x.name)) (resolved_all c.names es)) Calls e
+    (plain_shape (act_named (named call_names x.name) (c.names.function x.name)) (resolved_all c.names es)) (λ a. cc (a)) (λ a. cc (a)))
+method_coded c k (SetInstr xs t) aim called args e = absurd (apart (MethodCode aim called args) (set_code (aimed c xs) (resolved c.names t)) Sets e (set_shape (aimed c xs) (resolved c.names t))
+    (λ a. cc (a)) (λ a. cc (a)))
+method_coded c k (EffectInstr xs t) aim called args e = absurd (apart (MethodCode aim called args) (effect_code (aimed c xs) (coding.effect_in c t)) Affects e
+    (effect_shape (aimed c xs) (coding.effect_in c t)) (λ a. cc (a)) (λ a. cc (a)))
+method_coded c k (NewInstr q) aim called args e = absurd (apart (MethodCode aim called args) (new_code (place_of c.slots q) (kind_at k q)) Makes e (new_shape (place_of c.slots q) (kind_at k q))
+    (λ a. cc (a)) (λ a. cc (a)))
 method_coded c k (DropInstr ns) aim called args e = absurd (cc (e))
 
 -- A field by the number of its name is the field of its name.
@@ -274,7 +288,8 @@ numbered_same rs at x n VoidValue e = refl
 numbered_same rs at x n (ErrorValue a) e = refl
 numbered_same rs at x n (RefValue kd a) e = refl
 
-path_same : (rs : List RecordTree) (at : Numbering) (number : List ℕ → Option ℕ) → IsNumbering rs number at → (xs : List Ident) (ns : List ℕ) (v : Option ValueTree) → fields_of number xs ≡ Some ns → field_path at ns v ≡ read_in rs v xs
+path_same : (rs : List RecordTree) (at : Numbering) (number : List ℕ → Option ℕ) → IsNumbering rs number at → (xs : List Ident) (ns : List ℕ) (v : Option ValueTree) → fields_of number xs ≡ Some ns
+    → field_path at ns v ≡ read_in rs v xs
 path_same rs at number is [] ns None e = let none : [] ≡ ns = cc (e) in ap (λ l. field_path at l None) (sym none)
 path_same rs at number is [] ns (Some v) e = let none : [] ≡ ns = cc (e) in ap (λ l. field_path at l (Some v)) (sym none)
 path_same rs at number is (x ∷ xs) ns v e = by_name (number x.name) refl e (path_same rs at number is xs)

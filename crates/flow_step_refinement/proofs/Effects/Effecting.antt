@@ -112,21 +112,26 @@ module _ (r : RawTree) (ls : List Line) (m : Process) (p : Proc Frame) (i : ℕ)
     by_effect left (Some (asks.Make kd)) n next rising t = absurd t
     by_effect left (Some (asks.Start class args)) n next rising t = absurd t
     by_effect left (Some (asks.Draw lo hi)) n next rising t =
-        by_the_world refl (asks_the_world x s w f left (call.Draw (actor_id i) g lo hi) (asks.Effects h (asks.Draw lo hi)) (noted s (with_left left m)) n (resumed_stood r ls m p i e f x s left st) st.asked
+        by_the_world refl (asks_the_world x s w f left (call.Draw (actor_id i) g lo hi) (asks.Effects h (asks.Draw lo hi)) (noted s (with_left left m)) n
+        (resumed_stood r ls m p i e f x s left st) st.asked
         (draws g h lo hi (goal_then left) refl refl) t (stepped left (asks.Draw lo hi) next))
     by_effect left (Some (asks.Delay ticks)) n next rising t =
-        by_the_world refl (asks_the_world x s w f left (call.Delay (actor_id i) g ticks) (asks.Effects h (asks.Delay ticks)) (noted s (with_left left m)) n (resumed_stood r ls m p i e f x s left st) st.asked
+        by_the_world refl (asks_the_world x s w f left (call.Delay (actor_id i) g ticks) (asks.Effects h (asks.Delay ticks)) (noted s (with_left left m)) n
+        (resumed_stood r ls m p i e f x s left st) st.asked
         (delays g h ticks (goal_then left) refl refl) t (stepped left (asks.Delay ticks) next))
     by_effect left (Some (asks.Listen port)) n next rising t =
-        by_the_world refl (asks_the_world x s w f left (call.Listen (actor_id i) g port) (asks.Effects h (asks.Listen port)) (noted s (with_left left m)) n (resumed_stood r ls m p i e f x s left st) st.asked
+        by_the_world refl (asks_the_world x s w f left (call.Listen (actor_id i) g port) (asks.Effects h (asks.Listen port)) (noted s (with_left left m)) n
+        (resumed_stood r ls m p i e f x s left st) st.asked
         (listens g h port (goal_then left) refl refl) t (stepped left (asks.Listen port) next))
     by_effect left (Some (asks.Disk request)) n next rising t =
-        by_the_world refl (asks_the_world x s w f left (call.Disk (actor_id i) g t.asked) (asks.Effects h (asks.Disk request)) (noted s (with_left left m)) n (resumed_stood r ls m p i e f x s left st) st.asked
+        by_the_world refl (asks_the_world x s w f left (call.Disk (actor_id i) g t.asked) (asks.Effects h (asks.Disk request)) (noted s (with_left left m)) n
+        (resumed_stood r ls m p i e f x s left st) st.asked
         (disks g h t.asked (goal_then left) refl (ap (λ d. asks.Effects h (asks.Disk d)) (sym t.same ∙ disk_same t.asked))) t.asks (stepped left (asks.Disk request) next))
     by_effect left (Some asks.Never) n next rising t = by_itself (record {
       after = on_core (gives_new i h kind.Future (empty_cell kind.Future)) (resumed i f left p);
       steps = stepped left asks.Never next;
-      carries = shows (cell_given r ls x (noted s (with_left left m)) (resumed i f left p) g h (actor_id i) kind.Future t.cell n (resumed_stood r ls m p i e f x s left st).shown rising (goal_then left) t.number t.given);
+      carries = shows (cell_given r ls x (noted s (with_left left m)) (resumed i f left p) g h (actor_id i) kind.Future t.cell n (resumed_stood r ls m p i e f x s left st).shown rising
+          (goal_then left) t.number t.given);
     }) (nothing_told n.asked (ap (λ (k : Process). k.asked) t.given.given_by ∙ st.asked))
 
     -- an effect, with its arguments
@@ -168,7 +173,8 @@ module _ (r : RawTree) (ls : List Line) (m : Process) (p : Proc Frame) (i : ℕ)
         → next_step (class_names r) (view w i p.core) f ≡ effects (class_names r) (view w i p.core) f h (called, es)
         → comes_to ≡ values (class_names r) (view w i p.core) (look f.mem) es
         → Evaluates s args_of comes_to m (EffectDone code s g eff) pace n → Answered r ls x w p i e pace n
-    effect_follows es called eff comes_to pace n may is next same_values evaluates = by_case (evaluation_at r ls m p i e f x s w args_of comes_to (onward called) (EffectDone code s g eff) pace n st next_is evaluates)
+    effect_follows es called eff comes_to pace n may is next same_values evaluates =
+        by_case (evaluation_at r ls m p i e f x s w args_of comes_to (onward called) (EffectDone code s g eff) pace n st next_is evaluates)
       where
         next_is : next_step (class_names r) (view w i p.core) f ≡ evaluated f comes_to (onward called)
         next_is = next ∙ ap (λ k. evaluated f k (onward called)) (sym same_values)

@@ -138,8 +138,10 @@ module _ (r : RawTree) (h : HeapTree) (p : Proc Frame) where
       let f = begun c (map value_of vs) in
       let g = entry_of class k in record {
         cells = cells_aside spots (spot_of_actor (added p.actors i f)) i (λ j d. (other_new g f j d).0) h.cells.things h.streams.things p.core.cells free.waits s.cells;
-        actors = subst (λ x. ActorsRepresent r (stored.added h.actors.things x (new_note (Some (cell_id k)))) (stored.added h.frames.things x (holding class places (some_values vs))) (added p.core.entries i g) (added p.actors i f)) (sym s.started)
-            (actor_added r h.actors.things h.frames.things p.core.entries p.actors s.actors i (none_above p.core.entries 0 p.core.started i rising (omega arith)) (new_note (Some (cell_id k))) (holding class places (some_values vs)) g f
+        actors = subst (λ x. ActorsRepresent r (stored.added h.actors.things x (new_note (Some (cell_id k)))) (stored.added h.frames.things x (holding class places (some_values vs)))
+            (added p.core.entries i g) (added p.actors i f)) (sym s.started)
+            (actor_added r h.actors.things h.frames.things p.core.entries p.actors s.actors i (none_above p.core.entries 0 p.core.started i rising (omega arith)) (new_note (Some (cell_id k)))
+            (holding class places (some_values vs)) g f
             (new_actor class places k c vs e n l taken));
         tasks = tasks_aside spots (spot_of_actor (added p.actors i f)) kept (λ j. kept_by (thing (added p.core.entries i g) j)) i (other_new g f) h.tasks p.core.tasks free.keeps s.tasks;
         made = s.made;
@@ -162,7 +164,8 @@ module _ (r : RawTree) (ls : List Line) (x : Scan) (m : Process) (p : Proc Frame
       let held = ref_held r ls (with_refs (refs_in us) x) m p (kind.Promise, k) s there in
       let g = hold kind.Promise k m.heap in
       subst (λ z. ProcessRepresents r ls x (record m { heap = z }) (with_actor class k (begun c us) p)) (held_first class places k vs m.heap (stored.thing m.heap.cells.things k) refl)
-      (changed r ls (with_refs ((kind.Promise, k) ∷ []) (with_refs (refs_in us) x)) x (on_heap (hold kind.Promise k) m) p (with_actor class k (begun c us) p) (entered class places k vs g) held (record {
+      (changed r ls (with_refs ((kind.Promise, k) ∷ []) (with_refs (refs_in us) x)) x (on_heap (hold kind.Promise k) m) p (with_actor class k (begun c us) p) (entered class places k vs g) held
+      (record {
         shows = entered_shown r g p class places k c vs held.holds.shows e n l taken rising free;
         counted = λ z j.
             let a = of_new_actor p z j (suc p.core.started) (entry_of class k) (begun c us) in

@@ -188,13 +188,15 @@ module _ (r : RawTree) (ls : List Line) (m : Process) (p : Proc Frame) (i : ℕ)
         let there_now = next_stood r ls m p i e f x s left st in
         let run = task_done r ls x n1 q (task.Run (actor_id i)) (Run i) (as_many_shown r ls x (with_task (Run i) x) n1 q (λ z j. omega arith) there_now.shown) refl in
         let sorted : Sorted n1.heap = sorted_put m.heap s.actor.0 (stored.thing m.heap.frames.things s.actor.0) (gone_to s.place (suc s.instruction)) may.sorted in
-        let sorted_then : Sorted (doing (task.Run (actor_id i)) n1).heap = record { cells = sorted.cells; streams = sorted.streams; actors = sorted.actors; frames = sorted.frames; ports = sorted.ports } in
+        let sorted_then : Sorted (doing (task.Run (actor_id i)) n1).heap =
+        record { cells = sorted.cells; streams = sorted.streams; actors = sorted.actors; frames = sorted.frames; ports = sorted.ports } in
         by_itself (record {
           after = on_core (λ c. cancel_owner (owner k.0 c.entries) c) (ran left);
           steps = stepped r ls m p i e f x s w st left (asks.Cancels k.0) is;
           carries = shows (subst (λ z. ProcessRepresents r ls x z (on_core (λ c. cancel_owner (owner k.0 c.entries) c) (ran left))) (sym out)
               (owner_stopped r ls x (doing (task.Run (actor_id i)) n1) (ran left) k.0 run may.asked (sound_then left st.acting may.sound) sorted_then));
-        }) (subst (λ (z : Process). OnlyTells z.asked) (sym out) (cancelled_told (dropping.cancel_owner n1.heap.actors.things (heap.owner k.0 n1.heap.actors.things)) (doing (task.Run (actor_id i)) n1) may.asked))
+        }) (subst (λ (z : Process). OnlyTells z.asked) (sym out) (cancelled_told (dropping.cancel_owner n1.heap.actors.things (heap.owner k.0 n1.heap.actors.things))
+        (doing (task.Run (actor_id i)) n1) may.asked))
 
     by_method : (called : Method) (kd : Kind) (k : CellId) (given : Option Value) (left : ℕ) (n : Process) → There p (kd, k.0) → AllThere p (refs_of (arg (map value_of (given_values given)) 0))
         → MethodCalled (actor_id i) called kd k given (noted (next_stand s) (with_left left m)) n
@@ -212,7 +214,8 @@ module _ (r : RawTree) (ls : List Line) (m : Process) (p : Proc Frame) (i : ℕ)
         → next_step (class_names r) (view w i p.core) f ≡ evaluated f (based_act (class_names r) (view w i p.core) (look f.mem) path (Some called) (map value_of (given_values given)) left) onward
         → Answered r ls x w p i e pace n
     by_aim code called aim path given left pace n aims refer t is =
-        let here : path ≡ Some (RefValue t.kind t.cell.0) = sym aims.same ∙ ap (λ (a : ActorId). field_path (places_in code.fields) aim.path.items (option_map value_of (place_held a.0 aim.place m.heap))) (sym st.standing.actor) ∙ t.aims in
+        let here : path ≡ Some (RefValue t.kind t.cell.0) = sym aims.same
+        ∙ ap (λ (a : ActorId). field_path (places_in code.fields) aim.path.items (option_map value_of (place_held a.0 aim.place m.heap))) (sym st.standing.actor) ∙ t.aims in
         subst (λ z. Answered r ls x w p i e z n) (sym t.off)
         (by_method called t.kind t.cell given left n (aims.there t.kind t.cell.0 here) refer
         (subst (λ (a : ActorId). MethodCalled a called t.kind t.cell given (noted (next_stand s) (with_left left m)) n) st.standing.actor t.calls)
@@ -221,11 +224,14 @@ module _ (r : RawTree) (ls : List Line) (m : Process) (p : Proc Frame) (i : ℕ)
     -- the step by a call of a method, with any arguments
     next_by : (y z : Ident) (ys : List Ident) (es : ExprTrees) (called : Method) → fetch f.code f.block f.instr ≡ Body (ActInstr (y ∷ z ∷ ys) es) → named method_names (last_of z ys).name ≡ Some called
         → next_step (class_names r) (view w i p.core) f
-        ≡ evaluated f (values (class_names r) (view w i p.core) (look f.mem) es) (λ vs left. evaluated f (based_act (class_names r) (view w i p.core) (look f.mem) (law.based r ls m p i e f y z ys) (Some called) vs left) onward)
+        ≡ evaluated f (values (class_names r) (view w i p.core) (look f.mem) es)
+        (λ vs left. evaluated f (based_act (class_names r) (view w i p.core) (look f.mem) (law.based r ls m p i e f y z ys) (Some called) vs left) onward)
     next_by y z ys es called there is =
         ap (fetched (class_names r) (view w i p.core) f) there
-        ∙ evaluated_then f (values (class_names r) (view w i p.core) (look f.mem) es) (λ vs left. based_act (class_names r) (view w i p.core) (look f.mem) (law.based r ls m p i e f y z ys) (named method_names (last_of z ys).name) vs left) onward
-        ∙ ap (λ o. evaluated f (values (class_names r) (view w i p.core) (look f.mem) es) (λ vs left. evaluated f (based_act (class_names r) (view w i p.core) (look f.mem) (law.based r ls m p i e f y z ys) o vs left) onward)) is
+        ∙ evaluated_then f (values (class_names r) (view w i p.core) (look f.mem) es)
+        (λ vs left. based_act (class_names r) (view w i p.core) (look f.mem) (law.based r ls m p i e f y z ys) (named method_names (last_of z ys).name) vs left) onward
+        ∙ ap (λ o. evaluated f (values (class_names r) (view w i p.core) (look f.mem) es)
+        (λ vs left. evaluated f (based_act (class_names r) (view w i p.core) (look f.mem) (law.based r ls m p i e f y z ys) o vs left) onward)) is
 
   pub method_step : law.MethodStep r ls m p i e f
   method_step x s w code y z ys aim called pace n st may there is aims t =
@@ -235,7 +241,8 @@ module _ (r : RawTree) (ls : List Line) (m : Process) (p : Proc Frame) (i : ℕ)
 
   pub method_of_step : law.MethodOfStep r ls m p i e f
   method_of_step x s w code y z ys t aim called comes_to pace n st may there is aims refer same evaluates =
-      by_case (evaluation_at r ls m p i e f x s w value_of comes_to (λ v left. called_on x s w st may y z ys called (v ∷ []) left) (IsMethodOf code s aim called) pace n (may_ask r ls m p i e f x s st may.asked) next_is evaluates)
+      by_case (evaluation_at r ls m p i e f x s w value_of comes_to (λ v left. called_on x s w st may y z ys called (v ∷ []) left) (IsMethodOf code s aim called) pace n
+      (may_ask r ls m p i e f x s st may.asked) next_is evaluates)
     where
       next_is : next_step (class_names r) (view w i p.core) f ≡ evaluated f comes_to (λ v left. called_on x s w st may y z ys called (v ∷ []) left)
       next_is =

@@ -75,7 +75,8 @@ same_class r items c class of tree a b =
     let y : Some (code_of of) ≡ Some (coded c.names c.class tree) = sym (ap (option_map code_of) a) ∙ x ∙ ap (option_map (coded c.names c.class)) b in cc (y)
 
 -- the actor that the class gives, and its name
-pub fresh_actor : (r : RawTree) (class : ℕ) (tree : ClassTree) (us : List ValueTree) → slice_get r.classes class ≡ Some tree → length us ≡ tree.params → (classes r).fresh class us ≡ Some (begun tree us)
+pub fresh_actor : (r : RawTree) (class : ℕ) (tree : ClassTree) (us : List ValueTree) → slice_get r.classes class ≡ Some tree → length us ≡ tree.params
+    → (classes r).fresh class us ≡ Some (begun tree us)
 fresh_actor r class tree us at n =
     let t : nat_eq (length us) tree.params ≡ true = grind (arith, nat_tests, n) in
     ap (λ o. fresh_from o us) at ∙ ap (λ b. if b then Some (begun tree us) else None) t
@@ -131,7 +132,8 @@ module _ (r : RawTree) (ls : List Line) (x : Scan) (m : Process) (p : Proc Frame
       let m1 : Process = on_heap (made kind.Future) m in
       let held = refs_held r ls x m1 p2 (refs_in us) one (all_still p may.cells (refs_in us) may.there) in
       let heap_is : hold_all (refs_in us) (made kind.Future m.heap) ≡ with_args vs m.heap = ap (λ qs. hold_all qs (with_result (next_cell m.heap) m.heap)) (sym (refs_same vs)) in
-      let two : ProcessRepresents r ls (with_refs (refs_in us) x) (on_heap (with_args vs) m) p2 = subst (λ h. ProcessRepresents r ls (with_refs (refs_in us) x) (record m { heap = h }) p2) heap_is held in
+      let two : ProcessRepresents r ls (with_refs (refs_in us) x) (on_heap (with_args vs) m) p2 =
+      subst (λ h. ProcessRepresents r ls (with_refs (refs_in us) x) (record m { heap = h }) p2) heap_is held in
       let same = same_class r code.classes.items may.coded class en.of may.tree en.at may.at in
       let places : en.of.places ≡ length may.tree.slots + length may.tree.locals = ap (λ (c : ClassCode). c.places) same in
       let taken : length vs ≡ may.tree.params = sym (as_many vs) ∙ may.taken in
@@ -156,7 +158,8 @@ same_goal_then p class k f i (goal.Kept n) asks.Stored d s = absurd s
 
 -- what comes out is what the definitions have
 as_enrolled : (p : Proc Frame) (class : ℕ) (f : Frame) (i : ℕ) (h : asks.Goal) (name : List ℕ)
-    → on_core (writes (start_line (suc p.core.started) name)) (on_core (pushed (Run (suc p.core.started))) (on_core (gives i h (RefValue kind.Future (suc p.core.made))) (with_actor class (suc p.core.made) f (on_core (new_cell (Single None [])) p))))
+    → on_core (writes (start_line (suc p.core.started) name)) (on_core (pushed (Run (suc p.core.started)))
+    (on_core (gives i h (RefValue kind.Future (suc p.core.made))) (with_actor class (suc p.core.made) f (on_core (new_cell (Single None [])) p))))
     ≡ proc (enrol class name (push_result i (result_task i h (RefValue kind.Future (suc p.core.made))) p.core)) (added p.actors (suc p.core.started) f)
 as_enrolled p class f i asks.Stored name = refl
 as_enrolled p class f i (asks.Kept spot) name = refl
@@ -165,7 +168,8 @@ module _ (r : RawTree) (ls : List Line) (x : Scan) (m : Process) (p : Proc Frame
   -- where a turn is left
   starts_shown : (code : Code) (i : ActorId) (g : Goal) (h : asks.Goal) (class : ℕ) (vs : List Value) (n : Process) → ProcessRepresents r ls x m p → m.asked ≡ None → (suc p.core.started ≡ i.0 → ⊥)
       → (may : MayStart r p code class (map value_of vs)) → SameGoal p i.0 g h → Starts code i g class vs m n
-      → ProcessRepresents r ls x n (proc (enrol class may.tree.name (push_result i.0 (result_task i.0 h (RefValue kind.Future (suc p.core.made))) p.core)) (added p.actors (suc p.core.started) (begun may.tree (map value_of vs))))
+      → ProcessRepresents r ls x n (proc (enrol class may.tree.name (push_result i.0 (result_task i.0 h (RefValue kind.Future (suc p.core.made))) p.core))
+      (added p.actors (suc p.core.started) (begun may.tree (map value_of vs))))
   starts_shown code i g h class vs n s none other may same st =
       let f = begun may.tree (map value_of vs) in
       let en = enrolled_shown r ls x m p code class vs st.actor st.cell st.enrolled s may st.enrols in
@@ -174,7 +178,8 @@ module _ (r : RawTree) (ls : List Line) (x : Scan) (m : Process) (p : Proc Frame
       let t = new_there r ls x m p kind.Future may.cells in record { cell = t.cell; at = ap (thing (celled p may.cells).core.cells) en.cell ∙ t.at; right = t.right } in
       let there : AllThere p3 (value_refs (Ref kind.Future st.cell)) = subst (λ v. AllThere p3 (refs_of v)) (sym (ref_seen kind.Future st.cell)) (future, tt) in
       let q3 = subst (λ v. ProcessRepresents r ls x st.given (on_core (gives i.0 h v) p3)) (ref_seen kind.Future st.cell)
-      (result_given r ls x st.enrolled p3 g h i (Ref kind.Future st.cell) st.given en.shown there (same_goal_then (celled p may.cells) class st.cell.0 f i.0 g h other (same_goal_by p (celled p may.cells) i.0 g h refl refl same)) st.gives) in
+      (result_given r ls x st.enrolled p3 g h i (Ref kind.Future st.cell) st.given en.shown there
+      (same_goal_then (celled p may.cells) class st.cell.0 f i.0 g h other (same_goal_by p (celled p may.cells) i.0 g h refl refl same)) st.gives) in
       let p4 = on_core (gives i.0 h (RefValue kind.Future st.cell.0)) p3 in
       let u = Run st.actor.0 in
       let ran = task_done r ls x st.given p4 (task.Run st.actor) u (as_many_shown r ls x (with_task u x) st.given p4 (λ z j. omega arith) q3) refl in
@@ -185,10 +190,14 @@ module _ (r : RawTree) (ls : List Line) (x : Scan) (m : Process) (p : Proc Frame
       let out : n ≡ telling (line.Start st.actor may.tree.name) (doing (task.Run st.actor) st.given) =
       st.starts.told ∙ ap (λ l. telling (line.Start st.actor l) (doing (task.Run st.actor) st.given)) named in
       let actor : st.actor ≡ actor_id (suc p.core.started) = ap actor_id en.actor in
-      subst (λ z. ProcessRepresents r ls x z (proc (enrol class may.tree.name (push_result i.0 (result_task i.0 h (RefValue kind.Future (suc p.core.made))) p.core)) (added p.actors (suc p.core.started) f))) (sym out)
+      subst (λ z. ProcessRepresents r ls x z (proc (enrol class may.tree.name (push_result i.0 (result_task i.0 h (RefValue kind.Future (suc p.core.made))) p.core))
+      (added p.actors (suc p.core.started) f))) (sym out)
       (subst (λ z. ProcessRepresents r ls x (telling (line.Start st.actor may.tree.name) (doing (task.Run st.actor) st.given)) z) (as_enrolled p class f i.0 h may.tree.name)
-      (subst (λ k. ProcessRepresents r ls x (telling (line.Start st.actor may.tree.name) (doing (task.Run st.actor) st.given)) (on_core (writes (start_line (suc p.core.started) may.tree.name)) (on_core (pushed (Run (suc p.core.started))) (on_core (gives i.0 h (RefValue kind.Future k)) (with_actor class k f (on_core (new_cell (Single None [])) p)))))) en.cell
-      (subst (λ (a : ActorId). ProcessRepresents r ls x (telling (line.Start st.actor may.tree.name) (doing (task.Run st.actor) st.given)) (on_core (writes (line.Start a may.tree.name)) (on_core (pushed (Run a.0)) p4))) actor told)))
+      (subst (λ k. ProcessRepresents r ls x (telling (line.Start st.actor may.tree.name) (doing (task.Run st.actor) st.given))
+      (on_core (writes (start_line (suc p.core.started) may.tree.name))
+      (on_core (pushed (Run (suc p.core.started))) (on_core (gives i.0 h (RefValue kind.Future k)) (with_actor class k f (on_core (new_cell (Single None [])) p)))))) en.cell
+      (subst (λ (a : ActorId). ProcessRepresents r ls x (telling (line.Start st.actor may.tree.name) (doing (task.Run st.actor) st.given))
+      (on_core (writes (line.Start a may.tree.name)) (on_core (pushed (Run a.0)) p4))) actor told)))
 
   abbrev pub may_turned : (k : ℕ) (code : Code) (class : ℕ) (us : List ValueTree) → MayStart r p code class us → MayStart r (on_core (λ c. record c { left = k }) p) code class us
   may_turned k code class us may = record {
@@ -214,8 +223,10 @@ module _ (r : RawTree) (ls : List Line) (x : Scan) (m : Process) (p : Proc Frame
   pub call_starts : law.CallStarts r ls x m p
   call_starts code i g h class vs e f n s none acts may same called =
       subst (λ o. Matches r ls x n (start (classes r) i.0 h class o p).0) (sym (fresh_actor r class may.tree (map value_of vs) may.at may.taken))
-      (subst (λ l. Matches r ls x n (proc (turn p.core (λ d. enrol class l (push_result i.0 (result_task i.0 h (RefValue kind.Future (suc d.made))) d))) (added p.actors (suc p.core.started) (begun may.tree (map value_of vs))))) (sym (label_is r class may.tree may.at))
-      (by_turn r ls x m p x n (λ d. enrol class may.tree.name (push_result i.0 (result_task i.0 h (RefValue kind.Future (suc d.made))) d)) p.core (added p.actors (suc p.core.started) (begun may.tree (map value_of vs))) s refl refl
+      (subst (λ l. Matches r ls x n (proc (turn p.core (λ d. enrol class l (push_result i.0 (result_task i.0 h (RefValue kind.Future (suc d.made))) d)))
+      (added p.actors (suc p.core.started) (begun may.tree (map value_of vs))))) (sym (label_is r class may.tree may.at))
+      (by_turn r ls x m p x n (λ d. enrol class may.tree.name (push_result i.0 (result_task i.0 h (RefValue kind.Future (suc d.made))) d)) p.core
+      (added p.actors (suc p.core.started) (begun may.tree (map value_of vs))) s refl refl
       (by_none called) (by_some called)))
     where
       other : suc p.core.started ≡ i.0 → ⊥
@@ -229,14 +240,17 @@ module _ (r : RawTree) (ls : List Line) (x : Scan) (m : Process) (p : Proc Frame
       by_none (actor_starts t st) l = let a = none_left r ls x m p l in absurd (cc (a, t))
 
       by_some : ActorCalled code i g class vs m n → (k : ℕ) → m.left ≡ suc k → ProcessRepresents r ls x (turned m) (on_core (λ d. record d { left = k }) p)
-          → Matches r ls x n (proc (enrol class may.tree.name (push_result i.0 (result_task i.0 h (RefValue kind.Future (suc p.core.made))) (record p.core { left = k }))) (added p.actors (suc p.core.started) (begun may.tree (map value_of vs))))
+          → Matches r ls x n (proc (enrol class may.tree.name (push_result i.0 (result_task i.0 h (RefValue kind.Future (suc p.core.made))) (record p.core { left = k })))
+          (added p.actors (suc p.core.started) (begun may.tree (map value_of vs))))
       by_some (not_called t q) k l now = let a = some_left r ls x m p k l in absurd (cc (a, t))
       by_some (actor_starts t st) k l now =
           let q : Proc Frame = on_core (λ d. record d { left = k }) p in
-          shows (starts_shown r ls x (turned m) q code i g h class vs n now (turned_asked m ∙ none) other (may_turned r ls x m p k code class (map value_of vs) may) (same_goal_by p q i.0 g h refl refl same) st)
+          shows (starts_shown r ls x (turned m) q code i g h class vs n now (turned_asked m ∙ none) other (may_turned r ls x m p k code class (map value_of vs) may)
+          (same_goal_by p q i.0 g h refl refl same) st)
 
 -- what holds of a process holds when an actor of it has evaluated
-pub may_resumed : (r : RawTree) (p : Proc Frame) (code : Code) (class : ℕ) (us : List ValueTree) (i : ℕ) (f : Frame) (left : ℕ) → MayStart r p code class us → MayStart r (resumed i f left p) code class us
+pub may_resumed : (r : RawTree) (p : Proc Frame) (code : Code) (class : ℕ) (us : List ValueTree) (i : ℕ) (f : Frame) (left : ℕ) → MayStart r p code class us
+    → MayStart r (resumed i f left p) code class us
 may_resumed r p code class us i f left may = record {
   coded = may.coded;
   cells = may.cells;

@@ -148,7 +148,8 @@ sending_good i kd k o m p = by_test (complete_at kd k m.heap) (nat_lt 0 m.left)
         let a = turned m in
         let one = hold_all (outcome_refs o) a.heap in
         let two = pushed (task.Run i) one in
-        aside_poised a.heap (sent_into i kd k o a.heap) (and_then a.heap one (filled_in kd k o two) (holding_all (outcome_refs o) a.heap) (and_then one two (filled_in kd k o two) (pushing (task.Run i) one) (filling kd k o two))) (turned_good m p)
+        aside_poised a.heap (sent_into i kd k o a.heap) (and_then a.heap one (filled_in kd k o two) (holding_all (outcome_refs o) a.heap)
+        (and_then one two (filled_in kd k o two) (pushing (task.Run i) one) (filling kd k o two))) (turned_good m p)
 
 pub stopped_good : (i : ℕ) (m : Process) → NoStaleWaits m.heap → NoStaleWaits (stopped i m).heap
 stopped_good i m p = cancelled_poised i m.heap p
@@ -163,10 +164,12 @@ method_called i called kind.PromiseStream k arg m n h p = good_is n _ h.sends (s
 method_called i called kind.Future k arg m n h p = good_is n _ h.1 (owner_good _ (doing (task.Run i) m) (doing_good (task.Run i) m p))
 method_called i called kind.FutureStream k arg m n h p = absurd h
 
-method_is : (code : Code) (s : ControlPoint) (aim : Aim) (called : Method) (sent : Option Value) (m n : Process) (pace : Pace) → IsMethod code s aim called sent m pace n → NoStaleWaits m.heap → NoStaleWaits n.heap
+method_is : (code : Code) (s : ControlPoint) (aim : Aim) (called : Method) (sent : Option Value) (m n : Process) (pace : Pace) → IsMethod code s aim called sent m pace n → NoStaleWaits m.heap
+    → NoStaleWaits n.heap
 method_is code s aim called sent m n pace h p = method_called s.actor called h.kind h.cell sent (noted (next_stand s) m) n h.calls (noted_good (next_stand s) m p)
 
-method_step : (code : Code) (s : ControlPoint) (aim : Aim) (called : Method) (es : List Resolved) (m n : Process) (pace : Pace) → MethodStep code s aim called es m pace n → NoStaleWaits m.heap → NoStaleWaits n.heap
+method_step : (code : Code) (s : ControlPoint) (aim : Aim) (called : Method) (es : List Resolved) (m n : Process) (pace : Pace) → MethodStep code s aim called es m pace n → NoStaleWaits m.heap
+    → NoStaleWaits n.heap
 method_step code s aim called [] m n pace h p = method_is code s aim called None m n pace h p
 method_step code s aim called (e ∷ []) m n pace h p = evaluates s value_of _ m n _ pace (λ v k n pace h p. method_is code s aim called (Some v) k n pace h p) h p
 method_step code s aim called (e ∷ f ∷ es) m n pace h p = absurd h
@@ -240,7 +243,8 @@ keeps_good s x m n pace (kept_ready q b marked ready of h) p = branch_good s b x
 registered_good : (i : ℕ) (xs : List Held) (m : Process) (b : Bool) (h : HeapTree) → register_all i xs m.heap ≡ (b, h) → Aside m.heap h
 registered_good i xs m b h e = subst (Aside m.heap) (ap (λ (r : Registered). r.1) e) (registering i xs m.heap)
 
-waits_good : (s : ControlPoint) (group : ℕ) (m n : Process) → ((x : Held) × ((xs : List Held) × (callbacks_of s.actor.0 m.heap ≡ x ∷ xs))) → Waits s group m n → NoStaleWaits m.heap → NoStaleWaits n.heap
+waits_good : (s : ControlPoint) (group : ℕ) (m n : Process) → ((x : Held) × ((xs : List Held) × (callbacks_of s.actor.0 m.heap ≡ x ∷ xs))) → Waits s group m n → NoStaleWaits m.heap
+    → NoStaleWaits n.heap
 waits_good s group m n some (waits_ready x b first of h) p = branch_good s b x.cell m n h p
 waits_good s group m n some (waits_refused h first all e) p =
     good_is n _ e (left_for_poised s _ h (aside_poised m.heap h (registered_good s.actor.0 _ m false h all) p))
@@ -275,7 +279,8 @@ some_held : (xs : List Held) (bs : List Branch) → slice_get bs (length xs) ≡
 some_held [] bs e some = absurd (some (nothing_there bs e))
 some_held (x ∷ xs) bs e some = (x, (xs, refl))
 
-chooses_good : (code : Code) (s : ControlPoint) (number : ℕ) (g : Group) (m n : Process) (pace : Pace) → (g.branches.items ≡ [] → ⊥) → Chooses code s number g m pace n → NoStaleWaits m.heap → NoStaleWaits n.heap
+chooses_good : (code : Code) (s : ControlPoint) (number : ℕ) (g : Group) (m n : Process) (pace : Pace) → (g.branches.items ≡ [] → ⊥) → Chooses code s number g m pace n → NoStaleWaits m.heap
+    → NoStaleWaits n.heap
 chooses_good code s number g m n pace some (asks_operand b at h) p = operand_good code s _ b.operand m n pace h p
 chooses_good code s number g m n pace some (all_kept at off h) p = waits_good s number m n (some_held (callbacks_of s.actor.0 m.heap) g.branches.items at some) h p
 

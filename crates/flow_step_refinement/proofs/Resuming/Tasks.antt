@@ -211,7 +211,8 @@ module _ (code : Code) (branched : Branched code.classes.items) where
   given_good i b (outcome.Value v) m n h p =
       goes_on_good code branched h.pace h.stands.frame.class
       (λ t on.
-      subst (InClass code h.stands.frame.class) (goes_after h.goes t _ _ h.between h.pace h.after on) (goes_in code h.stands.frame.class h.stand h.goes h.branch.block 0 (stands_in code i m h.stand h.stands) h.to))
+      subst (InClass code h.stands.frame.class) (goes_after h.goes t _ _ h.between h.pace h.after on)
+      (goes_in code h.stands.frame.class h.stand h.goes h.branch.block 0 (stands_in code i m h.stand h.stands) h.to))
       h.between n h.further (left_over _ _ (on_heap (bound i.0 h.branch.into v) m) h.between h.pace h.after (bound_good i.0 h.branch.into v m p))
 
   fires_good : (kd : Kind) (k : CellId) (w : Option Waiter) (m n : Process) → FiresAt code kd k w m n → NoStaleWaits m.heap → NoStaleWaits n.heap
@@ -241,7 +242,8 @@ module _ (code : Code) (branched : Branched code.classes.items) where
       good_is n _ h (drop_good kd k.0 start (all_but_none start.heap (popped_but None (task.Drop kd k) m start (λ j out end. end) taken p)))
   by_task (task.Store i v) m start n rising p taken h =
       let there = all_but_none start.heap (popped_but None (task.Store i v) m start (λ j out end. end) taken p) in
-      let put_there = good_is h.between _ h.assigns.put (all_but_none (place_put i.0 h.aim.place h.assigns.root start.heap) (place_but None i.0 h.aim.place h.assigns.root start.heap (but_none start.heap there))) in
+      let put_there = good_is h.between _ h.assigns.put (all_but_none (place_put i.0 h.aim.place h.assigns.root start.heap)
+      (place_but None i.0 h.aim.place h.assigns.root start.heap (but_none start.heap there))) in
       good_is n _ h.goes
       (noted_good (next_stand h.stand) (on_heap (dropping (values h.old)) h.between)
       (aside_poised h.between.heap (dropping (values h.old) h.between.heap) (dropping_refs (refs_in (values h.old)) h.between.heap) put_there))

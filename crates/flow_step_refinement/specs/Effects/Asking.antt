@@ -68,7 +68,8 @@ pub data Answered (r : RawTree) (ls : List Line) (x : Scan) (w : Supply) (p : Pr
   by_the_world : pace ≡ Off → AsksAs r ls x w p i n → Answered r ls x w p i e pace n
 
 -- An actor that takes a step: memory shows it once its frame there is told where it stands.
-pub record MayAsk (r : RawTree) (ls : List Line) (x : Scan) (s : ControlPoint) (m : Process) (p : Proc Frame) (i : ℕ) (e : Entry) (f : Frame)
+pub record MayAsk (r : RawTree) (ls : List Line) (x : Scan) (s : ControlPoint) (m : Process) (p : Proc Frame) (i : ℕ) (e : Entry)
+    (f : Frame)
     : Type 0 where
   pub actor : s.actor ≡ actor_id i
   pub stood : RepresentsActor r ls x (noted s m) p i e f

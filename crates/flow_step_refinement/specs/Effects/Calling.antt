@@ -56,7 +56,8 @@ module _ (r : RawTree) (ls : List Line) (m : Process) (p : Proc Frame) (i : ℕ)
   -- a value is printed, or a text is sent
   abbrev pub PredefinedStep : Type 0
   PredefinedStep =
-      (x : Scan) (s : ControlPoint) (w : Supply) (code : Code) (name : Ident) (es : ExprTrees) (called : Predefined) (comes_to : Res (List ValueTree))
+      (x : Scan) (s : ControlPoint) (w : Supply) (code : Code) (name : Ident) (es : ExprTrees) (called : Predefined)
+      (comes_to : Res (List ValueTree))
       (pace : Pace) (n : Process) → MayBeStale r ls x s m p i e f → m.asked ≡ None
       → fetch f.code f.block f.instr ≡ Body (ActInstr (name ∷ []) es) → named call_names name.name ≡ Some called
       → comes_to ≡ values (class_names r) (view w i p.core) (look f.mem) es
@@ -70,7 +71,8 @@ module _ (r : RawTree) (ls : List Line) (m : Process) (p : Proc Frame) (i : ℕ)
   -- a method without an argument, and with one
   abbrev pub MethodStep : Type 0
   MethodStep =
-      (x : Scan) (s : ControlPoint) (w : Supply) (code : Code) (y z : Ident) (ys : List Ident) (aim : Aim) (called : Method) (pace : Pace) (n : Process)
+      (x : Scan) (s : ControlPoint) (w : Supply) (code : Code) (y z : Ident) (ys : List Ident) (aim : Aim) (called : Method) (pace : Pace)
+      (n : Process)
       → MayBeStale r ls x s m p i e f → MayCall m p
       → fetch f.code f.block f.instr ≡ Body (ActInstr (y ∷ z ∷ ys) NoExprs) → named method_names (last_of z ys).name ≡ Some called
       → AimsAtRef r code m p i f aim (based y z ys)

@@ -45,7 +45,8 @@ module _ (r : RawTree) (ls : List Line) (m : Process) (p : Proc Frame) (i : ℕ)
   -- an effect whose result is stored
   abbrev pub EffectStep : Type 0
   EffectStep =
-      (x : Scan) (s : ControlPoint) (w : Supply) (code : Code) (path : List Ident) (t : ExprTree) (es : ExprTrees) (called : Effectful) (eff : Effect)
+      (x : Scan) (s : ControlPoint) (w : Supply) (code : Code) (path : List Ident) (t : ExprTree) (es : ExprTrees) (called : Effectful)
+      (eff : Effect)
       (comes_to : Res (List ValueTree)) (pace : Pace) (n : Process)
       → MayAsk r ls x s m p i e f → MayMake r code p called comes_to
       → fetch f.code f.block f.instr ≡ Body (EffectInstr path t) → effect_in (class_names r) t ≡ Some (called, es) → SameEffect eff called
@@ -56,7 +57,8 @@ module _ (r : RawTree) (ls : List Line) (m : Process) (p : Proc Frame) (i : ℕ)
   -- an effect whose result is the next operand of a wait, with the number of its callback
   abbrev pub EffectOperandStep : Type 0
   EffectOperandStep =
-      (x : Scan) (s : ControlPoint) (w : Supply) (code : Code) (group k : ℕ) (b : CallbackTree) (es : ExprTrees) (called : Effectful) (eff : Effect)
+      (x : Scan) (s : ControlPoint) (w : Supply) (code : Code) (group k : ℕ) (b : CallbackTree) (es : ExprTrees) (called : Effectful)
+      (eff : Effect)
       (comes_to : Res (List ValueTree)) (pace : Pace) (n : Process)
       → MayAsk r ls x s m p i e f → MayMake r code p called comes_to
       → fetch f.code f.block f.instr ≡ Last (ChooseLast group)

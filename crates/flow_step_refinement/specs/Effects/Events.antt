@@ -54,7 +54,8 @@ module _ (r : RawTree) (m : Process) (p : Proc Frame) (now turns : ℕ) where
 
 -- a loss of power: what is left rests
 abbrev pub Vanished : Type 0
-Vanished = (r : RawTree) (m : Process) (p : Proc Frame) → ShownBetween r m p → Rested r (vanished m).heap (vanish p) × ShownBetween r (vanished m) (vanish p)
+Vanished = (r : RawTree) (m : Process) (p : Proc Frame) → ShownBetween r m p
+    → Rested r (vanished m).heap (vanish p) × ShownBetween r (vanished m) (vanish p)
 
 -- a law on each process in memory, the one that it shows, and each event's time and turns
 abbrev pub AtEvents : (RawTree → Process → Proc Frame → (now turns : ℕ) → Type 0) → Type 0

@@ -65,7 +65,8 @@ module _ (r : RawTree) (ls : List Line) (m : Process) (p : Proc Frame) (i : ℕ)
 
   abbrev pub EffectDoes : Type 0
   EffectDoes =
-      (x : Scan) (s : ControlPoint) (w : Supply) (code : Code) (aim : Aim) (eff : Effect) (args : Vec Resolved Global) (text : InstrTree) (pace : Pace)
+      (x : Scan) (s : ControlPoint) (w : Supply) (code : Code) (aim : Aim) (eff : Effect) (args : Vec Resolved Global) (text : InstrTree)
+      (pace : Pace)
       (n : Process) → MayBeStale r ls x s m p i e f → m.asked ≡ None → (j : Judged r code m w f)
       → FromText j.is f (instruction.Effect aim eff args) text
       → ((path : List Ident) (t : ExprTree) → text ≡ EffectInstr path t → ExprMakes code w t)
@@ -85,7 +86,8 @@ module _ (r : RawTree) (ls : List Line) (m : Process) (p : Proc Frame) (i : ℕ)
 
   abbrev pub CallDoes : Type 0
   CallDoes =
-      (x : Scan) (s : ControlPoint) (w : Supply) (code : Code) (called : Predefined) (args : Vec Resolved Global) (text : InstrTree) (pace : Pace)
+      (x : Scan) (s : ControlPoint) (w : Supply) (code : Code) (called : Predefined) (args : Vec Resolved Global) (text : InstrTree)
+      (pace : Pace)
       (n : Process) → MayBeStale r ls x s m p i e f → m.asked ≡ None → (j : Judged r code m w f)
       → FromText j.is f (instruction.Act (act.World called) args) text
       → Does code s (instruction.Act (act.World called) args) m pace n → Answered r ls x w p i e pace n

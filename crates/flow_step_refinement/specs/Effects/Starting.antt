@@ -59,7 +59,8 @@ module _ (r : RawTree) (ls : List Line) (x : Scan) (m : Process) (p : Proc Frame
   abbrev pub CallStarts : Type 0
   CallStarts =
       (code : Code) (i : ActorId) (g : Goal) (h : asks.Goal) (class : ℕ) (vs : List Value) (e : Entry) (f : Frame) (n : Process)
-      → ProcessRepresents r ls x m p → m.asked ≡ None → Acts r m.heap p i.0 e f → MayStart r p code class (map value_of vs) → SameGoal p i.0 g h
+      → ProcessRepresents r ls x m p → m.asked ≡ None → Acts r m.heap p i.0 e f → MayStart r p code class (map value_of vs)
+      → SameGoal p i.0 g h
       → ActorCalled code i g class vs m n
       → Matches r ls x n (start (classes r) i.0 h class ((classes r).fresh class (map value_of vs)) p).0
 

@@ -64,9 +64,11 @@ module _ (tell : ℕ → Note) where
   -- past a loop, from its head
   past_flow : (w : Ways) (m : ℕ) (vs : List Named) (p : Point) (a : Around) → tell m ≡ note vs (behind_all vs p (head w)) → Below m vs → Exits tell (looped true w) vs p a → FlowsTo tell m a.follows
   past_flow w m vs p a e b x =
-      flow_plain tell m vs (behind_all vs p (head w)) a.follows e b (into_on (head w) vs p (tell a.follows) (into_less (head w) _ vs p (tell a.follows) (less_left (head w) (onward (head w) w.breaks)) x.follows))
+      flow_plain tell m vs (behind_all vs p (head w)) a.follows e b
+      (into_on (head w) vs p (tell a.follows) (into_less (head w) _ vs p (tell a.follows) (less_left (head w) (onward (head w) w.breaks)) x.follows))
 
-  maybe_past : (e : Option ExprTree) (w : Ways) (m : ℕ) (vs : List Named) (p : Point) (a : Around) → tell m ≡ note vs (behind_all vs p (head w)) → Below m vs → Exits tell (looped (is_there e) w) vs p a
+  maybe_past : (e : Option ExprTree) (w : Ways) (m : ℕ) (vs : List Named) (p : Point) (a : Around) → tell m ≡ note vs (behind_all vs p (head w)) → Below m vs
+      → Exits tell (looped (is_there e) w) vs p a
       → (t : ℕ) → FlowsTo tell m t → All (FlowsTo tell m) (t ∷ control.past e a.follows)
   maybe_past None w m vs p a e b x t f = to_one tell m t f
   maybe_past (Some c) w m vs p a e b x t f = to_two tell m t a.follows f (past_flow w m vs p a e b x)
@@ -79,7 +81,8 @@ module _ (tell : ℕ → Note) where
   init_flow n _ m vs p a w (declares at v e) h b l x i =
       then_flow tell (statement m (followed_by a (m + 1)) ((m + 1) ∷ [])) []
       (statement_flow tell m (followed_by a (m + 1)) ((m + 1) ∷ [])
-      (to_one tell m (m + 1) (subst (λ y. Flow m y (tell (m + 1))) (sym h.0) (flow_more tell m (declared m v) vs p false at_once (tell (m + 1)) (λ y. absurd (false≢true y)) refl b l (into_point m v) i)))
+      (to_one tell m (m + 1) (subst (λ y. Flow m y (tell (m + 1))) (sym h.0)
+      (flow_more tell m (declared m v) vs p false at_once (tell (m + 1)) (λ y. absurd (false≢true y)) refl b l (into_point m v) i)))
       (catch_flow (ways n (DeclareStmt at v e End)) w m vs p a h.0 b (less_left at_once (onward at_once never)) x))
       (nothing_kept tell)
   init_flow n _ m vs p a w (assigns at xs v) h b l x i =
@@ -137,7 +140,8 @@ module _ (tell : ℕ → Note) where
   exits_into m (Some i) w vs p a x = exits_deeper tell w (declared m i) vs p a x
 
   -- a statement that leads to what follows it, and declares nothing
-  next_flows : (n : ℕ) (k : Body) (m : ℕ) (vs : List Named) (p : Point) (a : Around) → HasSimpleParts k → (tell m ≡ note vs p) × Tells tell (suc m) (notes n k (suc m) vs p) → Below m vs → p.from ≤ length vs
+  next_flows : (n : ℕ) (k : Body) (m : ℕ) (vs : List Named) (p : Point) (a : Around) → HasSimpleParts k → (tell m ≡ note vs p) × Tells tell (suc m) (notes n k (suc m) vs p) → Below m vs
+      → p.from ≤ length vs
       → Exits tell (sequence (plain at_once) (ways n k)) vs p a
       → (HasSimpleParts k → Tells tell (suc m) (notes n k (suc m) vs p) → Below (suc m) vs → p.from ≤ length vs → Exits tell (ways n k) vs p a → Kept tell (edges k (suc m) a))
       → Kept tell (statement m a (first k (suc m) a.follows ∷ []) ++ edges k (suc m) a)
@@ -150,7 +154,8 @@ module _ (tell : ℕ → Note) where
       (rest s h.1 (below_more m (suc m) vs up b) l xk)
 
   mutual
-    pub flows : (n : ℕ) (b : Body) (m : ℕ) (vs : List Named) (p : Point) (a : Around) → HasSimpleParts b → Tells tell m (notes n b m vs p) → Below m vs → p.from ≤ length vs → Exits tell (ways n b) vs p a
+    pub flows : (n : ℕ) (b : Body) (m : ℕ) (vs : List Named) (p : Point) (a : Around) → HasSimpleParts b → Tells tell m (notes n b m vs p) → Below m vs → p.from ≤ length vs
+        → Exits tell (ways n b) vs p a
         → Kept tell (edges b m a)
     flows n End m vs p a s h b l x = nothing_kept tell
     flows n (BlockStmt at c k) m vs p a s h b l x =
@@ -308,7 +313,8 @@ module _ (tell : ℕ → Note) where
     flows n (ContinueStmt at k) m vs p a s h b l x =
         let up : m ≤ suc m = omega arith in
         then_flow tell (statement m a (listed a.continues)) (edges k (suc m) a)
-        (statement_flow tell m a (listed a.continues) (listed_flow tell m a.continues (λ t y. flow_plain tell m vs p t h.0 b (x.continues t y))) (λ t y. flow_plain tell m vs p t h.0 b (x.catches t y)))
+        (statement_flow tell m a (listed a.continues) (listed_flow tell m a.continues (λ t y. flow_plain tell m vs p t h.0 b (x.continues t y)))
+        (λ t y. flow_plain tell m vs p t h.0 b (x.catches t y)))
         (flows n k (suc m) vs (behind_all vs p never) a s.1 h.1 (below_more m (suc m) vs up b) (within_behind never vs p l) (exits_dead tell (ways n (ContinueStmt at k)) (ways n k) vs p a x))
     flows n (ReturnStmt at e k) m vs p a s h b l x =
         let up : m ≤ suc m = omega arith in
@@ -365,7 +371,8 @@ module _ (tell : ℕ → Note) where
         let f = first k m' a.follows in
         let i = into_next tell w n' k m' vs p a s.2 hk x in
         let xf = exits_first tell w v vs p a f x i in
-        let xc = exits_right tell (node at_once) (branch_ways (n - 1) bs) vs q (followed_by a f) (exits_follow tell (waited_at n) (both (node at_once) (branch_ways (n - 1) bs)) vs p (followed_by a f) xf) in
+        let xc = exits_right tell (node at_once) (branch_ways (n - 1) bs) vs q (followed_by a f)
+        (exits_follow tell (waited_at n) (both (node at_once) (branch_ways (n - 1) bs)) vs p (followed_by a f) xf) in
         let up : m ≤ suc m = omega arith in
         let up' : m ≤ m' = omega arith in
         then_flow tell _ (edges k m' a)
@@ -380,7 +387,8 @@ module _ (tell : ℕ → Note) where
         let lk : p.from ≤ length ws = omega (arith, l) in
         then_flow tell (statement m a (first k (suc m) a.follows ∷ [])) (edges k (suc m) a)
         (statement_flow tell m a (first k (suc m) a.follows ∷ []) (to_one tell m _ (subst (λ y. Flow m y (tell (first k (suc m) a.follows))) (sym h.0)
-        (flow_more tell m (declared m i) vs p false at_once (tell (first k (suc m) a.follows)) (λ y. absurd (false≢true y)) refl b l (into_point m i) (into_first tell n k (suc m) ws p a.follows s.1 h.1 xk.follows))))
+        (flow_more tell m (declared m i) vs p false at_once (tell (first k (suc m) a.follows)) (λ y. absurd (false≢true y)) refl b l (into_point m i)
+        (into_first tell n k (suc m) ws p a.follows s.1 h.1 xk.follows))))
         (catch_flow (plain at_once) (ways n k) m vs p a h.0 b (less_same at_once) x))
         (flows n k (suc m) ws p a s.1 h.1 (below_declared m (declared m i) vs (into_point m i) b) lk xk)
     flows n (AssignStmt at xs e k) m vs p a s h b l x = next_flows n k m vs p a s.1 h b l x (flows n k (suc m) vs p a)
@@ -393,7 +401,8 @@ module _ (tell : ℕ → Note) where
         let lq = within_behind (waited_at n) vs p l in
         then_flow tell (statement m a (first k (suc m) a.follows ∷ [])) (edges k (suc m) a)
         (statement_flow tell m a (first k (suc m) a.follows ∷ []) (to_one tell m _ (subst (λ y. Flow m y (tell (first k (suc m) a.follows))) (sym h.0)
-        (flow_into tell m w.into vs p (nat_lt 0 n) (waited_at n) (tell (first k (suc m) a.follows)) (λ y. y) (waited_reached n) b l (into_first tell (n - 1) k (suc m) ws q a.follows s.1 h.1 xk.follows))))
+        (flow_into tell m w.into vs p (nat_lt 0 n) (waited_at n) (tell (first k (suc m) a.follows)) (λ y. y) (waited_reached n) b l
+        (into_first tell (n - 1) k (suc m) ws q a.follows s.1 h.1 xk.follows))))
         (λ t y. flow_wait tell n m vs p t h.0 b (into_less (waited_at n) _ vs p (tell t) (less_left (waited_at n) (onward (waited_at n) (ways (n - 1) k).throws)) (x.catches t y))))
         (flows (n - 1) k (suc m) ws q a s.1 h.1 (below_into m w.into vs b) (within_into m q.from w.into vs lq) xk)
 
@@ -405,7 +414,8 @@ module _ (tell : ℕ → Note) where
         let m' = suc (m + points c) in
         let hc = tells_first tell (suc m) (notes n c (suc m) ws q) _ h.1 in
         let e : suc m + points c ≡ m' = omega arith in
-        let hr = subst (λ y. Tells tell y (branch_notes (left n c) bs m' vs q)) e (tells_rest tell (suc m) (points c) (notes n c (suc m) ws q) (branch_notes (left n c) bs m' vs q) (notes_many n c (suc m) ws q) h.1) in
+        let hr = subst (λ y. Tells tell y (branch_notes (left n c) bs m' vs q)) e
+        (tells_rest tell (suc m) (points c) (notes n c (suc m) ws q) (branch_notes (left n c) bs m' vs q) (notes_many n c (suc m) ws q) h.1) in
         let xc = exits_into m w.into (ways n c) vs q a (exits_left tell (ways n c) (branch_ways (left n c) bs) vs q a x) in
         let f = first c (suc m) a.follows in
         let up : m ≤ m' = omega arith in

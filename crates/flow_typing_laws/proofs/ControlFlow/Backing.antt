@@ -61,7 +61,8 @@ module _ (tell : ℕ → Note) (g : List (Edge ℕ)) where
   below_least : (lo : ℕ) (vs : List Named) → Below lo vs → (j : ℕ) (d : Declared) → Has vs j d → suc d.point ≤ lo
   below_least lo vs b j d h = let l = b j d h in omega (arith, l)
 
-  real_then_cases : (f w : Bool) (lo x y : ℕ) (vs : List Named) (p : Point) → Below lo vs → Goes tell g (record { fresh = f; waited = w }) lo x y → Real x vs p → Real y vs (behind (length vs) p (record { fresh = f; waited = w }))
+  real_then_cases : (f w : Bool) (lo x y : ℕ) (vs : List Named) (p : Point) → Below lo vs → Goes tell g (record { fresh = f; waited = w }) lo x y → Real x vs p
+      → Real y vs (behind (length vs) p (record { fresh = f; waited = w }))
   real_then_cases f true lo x y vs p b t r = record {
     led = λ j d h e. from_on d lo x y (below_least lo vs b j d h) (r.led j d h e) (t.waited refl).trail;
     bad = λ j d h e s. on_bad d lo x y (below_least lo vs b j d h) (r.led j d h e) (t.waited refl);
@@ -131,7 +132,8 @@ module _ (tell : ℕ → Note) (g : List (Edge ℕ)) where
   stale_bad : (m : ℕ) (vs : List Named) (p : Point) → Real m vs p → (j : ℕ) (d : Declared) → Has vs j d → is_stale p j ≡ true → Bad d m
   stale_bad m vs p r j d h e = r.bad j d h (leb-true p.from j (and_first (nat_le p.from j) (nat_lt j p.stale) e)) (ltb-true j p.stale (and_second (nat_le p.from j) (nat_lt j p.stale) e))
 
-  use_fits : (m : ℕ) (vs : List Named) (p : Point) (at : Place) (j : ℕ) (o : Option Declared) → Here m vs p → ((d : Declared) → o ≡ Some d → Has vs j d) → Each (use_of at p (option_map place_of o) j) (mention_of m at o)
+  use_fits : (m : ℕ) (vs : List Named) (p : Point) (at : Place) (j : ℕ) (o : Option Declared) → Here m vs p → ((d : Declared) → o ≡ Some d → Has vs j d)
+      → Each (use_of at p (option_map place_of o) j) (mention_of m at o)
   use_fits m vs p at j None k f = no_uses
   use_fits m vs p at j (Some d) k f = and_use _ _ (record {
     at = refl;
@@ -147,7 +149,8 @@ module _ (tell : ℕ → Note) (g : List (Edge ℕ)) where
   pick false us vs ns ms e k = k
 
   -- the newest variables
-  name_fits : (m : ℕ) (ws : List Named) (p : Point) (x : Ident) → Here m ws p → (vs : List Named) → ((j : ℕ) (d : Declared) → Has vs j d → Has ws j d) → Each (mention (map variable_of vs) p x.at x.name) (of_name vs m x)
+  name_fits : (m : ℕ) (ws : List Named) (p : Point) (x : Ident) → Here m ws p → (vs : List Named) → ((j : ℕ) (d : Declared) → Has vs j d → Has ws j d)
+      → Each (mention (map variable_of vs) p x.at x.name) (of_name vs m x)
   name_fits m ws p x k [] f = no_uses
   name_fits m ws p x k (v ∷ vs) f =
       pick (bytes_eq v.name x.name) _ _ _ _
@@ -210,7 +213,8 @@ module _ (tell : ℕ → Note) (g : List (Edge ℕ)) where
   IsCaught (Some c) None vs = ⊥
   IsCaught (Some c) (Some d) vs = (c.declared ≡ d.at) × Has vs c.number d
 
-  pub thrown_fits : (m : ℕ) (vs : List Named) (p : Point) (c : Option Caught) (d : Option Declared) (at : Place) (e : Option ExprTree) → Here m vs p → IsCaught c d vs → Each (thrown_uses p c at e (map variable_of vs)) (thrown vs m at d e)
+  pub thrown_fits : (m : ℕ) (vs : List Named) (p : Point) (c : Option Caught) (d : Option Declared) (at : Place) (e : Option ExprTree) → Here m vs p → IsCaught c d vs
+      → Each (thrown_uses p c at e (map variable_of vs)) (thrown vs m at d e)
   thrown_fits m vs p c d at (Some e) k h = expr_fits m vs p e k
   thrown_fits m vs p None None at None k h = no_uses
   thrown_fits m vs p None (Some d) at None k h = absurd h

@@ -35,7 +35,8 @@ mutual
   places_of_waits (ForStmt at i e t b k) m =
       let h = suc (m + points i) in
       let l = h + points t in
-      joined (waits i m ++ waits t h ++ waits b l) _ _ _ (joined (waits i m ++ waits t h) _ _ _ (joined _ _ _ _ (places_of_waits i m) (places_of_waits t h)) (places_of_waits b l)) (places_of_waits k (l + points b))
+      joined (waits i m ++ waits t h ++ waits b l) _ _ _ (joined (waits i m ++ waits t h) _ _ _ (joined _ _ _ _ (places_of_waits i m) (places_of_waits t h)) (places_of_waits b l))
+      (places_of_waits k (l + points b))
   places_of_waits (LoopStmt at b k) m = joined _ _ _ _ (places_of_waits b (suc m)) (places_of_waits k (suc m + points b))
   places_of_waits (BreakStmt at k) m = places_of_waits k (suc m)
   places_of_waits (ContinueStmt at k) m = places_of_waits k (suc m)
@@ -98,7 +99,8 @@ pub data Counted : ℕ → List Note → List Wait → ℕ → Type 0 where
   over : {m n : ℕ} {ys : List Note} {ws : List Wait} (y : Note) → y.counts ≡ false → Counted (suc m) ys ws n → Counted m (y ∷ ys) ws n
   wait : {m n : ℕ} {ys : List Note} {ws : List Wait} (y : Note) (w : Wait) → w.point ≡ m → y.counts ≡ nat_lt 0 n → Counted (suc m) ys ws (n - 1) → Counted m (y ∷ ys) (w ∷ ws) n
 
-pub counted_then : {m n : ℕ} {xs : List Note} {ws : List Wait} (m' n' : ℕ) (ys : List Note) (vs : List Wait) → Counted m xs ws n → m + length xs ≡ m' → n - length ws ≡ n' → Counted m' ys vs n' → Counted m (xs ++ ys) (ws ++ vs) n
+pub counted_then : {m n : ℕ} {xs : List Note} {ws : List Wait} (m' n' : ℕ) (ys : List Note) (vs : List Wait) → Counted m xs ws n → m + length xs ≡ m' → n - length ws ≡ n' → Counted m' ys vs n'
+    → Counted m (xs ++ ys) (ws ++ vs) n
 counted_then {m} {n} m' n' ys vs none e f c = let g : m' ≡ m = omega (arith, e) in let h : n' ≡ n = omega (arith, f) in subst₂ (λ x y. Counted x ys vs y) g h c
 counted_then {m} {n} m' n' ys vs (over {ys = xs} y z d) e f c = let g : suc m + length xs ≡ m' = omega (arith, e) in over y z (counted_then m' n' ys vs d g f c)
 counted_then {m} {n} m' n' ys vs (wait {ys = xs} {ws = ws} y w p z d) e f c =
@@ -120,9 +122,11 @@ mutual
   pub counted : (n : ℕ) (b : Body) (m : ℕ) (vs : List Named) (p : Point) → Counted m (notes n b m vs p) (waits b m) n
   counted n End m vs p = none
   counted n (BlockStmt at b k) m vs p =
-      over (note vs p) refl (counted_then (suc m + points b) (left n b) _ _ (counted n b (suc m) vs p) (on_by (suc m) n b vs p) (less_by n (suc m) b) (counted (left n b) k (suc m + points b) vs (behind_all vs p (block_ways n b).ends)))
+      over (note vs p) refl (counted_then (suc m + points b) (left n b) _ _ (counted n b (suc m) vs p) (on_by (suc m) n b vs p) (less_by n (suc m) b)
+      (counted (left n b) k (suc m + points b) vs (behind_all vs p (block_ways n b).ends)))
   counted n (IfStmt at e b k) m vs p =
-      over (note vs p) refl (counted_then (suc m + points b) (left n b) _ _ (counted n b (suc m) vs p) (on_by (suc m) n b vs p) (less_by n (suc m) b) (counted (left n b) k (suc m + points b) vs (behind_all vs p (if_ways n b).ends)))
+      over (note vs p) refl (counted_then (suc m + points b) (left n b) _ _ (counted n b (suc m) vs p) (on_by (suc m) n b vs p) (less_by n (suc m) b)
+      (counted (left n b) k (suc m + points b) vs (behind_all vs p (if_ways n b).ends)))
   counted n (IfElseStmt at e b c k) m vs p =
       let l = suc m + points b in
       let r = counted (left (left n b) c) k (l + points c) vs (behind_all vs p (if_else_ways n b c).ends) in
@@ -131,7 +135,8 @@ mutual
       (over (note vs p) refl (counted_then l (left n b) _ _ (counted n b (suc m) vs p) (on_by (suc m) n b vs p) (less_by n (suc m) b) s))
   counted n (WhileStmt at e b k) m vs p =
       let h = behind_all vs p (head (ways n b)) in
-      over (note vs h) refl (counted_then (suc m + points b) (left n b) _ _ (counted n b (suc m) vs h) (on_by (suc m) n b vs h) (less_by n (suc m) b) (counted (left n b) k (suc m + points b) vs (behind_all vs p (looped true (ways n b)).ends)))
+      over (note vs h) refl (counted_then (suc m + points b) (left n b) _ _ (counted n b (suc m) vs h) (on_by (suc m) n b vs h) (less_by n (suc m) b)
+      (counted (left n b) k (suc m + points b) vs (behind_all vs p (looped true (ways n b)).ends)))
   counted n (ForStmt at i e t b k) m vs p =
       let g = m + points i in
       let l = suc g + points t in
@@ -146,7 +151,8 @@ mutual
       (counted_then g (left n i) _ _ (counted n i m vs p) (on_by m n i vs p) (less_by n m i) (over (note ws h) refl x3))
   counted n (LoopStmt at b k) m vs p =
       let h = behind_all vs p (head (ways n b)) in
-      over (note vs h) refl (counted_then (suc m + points b) (left n b) _ _ (counted n b (suc m) vs h) (on_by (suc m) n b vs h) (less_by n (suc m) b) (counted (left n b) k (suc m + points b) vs (behind_all vs p (looped false (ways n b)).ends)))
+      over (note vs h) refl (counted_then (suc m + points b) (left n b) _ _ (counted n b (suc m) vs h) (on_by (suc m) n b vs h) (less_by n (suc m) b)
+      (counted (left n b) k (suc m + points b) vs (behind_all vs p (looped false (ways n b)).ends)))
   counted n (BreakStmt at k) m vs p = over (note vs p) refl (counted n k (suc m) vs (behind_all vs p never))
   counted n (ContinueStmt at k) m vs p = over (note vs p) refl (counted n k (suc m) vs (behind_all vs p never))
   counted n (ReturnStmt at v k) m vs p = over (note vs p) refl (counted n k (suc m) vs (behind_all vs p never))
@@ -163,7 +169,8 @@ mutual
       let q = behind_all vs p (waited_at n) in
       let n' = n - 1 - length (branch_groups bs) in
       wait (wait_note n vs p) (record { at = at; point = m }) refl refl
-      (counted_then (suc m + branch_points bs) n' _ _ (branch_counted (n - 1) bs (suc m) vs q) (ap (λ z. suc m + z) (branch_notes_many (n - 1) bs (suc m) vs q)) (ap (λ z. n - 1 - z) (branch_waits_many bs (suc m)))
+      (counted_then (suc m + branch_points bs) n' _ _ (branch_counted (n - 1) bs (suc m) vs q) (ap (λ z. suc m + z) (branch_notes_many (n - 1) bs (suc m) vs q))
+      (ap (λ z. n - 1 - z) (branch_waits_many bs (suc m)))
       (counted n' k (suc m + branch_points bs) vs (behind_all vs p (choose_ways n bs).ends)))
   counted n (DeclareStmt at i v k) m vs p = over (note vs p) refl (counted n k (suc m) (declared m i ∷ vs) p)
   counted n (AssignStmt at xs v k) m vs p = over (note vs p) refl (counted n k (suc m) vs p)
@@ -176,7 +183,8 @@ mutual
   branch_counted n (MoreBranches at w b bs) m vs q =
       let ws = with_into m w.into vs in
       let e : suc m + points b ≡ suc (m + points b) = omega arith in
-      over (note vs q) refl (counted_then (suc (m + points b)) (left n b) _ _ (counted n b (suc m) ws q) (on_by (suc m) n b ws q ∙ e) (less_by n (suc m) b) (branch_counted (left n b) bs (suc (m + points b)) vs q))
+      over (note vs q) refl (counted_then (suc (m + points b)) (left n b) _ _ (counted n b (suc m) ws q) (on_by (suc m) n b ws q ∙ e) (less_by n (suc m) b)
+      (branch_counted (left n b) bs (suc (m + points b)) vs q))
 
 abbrev or_wait : Wait → Option Wait → Wait
 or_wait w None = w
@@ -186,7 +194,8 @@ same_wait : (v w : Wait) → Some v ≡ Some w → v ≡ w
 same_wait v w e = ap (or_wait v) e
 
 -- the first n waits count
-pub counts_of : (tell : ℕ → Note) {m n : ℕ} {ys : List Note} {ws : List Wait} → Counted m ys ws n → Tells tell m ys → (k : ℕ) (w : Wait) → slice_get ws k ≡ Some w → k < n → (tell w.point).counts ≡ true
+pub counts_of : (tell : ℕ → Note) {m n : ℕ} {ys : List Note} {ws : List Wait} → Counted m ys ws n → Tells tell m ys → (k : ℕ) (w : Wait) → slice_get ws k ≡ Some w → k < n
+    → (tell w.point).counts ≡ true
 counts_of tell none t k w e l = absurd (false≢true (ap is_some e))
 counts_of tell (over y z c) t k w e l = counts_of tell c t.1 k w e l
 counts_of tell {m} {n} (wait y v p z c) t zero w e l =

@@ -166,7 +166,8 @@ both_hold : (a b : Bool) → a ≡ true → b ≡ true → a && b ≡ true
 both_hold true b e f = f
 both_hold false b e f = absurd (false≢true e)
 
-bad_lost : (ps : List ParamTree) (b : Body) → HasSimpleParts b → (n i : ℕ) (m : Mention) → slice_get (routine_mentions ps b) i ≡ Some m → (k : ℕ) (w : Wait) → slice_get (waits b 1) k ≡ Some w → k < n → IsBad b m w
+bad_lost : (ps : List ParamTree) (b : Body) → HasSimpleParts b → (n i : ℕ) (m : Mention) → slice_get (routine_mentions ps b) i ≡ Some m → (k : ℕ) (w : Wait) → slice_get (waits b 1) k ≡ Some w → k < n
+    → IsBad b m w
     → is_lost_with ps b i n ≡ true
 bad_lost ps b s n i m e k w f l x =
     let p = mention_pair (tells n ps b) (control b) (each n ps b s) i m e in
@@ -239,7 +240,8 @@ with_some : (holds : ℕ → Bool) (n : ℕ) (ws : List Place) (w : Place) → f
 with_some holds n [] w e = absurd (none_some w e)
 with_some holds n (v ∷ ws) w e = go (holds (n + 1)) refl e (with_some holds (n + 1) ws w)
   where
-    go : (x : Bool) → holds (n + 1) ≡ x → (if x then Some v else first_with holds (n + 1) ws) ≡ Some w → (first_with holds (n + 1) ws ≡ Some w → IsFirstWith holds (n + 1) ws w) → IsFirstWith holds n (v ∷ ws) w
+    go : (x : Bool) → holds (n + 1) ≡ x → (if x then Some v else first_with holds (n + 1) ws) ≡ Some w → (first_with holds (n + 1) ws ≡ Some w → IsFirstWith holds (n + 1) ws w)
+        → IsFirstWith holds n (v ∷ ws) w
     go true f e r = let q : n + 0 + 1 ≡ n + 1 = omega arith in record { number = 0; is_wait = e; it_holds = ap holds q ∙ f; before = λ i l h. omega (arith, l) }
     go false f e r =
         let p = r e in
@@ -295,7 +297,8 @@ module _ (ps : List ParamTree) (b : Body) (s : HasSimpleParts b) where
   none_lost : first_stale 0 (routine_uses ps b many) ≡ None → LostIn ps b None
   none_lost e u c x = first_none (routine_uses ps b many) 0 c.0 e (bad_stale c.0 u x.0 (contains_get (routine_mentions ps b) c.0 u c.1 c.2) x.1 x.2)
 
-  some_lost : (m : ℕ) (u : Use) (w : Place) → first_stale 0 (routine_uses ps b many) ≡ Some m → slice_get (routine_uses ps b many) m ≡ Some u → first_with (is_lost_with ps b m) 0 (wait_places b) ≡ Some w
+  some_lost : (m : ℕ) (u : Use) (w : Place) → first_stale 0 (routine_uses ps b many) ≡ Some m → slice_get (routine_uses ps b many) m ≡ Some u
+      → first_with (is_lost_with ps b m) 0 (wait_places b) ≡ Some w
       → IsFirstBad ps b (record { at = u.at; declared = u.declared; wait = w })
   some_lost m u w e f g =
       let r = first_some (routine_uses ps b many) 0 m e in
@@ -303,7 +306,8 @@ module _ (ps : List ParamTree) (b : Body) (s : HasSimpleParts b) where
       let x = lost_bad ps b s (0 + q.number + 1) m q.it_holds in
       let n = r.is_number in
       let mr : m ≡ r.number = omega (arith, n) in
-      let same = only q.number x.number x.within (λ l. q.before x.number l (let l' : x.number < 0 + x.number + 1 = omega arith in bad_lost ps b s (0 + x.number + 1) m x.mention x.is_mention x.number x.wait x.is_wait l' x.bad)) in
+      let same = only q.number x.number x.within (λ l. q.before x.number l
+      (let l' : x.number < 0 + x.number + 1 = omega arith in bad_lost ps b s (0 + x.number + 1) m x.mention x.is_mention x.number x.wait x.is_wait l' x.bad)) in
       let is_wait = subst (λ k. slice_get (waits b 1) k ≡ Some x.wait) same x.is_wait in
       let p = mention_pair (tells many ps b) (control b) (each many ps b s) m x.mention x.is_mention in
       let same_use : p.found ≡ u = ap (or_use p.found) (sym p.is_use ∙ f) in
@@ -333,7 +337,8 @@ module _ (ps : List ParamTree) (b : Body) (s : HasSimpleParts b) where
   pub lost_by_walk : LostIn ps b (lost_in ps b)
   lost_by_walk = of_first (first_stale 0 (routine_uses ps b many)) refl
     where
-      of_wait : (m : ℕ) (u : Use) (o : Option Place) → first_stale 0 (routine_uses ps b many) ≡ Some m → slice_get (routine_uses ps b many) m ≡ Some u → first_with (is_lost_with ps b m) 0 (wait_places b) ≡ o → LostIn ps b (lost_at (Some u) o)
+      of_wait : (m : ℕ) (u : Use) (o : Option Place) → first_stale 0 (routine_uses ps b many) ≡ Some m → slice_get (routine_uses ps b many) m ≡ Some u
+          → first_with (is_lost_with ps b m) 0 (wait_places b) ≡ o → LostIn ps b (lost_at (Some u) o)
       of_wait m u (Some w) e f g = some_lost m u w e f g
       of_wait m u None e f g =
           let r = first_some (routine_uses ps b many) 0 m e in
@@ -346,7 +351,8 @@ module _ (ps : List ParamTree) (b : Body) (s : HasSimpleParts b) where
           let l' : many - 1 < many = omega (arith, l) in
           absurd (with_none (is_lost_with ps b m) 0 (wait_places b) g (many - 1) l' (ap (is_lost_with ps b m) k ∙ stale))
 
-      of_use : (m : ℕ) (o : Option Use) → first_stale 0 (routine_uses ps b many) ≡ Some m → slice_get (routine_uses ps b many) m ≡ o → LostIn ps b (lost_at o (first_with (is_lost_with ps b m) 0 (wait_places b)))
+      of_use : (m : ℕ) (o : Option Use) → first_stale 0 (routine_uses ps b many) ≡ Some m → slice_get (routine_uses ps b many) m ≡ o
+          → LostIn ps b (lost_at o (first_with (is_lost_with ps b m) 0 (wait_places b)))
       of_use m (Some u) e f = of_wait m u (first_with (is_lost_with ps b m) 0 (wait_places b)) e f refl
       of_use m None e f =
           let r = first_some (routine_uses ps b many) 0 m e in

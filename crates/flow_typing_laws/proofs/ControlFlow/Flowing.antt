@@ -149,14 +149,16 @@ module _ (tell : ℕ → Note) where
   pub into_headed : (w : Ways) (vs : List Named) (p : Point) (m : ℕ) → tell m ≡ note vs (behind_all vs p (head w)) → Into at_once vs p (tell m)
   into_headed w vs p m e = subst (Into at_once vs p) (sym e) (into_less at_once (head w) vs p _ (less_head w) (into_self (head w) vs p))
 
-  pub into_for : (n m : ℕ) (vs : List Named) (p : Point) (i t b : Body) (f : ℕ) (ns : List Note) → InitKind i → Tells tell m (notes n i m vs p ++ (note (declaring m i vs) (for_point n m vs p i t b) ∷ ns))
+  pub into_for : (n m : ℕ) (vs : List Named) (p : Point) (i t b : Body) (f : ℕ) (ns : List Note) → InitKind i
+      → Tells tell m (notes n i m vs p ++ (note (declaring m i vs) (for_point n m vs p i t b) ∷ ns))
       → Into at_once vs p (tell (first i m (m + points i)))
   into_for n m vs p _ t b f ns no_init h = let e : m ≡ m + 0 = omega arith in subst (λ x. Into at_once vs p (tell x)) e (into_headed (for_round n End t b) vs p m h.0)
   into_for n m vs p _ t b f ns (declares at i v) h = into_here vs p m h.0
   into_for n m vs p _ t b f ns (assigns at xs v) h = into_here vs p m h.0
   into_for n m vs p _ t b f ns (modifies at xs c) h = into_here vs p m h.0
 
-  pub into_first : (n : ℕ) (b : Body) (m : ℕ) (vs : List Named) (p : Point) (f : ℕ) → HasSimpleParts b → Tells tell m (notes n b m vs p) → Into (ways n b).ends vs p (tell f) → Into at_once vs p (tell (first b m f))
+  pub into_first : (n : ℕ) (b : Body) (m : ℕ) (vs : List Named) (p : Point) (f : ℕ) → HasSimpleParts b → Tells tell m (notes n b m vs p) → Into (ways n b).ends vs p (tell f)
+      → Into at_once vs p (tell (first b m f))
   into_first n End m vs p f s h i = i
   into_first n (WhileStmt at e b k) m vs p f s h i = into_headed (ways n b) vs p m h.0
   into_first n (ForStmt at j e t b k) m vs p f s h i = into_for n m vs p j t b f _ (init_kind j s.0.0) h
@@ -166,6 +168,7 @@ module _ (tell : ℕ → Note) where
   into_first n _ m vs p f s h i = into_here vs p m h.0
 
   -- what comes behind a statement that is left so
-  pub into_next : (w : Ways) (n : ℕ) (k : Body) (m : ℕ) (vs : List Named) (p : Point) (a : Around) → HasSimpleParts k → Tells tell m (notes n k m vs (behind_all vs p w.ends)) → Exits tell (sequence w (ways n k)) vs p a
+  pub into_next : (w : Ways) (n : ℕ) (k : Body) (m : ℕ) (vs : List Named) (p : Point) (a : Around) → HasSimpleParts k → Tells tell m (notes n k m vs (behind_all vs p w.ends))
+      → Exits tell (sequence w (ways n k)) vs p a
       → Into w.ends vs p (tell (first k m a.follows))
   into_next w n k m vs p a s h e = into_back w.ends vs p _ (into_first n k m vs (behind_all vs p w.ends) a.follows s h (exits_rest tell w (ways n k) vs p a e).follows)

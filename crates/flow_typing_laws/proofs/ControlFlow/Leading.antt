@@ -256,11 +256,14 @@ module _ (tell : ℕ → Note) where
   }
 
   -- the rounds of a loop, which end at a point at which their begin is known
-  pub exits_looped : (leads : Bool) (w : Ways) (vs : List Named) (p : Point) (a : Around) (m : ℕ) → Exits (looped leads w) vs p a → tell m ≡ note vs (behind_all vs p (head w)) → Exits w vs (behind_all vs p (head w)) (in_loop a m)
+  pub exits_looped : (leads : Bool) (w : Ways) (vs : List Named) (p : Point) (a : Around) (m : ℕ) → Exits (looped leads w) vs p a → tell m ≡ note vs (behind_all vs p (head w))
+      → Exits w vs (behind_all vs p (head w)) (in_loop a m)
   exits_looped leads w vs p a m e t = record {
     follows = subst (Into w.ends vs (behind_all vs p (head w))) (sym t) (into_round w.ends w vs p (λ x. or_left w.ends.waited w.continues.waited x));
-    breaks = λ n h. into_then (head w) w.breaks vs p (tell n) (subst (λ x. Into (onward (head w) w.breaks) vs p (tell x)) (some_same a.follows n h) (into_less (onward (head w) w.breaks) _ vs p (tell a.follows) (less_right (past leads (head w)) (onward (head w) w.breaks)) e.follows));
-    continues = λ n h. subst (λ x. Into w.continues vs (behind_all vs p (head w)) (tell x)) (some_same m n h) (subst (Into w.continues vs (behind_all vs p (head w))) (sym t) (into_round w.continues w vs p (λ x. or_right w.ends.waited w.continues.waited x)));
+    breaks = λ n h. into_then (head w) w.breaks vs p (tell n) (subst (λ x. Into (onward (head w) w.breaks) vs p (tell x)) (some_same a.follows n h)
+        (into_less (onward (head w) w.breaks) _ vs p (tell a.follows) (less_right (past leads (head w)) (onward (head w) w.breaks)) e.follows));
+    continues = λ n h. subst (λ x. Into w.continues vs (behind_all vs p (head w)) (tell x)) (some_same m n h)
+        (subst (Into w.continues vs (behind_all vs p (head w))) (sym t) (into_round w.continues w vs p (λ x. or_right w.ends.waited w.continues.waited x)));
     catches = λ n h. into_then (head w) w.throws vs p (tell n) (into_less (onward (head w) w.throws) _ vs p (tell n) (less_right (head w) (onward (head w) w.throws)) (e.catches n h));
   }
 
@@ -274,7 +277,8 @@ module _ (tell : ℕ → Note) where
   }
 
   -- the step
-  pub exits_step : (w s : Ways) (vs : List Named) (h : Point) (a : Around) (m l : ℕ) → Exits (with_step w s) vs h (in_loop a l) → Into (with_step w s).ends vs h (tell m) → Exits s vs (behind_all vs h (round w)) (in_step a m)
+  pub exits_step : (w s : Ways) (vs : List Named) (h : Point) (a : Around) (m l : ℕ) → Exits (with_step w s) vs h (in_loop a l) → Into (with_step w s).ends vs h (tell m)
+      → Exits s vs (behind_all vs h (round w)) (in_step a m)
   exits_step w s vs h a m l e i = record {
     follows = into_then (round w) s.ends vs h (tell m) i;
     breaks = λ n x. absurd (none_some n x);

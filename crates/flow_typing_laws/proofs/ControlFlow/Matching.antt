@@ -105,7 +105,8 @@ module _ (tell : ℕ → Note) (g : List (Edge ℕ)) where
   }
 
   -- what is found with the variables and the point of the one is found with those of the other
-  pub found_alike : (f : List Variable → Point → List Use) (vs : List Named) (vs' : List Variable) (p p' : Point) (ms : List Mention) → map variable_of vs ≡ vs' → p ≡ p' → Each tell g (f (map variable_of vs) p) ms → Each tell g (f vs' p') ms
+  pub found_alike : (f : List Variable → Point → List Use) (vs : List Named) (vs' : List Variable) (p p' : Point) (ms : List Mention) → map variable_of vs ≡ vs' → p ≡ p'
+      → Each tell g (f (map variable_of vs) p) ms → Each tell g (f vs' p') ms
   found_alike f vs vs' p p' ms e h k = subst₂ (λ v q. Each tell g (f v q) ms) e h k
 
   pub real_step : (m y : ℕ) (vs : List Named) (p : Point) → Leads g m y → Below m vs → Real tell g m vs p → Real tell g y vs p

@@ -120,7 +120,8 @@ mutual
   notes_many n (BlockStmt at b k) m vs p = let e = two _ _ _ _ (notes_many n b (suc m) vs p) (notes_many (left n b) k (suc m + points b) vs (behind_all vs p (block_ways n b).ends)) in omega (arith, e)
   notes_many n (IfStmt at e b k) m vs p = let f = two _ _ _ _ (notes_many n b (suc m) vs p) (notes_many (left n b) k (suc m + points b) vs (behind_all vs p (if_ways n b).ends)) in omega (arith, f)
   notes_many n (IfElseStmt at e b c k) m vs p =
-      let f = two _ _ _ _ (notes_many n b (suc m) vs p) (two _ _ _ _ (notes_many (left n b) c (suc m + points b) vs p) (notes_many (left (left n b) c) k (suc m + points b + points c) vs (behind_all vs p (if_else_ways n b c).ends))) in
+      let f = two _ _ _ _ (notes_many n b (suc m) vs p) (two _ _ _ _ (notes_many (left n b) c (suc m + points b) vs p)
+      (notes_many (left (left n b) c) k (suc m + points b + points c) vs (behind_all vs p (if_else_ways n b c).ends))) in
       omega (arith, f)
   notes_many n (WhileStmt at e b k) m vs p =
       let h = behind_all vs p (head (ways n b)) in
@@ -135,7 +136,8 @@ mutual
       let b' = two _ _ _ _ (notes_many (left (left n i) t) b l ws h) k' in
       let t' = two _ _ _ _ (notes_many (left n i) t (suc g) ws r) b' in
       let f = notes_many n i m vs p in
-      let g' = length-append (notes n i m vs p) (note ws h ∷ (notes (left n i) t (suc g) ws r ++ (notes (left (left n i) t) b l ws h ++ notes (left (left (left n i) t) b) k (l + points b) vs (behind_all vs p (for_ways n i e t b).ends)))) in
+      let g' = length-append (notes n i m vs p) (note ws h ∷ (notes (left n i) t (suc g) ws r
+      ++ (notes (left (left n i) t) b l ws h ++ notes (left (left (left n i) t) b) k (l + points b) vs (behind_all vs p (for_ways n i e t b).ends)))) in
       omega (arith, f, g', t')
   notes_many n (LoopStmt at b k) m vs p =
       let h = behind_all vs p (head (ways n b)) in
@@ -150,10 +152,12 @@ mutual
       let k' = notes_many (left (left n b) h) k (suc c + points h) vs (behind_all vs p (try_ways n b h).ends) in
       let h' = two _ _ _ _ (notes_many (left n b) h (suc c) (local_at c x ∷ vs) t) k' in
       let f = notes_many n b (suc m) vs p in
-      let g' = length-append (notes n b (suc m) vs p) (note vs t ∷ (notes (left n b) h (suc c) (local_at c x ∷ vs) t ++ notes (left (left n b) h) k (suc c + points h) vs (behind_all vs p (try_ways n b h).ends))) in
+      let g' = length-append (notes n b (suc m) vs p) (note vs t ∷
+      (notes (left n b) h (suc c) (local_at c x ∷ vs) t ++ notes (left (left n b) h) k (suc c + points h) vs (behind_all vs p (try_ways n b h).ends))) in
       omega (arith, f, g', h')
   notes_many n (ChooseStmt at bs k) m vs p =
-      let f = two _ _ _ _ (branch_notes_many (n - 1) bs (suc m) vs (behind_all vs p (waited_at n))) (notes_many (n - 1 - length (branch_groups bs)) k (suc m + branch_points bs) vs (behind_all vs p (choose_ways n bs).ends)) in
+      let f = two _ _ _ _ (branch_notes_many (n - 1) bs (suc m) vs (behind_all vs p (waited_at n)))
+      (notes_many (n - 1 - length (branch_groups bs)) k (suc m + branch_points bs) vs (behind_all vs p (choose_ways n bs).ends)) in
       omega (arith, f)
   notes_many n (DeclareStmt at i v k) m vs p = more _ _ (notes_many n k (suc m) (declared m i ∷ vs) p)
   notes_many n (AssignStmt at xs v k) m vs p = more _ _ (notes_many n k (suc m) vs p)

@@ -113,9 +113,11 @@ throws_for n _ w v (assigns at xs x) e = refl
 throws_for n _ w v (modifies at xs x) e = refl
 
 throws_there : (n : ℕ) (b : Body) → HasSimpleParts b → has_statement b ≡ is_reached (ways n b).throws
-throws_there n (ForStmt at i e t b k) s = sym (throws_for n i (looped (is_there e) (with_step (ways (left (left n i) t) b) (ways (left n i) t))) (ways (left (left (left n i) t) b) k) (init_kind i s.0.0) refl)
+throws_there n (ForStmt at i e t b k) s = sym (throws_for n i (looped (is_there e) (with_step (ways (left (left n i) t) b) (ways (left n i) t))) (ways (left (left (left n i) t) b) k)
+    (init_kind i s.0.0) refl)
 throws_there n (ChooseStmt at bs k) s =
-    sym (reached_first (onward (waited_at n) (either at_once (branch_ways (n - 1) bs).throws)) _ (reached_onward (waited_at n) (either at_once (branch_ways (n - 1) bs).throws) ∙ ap (λ x. x && true) (waited_reached n)))
+    sym (reached_first (onward (waited_at n) (either at_once (branch_ways (n - 1) bs).throws)) _
+    (reached_onward (waited_at n) (either at_once (branch_ways (n - 1) bs).throws) ∙ ap (λ x. x && true) (waited_reached n)))
 throws_there n (WaitStmt at w k) s = sym (reached_first (waited_at n) _ (waited_reached n))
 throws_there n _ s = refl
 

@@ -40,7 +40,8 @@ module _ (tell : ℕ → Note) (g : List (Edge ℕ)) (kept : Kept tell g) where
   there_on : (d x z : ℕ) (left : List ℕ) → Contains g (record { from = x; to = z }) → (Contains (x ∷ left) d → ⊥) → IsThere d (tell x) → IsThere d (tell z)
   there_on d x z left e avoids t j y h q = let f = flow x z e in let n = elsewhere d x left y avoids q in f.from j y h n (t j y (f.keeps j y h n) q)
 
-  stale_on : (d x z : ℕ) (left : List ℕ) → Contains g (record { from = x; to = z }) → (Contains (x ∷ left) d → ⊥) → IsThere d (tell x) → ((tell x).counts ≡ true) ⊎ IsStale d (tell x) → IsStale d (tell z)
+  stale_on : (d x z : ℕ) (left : List ℕ) → Contains g (record { from = x; to = z }) → (Contains (x ∷ left) d → ⊥) → IsThere d (tell x) → ((tell x).counts ≡ true) ⊎ IsStale d (tell x)
+      → IsStale d (tell z)
   stale_on d x z left e avoids t (inl c) j y h q = let f = flow x z e in let n = elsewhere d x left y avoids q in f.stale j y h n (t j y (f.keeps j y h n) q) (inl c)
   stale_on d x z left e avoids t (inr s) j y h q = let f = flow x z e in let n = elsewhere d x left y avoids q in let k = f.keeps j y h n in f.stale j y h n (t j y k q) (inr (s j y k q))
 
@@ -49,7 +50,8 @@ module _ (tell : ℕ → Note) (g : List (Edge ℕ)) (kept : Kept tell g) where
   stale_along d (go {left = left} x z e w) avoids t s =
       stale_along d w (λ c. avoids (to_rest x left d c)) (there_on d x z left e avoids t) (stale_on d x z left e avoids t (inr s))
 
-  waits_along : (d : ℕ) {x y : ℕ} {left : List ℕ} → Walk g x left y → (Contains left d → ⊥) → IsThere d (tell x) → (w : ℕ) → Contains left w → (tell w).counts ≡ true → IsThere d (tell y) × IsStale d (tell y)
+  waits_along : (d : ℕ) {x y : ℕ} {left : List ℕ} → Walk g x left y → (Contains left d → ⊥) → IsThere d (tell x) → (w : ℕ) → Contains left w → (tell w).counts ≡ true
+      → IsThere d (tell y) × IsStale d (tell y)
   waits_along d (stay x) avoids t w c k = absurd (let l = c.1 in omega (arith, l))
   waits_along d (go {left = left} x z e r) avoids t w c k =
       let a = λ (c : Contains left d). avoids (to_rest x left d c) in
@@ -59,7 +61,8 @@ module _ (tell : ℕ → Note) (g : List (Edge ℕ)) (kept : Kept tell g) where
         | inr i ↦ waits_along d r a t' w i k
       ]
 
-  first_step : {x y : ℕ} {ps : List ℕ} → Walk g x ps y → (left : List ℕ) → ps ≡ x ∷ left → (Contains left x → ⊥) → (w : ℕ) → Contains left w → (tell w).counts ≡ true → IsThere x (tell y) × IsStale x (tell y)
+  first_step : {x y : ℕ} {ps : List ℕ} → Walk g x ps y → (left : List ℕ) → ps ≡ x ∷ left → (Contains left x → ⊥) → (w : ℕ) → Contains left w → (tell w).counts ≡ true
+      → IsThere x (tell y) × IsStale x (tell y)
   first_step (stay x) left i avoids w c k = absurd (let e = ap length i in omega (arith, e))
   first_step (go {left = l} x z e r) left i avoids w c k =
       let same : left ≡ l = sym (ap rest i) in

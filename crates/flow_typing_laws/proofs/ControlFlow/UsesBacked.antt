@@ -67,16 +67,19 @@ module _ (tell : ℕ → Note) (g : List (Edge ℕ)) where
   -- what follows a statement that leads to nothing behind it
   dead_backed : (n n' : ℕ) (t : Body) (m : ℕ) (vs : List Named) (vs' : List Variable) (p p' : Point) (c : Option Caught) (d : Option Declared) (a : Around) (tos : List ℕ) → Alike n n' vs vs' p p'
       → Part tell g (statement m a tos ++ edges t (suc m) a) → Begins m m vs p
-      → (Alike n n' vs vs' (behind_all vs p never) (behind (length vs') p' never) → HasSimpleParts t → Tells tell (suc m) (notes n t (suc m) vs (behind_all vs p never)) → Part tell g (edges t (suc m) a)
+      → (Alike n n' vs vs' (behind_all vs p never) (behind (length vs') p' never) → HasSimpleParts t → Tells tell (suc m) (notes n t (suc m) vs (behind_all vs p never))
+      → Part tell g (edges t (suc m) a)
       → Begins (suc m) (first t (suc m) a.follows) vs (behind_all vs p never) → IsCaught tell g c d vs → Each tell g (uses n' vs' (behind (length vs') p' never) c t) (mentions t (suc m) vs d))
-      → HasSimpleParts t → Tells tell (suc m) (notes n t (suc m) vs (behind_all vs p never)) → IsCaught tell g c d vs → Each tell g (uses n' vs' (behind (length vs') p' never) c t) (mentions t (suc m) vs d)
+      → HasSimpleParts t → Tells tell (suc m) (notes n t (suc m) vs (behind_all vs p never)) → IsCaught tell g c d vs
+      → Each tell g (uses n' vs' (behind (length vs') p' never) c t) (mentions t (suc m) vs d)
   dead_backed n n' t m vs vs' p p' c d a tos e i r rest s h k =
       let up : m ≤ suc m = omega arith in
       rest (record { left = e.left; named = e.named; point = behind_alike vs vs' p p' never never e.named e.point refl }) s h (part_right tell g (statement m a tos) (edges t (suc m) a) i)
       (begins_dead m (suc m) m (first t (suc m) a.follows) vs p up r) k
 
   -- what follows a statement that declares nothing
-  next_backed : (n n' : ℕ) (t : Body) (m : ℕ) (vs : List Named) (vs' : List Variable) (p p' : Point) (c : Option Caught) (d : Option Declared) (a : Around) → Part tell g (statement m a (first t (suc m) a.follows ∷ []) ++ edges t (suc m) a)
+  next_backed : (n n' : ℕ) (t : Body) (m : ℕ) (vs : List Named) (vs' : List Variable) (p p' : Point) (c : Option Caught) (d : Option Declared) (a : Around)
+      → Part tell g (statement m a (first t (suc m) a.follows ∷ []) ++ edges t (suc m) a)
       → Begins m m vs p → (Part tell g (edges t (suc m) a) → Begins (suc m) (first t (suc m) a.follows) vs p → IsCaught tell g c d vs → Each tell g (uses n' vs' p' c t) (mentions t (suc m) vs d))
       → IsCaught tell g c d vs → Each tell g (uses n' vs' p' c t) (mentions t (suc m) vs d)
   next_backed n n' t m vs vs' p p' c d a i r rest k =
@@ -109,7 +112,11 @@ module _ (tell : ℕ → Note) (g : List (Edge ℕ)) where
         each_then tell g _ _
         (backed n n' b (suc m) vs vs' p p' c d (followed_by a f) e s.1 hb ib (begins_step m (suc m) x vs p up (statement_first tell g m a x [] is) r) k)
         (backed (left n b) (left n' (BlockStmt at b End)) t m' vs vs' (behind_all vs p w.ends) (beyond n' vs' p' (BlockStmt at b End)) c d a
-        (record { left = left_one n n' (body_groups b) e.left; named = e.named; point = beyond_alike vs vs' p p' w.ends (block_ways n' b).ends e.named e.point (ap (λ z. (block_ways z b).ends) e.left) })
+        (record {
+          left = left_one n n' (body_groups b) e.left;
+          named = e.named;
+          point = beyond_alike vs vs' p p' w.ends (block_ways n' b).ends e.named e.point (ap (λ z. (block_ways z b).ends) e.left);
+        })
         s.2 ht it (begins_then w.ends m m' m f vs p up' r k'.ends) k)
     backed n n' (IfStmt at q b t) m vs vs' p p' c d a e s h i r k =
         let w = if_ways n b in
@@ -165,7 +172,11 @@ module _ (tell : ℕ → Note) (g : List (Edge ℕ)) where
         (backed (left n b) (left n' b) o l vs vs' p p' c d (followed_by a f) (record { left = ap (λ z. left z b) e.left; named = e.named; point = e.point }) s.2 ho io
         (begins_step m l y vs p up'' (statement_second tell g m a x y [] is) r) k))
         (backed (left (left n b) o) (left n' (IfElseStmt at q b o End)) t m' vs vs' (behind_all vs p w.ends) (beyond n' vs' p' (IfElseStmt at q b o End)) c d a
-        (record { left = left_two n n' (body_groups b) (body_groups o) e.left; named = e.named; point = beyond_alike vs vs' p p' w.ends (if_else_ways n' b o).ends e.named e.point (ap (λ z. (if_else_ways z b o).ends) e.left) })
+        (record {
+          left = left_two n n' (body_groups b) (body_groups o) e.left;
+          named = e.named;
+          point = beyond_alike vs vs' p p' w.ends (if_else_ways n' b o).ends e.named e.point (ap (λ z. (if_else_ways z b o).ends) e.left);
+        })
         s.3 ht it (begins_then w.ends m m' m f vs p up' r k'.ends) k)
     backed n n' (WhileStmt at q b t) m vs vs' p p' c d a e s h i r k =
         let w = looped true (ways n b) in
@@ -194,7 +205,11 @@ module _ (tell : ℕ → Note) (g : List (Edge ℕ)) where
         (each_then tell g _ _ (found_alike tell g (λ v z. expr_uses v z q) vs vs' u u' _ e.named pu (expr_fits tell g m vs u q (here_of tell g m vs u h.0 rh.real)))
         (backed n n' b (suc m) vs vs' u u' c d (in_loop (followed_by a f) m) (record { left = e.left; named = e.named; point = pu }) s.1 hb ib (begins_step m (suc m) x vs u up l rh) k))
         (backed (left n b) (left n' (WhileStmt at q b End)) t m' vs vs' (behind_all vs p w.ends) (beyond n' vs' p' (WhileStmt at q b End)) c d a
-        (record { left = left_one n n' (body_groups b) e.left; named = e.named; point = beyond_alike vs vs' p p' w.ends (looped true (ways n' b)).ends e.named e.point (ap (λ z. (looped true (ways z b)).ends) e.left) })
+        (record {
+          left = left_one n n' (body_groups b) e.left;
+          named = e.named;
+          point = beyond_alike vs vs' p p' w.ends (looped true (ways n' b)).ends e.named e.point (ap (λ z. (looped true (ways z b)).ends) e.left);
+        })
         s.2 ht it (begins_then w.ends m m' m f vs p up' r k'.ends) k)
     backed n n' (ForStmt at j q o b t) m vs vs' p p' c d a e s h i r k =
         let y = m + points j in
@@ -248,9 +263,14 @@ module _ (tell : ℕ → Note) (g : List (Edge ℕ)) where
         let kr = walked_step tell g (ways nb b) (ways no o) y x z y (followed_by a f) kb' (walked_less tell g (ways no o) y (suc y) z (in_step a y) ys ko) in
         let below_y = init_below tell j m vs kind r.below in
         let w0 = stale_within vs p (ways n j).ends r.within in
-        let r0 : Begins y y ws p0 = record { below = below_y; within = within_init m p0.stale j vs kind w0; real = subst (λ q. Real tell g y ws q) (init_point vs p n j kind) (init_real tell g j m vs p a kind ij r.below r.within r.real) } in
+        let r0 : Begins y y ws p0 = record {
+          below = below_y;
+          within = within_init m p0.stale j vs kind w0;
+          real = subst (λ q. Real tell g y ws q) (init_point vs p n j kind) (init_real tell g j m vs p a kind ij r.below r.within r.real);
+        } in
         let ru = begins_then (head wr) y y y y ws p0 yy r0 (head_goes wr y x (followed_by a f) l kr) in
-        let rv = begins_then (round (ways nb b)) y (suc y) y z ws u ys ru (goes_before tell g (round (ways nb b)) y y x z (trail_step tell g y y x yy l) (goes_either tell g (ways nb b).ends (ways nb b).continues y x z kb'.ends (kb'.continues z refl))) in
+        let rv = begins_then (round (ways nb b)) y (suc y) y z ws u ys ru
+        (goes_before tell g (round (ways nb b)) y y x z (trail_step tell g y y x yy l) (goes_either tell g (ways nb b).ends (ways nb b).continues y x z kb'.ends (kb'.continues z refl))) in
         let ews = init_alike m j vs vs' kind e.named in
         let ep0 = behind_alike vs vs' p p' (ways n j).ends (ways n' j).ends e.named e.point (ap (λ z. (ways z j).ends) e.left) in
         let wr' = for_round n' j o b in
@@ -269,7 +289,11 @@ module _ (tell : ℕ → Note) (g : List (Edge ℕ)) where
         (backed nb (left (left n' j) o) b m'' ws vs'' u u' c d (in_loop (followed_by a f) z) (record { left = ap (λ z. left (left z j) o) e.left; named = ews; point = eu }) s.3 hb ib
         (begins_step y m'' x ws u yb l ru) kc))
         (backed nt (left n' (ForStmt at j q o b End)) t m' vs vs' (behind_all vs p w.ends) (beyond n' vs' p' (ForStmt at j q o b End)) c d a
-        (record { left = left_three n n' (body_groups j) (body_groups o) (body_groups b) e.left; named = e.named; point = beyond_alike vs vs' p p' w.ends (for_ways n' j q o b).ends e.named e.point (ap (λ z. (for_ways z j q o b).ends) e.left) })
+        (record {
+          left = left_three n n' (body_groups j) (body_groups o) (body_groups b) e.left;
+          named = e.named;
+          point = beyond_alike vs vs' p p' w.ends (for_ways n' j q o b).ends e.named e.point (ap (λ z. (for_ways z j q o b).ends) e.left);
+        })
         s.4 ht it (begins_then w.ends m m' (first j m y) f vs p up' r kw.ends) k)
     backed n n' (LoopStmt at b t) m vs vs' p p' c d a e s h i r k =
         let w = looped false (ways n b) in
@@ -297,10 +321,16 @@ module _ (tell : ℕ → Note) (g : List (Edge ℕ)) where
         each_then tell g _ _
         (backed n n' b (suc m) vs vs' u u' c d (in_loop (followed_by a f) m) (record { left = e.left; named = e.named; point = pu }) s.1 hb ib (begins_step m (suc m) x vs u up l rh) k)
         (backed (left n b) (left n' (LoopStmt at b End)) t m' vs vs' (behind_all vs p w.ends) (beyond n' vs' p' (LoopStmt at b End)) c d a
-        (record { left = left_one n n' (body_groups b) e.left; named = e.named; point = beyond_alike vs vs' p p' w.ends (looped false (ways n' b)).ends e.named e.point (ap (λ z. (looped false (ways z b)).ends) e.left) })
+        (record {
+          left = left_one n n' (body_groups b) e.left;
+          named = e.named;
+          point = beyond_alike vs vs' p p' w.ends (looped false (ways n' b)).ends e.named e.point (ap (λ z. (looped false (ways z b)).ends) e.left);
+        })
         s.2 ht it (begins_then w.ends m m' m f vs p up' r k'.ends) k)
-    backed n n' (BreakStmt at t) m vs vs' p p' c d a e s h i r k = dead_backed n n' t m vs vs' p p' c d a (listed a.breaks) e i r (backed n n' t (suc m) vs vs' (behind_all vs p never) (behind (length vs') p' never) c d a) s.1 h.1 k
-    backed n n' (ContinueStmt at t) m vs vs' p p' c d a e s h i r k = dead_backed n n' t m vs vs' p p' c d a (listed a.continues) e i r (backed n n' t (suc m) vs vs' (behind_all vs p never) (behind (length vs') p' never) c d a) s.1 h.1 k
+    backed n n' (BreakStmt at t) m vs vs' p p' c d a e s h i r k =
+        dead_backed n n' t m vs vs' p p' c d a (listed a.breaks) e i r (backed n n' t (suc m) vs vs' (behind_all vs p never) (behind (length vs') p' never) c d a) s.1 h.1 k
+    backed n n' (ContinueStmt at t) m vs vs' p p' c d a e s h i r k =
+        dead_backed n n' t m vs vs' p p' c d a (listed a.continues) e i r (backed n n' t (suc m) vs vs' (behind_all vs p never) (behind (length vs') p' never) c d a) s.1 h.1 k
     backed n n' (ReturnStmt at q t) m vs vs' p p' c d a e s h i r k =
         each_then tell g _ _ (found_alike tell g (λ v z. expr_uses v z q) vs vs' p p' _ e.named e.point (expr_fits tell g m vs p q (here_of tell g m vs p h.0 r.real)))
         (dead_backed n n' t m vs vs' p p' c d a [] e i r (backed n n' t (suc m) vs vs' (behind_all vs p never) (behind (length vs') p' never) c d a) s.1 h.1 k)
@@ -344,17 +374,26 @@ module _ (tell : ℕ → Note) (g : List (Edge ℕ)) where
         let k' = try_walked tell g n b o m y a f my is ih kb ko in
         let l = statement_first tell g m a x [] is in
         let l' = to_first tell g y x' [] ih in
-        let ry = begins_then (ways n b).throws m y m y vs p my r (goes_before tell g (ways n b).throws m m x y (trail_step tell g m m x mm l) (goes_less tell g (ways n b).throws m (suc m) x y up (kb.throws y refl))) in
+        let ry = begins_then (ways n b).throws m y m y vs p my r (goes_before tell g (ways n b).throws m m x y (trail_step tell g m m x mm l)
+        (goes_less tell g (ways n b).throws m (suc m) x y up (kb.throws y refl))) in
         let rx = begins_step y (suc y) x' vs u yy l' ry in
         let wu : u.stale ≤ length us = (let q = ry.within in omega (arith, q)) in
-        let ro : Begins (suc y) x' us u = record { below = below_declared y (local_at y z) vs (caught_point y z) ry.below; within = wu; real = real_declared tell g y x' (local_at y z) vs u l' (caught_point y z) ry.within rx.real } in
+        let ro : Begins (suc y) x' us u = record {
+          below = below_declared y (local_at y z) vs (caught_point y z) ry.below;
+          within = wu;
+          real = real_declared tell g y x' (local_at y z) vs u l' (caught_point y z) ry.within rx.real;
+        } in
         let eu = behind_alike vs vs' p p' (ways n b).throws (ways n' b).throws e.named e.point (ap (λ z. (ways z b).throws) e.left) in
         each_then tell g _ _
         (each_then tell g _ _ (backed n n' b (suc m) vs vs' p p' c d (in_try (followed_by a f) y) e s.1 hb ib (begins_at m (suc m) m x vs p up r (real_step tell g m x vs p l r.below r.real)) k)
         (backed (left n b) (left n' b) o (suc y) us (rule.caught_as z ∷ vs') u u' (Some (record { number = length vs'; declared = z.at })) (Some (record { at = z.at; point = y })) (followed_by a f)
         (record { left = ap (λ z. left z b) e.left; named = ap (λ l. rule.caught_as z ∷ l) e.named; point = eu }) s.2 ho io ro (refl, inl (sym (long vs vs' e.named), refl))))
         (backed (left (left n b) o) (left n' (TryStmt at b q z o End)) t m' vs vs' (behind_all vs p w.ends) (beyond n' vs' p' (TryStmt at b q z o End)) c d a
-        (record { left = left_two n n' (body_groups b) (body_groups o) e.left; named = e.named; point = beyond_alike vs vs' p p' w.ends (try_ways n' b o).ends e.named e.point (ap (λ z. (try_ways z b o).ends) e.left) })
+        (record {
+          left = left_two n n' (body_groups b) (body_groups o) e.left;
+          named = e.named;
+          point = beyond_alike vs vs' p p' w.ends (try_ways n' b o).ends e.named e.point (ap (λ z. (try_ways z b o).ends) e.left);
+        })
         s.3 ht it (begins_then w.ends m m' m f vs p up' r k'.ends) k)
     backed n n' (ChooseStmt at bs t) m vs vs' p p' c d a e s h i r k =
         let w = choose_ways n bs in
@@ -380,10 +419,15 @@ module _ (tell : ℕ → Note) (g : List (Edge ℕ)) where
         let k' = choose_walked tell g n bs m a f is counts (branch_walked tell g (n - 1) bs (suc m) vs u (followed_by a f) (waited_at n) m m up hb ib) in
         let eu = behind_alike vs vs' p p' (waited_at n) (waited_at n') e.named e.point (ap waited_at e.left) in
         each_then tell g _ _
-        (branch_backed (n - 1) (n' - 1) bs m (suc m) vs vs' p p' u u' c d (followed_by a f) (ap (λ z. z - 1) e.left) e.named e.point eu s.1 hb ib (here_waiting tell g n m vs p h.0 r.real) (below_more m (suc m) vs up r.below)
+        (branch_backed (n - 1) (n' - 1) bs m (suc m) vs vs' p p' u u' c d (followed_by a f) (ap (λ z. z - 1) e.left) e.named e.point eu s.1 hb ib (here_waiting tell g n m vs p h.0 r.real)
+        (below_more m (suc m) vs up r.below)
         (stale_within vs p (waited_at n) r.within) (λ y q. real_then tell g (waited_at n) m m y vs p r.below (to_when y q) r.real) k)
         (backed n'' (left n' (ChooseStmt at bs End)) t m' vs vs' (behind_all vs p w.ends) (beyond n' vs' p' (ChooseStmt at bs End)) c d a
-        (record { left = left_more n n' (branch_waits bs) (branch_groups bs) e.left; named = e.named; point = beyond_alike vs vs' p p' w.ends (choose_ways n' bs).ends e.named e.point (ap (λ z. (choose_ways z bs).ends) e.left) })
+        (record {
+          left = left_more n n' (branch_waits bs) (branch_groups bs) e.left;
+          named = e.named;
+          point = beyond_alike vs vs' p p' w.ends (choose_ways n' bs).ends e.named e.point (ap (λ z. (choose_ways z bs).ends) e.left);
+        })
         s.2 ht it (begins_then w.ends m m' m f vs p up' r k'.ends) k)
     backed n n' (DeclareStmt at j q t) m vs vs' p p' c d a e s h i r k =
         let ws = declared m j ∷ vs in
@@ -393,20 +437,28 @@ module _ (tell : ℕ → Note) (g : List (Edge ℕ)) where
         let it = part_right tell g es (edges t (suc m) a) i in
         let l = statement_first tell g m a x [] is in
         let wp : p.stale ≤ length ws = (let z = r.within in omega (arith, z)) in
-        let rt : Begins (suc m) x ws p = record { below = below_declared m (declared m j) vs (into_point m j) r.below; within = wp; real = real_declared tell g m x (declared m j) vs p l (into_point m j) r.within (real_step tell g m x vs p l r.below r.real) } in
+        let rt : Begins (suc m) x ws p = record {
+          below = below_declared m (declared m j) vs (into_point m j) r.below;
+          within = wp;
+          real = real_declared tell g m x (declared m j) vs p l (into_point m j) r.within (real_step tell g m x vs p l r.below r.real);
+        } in
         each_then tell g _ _ (found_alike tell g (λ v z. maybe_uses v z q) vs vs' p p' _ e.named e.point (maybe_fits tell g m vs p q (here_of tell g m vs p h.0 r.real)))
-        (backed n n' t (suc m) ws (rule.declared j ∷ vs') p p' c d a (record { left = e.left; named = declared_alike m j vs vs' e.named; point = e.point }) s.1 h.1 it rt (caught_deeper tell g c d (declared m j) vs k))
+        (backed n n' t (suc m) ws (rule.declared j ∷ vs') p p' c d a (record { left = e.left; named = declared_alike m j vs vs' e.named; point = e.point }) s.1 h.1 it rt
+        (caught_deeper tell g c d (declared m j) vs k))
     backed n n' (AssignStmt at xs q t) m vs vs' p p' c d a e s h i r k =
         let here = here_of tell g m vs p h.0 r.real in
-        each_then tell g _ _ (each_then tell g _ _ (found_alike tell g (λ v z. target_uses v z xs) vs vs' p p' _ e.named e.point (target_fits tell g m vs p xs here)) (found_alike tell g (λ v z. expr_uses v z q) vs vs' p p' _ e.named e.point (expr_fits tell g m vs p q here)))
+        each_then tell g _ _ (each_then tell g _ _ (found_alike tell g (λ v z. target_uses v z xs) vs vs' p p' _ e.named e.point (target_fits tell g m vs p xs here))
+        (found_alike tell g (λ v z. expr_uses v z q) vs vs' p p' _ e.named e.point (expr_fits tell g m vs p q here)))
         (next_backed n n' t m vs vs' p p' c d a i r (backed n n' t (suc m) vs vs' p p' c d a e s.1 h.1) k)
     backed n n' (ModifyStmt at xs q t) m vs vs' p p' c d a e s h i r k =
         let here = here_of tell g m vs p h.0 r.real in
-        each_then tell g _ _ (each_then tell g _ _ (found_alike tell g (λ v z. target_uses v z xs) vs vs' p p' _ e.named e.point (target_fits tell g m vs p xs here)) (found_alike tell g (λ v z. change_uses v z q) vs vs' p p' _ e.named e.point (change_fits tell g m vs p q here)))
+        each_then tell g _ _ (each_then tell g _ _ (found_alike tell g (λ v z. target_uses v z xs) vs vs' p p' _ e.named e.point (target_fits tell g m vs p xs here))
+        (found_alike tell g (λ v z. change_uses v z q) vs vs' p p' _ e.named e.point (change_fits tell g m vs p q here)))
         (next_backed n n' t m vs vs' p p' c d a i r (backed n n' t (suc m) vs vs' p p' c d a e s.1 h.1) k)
     backed n n' (CallStmt at xs q t) m vs vs' p p' c d a e s h i r k =
         let here = here_of tell g m vs p h.0 r.real in
-        each_then tell g _ _ (each_then tell g _ _ (found_alike tell g (λ v z. base_uses v z xs) vs vs' p p' _ e.named e.point (base_fits tell g m vs p xs here)) (found_alike tell g (λ v z. exprs_uses v z q) vs vs' p p' _ e.named e.point (exprs_fit tell g m vs p q here)))
+        each_then tell g _ _ (each_then tell g _ _ (found_alike tell g (λ v z. base_uses v z xs) vs vs' p p' _ e.named e.point (base_fits tell g m vs p xs here))
+        (found_alike tell g (λ v z. exprs_uses v z q) vs vs' p p' _ e.named e.point (exprs_fit tell g m vs p q here)))
         (next_backed n n' t m vs vs' p p' c d a i r (backed n n' t (suc m) vs vs' p p' c d a e s.1 h.1) k)
     backed n n' (WaitStmt at q t) m vs vs' p p' c d a e s h i r k =
         let ws = with_into m q.into vs in
@@ -422,10 +474,13 @@ module _ (tell : ℕ → Note) (g : List (Edge ℕ)) where
         let rt : Begins (suc m) x ws u = record { below = below_into m q.into vs r.below; within = stale_into m u.stale q.into vs wu; real = real_into tell g m x q.into vs u l wu rx } in
         each_then tell g _ _ (found_alike tell g (λ v z. expr_uses v z q.operand) vs vs' p p' _ e.named e.point (expr_fits tell g m vs p q.operand (here_waiting tell g n m vs p h.0 r.real)))
         (backed (n - 1) (left n' (WaitStmt at q End)) t (suc m) ws (rule.with_into vs' q.into) u (beyond n' vs' p' (WaitStmt at q End)) c d a
-        (record { left = ap (λ z. z - 1) e.left; named = into_alike m q.into vs vs' e.named; point = beyond_alike vs vs' p p' (waited_at n) (waited_at n') e.named e.point (ap waited_at e.left) }) s.1 h.1 it rt (caught_into tell g m q.into c d vs k))
+        (record { left = ap (λ z. z - 1) e.left; named = into_alike m q.into vs vs' e.named; point = beyond_alike vs vs' p p' (waited_at n) (waited_at n') e.named e.point (ap waited_at e.left) }) s.1
+        h.1 it rt (caught_into tell g m q.into c d vs k))
 
-    pub branch_backed : (n n' : ℕ) (bs : Branches) (o m : ℕ) (vs : List Named) (vs' : List Variable) (p p' u u' : Point) (c : Option Caught) (d : Option Declared) (a : Around) → n ≡ n' → map variable_of vs ≡ vs' → p ≡ p' → u ≡ u' → HaveSimpleParts bs
-        → Tells tell m (branch_notes n bs m vs u) → Part tell g (branch_edges bs m a) → Here tell g o vs p → Below m vs → u.stale ≤ length vs → ((y : ℕ) → Contains (whens bs m) y → Real tell g y vs u) → IsCaught tell g c d vs
+    pub branch_backed : (n n' : ℕ) (bs : Branches) (o m : ℕ) (vs : List Named) (vs' : List Variable) (p p' u u' : Point) (c : Option Caught) (d : Option Declared) (a : Around) → n ≡ n'
+        → map variable_of vs ≡ vs' → p ≡ p' → u ≡ u' → HaveSimpleParts bs
+        → Tells tell m (branch_notes n bs m vs u) → Part tell g (branch_edges bs m a) → Here tell g o vs p → Below m vs → u.stale ≤ length vs → ((y : ℕ) → Contains (whens bs m) y → Real tell g y vs u)
+        → IsCaught tell g c d vs
         → Each tell g (branch_uses n' vs' p' u' c bs) (branch_mentions bs o m vs d)
     branch_backed n n' NoBranches o m vs vs' p p' u u' c d a e ev ep eu s h i here b w r k = no_uses
     branch_backed n n' (MoreBranches at q t bs) o m vs vs' p p' u u' c d a e ev ep eu s h i here b w r k =
@@ -434,7 +489,8 @@ module _ (tell : ℕ → Note) (g : List (Edge ℕ)) where
         let x = first t (suc m) a.follows in
         let ht = tells_first tell (suc m) (notes n t (suc m) ws u) _ h.1 in
         let z : suc m + points t ≡ m' = omega arith in
-        let hb = subst (λ y. Tells tell y (branch_notes (left n t) bs m' vs u)) z (tells_rest tell (suc m) (points t) (notes n t (suc m) ws u) (branch_notes (left n t) bs m' vs u) (notes_many n t (suc m) ws u) h.1) in
+        let hb = subst (λ y. Tells tell y (branch_notes (left n t) bs m' vs u)) z
+        (tells_rest tell (suc m) (points t) (notes n t (suc m) ws u) (branch_notes (left n t) bs m' vs u) (notes_many n t (suc m) ws u) h.1) in
         let el = leads m (x ∷ []) in
         let et = edges t (suc m) a in
         let eb = branch_edges bs m' a in
@@ -442,8 +498,14 @@ module _ (tell : ℕ → Note) (g : List (Edge ℕ)) where
         let l = to_first tell g m x [] (part_left tell g el et i1) in
         let up : m ≤ m' = omega arith in
         let rm = r m (contains_first m (whens bs m')) in
-        let rt : Begins (suc m) x ws u = record { below = below_into m q.into vs b; within = stale_into m u.stale q.into vs w; real = real_into tell g m x q.into vs u l w (real_step tell g m x vs u l b rm) } in
+        let rt : Begins (suc m) x ws u = record {
+          below = below_into m q.into vs b;
+          within = stale_into m u.stale q.into vs w;
+          real = real_into tell g m x q.into vs u l w (real_step tell g m x vs u l b rm);
+        } in
         each_then tell g _ _
         (each_then tell g _ _ (found_alike tell g (λ v z. expr_uses v z q.operand) vs vs' p p' _ ev ep (expr_fits tell g o vs p q.operand here))
-        (backed n n' t (suc m) ws (rule.with_into vs' q.into) u u' c d a (record { left = e; named = into_alike m q.into vs vs' ev; point = eu }) s.1 ht (part_right tell g el et i1) rt (caught_into tell g m q.into c d vs k)))
-        (branch_backed (left n t) (left n' t) bs o m' vs vs' p p' u u' c d a (ap (λ z. left z t) e) ev ep eu s.2 hb (part_right tell g (el ++ et) eb i) here (below_more m m' vs up b) w (λ y q. r y (Contains-append_right (m ∷ []) (whens bs m') y q)) k)
+        (backed n n' t (suc m) ws (rule.with_into vs' q.into) u u' c d a (record { left = e; named = into_alike m q.into vs vs' ev; point = eu }) s.1 ht (part_right tell g el et i1) rt
+        (caught_into tell g m q.into c d vs k)))
+        (branch_backed (left n t) (left n' t) bs o m' vs vs' p p' u u' c d a (ap (λ z. left z t) e) ev ep eu s.2 hb (part_right tell g (el ++ et) eb i) here (below_more m m' vs up b) w
+        (λ y q. r y (Contains-append_right (m ∷ []) (whens bs m') y q)) k)

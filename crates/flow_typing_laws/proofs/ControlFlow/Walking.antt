@@ -97,7 +97,8 @@ module _ (tell : ℕ → Note) (g : List (Edge ℕ)) where
   reached_trail false false lo a b t e = absurd (false≢true e)
 
   -- by a walk and then another
-  goes_then_cases : (f w h x : Bool) (lo a b c : ℕ) → Goes (record { fresh = f; waited = w }) lo a b → Goes (record { fresh = h; waited = x }) lo b c → Goes (onward (record { fresh = f; waited = w }) (record { fresh = h; waited = x })) lo a c
+  goes_then_cases : (f w h x : Bool) (lo a b c : ℕ) → Goes (record { fresh = f; waited = w }) lo a b → Goes (record { fresh = h; waited = x }) lo b c
+      → Goes (onward (record { fresh = f; waited = w }) (record { fresh = h; waited = x })) lo a c
   goes_then_cases f w h x lo a b c s t = record { fresh = fresh f h s.fresh t.fresh; waited = waited f w h x s t }
     where
       fresh : (f h : Bool) → (f ≡ true → Trail lo a b) → (h ≡ true → Trail lo b c) → f && h ≡ true → Trail lo a c
@@ -238,7 +239,8 @@ module _ (tell : ℕ → Note) (g : List (Edge ℕ)) where
   goes_past true r lo a b f = f refl
   goes_past false r lo a b f = goes_never lo a b
 
-  pub walked_looped : (leads : Bool) (w : Ways) (lo m x : ℕ) (a : Around) (tos : List ℕ) → lo ≤ m → Part (statement m a tos) → Leads g m x → (leads ≡ true → Leads g m a.follows) → Walked w lo x (in_loop a m) → Walked (looped leads w) lo m a
+  pub walked_looped : (leads : Bool) (w : Ways) (lo m x : ℕ) (a : Around) (tos : List ℕ) → lo ≤ m → Part (statement m a tos) → Leads g m x → (leads ≡ true → Leads g m a.follows)
+      → Walked w lo x (in_loop a m) → Walked (looped leads w) lo m a
   walked_looped leads w lo m x a tos le p s f k =
       let st = trail_step lo m x le s in
       let h = goes_head w lo m x st (goes_either w.ends w.continues lo x m k.ends (k.continues m refl)) in
@@ -264,7 +266,8 @@ module _ (tell : ℕ → Note) (g : List (Edge ℕ)) where
       }
 
   -- a `try` at m, whose `catch` at c leads to y
-  pub walked_try : (b h : Ways) (lo m x c y : ℕ) (a : Around) (tos : List ℕ) → lo ≤ m → lo ≤ c → Part (statement m a tos) → Leads g m x → Leads g c y → Walked b lo x (in_try a c) → Walked h lo y a → Walked (handled b h) lo m a
+  pub walked_try : (b h : Ways) (lo m x c y : ℕ) (a : Around) (tos : List ℕ) → lo ≤ m → lo ≤ c → Part (statement m a tos) → Leads g m x → Leads g c y → Walked b lo x (in_try a c) → Walked h lo y a
+      → Walked (handled b h) lo m a
   walked_try b h lo m x c y a tos le lc p s j k l =
       let st = trail_step lo m x le s in
       let k' = walked_before b lo m x (in_try a c) st k in
@@ -274,7 +277,8 @@ module _ (tell : ℕ → Note) (g : List (Edge ℕ)) where
         ends = goes_either b.ends (onward b.throws h.ends) lo m a.follows k'.ends (goes_then b.throws h.ends lo m c a.follows t l'.ends);
         breaks = λ u e. goes_either b.breaks (onward b.throws h.breaks) lo m u (k'.breaks u e) (goes_then b.throws h.breaks lo m c u t (l'.breaks u e));
         continues = λ u e. goes_either b.continues (onward b.throws h.continues) lo m u (k'.continues u e) (goes_then b.throws h.continues lo m c u t (l'.continues u e));
-        throws = λ u e. goes_either at_once (onward b.throws h.throws) lo m u (goes_trail lo m u (trail_step lo m u le (statement_catch m a tos u p e))) (goes_then b.throws h.throws lo m c u t (l'.throws u e));
+        throws = λ u e. goes_either at_once (onward b.throws h.throws) lo m u (goes_trail lo m u (trail_step lo m u le (statement_catch m a tos u p e)))
+            (goes_then b.throws h.throws lo m c u t (l'.throws u e));
       }
 
   -- behind walks to a point

@@ -26,10 +26,16 @@ module _ (tell : ℕ → Note) (g : List (Edge ℕ)) where
   past_leads (Some c) m a t f p e = statement_second tell g m a t f [] p
 
   empty_walked : (lo m : ℕ) (a : Around) → Walked tell g empty lo a.follows a
-  empty_walked lo m a = record { ends = record { fresh = λ e. trail_stay tell g lo a.follows; waited = λ e. absurd (false≢true e) }; breaks = λ t e. goes_never tell g lo a.follows t; continues = λ t e. goes_never tell g lo a.follows t; throws = λ t e. goes_never tell g lo a.follows t }
+  empty_walked lo m a = record {
+    ends = record { fresh = λ e. trail_stay tell g lo a.follows; waited = λ e. absurd (false≢true e) };
+    breaks = λ t e. goes_never tell g lo a.follows t;
+    continues = λ t e. goes_never tell g lo a.follows t;
+    throws = λ t e. goes_never tell g lo a.follows t;
+  }
 
   -- Walks from a statement, by those from its parts.
-  pub block_walked : (n : ℕ) (c : Body) (m : ℕ) (a : Around) (f : ℕ) → Part tell g (statement m a (first c (suc m) f ∷ [])) → Walked tell g (ways n c) (suc m) (first c (suc m) f) (followed_by a f) → Walked tell g (block_ways n c) m m (followed_by a f)
+  pub block_walked : (n : ℕ) (c : Body) (m : ℕ) (a : Around) (f : ℕ) → Part tell g (statement m a (first c (suc m) f ∷ [])) → Walked tell g (ways n c) (suc m) (first c (suc m) f) (followed_by a f)
+      → Walked tell g (block_ways n c) m m (followed_by a f)
   block_walked n c m a f is k =
       let x = first c (suc m) f in
       let le : m ≤ m = omega arith in
@@ -37,15 +43,18 @@ module _ (tell : ℕ → Note) (g : List (Edge ℕ)) where
       walked_both tell g (node at_once) (ways n c) m m (followed_by a f) (walked_node tell g m m (followed_by a f) (x ∷ []) le is)
       (walked_before tell g (ways n c) m m x (followed_by a f) (trail_step tell g m m x le (statement_first tell g m a x [] is)) (walked_less tell g (ways n c) m (suc m) x (followed_by a f) up k))
 
-  pub if_walked : (n : ℕ) (c : Body) (m : ℕ) (a : Around) (f : ℕ) → Part tell g (statement m a (first c (suc m) f ∷ f ∷ [])) → Walked tell g (ways n c) (suc m) (first c (suc m) f) (followed_by a f) → Walked tell g (if_ways n c) m m (followed_by a f)
+  pub if_walked : (n : ℕ) (c : Body) (m : ℕ) (a : Around) (f : ℕ) → Part tell g (statement m a (first c (suc m) f ∷ f ∷ [])) → Walked tell g (ways n c) (suc m) (first c (suc m) f) (followed_by a f)
+      → Walked tell g (if_ways n c) m m (followed_by a f)
   if_walked n c m a f is k =
       let x = first c (suc m) f in
       let le : m ≤ m = omega arith in
       let up : m ≤ suc m = omega arith in
       walked_both tell g (plain at_once) (ways n c) m m (followed_by a f) (walked_plain tell g m m (followed_by a f) (x ∷ f ∷ []) le is (statement_second tell g m a x f [] is))
-      (walked_before tell g (ways n c) m m x (followed_by a f) (trail_step tell g m m x le (statement_first tell g m a x (f ∷ []) is)) (walked_less tell g (ways n c) m (suc m) x (followed_by a f) up k))
+      (walked_before tell g (ways n c) m m x (followed_by a f) (trail_step tell g m m x le (statement_first tell g m a x (f ∷ []) is))
+      (walked_less tell g (ways n c) m (suc m) x (followed_by a f) up k))
 
-  pub if_else_walked : (n : ℕ) (c d : Body) (m l : ℕ) (a : Around) (f : ℕ) → m ≤ l → Part tell g (statement m a (first c (suc m) f ∷ first d l f ∷ [])) → Walked tell g (ways n c) (suc m) (first c (suc m) f) (followed_by a f)
+  pub if_else_walked : (n : ℕ) (c d : Body) (m l : ℕ) (a : Around) (f : ℕ) → m ≤ l → Part tell g (statement m a (first c (suc m) f ∷ first d l f ∷ []))
+      → Walked tell g (ways n c) (suc m) (first c (suc m) f) (followed_by a f)
       → Walked tell g (ways (left n c) d) l (first d l f) (followed_by a f) → Walked tell g (if_else_ways n c d) m m (followed_by a f)
   if_else_walked n c d m l a f ml is k j =
       let x = first c (suc m) f in
@@ -54,10 +63,13 @@ module _ (tell : ℕ → Note) (g : List (Edge ℕ)) where
       let up : m ≤ suc m = omega arith in
       walked_both tell g (node at_once) (both (ways n c) (ways (left n c) d)) m m (followed_by a f) (walked_node tell g m m (followed_by a f) (x ∷ y ∷ []) le is)
       (walked_both tell g (ways n c) (ways (left n c) d) m m (followed_by a f)
-      (walked_before tell g (ways n c) m m x (followed_by a f) (trail_step tell g m m x le (statement_first tell g m a x (y ∷ []) is)) (walked_less tell g (ways n c) m (suc m) x (followed_by a f) up k))
-      (walked_before tell g (ways (left n c) d) m m y (followed_by a f) (trail_step tell g m m y le (statement_second tell g m a x y [] is)) (walked_less tell g (ways (left n c) d) m l y (followed_by a f) ml j)))
+      (walked_before tell g (ways n c) m m x (followed_by a f) (trail_step tell g m m x le (statement_first tell g m a x (y ∷ []) is))
+      (walked_less tell g (ways n c) m (suc m) x (followed_by a f) up k))
+      (walked_before tell g (ways (left n c) d) m m y (followed_by a f) (trail_step tell g m m y le (statement_second tell g m a x y [] is))
+      (walked_less tell g (ways (left n c) d) m l y (followed_by a f) ml j)))
 
-  pub while_walked : (n : ℕ) (c : Body) (m : ℕ) (a : Around) (f : ℕ) → Part tell g (statement m a (first c (suc m) m ∷ f ∷ [])) → Walked tell g (ways n c) (suc m) (first c (suc m) m) (in_loop (followed_by a f) m) → Walked tell g (looped true (ways n c)) m m (followed_by a f)
+  pub while_walked : (n : ℕ) (c : Body) (m : ℕ) (a : Around) (f : ℕ) → Part tell g (statement m a (first c (suc m) m ∷ f ∷ []))
+      → Walked tell g (ways n c) (suc m) (first c (suc m) m) (in_loop (followed_by a f) m) → Walked tell g (looped true (ways n c)) m m (followed_by a f)
   while_walked n c m a f is k =
       let x = first c (suc m) m in
       let le : m ≤ m = omega arith in
@@ -65,7 +77,8 @@ module _ (tell : ℕ → Note) (g : List (Edge ℕ)) where
       walked_looped tell g true (ways n c) m m x (followed_by a f) (x ∷ f ∷ []) le is (statement_first tell g m a x (f ∷ []) is) (λ e. statement_second tell g m a x f [] is)
       (walked_less tell g (ways n c) m (suc m) x (in_loop (followed_by a f) m) up k)
 
-  pub loop_walked : (n : ℕ) (c : Body) (m : ℕ) (a : Around) (f : ℕ) → Part tell g (statement m a (first c (suc m) m ∷ [])) → Walked tell g (ways n c) (suc m) (first c (suc m) m) (in_loop (followed_by a f) m) → Walked tell g (looped false (ways n c)) m m (followed_by a f)
+  pub loop_walked : (n : ℕ) (c : Body) (m : ℕ) (a : Around) (f : ℕ) → Part tell g (statement m a (first c (suc m) m ∷ []))
+      → Walked tell g (ways n c) (suc m) (first c (suc m) m) (in_loop (followed_by a f) m) → Walked tell g (looped false (ways n c)) m m (followed_by a f)
   loop_walked n c m a f is k =
       let x = first c (suc m) m in
       let le : m ≤ m = omega arith in
@@ -75,7 +88,8 @@ module _ (tell : ℕ → Note) (g : List (Edge ℕ)) where
 
   -- the rounds of a `for` at y, with its body from l on and its step at z
   pub round_walked : (n : ℕ) (i t c : Body) (e : Option ExprTree) (y l z : ℕ) (a : Around) (f : ℕ) → y ≤ l → Part tell g (statement y a (first c l z ∷ control.past e f))
-      → Walked tell g (ways (left (left n i) t) c) l (first c l z) (in_loop (followed_by a f) z) → Walked tell g (ways (left n i) t) (suc y) z (in_step a y) → Walked tell g (looped (is_there e) (for_round n i t c)) y y (followed_by a f)
+      → Walked tell g (ways (left (left n i) t) c) l (first c l z) (in_loop (followed_by a f) z) → Walked tell g (ways (left n i) t) (suc y) z (in_step a y)
+      → Walked tell g (looped (is_there e) (for_round n i t c)) y y (followed_by a f)
   round_walked n i t c e y l z a f yl is k j =
       let x = first c l z in
       let le : y ≤ y = omega arith in
@@ -84,7 +98,8 @@ module _ (tell : ℕ → Note) (g : List (Edge ℕ)) where
       (walked_step tell g (ways (left (left n i) t) c) (ways (left n i) t) y x z y (followed_by a f)
       (walked_less tell g (ways (left (left n i) t) c) y l x (in_loop (followed_by a f) z) yl k) (walked_less tell g (ways (left n i) t) y (suc y) z (in_step a y) up j))
 
-  pub try_walked : (n : ℕ) (c d : Body) (m y : ℕ) (a : Around) (f : ℕ) → m ≤ y → Part tell g (statement m a (first c (suc m) f ∷ [])) → Part tell g (leads y (first d (suc y) f ∷ [])) → Walked tell g (ways n c) (suc m) (first c (suc m) f) (in_try (followed_by a f) y)
+  pub try_walked : (n : ℕ) (c d : Body) (m y : ℕ) (a : Around) (f : ℕ) → m ≤ y → Part tell g (statement m a (first c (suc m) f ∷ [])) → Part tell g (leads y (first d (suc y) f ∷ []))
+      → Walked tell g (ways n c) (suc m) (first c (suc m) f) (in_try (followed_by a f) y)
       → Walked tell g (ways (left n c) d) (suc y) (first d (suc y) f) (followed_by a f) → Walked tell g (try_ways n c d) m m (followed_by a f)
   try_walked n c d m y a f my is ih k j =
       let x = first c (suc m) f in
@@ -96,7 +111,8 @@ module _ (tell : ℕ → Note) (g : List (Edge ℕ)) where
       (walked_less tell g (ways n c) m (suc m) x (in_try (followed_by a f) y) up k) (walked_less tell g (ways (left n c) d) m (suc y) z (followed_by a f) up' j)
 
   pub choose_walked : (n : ℕ) (bs : Branches) (m : ℕ) (a : Around) (f : ℕ) → Part tell g (statement m a (whens bs (suc m))) → (tell m).counts ≡ nat_lt 0 n
-      → (((y : ℕ) → Contains (whens bs (suc m)) y → Goes tell g (waited_at n) m m y) → Walked tell g (follow (waited_at n) (branch_ways (n - 1) bs)) m m (followed_by a f)) → Walked tell g (choose_ways n bs) m m (followed_by a f)
+      → (((y : ℕ) → Contains (whens bs (suc m)) y → Goes tell g (waited_at n) m m y) → Walked tell g (follow (waited_at n) (branch_ways (n - 1) bs)) m m (followed_by a f))
+      → Walked tell g (choose_ways n bs) m m (followed_by a f)
   choose_walked n bs m a f is counts k =
       let le : m ≤ m = omega arith in
       let tos = whens bs (suc m) in
@@ -104,15 +120,18 @@ module _ (tell : ℕ → Note) (g : List (Edge ℕ)) where
       (k (λ y c. goes_waiting tell g n m m y le (statement_to tell g m a tos y is c) counts))
 
   -- a statement that leads to what follows it
-  next_walked : (n : ℕ) (k : Body) (m : ℕ) (a : Around) (f : ℕ) → (Part tell g (edges k (suc m) a) → Walked tell g (ways n k) (suc m) f a) → Part tell g (statement m a (f ∷ []) ++ edges k (suc m) a) → Walked tell g (sequence (plain at_once) (ways n k)) m m a
+  next_walked : (n : ℕ) (k : Body) (m : ℕ) (a : Around) (f : ℕ) → (Part tell g (edges k (suc m) a) → Walked tell g (ways n k) (suc m) f a) → Part tell g (statement m a (f ∷ []) ++ edges k (suc m) a)
+      → Walked tell g (sequence (plain at_once) (ways n k)) m m a
   next_walked n k m a f r i =
       let is = part_left tell g (statement m a (f ∷ [])) (edges k (suc m) a) i in
       let le : m ≤ m = omega arith in
       let up : m ≤ suc m = omega arith in
-      walked_then tell g (plain at_once) (ways n k) m m f a (walked_plain tell g m m (followed_by a f) (f ∷ []) le is (statement_first tell g m a f [] is)) (walked_less tell g (ways n k) m (suc m) f a up (r (part_right tell g (statement m a (f ∷ [])) (edges k (suc m) a) i)))
+      walked_then tell g (plain at_once) (ways n k) m m f a (walked_plain tell g m m (followed_by a f) (f ∷ []) le is (statement_first tell g m a f [] is))
+      (walked_less tell g (ways n k) m (suc m) f a up (r (part_right tell g (statement m a (f ∷ [])) (edges k (suc m) a) i)))
 
   mutual
-    pub walked : (n : ℕ) (b : Body) (m : ℕ) (vs : List Named) (p : Point) (a : Around) → Tells tell m (notes n b m vs p) → Part tell g (edges b m a) → Walked tell g (ways n b) m (first b m a.follows) a
+    pub walked : (n : ℕ) (b : Body) (m : ℕ) (vs : List Named) (p : Point) (a : Around) → Tells tell m (notes n b m vs p) → Part tell g (edges b m a)
+        → Walked tell g (ways n b) m (first b m a.follows) a
     walked n End m vs p a h i = empty_walked m m a
     walked n (BlockStmt at c k) m vs p a h i =
         let w = block_ways n c in
@@ -236,7 +255,8 @@ module _ (tell : ℕ → Note) (g : List (Edge ℕ)) where
         (walked_then tell g (ways n j) (looped (is_there e) wr) m (first j m y) y (followed_by a f)
         (walked n j m vs p (followed_by a y) hi (part_left tell g ei es i3))
         (walked_less tell g (looped (is_there e) wr) m y y (followed_by a f) my
-        (round_walked n j t c e y m'' z a f up'' is (walked nc c m'' ws q (in_loop (followed_by a f) z) hc (part_right tell g (ei ++ es ++ et) ec i1)) (walked nt t (suc y) ws r (in_step a y) ht (part_right tell g (ei ++ es) et i2)))))
+        (round_walked n j t c e y m'' z a f up'' is (walked nc c m'' ws q (in_loop (followed_by a f) z) hc (part_right tell g (ei ++ es ++ et) ec i1))
+        (walked nt t (suc y) ws r (in_step a y) ht (part_right tell g (ei ++ es) et i2)))))
         (walked_less tell g (ways nk k) m m' f a up' (walked nk k m' vs (behind_all vs p w.ends) a hk (part_right tell g (ei ++ es ++ et ++ ec) ek i)))
     walked n (LoopStmt at c k) m vs p a h i =
         let w = looped false (ways n c) in
@@ -261,12 +281,23 @@ module _ (tell : ℕ → Note) (g : List (Edge ℕ)) where
         let le : m ≤ m = omega arith in
         let is = part_left tell g (statement m a (listed a.breaks)) (edges k (suc m) a) i in
         let nd = walked_node tell g m m a (listed a.breaks) le is in
-        record { ends = nd.ends; breaks = λ t e. goes_trail tell g m m t (trail_step tell g m m t le (statement_to tell g m a (listed a.breaks) t is (contains_listed a.breaks t e))); continues = nd.continues; throws = nd.throws }
+        record {
+          ends = nd.ends;
+          breaks = λ t e. goes_trail tell g m m t (trail_step tell g m m t le (statement_to tell g m a (listed a.breaks) t is (contains_listed a.breaks t e)));
+          continues = nd.continues;
+          throws = nd.throws;
+        }
     walked n (ContinueStmt at k) m vs p a h i =
         let le : m ≤ m = omega arith in
         let is = part_left tell g (statement m a (listed a.continues)) (edges k (suc m) a) i in
         let nd = walked_node tell g m m a (listed a.continues) le is in
-        record { ends = nd.ends; breaks = nd.breaks; continues = λ t e. goes_trail tell g m m t (trail_step tell g m m t le (statement_to tell g m a (listed a.continues) t is (contains_listed a.continues t e))); throws = nd.throws }
+        record {
+          ends = nd.ends;
+          breaks = nd.breaks;
+          continues = λ t e. goes_trail tell g m m t
+              (trail_step tell g m m t le (statement_to tell g m a (listed a.continues) t is (contains_listed a.continues t e)));
+          throws = nd.throws;
+        }
     walked n (ReturnStmt at e k) m vs p a h i = let le : m ≤ m = omega arith in walked_node tell g m m a [] le (part_left tell g (statement m a []) (edges k (suc m) a) i)
     walked n (ThrowStmt at e k) m vs p a h i = let le : m ≤ m = omega arith in walked_node tell g m m a [] le (part_left tell g (statement m a []) (edges k (suc m) a) i)
     walked n (TryStmt at c q z d k) m vs p a h i =
@@ -296,7 +327,8 @@ module _ (tell : ℕ → Note) (g : List (Edge ℕ)) where
         let my : m ≤ y = omega arith in
         let my' : m ≤ suc y = omega arith in
         walked_then tell g w (ways n' k) m m f a
-        (try_walked n c d m y a f my is (part_right tell g (es ++ ec) eh i2) (walked n c (suc m) vs p (in_try (followed_by a f) y) hc (part_right tell g es ec i3)) (walked (left n c) d (suc y) us t (followed_by a f) hd (part_right tell g (es ++ ec ++ eh) ed i1)))
+        (try_walked n c d m y a f my is (part_right tell g (es ++ ec) eh i2) (walked n c (suc m) vs p (in_try (followed_by a f) y) hc (part_right tell g es ec i3))
+        (walked (left n c) d (suc y) us t (followed_by a f) hd (part_right tell g (es ++ ec ++ eh) ed i1)))
         (walked_less tell g (ways n' k) m m' f a up' (walked n' k m' vs (behind_all vs p w.ends) a hk (part_right tell g (es ++ ec ++ eh ++ ed) ek i)))
     walked n (ChooseStmt at bs k) m vs p a h i =
         let w = choose_ways n bs in
@@ -334,7 +366,8 @@ module _ (tell : ℕ → Note) (g : List (Edge ℕ)) where
         (walked_wait tell g n m m (followed_by a f) (f ∷ []) le is (statement_first tell g m a f [] is) (ap (λ (x : Note). x.counts) h.0))
         (walked_less tell g (ways (n - 1) k) m (suc m) f a up (walked (n - 1) k (suc m) (with_into m w.into vs) (behind_all vs p (waited_at n)) a h.1 (part_right tell g es ek i)))
 
-    pub branch_walked : (n : ℕ) (bs : Branches) (m : ℕ) (vs : List Named) (q : Point) (a : Around) (r : Reached) (lo x : ℕ) → lo ≤ m → Tells tell m (branch_notes n bs m vs q) → Part tell g (branch_edges bs m a)
+    pub branch_walked : (n : ℕ) (bs : Branches) (m : ℕ) (vs : List Named) (q : Point) (a : Around) (r : Reached) (lo x : ℕ) → lo ≤ m → Tells tell m (branch_notes n bs m vs q)
+        → Part tell g (branch_edges bs m a)
         → ((y : ℕ) → Contains (whens bs m) y → Goes tell g r lo x y) → Walked tell g (follow r (branch_ways n bs)) lo x a
     branch_walked n NoBranches m vs q a r lo x le h i f = walked_nowhere tell g r lo x a
     branch_walked n (MoreBranches at w c bs) m vs q a r lo x le h i f =
@@ -343,7 +376,8 @@ module _ (tell : ℕ → Note) (g : List (Edge ℕ)) where
         let y = first c (suc m) a.follows in
         let hc = tells_first tell (suc m) (notes n c (suc m) ws q) _ h.1 in
         let e : suc m + points c ≡ m' = omega arith in
-        let hr = subst (λ z. Tells tell z (branch_notes (left n c) bs m' vs q)) e (tells_rest tell (suc m) (points c) (notes n c (suc m) ws q) (branch_notes (left n c) bs m' vs q) (notes_many n c (suc m) ws q) h.1) in
+        let hr = subst (λ z. Tells tell z (branch_notes (left n c) bs m' vs q)) e
+        (tells_rest tell (suc m) (points c) (notes n c (suc m) ws q) (branch_notes (left n c) bs m' vs q) (notes_many n c (suc m) ws q) h.1) in
         let el = leads m (y ∷ []) in
         let ec = edges c (suc m) a in
         let eb = branch_edges bs m' a in

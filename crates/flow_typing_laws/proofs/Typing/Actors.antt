@@ -50,7 +50,8 @@ module _ (ds : List DeclTree) (apart : Distinct ds) where
   value_given vars states i None h = holds (rule.has_default i.ty) NEEDS_VALUE (no_second (into_fault (at_actor vars) states i) (value_fault (at_actor vars) i.ty None) h)
   value_given vars states i (Some v) h = gives vars v i.ty (no_second (into_fault (at_actor vars) states i) (value_fault (at_actor vars) i.ty (Some v)) h)
 
-  assign_gives : (vars : List ParamTree) (xs : List Ident) (v : ExprTree) → IsPath xs → assign_fault (at_actor vars) xs v ≡ None → (t : TypeTree) × (path_type (records_in ds) vars xs ≡ Some t) × Gives ds vars v t
+  assign_gives : (vars : List ParamTree) (xs : List Ident) (v : ExprTree) → IsPath xs → assign_fault (at_actor vars) xs v ≡ None
+      → (t : TypeTree) × (path_type (records_in ds) vars xs ≡ Some t) × Gives ds vars v t
   assign_gives vars xs v p h =
       let s = at_actor vars in
       let l = lesser (target_fault s xs) (fault s true v) in
@@ -67,35 +68,64 @@ module _ (ds : List DeclTree) (apart : Distinct ds) where
       let q = wanted s true w.operand (wait_type w.next w.into) in
       gives vars w.operand (wait_type w.next w.into) (no_first q (unless (not s.plain) WAIT_OUTSIDE) (no_second (maybe_into s states w.into) (lesser q (unless (not s.plain) WAIT_OUTSIDE)) h))
 
-  throw_stands : (e : Env) (vars : List ParamTree) (r : TypeTree) (loop : Bool) (c : Option (List ℕ)) (at : Place) (v : Option ExprTree) → Stands ds false e vars r loop c → item at (throw_fault e.setting e.caught v) ≡ None
+  throw_stands : (e : Env) (vars : List ParamTree) (r : TypeTree) (loop : Bool) (c : Option (List ℕ)) (at : Place) (v : Option ExprTree) → Stands ds false e vars r loop c
+      → item at (throw_fault e.setting e.caught v) ≡ None
       → ThrowFits (records_in ds) (functions_in ds) (actors_in ds) vars c v
   throw_stands e vars r loop c at None k h = k.in_caught (holds e.caught BREAK_OUTSIDE (no_item at (throw_fault e.setting e.caught None) h))
   throw_stands e vars r loop c at (Some v) k h = yields ds apart false vars v ErrorType (at_item ds false e vars at (λ s. wanted s false v ErrorType) k.setting h)
 
-  stands_waited : (e : Env) (o : Option IntoTree) (vars : List ParamTree) (r : TypeTree) (loop : Bool) (c : Option (List ℕ)) → Stands ds false e vars r loop c → Stands ds false (waited e o) (waited_params vars o) r loop c
+  stands_waited : (e : Env) (o : Option IntoTree) (vars : List ParamTree) (r : TypeTree) (loop : Bool) (c : Option (List ℕ)) → Stands ds false e vars r loop c
+      → Stands ds false (waited e o) (waited_params vars o) r loop c
   stands_waited e None vars r loop c k = k
   stands_waited e (Some i) vars r loop c k = stands_declared ds false e i vars r loop c k
 
-  stands_states : (e : Env) (xs : List (List ℕ)) (vars : List ParamTree) (r : TypeTree) (loop : Bool) (c : Option (List ℕ)) → Stands ds false e vars r loop c → Stands ds false (with_states e xs) vars r loop c
+  stands_states : (e : Env) (xs : List (List ℕ)) (vars : List ParamTree) (r : TypeTree) (loop : Bool) (c : Option (List ℕ)) → Stands ds false e vars r loop c
+      → Stands ds false (with_states e xs) vars r loop c
   stands_states e xs vars r loop c k = record { setting = k.setting; returns = k.returns; looped = k.looped; in_caught = k.in_caught }
 
   -- the init and the step of a `for`
-  init_stands : (e : Env) (vars : List ParamTree) (r : TypeTree) (c : Option (List ℕ)) (i : Body) → e.setting ≡ at_actor vars → InitKind i → HasPaths i → body_refusal e i ≡ None → StandsWell ds r false c vars i
+  init_stands : (e : Env) (vars : List ParamTree) (r : TypeTree) (c : Option (List ℕ)) (i : Body) → e.setting ≡ at_actor vars → InitKind i → HasPaths i → body_refusal e i ≡ None
+      → StandsWell ds r false c vars i
   init_stands e vars r c _ k no_init p h = tt
-  init_stands e vars r c _ k (declares at i v) p h = (value_given vars e.states i v (at_item ds false e vars at (λ s. declare_fault s e.states i v) k (neither_first (item at (declare_fault e.setting e.states i v)) None h)), tt)
-  init_stands e vars r c _ k (assigns at xs v) p h = (assign_gives vars xs v p.0 (at_item ds false e vars at (λ s. assign_fault s xs v) k (neither_first (item at (assign_fault e.setting xs v)) None h)), tt)
-  init_stands e vars r c _ k (modifies at xs d) p h = (modify_fits ds apart false vars xs d p.0 (at_item ds false e vars at (λ s. modify_fault s xs d) k (neither_first (item at (modify_fault e.setting xs d)) None h)), tt)
+  init_stands e vars r c _ k (declares at i v) p h = (
+    value_given vars e.states i v
+        (at_item ds false e vars at (λ s. declare_fault s e.states i v) k (neither_first (item at (declare_fault e.setting e.states i v)) None h)),
+    tt,
+  )
+  init_stands e vars r c _ k (assigns at xs v) p h = (
+    assign_gives vars xs v p.0
+        (at_item ds false e vars at (λ s. assign_fault s xs v) k (neither_first (item at (assign_fault e.setting xs v)) None h)),
+    tt,
+  )
+  init_stands e vars r c _ k (modifies at xs d) p h = (
+    modify_fits ds apart false vars xs d p.0
+        (at_item ds false e vars at (λ s. modify_fault s xs d) k (neither_first (item at (modify_fault e.setting xs d)) None h)),
+    tt,
+  )
 
-  step_stands : (e : Env) (vars : List ParamTree) (r : TypeTree) (c : Option (List ℕ)) (t : Body) → e.setting ≡ at_actor vars → StepKind t → HasPaths t → body_refusal e t ≡ None → StandsWell ds r false c vars t
+  step_stands : (e : Env) (vars : List ParamTree) (r : TypeTree) (c : Option (List ℕ)) (t : Body) → e.setting ≡ at_actor vars → StepKind t → HasPaths t → body_refusal e t ≡ None
+      → StandsWell ds r false c vars t
   step_stands e vars r c _ k no_step p h = tt
-  step_stands e vars r c _ k (assigned at xs v) p h = (assign_gives vars xs v p.0 (at_item ds false e vars at (λ s. assign_fault s xs v) k (neither_first (item at (assign_fault e.setting xs v)) None h)), tt)
-  step_stands e vars r c _ k (modified at xs d) p h = (modify_fits ds apart false vars xs d p.0 (at_item ds false e vars at (λ s. modify_fault s xs d) k (neither_first (item at (modify_fault e.setting xs d)) None h)), tt)
+  step_stands e vars r c _ k (assigned at xs v) p h = (
+    assign_gives vars xs v p.0
+        (at_item ds false e vars at (λ s. assign_fault s xs v) k (neither_first (item at (assign_fault e.setting xs v)) None h)),
+    tt,
+  )
+  step_stands e vars r c _ k (modified at xs d) p h = (
+    modify_fits ds apart false vars xs d p.0
+        (at_item ds false e vars at (λ s. modify_fault s xs d) k (neither_first (item at (modify_fault e.setting xs d)) None h)),
+    tt,
+  )
 
   mutual
-    stands_well : (b : Body) (e : Env) (vars : List ParamTree) (r : TypeTree) (loop : Bool) (c : Option (List ℕ)) → Stands ds false e vars r loop c → HasSimpleParts b → HasPaths b → body_refusal e b ≡ None → StandsWell ds r loop c vars b
+    stands_well : (b : Body) (e : Env) (vars : List ParamTree) (r : TypeTree) (loop : Bool) (c : Option (List ℕ)) → Stands ds false e vars r loop c → HasSimpleParts b → HasPaths b
+        → body_refusal e b ≡ None → StandsWell ds r loop c vars b
     stands_well End e vars r loop c k s p h = tt
-    stands_well (BlockStmt at b t) e vars r loop c k s p h =
-        (stands_well b e vars r loop c k s.1 p.1 (neither_first (body_refusal e b) _ h), stands_well t (behind e b) vars r loop c (stands_behind ds false e b vars r loop c k) s.2 p.2 (neither_second (body_refusal e b) _ h))
+    stands_well (BlockStmt at b t) e vars r loop c k s p h = (
+      stands_well b e vars r loop c k s.1 p.1 (neither_first (body_refusal e b) _ h),
+      stands_well t (behind e b) vars r loop c (stands_behind ds false e b vars r loop c k) s.2 p.2
+          (neither_second (body_refusal e b) _ h),
+    )
     stands_well (IfStmt at q b t) e vars r loop c k s p h =
         let i = item at (test_fault e.setting q) in
         let l = neither_second i _ h in (
@@ -137,7 +167,8 @@ module _ (ds : List DeclTree) (apart : Distinct ds) where
           maybe_yields ds apart false ws q (at_item ds false e' ws at (λ s. maybe_test s q) ks.setting (neither_first i _ l)),
           step_stands e' ws r c n ks.setting (step_kind n s.0.1) p.2 (neither_first (body_refusal e' n) _ m),
           stands_well b (in_loop e'') ws r true c (stands_loop ds false e'' ws r loop c kn) s.3 p.3 (neither_first (body_refusal (in_loop e'') b) _ o),
-          stands_well t (behind en b) vars r loop c (stands_behind ds false en b vars r loop c (stands_behind ds false ej n vars r loop c (stands_behind ds false e j vars r loop c k))) s.4 p.4 (neither_second (body_refusal (in_loop e'') b) _ o),
+          stands_well t (behind en b) vars r loop c (stands_behind ds false en b vars r loop c (stands_behind ds false ej n vars r loop c (stands_behind ds false e j vars r loop c k))) s.4 p.4
+              (neither_second (body_refusal (in_loop e'') b) _ o),
         )
     stands_well (LoopStmt at b t) e vars r loop c k s p h = (
       stands_well b (in_loop e) vars r true c (stands_loop ds false e vars r loop c k) s.1 p.1 (neither_first (body_refusal (in_loop e) b) _ h),
@@ -172,8 +203,11 @@ module _ (ds : List DeclTree) (apart : Distinct ds) where
     stands_well (ChooseStmt at bs t) e vars r loop c k s p h =
         let i = item at (unless (not e.setting.plain) WAIT_OUTSIDE) in
         let l = neither_second i _ h in
-        let e' = with_states e (slot_names (branch_slots bs)) in
-        (stand_well bs e vars r loop c k s.1 p.1 (neither_first (branch_refusal e bs) _ l), stands_well t e' vars r loop c (stands_states e (slot_names (branch_slots bs)) vars r loop c k) s.2 p.2 (neither_second (branch_refusal e bs) _ l))
+        let e' = with_states e (slot_names (branch_slots bs)) in (
+          stand_well bs e vars r loop c k s.1 p.1 (neither_first (branch_refusal e bs) _ l),
+          stands_well t e' vars r loop c (stands_states e (slot_names (branch_slots bs)) vars r loop c k) s.2 p.2
+              (neither_second (branch_refusal e bs) _ l),
+        )
     stands_well (DeclareStmt at i v t) e vars r loop c k s p h =
         let f = item at (declare_fault e.setting e.states i v) in (
           value_given vars e.states i v (at_item ds false e vars at (λ s. declare_fault s e.states i v) k.setting (neither_first f _ h)),
@@ -183,8 +217,11 @@ module _ (ds : List DeclTree) (apart : Distinct ds) where
         let f = item at (assign_fault e.setting xs v) in
         (assign_gives vars xs v p.0 (at_item ds false e vars at (λ s. assign_fault s xs v) k.setting (neither_first f _ h)), stands_well t e vars r loop c k s.1 p.1 (neither_second f _ h))
     stands_well (ModifyStmt at xs d t) e vars r loop c k s p h =
-        let f = item at (modify_fault e.setting xs d) in
-        (modify_fits ds apart false vars xs d p.0 (at_item ds false e vars at (λ s. modify_fault s xs d) k.setting (neither_first f _ h)), stands_well t e vars r loop c k s.1 p.1 (neither_second f _ h))
+        let f = item at (modify_fault e.setting xs d) in (
+          modify_fits ds apart false vars xs d p.0 (at_item ds false e vars at (λ s. modify_fault s xs d) k.setting (neither_first f _ h)),
+          stands_well t e vars r loop c k s.1 p.1
+              (neither_second f _ h),
+        )
     stands_well (CallStmt at xs es t) e vars r loop c k s p h =
         let f = item at (call_fault e.setting xs es) in
         (call_stands ds apart vars xs es p.0 (at_item ds false e vars at (λ s. call_fault s xs es) k.setting (neither_first f _ h)), stands_well t e vars r loop c k s.1 p.1 (neither_second f _ h))
@@ -194,7 +231,8 @@ module _ (ds : List DeclTree) (apart : Distinct ds) where
           stands_well t (waited e w.into) (waited_params vars w.into) r loop c (stands_waited e w.into vars r loop c k) s.1 p.1 (neither_second f _ h),
         )
 
-    stand_well : (bs : Branches) (e : Env) (vars : List ParamTree) (r : TypeTree) (loop : Bool) (c : Option (List ℕ)) → Stands ds false e vars r loop c → HaveSimpleParts bs → HavePaths bs → branch_refusal e bs ≡ None → StandWell ds r loop c vars bs
+    stand_well : (bs : Branches) (e : Env) (vars : List ParamTree) (r : TypeTree) (loop : Bool) (c : Option (List ℕ)) → Stands ds false e vars r loop c → HaveSimpleParts bs → HavePaths bs
+        → branch_refusal e bs ≡ None → StandWell ds r loop c vars bs
     stand_well NoBranches e vars r loop c k s p h = tt
     stand_well (MoreBranches at w b bs) e vars r loop c k s p h =
         let f = item at (wait_fault e.setting e.states w) in
@@ -215,9 +253,12 @@ module _ (ds : List DeclTree) (apart : Distinct ds) where
       let q = no_item f.close (unless (not (closing.ways f.body).end) FALLS_OFF) (neither_second (body_refusal e f.body) _ l) in
       (stands_well f.body e f.params f.returns false None k s p (neither_first (body_refusal e f.body) _ l), not_true (closing.ways f.body).end (holds (not (closing.ways f.body).end) FALLS_OFF q))
 
-  pub actors_fit : (before rest : List DeclTree) → decls_refusal (setting_of ds) before rest ≡ None → AllHaveSimpleParts rest → AllHavePaths rest → (k : ℕ) (a : RoutineTree) → slice_get (actors_in rest) k ≡ Some a → ActorFits ds a
+  pub actors_fit : (before rest : List DeclTree) → decls_refusal (setting_of ds) before rest ≡ None → AllHaveSimpleParts rest → AllHavePaths rest → (k : ℕ) (a : RoutineTree)
+      → slice_get (actors_in rest) k ≡ Some a → ActorFits ds a
   actors_fit before [] h s p k a e = absurd (none_some e)
   actors_fit before (StructDecl r ∷ rest) h s p k a e = actors_fit (before ++ StructDecl r ∷ []) rest (neither_second (decl_refusal (setting_of ds) (known before) (StructDecl r)) _ h) s.1 p.1 k a e
-  actors_fit before (FunctionDecl f ∷ rest) h s p k a e = actors_fit (before ++ FunctionDecl f ∷ []) rest (neither_second (decl_refusal (setting_of ds) (known before) (FunctionDecl f)) _ h) s.1 p.1 k a e
-  actors_fit before (ActorDecl g ∷ rest) h s p zero a e = subst (ActorFits ds) (some_same g a e) (actor_fits before g (neither_first (decl_refusal (setting_of ds) (known before) (ActorDecl g)) _ h) s.0 p.0)
+  actors_fit before (FunctionDecl f ∷ rest) h s p k a e = actors_fit (before ++ FunctionDecl f ∷ []) rest (neither_second (decl_refusal (setting_of ds) (known before) (FunctionDecl f)) _ h) s.1 p.1 k
+      a e
+  actors_fit before (ActorDecl g ∷ rest) h s p zero a e = subst (ActorFits ds) (some_same g a e)
+      (actor_fits before g (neither_first (decl_refusal (setting_of ds) (known before) (ActorDecl g)) _ h) s.0 p.0)
   actors_fit before (ActorDecl g ∷ rest) h s p (suc k) a e = actors_fit (before ++ ActorDecl g ∷ []) rest (neither_second (decl_refusal (setting_of ds) (known before) (ActorDecl g)) _ h) s.1 p.1 k a e

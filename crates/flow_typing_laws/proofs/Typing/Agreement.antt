@@ -63,7 +63,8 @@ routine_new before s f e =
     new_name before f.name.name (no_first (name_fault (known before) f.name.name) (lesser (written s f.returns) (params_fault s (λ x. false) f.params)) h)
 
 new_decl : (all : Bool → Setting) (before : List DeclTree) (d : DeclTree) → decl_refusal all (known before) d ≡ None → is_there (known before (name_of d)) ≡ false
-new_decl all before (StructDecl r) e = new_name before r.name.name (no_first (name_fault (known before) r.name.name) (fields_fault (known before) (λ x. false) r.fields) (no_item r.at (record_fault (known before) r) e))
+new_decl all before (StructDecl r) e = new_name before r.name.name
+    (no_first (name_fault (known before) r.name.name) (fields_fault (known before) (λ x. false) r.fields) (no_item r.at (record_fault (known before) r) e))
 new_decl all before (FunctionDecl f) e = routine_new before (all true) f e
 new_decl all before (ActorDecl f) e = routine_new before (all false) f e
 
@@ -80,7 +81,8 @@ found_more : {A : Type 0} (rows more : List (List ℕ × A)) (x : List ℕ) → 
 found_more [] more x e = absurd (false≢true e)
 found_more (r ∷ rows) more x e = go (bytes_eq x r.0) e (found_more rows more x)
   where
-    go : (b : Bool) → is_there (if b then Some r.1 else named rows x) ≡ true → (is_there (named rows x) ≡ true → is_there (named (rows ++ more) x) ≡ true) → is_there (if b then Some r.1 else named (rows ++ more) x) ≡ true
+    go : (b : Bool) → is_there (if b then Some r.1 else named rows x) ≡ true → (is_there (named rows x) ≡ true → is_there (named (rows ++ more) x) ≡ true)
+        → is_there (if b then Some r.1 else named (rows ++ more) x) ≡ true
     go true e f = e
     go false e f = f e
 
@@ -191,14 +193,16 @@ module _ (ds : List DeclTree) (vars : List ParamTree) (apart : Distinct ds) wher
   declared_as : (x : List ℕ) (m : Option Meaning) → is_packet x ≡ false → FoundIn ds x m → IsDeclared scope x m
   declared_as x None e f = tt
   declared_as x (Some (RecordOf fs)) e f =
-      let r = ap (λ b. if b then takes (map (λ (f : List ℕ × TypeTree). f.1) packet_fields) (NamedType x) else option_map (λ (r : RecordTree). record { params = param_types r.fields; gives = NamedType x }) (record_named (records_in ds) x)) e
+      let r = ap (λ b. if b then takes (map (λ (f : List ℕ × TypeTree). f.1) packet_fields) (NamedType x) else option_map
+      (λ (r : RecordTree). record { params = param_types r.fields; gives = NamedType x }) (record_named (records_in ds) x)) e
       ∙ ap (option_map (λ (r : RecordTree). record { params = param_types r.fields; gives = NamedType x })) f.1 in
       let t = ap (λ ts. takes ts (NamedType x)) (sym (ap (map (λ (f : List ℕ × TypeTree). f.1)) f.2 ∙ row_types f.0.fields)) in (
         ap (λ o. or_else o (or_else (function_call (functions_in ds) x) (actor_call (actors_in ds) x))) r ∙ t,
         ap (λ o. not (is_there o) && not (is_there (routine_named (functions_in ds) x)) && is_there (routine_named (actors_in ds) x)) r,
       )
   declared_as x (Some (FunctionOf ts t)) e f =
-      let r = ap (λ b. if b then takes (map (λ (f : List ℕ × TypeTree). f.1) packet_fields) (NamedType x) else option_map (λ (r : RecordTree). record { params = param_types r.fields; gives = NamedType x }) (record_named (records_in ds) x)) e
+      let r = ap (λ b. if b then takes (map (λ (f : List ℕ × TypeTree). f.1) packet_fields) (NamedType x) else option_map
+      (λ (r : RecordTree). record { params = param_types r.fields; gives = NamedType x }) (record_named (records_in ds) x)) e
       ∙ ap (option_map (λ (r : RecordTree). record { params = param_types r.fields; gives = NamedType x })) f.1 in (
         ap (λ o. or_else o (or_else (function_call (functions_in ds) x) (actor_call (actors_in ds) x))) r
             ∙ ap (λ o. or_else (option_map (λ (f : RoutineTree). record { params = param_types f.params; gives = f.returns }) o) (actor_call (actors_in ds) x)) f.2 ∙ ap₂ takes (sym f.3) (sym f.4),
@@ -208,15 +212,18 @@ module _ (ds : List DeclTree) (vars : List ParamTree) (apart : Distinct ds) wher
         sym f.3,
       )
   declared_as x (Some (ActorOf ts t)) e f =
-      let r = ap (λ b. if b then takes (map (λ (f : List ℕ × TypeTree). f.1) packet_fields) (NamedType x) else option_map (λ (r : RecordTree). record { params = param_types r.fields; gives = NamedType x }) (record_named (records_in ds) x)) e
+      let r = ap (λ b. if b then takes (map (λ (f : List ℕ × TypeTree). f.1) packet_fields) (NamedType x) else option_map
+      (λ (r : RecordTree). record { params = param_types r.fields; gives = NamedType x }) (record_named (records_in ds) x)) e
       ∙ ap (option_map (λ (r : RecordTree). record { params = param_types r.fields; gives = NamedType x })) f.1 in
       ap (λ o. or_else o (or_else (function_call (functions_in ds) x) (actor_call (actors_in ds) x))) r
-      ∙ ap₂ (λ o q. or_else (option_map (λ (f : RoutineTree). record { params = param_types f.params; gives = f.returns }) o) (option_map (λ (f : RoutineTree). record { params = param_types f.params; gives = FutureType f.returns }) q)) f.2 f.3
+      ∙ ap₂ (λ o q. or_else (option_map (λ (f : RoutineTree). record { params = param_types f.params; gives = f.returns }) o)
+      (option_map (λ (f : RoutineTree). record { params = param_types f.params; gives = FutureType f.returns }) q)) f.2 f.3
       ∙ ap₂ (λ ts t. takes ts (FutureType t)) (sym f.4) (sym f.5)
 
   packet_as : (x : List ℕ) → is_packet x ≡ true → IsDeclared scope x (Some (RecordOf packet_fields))
   packet_as x e =
-      let r = ap (λ b. if b then takes (map (λ (f : List ℕ × TypeTree). f.1) packet_fields) (NamedType x) else option_map (λ (r : RecordTree). record { params = param_types r.fields; gives = NamedType x }) (record_named (records_in ds) x)) e in (
+      let r = ap (λ b. if b then takes (map (λ (f : List ℕ × TypeTree). f.1) packet_fields) (NamedType x) else option_map
+      (λ (r : RecordTree). record { params = param_types r.fields; gives = NamedType x }) (record_named (records_in ds) x)) e in (
         ap (λ o. or_else o (or_else (function_call (functions_in ds) x) (actor_call (actors_in ds) x))) r,
         ap (λ o. not (is_there o) && not (is_there (routine_named (functions_in ds) x)) && is_there (routine_named (actors_in ds) x)) r,
       )

@@ -31,7 +31,8 @@ module _ (ds : List DeclTree) (apart : Distinct ds) where
   plain_out : (e : Env) (vars : List ParamTree) (at : Place) → e.setting ≡ setting_in ds true vars → item at (unless (not e.setting.plain) WAIT_OUTSIDE) ≡ None → ⊥
   plain_out e vars at k h = some_none (at_item ds true e vars at (λ s. unless (not s.plain) WAIT_OUTSIDE) k h)
 
-  throw_fits : (e : Env) (vars : List ParamTree) (r : TypeTree) (loop : Bool) (c : Option (List ℕ)) (at : Place) (v : Option ExprTree) → Stands ds true e vars r loop c → item at (throw_fault e.setting e.caught v) ≡ None
+  throw_fits : (e : Env) (vars : List ParamTree) (r : TypeTree) (loop : Bool) (c : Option (List ℕ)) (at : Place) (v : Option ExprTree) → Stands ds true e vars r loop c
+      → item at (throw_fault e.setting e.caught v) ≡ None
       → ThrowFits (records_in ds) (functions_in ds) (actors_in ds) vars c v
   throw_fits e vars r loop c at None k h = k.in_caught (holds e.caught BREAK_OUTSIDE (no_item at (throw_fault e.setting e.caught None) h))
   throw_fits e vars r loop c at (Some v) k h = yields ds apart true vars v ErrorType (at_item ds true e vars at (λ s. wanted s false v ErrorType) k.setting h)
@@ -40,21 +41,47 @@ module _ (ds : List DeclTree) (apart : Distinct ds) where
   Fitting r loop c vars b = BodyFits (records_in ds) (functions_in ds) (actors_in ds) r loop c vars b
 
   -- the init and the step of a `for`
-  init_fits : (e : Env) (vars : List ParamTree) (r : TypeTree) (c : Option (List ℕ)) (i : Body) → e.setting ≡ setting_in ds true vars → InitKind i → HasPaths i → body_refusal e i ≡ None → Fitting r false c vars i
+  init_fits : (e : Env) (vars : List ParamTree) (r : TypeTree) (c : Option (List ℕ)) (i : Body) → e.setting ≡ setting_in ds true vars → InitKind i → HasPaths i → body_refusal e i ≡ None
+      → Fitting r false c vars i
   init_fits e vars r c _ k no_init p h = tt
-  init_fits e vars r c _ k (declares at i v) p h = (declare_fits ds apart vars e.states i v (at_item ds true e vars at (λ s. declare_fault s e.states i v) k (neither_first (item at (declare_fault e.setting e.states i v)) None h)), tt)
-  init_fits e vars r c _ k (assigns at xs v) p h = (assign_fits ds apart vars xs v p.0 (at_item ds true e vars at (λ s. assign_fault s xs v) k (neither_first (item at (assign_fault e.setting xs v)) None h)), tt)
-  init_fits e vars r c _ k (modifies at xs d) p h = (modify_fits ds apart true vars xs d p.0 (at_item ds true e vars at (λ s. modify_fault s xs d) k (neither_first (item at (modify_fault e.setting xs d)) None h)), tt)
+  init_fits e vars r c _ k (declares at i v) p h = (
+    declare_fits ds apart vars e.states i v
+        (at_item ds true e vars at (λ s. declare_fault s e.states i v) k (neither_first (item at (declare_fault e.setting e.states i v)) None h)),
+    tt,
+  )
+  init_fits e vars r c _ k (assigns at xs v) p h = (
+    assign_fits ds apart vars xs v p.0
+        (at_item ds true e vars at (λ s. assign_fault s xs v) k (neither_first (item at (assign_fault e.setting xs v)) None h)),
+    tt,
+  )
+  init_fits e vars r c _ k (modifies at xs d) p h = (
+    modify_fits ds apart true vars xs d p.0
+        (at_item ds true e vars at (λ s. modify_fault s xs d) k (neither_first (item at (modify_fault e.setting xs d)) None h)),
+    tt,
+  )
 
-  step_fits : (e : Env) (vars : List ParamTree) (r : TypeTree) (c : Option (List ℕ)) (t : Body) → e.setting ≡ setting_in ds true vars → StepKind t → HasPaths t → body_refusal e t ≡ None → Fitting r false c vars t
+  step_fits : (e : Env) (vars : List ParamTree) (r : TypeTree) (c : Option (List ℕ)) (t : Body) → e.setting ≡ setting_in ds true vars → StepKind t → HasPaths t → body_refusal e t ≡ None
+      → Fitting r false c vars t
   step_fits e vars r c _ k no_step p h = tt
-  step_fits e vars r c _ k (assigned at xs v) p h = (assign_fits ds apart vars xs v p.0 (at_item ds true e vars at (λ s. assign_fault s xs v) k (neither_first (item at (assign_fault e.setting xs v)) None h)), tt)
-  step_fits e vars r c _ k (modified at xs d) p h = (modify_fits ds apart true vars xs d p.0 (at_item ds true e vars at (λ s. modify_fault s xs d) k (neither_first (item at (modify_fault e.setting xs d)) None h)), tt)
+  step_fits e vars r c _ k (assigned at xs v) p h = (
+    assign_fits ds apart vars xs v p.0
+        (at_item ds true e vars at (λ s. assign_fault s xs v) k (neither_first (item at (assign_fault e.setting xs v)) None h)),
+    tt,
+  )
+  step_fits e vars r c _ k (modified at xs d) p h = (
+    modify_fits ds apart true vars xs d p.0
+        (at_item ds true e vars at (λ s. modify_fault s xs d) k (neither_first (item at (modify_fault e.setting xs d)) None h)),
+    tt,
+  )
 
-  body_fits : (b : Body) (e : Env) (vars : List ParamTree) (r : TypeTree) (loop : Bool) (c : Option (List ℕ)) → Stands ds true e vars r loop c → HasSimpleParts b → HasPaths b → body_refusal e b ≡ None → Fitting r loop c vars b
+  body_fits : (b : Body) (e : Env) (vars : List ParamTree) (r : TypeTree) (loop : Bool) (c : Option (List ℕ)) → Stands ds true e vars r loop c → HasSimpleParts b → HasPaths b → body_refusal e b ≡ None
+      → Fitting r loop c vars b
   body_fits End e vars r loop c k s p h = tt
-  body_fits (BlockStmt at b t) e vars r loop c k s p h =
-      (body_fits b e vars r loop c k s.1 p.1 (neither_first (body_refusal e b) _ h), body_fits t (behind e b) vars r loop c (stands_behind ds true e b vars r loop c k) s.2 p.2 (neither_second (body_refusal e b) _ h))
+  body_fits (BlockStmt at b t) e vars r loop c k s p h = (
+    body_fits b e vars r loop c k s.1 p.1 (neither_first (body_refusal e b) _ h),
+    body_fits t (behind e b) vars r loop c (stands_behind ds true e b vars r loop c k) s.2 p.2
+        (neither_second (body_refusal e b) _ h),
+  )
   body_fits (IfStmt at q b t) e vars r loop c k s p h =
       let i = item at (test_fault e.setting q) in
       let l = neither_second i _ h in (
@@ -97,7 +124,8 @@ module _ (ds : List DeclTree) (apart : Distinct ds) where
         step_fits e' ws r c n ks.setting (step_kind n s.0.1) p.2 (neither_first (body_refusal e' n) _ m),
         step_declares ds true n (step_kind n s.0.1),
         body_fits b (in_loop e'') ws r true c (stands_loop ds true e'' ws r loop c kn) s.3 p.3 (neither_first (body_refusal (in_loop e'') b) _ o),
-        body_fits t (behind en b) vars r loop c (stands_behind ds true en b vars r loop c (stands_behind ds true ej n vars r loop c (stands_behind ds true e j vars r loop c k))) s.4 p.4 (neither_second (body_refusal (in_loop e'') b) _ o),
+        body_fits t (behind en b) vars r loop c (stands_behind ds true en b vars r loop c (stands_behind ds true ej n vars r loop c (stands_behind ds true e j vars r loop c k))) s.4 p.4
+            (neither_second (body_refusal (in_loop e'') b) _ o),
       )
   body_fits (LoopStmt at b t) e vars r loop c k s p h = (
     body_fits b (in_loop e) vars r true c (stands_loop ds true e vars r loop c k) s.1 p.1 (neither_first (body_refusal (in_loop e) b) _ h),
@@ -210,24 +238,32 @@ module _ (rs : List RecordTree) (fs actors : List RoutineTree) (r : TypeTree) wh
 
 -- the functions of a program
 module _ (ds : List DeclTree) (apart : Distinct ds) where
-  function_fits : (before : List DeclTree) (f : RoutineTree) → routine_refusal (known before) (setting_of ds true) f ≡ None → HasSimpleParts f.body → HasPaths f.body → FunctionFits (records_in ds) (functions_in ds) (actors_in ds) f
+  function_fits : (before : List DeclTree) (f : RoutineTree) → routine_refusal (known before) (setting_of ds true) f ≡ None → HasSimpleParts f.body → HasPaths f.body
+      → FunctionFits (records_in ds) (functions_in ds) (actors_in ds) f
   function_fits before f h s p =
       let e = body_env (setting_of ds true) f in
       let i = item f.at (header_fault (known before) (setting_of ds true) f) in
       let l = neither_second i _ h in
       let k : Stands ds true e f.params f.returns false None = record { setting = refl; returns = refl; looped = λ z. z; in_caught = λ z. absurd (false≢true z) } in
       let b = body_fits ds apart f.body e f.params f.returns false None k s p (neither_first (body_refusal e f.body) _ l) in
-      let q = no_item f.close (unless (not (closing.ways f.body).end) FALLS_OFF) (neither_second (body_refusal e f.body) _ l) in
-      (b, (same_ends (records_in ds) (functions_in ds) (actors_in ds) f.returns f.body false None f.params b).ends ∙ not_true (closing.ways f.body).end (holds (not (closing.ways f.body).end) FALLS_OFF q))
+      let q = no_item f.close (unless (not (closing.ways f.body).end) FALLS_OFF) (neither_second (body_refusal e f.body) _ l) in (
+        b,
+        (same_ends (records_in ds) (functions_in ds) (actors_in ds) f.returns f.body false None f.params b).ends
+            ∙ not_true (closing.ways f.body).end (holds (not (closing.ways f.body).end) FALLS_OFF q),
+      )
 
-  pub functions_fit : (before rest : List DeclTree) → decls_refusal (setting_of ds) before rest ≡ None → AllHaveSimpleParts rest → AllHavePaths rest → (k : ℕ) (f : RoutineTree) → slice_get (functions_in rest) k ≡ Some f
+  pub functions_fit : (before rest : List DeclTree) → decls_refusal (setting_of ds) before rest ≡ None → AllHaveSimpleParts rest → AllHavePaths rest → (k : ℕ) (f : RoutineTree)
+      → slice_get (functions_in rest) k ≡ Some f
       → FunctionFits (records_in ds) (functions_in ds) (actors_in ds) f
   functions_fit before [] h s p k f e = absurd (none_some e)
-  functions_fit before (StructDecl r ∷ rest) h s p k f e = functions_fit (before ++ StructDecl r ∷ []) rest (neither_second (decl_refusal (setting_of ds) (known before) (StructDecl r)) _ h) s.1 p.1 k f e
+  functions_fit before (StructDecl r ∷ rest) h s p k f e = functions_fit (before ++ StructDecl r ∷ []) rest (neither_second (decl_refusal (setting_of ds) (known before) (StructDecl r)) _ h) s.1 p.1 k
+      f e
   functions_fit before (ActorDecl a ∷ rest) h s p k f e = functions_fit (before ++ ActorDecl a ∷ []) rest (neither_second (decl_refusal (setting_of ds) (known before) (ActorDecl a)) _ h) s.1 p.1 k f e
   functions_fit before (FunctionDecl g ∷ rest) h s p zero f e =
-      subst (FunctionFits (records_in ds) (functions_in ds) (actors_in ds)) (some_same g f e) (function_fits before g (neither_first (decl_refusal (setting_of ds) (known before) (FunctionDecl g)) _ h) s.0 p.0)
-  functions_fit before (FunctionDecl g ∷ rest) h s p (suc k) f e = functions_fit (before ++ FunctionDecl g ∷ []) rest (neither_second (decl_refusal (setting_of ds) (known before) (FunctionDecl g)) _ h) s.1 p.1 k f e
+      subst (FunctionFits (records_in ds) (functions_in ds) (actors_in ds)) (some_same g f e)
+      (function_fits before g (neither_first (decl_refusal (setting_of ds) (known before) (FunctionDecl g)) _ h) s.0 p.0)
+  functions_fit before (FunctionDecl g ∷ rest) h s p (suc k) f e =
+      functions_fit (before ++ FunctionDecl g ∷ []) rest (neither_second (decl_refusal (setting_of ds) (known before) (FunctionDecl g)) _ h) s.1 p.1 k f e
 
   pub all_fit : decls_refusal (setting_of ds) [] ds ≡ None → AllHaveSimpleParts ds → AllHavePaths ds → FunctionsFit (records_in ds) (functions_in ds) (actors_in ds)
   all_fit h s p k f e = functions_fit [] ds h s p k f e

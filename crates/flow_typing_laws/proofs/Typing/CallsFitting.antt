@@ -90,19 +90,22 @@ module _ (ds : List DeclTree) (apart : Distinct ds) (vars : List ParamTree) wher
       )
 
   -- a call by a name
-  predefined_fits : (x : List ℕ) (es : ExprTrees) (p : Predefined) → faults here 0 (predefined_callee p (signature p)).needs es ≡ None → calls es (Some (predefined_callee p (signature p))) (said here) ≡ None → NameFits ds vars x es (Some p)
+  predefined_fits : (x : List ℕ) (es : ExprTrees) (p : Predefined) → faults here 0 (predefined_callee p (signature p)).needs es ≡ None
+      → calls es (Some (predefined_callee p (signature p))) (said here) ≡ None → NameFits ds vars x es (Some p)
   predefined_fits x es predefined.Trace h c = traced x es (many es (Traced ∷ []) None c) h
   predefined_fits x es predefined.SendTo h c = have_types (map Exactly (IntType ∷ IntType ∷ StringType ∷ [])) (IntType ∷ IntType ∷ StringType ∷ []) es refl (many es _ None c) h
   predefined_fits x es p h c = absurd (discarded es _ c)
 
-  declared_fits : (x : List ℕ) (es : ExprTrees) (m : Option Meaning) → IsDeclared (scope_in ds vars) x m → faults here 0 (needs_of (option_map (declared_callee x) m)) es ≡ None → calls es (option_map (declared_callee x) m) (said here) ≡ None
+  declared_fits : (x : List ℕ) (es : ExprTrees) (m : Option Meaning) → IsDeclared (scope_in ds vars) x m → faults here 0 (needs_of (option_map (declared_callee x) m)) es ≡ None
+      → calls es (option_map (declared_callee x) m) (said here) ≡ None
       → NameFits ds vars x es None
   declared_fits x es None d h c = absurd (some_none c)
   declared_fits x es (Some (RecordOf fs)) d h c = absurd (discarded es (map Exactly (map (λ (f : List ℕ × TypeTree). f.1) fs)) c)
   declared_fits x es (Some (FunctionOf ts t)) d h c = (d.2, d.3, have_types (map Exactly ts) (param_types d.2.params) es (ap (map Exactly) (sym d.4)) (many es (map Exactly ts) None c) h)
   declared_fits x es (Some (ActorOf ts t)) d h c = absurd (discarded es (map Exactly ts) c)
 
-  name_fits : (x : List ℕ) (es : ExprTrees) (p : Option Predefined) → faults here 0 (needs_of (called_as here x p)) es ≡ None → calls es (called_as here x p) (said here) ≡ None → NameFits ds vars x es p
+  name_fits : (x : List ℕ) (es : ExprTrees) (p : Option Predefined) → faults here 0 (needs_of (called_as here x p)) es ≡ None → calls es (called_as here x p) (said here) ≡ None
+      → NameFits ds vars x es p
   name_fits x es (Some p) h c = predefined_fits x es p h c
   name_fits x es None h c = declared_fits x es (here.known x) ((agrees ds vars apart false).names x) h c
 
@@ -122,7 +125,8 @@ module _ (ds : List DeclTree) (apart : Distinct ds) (vars : List ParamTree) wher
   stated_fits (FutureType t) m es h c = cancel_fits m es h c
   stated_fits t m es h c = absurd (some_none c)
 
-  method_fits : (t : TypeTree) (m : Method) (es : ExprTrees) (g : Option Signature) → faults here 0 (needs_of (method_callee t m g)) es ≡ None → calls es (method_callee t m g) (said here) ≡ None → MethodFits ds vars t es m
+  method_fits : (t : TypeTree) (m : Method) (es : ExprTrees) (g : Option Signature) → faults here 0 (needs_of (method_callee t m g)) es ≡ None → calls es (method_callee t m g) (said here) ≡ None
+      → MethodFits ds vars t es m
   method_fits t m es None h c = stated_fits t m es h c
   method_fits t m es (Some g) h c = absurd (discarded es (map Exactly g.params) c)
 

@@ -115,7 +115,8 @@ pub record Called (s : Setting) (whole : Bool) (xs : ExprTrees) (o : Option Call
   pub many : as_many xs (map Exactly params) ≡ true
   pub quiet : Quiet s whole → effect ≡ false
 
-predefined_called : (s : Setting) (whole : Bool) (xs : ExprTrees) (p : Predefined) (g : Option Signature) → calls xs (Some (predefined_callee p g)) (placed s whole) ≡ None → Called s whole xs (Some (predefined_callee p g)) g (is_effect p)
+predefined_called : (s : Setting) (whole : Bool) (xs : ExprTrees) (p : Predefined) (g : Option Signature) → calls xs (Some (predefined_callee p g)) (placed s whole) ≡ None
+    → Called s whole xs (Some (predefined_callee p g)) g (is_effect p)
 predefined_called s whole xs p None e = absurd (statement_out s whole (no_second (unless (as_many xs (stated p)) WRONG_COUNT) (placed s whole Statement) e))
 predefined_called s whole xs p (Some g) e = record {
   params = g.params;
@@ -127,7 +128,8 @@ predefined_called s whole xs p (Some g) e = record {
   quiet = λ q. effect_quiet s whole p (no_second (unless (as_many xs (map Exactly g.params)) WRONG_COUNT) (placed s whole (predefined_kind p)) e) q;
 }
 
-declared_called : (s : Setting) (c : ScopeTree) (whole : Bool) (xs : ExprTrees) (x : List ℕ) (m : Option Meaning) → IsDeclared c x m → calls xs (option_map (declared_callee x) m) (placed s whole) ≡ None
+declared_called : (s : Setting) (c : ScopeTree) (whole : Bool) (xs : ExprTrees) (x : List ℕ) (m : Option Meaning) → IsDeclared c x m
+    → calls xs (option_map (declared_callee x) m) (placed s whole) ≡ None
     → Called s whole xs (option_map (declared_callee x) m) (declared_call c x) (effect_in c x None)
 declared_called s c whole xs x None d e = absurd (some_none e)
 declared_called s c whole xs x (Some (RecordOf fs)) d e = let ts = map (λ (f : List ℕ × TypeTree). f.1) fs in record {
@@ -158,7 +160,8 @@ declared_called s c whole xs x (Some (ActorOf ts t)) d e = record {
   quiet = λ q. absurd (effect_out s whole (no_second (unless (as_many xs (map Exactly ts)) WRONG_COUNT) (placed s whole Effect) e) q);
 }
 
-name_called : (s : Setting) (c : ScopeTree) → Agrees s c → (whole : Bool) (xs : ExprTrees) (x : List ℕ) (p : Option Predefined) → calls xs (called_as s x p) (placed s whole) ≡ None → Called s whole xs (called_as s x p) (call_in c x p) (effect_in c x p)
+name_called : (s : Setting) (c : ScopeTree) → Agrees s c → (whole : Bool) (xs : ExprTrees) (x : List ℕ) (p : Option Predefined) → calls xs (called_as s x p) (placed s whole) ≡ None
+    → Called s whole xs (called_as s x p) (call_in c x p) (effect_in c x p)
 name_called s c a whole xs x (Some p) e = predefined_called s whole xs p (signature p) e
 name_called s c a whole xs x None e = declared_called s c whole xs x (s.known x) (a.names x) e
 
@@ -183,7 +186,8 @@ stated_out s xs t m None h e = some_none e
 stated_out s xs t m (Some k) h e =
     statement_out s false (ap (placed s false) (sym (stated_statement t m k h)) ∙ no_second (unless (as_many xs k.needs) WRONG_COUNT) (placed s false k.kind) e)
 
-signed_method : (s : Setting) (xs : ExprTrees) (t : TypeTree) (m : Method) (g : Option Signature) → calls xs (method_callee t m g) (placed s false) ≡ None → Called s false xs (method_callee t m g) g false
+signed_method : (s : Setting) (xs : ExprTrees) (t : TypeTree) (m : Method) (g : Option Signature) → calls xs (method_callee t m g) (placed s false) ≡ None
+    → Called s false xs (method_callee t m g) g false
 signed_method s xs t m None e = absurd (stated_out s xs t m (stated_on t m) refl e)
 signed_method s xs t m (Some g) e = record {
   params = g.params;
@@ -291,7 +295,8 @@ module _ (s : Setting) (c : ScopeTree) (a : Agrees s c) where
     inside = b.quiet (inl refl);
   }
 
-  more_typed : (t : TypeTree) (ts : List TypeTree) (e : ExprTree) (es : ExprTrees) (n : Option Need) → n ≡ Some (Exactly t) → fits (form s e) n ≡ None → IsTyped s c false e → AreTyped c ts es → AreTyped c (t ∷ ts) (MoreExprs e es)
+  more_typed : (t : TypeTree) (ts : List TypeTree) (e : ExprTree) (es : ExprTrees) (n : Option Need) → n ≡ Some (Exactly t) → fits (form s e) n ≡ None → IsTyped s c false e → AreTyped c ts es
+      → AreTyped c (t ∷ ts) (MoreExprs e es)
   more_typed t ts e es n k h b r =
       let same : b.type ≡ t = wanted_is (form s e) b.type t b.by_form (ap (fits (form s e)) (sym k) ∙ h) in
       record {
@@ -312,7 +317,8 @@ module _ (s : Setting) (c : ScopeTree) (a : Agrees s c) where
         record { type = t.value; by_form = t.is; in_scope = sym (constant_typed s c a x.name (named constant_names x.name)) ∙ t.is; quiet = λ q. refl; inside = refl }
     typed whole (CallExpr f xs) h =
         of_call whole f xs (name_called s c a whole xs f.name (named call_names f.name) (no_second (faults s 0 (needs_of (called s f.name)) xs) (calls xs (called s f.name) (placed s whole)) h))
-        (λ ts n m. all_typed 0 (needs_of (called s f.name)) ts xs (from_start (needs_of (called s f.name)) (map Exactly ts) n) m (no_first (faults s 0 (needs_of (called s f.name)) xs) (calls xs (called s f.name) (placed s whole)) h))
+        (λ ts n m. all_typed 0 (needs_of (called s f.name)) ts xs (from_start (needs_of (called s f.name)) (map Exactly ts) n) m
+        (no_first (faults s 0 (needs_of (called s f.name)) xs) (calls xs (called s f.name) (placed s whole)) h))
     typed whole (FieldExpr e x) h = of_field_expr whole e x (typed false e (no_first (fault s false e) (of_field s (form s e) x.name) h)) (no_second (fault s false e) (of_field s (form s e) x.name) h)
     typed whole (MethodExpr e m xs) h =
         let n = needs_of (called_on (form s e) m.name) in
@@ -325,10 +331,12 @@ module _ (s : Setting) (c : ScopeTree) (a : Agrees s c) where
     typed whole (BinaryExpr op e f) h =
         let l = lesser (fault s false e) (fault s false f) in
         let r = no_first l (operands op (form s e) (form s f)) h in
-        of_binary whole op e f (typed false e (no_first (fault s false e) (fault s false f) r)) (typed false f (no_second (fault s false e) (fault s false f) r)) (no_second l (operands op (form s e) (form s f)) h)
+        of_binary whole op e f (typed false e (no_first (fault s false e) (fault s false f) r)) (typed false f (no_second (fault s false e) (fault s false f) r))
+        (no_second l (operands op (form s e) (form s f)) h)
     typed whole (ParenExpr e) h = let t = typed false e h in record { type = t.type; by_form = t.by_form; in_scope = t.in_scope; quiet = λ q. t.quiet (inl refl); inside = t.quiet (inl refl) }
 
-    pub all_typed : (k : ℕ) (ns : List Need) (ts : List TypeTree) (es : ExprTrees) → ((i : ℕ) → slice_get ns (k + i) ≡ slice_get (map Exactly ts) i) → as_many es (map Exactly ts) ≡ true → faults s k ns es ≡ None → AreTyped c ts es
+    pub all_typed : (k : ℕ) (ns : List Need) (ts : List TypeTree) (es : ExprTrees) → ((i : ℕ) → slice_get ns (k + i) ≡ slice_get (map Exactly ts) i) → as_many es (map Exactly ts) ≡ true
+        → faults s k ns es ≡ None → AreTyped c ts es
     all_typed k ns [] NoExprs n m h = record { types = []; in_scope = refl; same = refl; quiet = refl }
     all_typed k ns (t ∷ ts) NoExprs n m h = absurd (false≢true m)
     all_typed k ns [] (MoreExprs e es) n m h = absurd (false≢true m)
@@ -336,5 +344,6 @@ module _ (s : Setting) (c : ScopeTree) (a : Agrees s c) where
         let one = lesser (fault s false e) (fits (form s e) (slice_get ns k)) in
         let r = no_first one (faults s (suc k) ns es) h in
         let z : k ≡ k + 0 = omega arith in
-        more_typed t ts e es (slice_get ns k) (ap (slice_get ns) z ∙ n 0) (no_second (fault s false e) (fits (form s e) (slice_get ns k)) r) (typed false e (no_first (fault s false e) (fits (form s e) (slice_get ns k)) r))
+        more_typed t ts e es (slice_get ns k) (ap (slice_get ns) z ∙ n 0) (no_second (fault s false e) (fits (form s e) (slice_get ns k)) r)
+        (typed false e (no_first (fault s false e) (fits (form s e) (slice_get ns k)) r))
         (all_typed (suc k) ns ts es (λ i. let y : suc k + i ≡ k + suc i = omega arith in ap (slice_get ns) y ∙ n (suc i)) m (no_second one (faults s (suc k) ns es) h))

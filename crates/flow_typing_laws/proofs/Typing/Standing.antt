@@ -37,7 +37,8 @@ module _ (ds : List DeclTree) (plain : Bool) where
     pub looped : e.looped ≡ true → loop ≡ true
     pub in_caught : e.caught ≡ true → CaughtFits (records_in ds) (functions_in ds) (actors_in ds) vars caught
 
-  pub caught_more : (vars : List ParamTree) (q : ParamTree) (c : Option (List ℕ)) → CaughtFits (records_in ds) (functions_in ds) (actors_in ds) vars c → CaughtFits (records_in ds) (functions_in ds) (actors_in ds) (vars ++ q ∷ []) c
+  pub caught_more : (vars : List ParamTree) (q : ParamTree) (c : Option (List ℕ)) → CaughtFits (records_in ds) (functions_in ds) (actors_in ds) vars c
+      → CaughtFits (records_in ds) (functions_in ds) (actors_in ds) (vars ++ q ∷ []) c
   caught_more vars q None h = h
   caught_more vars q (Some x) h = (h.0, more_params vars q x h.0 h.1, h.2)
 
@@ -50,7 +51,8 @@ module _ (ds : List DeclTree) (plain : Bool) where
   pub stands_loop : (e : Env) (vars : List ParamTree) (r : TypeTree) (loop : Bool) (c : Option (List ℕ)) → Stands e vars r loop c → Stands (in_loop e) vars r true c
   stands_loop e vars r loop c k = record { setting = k.setting; returns = k.returns; looped = λ h. refl; in_caught = k.in_caught }
 
-  pub stands_declared : (e : Env) (i : IntoTree) (vars : List ParamTree) (r : TypeTree) (loop : Bool) (c : Option (List ℕ)) → Stands e vars r loop c → Stands (declared e i) (vars ++ param i ∷ []) r loop c
+  pub stands_declared : (e : Env) (i : IntoTree) (vars : List ParamTree) (r : TypeTree) (loop : Bool) (c : Option (List ℕ)) → Stands e vars r loop c
+      → Stands (declared e i) (vars ++ param i ∷ []) r loop c
   stands_declared e i vars r loop c k = record {
     setting = with_one e vars (param i) k.setting;
     returns = k.returns;
@@ -59,7 +61,8 @@ module _ (ds : List DeclTree) (plain : Bool) where
   }
 
   -- a catch: its variable is new
-  pub new_caught : (vars : List ParamTree) (states : List (List ℕ)) (x : Ident) → fresh (setting_in ds plain vars) states false x.name ≡ None → param_named (vars ++ caught_param x ∷ []) x.name ≡ Some (caught_param x)
+  pub new_caught : (vars : List ParamTree) (states : List (List ℕ)) (x : Ident) → fresh (setting_in ds plain vars) states false x.name ≡ None
+      → param_named (vars ++ caught_param x ∷ []) x.name ≡ Some (caught_param x)
   new_caught vars states x h =
       let s = setting_in ds plain vars in
       let a = is_there (named s.vars x.name) in
@@ -69,7 +72,8 @@ module _ (ds : List DeclTree) (plain : Bool) where
       let m = neither_left a b (neither_left (a || b) c (neither_left (a || b || c) (false && among states x.name) n)) in
       last_param vars (caught_param x) (sym (there_of (param_named vars x.name)) ∙ ap is_there (sym (rows_named vars x.name)) ∙ m)
 
-  pub stands_caught : (e : Env) (x : Ident) (states : List (List ℕ)) (vars : List ParamTree) (r : TypeTree) (loop : Bool) (c : Option (List ℕ)) → Stands e vars r loop c → fresh e.setting states false x.name ≡ None
+  pub stands_caught : (e : Env) (x : Ident) (states : List (List ℕ)) (vars : List ParamTree) (r : TypeTree) (loop : Bool) (c : Option (List ℕ)) → Stands e vars r loop c
+      → fresh e.setting states false x.name ≡ None
       → Stands (in_catch (with_var e x.name ErrorType)) (vars ++ caught_param x ∷ []) r loop (Some x.name)
   stands_caught e x states vars r loop c k h = record {
     setting = with_one e vars (caught_param x) k.setting;
@@ -87,8 +91,11 @@ module _ (ds : List DeclTree) (plain : Bool) where
   step_declares _ (assigned at xs v) = refl
   step_declares _ (modified at xs d) = refl
 
-  pub stands_started : (e : Env) (i : Body) (vars : List ParamTree) (r : TypeTree) (loop : Bool) (c : Option (List ℕ)) → InitKind i → Stands e vars r loop c → Stands (started e i) (vars ++ declared_in i) r loop c
+  pub stands_started : (e : Env) (i : Body) (vars : List ParamTree) (r : TypeTree) (loop : Bool) (c : Option (List ℕ)) → InitKind i → Stands e vars r loop c
+      → Stands (started e i) (vars ++ declared_in i) r loop c
   stands_started e _ vars r loop c no_init k = subst (λ vs. Stands (behind e End) vs r loop c) (sym (append-nil vars)) (stands_behind e End vars r loop c k)
   stands_started e _ vars r loop c (declares at i v) k = stands_declared e i vars r loop c k
-  stands_started e _ vars r loop c (assigns at xs v) k = subst (λ vs. Stands (behind e (AssignStmt at xs v End)) vs r loop c) (sym (append-nil vars)) (stands_behind e (AssignStmt at xs v End) vars r loop c k)
-  stands_started e _ vars r loop c (modifies at xs d) k = subst (λ vs. Stands (behind e (ModifyStmt at xs d End)) vs r loop c) (sym (append-nil vars)) (stands_behind e (ModifyStmt at xs d End) vars r loop c k)
+  stands_started e _ vars r loop c (assigns at xs v) k = subst (λ vs. Stands (behind e (AssignStmt at xs v End)) vs r loop c) (sym (append-nil vars))
+      (stands_behind e (AssignStmt at xs v End) vars r loop c k)
+  stands_started e _ vars r loop c (modifies at xs d) k = subst (λ vs. Stands (behind e (ModifyStmt at xs d End)) vs r loop c) (sym (append-nil vars))
+      (stands_behind e (ModifyStmt at xs d End) vars r loop c k)

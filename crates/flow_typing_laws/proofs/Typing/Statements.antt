@@ -146,7 +146,8 @@ module _ (ds : List DeclTree) (apart : Distinct ds) (plain : Bool) where
   change_fits vars UpChange t h = type_same t IntType (holds (same_type t IntType) WRONG_TYPE h)
   change_fits vars DownChange t h = type_same t IntType (holds (same_type t IntType) WRONG_TYPE h)
 
-  pub modify_fits : (vars : List ParamTree) (xs : List Ident) (c : ChangeTree) → IsPath xs → modify_fault (at_vars vars) xs c ≡ None → (t : TypeTree) × (path_type rs vars xs ≡ Some t) × ChangeFits rs fs as' vars c t
+  pub modify_fits : (vars : List ParamTree) (xs : List Ident) (c : ChangeTree) → IsPath xs → modify_fault (at_vars vars) xs c ≡ None
+      → (t : TypeTree) × (path_type rs vars xs ≡ Some t) × ChangeFits rs fs as' vars c t
   modify_fits vars xs c p h =
       let s = at_vars vars in
       let t = target vars xs p (no_first (target_fault s xs) (change_fault s (target_form s xs) c) h) in
@@ -172,14 +173,17 @@ module _ (ds : List DeclTree) (apart : Distinct ds) where
   default_fits vars (PromiseStreamType t) w d = absurd (some_none (no_second (unless (type_known (at_function vars).known (PromiseStreamType t)) UNKNOWN_NAME) (Some NOT_HERE) w))
   default_fits vars t w d = absurd (false≢true d)
 
-  pub declare_fits : (vars : List ParamTree) (states : List (List ℕ)) (i : IntoTree) (v : Option ExprTree) → declare_fault (at_function vars) states i v ≡ None → DeclareFits (records_in ds) (functions_in ds) (actors_in ds) vars i v
+  pub declare_fits : (vars : List ParamTree) (states : List (List ℕ)) (i : IntoTree) (v : Option ExprTree) → declare_fault (at_function vars) states i v ≡ None
+      → DeclareFits (records_in ds) (functions_in ds) (actors_in ds) vars i v
   declare_fits vars states i None h =
       let a = no_first (into_fault (at_function vars) states i) (value_fault (at_function vars) i.ty None) h in
       let b = no_second (into_fault (at_function vars) states i) (value_fault (at_function vars) i.ty None) h in
-      default_fits vars i.ty (no_first (written (at_function vars) i.ty) (lesser (state_here (at_function vars) i.state) (fresh (at_function vars) states i.state i.name.name)) a) (holds (rule.has_default i.ty) NEEDS_VALUE b)
+      default_fits vars i.ty (no_first (written (at_function vars) i.ty) (lesser (state_here (at_function vars) i.state) (fresh (at_function vars) states i.state i.name.name)) a)
+      (holds (rule.has_default i.ty) NEEDS_VALUE b)
   declare_fits vars states i (Some v) h = whole_yields vars v i.ty (no_second (into_fault (at_function vars) states i) (value_fault (at_function vars) i.ty (Some v)) h)
 
-  pub assign_fits : (vars : List ParamTree) (xs : List Ident) (v : ExprTree) → IsPath xs → assign_fault (at_function vars) xs v ≡ None → (t : TypeTree) × (path_type (records_in ds) vars xs ≡ Some t) × Yields (records_in ds) (functions_in ds) (actors_in ds) vars v t
+  pub assign_fits : (vars : List ParamTree) (xs : List Ident) (v : ExprTree) → IsPath xs → assign_fault (at_function vars) xs v ≡ None
+      → (t : TypeTree) × (path_type (records_in ds) vars xs ≡ Some t) × Yields (records_in ds) (functions_in ds) (actors_in ds) vars v t
   assign_fits vars xs v p h =
       let s = at_function vars in
       let l = lesser (target_fault s xs) (fault s true v) in
@@ -215,7 +219,8 @@ module _ (ds : List DeclTree) (apart : Distinct ds) where
     needs : needs_of o ≡ map Exactly (param_types function.params)
     many : as_many es (map Exactly (param_types function.params)) ≡ true
 
-  declared_function : (vars : List ParamTree) (x : List ℕ) (es : ExprTrees) (m : Option Meaning) → IsDeclared (scope_in ds vars) x m → calls es (option_map (declared_callee x) m) (said (at_function vars)) ≡ None
+  declared_function : (vars : List ParamTree) (x : List ℕ) (es : ExprTrees) (m : Option Meaning) → IsDeclared (scope_in ds vars) x m
+      → calls es (option_map (declared_callee x) m) (said (at_function vars)) ≡ None
       → IsFunction vars x es (option_map (declared_callee x) m)
   declared_function vars x es None d h = absurd (some_none h)
   declared_function vars x es (Some (RecordOf fs)) d h = absurd (some_none (no_second (unless (as_many es (map Exactly (map (λ (f : List ℕ × TypeTree). f.1) fs))) WRONG_COUNT) (Some DISCARD) h))
@@ -228,7 +233,8 @@ module _ (ds : List DeclTree) (apart : Distinct ds) where
   declared_function vars x es (Some (ActorOf ts t)) d h =
       absurd (some_none (no_second (not_here (at_function vars)) (Some DISCARD) (no_second (unless (as_many es (map Exactly ts)) WRONG_COUNT) (lesser (not_here (at_function vars)) (Some DISCARD)) h)))
 
-  name_function : (vars : List ParamTree) (x : List ℕ) (es : ExprTrees) (p : Option Predefined) → calls es (called_as (at_function vars) x p) (said (at_function vars)) ≡ None → IsFunction vars x es (called_as (at_function vars) x p)
+  name_function : (vars : List ParamTree) (x : List ℕ) (es : ExprTrees) (p : Option Predefined) → calls es (called_as (at_function vars) x p) (said (at_function vars)) ≡ None
+      → IsFunction vars x es (called_as (at_function vars) x p)
   name_function vars x es (Some p) h = absurd (signed_out vars es p (signature p) h)
   name_function vars x es None h = declared_function vars x es ((at_function vars).known x) ((agrees ds vars apart true).names x) h
 
@@ -249,7 +255,8 @@ module _ (ds : List DeclTree) (apart : Distinct ds) where
   on_out vars es None m h = some_none h
   on_out vars es (Some t) m h = by_out vars es t (named method_names m) h
 
-  pub call_fits : (vars : List ParamTree) (xs : List Ident) (es : ExprTrees) → IsPath xs → call_fault (at_function vars) xs es ≡ None → CallFits (records_in ds) (functions_in ds) (actors_in ds) vars xs es
+  pub call_fits : (vars : List ParamTree) (xs : List Ident) (es : ExprTrees) → IsPath xs → call_fault (at_function vars) xs es ≡ None
+      → CallFits (records_in ds) (functions_in ds) (actors_in ds) vars xs es
   call_fits vars [] es p h = absurd p
   call_fits vars (x ∷ []) es p h =
       let s = at_function vars in

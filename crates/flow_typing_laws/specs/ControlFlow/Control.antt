@@ -112,7 +112,8 @@ abbrev mutual
       let l = suc n + points b in
       let m = l + points c in
       let f = first k m a.follows in
-      statement n a (first b (suc n) f ∷ first c l f ∷ []) ++ edges b (suc n) (followed_by a f) ++ edges c l (followed_by a f) ++ edges k m a
+      statement n a (first b (suc n) f ∷ first c l f ∷ []) ++ edges b (suc n) (followed_by a f) ++ edges c l (followed_by a f)
+      ++ edges k m a
   edges (WhileStmt at e b k) n a =
       let m = suc n + points b in
       let f = first k m a.follows in

@@ -20,7 +20,8 @@ Reaches {P} edges a b = (left : List P) × Walk edges a left b
 -- sets of points that are grown from some points, by the ends of edges that lead on from them
 pub data Grown {P : Type 0} (edges : List (Edge P)) (begins : List P) : List P → Type 0 where
   begun : Grown edges begins begins
-  added : {reached : List P} (a b : P) → Contains reached a → Leads edges a b → Grown edges begins reached → Grown edges begins (b ∷ reached)
+  added : {reached : List P} (a b : P) → Contains reached a → Leads edges a b → Grown edges begins reached
+      → Grown edges begins (b ∷ reached)
 
 -- nothing is added to a set any more
 abbrev pub IsClosed : {P : Type 0} → List (Edge P) → List P → Type 0

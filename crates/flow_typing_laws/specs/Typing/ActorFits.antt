@@ -70,7 +70,8 @@ module _ (ds : List DeclTree) where
     StandsWell r loop c vars (AssignStmt at xs e k) =
         ((t : TypeTree) × (path_type (records_in ds) vars xs ≡ Some t) × Gives vars e t) × StandsWell r loop c vars k
     StandsWell r loop c vars (ModifyStmt at xs d k) =
-        ((t : TypeTree) × (path_type (records_in ds) vars xs ≡ Some t) × ChangeFits (records_in ds) (functions_in ds) (actors_in ds) vars d t)
+        ((t : TypeTree) × (path_type (records_in ds) vars xs ≡ Some t)
+        × ChangeFits (records_in ds) (functions_in ds) (actors_in ds) vars d t)
         × StandsWell r loop c vars k
     StandsWell r loop c vars (CallStmt at xs es k) = CallStands ds vars xs es × StandsWell r loop c vars k
     StandsWell r loop c vars (WaitStmt at w k) =

@@ -71,7 +71,8 @@ main_speaks code me m n none (main_starts t h) =
     let held = hold_all_stays (refs_in vs) (made kind.Future a.heap) in
     let enrols : Quiet a h.between =
     quiet_is a h.between (on_heap f a) h.enrols.made
-    (on_heap_quiet f a (and_then a.heap (with_args vs a.heap) _ (and_then a.heap (made kind.Future a.heap) (with_args vs a.heap) made_one held) (started_stays h.class h.enrols.of.places _ (Some h.cell) (with_args vs a.heap)))) in
+    (on_heap_quiet f a (and_then a.heap (with_args vs a.heap) _ (and_then a.heap (made kind.Future a.heap) (with_args vs a.heap) made_one held)
+    (started_stays h.class h.enrols.of.places _ (Some h.cell) (with_args vs a.heap)))) in
     let all = quiet_then m a h.between (turned_quiet m) enrols in
     let main : HeapTree → HeapTree = λ g. record (hold kind.Future h.cell.0 g) { main = Some h.cell } in
     let one = hold_stays kind.Future h.cell.0 h.between.heap in
@@ -81,7 +82,8 @@ main_speaks code me m n none (main_starts t h) =
     let runs = quiet_then m (on_heap main h.between) (doing (task.Run h.actor) (on_heap main h.between)) held_main (doing_quiet (task.Run h.actor) (on_heap main h.between)) in
     speaks_is m n _ h.starts.told (tells m _ _ runs.calm)
 
-module _ {A W : Type 0} (serves : Host W) (shows : A → Numbered ℕ → W → Type 0) (wrote : A → List Line → A → Type 0) (code : Code) (processes : ℕ) (r : RawTree) (program : IsProgram r code) (steady : HostKeepsTime serves) where
+module _ {A W : Type 0} (serves : Host W) (shows : A → Numbered ℕ → W → Type 0) (wrote : A → List Line → A → Type 0) (code : Code) (processes : ℕ) (r : RawTree) (program : IsProgram r code)
+    (steady : HostKeepsTime serves) where
   abbrev Goes : List Line → A → Proc Frame → W → Burst → Process → A → Type 0
   Goes ls a p w e n b = SimulatesBurst serves shows wrote code processes r ls a p w e n b
 
@@ -129,7 +131,8 @@ module _ {A W : Type 0} (serves : Host W) (shows : A → Numbered ℕ → W → 
     -- no turn is left for the call: the event is spent
     waits_spent : (n told : Process) (b : A) → nat_lt 0 start.left ≡ false → n ≡ turned start → memory.Matches r [] nothing_in_hand n booted
         → ServedIf serves shows wrote processes n.asked (unasked n) a told b → AreSpent [] told booted × (told ≡ unasked n) × (b ≡ a)
-    waits_spent n told b t is (memory.shows s) served = absurd (both_ways (ap (λ (z : Process). z.spent) is ∙ ap (λ x. (if x then record start { left = start.left - 1 } else record start { spent = true }).spent) t) s.unspent)
+    waits_spent n told b t is (memory.shows s) served = absurd (both_ways
+        (ap (λ (z : Process). z.spent) is ∙ ap (λ x. (if x then record start { left = start.left - 1 } else record start { spent = true }).spent) t) s.unspent)
     waits_spent n told b t is (memory.ends s) served =
         let none : n.asked ≡ None = ap (λ (z : Process). z.asked) is ∙ turned_asked start ∙ rest.shown.asked in
         let quiet : (told ≡ unasked n) × (b ≡ a) = subst (λ o. ServedIf serves shows wrote processes o (unasked n) a told b) none served in
@@ -149,12 +152,19 @@ module _ {A W : Type 0} (serves : Host W) (shows : A → Numbered ℕ → W → 
         let x = waits_spent n told b t is follows_it served in
         subst (λ z. Goes [] z booted w e k c) x.2
         (event_follows serves shows wrote code processes r program steady now told k b c booted w e
-        (record { follows = memory.ends x.0; sorted = still_sorted n told calls x.1; poised = still_poised n told calls x.1; asked = ap (λ (z : Process). z.asked) x.1; time = at_time n told calls x.1 })
+        (record {
+          follows = memory.ends x.0;
+          sorted = still_sorted n told calls x.1;
+          poised = still_poised n told calls x.1;
+          asked = ap (λ (z : Process). z.asked) x.1;
+          time = at_time n told calls x.1;
+        })
         kept (record { shown = subst (λ z. shows z booted.core.ports w) (sym x.2) world_after; clock = clock; time = time; among = among }) bursts)
 
     -- a turn is left, and the line of the start is written: a burst begins
     line_abroad : (n told : Process) (b : A) (l : Line) → MainCalled code me start n → n.asked ≡ Some (call.Line l) → ProcessRepresents r [] nothing_in_hand n booted
-        → Served serves shows wrote processes (call.Line l) (unasked n) a told b → wrote a (l ∷ []) b × (told ≡ unasked n) × RepresentsInWorld serves shows wrote code processes r (l ∷ []) told b booted w
+        → Served serves shows wrote processes (call.Line l) (unasked n) a told b
+        → wrote a (l ∷ []) b × (told ≡ unasked n) × RepresentsInWorld serves shows wrote code processes r (l ∷ []) told b booted w
     line_abroad n told b l calls asked s served =
         let x = line_written serves shows wrote r nothing_in_hand [] n told a b booted w processes l s asked world_after served in
         let at = at_time n told calls served.0 in (
@@ -186,7 +196,8 @@ module _ {A W : Type 0} (serves : Host W) (shows : A → Numbered ℕ → W → 
     start_line : (n : Process) → (st : MainStarts code me (turned start) n) → n.asked ≡ Some (call.Line (line.Start st.actor st.starts.of.name))
     start_line n st = ap (λ (z : Process). z.asked) st.starts.told
 
-    starts_goes : (e : Burst) (n told k : Process) (b c : A) → MainCalled code me start n → nat_lt 0 start.left ≡ true → MainStarts code me (turned start) n → memory.Matches r [] nothing_in_hand n booted
+    starts_goes : (e : Burst) (n told k : Process) (b c : A) → MainCalled code me start n → nat_lt 0 start.left ≡ true → MainStarts code me (turned start) n
+        → memory.Matches r [] nothing_in_hand n booted
         → ServedIf serves shows wrote processes n.asked (unasked n) a told b → Bursts serves shows wrote code processes told b e k c → Goes [] a booted w e k c
     starts_goes e n told k b c calls t st (memory.shows s) served bursts =
         let l = line.Start st.actor st.starts.of.name in
@@ -206,7 +217,8 @@ module _ {A W : Type 0} (serves : Host W) (shows : A → Numbered ℕ → W → 
         → ((l : Line) × (told ≡ unasked n) × RepresentsInWorld serves shows wrote code processes r (l ∷ []) told b booted w) ⊎ (told.spent ≡ true)
     main_begins n told b calls served = by_call calls (follows n calls)
       where
-        by_call : MainCalled code me start n → memory.Matches r [] nothing_in_hand n booted → ((l : Line) × (told ≡ unasked n) × RepresentsInWorld serves shows wrote code processes r (l ∷ []) told b booted w) ⊎ (told.spent ≡ true)
+        by_call : MainCalled code me start n → memory.Matches r [] nothing_in_hand n booted
+            → ((l : Line) × (told ≡ unasked n) × RepresentsInWorld serves shows wrote code processes r (l ∷ []) told b booted w) ⊎ (told.spent ≡ true)
         by_call (main_waits t is) f = inr (waits_spent n told b t is f served).0.spent
         by_call (main_starts t st) (memory.shows s) =
             let l = line.Start st.actor st.starts.of.name in

@@ -68,7 +68,8 @@ module _ {A : Type 0} (puts : A → Line → Result (Unit {0}) OutFault → A �
       rests_done : (left : Place) (n : Surroundings) (b : A) (me : ProcId) → left.up ≡ up_after d at.up → left.machine.me ≡ at.machine.me → left.machine.processes ≡ at.machine.processes
           → up_after d x.up ≡ (done_in r turns p.0 d x).up → Goes d burst.Rested left.machine.process (inside puts me left.ports n b) → Done r turns p d x o puts a burst.Rested left n b
       rests_done left n b me up same count stays f =
-          let g = event_rests host shows (wrote puts) code at.machine.processes r left.machine.process (inside puts p at.ports m a) (inside puts me left.ports n b) (done_in r turns p.0 d x).proc o f in record {
+          let g = event_rests host shows (wrote puts) code at.machine.processes r left.machine.process (inside puts p at.ports m a) (inside puts me left.ports n b)
+          (done_in r turns p.0 d x).proc o f in record {
             after = live f.after f.out;
             bursts = f.bursts;
             lines = subst (λ ls. Puts puts a ls b) (sym g.lines) (written_puts r code at.machine.processes (inside puts p at.ports m a) (inside puts me left.ports n b) f.lines f.written);
@@ -117,7 +118,8 @@ module _ {A : Type 0} (puts : A → Line → Result (Unit {0}) OutFault → A �
         let kept : UnlessStopped (booted_by me.0).core.halted (ProcessInvariant r (booted_by me.0)) =
         subst (λ n. UnlessStopped (booted_by n).core.halted (ProcessInvariant r (booted_by n))) (sym ready.shows.me)
         (subst (λ (q : Proc Frame). UnlessStopped q.core.halted (ProcessInvariant r q)) (sym same) ready.kept) in
-        let f = boot_goes host shows (wrote puts) code at.machine.processes r program host_steady m.time turns me at.machine.process x.proc o (inside puts p at.ports m a) ready.shows.rests.resting ready.held ready.may kept
+        let f = boot_goes host shows (wrote puts) code at.machine.processes r program host_steady m.time turns me at.machine.process x.proc o
+        (inside puts p at.ports m a) ready.shows.rests.resting ready.held ready.may kept
         (record { outside = ready.outside; active = ready.active; ports = ready.shows.ports }) ready.clock ready.outside.time ready.shows.processes_are e q b bursts in
         subst (λ z. bursting.SimulatesBurst host shows (wrote puts) code at.machine.processes r [] (inside puts p at.ports m a) z o e q b) (ap booted_by ready.shows.me ∙ same) f
 
@@ -140,7 +142,8 @@ module _ {A : Type 0} (puts : A → Line → Result (Unit {0}) OutFault → A �
     up_then (Delivers k v) ready = refl
     up_then (Brings k v) ready = refl
 
-    deed_follows : (d : EventAction) (left : Place) (n : Surroundings) (b : A) (e : Burst) → Ready r turns p d x o at m → Acts puts code turns p d at m a e left n b → Done r turns p d x o puts a e left n b
+    deed_follows : (d : EventAction) (left : Place) (n : Surroundings) (b : A) (e : Burst) → Ready r turns p d x o at m → Acts puts code turns p d at m a e left n b
+        → Done r turns p d x o puts a e left n b
     deed_follows d left n b e ready acts = by_end e acts.up acts.does.me acts.does.processes (deed_goes d ready e left.machine.process (inside puts acts.me left.ports n b) acts.does.follows)
       where
         by_end : (e : Burst) → left.up ≡ up_after d at.up → left.machine.me ≡ at.machine.me → left.machine.processes ≡ at.machine.processes

@@ -30,4 +30,11 @@ stays_settled r turns m p out s = (
 pub settled_first : (r : RawTree) (memory : Global) → Quiescent r (never_ran memory) idle
 settled_first r memory =
     let z = idle_rests r in
-    record { resting = record { shown = record { holds = record { shows = z.running.shows; counted = z.running.counted }; asked = refl }; sorted = z.running.sorted; poised = λ i a at. absurd (cc (at)) }; tasks = refl }
+    record {
+      resting = record {
+        shown = record { holds = record { shows = z.running.shows; counted = z.running.counted }; asked = refl };
+        sorted = z.running.sorted;
+        poised = λ i a at. absurd (cc (at));
+      };
+      tasks = refl;
+    }

@@ -111,13 +111,16 @@ module _ (r : RawTree) where
           lines = puts_more puts c a a head [] put no_line;
           ends = (
             refl,
-            subst (λ ats. WorldRepresents (Quiescent r) (record u { places = ats; ended = false }) (record { places = slice_set m.places o.active (ready m p.0); out = o })) (set_same u.places p.0 at there)
-                (shown_after m u o p at u.outside (ready m p.0) o s (record { up = h.up; me = h.me; processes_are = h.processes_are; rests = q.1; ports = h.ports }) s.outside refl refl refl (sym active)),
+            subst (λ ats. WorldRepresents (Quiescent r) (record u { places = ats; ended = false }) (record { places = slice_set m.places o.active (ready m p.0); out = o }))
+                (set_same u.places p.0 at there)
+                (shown_after m u o p at u.outside (ready m p.0) o s (record { up = h.up; me = h.me; processes_are = h.processes_are; rests = q.1; ports = h.ports }) s.outside refl refl refl
+                (sym active)),
           );
         }
 
     module _
-        (m : World Frame) (u : Seen) (o : Outside) (p : ProcId) (head : List Line) (c : A) (program : IsProgram r u.code) (deed : ActionRefines puts r u.code) (s : Going m u o) (active : p.0 ≡ o.active)
+        (m : World Frame) (u : Seen) (o : Outside) (p : ProcId) (head : List Line) (c : A) (program : IsProgram r u.code) (deed : ActionRefines puts r u.code) (s : Going m u o)
+        (active : p.0 ≡ o.active)
         (clock : program_time u.outside.time ≡ pos u.outside.time) (held : ProcessInvariant r (ready m p.0).proc) where
       abbrev turns : ℕ
       turns = m.out.file.turns
@@ -129,7 +132,8 @@ module _ (r : RawTree) where
       done d = record { head = head; place = done_in r turns p.0 d was; out = o }
 
       -- it does something
-      pub acts : (d : EventAction) (a b : A) (e : burst_end.Burst) (v : Seen) → Puts puts c head a → MayBeDone d was.proc → UnlessStopped (done d).place.proc.core.halted (ProcessInvariant r (done d).place.proc)
+      pub acts : (d : EventAction) (a b : A) (e : burst_end.Burst) (v : Seen) → Puts puts c head a → MayBeDone d was.proc
+          → UnlessStopped (done d).place.proc.core.halted (ProcessInvariant r (done d).place.proc)
           → ActsAt puts p d u a e v b → Follows puts m (done d) c e (ends e v) b
       acts d a b e v put may kept t =
           let x : Done r turns p d was o puts a e t.acted.place t.acted.outside b =

@@ -153,7 +153,8 @@ module _ (r : RawTree) {A : Type 0} (puts : A → Line → Result (Unit {0}) Out
     timer_follows k requested can kept t =
         subst (λ (z : ValueTree). GoesOn (of_value z) → Follows r puts m (of_value z) a e (ends e v) b) void_seen
         (λ kept. runs r puts m u o p (line.Timer o.ran o.time p k ∷ []) a g.program g.deed g.going g.active g.clock g.held (Delivers k (outcome.Value Void)) t.between b e v (λ k. refl)
-        (line_put (λ n i. line.Timer n i p k) t.between t.told) (requested, can, subst (AllThere (place_of m.places p.0).proc) (ap (λ z. refs_in (value_in (GoodOutcome z))) (sym void_seen)) tt) kept t.rest)
+        (line_put (λ n i. line.Timer n i p k) t.between t.told) (requested, can, subst (AllThere (place_of m.places p.0).proc) (ap (λ z. refs_in (value_in (GoodOutcome z))) (sym void_seen)) tt) kept
+        t.rest)
         kept
       where
         of_value : ValueTree → Begun Frame
@@ -168,7 +169,15 @@ module _ (r : RawTree) {A : Type 0} (puts : A → Line → Result (Unit {0}) Out
         program = g.program;
         deed = g.deed;
         still = g.still;
-        going = record { places = s.places; outside = subst (λ j. OutsideRepresents n (with_disk o j d)) g.active shown; script = s.script; ran = s.ran; bound = s.bound; turns = s.turns; file = s.file };
+        going = record {
+          places = s.places;
+          outside = subst (λ j. OutsideRepresents n (with_disk o j d)) g.active shown;
+          script = s.script;
+          ran = s.ran;
+          bound = s.bound;
+          turns = s.turns;
+          file = s.file;
+        };
         active = g.active;
         clock = subst (λ t. program_time t ≡ pos t) (sym same) g.clock;
         held = g.held;
@@ -182,7 +191,8 @@ module _ (r : RawTree) {A : Type 0} (puts : A → Line → Result (Unit {0}) Out
     answer_follows k asked requested can kept t =
         subst (λ (z : DiskReply). GoesOn (of_reply z) → Follows r puts m (of_reply z) a e (ends e v) b) replied
         (subst (λ (z : OutcomeTree). GoesOn (of_outcome z) → Follows r puts m (of_outcome z) a e (ends e v) b) t.answer
-        (λ kept. runs r puts m now (with_disk o o.active gives.0) p (disk_line (call_of asked) t.reply o k.0 ∷ []) a then_begun.program then_begun.deed then_begun.going then_begun.active then_begun.clock then_begun.held
+        (λ kept. runs r puts m now (with_disk o o.active gives.0) p (disk_line (call_of asked) t.reply o k.0 ∷ []) a then_begun.program then_begun.deed then_begun.going then_begun.active
+        then_begun.clock then_begun.held
         (Delivers k t.outcome) t.between b e v (λ k. refl) (puts_one puts a t.between (disk_line (call_of asked) t.reply o k.0) (subst (λ l. puts a l (Ok tt) t.between) line_is t.told))
         (requested, can, subst (AllThere (place_of m.places p.0).proc) (sym plain) tt) kept t.runs))
         kept

@@ -125,19 +125,22 @@ module _ (r : RawTree) {A : Type 0} (puts : A → Line → Result (Unit {0}) Out
           let due = answer_due r program.whole.valid m p.0 k.0 (timed t i z) left lasting.keeps (within z c) c.pending (own_sets p.0 k.0) in
           ended z c (timer_follows r puts m u (counted t p.0 (with_left m.out left)) p (begins_well z c p refl) a b e h.left k due.0 due.1 (kept z c) d)
 
-      by_answer : (p : ProcId) (k : CellId) (asked : DiskAsk) → Coming u left (timed t i (meaning.Answers p.0 k.0 (call_of asked))) → Happened puts (what.Answers p k asked) u a e h.left b → Event r puts e m a v b
+      by_answer : (p : ProcId) (k : CellId) (asked : DiskAsk) → Coming u left (timed t i (meaning.Answers p.0 k.0 (call_of asked))) → Happened puts (what.Answers p k asked) u a e h.left b
+          → Event r puts e m a v b
       by_answer p k asked c d =
           let z = meaning.Answers p.0 k.0 (call_of asked) in
           let due = answer_due r program.whole.valid m p.0 k.0 (timed t i z) left lasting.keeps (within z c) c.pending (own_sets p.0 k.0) in
           ended z c (answer_follows r puts m u (counted t p.0 (with_left m.out left)) p (begins_well z c p refl) a b e h.left k asked due.0 due.1 (kept z c) d)
 
-      by_packet : (p : ProcId) (n : ℕ) (l : Letter) → letter_at u.outside.net.on_way n ≡ Some l → coming n u.outside.timers.pending ≡ 0 → Coming u left (timed t i (meaning.Arrives n l.from.0 p.0 l.port l.text))
+      by_packet : (p : ProcId) (n : ℕ) (l : Letter) → letter_at u.outside.net.on_way n ≡ Some l → coming n u.outside.timers.pending ≡ 0
+          → Coming u left (timed t i (meaning.Arrives n l.from.0 p.0 l.port l.text))
           → Happened puts (what.Arrives p n) u a e h.left b → Event r puts e m a v b
       by_packet p n l there none c d =
           let z = meaning.Arrives n l.from.0 p.0 l.port l.text in
           let g = begins_well z c p refl in
           let found = place_found (Quiescent r) m.out.file.processes 0 p.0 u.places m.places c.going.places (subst (λ k. p.0 < k) (sym lasting.keeps.fits.count) (within z c)) in
-          ended z c (packet_follows r puts m u (counted t p.0 (with_left m.out left)) p g a b e h.left n l there none found (λ k q. still_there k (heard_there r (ready m p.0).proc l.port k g.held q)) (kept z c) d)
+          ended z c (packet_follows r puts m u (counted t p.0 (with_left m.out left)) p g a b e h.left n l there none found (λ k q. still_there k (heard_there r (ready m p.0).proc l.port k g.held q))
+          (kept z c) d)
         where
           still_there : (k : ℕ) → There (ready m p.0).proc (kind.PromiseStream, k) → There (place_of m.places p.0).proc (kind.PromiseStream, k)
           still_there k x = record { cell = x.cell; at = x.at; right = x.right }

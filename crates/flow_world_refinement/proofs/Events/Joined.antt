@@ -22,12 +22,15 @@ use Rattle.flow_world_refinement.specs.Events as law
 use Rattle.flow_world_refinement.proofs.Events.Lines.{Event, LossFollows, line_event}
 use Rattle.flow_world_refinement.proofs.Events.Events.{pending_event}
 
-module _ (r : RawTree) {A : Type 0} (puts : A → Line → Result (Unit {0}) OutFault → A → Type 0) (deeds : (code : Code) → ActionRefines puts r code) (still : StaysQuiescent r) (loss : LossFollows r puts) where
-  any_event : (w v : Seen) (m : World Frame) (a b : A) (e : burst_end.Burst) → IsProgram r w.code → WorldRepresents (Quiescent r) w m → WorldInvariant r m → Happens puts w a e v b → Event r puts e m a v b
+module _ (r : RawTree) {A : Type 0} (puts : A → Line → Result (Unit {0}) OutFault → A → Type 0) (deeds : (code : Code) → ActionRefines puts r code) (still : StaysQuiescent r)
+    (loss : LossFollows r puts) where
+  any_event : (w v : Seen) (m : World Frame) (a b : A) (e : burst_end.Burst) → IsProgram r w.code → WorldRepresents (Quiescent r) w m → WorldInvariant r m → Happens puts w a e v b
+      → Event r puts e m a v b
   any_event w v m a b e program s lasting h =
       by_next h.scripted (next_of m.out) refl (subst (λ n. NextMatches w n (next_of m.out) m.out) h.comes (same_next (Quiescent r) w m s)) h.comes h.does
     where
-      by_next : (scripted : Bool) (x : Next) → next_of m.out ≡ x → NextMatches w (Some (h.time, scripted)) x m.out → next w ≡ Some (h.time, scripted) → Comes puts scripted (begins h.time w) a e h.left b
+      by_next : (scripted : Bool) (x : Next) → next_of m.out ≡ x → NextMatches w (Some (h.time, scripted)) x m.out → next w ≡ Some (h.time, scripted)
+          → Comes puts scripted (begins h.time w) a e h.left b
           → Event r puts e m a v b
       by_next true Nothing q n next_is d = elim n [ ]
       by_next false Nothing q n next_is d = elim n [ ]

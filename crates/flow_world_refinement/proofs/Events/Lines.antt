@@ -124,9 +124,11 @@ module _ (r : RawTree) {A : Type 0} (puts : A → Line → Result (Unit {0}) Out
               f (act.Stop p) own q d named k g = k (stop_follows r puts m u out p (begun p (ap (λ z. process_of (order_of z)) (sym q))) a b e h.left g d)
               f (act.Kill p) own q d named k g = k (loss m u h.left out p a b e going (ap (λ z. process_of (order_of z)) (sym q)) d)
               f (act.Cut p j) own q d named k g =
-                  rested d.1 (cut_follows (Quiescent r) (WorldInvariant r) (IsProgram r) r puts w v m a b h.time l ls p j (quiet_stays still) s few (within p.0 named.0) named.0 named.1 next_is are own)
+                  rested d.1 (cut_follows (Quiescent r) (WorldInvariant r) (IsProgram r) r puts w v m a b h.time l ls p j (quiet_stays still) s few
+                  (within p.0 named.0) named.0 named.1 next_is are own)
               f (act.Heal p j) own q d named k g =
-                  rested d.1 (heal_follows (Quiescent r) (WorldInvariant r) (IsProgram r) r puts w v m a b h.time l ls p j (quiet_stays still) s few (within p.0 named.0) named.0 named.1 next_is are own)
+                  rested d.1 (heal_follows (Quiescent r) (WorldInvariant r) (IsProgram r) r puts w v m a b h.time l ls p j (quiet_stays still) s few
+                  (within p.0 named.0) named.0 named.1 next_is are own)
               f (act.DiskFail p i) own q d named k g =
                   rested d.1 (failure_follows (Quiescent r) (WorldInvariant r) (IsProgram r) r puts w v m a b h.time l ls p i (quiet_stays still) s (within p.0 named) next_is are own)
 
@@ -138,5 +140,6 @@ module _ (r : RawTree) {A : Type 0} (puts : A → Line → Result (Unit {0}) Out
         let early = (next_early m.out lasting.times).line t k left comes in
         let go = line_begins r w m s h.time t k left n in
         let x = n.line.act in
-        follows t x left u refl (subst (λ z. next_of m.out ≡ Script t z left) (sym n.orders) comes) (subst (λ z. Going r m u (counted t (process_of z) (record m.out { script = left }))) (sym n.orders) go)
+        follows t x left u refl (subst (λ z. next_of m.out ≡ Script t z left) (sym n.orders) comes)
+        (subst (λ z. Going r m u (counted t (process_of z) (record m.out { script = left }))) (sym n.orders) go)
         (subst (λ z. program_time z ≡ pos z) (sym n.same) (tells t early.0)) does n.line n.rest n.are refl next_is

@@ -212,7 +212,8 @@ module _ (Rests : Process → Proc Frame → Type 0) (Keeps : World Frame → Ty
       let counts : w.ran + 1 ≡ suc m.out.ran = omega (arith, s.ran) in
       let failed : Disk = record { fails = n; files = failing.disk.files } in
       let sur : Surroundings = memory_disk.with_disk p.0 failed start.outside in
-      let at_disk : disk_of m.out p.0 ≡ failing.disk = ap (λ ds. slice_index_or ds p.0 (record { fails = 0; files = [] })) (sym s.outside.disks) ∙ found w.outside.disks p.0 failing.disk _ failing.there in
+      let at_disk : disk_of m.out p.0 ≡ failing.disk = ap (λ ds. slice_index_or ds p.0 (record { fails = 0; files = [] })) (sym s.outside.disks)
+      ∙ found w.outside.disks p.0 failing.disk _ failing.there in
       let same : failed ≡ record { fails = n; files = (disk_of m.out p.0).files } = ap {A = Disk} (λ d. record { fails = n; files = d.files }) (sym at_disk) in
       quiet_line w v m a b t l ls (order.DiskFail p.0 n) (line.DiskFail (suc m.out.ran) t p n) sur
       (λ o. with_disk o p.0 (record { fails = n; files = (disk_of o p.0).files })) still s there next_is script (ap order_of fails)

@@ -33,7 +33,8 @@ use Rattle.flow_world_refinement.specs.Traces.Traced.{EventsFollow, SpentFollows
 use Rattle.flow_world_refinement.proofs.Traces.Codes.{code_stays}
 use Rattle.flow_world_refinement.proofs.Traces.Onwards.{goes_on}
 
-module _ (Rests : Process → Proc Frame → Type 0) (Keeps : World Frame → Type 0) (IsCode : Code → Type 0) {A : Type 0} (puts : A → Line → Result (Unit {0}) OutFault → A → Type 0) (r : RawTree) (with_frames : Bool) where
+module _ (Rests : Process → Proc Frame → Type 0) (Keeps : World Frame → Type 0) (IsCode : Code → Type 0) {A : Type 0} (puts : A → Line → Result (Unit {0}) OutFault → A → Type 0) (r : RawTree)
+    (with_frames : Bool) where
   -- so many events ran: the world of the definitions that is shown then; how what is shown from it on is shown from the first on;
   -- and what is shown from the first on goes on from there
   pub record Went (m : World Frame) (a : A) (u : Seen) (b : A) : Type 0 where
@@ -48,7 +49,8 @@ module _ (Rests : Process → Proc Frame → Type 0) (Keeps : World Frame → Ty
     pub onwards : (all : List Line) → Shows (classes r) frame_spot with_frames m all
         → (rest : List Line) × (all ≡ lines ++ rest) × Shows (classes r) frame_spot with_frames last rest
 
-  pub went : EventsFollow Rests Keeps IsCode puts r → KeepsOn Rests Keeps IsCode r → FramesShown Rests Keeps IsCode with_frames r → (w u : Seen) (m : World Frame) (a b : A) → IsCode w.code → raw_of w.code.program ≡ r → WorldRepresents Rests w m → Keeps m → RunsEvents puts with_frames w a u b → Went m a u b
+  pub went : EventsFollow Rests Keeps IsCode puts r → KeepsOn Rests Keeps IsCode r → FramesShown Rests Keeps IsCode with_frames r → (w u : Seen) (m : World Frame) (a b : A) → IsCode w.code
+      → raw_of w.code.program ≡ r → WorldRepresents Rests w m → Keeps m → RunsEvents puts with_frames w a u b → Went m a u b
   went law on seen_law w _ m a _ code text s k no_event = record {
     last = m;
     shows = s;
@@ -97,7 +99,8 @@ module _ (Rests : Process → Proc Frame → Type 0) (Keeps : World Frame → Ty
     put : Puts puts a own b
     shows : Shows (classes r) frame_spot with_frames m (own ++ end_line e ∷ [])
 
-  ended : SpentFollows Rests Keeps IsCode puts r → (w v : Seen) (m : World Frame) (a b : A) (e : Ending) → IsCode w.code → WorldRepresents Rests w m → Keeps m → EventDoes puts (last_answer e) w a v b → Ended m a e b
+  ended : SpentFollows Rests Keeps IsCode puts r → (w v : Seen) (m : World Frame) (a b : A) (e : Ending) → IsCode w.code → WorldRepresents Rests w m → Keeps m → EventDoes puts (last_answer e) w a v b
+      → Ended m a e b
   ended law w v m a b Idle code s k does = record {
     own = [];
     put = subst (λ z. Puts puts a [] z) (sym does.2) no_line;
@@ -122,7 +125,8 @@ pub trace_follows :
 trace_follows Rests Keeps IsCode {A} puts with_frames c file a b e fresh code keeps on seen_law events spent_law t =
     let r = raw_of c in
     let first = start_shown Rests c file t.first fresh t.starts in
-    let so_far = went Rests Keeps IsCode puts r with_frames events on seen_law t.first t.goes.last (at_start (seen file)) t.headed t.goes.before (code t.first t.starts) (ap raw_of t.starts.program) first keeps t.goes.goes in
+    let so_far = went Rests Keeps IsCode puts r with_frames events on seen_law t.first t.goes.last (at_start (seen file)) t.headed t.goes.before (code t.first t.starts)
+    (ap raw_of t.starts.program) first keeps t.goes.goes in
     let over = ended Rests Keeps IsCode puts r with_frames spent_law t.goes.last t.left so_far.last t.goes.before t.before e so_far.code so_far.shows so_far.keeps t.goes.ends in
     let rest = so_far.lines ++ (over.own ++ end_line e ∷ []) in
     let put_rest : Puts puts t.headed rest b =
@@ -141,6 +145,7 @@ pub beginning_follows :
 beginning_follows Rests Keeps IsCode {A} puts with_frames c file a b lines fresh code keeps on seen_law events t shown =
     let r = raw_of c in
     let first = start_shown Rests c file t.first fresh t.starts in
-    let so_far = went Rests Keeps IsCode puts r with_frames events on seen_law t.first t.last (at_start (seen file)) t.headed b (code t.first t.starts) (ap raw_of t.starts.program) first keeps t.goes in
+    let so_far = went Rests Keeps IsCode puts r with_frames events on seen_law t.first t.last (at_start (seen file)) t.headed b (code t.first t.starts)
+    (ap raw_of t.starts.program) first keeps t.goes in
     let x = so_far.onwards shown.rest shown.shows in
     (line.Head ∷ so_far.lines, x.0, shown.with_head ∙ ap (λ ls. line.Head ∷ ls) x.1, more_lines t.head so_far.put)

@@ -40,7 +40,8 @@ labels : (c : RawClasses) (r : RawTree) → raw_of c ≡ r → (k : ℕ) → nam
 labels c r h k = names_same c.classes.items k ∙ ap (λ (z : RawTree). unwrap_or (slice_get (map class_name z.classes) k) []) h
 
 module _ (Rests : Process → Proc Frame → Type 0) (Keeps : World Frame → Type 0) (IsCode : Code → Type 0) (r : RawTree) (shows : RestingRepresents Rests Keeps IsCode r) where
-  place_lines : (cs : List Class) (names : (k : ℕ) → name_of (slice_get cs k) ≡ (classes r).label k) (p : ProcId) (processes number : ℕ) (at : Place) (x : meaning.Place Frame) → PlaceRepresents Rests processes number at x
+  place_lines : (cs : List Class) (names : (k : ℕ) → name_of (slice_get cs k) ≡ (classes r).label k) (p : ProcId) (processes number : ℕ) (at : Place) (x : meaning.Place Frame)
+      → PlaceRepresents Rests processes number at x
       → PlaceWaits x → frames_lines cs p (frames_in at.machine.process.heap) (callbacks_in at.machine.process.heap) ≡ process_lines (classes r) frame_spot p x.proc
   place_lines cs names p processes number at x h waits =
       let s = shows at.machine.process x.proc h.rests in

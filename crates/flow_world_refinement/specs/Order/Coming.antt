@@ -48,7 +48,8 @@ NextMatches w n m o = ⊥
 module _ (Rests : Process → Proc Frame → Type 0) where
   -- where a world shows, the same comes next
   abbrev pub SameNext : Type 0
-  SameNext = (w : Seen) (m : meaning_world.World Frame) → WorldRepresents Rests w m → NextMatches w (next w) (meaning_world.next_of m.out) m.out
+  SameNext = (w : Seen) (m : meaning_world.World Frame) → WorldRepresents Rests w m
+      → NextMatches w (next w) (meaning_world.next_of m.out) m.out
 
 module _ (Rests : Process → Proc Frame → Type 0) {A : Type 0} (puts : A → Line → Result (Unit {0}) OutFault → A → Type 0) where
   -- A run is idle, and comes to its bound, where the definitions say so; and where an event ran or was spent, they have one.

@@ -37,19 +37,22 @@ module _ (Rests : Process → Proc Frame → Type 0) (Keeps : World Frame → Ty
   abbrev pub CutFollows : {A : Type 0} (puts : A → Line → Result (Unit {0}) OutFault → A → Type 0) → Type 0
   CutFollows {A} puts =
       (w v : Seen) (m : World Frame) (a b : A) (t : ℕ) (line : At) (rest : List At) (p q : ProcId) → StaysQuiet → WorldRepresents Rests w m
-      → m.out.file.processes ≤ 64 → p.0 < length m.places → p.0 < m.out.file.processes → q.0 < m.out.file.processes → next w ≡ Some (t, true) → w.script ≡ line ∷ rest
+      → m.out.file.processes ≤ 64 → p.0 < length m.places → p.0 < m.out.file.processes → q.0 < m.out.file.processes
+      → next w ≡ Some (t, true) → w.script ≡ line ∷ rest
       → line.act ≡ act.Cut p q → Happens puts w a Rested v b → EventShown Rests Keeps IsCode puts r m a v b
 
   -- a link of two processes of the world heals
   abbrev pub HealFollows : {A : Type 0} (puts : A → Line → Result (Unit {0}) OutFault → A → Type 0) → Type 0
   HealFollows {A} puts =
       (w v : Seen) (m : World Frame) (a b : A) (t : ℕ) (line : At) (rest : List At) (p q : ProcId) → StaysQuiet → WorldRepresents Rests w m
-      → m.out.file.processes ≤ 64 → p.0 < length m.places → p.0 < m.out.file.processes → q.0 < m.out.file.processes → next w ≡ Some (t, true) → w.script ≡ line ∷ rest
+      → m.out.file.processes ≤ 64 → p.0 < length m.places → p.0 < m.out.file.processes → q.0 < m.out.file.processes
+      → next w ≡ Some (t, true) → w.script ≡ line ∷ rest
       → line.act ≡ act.Heal p q → Happens puts w a Rested v b → EventShown Rests Keeps IsCode puts r m a v b
 
   -- a disk of a process of the world is to fail so many of the next requests
   abbrev pub FailureFollows : {A : Type 0} (puts : A → Line → Result (Unit {0}) OutFault → A → Type 0) → Type 0
   FailureFollows {A} puts =
-      (w v : Seen) (m : World Frame) (a b : A) (t : ℕ) (line : At) (rest : List At) (p : ProcId) (n : ℕ) → StaysQuiet → WorldRepresents Rests w m
+      (w v : Seen) (m : World Frame) (a b : A) (t : ℕ) (line : At) (rest : List At) (p : ProcId) (n : ℕ) → StaysQuiet
+      → WorldRepresents Rests w m
       → p.0 < length m.places → next w ≡ Some (t, true) → w.script ≡ line ∷ rest → line.act ≡ act.DiskFail p n → Happens puts w a Rested v b
       → EventShown Rests Keeps IsCode puts r m a v b

@@ -6,8 +6,8 @@ ghost use Rattle.flow_world_refinement.specs.Views.Views.{ViewsShown};
 ghost use Rattle.flow_world_refinement.specs.Views.Reports.{WorldTold};
 ghost use Rattle.flow_world_refinement.specs.Views.FrameLines.{BeginningTraced, FramesFollow, FramesTraced};
 
-use flow_trace::out::LineOut;
 use crate::laws::traces::Boundary;
+use flow_trace::out::LineOut;
 
 /// In a run of any classes each frame that waits is, at each boundary of events, in the state of the
 /// wait at which it stands.

@@ -18,7 +18,8 @@ returns-in-Ok-clause-read g c =
     let before = g.F.Files.seen c.args.files.now in
     let middle = g.F.Files.seen c.open_file.new.self in
     let after = g.F.Files.seen c.read_past.new.files in
-    IfOk-weaker c.read_past.result _ _ (λ v reads. reads_from before middle after c.args.name.now v.items c.in-Ok.file c.in-Ok.ensures.opens c.in-Ok.ensures.asked c.read_past.ensures.asked reads) c.read_past.ensures.read
+    IfOk-weaker c.read_past.result _ _ (λ v reads. reads_from before middle after c.args.name.now v.items c.in-Ok.file c.in-Ok.ensures.opens c.in-Ok.ensures.asked c.read_past.ensures.asked reads)
+    c.read_past.ensures.read
 
 pub returns-in-Ok-clause-bytes : goal.returns-in-Ok-clause-bytes
 returns-in-Ok-clause-bytes g c =

@@ -7,8 +7,10 @@ use Rattle.flow_classprint.proofs.class.put_blocks.Goals as goal
 
 pub loop-block-preserved : goal.loop-block-preserved
 loop-block-preserved c =
-    next_ahead block_text block_of c.args.blocks.now 0 c.loop-block.number c.in_ok-number.number c.loop-block.block-index c.block-item.result _ _ _ _ c.in_ok-number.ensures c.loop-block-test.true c.block-item.is c.loop-block.invariant c.in_ok-put_block.ensures
+    next_ahead block_text block_of c.args.blocks.now 0 c.loop-block.number c.in_ok-number.number c.loop-block.block-index c.block-item.result _ _ _ _ c.in_ok-number.ensures c.loop-block-test.true
+    c.block-item.is c.loop-block.invariant c.in_ok-put_block.ensures
 
 pub returns : goal.returns
 returns c =
-    numbered_whole block_text block_of c.args.blocks.now 0 c.loop-block.number c.loop-block.block-index _ _ (drop_all c.loop-block.block-index c.args.blocks.now c.loop-block-test.false) c.loop-block.invariant
+    numbered_whole block_text block_of c.args.blocks.now 0 c.loop-block.number c.loop-block.block-index _ _
+    (drop_all c.loop-block.block-index c.args.blocks.now c.loop-block-test.false) c.loop-block.invariant

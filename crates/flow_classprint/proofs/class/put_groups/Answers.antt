@@ -10,4 +10,5 @@ loop-group-preserved c =
 
 pub returns : goal.returns
 returns c =
-    groups_whole group_of c.args.groups.now c.loop-group.number c.loop-group.first c.loop-group.group-index _ _ (drop_all c.loop-group.group-index c.args.groups.now c.loop-group-test.false) c.loop-group.invariant
+    groups_whole group_of c.args.groups.now c.loop-group.number c.loop-group.first c.loop-group.group-index _ _
+    (drop_all c.loop-group.group-index c.args.groups.now c.loop-group-test.false) c.loop-group.invariant

@@ -7,7 +7,8 @@ use Rattle.flow_classprint.proofs.class.put_local_lines.Goals as goal
 
 pub loop-ty-preserved : goal.loop-ty-preserved
 loop-ty-preserved c =
-    next_ahead local_line type_of c.args.locals.now 0 c.loop-ty.number c.in_ok-number.number c.loop-ty.ty-index c.ty-item.result _ _ _ _ c.in_ok-number.ensures c.loop-ty-test.true c.ty-item.is c.loop-ty.invariant c.in_ok-put_local_line.ensures
+    next_ahead local_line type_of c.args.locals.now 0 c.loop-ty.number c.in_ok-number.number c.loop-ty.ty-index c.ty-item.result _ _ _ _ c.in_ok-number.ensures c.loop-ty-test.true c.ty-item.is
+    c.loop-ty.invariant c.in_ok-put_local_line.ensures
 
 pub returns : goal.returns
 returns c =

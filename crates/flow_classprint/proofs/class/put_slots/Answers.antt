@@ -7,7 +7,8 @@ use Rattle.flow_classprint.proofs.class.put_slots.Goals as goal
 
 pub loop-slot-preserved : goal.loop-slot-preserved
 loop-slot-preserved c =
-    next_ahead slot_text slot_of c.args.slots.now 0 c.loop-slot.number c.in_ok-number.number c.loop-slot.slot-index c.slot-item.result _ _ _ _ c.in_ok-number.ensures c.loop-slot-test.true c.slot-item.is c.loop-slot.invariant c.in_ok-put_slot.ensures
+    next_ahead slot_text slot_of c.args.slots.now 0 c.loop-slot.number c.in_ok-number.number c.loop-slot.slot-index c.slot-item.result _ _ _ _ c.in_ok-number.ensures c.loop-slot-test.true
+    c.slot-item.is c.loop-slot.invariant c.in_ok-put_slot.ensures
 
 pub returns : goal.returns
 returns c =

@@ -6,7 +6,8 @@ use Rattle.flow_classprint.proofs.write.write_all.Goals as goal
 
 pub returns-in_err-write_class-clause-part : goal.returns-in_err-write_class-clause-part
 returns-in_err-write_class-clause-part g c =
-    part_more class_text class_of _ _ _ c.args.classes.now c.loop-class.class-index _ c.class-item.result _ c.loop-class-test.true c.class-item.is refl c.loop-class.invariant.written c.write_class.ensures.part
+    part_more class_text class_of _ _ _ c.args.classes.now c.loop-class.class-index _ c.class-item.result _ c.loop-class-test.true c.class-item.is refl c.loop-class.invariant.written
+    c.write_class.ensures.part
 
 pub loop-class-preserved : goal.loop-class-preserved
 loop-class-preserved g c = record {

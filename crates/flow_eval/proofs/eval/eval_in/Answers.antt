@@ -9,8 +9,10 @@ use Rattle.flow_eval.proofs.eval.eval_in.Goals as goal
 pub evaluated-requires : goal.evaluated-requires
 evaluated-requires g c =
     subst (λ s. HasMeaning (Eval s (g.V.Variables.by_name c.args.vars.now) (expr_of c.args.expr.now) c.args.turns.now.left)) (sym c.setting.ensures)
-    (expression_means (setting_with c.args.plain.now.records.items c.args.plain.now.functions.items (g.C.CellView.content c.args.view.now) c.args.now) (g.V.Variables.by_name c.args.vars.now) (expr_of c.args.expr.now) c.args.turns.now.left c.requires.typed)
+    (expression_means (setting_with c.args.plain.now.records.items c.args.plain.now.functions.items (g.C.CellView.content c.args.view.now) c.args.now) (g.V.Variables.by_name c.args.vars.now)
+    (expr_of c.args.expr.now) c.args.turns.now.left c.requires.typed)
 
 pub returns : goal.returns
 returns g c =
-    subst (λ s. Means (Eval s (g.V.Variables.by_name c.args.vars.now) (expr_of c.args.expr.now) c.args.turns.now.left) c.evaluated.result c.evaluated.new.turns.left) c.setting.ensures c.evaluated.ensures
+    subst (λ s. Means (Eval s (g.V.Variables.by_name c.args.vars.now) (expr_of c.args.expr.now) c.args.turns.now.left) c.evaluated.result c.evaluated.new.turns.left) c.setting.ensures
+    c.evaluated.ensures

@@ -15,7 +15,8 @@ returns-in_default-var_place c =
 
 pub returns : goal.returns
 returns c =
-    path_some (map record_of c.args.records.now) (map var_of c.args.vars.now.items) c.args.path.now c.in-Some.name.now c.in-Some.rest.now (value_of c.args.value) c.in-Some-var_place.k c.in-Some.ensures.cases.0
+    path_some (map record_of c.args.records.now) (map var_of c.args.vars.now.items) c.args.path.now c.in-Some.name.now c.in-Some.rest.now
+    (value_of c.args.value) c.in-Some-var_place.k c.in-Some.ensures.cases.0
     (ap₂ (λ x vs. position (λ (v : List ℕ × ValueTree). bytes_eq x v.0) (map var_of vs)) (sym c.bytes.ensures.bytes) (sym c.deref.ensures.value)
     ∙ sym c.var_place.ensures ∙ c.in-Some-var_place.is)
     ∙ c.put_place.ensures

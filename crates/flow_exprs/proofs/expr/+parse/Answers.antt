@@ -11,15 +11,18 @@ use Rattle.flow_exprs.proofs.expr.+parse.Goals as goal
 
 pub arguments-returns-then-is_at : goal.arguments-returns-then-is_at
 arguments-returns-then-is_at t c =
-    subst (λ xs. ReadsArgs c.args.spots.now c.args.from c.args.depth (exprs_of xs) 0 (c.args.from + 1)) (sym c.new-args.ensures.items) (args_none c.args.spots.now c.args.from c.args.depth c.requires.shallow (c.if-is_at.ensures.kind.0 refl))
+    subst (λ xs. ReadsArgs c.args.spots.now c.args.from c.args.depth (exprs_of xs) 0 (c.args.from + 1)) (sym c.new-args.ensures.items)
+    (args_none c.args.spots.now c.args.from c.args.depth c.requires.shallow (c.if-is_at.ensures.kind.0 refl))
 
 pub arguments-loop-args-init : goal.arguments-loop-args-init
 arguments-loop-args-init t c =
-    subst (λ xs. Args c.args.spots.now c.args.from c.args.depth (exprs_of xs) 0 c.args.from) (sym c.new-args.ensures.items) (args_begin c.args.spots.now c.args.from c.args.depth c.requires.within c.requires.shallow (λ e. not_true (c.if-is_at.ensures.kind.1 e)))
+    subst (λ xs. Args c.args.spots.now c.args.from c.args.depth (exprs_of xs) 0 c.args.from) (sym c.new-args.ensures.items)
+    (args_begin c.args.spots.now c.args.from c.args.depth c.requires.within c.requires.shallow (λ e. not_true (c.if-is_at.ensures.kind.1 e)))
 
 pub arguments-returns-then-is_at-2 : goal.arguments-returns-then-is_at-2
 arguments-returns-then-is_at-2 t c =
-    args_end_is c.args.spots.now c.args.from c.args.depth (exprs_of c.loop-args.args.items) c.loop-args.high c.loop-args.at (expr_of c.in_ok-read.read.expr) c.in_ok-read.read.high c.in_ok-read.read.to (exprs_of c.push.new.self.items) c.max-high.result
+    args_end_is c.args.spots.now c.args.from c.args.depth (exprs_of c.loop-args.args.items) c.loop-args.high c.loop-args.at (expr_of c.in_ok-read.read.expr) c.in_ok-read.read.high c.in_ok-read.read.to
+    (exprs_of c.push.new.self.items) c.max-high.result
     c.loop-args.invariant c.in_ok-read.ensures (c.if-is_at-2.ensures.kind.0 refl) (ap exprs_of c.in_ok-push.ensures.items ∙ exprs_push c.loop-args.args.items c.in_ok-read.read.expr) c.max-high.ensures
 
 pub arguments-returns-then-not-is_at : goal.arguments-returns-then-not-is_at
@@ -29,8 +32,10 @@ arguments-returns-then-not-is_at t c =
 
 pub arguments-loop-args-preserved : goal.arguments-loop-args-preserved
 arguments-loop-args-preserved t c =
-    args_more_is c.args.spots.now c.args.from c.args.depth (exprs_of c.loop-args.args.items) c.loop-args.high c.loop-args.at (expr_of c.in_ok-read.read.expr) c.in_ok-read.read.high c.in_ok-read.read.to (exprs_of c.push.new.self.items) c.max-high.result
-    c.loop-args.invariant c.in_ok-read.ensures (c.if-not-is_at.ensures.kind.0 refl) (ap exprs_of c.in_ok-push.ensures.items ∙ exprs_push c.loop-args.args.items c.in_ok-read.read.expr) c.max-high.ensures
+    args_more_is c.args.spots.now c.args.from c.args.depth (exprs_of c.loop-args.args.items) c.loop-args.high c.loop-args.at
+    (expr_of c.in_ok-read.read.expr) c.in_ok-read.read.high c.in_ok-read.read.to (exprs_of c.push.new.self.items) c.max-high.result
+    c.loop-args.invariant c.in_ok-read.ensures (c.if-not-is_at.ensures.kind.0 refl) (ap exprs_of c.in_ok-push.ensures.items ∙ exprs_push c.loop-args.args.items c.in_ok-read.read.expr)
+    c.max-high.ensures
 
 pub bracket-returns-then-depth-gt-DEPTH : goal.bracket-returns-then-depth-gt-DEPTH
 bracket-returns-then-depth-gt-DEPTH t c = too_deep c.args.spots.now c.args.from 6 c.args.depth kind.Open c.requires.here tt c.if-depth-gt-DEPTH.true
@@ -41,23 +46,28 @@ bracket-returns-in_err-of t c =
     rw (p.1, p.2) (bracket_refused c.args.spots.now c.args.from c.args.depth c.in_err-of.field-0.0 c.requires.here c.if-depth-gt-DEPTH.false c.in_err-of.ensures)
 
 pub bracket-returns-then-not-is_at : goal.bracket-returns-then-not-is_at
-bracket-returns-then-not-is_at t c = bracket_open c.args.spots.now c.args.from c.args.depth (expr_of c.in_ok-of.of.expr) c.in_ok-of.of.high c.in_ok-of.of.to c.requires.here c.if-depth-gt-DEPTH.false c.in_ok-of.ensures (λ e. not_true (c.if-not-is_at.ensures.kind.1 e))
+bracket-returns-then-not-is_at t c = bracket_open c.args.spots.now c.args.from c.args.depth (expr_of c.in_ok-of.of.expr) c.in_ok-of.of.high c.in_ok-of.of.to c.requires.here c.if-depth-gt-DEPTH.false
+    c.in_ok-of.ensures (λ e. not_true (c.if-not-is_at.ensures.kind.1 e))
 
 pub bracket-returns : goal.bracket-returns
 bracket-returns t c =
-    reads_is c.args.spots.now c.args.from 6 c.args.depth 8 (ParenExpr (expr_of c.in_ok-of.of.expr)) (expr_of c.in_ok-paren.field-0) (c.in_ok-of.of.high + 1) (c.in_ok-of.of.to + 1) c.in_ok-paren.ensures
-    (bracket_reads c.args.spots.now c.args.from c.args.depth (expr_of c.in_ok-of.of.expr) c.in_ok-of.of.high c.in_ok-of.of.to c.requires.here c.if-depth-gt-DEPTH.false c.in_ok-of.ensures (c.if-not-is_at.ensures.kind.0 refl))
+    reads_is c.args.spots.now c.args.from 6 c.args.depth 8 (ParenExpr (expr_of c.in_ok-of.of.expr)) (expr_of c.in_ok-paren.field-0) (c.in_ok-of.of.high + 1)
+    (c.in_ok-of.of.to + 1) c.in_ok-paren.ensures
+    (bracket_reads c.args.spots.now c.args.from c.args.depth (expr_of c.in_ok-of.of.expr) c.in_ok-of.of.high c.in_ok-of.of.to c.requires.here c.if-depth-gt-DEPTH.false c.in_ok-of.ensures
+    (c.if-not-is_at.ensures.kind.0 refl))
 
 pub expression-returns-in_err-left-2 : goal.expression-returns-in_err-left-2
 expression-returns-in_err-left-2 t c =
     let p = err_from_is_err_and c.from_residual-in_err-left-2.result c.from_residual-in_err-left-2.ensures.1 in
     let o = op_is c.args.spots.now c.args.least _ c.in-Some.op (sym c.in-Some.ensures.op) in
-    rw (p.1, p.2) (goes_refused c.args.spots.now c.args.from c.args.least (level c.in-Some.op) c.args.depth 7 (expr_of c.loop-op.left.expr) c.loop-op.left.high c.loop-op.left.to c.in_err-left-2.field-0.0 o.1 c.loop-op.invariant c.in_err-left-2.ensures)
+    rw (p.1, p.2) (goes_refused c.args.spots.now c.args.from c.args.least (level c.in-Some.op) c.args.depth 7
+    (expr_of c.loop-op.left.expr) c.loop-op.left.high c.loop-op.left.to c.in_err-left-2.field-0.0 o.1 c.loop-op.invariant c.in_err-left-2.ensures)
 
 pub expression-loop-op-preserved : goal.expression-loop-op-preserved
 expression-loop-op-preserved t c =
     let o = op_is c.args.spots.now c.args.least _ c.in-Some.op (sym c.in-Some.ensures.op) in
-    goes_on c.args.spots.now c.args.from c.args.least (level c.in-Some.op) c.args.depth 7 (expr_of c.loop-op.left.expr) (expr_of c.in_ok-left-2.left.expr) c.loop-op.left.high c.loop-op.left.to c.in_ok-left-2.left.high c.in_ok-left-2.left.to o.1 c.loop-op.invariant c.in_ok-left-2.ensures
+    goes_on c.args.spots.now c.args.from c.args.least (level c.in-Some.op) c.args.depth 7 (expr_of c.loop-op.left.expr)
+    (expr_of c.in_ok-left-2.left.expr) c.loop-op.left.high c.loop-op.left.to c.in_ok-left-2.left.high c.in_ok-left-2.left.to o.1 c.loop-op.invariant c.in_ok-left-2.ensures
 
 pub minus-returns-then-depth-gt-DEPTH : goal.minus-returns-then-depth-gt-DEPTH
 minus-returns-then-depth-gt-DEPTH t c = too_deep c.args.spots.now c.args.from 6 c.args.depth (kind.Op Sub) c.requires.sign tt c.if-depth-gt-DEPTH.true
@@ -103,8 +113,10 @@ named-returns-in_err-read t c =
 pub named-returns : goal.named-returns
 named-returns t c =
     let n = sym c.in_ok-name.ensures ∙ c.in-Some.is in
-    reads_is c.args.spots.now c.args.from 6 c.args.depth 8 (CallExpr c.in-Some.name (exprs_of c.in_ok-read.read.args.items)) (expr_of c.call.result) (c.in_ok-read.read.high + 1) c.in_ok-read.read.to c.call.ensures
-    (call_reads c.args.spots.now c.args.from c.args.depth c.in-Some.name (exprs_of c.in_ok-read.read.args.items) c.in_ok-read.read.high c.in_ok-read.read.to n (c.if-not-is_at.ensures.kind.0 refl) c.if-depth-gt-DEPTH.false c.in_ok-read.ensures)
+    reads_is c.args.spots.now c.args.from 6 c.args.depth 8 (CallExpr c.in-Some.name (exprs_of c.in_ok-read.read.args.items)) (expr_of c.call.result)
+    (c.in_ok-read.read.high + 1) c.in_ok-read.read.to c.call.ensures
+    (call_reads c.args.spots.now c.args.from c.args.depth c.in-Some.name (exprs_of c.in_ok-read.read.args.items) c.in_ok-read.read.high c.in_ok-read.read.to n
+    (c.if-not-is_at.ensures.kind.0 refl) c.if-depth-gt-DEPTH.false c.in_ok-read.ensures)
 
 pub operand-returns-in_default : goal.operand-returns-in_default
 operand-returns-in_default t c = at_the_end c.args.spots.now c.args.from 6 c.args.depth (sym c.in_default.ensures.kind)
@@ -128,29 +140,40 @@ with_right-returns-in_err-right t c =
 pub with_right-returns : goal.with_right-returns
 with_right-returns t c =
     let n : c.level_of.result + 1 ≡ level c.args.op + 1 = ap (λ x. x + 1) c.level_of.ensures in
-    let r = subst (λ m. ReadsExpr c.args.spots.now (c.args.left.to + 1) m (c.args.depth + 1) m (expr_of c.in_ok-right.right.expr) c.in_ok-right.right.high c.in_ok-right.right.to) n c.in_ok-right.ensures in
-    goes_is c.args.spots.now c.args.left.to (level c.args.op) c.args.depth 7 (expr_of c.args.left.expr) (expr_of c.in_ok-two.field-0) (BinaryExpr c.args.op (expr_of c.args.left.expr) (expr_of c.in_ok-right.right.expr)) (c.max.result + 1) (max c.args.left.high c.in_ok-right.right.high + 1) c.in_ok-right.right.to
+    let r = subst (λ m. ReadsExpr c.args.spots.now (c.args.left.to + 1) m (c.args.depth + 1) m (expr_of c.in_ok-right.right.expr) c.in_ok-right.right.high c.in_ok-right.right.to) n
+    c.in_ok-right.ensures in
+    goes_is c.args.spots.now c.args.left.to (level c.args.op) c.args.depth 7 (expr_of c.args.left.expr) (expr_of c.in_ok-two.field-0)
+    (BinaryExpr c.args.op (expr_of c.args.left.expr) (expr_of c.in_ok-right.right.expr)) (c.max.result + 1) (max c.args.left.high c.in_ok-right.right.high + 1) c.in_ok-right.right.to
     c.in_ok-two.ensures (ap (λ x. x + 1) c.max.ensures)
-    (right_goes c.args.spots.now c.args.left.to c.args.depth c.args.op (expr_of c.args.left.expr) (expr_of c.in_ok-right.right.expr) c.args.left.high c.in_ok-right.right.high c.in_ok-right.right.to c.requires.sign c.requires.measured c.if-depth-left-gt-DEPTH.false r)
+    (right_goes c.args.spots.now c.args.left.to c.args.depth c.args.op (expr_of c.args.left.expr) (expr_of c.in_ok-right.right.expr) c.args.left.high c.in_ok-right.right.high c.in_ok-right.right.to
+    c.requires.sign c.requires.measured c.if-depth-left-gt-DEPTH.false r)
 
 pub with_suffix-returns-then-depth-left-gt-DEPTH : goal.with_suffix-returns-then-depth-left-gt-DEPTH
 with_suffix-returns-then-depth-left-gt-DEPTH t c = λ K f. dot_deep c.args.spots.now c.args.left.to c.args.depth (expr_of c.args.left.expr) K c.requires.dot (omega arith) f.depth_is
 
 pub with_suffix-returns-in_default : goal.with_suffix-returns-in_default
-with_suffix-returns-in_default t c = λ K f. dot_short c.args.spots.now c.args.left.to c.args.depth (expr_of c.args.left.expr) K c.requires.dot (omega arith) f.depth_is f.fits_is (sym c.in_ok-name.ensures ∙ c.in_default.is)
+with_suffix-returns-in_default t c = λ K f. dot_short c.args.spots.now c.args.left.to c.args.depth (expr_of c.args.left.expr) K c.requires.dot (omega arith) f.depth_is f.fits_is
+    (sym c.in_ok-name.ensures ∙ c.in_default.is)
 
 pub with_suffix-returns-then-not-is_at : goal.with_suffix-returns-then-not-is_at
 with_suffix-returns-then-not-is_at t c =
-    goes_is c.args.spots.now c.args.left.to 6 c.args.depth 8 (expr_of c.args.left.expr) (expr_of c.in_ok-field.field-0) (FieldExpr (expr_of c.args.left.expr) c.in-Some.name) (c.args.left.high + 1) (c.args.left.high + 1) (c.args.left.to + 2) c.in_ok-field.ensures refl
-    (field_goes c.args.spots.now c.args.left.to c.args.depth (expr_of c.args.left.expr) c.args.left.high c.in-Some.name c.requires.dot c.requires.measured c.if-depth-left-gt-DEPTH.false (sym c.in_ok-name.ensures ∙ c.in-Some.is) (λ e. not_true (c.if-not-is_at.ensures.kind.1 e)))
+    goes_is c.args.spots.now c.args.left.to 6 c.args.depth 8 (expr_of c.args.left.expr) (expr_of c.in_ok-field.field-0) (FieldExpr (expr_of c.args.left.expr) c.in-Some.name) (c.args.left.high + 1)
+    (c.args.left.high + 1) (c.args.left.to + 2) c.in_ok-field.ensures refl
+    (field_goes c.args.spots.now c.args.left.to c.args.depth (expr_of c.args.left.expr) c.args.left.high c.in-Some.name c.requires.dot c.requires.measured c.if-depth-left-gt-DEPTH.false
+    (sym c.in_ok-name.ensures ∙ c.in-Some.is) (λ e. not_true (c.if-not-is_at.ensures.kind.1 e)))
 
 pub with_suffix-returns-in_err-read : goal.with_suffix-returns-in_err-read
 with_suffix-returns-in_err-read t c =
     let p = err_from_is_err_and c.from_residual-in_err-read.result c.from_residual-in_err-read.ensures.1 in
     let n = sym c.in_ok-name.ensures ∙ c.in-Some.is in
-    rw (p.1, p.2) (λ K f. method_refused c.args.spots.now c.args.left.to c.args.depth (expr_of c.args.left.expr) c.in-Some.name c.in_err-read.field-0.0 K c.requires.dot (omega arith) n (c.if-not-is_at.ensures.kind.0 refl) c.in_err-read.ensures f)
+    rw (p.1, p.2) (λ K f. method_refused c.args.spots.now c.args.left.to c.args.depth (expr_of c.args.left.expr) c.in-Some.name c.in_err-read.field-0.0 K c.requires.dot (omega arith) n
+    (c.if-not-is_at.ensures.kind.0 refl) c.in_err-read.ensures f)
 
 pub with_suffix-returns : goal.with_suffix-returns
 with_suffix-returns t c =
-    goes_is c.args.spots.now c.args.left.to 6 c.args.depth 8 (expr_of c.args.left.expr) (expr_of c.in_ok-method.field-0) (MethodExpr (expr_of c.args.left.expr) c.in-Some.name (exprs_of c.in_ok-read.read.args.items)) (c.max.result + 1) (max c.args.left.high c.in_ok-read.read.high + 1) c.in_ok-read.read.to c.in_ok-method.ensures (ap (λ x. x + 1) c.max.ensures)
-    (method_goes c.args.spots.now c.args.left.to c.args.depth (expr_of c.args.left.expr) c.args.left.high c.in-Some.name (exprs_of c.in_ok-read.read.args.items) c.in_ok-read.read.high c.in_ok-read.read.to c.requires.dot c.requires.measured c.if-depth-left-gt-DEPTH.false (sym c.in_ok-name.ensures ∙ c.in-Some.is) (c.if-not-is_at.ensures.kind.0 refl) c.in_ok-read.ensures)
+    goes_is c.args.spots.now c.args.left.to 6 c.args.depth 8 (expr_of c.args.left.expr) (expr_of c.in_ok-method.field-0)
+    (MethodExpr (expr_of c.args.left.expr) c.in-Some.name (exprs_of c.in_ok-read.read.args.items)) (c.max.result + 1)
+    (max c.args.left.high c.in_ok-read.read.high + 1) c.in_ok-read.read.to c.in_ok-method.ensures (ap (λ x. x + 1) c.max.ensures)
+    (method_goes c.args.spots.now c.args.left.to c.args.depth (expr_of c.args.left.expr) c.args.left.high c.in-Some.name
+    (exprs_of c.in_ok-read.read.args.items) c.in_ok-read.read.high c.in_ok-read.read.to c.requires.dot c.requires.measured c.if-depth-left-gt-DEPTH.false (sym c.in_ok-name.ensures ∙ c.in-Some.is)
+    (c.if-not-is_at.ensures.kind.0 refl) c.in_ok-read.ensures)

@@ -7,10 +7,12 @@ pub returns-then-depth-gt-DEPTH : goal.returns-then-depth-gt-DEPTH
 returns-then-depth-gt-DEPTH c = too_deep c.args.spots.now c.args.from 6 c.args.depth Void c.requires.here tt c.if-depth-gt-DEPTH.true
 
 pub returns : goal.returns
-returns c = rw c.void_value.ensures (void_reads c.args.spots.now c.args.from c.args.depth c.requires.here (c.if-not-is_at.ensures.kind.0 refl) (c.if-not-is_at-2.ensures.kind.0 refl) c.if-depth-gt-DEPTH.false)
+returns c = rw c.void_value.ensures (void_reads c.args.spots.now c.args.from c.args.depth c.requires.here (c.if-not-is_at.ensures.kind.0 refl)
+    (c.if-not-is_at-2.ensures.kind.0 refl) c.if-depth-gt-DEPTH.false)
 
 pub returns-then-not-is_at : goal.returns-then-not-is_at
 returns-then-not-is_at c = void_no_open c.args.spots.now c.args.from c.args.depth c.requires.here (λ e. not_true (c.if-not-is_at.ensures.kind.1 e)) c.if-depth-gt-DEPTH.false
 
 pub returns-then-not-is_at-2 : goal.returns-then-not-is_at-2
-returns-then-not-is_at-2 c = void_no_close c.args.spots.now c.args.from c.args.depth c.requires.here (c.if-not-is_at.ensures.kind.0 refl) (λ e. not_true (c.if-not-is_at-2.ensures.kind.1 e)) c.if-depth-gt-DEPTH.false
+returns-then-not-is_at-2 c = void_no_close c.args.spots.now c.args.from c.args.depth c.requires.here (c.if-not-is_at.ensures.kind.0 refl)
+    (λ e. not_true (c.if-not-is_at-2.ensures.kind.1 e)) c.if-depth-gt-DEPTH.false

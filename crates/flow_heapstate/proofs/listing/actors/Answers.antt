@@ -22,10 +22,13 @@ loop-actor-smaller c =
 
 pub loop-actor-preserved : goal.loop-actor-preserved
 loop-actor-preserved c = λ rising.
-    let next = next_is 0 c.args.heap.now.frames.things c.args.heap.now.frames.greatest c.loop-actor.last.0 c.in-Some.actor.0 rising (c.in-Some.ensures.value ∙ ap (λ s. next_above s.things c.loop-actor.last.0) c.frames.ensures) in
+    let next = next_is 0 c.args.heap.now.frames.things c.args.heap.now.frames.greatest c.loop-actor.last.0 c.in-Some.actor.0 rising
+    (c.in-Some.ensures.value ∙ ap (λ s. next_above s.things c.loop-actor.last.0) c.frames.ensures) in
     subst (λ ys. IsListed actor_kept (actor_part c.args.heap.now.actors.things) c.args.heap.now.frames.things ys c.in-Some.actor.0) (sym c.in_ok-push.ensures.items)
-    (listed_next actor_kept (actor_part c.args.heap.now.actors.things) c.args.heap.now.frames.things c.loop-actor.listed.items c.in_ok-actor_state.field-0 c.loop-actor.last.0 c.in-Some.actor.0 next (c.loop-actor.invariant rising) (c.in_ok-actor_state.ensures next.what next.there))
+    (listed_next actor_kept (actor_part c.args.heap.now.actors.things) c.args.heap.now.frames.things c.loop-actor.listed.items c.in_ok-actor_state.field-0 c.loop-actor.last.0 c.in-Some.actor.0 next
+    (c.loop-actor.invariant rising) (c.in_ok-actor_state.ensures next.what next.there))
 
 pub returns : goal.returns
 returns c = λ rising.
-    listed_all actor_kept (actor_part c.args.heap.now.actors.things) c.args.heap.now.frames.things c.loop-actor.listed.items c.loop-actor.last.0 (c.loop-actor.invariant rising) (c.in_default.ensures.value ∙ ap (λ s. next_above s.things c.loop-actor.last.0) c.frames.ensures)
+    listed_all actor_kept (actor_part c.args.heap.now.actors.things) c.args.heap.now.frames.things c.loop-actor.listed.items c.loop-actor.last.0 (c.loop-actor.invariant rising)
+    (c.in_default.ensures.value ∙ ap (λ s. next_above s.things c.loop-actor.last.0) c.frames.ensures)

@@ -22,10 +22,13 @@ loop-cell-smaller c =
 
 pub loop-cell-preserved : goal.loop-cell-preserved
 loop-cell-preserved c = λ rising.
-    let next = next_is 0 c.args.heap.now.streams.things c.args.heap.now.streams.greatest c.loop-cell.last.0 c.in-Some.cell.0 rising (c.in-Some.ensures ∙ ap (λ s. next_above s.things c.loop-cell.last.0) c.streams.ensures) in
+    let next = next_is 0 c.args.heap.now.streams.things c.args.heap.now.streams.greatest c.loop-cell.last.0 c.in-Some.cell.0 rising
+    (c.in-Some.ensures ∙ ap (λ s. next_above s.things c.loop-cell.last.0) c.streams.ensures) in
     subst (λ ys. IsListed stream_kept (stream_part c.args.heap.now.ports) c.args.heap.now.streams.things ys c.in-Some.cell.0) (sym c.in_ok-push.ensures.items)
-    (listed_next stream_kept (stream_part c.args.heap.now.ports) c.args.heap.now.streams.things c.loop-cell.listed.items c.in_ok-stream_state.field-0 c.loop-cell.last.0 c.in-Some.cell.0 next (c.loop-cell.invariant rising) (c.in_ok-stream_state.ensures next.what next.there))
+    (listed_next stream_kept (stream_part c.args.heap.now.ports) c.args.heap.now.streams.things c.loop-cell.listed.items c.in_ok-stream_state.field-0 c.loop-cell.last.0 c.in-Some.cell.0 next
+    (c.loop-cell.invariant rising) (c.in_ok-stream_state.ensures next.what next.there))
 
 pub returns : goal.returns
 returns c = λ rising.
-    listed_all stream_kept (stream_part c.args.heap.now.ports) c.args.heap.now.streams.things c.loop-cell.listed.items c.loop-cell.last.0 (c.loop-cell.invariant rising) (c.in_default.ensures ∙ ap (λ s. next_above s.things c.loop-cell.last.0) c.streams.ensures)
+    listed_all stream_kept (stream_part c.args.heap.now.ports) c.args.heap.now.streams.things c.loop-cell.listed.items c.loop-cell.last.0 (c.loop-cell.invariant rising)
+    (c.in_default.ensures ∙ ap (λ s. next_above s.things c.loop-cell.last.0) c.streams.ensures)

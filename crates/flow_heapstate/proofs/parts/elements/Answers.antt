@@ -10,7 +10,8 @@ loop-value-smaller c =
     let (x, is) = what_is (thing c.args.streams.now.things c.args.cell.0) c.requires in
     let items = c.loop-value.elements.items in
     let here : c.len.result ≡ length items = grind (arith, c.len.ensures, c.loop-value.elements.ok) in
-    subst (λ ys. left_of (λ t. t.queue) (thing c.args.streams.now.things c.args.cell.0) (length ys) < left_of (λ t. t.queue) (thing c.args.streams.now.things c.args.cell.0) (length items)) (sym c.in_ok-push.ensures.items)
+    subst (λ ys. left_of (λ t. t.queue) (thing c.args.streams.now.things c.args.cell.0) (length ys) < left_of (λ t. t.queue) (thing c.args.streams.now.things c.args.cell.0) (length items))
+    (sym c.in_ok-push.ensures.items)
     (fewer_left (λ t. t.queue) (thing c.args.streams.now.things c.args.cell.0) items c.in_ok-copy.field-0 x is c.in-Some.value.now (c.in-Some.ensures x is ∙ ap (slice_get x.queue) here))
 
 pub loop-value-preserved : goal.loop-value-preserved

@@ -10,7 +10,8 @@ loop-waiter-smaller c =
     let (x, is) = what_is (thing c.args.cells.now.things c.args.cell.0) c.requires in
     let items = c.loop-waiter.waiters.items in
     let here : c.len.result ≡ length items = grind (arith, c.len.ensures, c.loop-waiter.waiters.ok) in
-    subst (λ ys. left_of (λ t. t.waiters) (thing c.args.cells.now.things c.args.cell.0) (length ys) < left_of (λ t. t.waiters) (thing c.args.cells.now.things c.args.cell.0) (length items)) (sym c.in_ok-push.ensures.items)
+    subst (λ ys. left_of (λ t. t.waiters) (thing c.args.cells.now.things c.args.cell.0) (length ys) < left_of (λ t. t.waiters) (thing c.args.cells.now.things c.args.cell.0) (length items))
+    (sym c.in_ok-push.ensures.items)
     (fewer_left (λ t. t.waiters) (thing c.args.cells.now.things c.args.cell.0) items c.in-Some.waiter x is c.in-Some.waiter (c.in-Some.ensures x is ∙ ap (slice_get x.waiters) here))
 
 pub loop-waiter-preserved : goal.loop-waiter-preserved

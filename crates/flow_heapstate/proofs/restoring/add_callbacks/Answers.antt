@@ -23,4 +23,5 @@ returns c = λ x e.
     let n = c.args.actor.0 in
     let all = c.args.callbacks.now in
     let none = drop_of_length-le all {i = c.loop-held.held-index} (omega (arith, c.loop-held-test.false)) in
-    sym (more_none callbacks_more callbacks_none s n) ∙ ap (λ xs. more callbacks_more n xs (thing s.things n) s) (sym none) ∙ c.loop-held.invariant.1 ∙ ap (λ o. more callbacks_more n all o c.args.frames.now) e
+    sym (more_none callbacks_more callbacks_none s n) ∙ ap (λ xs. more callbacks_more n xs (thing s.things n) s) (sym none) ∙ c.loop-held.invariant.1
+    ∙ ap (λ o. more callbacks_more n all o c.args.frames.now) e

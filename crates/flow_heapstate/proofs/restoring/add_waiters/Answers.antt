@@ -23,4 +23,5 @@ returns c = λ x e.
     let n = c.args.cell.0 in
     let all = c.args.waiters.now in
     let none = drop_of_length-le all {i = c.loop-waiter.waiter-index} (omega (arith, c.loop-waiter-test.false)) in
-    sym (more_none waiters_more waiters_none s n) ∙ ap (λ xs. more waiters_more n xs (thing s.things n) s) (sym none) ∙ c.loop-waiter.invariant.1 ∙ ap (λ o. more waiters_more n all o c.args.cells.now) e
+    sym (more_none waiters_more waiters_none s n) ∙ ap (λ xs. more waiters_more n xs (thing s.things n) s) (sym none) ∙ c.loop-waiter.invariant.1
+    ∙ ap (λ o. more waiters_more n all o c.args.cells.now) e

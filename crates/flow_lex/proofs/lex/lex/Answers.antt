@@ -69,7 +69,8 @@ loop-rest-preserved c =
     let n = c.in_ok-token.n in
     let before' = i.0 ++ take n c.loop-rest.rest.now in
     let found = c.in_ok-token.ensures i.0 i.1 in
-    let pushed = c.push.ensures.items ∙ ap (λ b. cond b (c.loop-rest.spots.items ++ record { token = c.in_ok-token.token; at = c.loop-rest.at } ∷ []) c.loop-rest.spots.items) (ap is_ok c.in_ok-push.was) in (
+    let pushed = c.push.ensures.items ∙ ap (λ b. cond b (c.loop-rest.spots.items ++ record { token = c.in_ok-token.token; at = c.loop-rest.at } ∷ []) c.loop-rest.spots.items)
+    (ap is_ok c.in_ok-push.was) in (
       before',
       c.past-at-else-gap-gt0.ensures i.0 i.1,
       subst (λ t. ReadsTokens [] c.args.bytes.now c.push.new.self.items before' t) (sym c.after-rest-else-gap-gt0.ensures)

@@ -11,5 +11,6 @@ loop-b-preserved c =
     let piece = subst (λ w. PieceAt w (Some (c.in-Some.b, c.in-Some.length))) c.after.ensures c.in-Some.ensures in
     record {
       within = omega (arith, piece.1, length-drop c.loop-b.n c.args.text.now, c.loop-b.invariant.within);
-      inside = inside_next c.args.text.now c.loop-b.held.items c.push.new.self.items c.loop-b.n c.in-Some.length c.in-Some.b c.loop-b.invariant.within c.loop-b.invariant.inside piece (c.push.ensures.items ∙ ap (λ b. cond b (c.loop-b.held.items ++ c.in-Some.b ∷ []) c.loop-b.held.items) (ap is_ok c.in_ok-push.was));
+      inside = inside_next c.args.text.now c.loop-b.held.items c.push.new.self.items c.loop-b.n c.in-Some.length c.in-Some.b c.loop-b.invariant.within c.loop-b.invariant.inside piece
+          (c.push.ensures.items ∙ ap (λ b. cond b (c.loop-b.held.items ++ c.in-Some.b ∷ []) c.loop-b.held.items) (ap is_ok c.in_ok-push.was));
     }

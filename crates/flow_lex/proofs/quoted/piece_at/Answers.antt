@@ -15,4 +15,5 @@ pub returns-in_default-hex_digit-2 : goal.returns-in_default-hex_digit-2
 returns-in_default-hex_digit-2 c = no_code c.args.text.now (sym c.if-is_plain.ensures) (sym c.in_default.ensures) (inr (sym c.in_default-hex_digit-2.ensures.value))
 
 pub returns : goal.returns
-returns c = code_piece c.args.text.now c.in-Some-hex_digit.high c.in-Some-hex_digit-2.low (omega arith) (omega arith) (omega arith) c.in-Some-hex_digit.ensures.value c.in-Some-hex_digit-2.ensures.value
+returns c = code_piece c.args.text.now c.in-Some-hex_digit.high c.in-Some-hex_digit-2.low (omega arith) (omega arith)
+    (omega arith) c.in-Some-hex_digit.ensures.value c.in-Some-hex_digit-2.ensures.value

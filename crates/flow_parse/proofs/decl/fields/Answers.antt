@@ -12,7 +12,8 @@ pub items-init : goal.items-init
 items-init c =
     let t = c.args.tokens.now in
     let q = c.in_ok-push.ensures.items ∙ ap (λ z. z ++ c.in_ok-first.first ∷ []) c.new-fields.ensures.items in
-    let l = fields_init c.args.limits t c.args.at c.in_ok-first.at c.in_ok-at.at _ c.push.new.self.items c.in_ok-first.first c.requires.within q c.in_ok-first.ensures.reads (c.in_ok-at.ensures.reads c.args.limits) in
+    let l = fields_init c.args.limits t c.args.at c.in_ok-first.at c.in_ok-at.at _ c.push.new.self.items c.in_ok-first.first c.requires.within q c.in_ok-first.ensures.reads
+    (c.in_ok-at.ensures.reads c.args.limits) in
     (omega (arith, c.in_ok-first.ensures.moves.0, c.in_ok-at.ensures.moves.0), c.in_ok-at.ensures.moves.1, omega (arith, c.in_ok-first.ensures.few), l)
 
 pub items-preserved : goal.items-preserved
@@ -21,7 +22,8 @@ items-preserved c =
     let i = c.items.invariant in
     let n = c.items.before + 1 in
     let e : n + 1 ≡ suc n = omega arith in
-    let l = fields_step c.args.limits s c.args.at c.items.at c.in_ok-field.to c.in_ok-at-2.at n (n + 1) _ c.items.fields.items c.push-in-items.new.self.items c.in_ok-field.field c.in_ok-push-2.ensures.items e (λ x. not_true (c.items-test.ensures.sign.1 x)) i.3 c.in_ok-field.ensures.reads (c.in_ok-at-2.ensures.reads c.args.limits) in
+    let l = fields_step c.args.limits s c.args.at c.items.at c.in_ok-field.to c.in_ok-at-2.at n (n + 1) _ c.items.fields.items c.push-in-items.new.self.items c.in_ok-field.field
+    c.in_ok-push-2.ensures.items e (λ x. not_true (c.items-test.ensures.sign.1 x)) i.3 c.in_ok-field.ensures.reads (c.in_ok-at-2.ensures.reads c.args.limits) in
     (omega (arith, i.0, c.in_ok-field.ensures.moves.0, c.in_ok-at-2.ensures.moves.0), c.in_ok-at-2.ensures.moves.1, omega (arith, c.in_ok-field.ensures.few), l)
 
 pub returns-clause-reads : goal.returns-clause-reads
@@ -40,7 +42,8 @@ pub returns-in_err-at-clause-reads : goal.returns-in_err-at-clause-reads
 returns-in_err-at-clause-reads c =
     let t = c.args.tokens.now in
     let p = err_from_is_err_and c.from_residual-in_err-at.result c.from_residual-in_err-at.ensures.1 in
-    rw (p.1, p.2) (first_fails c.args.limits t (semicolon_link 2) (then_reads c.args.limits t.spots.items (field_link 1) (fields_left c.args.limits t c.args.at c.requires.within) c.in_ok-first.ensures.reads) _ (c.in_err-at.ensures.reads c.args.limits))
+    rw (p.1, p.2) (first_fails c.args.limits t (semicolon_link 2) (then_reads c.args.limits t.spots.items (field_link 1)
+    (fields_left c.args.limits t c.args.at c.requires.within) c.in_ok-first.ensures.reads) _ (c.in_err-at.ensures.reads c.args.limits))
 
 pub returns-in_err-field-clause-reads : goal.returns-in_err-field-clause-reads
 returns-in_err-field-clause-reads c =
@@ -54,4 +57,5 @@ returns-in_err-at-2-clause-reads c =
     let t = c.args.tokens.now in
     let l = (more_fields_left c.args.limits t.spots.items (λ x. not_true (c.items-test.ensures.sign.1 x)) c.items.invariant.3) in
     let p = err_from_is_err_and c.from_residual-in_err-at-2.result c.from_residual-in_err-at-2.ensures.1 in
-    rw (p.1, p.2) (first_fails c.args.limits t (semicolon_link (suc (c.items.before + 1))) (then_reads c.args.limits t.spots.items (field_link (c.items.before + 1)) l c.in_ok-field.ensures.reads) _ (c.in_err-at-2.ensures.reads c.args.limits))
+    rw (p.1, p.2) (first_fails c.args.limits t (semicolon_link (suc (c.items.before + 1))) (then_reads c.args.limits t.spots.items (field_link (c.items.before + 1)) l c.in_ok-field.ensures.reads) _
+    (c.in_err-at-2.ensures.reads c.args.limits))

@@ -23,7 +23,8 @@ items-preserved c =
     let e : n + 1 ≡ suc n = omega arith in
     let h : c.items.at < length s = omega (arith, c.items-test.true, c.len-in-items.ensures) in
     let x = some_at s c.items.at h in
-    let l = decls_step OF_PROGRAMS s c.items.at c.in_ok-next.to n (n + 1) c.items.decls.items c.push.new.self.items c.in_ok-next.next c.in_ok-push.ensures.items e c.if-number-gt-DECLARATIONS.false x.0 x.1 i.2 c.in_ok-next.ensures.reads in
+    let l = decls_step OF_PROGRAMS s c.items.at c.in_ok-next.to n (n + 1) c.items.decls.items c.push.new.self.items c.in_ok-next.next c.in_ok-push.ensures.items e c.if-number-gt-DECLARATIONS.false x.0
+    x.1 i.2 c.in_ok-next.ensures.reads in
     (c.in_ok-next.ensures.moves.1, omega (arith, c.if-number-gt-DECLARATIONS.false), l)
 
 pub returns-then-len-gt-TOKENS : goal.returns-then-len-gt-TOKENS
@@ -40,7 +41,8 @@ returns-then-number-gt-DECLARATIONS c =
     let t = c.args.tokens.now in
     let h : c.items.at < length t.spots.items = omega (arith, c.items-test.true, c.len-in-items.ensures) in
     let x = some_at t.spots.items c.items.at h in
-    rw c.refused-then-number-gt-DECLARATIONS.ensures (decl_beyond t (omega (arith, c.if-len-gt-TOKENS.false, c.len.ensures)) c.items.invariant.2 x.0 x.1 c.if-number-gt-DECLARATIONS.true h (c.if-not-begins_decl.ensures.0 refl))
+    rw c.refused-then-number-gt-DECLARATIONS.ensures (decl_beyond t (omega (arith, c.if-len-gt-TOKENS.false, c.len.ensures)) c.items.invariant.2 x.0 x.1 c.if-number-gt-DECLARATIONS.true h
+    (c.if-not-begins_decl.ensures.0 refl))
 
 pub returns-in_err-next : goal.returns-in_err-next
 returns-in_err-next c =
@@ -52,5 +54,8 @@ returns-in_err-next c =
 pub returns : goal.returns
 returns c =
     let t = c.args.tokens.now in
-    let h : length t.spots.items ≤ c.items.at = omega (arith, c.items-test.false, c.len-in-items.ensures) in
-    (omega (arith, c.if-len-gt-TOKENS.false, c.len.ensures), program_derived t c.items.at _ h (decls_done OF_PROGRAMS t.spots.items c.items.at c.items.number c.items.decls.items h c.items.invariant.2))
+    let h : length t.spots.items ≤ c.items.at = omega (arith, c.items-test.false, c.len-in-items.ensures) in (
+      omega (arith, c.if-len-gt-TOKENS.false, c.len.ensures),
+      program_derived t c.items.at _ h
+          (decls_done OF_PROGRAMS t.spots.items c.items.at c.items.number c.items.decls.items h c.items.invariant.2),
+    )

@@ -21,7 +21,8 @@ pub returns-in_err-value-clause-reads : goal.returns-in_err-value-clause-reads
 returns-in_err-value-clause-reads c = λ limits.
     let t = c.args.tokens.now in
     let e = c.if-not-is_sign.ensures.sign.0 refl in
-    let l = then_reads limits t.spots.items (value_link (token.Sign sign.Assign) (suc c.args.depth)) (value_left limits t c.args.at c.args.depth c.args.place (into_of c.args.into) c.requires.within e) (tok_reads limits t c.args.at (token.Sign sign.Assign) e) in
+    let l = then_reads limits t.spots.items (value_link (token.Sign sign.Assign) (suc c.args.depth)) (value_left limits t c.args.at c.args.depth c.args.place (into_of c.args.into) c.requires.within e)
+    (tok_reads limits t c.args.at (token.Sign sign.Assign) e) in
     let p = err_from_is_err_and c.from_residual.result c.from_residual.ensures.1 in
     rw (p.1, p.2) (fails limits t l c.in_err-value.field-0.0 (deeper_fails limits (ExprRule 0) ExprEnds t (c.args.at + 1) c.args.depth c.in_err-value.field-0.0 (c.in_err-value.ensures.reads limits)))
 
@@ -29,5 +30,6 @@ pub returns-clause-reads : goal.returns-clause-reads
 returns-clause-reads c = λ limits.
     let t = c.args.tokens.now in
     let e = c.if-not-is_sign.ensures.sign.0 refl in
-    let l = then_reads limits t.spots.items (value_link (token.Sign sign.Assign) (suc c.args.depth)) (value_left limits t c.args.at c.args.depth c.args.place (into_of c.args.into) c.requires.within e) (tok_reads limits t c.args.at (token.Sign sign.Assign) e) in
+    let l = then_reads limits t.spots.items (value_link (token.Sign sign.Assign) (suc c.args.depth)) (value_left limits t c.args.at c.args.depth c.args.place (into_of c.args.into) c.requires.within e)
+    (tok_reads limits t c.args.at (token.Sign sign.Assign) e) in
     rw (c.declare-2.ensures.is End) (done limits t.spots.items l (deeper limits (ExprRule 0) c.args.depth (c.in_ok-value.ensures.reads limits)))

@@ -10,7 +10,9 @@ use Rattle.flow_parse.proofs.simple.more_names.Given as goal
 
 abbrev pub invariant-names : goal.invariant-names
 invariant-names l = (l.fn.at ≤ l.at) × (l.at ≤ length l.tokens.spots.items)
-    × (before : List Ident) × (last : Ident) × (l.path.items ≡ before ++ last ∷ []) × ((limits : Limits) → Leaves limits (MoreNames l.fn.first) (NotBefore (token.Sign sign.Dot)) (MoreNames last) (NotBefore (token.Sign sign.Dot)) (λ ys. before ++ ys) l.tokens.spots.items l.fn.at l.at)
+    × (before : List Ident) × (last : Ident) × (l.path.items ≡ before ++ last ∷ [])
+    × ((limits : Limits) → Leaves limits (MoreNames l.fn.first) (NotBefore (token.Sign sign.Dot)) (MoreNames last) (NotBefore (token.Sign sign.Dot))
+    (λ ys. before ++ ys) l.tokens.spots.items l.fn.at l.at)
 
 abbrev pub decreases-names : goal.decreases-names
 decreases-names l = length l.tokens.spots.items - l.at

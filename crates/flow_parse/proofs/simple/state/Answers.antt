@@ -6,13 +6,15 @@ use Rattle.flow_parse.proofs.Openings.{state_fails}
 use Rattle.flow_parse.proofs.simple.state.Goals as goal
 
 pub returns-then-not-is_word-clause-reads : goal.returns-then-not-is_word-clause-reads
-returns-then-not-is_word-clause-reads c = no_state_reads c.args.limits c.args.tokens.now c.args.at c.args.actor (counts_of c.args.counts) c.requires.within (λ e. not_true (c.if-not-is_word.ensures.word.1 e))
+returns-then-not-is_word-clause-reads c = no_state_reads c.args.limits c.args.tokens.now c.args.at c.args.actor (counts_of c.args.counts) c.requires.within
+    (λ e. not_true (c.if-not-is_word.ensures.word.1 e))
 
 pub returns-then-not-actor-clause-reads : goal.returns-then-not-actor-clause-reads
 returns-then-not-actor-clause-reads c = rw c.if-not-actor.true (free_state_reads c.args.limits c.args.tokens.now c.args.at (counts_of c.args.counts) (c.if-not-is_word.ensures.word.0 refl))
 
 pub returns-then-counts-limits-clause-reads : goal.returns-then-counts-limits-clause-reads
-returns-then-counts-limits-clause-reads c = rw (c.refused.ensures, c.if-not-actor.false) (state_fails c.args.limits c.args.tokens.now c.args.at (counts_of c.args.counts) c.requires.within (c.if-not-is_word.ensures.word.0 refl) c.if-counts-limits.true)
+returns-then-counts-limits-clause-reads c = rw (c.refused.ensures, c.if-not-actor.false)
+    (state_fails c.args.limits c.args.tokens.now c.args.at (counts_of c.args.counts) c.requires.within (c.if-not-is_word.ensures.word.0 refl) c.if-counts-limits.true)
 
 pub returns-clause-reads : goal.returns-clause-reads
 returns-clause-reads c = rw c.if-not-actor.false (state_reads c.args.limits c.args.tokens.now c.args.at (counts_of c.args.counts) (c.if-not-is_word.ensures.word.0 refl) c.if-counts-limits.false)

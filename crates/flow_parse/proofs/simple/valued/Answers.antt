@@ -21,28 +21,36 @@ pub returns-then-begins_wait-clause-reads : goal.returns-then-begins_wait-clause
 returns-then-begins_wait-clause-reads c = λ limits.
     let t = c.args.tokens.now in
     let e = c.if-not-is_sign.ensures.sign.0 refl in
-    let g = then_reads limits t.spots.items (given_link c.args.depth c.args.place (into_of c.args.into)) (given_left limits t c.args.at c.args.depth c.args.place (into_of c.args.into) c.requires.within e) (tok_reads limits t c.args.at (token.Sign sign.Assign) e) in
-    rw (c.wait.ensures.is End) (done limits t.spots.items (given_wait limits t.spots.items c.args.depth c.args.place (into_of c.args.into) g (c.if-begins_wait.ensures.0 refl)) (c.in_ok-next.ensures.reads limits))
+    let g = then_reads limits t.spots.items (given_link c.args.depth c.args.place (into_of c.args.into))
+    (given_left limits t c.args.at c.args.depth c.args.place (into_of c.args.into) c.requires.within e) (tok_reads limits t c.args.at (token.Sign sign.Assign) e) in
+    rw (c.wait.ensures.is End) (done limits t.spots.items (given_wait limits t.spots.items c.args.depth c.args.place (into_of c.args.into) g (c.if-begins_wait.ensures.0 refl))
+    (c.in_ok-next.ensures.reads limits))
 
 pub returns-in_err-next-clause-reads : goal.returns-in_err-next-clause-reads
 returns-in_err-next-clause-reads c = λ limits.
     let t = c.args.tokens.now in
     let e = c.if-not-is_sign.ensures.sign.0 refl in
-    let g = then_reads limits t.spots.items (given_link c.args.depth c.args.place (into_of c.args.into)) (given_left limits t c.args.at c.args.depth c.args.place (into_of c.args.into) c.requires.within e) (tok_reads limits t c.args.at (token.Sign sign.Assign) e) in
+    let g = then_reads limits t.spots.items (given_link c.args.depth c.args.place (into_of c.args.into))
+    (given_left limits t c.args.at c.args.depth c.args.place (into_of c.args.into) c.requires.within e) (tok_reads limits t c.args.at (token.Sign sign.Assign) e) in
     let p = err_from_is_err_and c.from_residual.result c.from_residual.ensures.1 in
-    rw (p.1, p.2) (fails limits t (given_wait limits t.spots.items c.args.depth c.args.place (into_of c.args.into) g (c.if-begins_wait.ensures.0 refl)) c.in_err-next.field-0.0 (c.in_err-next.ensures.reads limits))
+    rw (p.1, p.2) (fails limits t (given_wait limits t.spots.items c.args.depth c.args.place (into_of c.args.into) g (c.if-begins_wait.ensures.0 refl)) c.in_err-next.field-0.0
+    (c.in_err-next.ensures.reads limits))
 
 pub returns-in_err-value-clause-reads : goal.returns-in_err-value-clause-reads
 returns-in_err-value-clause-reads c = λ limits.
     let t = c.args.tokens.now in
     let e = c.if-not-is_sign.ensures.sign.0 refl in
-    let g = then_reads limits t.spots.items (given_link c.args.depth c.args.place (into_of c.args.into)) (given_left limits t c.args.at c.args.depth c.args.place (into_of c.args.into) c.requires.within e) (tok_reads limits t c.args.at (token.Sign sign.Assign) e) in
+    let g = then_reads limits t.spots.items (given_link c.args.depth c.args.place (into_of c.args.into))
+    (given_left limits t c.args.at c.args.depth c.args.place (into_of c.args.into) c.requires.within e) (tok_reads limits t c.args.at (token.Sign sign.Assign) e) in
     let p = err_from_is_err_and c.from_residual-in_err-value.result c.from_residual-in_err-value.ensures.1 in
-    rw (p.1, p.2) (fails limits t (given_value limits t.spots.items c.args.depth c.args.place (into_of c.args.into) g (λ h. not_true (c.if-begins_wait.ensures.1 h))) c.in_err-value.field-0.0 (deeper_fails limits (ExprRule 0) ExprEnds t (c.args.at + 1) c.args.depth c.in_err-value.field-0.0 (c.in_err-value.ensures.reads limits)))
+    rw (p.1, p.2) (fails limits t (given_value limits t.spots.items c.args.depth c.args.place (into_of c.args.into) g (λ h. not_true (c.if-begins_wait.ensures.1 h))) c.in_err-value.field-0.0
+    (deeper_fails limits (ExprRule 0) ExprEnds t (c.args.at + 1) c.args.depth c.in_err-value.field-0.0 (c.in_err-value.ensures.reads limits)))
 
 pub returns-clause-reads : goal.returns-clause-reads
 returns-clause-reads c = λ limits.
     let t = c.args.tokens.now in
     let e = c.if-not-is_sign.ensures.sign.0 refl in
-    let g = then_reads limits t.spots.items (given_link c.args.depth c.args.place (into_of c.args.into)) (given_left limits t c.args.at c.args.depth c.args.place (into_of c.args.into) c.requires.within e) (tok_reads limits t c.args.at (token.Sign sign.Assign) e) in
-    rw (c.declare-2.ensures.is End) (done limits t.spots.items (given_value limits t.spots.items c.args.depth c.args.place (into_of c.args.into) g (λ h. not_true (c.if-begins_wait.ensures.1 h))) (deeper limits (ExprRule 0) c.args.depth (c.in_ok-value.ensures.reads limits)))
+    let g = then_reads limits t.spots.items (given_link c.args.depth c.args.place (into_of c.args.into))
+    (given_left limits t c.args.at c.args.depth c.args.place (into_of c.args.into) c.requires.within e) (tok_reads limits t c.args.at (token.Sign sign.Assign) e) in
+    rw (c.declare-2.ensures.is End) (done limits t.spots.items (given_value limits t.spots.items c.args.depth c.args.place (into_of c.args.into) g (λ h. not_true (c.if-begins_wait.ensures.1 h)))
+    (deeper limits (ExprRule 0) c.args.depth (c.in_ok-value.ensures.reads limits)))

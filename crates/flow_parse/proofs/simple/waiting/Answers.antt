@@ -9,13 +9,15 @@ use Rattle.flow_parse.proofs.simple.waiting.Goals as goal
 pub returns-then-begins_wait-clause-reads : goal.returns-then-begins_wait-clause-reads
 returns-then-begins_wait-clause-reads c =
     let t = c.args.tokens.now in
-    done c.args.around.limits t.spots.items (plain_waiting c.args.around.limits t c.args.at c.args.around.actor c.args.around.depth (counts_of c.args.around.counts) c.requires.within (c.if-begins_wait.ensures.0 refl)) (c.in_ok-next.ensures.reads c.args.around.limits)
+    done c.args.around.limits t.spots.items (plain_waiting c.args.around.limits t c.args.at c.args.around.actor c.args.around.depth (counts_of c.args.around.counts) c.requires.within
+    (c.if-begins_wait.ensures.0 refl)) (c.in_ok-next.ensures.reads c.args.around.limits)
 
 pub returns-in_err-next-clause-reads : goal.returns-in_err-next-clause-reads
 returns-in_err-next-clause-reads c =
     let t = c.args.tokens.now in
     let p = err_from_is_err_and c.from_residual.result c.from_residual.ensures.1 in
-    rw (p.1, p.2) (fails c.args.around.limits t (plain_waiting c.args.around.limits t c.args.at c.args.around.actor c.args.around.depth (counts_of c.args.around.counts) c.requires.within (c.if-begins_wait.ensures.0 refl)) c.in_err-next.field-0.0 (c.in_err-next.ensures.reads c.args.around.limits))
+    rw (p.1, p.2) (fails c.args.around.limits t (plain_waiting c.args.around.limits t c.args.at c.args.around.actor c.args.around.depth (counts_of c.args.around.counts) c.requires.within
+    (c.if-begins_wait.ensures.0 refl)) c.in_err-next.field-0.0 (c.in_err-next.ensures.reads c.args.around.limits))
 
 pub returns-in_err-read-clause-reads : goal.returns-in_err-read-clause-reads
 returns-in_err-read-clause-reads c =

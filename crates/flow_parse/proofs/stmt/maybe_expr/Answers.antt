@@ -23,12 +23,14 @@ returns-in_err-expr-clause-reads c = λ limits.
 pub returns-in_err-to-clause-reads : goal.returns-in_err-to-clause-reads
 returns-in_err-to-clause-reads c = λ limits.
     let t = c.args.tokens.now in
-    let l = then_reads limits t.spots.items (value_semicolon c.args.depth) (some_expr_left limits t c.args.at c.args.depth c.requires.within (λ e. not_true (c.if-is_sign.ensures.sign.1 e))) (c.in_ok-expr.ensures.reads limits) in
+    let l = then_reads limits t.spots.items (value_semicolon c.args.depth) (some_expr_left limits t c.args.at c.args.depth c.requires.within (λ e. not_true (c.if-is_sign.ensures.sign.1 e)))
+    (c.in_ok-expr.ensures.reads limits) in
     let p = err_from_is_err_and c.from_residual-in_err-to.result c.from_residual-in_err-to.ensures.1 in
     rw (p.1, p.2) (fails limits t l c.in_err-to.field-0.0 (c.in_err-to.ensures.reads limits))
 
 pub returns-clause-reads : goal.returns-clause-reads
 returns-clause-reads c = λ limits.
     let t = c.args.tokens.now in
-    let l = then_reads limits t.spots.items (value_semicolon c.args.depth) (some_expr_left limits t c.args.at c.args.depth c.requires.within (λ e. not_true (c.if-is_sign.ensures.sign.1 e))) (c.in_ok-expr.ensures.reads limits) in
+    let l = then_reads limits t.spots.items (value_semicolon c.args.depth) (some_expr_left limits t c.args.at c.args.depth c.requires.within (λ e. not_true (c.if-is_sign.ensures.sign.1 e)))
+    (c.in_ok-expr.ensures.reads limits) in
     done limits t.spots.items l (c.in_ok-to.ensures.reads limits)

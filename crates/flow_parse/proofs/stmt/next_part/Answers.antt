@@ -30,7 +30,8 @@ returns-then-not-is_name-clause-reads c =
     let t = c.args.tokens.now in
     let k = counts_of c.args.counts in
     let l = next_left c.args.limits t c.args.at c.args.depth k c.requires.within (λ e. not_true (c.if-is_sign.ensures.sign.1 e)) in
-    rw c.refused.ensures (first_fails c.args.limits t step_close l (Refused (rule.S 5) (place_at t c.args.at)) (step_none c.args.limits t c.args.at c.args.depth k (λ e. not_true (c.if-not-is_name.ensures.name.1 e))))
+    rw c.refused.ensures (first_fails c.args.limits t step_close l (Refused (rule.S 5) (place_at t c.args.at))
+    (step_none c.args.limits t c.args.at c.args.depth k (λ e. not_true (c.if-not-is_name.ensures.name.1 e))))
 
 pub returns-in_err-counts-clause-reads : goal.returns-in_err-counts-clause-reads
 returns-in_err-counts-clause-reads c =
@@ -47,7 +48,8 @@ returns-in_err-stmt-clause-reads c =
     let k = counts_of c.args.counts in
     let d = c.args.depth in
     let l = next_left c.args.limits t c.args.at d k c.requires.within (λ e. not_true (c.if-is_sign.ensures.sign.1 e)) in
-    let b = begun_fails c.args.limits (Assignment d) ExprEnds t c.args.at k d c.requires.within c.in_ok-counts.ensures.within.1 c.in_ok-counts.ensures.within.0 c.in_err-stmt.field-0.0 (c.in_err-stmt.ensures.reads c.args.limits) in
+    let b = begun_fails c.args.limits (Assignment d) ExprEnds t c.args.at k d c.requires.within c.in_ok-counts.ensures.within.1 c.in_ok-counts.ensures.within.0 c.in_err-stmt.field-0.0
+    (c.in_err-stmt.ensures.reads c.args.limits) in
     let p = err_from_is_err_and c.from_residual-in_err-stmt.result c.from_residual-in_err-stmt.ensures.1 in
     rw (p.1, p.2) (first_fails c.args.limits t step_close l c.in_err-stmt.field-0.0 b)
 
@@ -56,7 +58,8 @@ returns-in_err-to-clause-reads c =
     let t = c.args.tokens.now in
     let k = counts_of c.args.counts in
     let d = c.args.depth in
-    let b = begun_reads c.args.limits (Assignment d) ExprEnds t c.args.at k d c.requires.within c.in_ok-counts.ensures.within.1 c.in_ok-counts.ensures.within.0 (stmt_of c.in_ok-stmt.stmt End) c.in_ok-stmt.at (c.in_ok-stmt.ensures.reads c.args.limits) in
+    let b = begun_reads c.args.limits (Assignment d) ExprEnds t c.args.at k d c.requires.within c.in_ok-counts.ensures.within.1 c.in_ok-counts.ensures.within.0
+    (stmt_of c.in_ok-stmt.stmt End) c.in_ok-stmt.at (c.in_ok-stmt.ensures.reads c.args.limits) in
     let l = then_reads c.args.limits t.spots.items step_close (next_left c.args.limits t c.args.at d k c.requires.within (λ e. not_true (c.if-is_sign.ensures.sign.1 e))) b in
     let p = err_from_is_err_and c.from_residual-in_err-to.result c.from_residual-in_err-to.ensures.1 in
     rw (p.1, p.2) (fails c.args.limits t l c.in_err-to.field-0.0 (c.in_err-to.ensures.reads c.args.limits))
@@ -66,7 +69,8 @@ returns-clause-reads c =
     let t = c.args.tokens.now in
     let k = counts_of c.args.counts in
     let d = c.args.depth in
-    let b = begun_reads c.args.limits (Assignment d) ExprEnds t c.args.at k d c.requires.within c.in_ok-counts.ensures.within.1 c.in_ok-counts.ensures.within.0 (stmt_of c.in_ok-stmt.stmt End) c.in_ok-stmt.at (c.in_ok-stmt.ensures.reads c.args.limits) in
+    let b = begun_reads c.args.limits (Assignment d) ExprEnds t c.args.at k d c.requires.within c.in_ok-counts.ensures.within.1 c.in_ok-counts.ensures.within.0
+    (stmt_of c.in_ok-stmt.stmt End) c.in_ok-stmt.at (c.in_ok-stmt.ensures.reads c.args.limits) in
     let l = then_reads c.args.limits t.spots.items step_close (next_left c.args.limits t c.args.at d k c.requires.within (λ e. not_true (c.if-is_sign.ensures.sign.1 e))) b in
     let x = done c.args.limits t.spots.items l (c.in_ok-to.ensures.reads c.args.limits) in
     let y = subst (λ s. Reads c.args.limits (NextPart d k) Any t.spots.items c.args.at (stmt_of s End, one_statement k) c.in_ok-to.to) (sym c.in_ok-part.ensures.is) x in

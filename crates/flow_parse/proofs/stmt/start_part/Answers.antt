@@ -23,7 +23,8 @@ pub returns-then-is_sign-clause-reads : goal.returns-then-is_sign-clause-reads
 returns-then-is_sign-clause-reads c =
     let t = c.args.tokens.now in
     let e = c.if-is_sign.ensures.sign.0 refl in
-    done c.args.around.limits t.spots.items (no_start c.args.around.limits t c.args.at c.args.around.actor c.args.around.depth (counts_of c.args.around.counts) c.requires.within e) (tok_reads c.args.around.limits t c.args.at (token.Sign sign.Semicolon) e)
+    done c.args.around.limits t.spots.items (no_start c.args.around.limits t c.args.at c.args.around.actor c.args.around.depth (counts_of c.args.around.counts) c.requires.within e)
+    (tok_reads c.args.around.limits t c.args.at (token.Sign sign.Semicolon) e)
 
 pub returns-then-not-begins_init-clause-reads : goal.returns-then-not-begins_init-clause-reads
 returns-then-not-begins_init-clause-reads c =
@@ -32,7 +33,8 @@ returns-then-not-begins_init-clause-reads c =
     let a = c.args.around.actor in
     let d = c.args.around.depth in
     let l = start_left c.args.around.limits t c.args.at a d k c.requires.within (λ e. not_true (c.if-is_sign.ensures.sign.1 e)) in
-    rw c.refused.ensures (first_fails c.args.around.limits t init_semicolon l (Refused (rule.S 5) (place_at t c.args.at)) (init_none c.args.around.limits t c.args.at a d k (λ e. not_true (c.if-not-begins_init.ensures.begins.1 e))))
+    rw c.refused.ensures (first_fails c.args.around.limits t init_semicolon l (Refused (rule.S 5) (place_at t c.args.at))
+    (init_none c.args.around.limits t c.args.at a d k (λ e. not_true (c.if-not-begins_init.ensures.begins.1 e))))
 
 pub returns-in_err-counts-clause-reads : goal.returns-in_err-counts-clause-reads
 returns-in_err-counts-clause-reads c =
@@ -41,7 +43,8 @@ returns-in_err-counts-clause-reads c =
     let a = c.args.around.actor in
     let d = c.args.around.depth in
     let l = start_left c.args.around.limits t c.args.at a d k c.requires.within (λ e. not_true (c.if-is_sign.ensures.sign.1 e)) in
-    let b = init_beyond c.args.around.limits t c.args.at a d k c.if-not-begins_init.ensures.within (c.if-not-begins_init.ensures.begins.0 refl) c.in_err-counts.field-0.0 c.in_err-counts.ensures.beyond in
+    let b = init_beyond c.args.around.limits t c.args.at a d k c.if-not-begins_init.ensures.within (c.if-not-begins_init.ensures.begins.0 refl) c.in_err-counts.field-0.0 c.in_err-counts.ensures.beyond
+    in
     let p = err_from_is_err_and c.from_residual.result c.from_residual.ensures.1 in
     rw (p.1, p.2) (first_fails c.args.around.limits t init_semicolon l c.in_err-counts.field-0.0 b)
 
@@ -54,7 +57,8 @@ returns-in_err-read-clause-reads c =
     let l = start_left c.args.around.limits t c.args.at a d k c.requires.within (λ e. not_true (c.if-is_sign.ensures.sign.1 e)) in
     let e = c.in_err-read.field-0.0 in
     let i = moved_fails c.args.around.limits (Init a d) (Before (token.Sign sign.Semicolon)) t c.args.at e c.in_ok-counts.ensures.one c.in_err-read.ensures.reads in
-    let b = begun_fails c.args.around.limits (Init a d (one_statement k)) (Before (token.Sign sign.Semicolon)) t c.args.at k d c.requires.within c.in_ok-counts.ensures.within.1 c.in_ok-counts.ensures.within.0 e i in
+    let b = begun_fails c.args.around.limits (Init a d (one_statement k)) (Before (token.Sign sign.Semicolon)) t c.args.at k d c.requires.within c.in_ok-counts.ensures.within.1
+    c.in_ok-counts.ensures.within.0 e i in
     let p = err_from_is_err_and c.from_residual-in_err-read.result c.from_residual-in_err-read.ensures.1 in
     rw (p.1, p.2) (first_fails c.args.around.limits t init_semicolon l e b)
 
@@ -65,7 +69,8 @@ returns-in_err-to-clause-reads c =
     let a = c.args.around.actor in
     let d = c.args.around.depth in
     let l = start_left c.args.around.limits t c.args.at a d k c.requires.within (λ e. not_true (c.if-is_sign.ensures.sign.1 e)) in
-    let b = begun_reads c.args.around.limits (Init a d (one_statement k)) (Before (token.Sign sign.Semicolon)) t c.args.at k d c.requires.within c.in_ok-counts.ensures.within.1 c.in_ok-counts.ensures.within.0 (stmt_out c.in_ok-read.read) c.in_ok-read.read.to (moved c.args.around.limits (Init a d) c.in_ok-counts.ensures.one c.in_ok-read.ensures.reads) in
+    let b = begun_reads c.args.around.limits (Init a d (one_statement k)) (Before (token.Sign sign.Semicolon)) t c.args.at k d c.requires.within c.in_ok-counts.ensures.within.1
+    c.in_ok-counts.ensures.within.0 (stmt_out c.in_ok-read.read) c.in_ok-read.read.to (moved c.args.around.limits (Init a d) c.in_ok-counts.ensures.one c.in_ok-read.ensures.reads) in
     let m = then_reads c.args.around.limits t.spots.items init_semicolon l b in
     let p = err_from_is_err_and c.from_residual-in_err-to.result c.from_residual-in_err-to.ensures.1 in
     rw (p.1, p.2) (fails c.args.around.limits t m c.in_err-to.field-0.0 (c.in_err-to.ensures.reads c.args.around.limits))
@@ -77,6 +82,8 @@ returns-clause-reads c =
     let a = c.args.around.actor in
     let d = c.args.around.depth in
     let l = start_left c.args.around.limits t c.args.at a d k c.requires.within (λ e. not_true (c.if-is_sign.ensures.sign.1 e)) in
-    let b = begun_reads c.args.around.limits (Init a d (one_statement k)) (Before (token.Sign sign.Semicolon)) t c.args.at k d c.requires.within c.in_ok-counts.ensures.within.1 c.in_ok-counts.ensures.within.0 (stmt_out c.in_ok-read.read) c.in_ok-read.read.to (moved c.args.around.limits (Init a d) c.in_ok-counts.ensures.one c.in_ok-read.ensures.reads) in
+    let b = begun_reads c.args.around.limits (Init a d (one_statement k)) (Before (token.Sign sign.Semicolon)) t c.args.at k d c.requires.within c.in_ok-counts.ensures.within.1
+    c.in_ok-counts.ensures.within.0 (stmt_out c.in_ok-read.read) c.in_ok-read.read.to (moved c.args.around.limits (Init a d) c.in_ok-counts.ensures.one c.in_ok-read.ensures.reads) in
     let m = then_reads c.args.around.limits t.spots.items init_semicolon l b in
-    subst (λ s. Reads c.args.around.limits (StartPart a d k) Any t.spots.items c.args.at (stmt_of s End, counts_of c.in_ok-read.read.counts) c.in_ok-to.to) (sym c.in_ok-part.ensures.is) (done c.args.around.limits t.spots.items m (c.in_ok-to.ensures.reads c.args.around.limits))
+    subst (λ s. Reads c.args.around.limits (StartPart a d k) Any t.spots.items c.args.at (stmt_of s End, counts_of c.in_ok-read.read.counts) c.in_ok-to.to) (sym c.in_ok-part.ensures.is)
+    (done c.args.around.limits t.spots.items m (c.in_ok-to.ensures.reads c.args.around.limits))

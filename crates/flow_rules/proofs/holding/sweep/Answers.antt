@@ -16,13 +16,15 @@ loop-number-preserved c =
       | then-not-is_marked+then-uses_hold w ↦
           subst (λ m. Sweeping us old c.if-not-is_marked.marks.items (i + 1) m) (sym w.more-is)
           (sweep_marks us old bs c.if-not-is_marked.marks.items i c.loop-number.more u c.loop-number-test.true c.index-uses-number.is (is_marked ∙ w.if-not-is_marked.true)
-          (ap (λ l. uses_hold (marked l) u) (sym w.deref-then-not-is_marked.ensures.value) ∙ sym w.uses_hold.ensures ∙ w.if-uses_hold.true) (ap (λ v. v.items) w.marks-is ∙ w.mark.ensures) c.loop-number.invariant)
+          (ap (λ l. uses_hold (marked l) u) (sym w.deref-then-not-is_marked.ensures.value) ∙ sym w.uses_hold.ensures ∙ w.if-uses_hold.true)
+          (ap (λ v. v.items) w.marks-is ∙ w.mark.ensures) c.loop-number.invariant)
       | else-not-is_marked w ↦
           subst (λ m. Sweeping us old c.if-not-is_marked.marks.items (i + 1) m) (sym w.more-is)
           (subst (λ v. Sweeping us old v.items (i + 1) c.loop-number.more) (sym w.marks-is)
           (sweep_passes us old bs i c.loop-number.more u c.loop-number-test.true c.index-uses-number.is
           (elim w.else-not-is_marked.branch [
-            | else-not-is_marked-via-then-not-is_marked+else-uses_hold v ↦ λ e. ap (λ l. uses_hold (marked l) u) (sym v.deref-then-not-is_marked.ensures.value) ∙ sym v.uses_hold.ensures ∙ v.if-uses_hold.false
+            | else-not-is_marked-via-then-not-is_marked+else-uses_hold v ↦ λ e. ap (λ l. uses_hold (marked l) u) (sym v.deref-then-not-is_marked.ensures.value) ∙ sym v.uses_hold.ensures
+                ∙ v.if-uses_hold.false
             | else-not-is_marked-via-else-not-is_marked v ↦ λ e. let both : true ≡ false = sym v.if-not-is_marked.false ∙ sym is_marked ∙ e in cc
           ])
           c.loop-number.invariant))

@@ -12,7 +12,8 @@ pub returns-in_ok-push-in-Some : goal.returns-in_ok-push-in-Some
 returns-in_ok-push-in-Some c = λ g.
     let m = c.args.meanings.now in
     let old = c.args.uses.now in
-    note_found g old (record { direct = old.direct; records = c.push.new.self }) c.in-Some.number (position (λ k. bytes_eq c.bytes.result.now k.now) (keys m)) c.in-Some.ensures.index refl c.in_ok-push-in-Some.ensures.items
+    note_found g old (record { direct = old.direct; records = c.push.new.self }) c.in-Some.number (position (λ k. bytes_eq c.bytes.result.now k.now) (keys m)) c.in-Some.ensures.index refl
+    c.in_ok-push-in-Some.ensures.items
     ∙ ap (λ x. uses_hold g old || numbered m g x) c.bytes.ensures.bytes
     ∙ sym (ap (λ t. uses_hold g old || holds_by (numbered m g) t) (is_named c.args.ty.now c.in-Named.name c.in-Named.is))
 

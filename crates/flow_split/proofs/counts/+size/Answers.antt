@@ -79,25 +79,29 @@ pub stmt_size-returns-in-Return-clause-locals : goal.stmt_size-returns-in-Return
 stmt_size-returns-in-Return-clause-locals t c = locals_as c.args.stmt.now _ _ (λ k. is_return c.args.stmt.now _ k c.in-Return.is) (λ k. nothing _ _ (ap (λ n. n.locals) c.none.ensures))
 
 pub stmt_size-returns-in-Throw-clause-blocks : goal.stmt_size-returns-in-Throw-clause-blocks
-stmt_size-returns-in-Throw-clause-blocks t c = blocks_as c.args.tried c.args.stmt.now _ _ (λ k. is_throw c.args.stmt.now _ k c.in-Throw.is) (λ k. nothing _ _ (ap (λ n. n.blocks) c.none-in-Throw.ensures))
+stmt_size-returns-in-Throw-clause-blocks t c = blocks_as c.args.tried c.args.stmt.now _ _ (λ k. is_throw c.args.stmt.now _ k c.in-Throw.is)
+    (λ k. nothing _ _ (ap (λ n. n.blocks) c.none-in-Throw.ensures))
 
 pub stmt_size-returns-in-Throw-clause-locals : goal.stmt_size-returns-in-Throw-clause-locals
 stmt_size-returns-in-Throw-clause-locals t c = locals_as c.args.stmt.now _ _ (λ k. is_throw c.args.stmt.now _ k c.in-Throw.is) (λ k. nothing _ _ (ap (λ n. n.locals) c.none-in-Throw.ensures))
 
 pub stmt_size-returns-in-Assign-clause-blocks : goal.stmt_size-returns-in-Assign-clause-blocks
-stmt_size-returns-in-Assign-clause-blocks t c = blocks_as c.args.tried c.args.stmt.now _ _ (λ k. is_assign c.args.stmt.now _ _ k c.in-Assign.is) (λ k. nothing _ _ (ap (λ n. n.blocks) c.none-in-Assign.ensures))
+stmt_size-returns-in-Assign-clause-blocks t c = blocks_as c.args.tried c.args.stmt.now _ _ (λ k. is_assign c.args.stmt.now _ _ k c.in-Assign.is)
+    (λ k. nothing _ _ (ap (λ n. n.blocks) c.none-in-Assign.ensures))
 
 pub stmt_size-returns-in-Assign-clause-locals : goal.stmt_size-returns-in-Assign-clause-locals
 stmt_size-returns-in-Assign-clause-locals t c = locals_as c.args.stmt.now _ _ (λ k. is_assign c.args.stmt.now _ _ k c.in-Assign.is) (λ k. nothing _ _ (ap (λ n. n.locals) c.none-in-Assign.ensures))
 
 pub stmt_size-returns-in-Modify-clause-blocks : goal.stmt_size-returns-in-Modify-clause-blocks
-stmt_size-returns-in-Modify-clause-blocks t c = blocks_as c.args.tried c.args.stmt.now _ _ (λ k. is_modify c.args.stmt.now _ _ k c.in-Modify.is) (λ k. nothing _ _ (ap (λ n. n.blocks) c.none-in-Modify.ensures))
+stmt_size-returns-in-Modify-clause-blocks t c = blocks_as c.args.tried c.args.stmt.now _ _ (λ k. is_modify c.args.stmt.now _ _ k c.in-Modify.is)
+    (λ k. nothing _ _ (ap (λ n. n.blocks) c.none-in-Modify.ensures))
 
 pub stmt_size-returns-in-Modify-clause-locals : goal.stmt_size-returns-in-Modify-clause-locals
 stmt_size-returns-in-Modify-clause-locals t c = locals_as c.args.stmt.now _ _ (λ k. is_modify c.args.stmt.now _ _ k c.in-Modify.is) (λ k. nothing _ _ (ap (λ n. n.locals) c.none-in-Modify.ensures))
 
 pub stmt_size-returns-in-Call-clause-blocks : goal.stmt_size-returns-in-Call-clause-blocks
-stmt_size-returns-in-Call-clause-blocks t c = blocks_as c.args.tried c.args.stmt.now _ _ (λ k. is_call c.args.stmt.now _ _ k c.in-Call.is) (λ k. nothing _ _ (ap (λ n. n.blocks) c.none-in-Call.ensures))
+stmt_size-returns-in-Call-clause-blocks t c = blocks_as c.args.tried c.args.stmt.now _ _ (λ k. is_call c.args.stmt.now _ _ k c.in-Call.is)
+    (λ k. nothing _ _ (ap (λ n. n.blocks) c.none-in-Call.ensures))
 
 pub stmt_size-returns-in-Call-clause-locals : goal.stmt_size-returns-in-Call-clause-locals
 stmt_size-returns-in-Call-clause-locals t c = locals_as c.args.stmt.now _ _ (λ k. is_call c.args.stmt.now _ _ k c.in-Call.is) (λ k. nothing _ _ (ap (λ n. n.locals) c.none-in-Call.ensures))
@@ -109,10 +113,12 @@ pub stmt_size-returns-in-Break-clause-locals : goal.stmt_size-returns-in-Break-c
 stmt_size-returns-in-Break-clause-locals t c = locals_as c.args.stmt.now _ _ (λ k. is_break c.args.stmt.now k c.in-Break.is) (λ k. nothing _ _ (ap (λ n. n.locals) c.exit_size.ensures))
 
 pub stmt_size-returns-in-Continue-clause-blocks : goal.stmt_size-returns-in-Continue-clause-blocks
-stmt_size-returns-in-Continue-clause-blocks t c = blocks_as c.args.tried c.args.stmt.now _ _ (λ k. is_continue c.args.stmt.now k c.in-Continue.is) (λ k. plus _ _ _ (ap (λ n. n.blocks) c.exit_size-in-Continue.ensures))
+stmt_size-returns-in-Continue-clause-blocks t c = blocks_as c.args.tried c.args.stmt.now _ _ (λ k. is_continue c.args.stmt.now k c.in-Continue.is)
+    (λ k. plus _ _ _ (ap (λ n. n.blocks) c.exit_size-in-Continue.ensures))
 
 pub stmt_size-returns-in-Continue-clause-locals : goal.stmt_size-returns-in-Continue-clause-locals
-stmt_size-returns-in-Continue-clause-locals t c = locals_as c.args.stmt.now _ _ (λ k. is_continue c.args.stmt.now k c.in-Continue.is) (λ k. nothing _ _ (ap (λ n. n.locals) c.exit_size-in-Continue.ensures))
+stmt_size-returns-in-Continue-clause-locals t c = locals_as c.args.stmt.now _ _ (λ k. is_continue c.args.stmt.now k c.in-Continue.is)
+    (λ k. nothing _ _ (ap (λ n. n.locals) c.exit_size-in-Continue.ensures))
 
 pub stmt_size-returns-in-Declare-clause-blocks : goal.stmt_size-returns-in-Declare-clause-blocks
 stmt_size-returns-in-Declare-clause-blocks t c = blocks_as c.args.tried c.args.stmt.now _ _ (λ k. is_declare c.args.stmt.now c.in-Declare.into _ k c.in-Declare.is) (λ k. nothing _ _ refl)
@@ -128,51 +134,65 @@ stmt_size-returns-in-Wait-clause-locals t c = locals_as c.args.stmt.now _ _ (λ 
 
 pub stmt_size-returns-in-Block-clause-blocks : goal.stmt_size-returns-in-Block-clause-blocks
 stmt_size-returns-in-Block-clause-blocks t c =
-    IfOk-weaker c.body_with.result _ _ (λ n e. blocks_as c.args.tried c.args.stmt.now _ n.blocks (λ k. is_block c.args.stmt.now c.in-Block.body k c.in-Block.is) (λ k. plus_one n.blocks _ _ _ e (ap (λ l. blocks_in c.args.tried (body_of l)) c.deref.ensures.value))) c.body_with.ensures.blocks
+    IfOk-weaker c.body_with.result _ _ (λ n e. blocks_as c.args.tried c.args.stmt.now _ n.blocks (λ k. is_block c.args.stmt.now c.in-Block.body k c.in-Block.is)
+    (λ k. plus_one n.blocks _ _ _ e (ap (λ l. blocks_in c.args.tried (body_of l)) c.deref.ensures.value))) c.body_with.ensures.blocks
 
 pub stmt_size-returns-in-Block-clause-locals : goal.stmt_size-returns-in-Block-clause-locals
 stmt_size-returns-in-Block-clause-locals t c =
-    IfOk-weaker c.body_with.result _ _ (λ n e. locals_as c.args.stmt.now _ n.locals (λ k. is_block c.args.stmt.now c.in-Block.body k c.in-Block.is) (λ k. plus_zero n.locals _ _ _ e (ap (λ l. locals_in (body_of l)) c.deref.ensures.value))) c.body_with.ensures.locals
+    IfOk-weaker c.body_with.result _ _ (λ n e. locals_as c.args.stmt.now _ n.locals (λ k. is_block c.args.stmt.now c.in-Block.body k c.in-Block.is)
+    (λ k. plus_zero n.locals _ _ _ e (ap (λ l. locals_in (body_of l)) c.deref.ensures.value))) c.body_with.ensures.locals
 
 pub stmt_size-returns-in-While-clause-blocks : goal.stmt_size-returns-in-While-clause-blocks
 stmt_size-returns-in-While-clause-blocks t c =
-    IfOk-weaker c.body_with-in-While.result _ _ (λ n e. blocks_as c.args.tried c.args.stmt.now _ n.blocks (λ k. is_while c.args.stmt.now _ c.in-While.body k c.in-While.is) (λ k. plus_three n.blocks _ _ _ e (ap (λ l. blocks_in false (body_of l)) c.deref-in-While.ensures.value))) c.body_with-in-While.ensures.blocks
+    IfOk-weaker c.body_with-in-While.result _ _ (λ n e. blocks_as c.args.tried c.args.stmt.now _ n.blocks (λ k. is_while c.args.stmt.now _ c.in-While.body k c.in-While.is)
+    (λ k. plus_three n.blocks _ _ _ e (ap (λ l. blocks_in false (body_of l)) c.deref-in-While.ensures.value))) c.body_with-in-While.ensures.blocks
 
 pub stmt_size-returns-in-While-clause-locals : goal.stmt_size-returns-in-While-clause-locals
 stmt_size-returns-in-While-clause-locals t c =
-    IfOk-weaker c.body_with-in-While.result _ _ (λ n e. locals_as c.args.stmt.now _ n.locals (λ k. is_while c.args.stmt.now _ c.in-While.body k c.in-While.is) (λ k. plus_zero n.locals _ _ _ e (ap (λ l. locals_in (body_of l)) c.deref-in-While.ensures.value))) c.body_with-in-While.ensures.locals
+    IfOk-weaker c.body_with-in-While.result _ _ (λ n e. locals_as c.args.stmt.now _ n.locals (λ k. is_while c.args.stmt.now _ c.in-While.body k c.in-While.is)
+    (λ k. plus_zero n.locals _ _ _ e (ap (λ l. locals_in (body_of l)) c.deref-in-While.ensures.value))) c.body_with-in-While.ensures.locals
 
 pub stmt_size-returns-in-Loop-clause-blocks : goal.stmt_size-returns-in-Loop-clause-blocks
 stmt_size-returns-in-Loop-clause-blocks t c =
-    IfOk-weaker c.body_with-in-Loop.result _ _ (λ n e. blocks_as c.args.tried c.args.stmt.now _ n.blocks (λ k. is_loop c.args.stmt.now c.in-Loop.body k c.in-Loop.is) (λ k. plus_two n.blocks _ _ _ e (ap (λ l. blocks_in false (body_of l)) c.deref-in-Loop.ensures.value))) c.body_with-in-Loop.ensures.blocks
+    IfOk-weaker c.body_with-in-Loop.result _ _ (λ n e. blocks_as c.args.tried c.args.stmt.now _ n.blocks (λ k. is_loop c.args.stmt.now c.in-Loop.body k c.in-Loop.is)
+    (λ k. plus_two n.blocks _ _ _ e (ap (λ l. blocks_in false (body_of l)) c.deref-in-Loop.ensures.value))) c.body_with-in-Loop.ensures.blocks
 
 pub stmt_size-returns-in-Loop-clause-locals : goal.stmt_size-returns-in-Loop-clause-locals
 stmt_size-returns-in-Loop-clause-locals t c =
-    IfOk-weaker c.body_with-in-Loop.result _ _ (λ n e. locals_as c.args.stmt.now _ n.locals (λ k. is_loop c.args.stmt.now c.in-Loop.body k c.in-Loop.is) (λ k. plus_zero n.locals _ _ _ e (ap (λ l. locals_in (body_of l)) c.deref-in-Loop.ensures.value))) c.body_with-in-Loop.ensures.locals
+    IfOk-weaker c.body_with-in-Loop.result _ _ (λ n e. locals_as c.args.stmt.now _ n.locals (λ k. is_loop c.args.stmt.now c.in-Loop.body k c.in-Loop.is)
+    (λ k. plus_zero n.locals _ _ _ e (ap (λ l. locals_in (body_of l)) c.deref-in-Loop.ensures.value))) c.body_with-in-Loop.ensures.locals
 
 pub stmt_size-returns-in-Choose-clause-blocks : goal.stmt_size-returns-in-Choose-clause-blocks
 stmt_size-returns-in-Choose-clause-blocks t c =
-    IfOk-weaker c.choose_size.result _ _ (λ n e. blocks_as c.args.tried c.args.stmt.now _ n.blocks (λ k. is_choose c.args.stmt.now c.in-Choose.branches k c.in-Choose.is) (λ k. plus_one n.blocks _ _ _ e (ap (λ l. branch_blocks c.args.tried (branches_of l)) c.deref-in-Choose.ensures.value))) c.choose_size.ensures.blocks
+    IfOk-weaker c.choose_size.result _ _ (λ n e. blocks_as c.args.tried c.args.stmt.now _ n.blocks (λ k. is_choose c.args.stmt.now c.in-Choose.branches k c.in-Choose.is)
+    (λ k. plus_one n.blocks _ _ _ e (ap (λ l. branch_blocks c.args.tried (branches_of l)) c.deref-in-Choose.ensures.value))) c.choose_size.ensures.blocks
 
 pub stmt_size-returns-in-Choose-clause-locals : goal.stmt_size-returns-in-Choose-clause-locals
 stmt_size-returns-in-Choose-clause-locals t c =
-    IfOk-weaker c.choose_size.result _ _ (λ n e. locals_as c.args.stmt.now _ n.locals (λ k. is_choose c.args.stmt.now c.in-Choose.branches k c.in-Choose.is) (λ k. plus_same n.locals _ _ _ e (ap (λ l. branch_local_count (branches_of l)) c.deref-in-Choose.ensures.value))) c.choose_size.ensures.locals
+    IfOk-weaker c.choose_size.result _ _ (λ n e. locals_as c.args.stmt.now _ n.locals (λ k. is_choose c.args.stmt.now c.in-Choose.branches k c.in-Choose.is)
+    (λ k. plus_same n.locals _ _ _ e (ap (λ l. branch_local_count (branches_of l)) c.deref-in-Choose.ensures.value))) c.choose_size.ensures.locals
 
 pub stmt_size-returns-in-For-clause-blocks : goal.stmt_size-returns-in-For-clause-blocks
 stmt_size-returns-in-For-clause-blocks t c =
-    IfOk-weaker c.for_size.result _ _ (λ n e. blocks_as c.args.tried c.args.stmt.now _ n.blocks (λ k. is_for c.args.stmt.now c.in-For.init c.in-For.test c.in-For.step c.in-For.body k c.in-For.is) (λ k. for_blocks n.blocks _ _ _ _ _ _ e (ap (λ l. blocks_in false (body_of l)) c.deref-in-For.ensures.value))) c.for_size.ensures.blocks
+    IfOk-weaker c.for_size.result _ _ (λ n e. blocks_as c.args.tried c.args.stmt.now _ n.blocks (λ k. is_for c.args.stmt.now c.in-For.init c.in-For.test c.in-For.step c.in-For.body k c.in-For.is)
+    (λ k. for_blocks n.blocks _ _ _ _ _ _ e (ap (λ l. blocks_in false (body_of l)) c.deref-in-For.ensures.value))) c.for_size.ensures.blocks
 
 pub stmt_size-returns-in-For-clause-locals : goal.stmt_size-returns-in-For-clause-locals
 stmt_size-returns-in-For-clause-locals t c =
-    IfOk-weaker c.for_size.result _ _ (λ n e. locals_as c.args.stmt.now _ n.locals (λ k. is_for c.args.stmt.now c.in-For.init c.in-For.test c.in-For.step c.in-For.body k c.in-For.is) (λ k. for_locals n.locals _ _ _ _ _ e (ap (λ l. locals_in (body_of l)) c.deref-in-For.ensures.value))) c.for_size.ensures.locals
+    IfOk-weaker c.for_size.result _ _ (λ n e. locals_as c.args.stmt.now _ n.locals (λ k. is_for c.args.stmt.now c.in-For.init c.in-For.test c.in-For.step c.in-For.body k c.in-For.is)
+    (λ k. for_locals n.locals _ _ _ _ _ e (ap (λ l. locals_in (body_of l)) c.deref-in-For.ensures.value))) c.for_size.ensures.locals
 
 pub stmt_size-returns-in-Try-clause-blocks : goal.stmt_size-returns-in-Try-clause-blocks
 stmt_size-returns-in-Try-clause-blocks t c =
-    IfOk-weaker c.try_size.result _ _ (λ n e. blocks_as c.args.tried c.args.stmt.now _ n.blocks (λ k. is_try c.args.stmt.now c.in-Try.body _ _ c.in-Try.handler k c.in-Try.is) (λ k. two_bodies n.blocks _ _ _ _ _ e (ap (λ l. blocks_in true (body_of l)) c.deref-in-Try.ensures.value) (ap (λ l. blocks_in c.args.tried (body_of l)) c.deref-in-Try-2.ensures.value))) c.try_size.ensures.blocks
+    IfOk-weaker c.try_size.result _ _ (λ n e. blocks_as c.args.tried c.args.stmt.now _ n.blocks (λ k. is_try c.args.stmt.now c.in-Try.body _ _ c.in-Try.handler k c.in-Try.is)
+    (λ k. two_bodies n.blocks _ _ _ _ _ e (ap (λ l. blocks_in true (body_of l)) c.deref-in-Try.ensures.value) (ap (λ l. blocks_in c.args.tried (body_of l)) c.deref-in-Try-2.ensures.value)))
+    c.try_size.ensures.blocks
 
 pub stmt_size-returns-in-Try-clause-locals : goal.stmt_size-returns-in-Try-clause-locals
 stmt_size-returns-in-Try-clause-locals t c =
-    IfOk-weaker c.try_size.result _ _ (λ n e. locals_as c.args.stmt.now _ n.locals (λ k. is_try c.args.stmt.now c.in-Try.body _ _ c.in-Try.handler k c.in-Try.is) (λ k. try_locals n.locals _ _ _ _ _ e (ap (λ l. locals_in (body_of l)) c.deref-in-Try.ensures.value) (ap (λ l. locals_in (body_of l)) c.deref-in-Try-2.ensures.value))) c.try_size.ensures.locals
+    IfOk-weaker c.try_size.result _ _ (λ n e. locals_as c.args.stmt.now _ n.locals (λ k. is_try c.args.stmt.now c.in-Try.body _ _ c.in-Try.handler k c.in-Try.is)
+    (λ k. try_locals n.locals _ _ _ _ _ e (ap (λ l. locals_in (body_of l)) c.deref-in-Try.ensures.value) (ap (λ l. locals_in (body_of l)) c.deref-in-Try-2.ensures.value)))
+    c.try_size.ensures.locals
 
 pub stmt_size-returns-in-None-clause-blocks : goal.stmt_size-returns-in-None-clause-blocks
 stmt_size-returns-in-None-clause-blocks t c =
@@ -190,10 +210,12 @@ pub stmt_size-returns-in-Some-clause-blocks : goal.stmt_size-returns-in-Some-cla
 stmt_size-returns-in-Some-clause-blocks t c =
     IfOk-weaker c.if_else_size.result _ _
     (λ n e. blocks_as c.args.tried c.args.stmt.now _ n.blocks (λ k. is_if_else c.args.stmt.now _ c.in-If.body _ k (else_is _ _ _ _ _ c.in-If.is c.in-Some.is))
-    (λ k. two_bodies n.blocks _ _ _ _ _ e (ap (λ l. blocks_in c.args.tried (body_of l)) c.deref-in-Some.ensures.value) (ap (λ l. blocks_in c.args.tried (body_of l)) c.deref-in-Some-2.ensures.value))) c.if_else_size.ensures.blocks
+    (λ k. two_bodies n.blocks _ _ _ _ _ e (ap (λ l. blocks_in c.args.tried (body_of l)) c.deref-in-Some.ensures.value) (ap (λ l. blocks_in c.args.tried (body_of l)) c.deref-in-Some-2.ensures.value)))
+    c.if_else_size.ensures.blocks
 
 pub stmt_size-returns-in-Some-clause-locals : goal.stmt_size-returns-in-Some-clause-locals
 stmt_size-returns-in-Some-clause-locals t c =
     IfOk-weaker c.if_else_size.result _ _
     (λ n e. locals_as c.args.stmt.now _ n.locals (λ k. is_if_else c.args.stmt.now _ c.in-If.body _ k (else_is _ _ _ _ _ c.in-If.is c.in-Some.is))
-    (λ k. if_else_locals n.locals _ _ _ _ _ e (ap (λ l. locals_in (body_of l)) c.deref-in-Some.ensures.value) (ap (λ l. locals_in (body_of l)) c.deref-in-Some-2.ensures.value))) c.if_else_size.ensures.locals
+    (λ k. if_else_locals n.locals _ _ _ _ _ e (ap (λ l. locals_in (body_of l)) c.deref-in-Some.ensures.value) (ap (λ l. locals_in (body_of l)) c.deref-in-Some-2.ensures.value)))
+    c.if_else_size.ensures.locals

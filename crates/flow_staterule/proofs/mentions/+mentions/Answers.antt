@@ -47,7 +47,8 @@ add_expr-returns-in_ok-add_expr-in-Binary t c =
 
 pub add_exprs-loop-expr-preserved : goal.add_exprs-loop-expr-preserved
 add_exprs-loop-expr-preserved t c =
-    exprs_next (in_force c.args.variables.now) c.args.point c.args.exprs.now c.loop-expr.expr-index c.expr-item.result _ _ _ (omega (arith, c.loop-expr-test.true)) c.expr-item.is c.in_ok-add_expr.ensures c.loop-expr.invariant
+    exprs_next (in_force c.args.variables.now) c.args.point c.args.exprs.now c.loop-expr.expr-index c.expr-item.result _ _ _
+    (omega (arith, c.loop-expr-test.true)) c.expr-item.is c.in_ok-add_expr.ensures c.loop-expr.invariant
 
 pub add_exprs-returns : goal.add_exprs-returns
 add_exprs-returns t c =

@@ -25,7 +25,8 @@ added s put old new inner is whole eq k =
 two : (old mid new a b : List Place) → mid ≡ old ++ a → new ≡ mid ++ b → new ≡ old ++ (a ++ b)
 two old mid new a b e f = f ∙ ap (λ l. l ++ b) e ∙ append_assoc old a b
 
-if_added : (s : Stmt) (e : Expr) (b : Vec Stmt Global) (o : Option (Vec Stmt Global)) (old mid new : List Place) → s.kind ≡ kind.If e b o → mid ≡ old ++ wait_places (body_of b.items) → new ≡ mid ++ else_places (else_of o)
+if_added : (s : Stmt) (e : Expr) (b : Vec Stmt Global) (o : Option (Vec Stmt Global)) (old mid new : List Place) → s.kind ≡ kind.If e b o → mid ≡ old ++ wait_places (body_of b.items)
+    → new ≡ mid ++ else_places (else_of o)
     → (k : Body) → new ++ wait_places k ≡ old ++ wait_places (stmt_of s k)
 if_added s e b None old mid new is p q =
     added s (IfStmt s.at (expr_of e) (body_of b.items)) old new (wait_places (body_of b.items)) (λ k. is_if s e b k is) (λ k. refl) (q ∙ append-nil mid ∙ p)
@@ -36,7 +37,8 @@ if_added s e b (Some c) old mid new is p q =
     (two old mid new first second p q)
 
 two_bodies : (s : Stmt) (put : Body → Body) (old mid new : List Place) (x y b h : List Stmt) → ((k : Body) → stmt_of s k ≡ put k)
-    → ((k : Body) → wait_places (body_of b) ++ wait_places (body_of h) ++ wait_places k ≡ wait_places (put k)) → mid ≡ old ++ wait_places (body_of x) → x ≡ b → new ≡ mid ++ wait_places (body_of y) → y ≡ h
+    → ((k : Body) → wait_places (body_of b) ++ wait_places (body_of h) ++ wait_places k ≡ wait_places (put k)) → mid ≡ old ++ wait_places (body_of x) → x ≡ b → new ≡ mid ++ wait_places (body_of y)
+    → y ≡ h
     → (k : Body) → new ++ wait_places k ≡ old ++ wait_places (stmt_of s k)
 two_bodies s put old mid new x y b h is whole p d q e =
     added s put old new (wait_places (body_of b) ++ wait_places (body_of h)) is whole
@@ -96,15 +98,18 @@ list_stmt-returns-in_ok-list_body-in-Loop t c =
     (c.in_ok-list_body-in-Loop.ensures ∙ ap (λ l. c.args.places.now.items ++ wait_places (body_of l)) c.deref-in-Loop.ensures.value)
 
 pub list_stmt-returns-in_ok-push-in-Wait : goal.list_stmt-returns-in_ok-push-in-Wait
-list_stmt-returns-in_ok-push-in-Wait t c = added c.args.stmt.now _ c.args.places.now.items _ (c.args.stmt.now.at ∷ []) (λ k. is_wait c.args.stmt.now _ k c.in-Wait.is) (λ k. refl) c.in_ok-push-in-Wait.ensures.items
+list_stmt-returns-in_ok-push-in-Wait t c = added c.args.stmt.now _ c.args.places.now.items _ (c.args.stmt.now.at ∷ []) (λ k. is_wait c.args.stmt.now _ k c.in-Wait.is)
+    (λ k. refl) c.in_ok-push-in-Wait.ensures.items
 
 pub list_stmt-returns-in_ok-list_else-in-If : goal.list_stmt-returns-in_ok-list_else-in-If
 list_stmt-returns-in_ok-list_else-in-If t c =
-    if_added c.args.stmt.now _ c.in-If.chosen c.in-If.otherwise c.args.places.now.items _ _ c.in-If.is (c.in_ok-list_body-in-If.ensures ∙ ap (λ l. c.args.places.now.items ++ wait_places (body_of l)) c.deref-in-If.ensures.value) c.in_ok-list_else-in-If.ensures
+    if_added c.args.stmt.now _ c.in-If.chosen c.in-If.otherwise c.args.places.now.items _ _ c.in-If.is
+    (c.in_ok-list_body-in-If.ensures ∙ ap (λ l. c.args.places.now.items ++ wait_places (body_of l)) c.deref-in-If.ensures.value) c.in_ok-list_else-in-If.ensures
 
 pub list_stmt-returns-in_ok-list_body-in-Try-2 : goal.list_stmt-returns-in_ok-list_body-in-Try-2
 list_stmt-returns-in_ok-list_body-in-Try-2 t c =
-    two_bodies c.args.stmt.now _ _ _ _ _ _ c.in-Try.body.items c.in-Try.handler.items (λ k. is_try c.args.stmt.now c.in-Try.body _ _ c.in-Try.handler k c.in-Try.is) (λ k. refl) c.in_ok-list_body-in-Try.ensures
+    two_bodies c.args.stmt.now _ _ _ _ _ _ c.in-Try.body.items c.in-Try.handler.items (λ k. is_try c.args.stmt.now c.in-Try.body _ _ c.in-Try.handler k c.in-Try.is)
+    (λ k. refl) c.in_ok-list_body-in-Try.ensures
     c.deref-in-Try.ensures.value c.in_ok-list_body-in-Try-2.ensures c.deref-in-Try-2.ensures.value
 
 pub list_stmt-returns-in_ok-list_body-in-For : goal.list_stmt-returns-in_ok-list_body-in-For
@@ -126,7 +131,8 @@ list_body-returns t c = body_end c.args.stmts.now c.loop-stmt.stmt-index _ _ (om
 
 pub list_branches-loop-branch-preserved : goal.list_branches-loop-branch-preserved
 list_branches-loop-branch-preserved t c =
-    branches_next c.args.branches.now c.loop-branch.branch-index c.branch-item.result _ _ _ (omega (arith, c.loop-branch-test.true)) c.branch-item.is c.in_ok-list_branch.ensures c.loop-branch.invariant
+    branches_next c.args.branches.now c.loop-branch.branch-index c.branch-item.result _ _ _ (omega (arith, c.loop-branch-test.true)) c.branch-item.is c.in_ok-list_branch.ensures
+    c.loop-branch.invariant
 
 pub list_branches-returns : goal.list_branches-returns
 list_branches-returns t c = branches_end c.args.branches.now c.loop-branch.branch-index _ _ (omega (arith, c.loop-branch-test.false)) c.loop-branch.invariant

@@ -18,7 +18,8 @@ loop-decl-preserved-in-Continue-branch-2 c =
     record {
       rest = rest_next ys c.args.decls.items d c.loop-decl.decl-iterator.rest.items c.next.new.self.rest.items c.in-Some.ensures.steps.0 c.loop-decl.invariant.rest;
       records = records_same ys d c.loop-decl.plain.records.items (none_in_function d c.in-Function.function c.in-Function.is) c.loop-decl.invariant.records;
-      functions = functions_more ys d c.in-Function.function c.loop-decl.plain.functions.items c.push-in-Function.new.self.items c.in-Function.is c.in_ok-push-in-Function.ensures.items c.loop-decl.invariant.functions;
+      functions = functions_more ys d c.in-Function.function c.loop-decl.plain.functions.items c.push-in-Function.new.self.items c.in-Function.is c.in_ok-push-in-Function.ensures.items
+          c.loop-decl.invariant.functions;
     }
 
 pub loop-decl-preserved : goal.loop-decl-preserved

@@ -19,5 +19,6 @@ returns c =
     let first = subst (FilledOr class (AreFilledBelow class false c.len.result)) c.if-not-branch.false c.in_ok-kind_filled.ensures in
     IfOk-weaker c.kind_filled-2.result (FilledOr class (AreFilledBelow class true c.len-2.result)) (FilledOr class (ReadsFilled class))
     (λ (b : Bool) h. filled_or class (AreFilledBelow class true c.len-2.result) (ReadsFilled class)
-    (λ second. everywhere class c.requires.few c.requires.named (below_as class false c.len.result (length class.slots) all_slots first) (below_as class true c.len-2.result (length class.locals) all_locals second)) b h)
+    (λ second. everywhere class c.requires.few c.requires.named (below_as class false c.len.result (length class.slots) all_slots first)
+    (below_as class true c.len-2.result (length class.locals) all_locals second)) b h)
     c.kind_filled-2.ensures

@@ -7,4 +7,5 @@ use Rattle.flow_validate.proofs.types.blocks_fit.Given as goal
 
 abbrev pub invariant-loop-block : goal.invariant-loop-block
 invariant-loop-block l =
-    list_all (block_fits (class_of l.class) (setting_view l.setting)) (map block_of (drop l.block-index l.class.blocks.items)) ≡ list_all (block_fits (class_of l.class) (setting_view l.setting)) (map block_of l.class.blocks.items)
+    list_all (block_fits (class_of l.class) (setting_view l.setting)) (map block_of (drop l.block-index l.class.blocks.items))
+    ≡ list_all (block_fits (class_of l.class) (setting_view l.setting)) (map block_of l.class.blocks.items)

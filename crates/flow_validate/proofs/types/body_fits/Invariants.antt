@@ -7,4 +7,5 @@ use Rattle.flow_validate.proofs.types.body_fits.Given as goal
 
 abbrev pub invariant-loop-instr : goal.invariant-loop-instr
 invariant-loop-instr l =
-    list_all (instr_fits (class_of l.class) (setting_view l.setting)) (map instr_of (drop l.instr-index l.body)) ≡ list_all (instr_fits (class_of l.class) (setting_view l.setting)) (map instr_of l.body)
+    list_all (instr_fits (class_of l.class) (setting_view l.setting)) (map instr_of (drop l.instr-index l.body))
+    ≡ list_all (instr_fits (class_of l.class) (setting_view l.setting)) (map instr_of l.body)

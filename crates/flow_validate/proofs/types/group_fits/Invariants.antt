@@ -7,4 +7,5 @@ use Rattle.flow_validate.proofs.types.group_fits.Given as goal
 
 abbrev pub invariant-loop-callback : goal.invariant-loop-callback
 invariant-loop-callback l =
-    list_all (callback_fits (class_of l.class) (setting_view l.setting)) (map callback_of (drop l.callback-index l.group.callbacks.items)) ≡ list_all (callback_fits (class_of l.class) (setting_view l.setting)) (map callback_of l.group.callbacks.items)
+    list_all (callback_fits (class_of l.class) (setting_view l.setting)) (map callback_of (drop l.callback-index l.group.callbacks.items))
+    ≡ list_all (callback_fits (class_of l.class) (setting_view l.setting)) (map callback_of l.group.callbacks.items)

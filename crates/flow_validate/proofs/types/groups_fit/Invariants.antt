@@ -7,4 +7,5 @@ use Rattle.flow_validate.proofs.types.groups_fit.Given as goal
 
 abbrev pub invariant-loop-group : goal.invariant-loop-group
 invariant-loop-group l =
-    list_all (list_all (callback_fits (class_of l.class) (setting_view l.setting))) (map group_of (drop l.group-index l.class.groups.items)) ≡ list_all (list_all (callback_fits (class_of l.class) (setting_view l.setting))) (map group_of l.class.groups.items)
+    list_all (list_all (callback_fits (class_of l.class) (setting_view l.setting))) (map group_of (drop l.group-index l.class.groups.items))
+    ≡ list_all (list_all (callback_fits (class_of l.class) (setting_view l.setting))) (map group_of l.class.groups.items)

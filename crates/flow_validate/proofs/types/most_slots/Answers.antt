@@ -16,4 +16,5 @@ pub loop-class-preserved : goal.loop-class-preserved
 loop-class-preserved c =
     let class = c.class-item.result in
     most_more (λ (x : ClassTree). length x.slots) c.args.classes.now c.loop-class.class-index class c.loop-class.most c.max-most.result
-    c.loop-class-test.true c.class-item.is (omega (arith, c.max-most.ensures)) (omega (arith, c.max-most.ensures, length-map class.slots.items slot_of, c.len.ensures, class.slots.ok.0)) c.loop-class.invariant
+    c.loop-class-test.true c.class-item.is (omega (arith, c.max-most.ensures)) (omega (arith, c.max-most.ensures, length-map class.slots.items slot_of, c.len.ensures, class.slots.ok.0))
+    c.loop-class.invariant

@@ -23,7 +23,8 @@ returns-clause-acts g c =
     in
     record {
       me = h.me;
-      does = does_to (λ k. record { me = k.me; ports = k.ports.now; outside = seen k.outside.now; out = k.out.now }) meaning.host shows (wrote g.L.LineOut.puts) (λ k ls n. Puts g.L.LineOut.puts k.out.now ls n.out.now) (λ a b ls w. w) _ _ _ _ _ _ _ _ _ _ same does;
+      does = does_to (λ k. record { me = k.me; ports = k.ports.now; outside = seen k.outside.now; out = k.out.now }) meaning.host shows (wrote g.L.LineOut.puts)
+          (λ k ls n. Puts g.L.LineOut.puts k.out.now ls n.out.now) (λ a b ls w. w) _ _ _ _ _ _ _ _ _ _ same does;
       up = c.up_after-place.ensures;
     })
     c.does-burst.ensures.does
@@ -33,5 +34,6 @@ returns-clause-stuck g c = λ stuck.
     let h = c.does-burst.new.host in
     record {
       left = record { me = h.me; ports = h.ports.now; outside = seen h.outside.now; out = h.out.now };
-      gets_stuck = gets_stuck_by (λ k. record { me = k.me; ports = k.ports.now; outside = seen k.outside.now; out = k.out.now }) meaning.host shows (wrote g.L.LineOut.puts) anything (λ k ls n. Puts g.L.LineOut.puts k.out.now ls n.out.now) (λ k ls n. Unit {0}) (λ a b ls w. w) (λ a b ls w. tt) _ _ _ _ _ _ (c.does-burst.ensures.stuck stuck);
+      gets_stuck = gets_stuck_by (λ k. record { me = k.me; ports = k.ports.now; outside = seen k.outside.now; out = k.out.now }) meaning.host shows (wrote g.L.LineOut.puts) anything
+          (λ k ls n. Puts g.L.LineOut.puts k.out.now ls n.out.now) (λ k ls n. Unit {0}) (λ a b ls w. w) (λ a b ls w. tt) _ _ _ _ _ _ (c.does-burst.ensures.stuck stuck);
     }

@@ -17,4 +17,5 @@ loop-view-preserved g c = record {
 pub returns-clause-puts : goal.returns-clause-puts
 returns-clause-puts g c =
     c.loop-view.invariant.puts _
-    (subst (λ vs. Puts g.L.LineOut.puts c.loop-view.out (map (callback_line c.args.p) vs) c.loop-view.out) (sym (drop_all c.loop-view.view-index c.args.callbacks.now (omega (arith, c.loop-view-test.false)))) no_line)
+    (subst (λ vs. Puts g.L.LineOut.puts c.loop-view.out (map (callback_line c.args.p) vs) c.loop-view.out)
+    (sym (drop_all c.loop-view.view-index c.args.callbacks.now (omega (arith, c.loop-view-test.false)))) no_line)

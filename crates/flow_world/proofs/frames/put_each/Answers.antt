@@ -26,8 +26,10 @@ pub returns-clause-puts : goal.returns-clause-puts
 returns-clause-puts g c =
     let classes = c.args.world.now.code.program.classes.items in
     c.loop-frame.invariant.puts _
-    (subst (λ fs. Puts g.L.LineOut.puts c.loop-frame.out (frames_lines classes c.args.p fs c.loop-frame.rest.now) c.loop-frame.out) (sym (drop_all c.loop-frame.frame-index c.args.frames.now (omega (arith, c.loop-frame-test.false)))) no_line)
+    (subst (λ fs. Puts g.L.LineOut.puts c.loop-frame.out (frames_lines classes c.args.p fs c.loop-frame.rest.now) c.loop-frame.out)
+    (sym (drop_all c.loop-frame.frame-index c.args.frames.now (omega (arith, c.loop-frame-test.false)))) no_line)
 
 pub returns-in_err-rest-clause-stuck : goal.returns-in_err-rest-clause-stuck
 returns-in_err-rest-clause-stuck g c = λ stuck.
-    some_no_class c.args.world.now.code.program.classes.items c.args.frames.now c.loop-frame.frame-index (record { actor = record { 0 = 0 }; class = 0; state = 0 }) c.loop-frame-test.true (c.put_frame.ensures.stuck (search rules))
+    some_no_class c.args.world.now.code.program.classes.items c.args.frames.now c.loop-frame.frame-index (record { actor = record { 0 = 0 }; class = 0; state = 0 }) c.loop-frame-test.true
+    (c.put_frame.ensures.stuck (search rules))

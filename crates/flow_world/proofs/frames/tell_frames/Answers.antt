@@ -15,8 +15,10 @@ returns-clause-puts g c =
     let last = c.put_frames-done.new.out in
     let t : Telling _ = record { out = last.out.now; fault = last.fault } in
     let told : IfOk c.put_frames-done.result (λ x. Puts (tells puts) (whole c.args.out.now) lines t) =
-    IfOk-weaker c.put_frames-done.result _ _ (λ x p. lines_by (λ k. record { out = k.out.now; fault = k.fault }) _ (tells puts) (λ a b l p. p) _ last lines p) (if_ok _ c.put_frames-done.result c.put_frames-done.ensures.puts) in
-    on_ok _ c.unless_failed.result (told_whole (λ x z. Puts (tells puts) (whole c.args.out.now) lines z) t _ c.put_frames-done.result c.unless_failed.result (search rules) c.unless_failed.ensures told)
+    IfOk-weaker c.put_frames-done.result _ _ (λ x p. lines_by (λ k. record { out = k.out.now; fault = k.fault }) _ (tells puts) (λ a b l p. p) _ last lines p)
+    (if_ok _ c.put_frames-done.result c.put_frames-done.ensures.puts) in
+    on_ok _ c.unless_failed.result (told_whole (λ x z. Puts (tells puts) (whole c.args.out.now) lines z) t _ c.put_frames-done.result c.unless_failed.result
+    (search rules) c.unless_failed.ensures told)
 
 pub returns-clause-part : goal.returns-clause-part
 returns-clause-part g c = λ failed.
@@ -25,5 +27,7 @@ returns-clause-part g c = λ failed.
     let last = c.put_frames-done.new.out in
     let t : Telling _ = record { out = last.out.now; fault = last.fault } in
     let told : IfOk c.put_frames-done.result (λ x. Puts (tells puts) (whole c.args.out.now) lines t) =
-    IfOk-weaker c.put_frames-done.result _ _ (λ x p. lines_by (λ k. record { out = k.out.now; fault = k.fault }) _ (tells puts) (λ a b l p. p) _ last lines p) (if_ok _ c.put_frames-done.result c.put_frames-done.ensures.puts) in
-    (told_part (λ x z. Puts (tells puts) (whole c.args.out.now) lines z) t _ c.put_frames-done.result c.unless_failed.result (search rules) c.unless_failed.ensures c.put_frames-done.ensures.cause told failed).1
+    IfOk-weaker c.put_frames-done.result _ _ (λ x p. lines_by (λ k. record { out = k.out.now; fault = k.fault }) _ (tells puts) (λ a b l p. p) _ last lines p)
+    (if_ok _ c.put_frames-done.result c.put_frames-done.ensures.puts) in
+    (told_part (λ x z. Puts (tells puts) (whole c.args.out.now) lines z) t _ c.put_frames-done.result c.unless_failed.result
+    (search rules) c.unless_failed.ensures c.put_frames-done.ensures.cause told failed).1

@@ -7,8 +7,10 @@ use Rattle.flow_catch.proofs.scopes.Scopes.left.Goals as goal
 pub loop-left-preserved : goal.loop-left-preserved
 loop-left-preserved c = (
   omega (arith, c.loop-left.invariant.0, c.outer-at.ensures.within),
-  left_step c.args.depth c.loop-left._left (scope_of (take c.loop-left.at c.self.inside.entries.items)) (scope_of (take c.outer-at.result c.self.inside.entries.items)) _ _ _ _ (omega (arith, c.loop-left-test.true))
+  left_step c.args.depth c.loop-left._left (scope_of (take c.loop-left.at c.self.inside.entries.items)) (scope_of (take c.outer-at.result c.self.inside.entries.items)) _ _ _ _
+      (omega (arith, c.loop-left-test.true))
       (c.in_ok-newest.ensures ∙ ap (λ l. scope (scope_of (take c.loop-left.at l))) c.deref.ensures.value)
-      (ap (λ l. scope_of (take c.outer-at.result l)) (sym c.deref-in-loop-left.ensures.value) ∙ c.outer-at.ensures.outside ∙ ap (λ l. outside (scope_of (take c.loop-left.at l))) c.deref-in-loop-left.ensures.value)
+      (ap (λ l. scope_of (take c.outer-at.result l)) (sym c.deref-in-loop-left.ensures.value) ∙ c.outer-at.ensures.outside
+      ∙ ap (λ l. outside (scope_of (take c.loop-left.at l))) c.deref-in-loop-left.ensures.value)
       c.in_ok-add_list.ensures c.loop-left.invariant.1,
 )

@@ -14,8 +14,11 @@ invariant_of-self g c = same_queues _ _ _ c.self.invariant _ _ _ (λ m. ends_sta
 
 pub hold-requires : goal.hold-requires
 hold-requires g c =
-    c.requires.fits (tree (links_of c.self.inside.lists) c.get_mut.result.now) (rw (← c.self.view_is) (seen_is (links_of c.self.inside.lists) c.self.inside.cells.things c.args.cell.0 _ c.get_mut.ensures.value))
+    c.requires.fits (tree (links_of c.self.inside.lists) c.get_mut.result.now)
+    (rw (← c.self.view_is) (seen_is (links_of c.self.inside.lists) c.self.inside.cells.things c.args.cell.0 _ c.get_mut.ensures.value))
 
 pub returns : goal.returns
 returns g c =
-    rw (← c.self.view_is) (λ x is. written _ _ _ _ _ _ _ x (λ t. record t { references = held c.args.side t.references }) c.get_mut.ensures.rising c.get_mut.ensures.value is (ap (λ (r : Counts). record { content = c.get_mut.result.now.content; references = r; waiters = waiters_at (links_of c.self.inside.lists) c.get_mut.result.now.waiters }) c.hold.ensures) (λ m d e other. refl))
+    rw (← c.self.view_is) (λ x is. written _ _ _ _ _ _ _ x (λ t. record t { references = held c.args.side t.references }) c.get_mut.ensures.rising c.get_mut.ensures.value is
+    (ap (λ (r : Counts). record { content = c.get_mut.result.now.content; references = r; waiters = waiters_at (links_of c.self.inside.lists) c.get_mut.result.now.waiters }) c.hold.ensures)
+    (λ m d e other. refl))

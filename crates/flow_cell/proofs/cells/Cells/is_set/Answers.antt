@@ -9,7 +9,8 @@ pub returns-in-Some : goal.returns-in-Some
 returns-in-Some g c =
     let at = links_of c.self.inside.lists in
     let found : thing c.self.inside.cells.things c.args.cell.0 ≡ Some c.in-Some.found.now = grind arith in
-    rw (← c.self.view_is, c.is_some.ensures) (sym (ap (λ (o : Option (CellTree g.row.T.Denot)). option_map (λ x. is_some x.content) o) (thing_seen at c.self.inside.cells.things c.args.cell.0 ∙ ap (tree_of at) found)))
+    rw (← c.self.view_is, c.is_some.ensures) (sym (ap (λ (o : Option (CellTree g.row.T.Denot)). option_map (λ x. is_some x.content) o)
+    (thing_seen at c.self.inside.cells.things c.args.cell.0 ∙ ap (tree_of at) found)))
 
 pub returns-in-None : goal.returns-in-None
 returns-in-None g c =

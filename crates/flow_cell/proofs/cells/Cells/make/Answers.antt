@@ -28,5 +28,6 @@ returns-clause-ok g c =
     let xs = c.self.inside.cells.things in
     let n = c.args.cell.0 in
     rw (← c.self.view_is)
-    (ap (λ (s : Store (Cell g.row.T.Denot)). record { things = seen at s.things; greatest = s.greatest }) c.in_ok-insert.ensures.ok ∙ ap (λ ys. record { things = ys; greatest = n }) (seen_added at xs n _
+    (ap (λ (s : Store (Cell g.row.T.Denot)). record { things = seen at s.things; greatest = s.greatest }) c.in_ok-insert.ensures.ok
+    ∙ ap (λ ys. record { things = ys; greatest = n }) (seen_added at xs n _
     ∙ ap (λ r. added (seen at xs) n (record { content = None; references = r; waiters = [] })) c.new.ensures))

@@ -14,7 +14,8 @@ invariant_of-self g c = same_queues _ _ _ c.self.invariant _ _ _ (λ m. ends_sta
 
 pub release-requires : goal.release-requires
 release-requires g c =
-    c.requires.counts (tree (links_of c.self.inside.lists) c.get_mut.result.now) (rw (← c.self.view_is) (seen_is (links_of c.self.inside.lists) c.self.inside.cells.things c.args.cell.0 _ c.get_mut.ensures.value))
+    c.requires.counts (tree (links_of c.self.inside.lists) c.get_mut.result.now)
+    (rw (← c.self.view_is) (seen_is (links_of c.self.inside.lists) c.self.inside.cells.things c.args.cell.0 _ c.get_mut.ensures.value))
 
 pub returns-clause-loss : goal.returns-clause-loss
 returns-clause-loss g c =
@@ -22,4 +23,6 @@ returns-clause-loss g c =
 
 pub returns-clause-counts : goal.returns-clause-counts
 returns-clause-counts g c =
-    rw (← c.self.view_is) (λ x is. written _ _ _ _ _ _ _ x (λ t. record t { references = released c.args.side t.references }) c.get_mut.ensures.rising c.get_mut.ensures.value is (ap (λ (r : Counts). record { content = c.get_mut.result.now.content; references = r; waiters = waiters_at (links_of c.self.inside.lists) c.get_mut.result.now.waiters }) c.release.ensures.counts) (λ m d e other. refl))
+    rw (← c.self.view_is) (λ x is. written _ _ _ _ _ _ _ x (λ t. record t { references = released c.args.side t.references }) c.get_mut.ensures.rising c.get_mut.ensures.value is
+    (ap (λ (r : Counts). record { content = c.get_mut.result.now.content; references = r; waiters = waiters_at (links_of c.self.inside.lists) c.get_mut.result.now.waiters })
+    c.release.ensures.counts) (λ m d e other. refl))

@@ -13,7 +13,8 @@ use Rattle.flow_cell.proofs.Lines.{list_shorter}
 use Rattle.flow_cell.proofs.waiters.Lists.exit.Goals as goal
 
 -- the newest link of a waiter in a list
-found : (l : Lists) (ws : Waiters) (b : _) (n : ℕ) (spot : Spot) (w : Waiter) → ws ≡ Listed b → spot ≡ record { cell = n; actor = w.actor.0; callback = w.callback } → IsIn n (line l ws) → has_waiter (waiters_at (links_of l) ws) w ≡ true
+found : (l : Lists) (ws : Waiters) (b : _) (n : ℕ) (spot : Spot) (w : Waiter) → ws ≡ Listed b → spot ≡ record { cell = n; actor = w.actor.0; callback = w.callback } → IsIn n (line l ws)
+    → has_waiter (waiters_at (links_of l) ws) w ≡ true
     → (k : ℕ) × (newest_of l spot ≡ Some k) × ((m : Link Waiting) × (links_of l k ≡ Some m))
 found l ws b n spot w is names known waits =
     key_there known.0 (links_of l) (newest_of l) known.1.queues n b.value spot (known.1.here ∙ ap (λ x. Some (list_ends x)) is) (ap (λ (s : Spot). s.cell) names)

@@ -18,7 +18,8 @@ evaluate_binary-returns-in-Some-int_in-clause-gives g t c =
     let b : to_z w64 (of_z w64 c.in-Some-int_in.b) ≡ c.in-Some-int_in.b = search (rules, to_z-of_z) in
     ints_give (actor_view_of g.C.CellView.content c.args.sight.now) c.args.op (node_of c.args.left.now) (node_of c.args.right.now) c.in-Some.a c.in-Some-int_in.b c.on_ints.result c.args.turns.now.left
     c.in-Some.ensures c.in-Some-int_in.ensures
-    (subst (λ y. GivesAnswer (on_ints c.args.op c.in-Some.a y) c.on_ints.result) b (subst (λ x. GivesAnswer (on_ints c.args.op x (to_z w64 (of_z w64 c.in-Some-int_in.b))) c.on_ints.result) a c.on_ints.ensures))
+    (subst (λ y. GivesAnswer (on_ints c.args.op c.in-Some.a y) c.on_ints.result) b
+    (subst (λ x. GivesAnswer (on_ints c.args.op x (to_z w64 (of_z w64 c.in-Some-int_in.b))) c.on_ints.result) a c.on_ints.ensures))
 
 pub evaluate_field-returns-in-Some-clause-gives : goal.evaluate_field-returns-in-Some-clause-gives
 evaluate_field-returns-in-Some-clause-gives g t c =
@@ -29,5 +30,6 @@ evaluate_field-returns-in-Some-clause-gives g t c =
 pub evaluate_call-returns-in-Some-clause-gives : goal.evaluate_call-returns-in-Some-clause-gives
 evaluate_call-returns-in-Some-clause-gives g t c =
     known_gives (actor_view_of g.C.CellView.content c.args.sight.now) (node_of c.args.of.now) (value_of c.in-Some.base.now)
-    (λ v l. then (values_at (actor_view_of g.C.CellView.content c.args.sight.now) (nodes_of c.args.args.now) l) (λ vs l. at_once (method_called (g.C.CellView.content c.args.sight.now.setting.view.now) c.args.method v vs) l))
+    (λ v l. then (values_at (actor_view_of g.C.CellView.content c.args.sight.now) (nodes_of c.args.args.now) l)
+    (λ vs l. at_once (method_called (g.C.CellView.content c.args.sight.now.setting.view.now) c.args.method v vs) l))
     c.evaluate_method.result c.args.turns.now.left c.evaluate_method.new.turns.left c.in-Some.ensures c.evaluate_method.ensures.gives

@@ -9,7 +9,8 @@ use Rattle.flow_code.proofs.expr.evaluate.+seen.Goals as goal
 
 pub seen_field-returns : goal.seen_field-returns
 seen_field-returns g t c =
-    rw c.in-Some.is (field_seen (actor_view_of g.C.CellView.content c.args.sight.now) (node_of c.args.of.now) c.in-Some.name (value_of c.in-Some-seen.base.now) c.field.result c.in-Some-seen.ensures c.field.ensures)
+    rw c.in-Some.is (field_seen (actor_view_of g.C.CellView.content c.args.sight.now) (node_of c.args.of.now) c.in-Some.name
+    (value_of c.in-Some-seen.base.now) c.field.result c.in-Some-seen.ensures c.field.ensures)
 
 pub seen-returns-in-Field : goal.seen-returns-in-Field
 seen-returns-in-Field g t c =

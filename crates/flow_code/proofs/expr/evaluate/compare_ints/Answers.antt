@@ -12,4 +12,5 @@ returns g c =
     let b : to_z w64 (of_z w64 c.in-Some-int_in.b) ≡ c.in-Some-int_in.b = search (rules, to_z-of_z) in
     ints_compare (actor_view_of g.C.CellView.content c.args.sight.now) c.args.op (node_of c.args.left.now) (node_of c.args.right.now) c.in-Some.a c.in-Some-int_in.b c.compared.result
     c.in-Some.ensures c.in-Some-int_in.ensures
-    (c.compared.ensures ∙ ap (compared c.args.op) c.cmp.ensures ∙ ap (λ x. compared c.args.op (int_cmp x (to_z w64 (of_z w64 c.in-Some-int_in.b)))) a ∙ ap (λ y. compared c.args.op (int_cmp c.in-Some.a y)) b)
+    (c.compared.ensures ∙ ap (compared c.args.op) c.cmp.ensures ∙ ap (λ x. compared c.args.op (int_cmp x (to_z w64 (of_z w64 c.in-Some-int_in.b)))) a
+    ∙ ap (λ y. compared c.args.op (int_cmp c.in-Some.a y)) b)

@@ -27,7 +27,8 @@ resolve-returns-in_ok-args-in-Method g t c =
     let of : node_of c.in_ok-of-in-Method.of.value ≡ resolved n (expr_of c.in-Method.of.value) =
     ap node_of c.in_ok-of-in-Method.ensures ∙ c.in_ok-resolve-in-Method.ensures ∙ ap (λ e. resolved n (expr_of e)) c.deref-in-Method.ensures in
     method_node c.in_ok-of-in-Method.of c.predefined_method.result c.in_ok-args-in-Method.args
-    ∙ ap (λ m. MethodNode (node_of c.in_ok-of-in-Method.of.value) m (nodes_of c.in_ok-args-in-Method.args.items)) (c.predefined_method.ensures ∙ ap (named method_names) c.bytes-in-Method.ensures.bytes)
+    ∙ ap (λ m. MethodNode (node_of c.in_ok-of-in-Method.of.value) m (nodes_of c.in_ok-args-in-Method.args.items))
+    (c.predefined_method.ensures ∙ ap (named method_names) c.bytes-in-Method.ensures.bytes)
     ∙ ap (λ o. MethodNode o (named method_names c.in-Method.name.name) (nodes_of c.in_ok-args-in-Method.args.items)) of
     ∙ ap (MethodNode (resolved n (expr_of c.in-Method.of.value)) (named method_names c.in-Method.name.name)) args
     ∙ ap (resolved n) (sym (ap expr_of c.in-Method.is ∙ method_text c.in-Method.of c.in-Method.name c.in-Method.args))

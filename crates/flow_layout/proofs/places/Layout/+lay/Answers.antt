@@ -33,7 +33,8 @@ lay_stmt-returns-in_ok-lay_body-in-Try-2 t c =
 
 pub lay_stmt-returns-in_ok-lay_branches-in-Choose : goal.lay_stmt-returns-in_ok-lay_branches-in-Choose
 lay_stmt-returns-in_ok-lay_branches-in-Choose t c =
-    after_choose c.args.stmt.now c.in-Choose.branches _ _ _ _ _ c.in-Choose.is c.deref-in-Choose.ensures.value (omega (arith, c.len.ensures, c.in-Choose.branches.ok)) c.in_ok-lay_group-in-Choose.ensures
+    after_choose c.args.stmt.now c.in-Choose.branches _ _ _ _ _ c.in-Choose.is c.deref-in-Choose.ensures.value
+    (omega (arith, c.len.ensures, c.in-Choose.branches.ok)) c.in_ok-lay_group-in-Choose.ensures
     c.in_ok-lay_branches-in-Choose.ensures
 
 pub lay_stmt-returns-in_ok-lay_into-in-Declare : goal.lay_stmt-returns-in_ok-lay_into-in-Declare

@@ -15,7 +15,8 @@ invariant_of-self-2 g c =
 
 pub returns-clause-ok : goal.returns-clause-ok
 returns-clause-ok g c =
-    let is = ap things_in c.in_ok-push.ensures.items ∙ things_more c.tidy-self-inside.new.rows.items c.args.number c.args.value ∙ ap (λ xs. added xs c.args.number c.args.value) c.tidy-self-inside.ensures.same in
+    let is = ap things_in c.in_ok-push.ensures.items ∙ things_more c.tidy-self-inside.new.rows.items c.args.number c.args.value
+    ∙ ap (λ xs. added xs c.args.number c.args.value) c.tidy-self-inside.ensures.same in
     rw (← c.self.view_is) (ap (λ xs. record { things = xs; greatest = c.args.number }) is)
 
 pub returns-clause-rising : goal.returns-clause-rising

@@ -37,7 +37,8 @@ judge_method-returns-clause-fault h c =
     let s = setting_view c.args.self.now in
     let e = expr_of c.args.of.now in
     let t = option_map found_of c.judge-base.result.form in
-    method_is s t c.args.name.now.name (exprs_of c.args.args.now) (option_map callee_of c.called_on-callee.result) (needs_view c.needs_of.result) c.judge-base.result.fault c.judge_args-judged.result c.method_judged.result.fault
+    method_is s t c.args.name.now.name (exprs_of c.args.args.now) (option_map callee_of c.called_on-callee.result) (needs_view c.needs_of.result) c.judge-base.result.fault c.judge_args-judged.result
+    c.method_judged.result.fault
     (fault s false e) (form s e) c.judge-base.ensures.form c.judge-base.ensures.fault
     (c.called_on-callee.ensures ∙ ap (called_on t) c.bytes.ensures.bytes) c.needs_of.ensures c.judge_args-judged.ensures c.method_judged.ensures.fault
 

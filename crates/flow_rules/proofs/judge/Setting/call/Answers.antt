@@ -6,10 +6,12 @@ use Rattle.flow_rules.proofs.judge.Setting.call.Goals as goal
 
 pub returns-in-len1 : goal.returns-in-len1
 returns-in-len1 c =
-    c.named_call.ensures ∙ one_name (setting_view c.args.self.now) c.args.path.now c.name-item.result (exprs_of c.args.args.now) (omega (arith, c.in-len1.len_at_least, c.in-len1.len_below)) c.name-item.is
+    c.named_call.ensures ∙ one_name (setting_view c.args.self.now) c.args.path.now c.name-item.result (exprs_of c.args.args.now)
+    (omega (arith, c.in-len1.len_at_least, c.in-len1.len_below)) c.name-item.is
 
 pub returns-in-len1-up : goal.returns-in-len1-up
 returns-in-len1-up c =
     let n = length c.args.path.now - 1 in
     c.method_call.ensures
-    ∙ more_names (setting_view c.args.self.now) c.args.path.now (take n c.args.path.now) c.name-item-2.result n (exprs_of c.args.args.now) (omega (arith, c.in-len1-up.len_at_least)) refl refl c.name-item-2.is
+    ∙ more_names (setting_view c.args.self.now) c.args.path.now (take n c.args.path.now) c.name-item-2.result n (exprs_of c.args.args.now)
+    (omega (arith, c.in-len1-up.len_at_least)) refl refl c.name-item-2.is

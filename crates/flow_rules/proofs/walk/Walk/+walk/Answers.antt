@@ -64,20 +64,25 @@ branch-returns h c =
           (when_ok e mid inner new w.at (waiting_of w.waiting) (body_of w.body.items) u c.in_ok-item.field-0
           (says_at w.at _ _ (Ok c.in_ok-item.field-0) c.waiting.ensures c.in_ok-item.ensures) (c.in_ok-waited.ensures.waited a)
           (body_at mid inner w.body.items c.deref.result.now (Ok u) c.deref.ensures.value c.in_ok-body.ensures.answer)
-          (vars_cut (bound found_of) c.args.self.now.setting.vars.entries c.body.new.self.setting.vars.entries c.truncate.new.self.entries c.len-count.result c.len-count.ensures.len c.truncate.ensures.entries)
+          (vars_cut (bound found_of) c.args.self.now.setting.vars.entries c.body.new.self.setting.vars.entries c.truncate.new.self.entries c.len-count.result c.len-count.ensures.len
+          c.truncate.ensures.entries)
           refl refl refl refl);
     }
 
 pub branches-loop-branch-preserved : goal.branches-loop-branch-preserved
 branches-loop-branch-preserved h c =
     let a = c.args.around in
-    branches_step c.args.branches.now c.loop-branch.branch-index c.branch-item.result (env_of c.args.self.now a) (env_of c.loop-branch.self a) (env_of c.branch-self.new.self a) (branches_of c.args.branches.now) c.in_ok-branch.field-0
+    branches_step c.args.branches.now c.loop-branch.branch-index c.branch-item.result (env_of c.args.self.now a) (env_of c.loop-branch.self a) (env_of c.branch-self.new.self a)
+    (branches_of c.args.branches.now) c.in_ok-branch.field-0
     c.loop-branch-test.true c.branch-item.is c.loop-branch.invariant c.in_ok-branch.ensures.answer
 
 pub branches-returns : goal.branches-returns
 branches-returns h c =
     let a = c.args.around in
-    record { leads = branches_ok c.args.branches.now c.loop-branch.branch-index (env_of c.args.self.now a) (env_of c.loop-branch.self a) (branches_of c.args.branches.now) _ c.loop-branch-test.false c.loop-branch.invariant }
+    record {
+      leads = branches_ok c.args.branches.now c.loop-branch.branch-index (env_of c.args.self.now a) (env_of c.loop-branch.self a)
+          (branches_of c.args.branches.now) _ c.loop-branch-test.false c.loop-branch.invariant;
+    }
 
 pub handler-returns-in_err-body : goal.handler-returns-in_err-body
 handler-returns-in_err-body h c =
@@ -109,7 +114,10 @@ handler-returns h c =
 pub otherwise-returns-in-Some : goal.otherwise-returns-in-Some
 otherwise-returns-in-Some h c =
     let a = c.args.around in
-    record { leads = else_some (env_of c.args.self.now a) (env_of c.scoped.new.self a) c.args.body.now c.in-Some.body c.deref.result.now c.scoped.result c.in-Some.is c.deref.ensures.value c.scoped.ensures.leads }
+    record {
+      leads = else_some (env_of c.args.self.now a) (env_of c.scoped.new.self a) c.args.body.now c.in-Some.body c.deref.result.now c.scoped.result c.in-Some.is c.deref.ensures.value
+          c.scoped.ensures.leads;
+    }
 
 pub part-returns-in-Some : goal.part-returns-in-Some
 part-returns-in-Some h c =
@@ -187,7 +195,8 @@ stmt-returns-in_err-scoped-in-For h c =
     let cut_walk = record c.part-in-For.new.self { setting = record c.part-in-For.new.self.setting { vars = c.truncate.new.self } } in
     let cut = env_of cut_walk a in
     let q = c.in_ok-part-in-For-2.ensures.answer in
-    let step_vars = vars_cut (bound found_of) c.part.new.self.setting.vars.entries c.part-in-For.new.self.setting.vars.entries c.truncate.new.self.entries c.len-started.result c.len-started.ensures.len c.truncate.ensures.entries in
+    let step_vars = vars_cut (bound found_of) c.part.new.self.setting.vars.entries c.part-in-For.new.self.setting.vars.entries c.truncate.new.self.entries c.len-started.result
+    c.len-started.ensures.len c.truncate.ensures.entries in
     let behind_step = scoped_closed mid last cut n (grows_started mid last n q.1 q.2) step_vars refl refl refl refl in
     let done = env_of c.scoped-in-For.new.self a in
     let x = c.in_err-scoped-in-For.field-0.0 in
@@ -197,7 +206,8 @@ stmt-returns-in_err-scoped-in-For h c =
           (for_body_err e done at i t n b x mid cut done u c.in_ok-item-in-For.field-0 c.in_ok-part-in-For.ensures.answer test q.0 behind_step
           (loop_leads cut (env_of cut_walk c.in_loop-in-For.result) done (env_of c.scoped-in-For.new.self c.in_loop-in-For.result) b (Err x)
           (ap (env_of cut_walk) c.in_loop-in-For.ensures) (ap (env_of c.scoped-in-For.new.self) c.in_loop-in-For.ensures) refl
-          (leads_at (env_of cut_walk c.in_loop-in-For.result) (env_of c.scoped-in-For.new.self c.in_loop-in-For.result) c.in-For.body.items c.deref-in-For.result.now (Err x) c.deref-in-For.ensures.value c.in_err-scoped-in-For.ensures.leads))));
+          (leads_at (env_of cut_walk c.in_loop-in-For.result) (env_of c.scoped-in-For.new.self c.in_loop-in-For.result) c.in-For.body.items c.deref-in-For.result.now
+          (Err x) c.deref-in-For.ensures.value c.in_err-scoped-in-For.ensures.leads))));
     }
 
 pub stmt-returns-in_err-item-in-Try : goal.stmt-returns-in_err-item-in-Try
@@ -301,7 +311,8 @@ stmt-returns-in_ok-scoped-in-For h c =
     let cut_walk = record c.part-in-For.new.self { setting = record c.part-in-For.new.self.setting { vars = c.truncate.new.self } } in
     let cut = env_of cut_walk a in
     let q = c.in_ok-part-in-For-2.ensures.answer in
-    let step_vars = vars_cut (bound found_of) c.part.new.self.setting.vars.entries c.part-in-For.new.self.setting.vars.entries c.truncate.new.self.entries c.len-started.result c.len-started.ensures.len c.truncate.ensures.entries in
+    let step_vars = vars_cut (bound found_of) c.part.new.self.setting.vars.entries c.part-in-For.new.self.setting.vars.entries c.truncate.new.self.entries c.len-started.result
+    c.len-started.ensures.len c.truncate.ensures.entries in
     let behind_step = scoped_closed mid last cut n (grows_started mid last n q.1 q.2) step_vars refl refl refl refl in
     let done = env_of c.scoped-in-For.new.self a in
     let z = c.in_ok-scoped-in-For.field-0 in
@@ -309,7 +320,8 @@ stmt-returns-in_ok-scoped-in-For h c =
     let first = c.in_ok-part-in-For.ensures.answer in
     let body = (loop_leads cut (env_of cut_walk c.in_loop-in-For.result) done (env_of c.scoped-in-For.new.self c.in_loop-in-For.result) b (Ok z)
     (ap (env_of cut_walk) c.in_loop-in-For.ensures) (ap (env_of c.scoped-in-For.new.self) c.in_loop-in-For.ensures) refl
-    (leads_at (env_of cut_walk c.in_loop-in-For.result) (env_of c.scoped-in-For.new.self c.in_loop-in-For.result) c.in-For.body.items c.deref-in-For.result.now (Ok z) c.deref-in-For.ensures.value c.in_ok-scoped-in-For.ensures.leads)) in
+    (leads_at (env_of cut_walk c.in_loop-in-For.result) (env_of c.scoped-in-For.new.self c.in_loop-in-For.result) c.in-For.body.items c.deref-in-For.result.now
+    (Ok z) c.deref-in-For.ensures.value c.in_ok-scoped-in-For.ensures.leads)) in
     record {
       answer = answer_as e new (stmt_of s) (ForStmt at i t n b) (Ok z) kind
           (for_ok e mid last cut done new at i t n b u c.in_ok-item-in-For.field-0 c.in_ok-part-in-For-2.field-0 z z first test q body
@@ -324,7 +336,8 @@ stmt-returns-in_ok-scoped-in-For h c =
             kept_looped = refl;
             kept_caught = refl;
             body = body.1;
-            body_vars = vars_cut (bound found_of) c.args.self.now.setting.vars.entries c.scoped-in-For.new.self.setting.vars.entries c.truncate-in-For.new.self.entries c.len-count.result c.len-count.ensures.len c.truncate-in-For.ensures.entries;
+            body_vars = vars_cut (bound found_of) c.args.self.now.setting.vars.entries c.scoped-in-For.new.self.setting.vars.entries c.truncate-in-For.new.self.entries c.len-count.result
+                c.len-count.ensures.len c.truncate-in-For.ensures.entries;
             new_states = refl;
             new_kept = refl;
             new_looped = refl;
@@ -398,7 +411,8 @@ stmt-returns-in_ok-item-in-Declare h c =
     let u = c.in_ok-item-in-Declare.field-0 in
     record {
       answer = answer_as e new (stmt_of s) (DeclareStmt at i v) c.declared.result (stmt_declare s c.in-Declare.into c.in-Declare.value c.in-Declare.is)
-          (declare_last c.args.self.now c.declared.new.self a at i v u c.declared.result (says_at at _ _ (Ok u) c.declaration.ensures c.in_ok-item-in-Declare.ensures) c.declared.ensures.declared c.declared.ensures.memory);
+          (declare_last c.args.self.now c.declared.new.self a at i v u c.declared.result (says_at at _ _ (Ok u) c.declaration.ensures c.in_ok-item-in-Declare.ensures) c.declared.ensures.declared
+          c.declared.ensures.memory);
     }
 
 pub stmt-returns-in-Assign : goal.stmt-returns-in-Assign

@@ -54,6 +54,7 @@ pub put_expr-returns-in_ok-put_expr-in-Paren : goal.put_expr-returns-in_ok-put_e
 put_expr-returns-in_ok-put_expr-in-Paren t c =
     rw (c.in-Paren.is, expr_paren c.in-Paren.of)
     (IfOk-weaker c.put-in-Paren-2.result _ _
-    (λ done last. one_by_one c.args.self.now c.put-in-Paren.new.self c.put_expr-in-Paren.new.self c.put-in-Paren-2.new.self (codes "(") (expr_text (expr_of c.in-Paren.of.value)) (codes ")") c.in_ok-put-in-Paren.ensures
+    (λ done last. one_by_one c.args.self.now c.put-in-Paren.new.self c.put_expr-in-Paren.new.self c.put-in-Paren-2.new.self (codes "(") (expr_text (expr_of c.in-Paren.of.value))
+    (codes ")") c.in_ok-put-in-Paren.ensures
     (c.in_ok-put_expr-in-Paren.ensures ∙ ap (λ x. c.put-in-Paren.new.self ++ expr_text (expr_of x)) c.deref-in-Paren.ensures) last)
     c.put-in-Paren-2.ensures)

@@ -13,7 +13,8 @@ put_nested-returns-in_ok-put_handler-in-Try t c =
     let k = c.args.level in
     puts_kind k c.args.stmt.now _ _ _ _ _ c.in-Try.is (kind_try c.in-Try.body c.in-Try.field-1 c.in-Try.error c.in-Try.handler) (λ at rest. refl)
     (five c.args.self.now _ _ _ (line k (codes "try {")) _ _ _ _ c.in_ok-put_line-in-Try.ensures c.in_ok-put_deeper-in-Try.ensures c.in_ok-put_handler-in-Try.ensures
-    ∙ ap₂ (λ b h. c.args.self.now ++ (line k (codes "try {") ++ body_text (suc k) (body_of b) ++ line k (codes "} catch (Error& " ++ c.in-Try.error.name ++ codes ") {") ++ body_text (suc k) (body_of h) ++ line k (codes "}")))
+    ∙ ap₂ (λ b h. c.args.self.now ++ (line k (codes "try {") ++ body_text (suc k) (body_of b) ++ line k (codes "} catch (Error& " ++ c.in-Try.error.name ++ codes ") {")
+    ++ body_text (suc k) (body_of h) ++ line k (codes "}")))
     c.deref-in-Try.ensures.value c.deref-in-Try-2.ensures.value)
 
 pub put_nested-returns-in_ok-put_branches-in-Choose : goal.put_nested-returns-in_ok-put_branches-in-Choose
@@ -70,7 +71,8 @@ put_body-returns t c = body_end c.args.level c.args.body.now _ _ c.loop-stmt.stm
 
 pub put_whens-loop-branch-preserved : goal.put_whens-loop-branch-preserved
 put_whens-loop-branch-preserved t c =
-    branches_step c.args.level c.args.branches.now c.loop-branch.branch-index c.branch-item.result _ _ _ (omega (arith, c.loop-branch-test.true)) c.branch-item.is c.in_ok-put_when.ensures c.loop-branch.invariant
+    branches_step c.args.level c.args.branches.now c.loop-branch.branch-index c.branch-item.result _ _ _ (omega (arith, c.loop-branch-test.true)) c.branch-item.is c.in_ok-put_when.ensures
+    c.loop-branch.invariant
 
 pub put_whens-returns : goal.put_whens-returns
 put_whens-returns t c = branches_end c.args.level c.args.branches.now _ _ c.loop-branch.branch-index (omega (arith, c.loop-branch-test.false)) c.loop-branch.invariant

@@ -18,7 +18,8 @@ loop-name-preserved c =
     let inv = c.loop-name.invariant in
     let words = drawn_words c.args.draws.now in
     let steps : c.loop-name.name-iterator ≡ entry ∷ rest = c.in-Some.ensures.steps in
-    let more : most_words (files_of c.loop-name.name-iterator) ≡ 2 * length c.in-Some.file.now.unsynced + most_words (files_of rest) = ap (λ es. most_words (files_of es)) steps ∙ more_words entry rest in
+    let more : most_words (files_of c.loop-name.name-iterator) ≡ 2 * length c.in-Some.file.now.unsynced + most_words (files_of rest) =
+    ap (λ es. most_words (files_of es)) steps ∙ more_words entry rest in
     record {
       lost =
           ap (λ l. lose_files words l (files_of rest))

@@ -19,7 +19,8 @@ use Rattle.flow_split.proofs.emitter.Emitter.+lower.Goals as goal
 
 pub put_scope-returns : goal.put_scope-returns
 put_scope-returns t c =
-    in_own_scope (names_in c.args.context.now) (slots_in c.args.context.now) (around_of c.args.around.now) (body_of c.args.body.now) _ _ _ _ c.in_ok-enter.ensures c.in_ok-put_body.ensures c.leave.ensures
+    in_own_scope (names_in c.args.context.now) (slots_in c.args.context.now) (around_of c.args.around.now) (body_of c.args.body.now) _ _ _ _ c.in_ok-enter.ensures c.in_ok-put_body.ensures
+    c.leave.ensures
 
 pub put_handler-returns : goal.put_handler-returns
 put_handler-returns t c =
@@ -28,7 +29,8 @@ put_handler-returns t c =
 
 pub put_block-returns : goal.put_block-returns
 put_block-returns t c at =
-    block_emits _ _ _ _ _ _ _ at _ _ c.requires (omega (arith, c.in_ok-join.ensures, c.in_ok-block.ensures, c.in_ok-size.ensures.blocks)) c.in_ok-inner.ensures c.in_ok-put_scope.ensures c.begin.ensures
+    block_emits _ _ _ _ _ _ _ at _ _ c.requires (omega (arith, c.in_ok-join.ensures, c.in_ok-block.ensures, c.in_ok-size.ensures.blocks)) c.in_ok-inner.ensures c.in_ok-put_scope.ensures
+    c.begin.ensures
 
 pub put_if-returns : goal.put_if-returns
 put_if-returns t c at =
@@ -50,7 +52,8 @@ pub put_while-returns : goal.put_while-returns
 put_while-returns t c at =
     while_emits _ _ _ _ _ _ _ _ _ _ _ at _ _ _ _ _ _ c.requires c.in_ok-head.ensures (omega (arith, c.in_ok-main.ensures, c.in_ok-head.ensures))
     (omega (arith, c.in_ok-out.ensures, c.in_ok-main.ensures, c.in_ok-head.ensures))
-    (ap (λ d. over (slots_in c.args.context.now) d.scopes (expr_of c.args.test.now)) (c.begin.ensures ∙ ap opened c.in_ok-close.ensures)) c.in_ok-close.ensures c.begin.ensures c.in_ok-close_test.ensures c.begin-2.ensures c.in_ok-inner.ensures c.in_ok-put_scope.ensures c.begin-3.ensures
+    (ap (λ d. over (slots_in c.args.context.now) d.scopes (expr_of c.args.test.now)) (c.begin.ensures ∙ ap opened c.in_ok-close.ensures)) c.in_ok-close.ensures c.begin.ensures
+    c.in_ok-close_test.ensures c.begin-2.ensures c.in_ok-inner.ensures c.in_ok-put_scope.ensures c.begin-3.ensures
 
 pub put_try-returns : goal.put_try-returns
 put_try-returns t c at catch =
@@ -69,17 +72,20 @@ put_for-returns t c at =
     for_emits _ _ _ _ _ _ _ _ _ _ _ _ _ _ _ at _ _ _ _ _ _ _ _ c.requires (omega (arith, c.in_ok-head.ensures, c.in_ok-block.ensures)) main
     (omega (arith, c.in_ok-again.ensures, main))
     (omega (arith, c.in_ok-out.ensures, c.in_ok-past_part.ensures, c.in_ok-again.ensures, main))
-    c.in_ok-part.ensures c.in_ok-inner.ensures c.in_ok-enter.ensures c.in_ok-put_part.ensures c.begin.ensures c.in_ok-put_test.ensures c.in_ok-put_scope.ensures c.begin-2.ensures c.in_ok-put_part-2.ensures
+    c.in_ok-part.ensures c.in_ok-inner.ensures c.in_ok-enter.ensures c.in_ok-put_part.ensures c.begin.ensures c.in_ok-put_test.ensures c.in_ok-put_scope.ensures c.begin-2.ensures
+    c.in_ok-put_part-2.ensures
     c.begin-3.ensures (c.leave.ensures ∙ ap out_of_scope c.in_ok-drop_scope.ensures)
 
 pub put_choose-returns : goal.put_choose-returns
 put_choose-returns t c at =
     choose_emits _ _ _ _ _ _ _ _ at _ _ _ c.requires c.in_ok-first.ensures (omega (arith, c.in_ok-join.ensures, c.in_ok-first.ensures, c.in_ok-size.ensures.blocks)) c.in_ok-inner.ensures
-    (choose_waits (names_in c.args.context.now) (slots_in c.args.context.now) (around_of c.args.around.now) (emitted c.args.self.now) _ (branches_of c.args.branches.now) _ _ c.in_ok-first.ensures c.in_ok-callbacks.ensures c.in_ok-wait_for.ensures) c.in_ok-put_branches.ensures c.begin.ensures
+    (choose_waits (names_in c.args.context.now) (slots_in c.args.context.now) (around_of c.args.around.now) (emitted c.args.self.now) _
+    (branches_of c.args.branches.now) _ _ c.in_ok-first.ensures c.in_ok-callbacks.ensures c.in_ok-wait_for.ensures) c.in_ok-put_branches.ensures c.begin.ensures
 
 pub put_body-loop-stmt-preserved : goal.put_body-loop-stmt-preserved
 put_body-loop-stmt-preserved t c =
-    going_next _ _ _ _ c.args.body.now c.loop-stmt.stmt-index c.stmt-item.result _ _ _ _ (omega (arith, c.loop-stmt-test.true)) c.stmt-item.is c.begin.ensures c.in_ok-put_stmt.ensures c.loop-stmt.invariant
+    going_next _ _ _ _ c.args.body.now c.loop-stmt.stmt-index c.stmt-item.result _ _ _ _ (omega (arith, c.loop-stmt-test.true)) c.stmt-item.is c.begin.ensures c.in_ok-put_stmt.ensures
+    c.loop-stmt.invariant
 
 pub put_body-returns : goal.put_body-returns
 put_body-returns t c =
@@ -87,7 +93,8 @@ put_body-returns t c =
 
 pub put_branches-loop-branch-preserved : goal.put_branches-loop-branch-preserved
 put_branches-loop-branch-preserved t c =
-    branching_next _ _ _ _ c.args.branches.now c.loop-branch.branch-index c.branch-item.result _ _ _ _ (omega (arith, c.loop-branch-test.true)) c.branch-item.is c.begin.ensures c.in_ok-put_branch.ensures
+    branching_next _ _ _ _ c.args.branches.now c.loop-branch.branch-index c.branch-item.result _ _ _ _
+    (omega (arith, c.loop-branch-test.true)) c.branch-item.is c.begin.ensures c.in_ok-put_branch.ensures
     c.loop-branch.invariant
 
 pub put_branches-returns : goal.put_branches-returns
@@ -110,10 +117,12 @@ pub put_stmt-returns-in-Loop : goal.put_stmt-returns-in-Loop
 put_stmt-returns-in-Loop t c = on_ok_weaker c.put_loop.result (of_loop _ _ _ c.args.stmt.now _ _ c.in-Loop.body _ c.in-Loop.is c.deref-in-Loop.ensures.value) c.put_loop.ensures
 
 pub put_stmt-returns-in-For : goal.put_stmt-returns-in-For
-put_stmt-returns-in-For t c = on_ok_weaker c.put_for.result (of_for _ _ _ c.args.stmt.now _ _ c.in-For.init c.in-For.test c.in-For.step c.in-For.body _ c.in-For.is c.deref-in-For.ensures.value) c.put_for.ensures
+put_stmt-returns-in-For t c = on_ok_weaker c.put_for.result (of_for _ _ _ c.args.stmt.now _ _ c.in-For.init c.in-For.test c.in-For.step c.in-For.body _ c.in-For.is c.deref-in-For.ensures.value)
+    c.put_for.ensures
 
 pub put_stmt-returns-in-Try : goal.put_stmt-returns-in-Try
-put_stmt-returns-in-Try t c = on_ok_weaker c.put_try.result (of_try _ _ _ c.args.stmt.now _ _ c.in-Try.body _ c.in-Try.error c.in-Try.handler _ _ c.in-Try.is c.deref-in-Try.ensures.value c.deref-in-Try-2.ensures.value) c.put_try.ensures
+put_stmt-returns-in-Try t c = on_ok_weaker c.put_try.result (of_try _ _ _ c.args.stmt.now _ _ c.in-Try.body _ c.in-Try.error c.in-Try.handler _ _ c.in-Try.is c.deref-in-Try.ensures.value
+    c.deref-in-Try-2.ensures.value) c.put_try.ensures
 
 pub put_stmt-returns-in-Choose : goal.put_stmt-returns-in-Choose
 put_stmt-returns-in-Choose t c = on_ok_weaker c.put_choose.result (of_choose _ _ _ c.args.stmt.now _ _ c.in-Choose.branches _ c.in-Choose.is c.deref-in-Choose.ensures.value) c.put_choose.ensures
@@ -143,14 +152,17 @@ pub put_stmt-returns-in-Modify : goal.put_stmt-returns-in-Modify
 put_stmt-returns-in-Modify t c = on_ok_weaker c.put_modify.result (of_modify _ _ _ c.args.stmt.now _ _ c.in-Modify.target c.in-Modify.change c.in-Modify.is c.requires) c.put_modify.ensures
 
 pub put_stmt-returns-in-Call : goal.put_stmt-returns-in-Call
-put_stmt-returns-in-Call t c = on_ok_weaker c.put_call.result (of_call _ _ _ c.args.stmt.now _ _ c.in-Call.target c.in-Call.args _ c.in-Call.is c.deref-in-Call.ensures.value c.requires) c.put_call.ensures
+put_stmt-returns-in-Call t c = on_ok_weaker c.put_call.result (of_call _ _ _ c.args.stmt.now _ _ c.in-Call.target c.in-Call.args _ c.in-Call.is c.deref-in-Call.ensures.value c.requires)
+    c.put_call.ensures
 
 pub put_stmt-returns-in-None : goal.put_stmt-returns-in-None
 put_stmt-returns-in-None t c =
-    on_ok_weaker c.put_if.result (of_if _ _ _ c.args.stmt.now _ _ c.in-If.test c.in-If.body _ (c.in-If.is ∙ ap (λ o. kind.If c.in-If.test c.in-If.body o) c.in-None.is) c.deref-in-None.ensures.value) c.put_if.ensures
+    on_ok_weaker c.put_if.result (of_if _ _ _ c.args.stmt.now _ _ c.in-If.test c.in-If.body _ (c.in-If.is ∙ ap (λ o. kind.If c.in-If.test c.in-If.body o) c.in-None.is) c.deref-in-None.ensures.value)
+    c.put_if.ensures
 
 pub put_stmt-returns-in-Some : goal.put_stmt-returns-in-Some
 put_stmt-returns-in-Some t c =
     on_ok_weaker c.put_if_else.result
-    (of_if_else _ _ _ c.args.stmt.now _ _ c.in-If.test c.in-If.body _ _ _ (c.in-If.is ∙ ap (λ o. kind.If c.in-If.test c.in-If.body o) c.in-Some.is) c.deref-in-Some.ensures.value c.deref-in-Some-2.ensures.value)
+    (of_if_else _ _ _ c.args.stmt.now _ _ c.in-If.test c.in-If.body _ _ _ (c.in-If.is ∙ ap (λ o. kind.If c.in-If.test c.in-If.body o) c.in-Some.is) c.deref-in-Some.ensures.value
+    c.deref-in-Some-2.ensures.value)
     c.put_if_else.ensures

@@ -16,8 +16,10 @@ inside-returns-in_ok-scope-in-Block-clause-finds t c =
 
 pub inside-returns-in_ok-otherwise-in-If-clause-finds : goal.inside-returns-in_ok-otherwise-in-If-clause-finds
 inside-returns-in_ok-otherwise-in-If-clause-finds t c =
-    after_if _ c.expr.new.self c.scope-in-If.new.self _ _ c.args.stmt.now c.in-If.test c.in-If.chosen c.in-If.otherwise _ c.past.result c.in-If.is refl c.in_ok-expr-in-If.ensures.uses c.in_ok-expr-in-If.ensures.variables
-    c.in_ok-scope-in-If.ensures.uses c.in_ok-scope-in-If.ensures.variables (c.past.ensures ∙ ap (λ l. record c.args.here { looked = record { 0 = left c.args.here.looked.0 (body_of l) } }) c.deref.ensures.value)
+    after_if _ c.expr.new.self c.scope-in-If.new.self _ _ c.args.stmt.now c.in-If.test c.in-If.chosen c.in-If.otherwise _ c.past.result c.in-If.is refl c.in_ok-expr-in-If.ensures.uses
+    c.in_ok-expr-in-If.ensures.variables
+    c.in_ok-scope-in-If.ensures.uses c.in_ok-scope-in-If.ensures.variables
+    (c.past.ensures ∙ ap (λ l. record c.args.here { looked = record { 0 = left c.args.here.looked.0 (body_of l) } }) c.deref.ensures.value)
     c.in_ok-otherwise-in-If.ensures.uses c.in_ok-otherwise-in-If.ensures.variables
 
 pub inside-returns-in_ok-scope-in-While-clause-finds : goal.inside-returns-in_ok-scope-in-While-clause-finds
@@ -29,7 +31,8 @@ inside-returns-in_ok-scope-in-While-clause-finds t c =
 pub inside-returns-in_ok-scope-in-Loop-clause-finds : goal.inside-returns-in_ok-scope-in-Loop-clause-finds
 inside-returns-in_ok-scope-in-Loop-clause-finds t c =
     after_loop _ _ _ c.round-round-in-Loop.result c.args.stmt.now c.in-Loop.body _ c.count-in-Loop.result c.in-Loop.is refl c.count-in-Loop.ensures.count
-    (c.round-round-in-Loop.ensures ∙ ap (λ l. record c.args.here { point = behind c.count-in-Loop.result c.args.here.point (head (ways c.args.here.looked.0 (body_of l))) }) c.deref-in-Loop.ensures.value)
+    (c.round-round-in-Loop.ensures ∙ ap (λ l. record c.args.here { point = behind c.count-in-Loop.result c.args.here.point (head (ways c.args.here.looked.0 (body_of l))) })
+    c.deref-in-Loop.ensures.value)
     c.in_ok-scope-in-Loop.ensures.uses c.in_ok-scope-in-Loop.ensures.variables
 
 pub inside-returns-in-Break-clause-finds : goal.inside-returns-in-Break-clause-finds
@@ -51,8 +54,10 @@ inside-returns-in_ok-thrown-in-Throw-clause-finds t c =
 pub inside-returns-in_ok-handled-in-Try-clause-finds : goal.inside-returns-in_ok-handled-in-Try-clause-finds
 inside-returns-in_ok-handled-in-Try-clause-finds t c =
     let f = c.scope-in-Try.new.self in
-    after_try _ f _ _ c.caught-caught.result c.args.stmt.now c.in-Try.body _ c.in-Try.error c.in-Try.handler _ _ c.in-Try.is refl refl c.in_ok-scope-in-Try.ensures.uses c.in_ok-scope-in-Try.ensures.variables
-    (c.caught-caught.ensures ∙ ap (λ l. in_handler (length (in_force f.variables)) c.args.here (body_of l) c.in-Try.error) c.deref-in-Try.ensures.value) c.in_ok-handled-in-Try.ensures.uses c.in_ok-handled-in-Try.ensures.variables
+    after_try _ f _ _ c.caught-caught.result c.args.stmt.now c.in-Try.body _ c.in-Try.error c.in-Try.handler _ _ c.in-Try.is refl refl c.in_ok-scope-in-Try.ensures.uses
+    c.in_ok-scope-in-Try.ensures.variables
+    (c.caught-caught.ensures ∙ ap (λ l. in_handler (length (in_force f.variables)) c.args.here (body_of l) c.in-Try.error) c.deref-in-Try.ensures.value) c.in_ok-handled-in-Try.ensures.uses
+    c.in_ok-handled-in-Try.ensures.variables
 
 pub inside-returns-in_ok-choose-in-Choose-clause-finds : goal.inside-returns-in_ok-choose-in-Choose-clause-finds
 inside-returns-in_ok-choose-in-Choose-clause-finds t c =
@@ -60,21 +65,25 @@ inside-returns-in_ok-choose-in-Choose-clause-finds t c =
 
 pub inside-returns-in_ok-declare_into-in-Declare-clause-finds : goal.inside-returns-in_ok-declare_into-in-Declare-clause-finds
 inside-returns-in_ok-declare_into-in-Declare-clause-finds t c =
-    after_declare _ c.maybe-in-Declare.new.self _ _ c.args.stmt.now c.in-Declare.into c.in-Declare.value c.in-Declare.is c.in_ok-maybe-in-Declare.ensures.uses c.in_ok-maybe-in-Declare.ensures.variables refl c.in_ok-declare_into-in-Declare.ensures.declares
+    after_declare _ c.maybe-in-Declare.new.self _ _ c.args.stmt.now c.in-Declare.into c.in-Declare.value c.in-Declare.is c.in_ok-maybe-in-Declare.ensures.uses
+    c.in_ok-maybe-in-Declare.ensures.variables refl c.in_ok-declare_into-in-Declare.ensures.declares
 
 pub inside-returns-in_ok-expr-in-Assign-clause-finds : goal.inside-returns-in_ok-expr-in-Assign-clause-finds
 inside-returns-in_ok-expr-in-Assign-clause-finds t c =
-    after_assign _ (record { variables = c.args.self.now.variables; uses = c.add_target.new.found }) _ _ c.args.stmt.now c.in-Assign.target c.in-Assign.value c.in-Assign.is c.in_ok-add_target-in-Assign.ensures refl
+    after_assign _ (record { variables = c.args.self.now.variables; uses = c.add_target.new.found }) _ _ c.args.stmt.now c.in-Assign.target c.in-Assign.value c.in-Assign.is
+    c.in_ok-add_target-in-Assign.ensures refl
     c.in_ok-expr-in-Assign.ensures.uses c.in_ok-expr-in-Assign.ensures.variables
 
 pub inside-returns-in_ok-add_change-in-Modify-clause-finds : goal.inside-returns-in_ok-add_change-in-Modify-clause-finds
 inside-returns-in_ok-add_change-in-Modify-clause-finds t c =
-    after_modify _ (record { variables = c.args.self.now.variables; uses = c.add_target-in-Modify.new.found }) _ _ c.args.stmt.now c.in-Modify.target c.in-Modify.change c.in-Modify.is c.in_ok-add_target-in-Modify.ensures refl
+    after_modify _ (record { variables = c.args.self.now.variables; uses = c.add_target-in-Modify.new.found }) _ _ c.args.stmt.now c.in-Modify.target c.in-Modify.change c.in-Modify.is
+    c.in_ok-add_target-in-Modify.ensures refl
     c.in_ok-add_change-in-Modify.ensures refl
 
 pub inside-returns-in_ok-add_exprs-in-Call-clause-finds : goal.inside-returns-in_ok-add_exprs-in-Call-clause-finds
 inside-returns-in_ok-add_exprs-in-Call-clause-finds t c =
-    after_call _ (record { variables = c.args.self.now.variables; uses = c.add_base.new.found }) _ _ c.args.stmt.now c.in-Call.target c.in-Call.args _ c.in-Call.is c.deref-in-Call.ensures.value c.in_ok-add_base-in-Call.ensures refl
+    after_call _ (record { variables = c.args.self.now.variables; uses = c.add_base.new.found }) _ _ c.args.stmt.now c.in-Call.target c.in-Call.args _ c.in-Call.is c.deref-in-Call.ensures.value
+    c.in_ok-add_base-in-Call.ensures refl
     c.in_ok-add_exprs-in-Call.ensures refl
 
 pub inside-returns-in_ok-bind-in-Wait-clause-finds : goal.inside-returns-in_ok-bind-in-Wait-clause-finds
@@ -156,7 +165,8 @@ body-returns-clause-keeps t c = c.loop-stmt.invariant.1
 
 pub choose-loop-branch-preserved : goal.choose-loop-branch-preserved
 choose-loop-branch-preserved t c = (
-  branches_next c.loop-branch.self c.branch-self.new.self c.args.here.point c.loop-branch.inner c.in_ok-inner.inner c.args.branches.now c.loop-branch.branch-index c.branch-item.result _ (omega (arith, c.loop-branch-test.true)) c.branch-item.is
+  branches_next c.loop-branch.self c.branch-self.new.self c.args.here.point c.loop-branch.inner c.in_ok-inner.inner c.args.branches.now c.loop-branch.branch-index c.branch-item.result _
+      (omega (arith, c.loop-branch-test.true)) c.branch-item.is
       c.in_ok-inner.ensures.uses c.loop-branch.invariant.0,
   c.in_ok-inner.ensures.variables ∙ c.loop-branch.invariant.1,
 )

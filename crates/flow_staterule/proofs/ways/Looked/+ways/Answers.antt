@@ -21,7 +21,8 @@ no_waits s put n m is me h k = ap (λ b. n - length (body_groups b)) (is k) ∙ 
 
 pub body-loop-stmt-preserved : goal.body-loop-stmt-preserved
 body-loop-stmt-preserved t c = (
-  ways_next c.args.stmts.now c.loop-stmt.stmt-index c.stmt-item.result _ _ _ _ _ _ (omega (arith, c.loop-stmt-test.true)) c.stmt-item.is c.sequence.ensures c.stmt-more.ensures.ways c.loop-stmt.invariant.0,
+  ways_next c.args.stmts.now c.loop-stmt.stmt-index c.stmt-item.result _ _ _ _ _ _ (omega (arith, c.loop-stmt-test.true)) c.stmt-item.is c.sequence.ensures c.stmt-more.ensures.ways
+      c.loop-stmt.invariant.0,
   looked_next c.args.stmts.now c.loop-stmt.stmt-index c.stmt-item.result _ _ _ (omega (arith, c.loop-stmt-test.true)) c.stmt-item.is c.stmt-more.ensures.looked c.loop-stmt.invariant.1,
 )
 
@@ -30,8 +31,10 @@ body-returns-clause-ways t c = ways_end c.args.stmts.now c.loop-stmt.stmt-index 
 
 pub branches-loop-branch-preserved : goal.branches-loop-branch-preserved
 branches-loop-branch-preserved t c = (
-  branch_ways_next c.args.branches.now c.loop-branch.branch-index c.branch-item.result _ _ _ _ _ _ (omega (arith, c.loop-branch-test.true)) c.branch-item.is c.both.ensures c.branch-more.ensures.ways c.loop-branch.invariant.0,
-  branch_looked_next c.args.branches.now c.loop-branch.branch-index c.branch-item.result _ _ _ (omega (arith, c.loop-branch-test.true)) c.branch-item.is c.branch-more.ensures.looked c.loop-branch.invariant.1,
+  branch_ways_next c.args.branches.now c.loop-branch.branch-index c.branch-item.result _ _ _ _ _ _ (omega (arith, c.loop-branch-test.true)) c.branch-item.is c.both.ensures c.branch-more.ensures.ways
+      c.loop-branch.invariant.0,
+  branch_looked_next c.args.branches.now c.loop-branch.branch-index c.branch-item.result _ _ _ (omega (arith, c.loop-branch-test.true)) c.branch-item.is c.branch-more.ensures.looked
+      c.loop-branch.invariant.1,
 )
 
 pub branches-returns-clause-ways : goal.branches-returns-clause-ways
@@ -44,7 +47,8 @@ stmt-returns-in-If-clause-ways t c =
 
 pub stmt-returns-in-If-clause-looked : goal.stmt-returns-in-If-clause-looked
 stmt-returns-in-If-clause-looked t c =
-    waits_if c.args.stmt.now _ _ c.in-If.otherwise c.deref.result.now c.args.self.0 c.body-chosen.result.looked.0 _ c.in-If.is c.deref.ensures.value c.body-chosen.ensures.looked c.branching.ensures.looked
+    waits_if c.args.stmt.now _ _ c.in-If.otherwise c.deref.result.now c.args.self.0 c.body-chosen.result.looked.0 _ c.in-If.is c.deref.ensures.value c.body-chosen.ensures.looked
+    c.branching.ensures.looked
 
 pub stmt-returns-in-For-clause-ways : goal.stmt-returns-in-For-clause-ways
 stmt-returns-in-For-clause-ways t c =
@@ -65,7 +69,8 @@ stmt-returns-in-Try-clause-looked t c =
 
 pub stmt-returns-in-Break-clause-ways : goal.stmt-returns-in-Break-clause-ways
 stmt-returns-in-Break-clause-ways t c =
-    ways_as c.args.stmt.now _ c.args.self.0 _ c.args.self.0 _ _ (λ k. is_break c.args.stmt.now k c.in-Break.is) (ap (λ l. l.0) c.none_of.ensures.looked) (c.none_of.ensures.ways ∙ c.breaking.ensures) (λ k. refl)
+    ways_as c.args.stmt.now _ c.args.self.0 _ c.args.self.0 _ _ (λ k. is_break c.args.stmt.now k c.in-Break.is) (ap (λ l. l.0) c.none_of.ensures.looked) (c.none_of.ensures.ways ∙ c.breaking.ensures)
+    (λ k. refl)
 
 pub stmt-returns-in-Break-clause-looked : goal.stmt-returns-in-Break-clause-looked
 stmt-returns-in-Break-clause-looked t c =
@@ -73,7 +78,8 @@ stmt-returns-in-Break-clause-looked t c =
 
 pub stmt-returns-in-Continue-clause-ways : goal.stmt-returns-in-Continue-clause-ways
 stmt-returns-in-Continue-clause-ways t c =
-    ways_as c.args.stmt.now _ c.args.self.0 _ c.args.self.0 _ _ (λ k. is_continue c.args.stmt.now k c.in-Continue.is) (ap (λ l. l.0) c.none_of-in-Continue.ensures.looked) (c.none_of-in-Continue.ensures.ways ∙ c.continuing.ensures) (λ k. refl)
+    ways_as c.args.stmt.now _ c.args.self.0 _ c.args.self.0 _ _ (λ k. is_continue c.args.stmt.now k c.in-Continue.is) (ap (λ l. l.0) c.none_of-in-Continue.ensures.looked)
+    (c.none_of-in-Continue.ensures.ways ∙ c.continuing.ensures) (λ k. refl)
 
 pub stmt-returns-in-Continue-clause-looked : goal.stmt-returns-in-Continue-clause-looked
 stmt-returns-in-Continue-clause-looked t c =
@@ -81,7 +87,8 @@ stmt-returns-in-Continue-clause-looked t c =
 
 pub stmt-returns-in-Return-clause-ways : goal.stmt-returns-in-Return-clause-ways
 stmt-returns-in-Return-clause-ways t c =
-    ways_as c.args.stmt.now _ c.args.self.0 _ c.args.self.0 _ _ (λ k. is_return c.args.stmt.now _ k c.in-Return.is) (ap (λ l. l.0) c.none_of-in-Return.ensures.looked) (c.none_of-in-Return.ensures.ways ∙ c.node-in-Return.ensures) (λ k. refl)
+    ways_as c.args.stmt.now _ c.args.self.0 _ c.args.self.0 _ _ (λ k. is_return c.args.stmt.now _ k c.in-Return.is) (ap (λ l. l.0) c.none_of-in-Return.ensures.looked)
+    (c.none_of-in-Return.ensures.ways ∙ c.node-in-Return.ensures) (λ k. refl)
 
 pub stmt-returns-in-Return-clause-looked : goal.stmt-returns-in-Return-clause-looked
 stmt-returns-in-Return-clause-looked t c =
@@ -89,7 +96,8 @@ stmt-returns-in-Return-clause-looked t c =
 
 pub stmt-returns-in-Throw-clause-ways : goal.stmt-returns-in-Throw-clause-ways
 stmt-returns-in-Throw-clause-ways t c =
-    ways_as c.args.stmt.now _ c.args.self.0 _ c.args.self.0 _ _ (λ k. is_throw c.args.stmt.now _ k c.in-Throw.is) (ap (λ l. l.0) c.none_of-in-Throw.ensures.looked) (c.none_of-in-Throw.ensures.ways ∙ c.node-in-Throw.ensures) (λ k. refl)
+    ways_as c.args.stmt.now _ c.args.self.0 _ c.args.self.0 _ _ (λ k. is_throw c.args.stmt.now _ k c.in-Throw.is) (ap (λ l. l.0) c.none_of-in-Throw.ensures.looked)
+    (c.none_of-in-Throw.ensures.ways ∙ c.node-in-Throw.ensures) (λ k. refl)
 
 pub stmt-returns-in-Throw-clause-looked : goal.stmt-returns-in-Throw-clause-looked
 stmt-returns-in-Throw-clause-looked t c =
@@ -97,7 +105,8 @@ stmt-returns-in-Throw-clause-looked t c =
 
 pub stmt-returns-in-Declare-clause-ways : goal.stmt-returns-in-Declare-clause-ways
 stmt-returns-in-Declare-clause-ways t c =
-    ways_as c.args.stmt.now _ c.args.self.0 _ c.args.self.0 _ _ (λ k. is_declare c.args.stmt.now _ _ k c.in-Declare.is) (ap (λ l. l.0) c.none_of-in-Declare.ensures.looked) (c.none_of-in-Declare.ensures.ways ∙ c.plain.ensures) (λ k. refl)
+    ways_as c.args.stmt.now _ c.args.self.0 _ c.args.self.0 _ _ (λ k. is_declare c.args.stmt.now _ _ k c.in-Declare.is) (ap (λ l. l.0) c.none_of-in-Declare.ensures.looked)
+    (c.none_of-in-Declare.ensures.ways ∙ c.plain.ensures) (λ k. refl)
 
 pub stmt-returns-in-Declare-clause-looked : goal.stmt-returns-in-Declare-clause-looked
 stmt-returns-in-Declare-clause-looked t c =
@@ -105,7 +114,8 @@ stmt-returns-in-Declare-clause-looked t c =
 
 pub stmt-returns-in-Assign-clause-ways : goal.stmt-returns-in-Assign-clause-ways
 stmt-returns-in-Assign-clause-ways t c =
-    ways_as c.args.stmt.now _ c.args.self.0 _ c.args.self.0 _ _ (λ k. is_assign c.args.stmt.now _ _ k c.in-Assign.is) (ap (λ l. l.0) c.none_of-in-Assign.ensures.looked) (c.none_of-in-Assign.ensures.ways ∙ c.plain-in-Assign.ensures) (λ k. refl)
+    ways_as c.args.stmt.now _ c.args.self.0 _ c.args.self.0 _ _ (λ k. is_assign c.args.stmt.now _ _ k c.in-Assign.is) (ap (λ l. l.0) c.none_of-in-Assign.ensures.looked)
+    (c.none_of-in-Assign.ensures.ways ∙ c.plain-in-Assign.ensures) (λ k. refl)
 
 pub stmt-returns-in-Assign-clause-looked : goal.stmt-returns-in-Assign-clause-looked
 stmt-returns-in-Assign-clause-looked t c =
@@ -113,7 +123,8 @@ stmt-returns-in-Assign-clause-looked t c =
 
 pub stmt-returns-in-Modify-clause-ways : goal.stmt-returns-in-Modify-clause-ways
 stmt-returns-in-Modify-clause-ways t c =
-    ways_as c.args.stmt.now _ c.args.self.0 _ c.args.self.0 _ _ (λ k. is_modify c.args.stmt.now _ _ k c.in-Modify.is) (ap (λ l. l.0) c.none_of-in-Modify.ensures.looked) (c.none_of-in-Modify.ensures.ways ∙ c.plain-in-Modify.ensures) (λ k. refl)
+    ways_as c.args.stmt.now _ c.args.self.0 _ c.args.self.0 _ _ (λ k. is_modify c.args.stmt.now _ _ k c.in-Modify.is) (ap (λ l. l.0) c.none_of-in-Modify.ensures.looked)
+    (c.none_of-in-Modify.ensures.ways ∙ c.plain-in-Modify.ensures) (λ k. refl)
 
 pub stmt-returns-in-Modify-clause-looked : goal.stmt-returns-in-Modify-clause-looked
 stmt-returns-in-Modify-clause-looked t c =
@@ -121,7 +132,8 @@ stmt-returns-in-Modify-clause-looked t c =
 
 pub stmt-returns-in-Call-clause-ways : goal.stmt-returns-in-Call-clause-ways
 stmt-returns-in-Call-clause-ways t c =
-    ways_as c.args.stmt.now _ c.args.self.0 _ c.args.self.0 _ _ (λ k. is_call c.args.stmt.now _ _ k c.in-Call.is) (ap (λ l. l.0) c.none_of-in-Call.ensures.looked) (c.none_of-in-Call.ensures.ways ∙ c.plain-in-Call.ensures) (λ k. refl)
+    ways_as c.args.stmt.now _ c.args.self.0 _ c.args.self.0 _ _ (λ k. is_call c.args.stmt.now _ _ k c.in-Call.is) (ap (λ l. l.0) c.none_of-in-Call.ensures.looked)
+    (c.none_of-in-Call.ensures.ways ∙ c.plain-in-Call.ensures) (λ k. refl)
 
 pub stmt-returns-in-Call-clause-looked : goal.stmt-returns-in-Call-clause-looked
 stmt-returns-in-Call-clause-looked t c =
@@ -160,7 +172,8 @@ stmt-returns-in-Wait-clause-ways t c =
 
 pub stmt-returns-in-Choose-clause-ways : goal.stmt-returns-in-Choose-clause-ways
 stmt-returns-in-Choose-clause-ways t c =
-    ways_choose c.args.stmt.now c.in-Choose.branches c.deref-in-Choose.result.now c.branches-inner.result.ways c.follow.result c.args.self.0 c.past_one.result.0 c.branches-inner.result.looked.0 c.in-Choose.is
+    ways_choose c.args.stmt.now c.in-Choose.branches c.deref-in-Choose.result.now c.branches-inner.result.ways c.follow.result c.args.self.0 c.past_one.result.0 c.branches-inner.result.looked.0
+    c.in-Choose.is
     c.deref-in-Choose.ensures.value c.past_one.ensures c.branches-inner.ensures.ways c.branches-inner.ensures.looked
     (c.follow.ensures ∙ ap₂ follow c.waited.ensures (c.both-ways.ensures ∙ ap (λ w. both w c.branches-inner.result.ways) c.node-in-Choose.ensures))
 

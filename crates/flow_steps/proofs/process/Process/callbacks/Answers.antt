@@ -15,7 +15,8 @@ pub callbacks-requires : goal.callbacks-requires
 callbacks-requires c =
     let h = c.args.self.now.heap in
     let rising = subst (λ s. IsRising 0 s.things s.greatest) c.frames.ensures c.in-Some.ensures.rising in
-    let next = next_is 0 h.frames.things h.frames.greatest c.loop-actor.last.0 c.in-Some.actor.0 rising (c.in-Some.ensures.value ∙ ap (λ s. next_above s.things c.loop-actor.last.0) c.frames.ensures) in
+    let next = next_is 0 h.frames.things h.frames.greatest c.loop-actor.last.0 c.in-Some.actor.0 rising (c.in-Some.ensures.value ∙ ap (λ s. next_above s.things c.loop-actor.last.0) c.frames.ensures)
+    in
     let there = ap (λ s. thing s.things c.in-Some.actor.0) c.frames-in-Some.ensures ∙ next.there in
     rw there refl
 
@@ -23,14 +24,16 @@ pub loop-actor-smaller : goal.loop-actor-smaller
 loop-actor-smaller c =
     let h = c.args.self.now.heap in
     let rising = subst (λ s. IsRising 0 s.things s.greatest) c.frames.ensures c.in-Some.ensures.rising in
-    let next = next_is 0 h.frames.things h.frames.greatest c.loop-actor.last.0 c.in-Some.actor.0 rising (c.in-Some.ensures.value ∙ ap (λ s. next_above s.things c.loop-actor.last.0) c.frames.ensures) in
+    let next = next_is 0 h.frames.things h.frames.greatest c.loop-actor.last.0 c.in-Some.actor.0 rising (c.in-Some.ensures.value ∙ ap (λ s. next_above s.things c.loop-actor.last.0) c.frames.ensures)
+    in
     omega (arith, ap length next.first)
 
 pub loop-actor-preserved : goal.loop-actor-preserved
 loop-actor-preserved c = λ most rising_all.
     let h = c.args.self.now.heap in
     let rising = subst (λ s. IsRising 0 s.things s.greatest) c.frames.ensures c.in-Some.ensures.rising in
-    let next = next_is 0 h.frames.things h.frames.greatest c.loop-actor.last.0 c.in-Some.actor.0 rising (c.in-Some.ensures.value ∙ ap (λ s. next_above s.things c.loop-actor.last.0) c.frames.ensures) in
+    let next = next_is 0 h.frames.things h.frames.greatest c.loop-actor.last.0 c.in-Some.actor.0 rising (c.in-Some.ensures.value ∙ ap (λ s. next_above s.things c.loop-actor.last.0) c.frames.ensures)
+    in
     let there = ap (λ s. thing s.things c.in-Some.actor.0) c.frames-in-Some.ensures ∙ next.there in
     let told = callback_views (c.in-Some.actor.0, next.what) in
     let all = told_next (flat_map callback_views) h.frames.things c.loop-actor.views.items told c.loop-actor.last.0 c.in-Some.actor.0 next (c.loop-actor.invariant most rising_all) refl in

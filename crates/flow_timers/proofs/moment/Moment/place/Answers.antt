@@ -7,7 +7,8 @@ use Rattle.flow_timers.proofs.moment.Moment.place.Goals as goal
 pub returns-clause-placed : goal.returns-clause-placed
 returns-clause-placed g c =
     let at = c.place_after-place.ensures in
-    c.in_ok-insert.ensures.items ∙ ap (λ xs. insert xs c.place_after-place.result (record { number = c.args.number; what = c.args.what })) c.self.view_is ∙ put_in_place _ _ _ at.bound at.place.0 at.place.1
+    c.in_ok-insert.ensures.items ∙ ap (λ xs. insert xs c.place_after-place.result (record { number = c.args.number; what = c.args.what })) c.self.view_is
+    ∙ put_in_place _ _ _ at.bound at.place.0 at.place.1
 
 pub invariant_of-self-2 : goal.invariant_of-self-2
 invariant_of-self-2 g c =

@@ -57,7 +57,8 @@ invariant_of-self g c =
     let some = in_both c.place.result
     (on_ok c.place.result (λ e. subst (λ xs. xs ≢ []) (sym e) (numbered_some _ old)) c.place.ensures.placed)
     (on_err c.place.result (λ e. subst (λ xs. xs ≢ []) (sym e) old_some) c.place.ensures.unchanged) in
-    let placed_ones = subst StandInOrder (sym (at_same_time t (record { number = c.args.number; what = c.args.what }) ms old c.in-Some.ensures.ordered found)) (placed_stands (record { time = t; number = c.args.number; what = c.args.what }) (events_of ms) c.self.invariant.1) in
+    let placed_ones = subst StandInOrder (sym (at_same_time t (record { number = c.args.number; what = c.args.what }) ms old c.in-Some.ensures.ordered found))
+    (placed_stands (record { time = t; number = c.args.number; what = c.args.what }) (events_of ms) c.self.invariant.1) in
     let same_ones = subst (λ es. StandInOrder (events_of es)) (sym (put_back t ms old found)) c.self.invariant.1 in
     let order = in_both c.place.result
     (on_ok c.place.result (λ e. subst (λ xs. StandInOrder (events_of (set_value test ms xs))) (sym e) placed_ones) c.place.ensures.placed)

@@ -33,7 +33,8 @@ invariant_of-self-in_err-what g c =
     let old_some = all_found (λ xs. xs ≢ []) test ms old c.self.invariant.0 (sym c.in_ok-moment.ensures.value) in
     let kept : w ≡ old = c.in_err-what.ensures.left ∙ none_numbered c.args.number old (sym c.in_err-what.ensures.what) in
     let taken = at_its_time c.args.time c.args.number ms old c.in_ok-moment.ensures.ordered (sym c.in_ok-moment.ensures.value) in
-    let order = subst (λ xs. StandInOrder (events_of (set_value test ms xs))) (sym c.in_err-what.ensures.left) (subst StandInOrder taken.1 (without_stands c.args.time c.args.number (events_of ms) c.self.invariant.1)) in
+    let order = subst (λ xs. StandInOrder (events_of (set_value test ms xs))) (sym c.in_err-what.ensures.left)
+    (subst StandInOrder taken.1 (without_stands c.args.time c.args.number (events_of ms) c.self.invariant.1)) in
     rw written (all_set (λ xs. xs ≢ []) test ms w c.self.invariant.0 (subst (λ xs. xs ≢ []) (sym kept) old_some), order)
 
 pub returns-in_err-what-clause-what : goal.returns-in_err-what-clause-what
@@ -61,7 +62,8 @@ invariant_of-self-then-is_empty g c =
     let written = (c.get_mut.follows.holds w).0 in
     let empty = left_none w c.is_empty.result c.is_empty.ensures c.if-is_empty.true in
     let gone = subst (λ xs. events_of (remove_entry test (set_value test ms xs)) ≡ events_of (set_value test ms xs)) (sym empty) (left_empty test ms) in
-    let left = subst (λ xs. StandInOrder (events_of (set_value test ms xs))) (sym c.in_ok-what.ensures.left) (subst StandInOrder taken.1 (without_stands c.args.time c.args.number (events_of ms) c.self.invariant.1)) in
+    let left = subst (λ xs. StandInOrder (events_of (set_value test ms xs))) (sym c.in_ok-what.ensures.left)
+    (subst StandInOrder taken.1 (without_stands c.args.time c.args.number (events_of ms) c.self.invariant.1)) in
     rw c.remove.ensures.entries (rw written (all_taken (λ xs. xs ≢ []) test ms w c.self.invariant.0, subst StandInOrder (sym gone) left))
 
 pub invariant_of-self-else-is_empty : goal.invariant_of-self-else-is_empty
@@ -71,7 +73,8 @@ invariant_of-self-else-is_empty g c =
     let w = c.take.new.self in
     let taken = at_its_time c.args.time c.args.number ms c.in_ok-moment.moment.now c.in_ok-moment.ensures.ordered (sym c.in_ok-moment.ensures.value) in
     let written = (c.get_mut.follows.holds w).0 in
-    let left = subst (λ xs. StandInOrder (events_of (set_value test ms xs))) (sym c.in_ok-what.ensures.left) (subst StandInOrder taken.1 (without_stands c.args.time c.args.number (events_of ms) c.self.invariant.1)) in
+    let left = subst (λ xs. StandInOrder (events_of (set_value test ms xs))) (sym c.in_ok-what.ensures.left)
+    (subst StandInOrder taken.1 (without_stands c.args.time c.args.number (events_of ms) c.self.invariant.1)) in
     rw written (all_set (λ xs. xs ≢ []) test ms w c.self.invariant.0 (left_some w c.is_empty.result c.is_empty.ensures c.if-is_empty.false), left)
 
 pub returns-clause-what : goal.returns-clause-what

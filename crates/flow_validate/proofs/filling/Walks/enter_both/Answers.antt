@@ -6,5 +6,6 @@ use Rattle.flow_validate.proofs.filling.Walks.enter_both.Goals as goal
 pub returns : goal.returns
 returns c =
     ok_then c.enter-2.result (Entered (standing c.enter.new.self) (standing c.enter-2.new.self) (plain_way c.args.empty c.args.fails ∷ [])) _
-    (entered_then (standing c.args.self.now) (standing c.enter.new.self) (standing c.enter-2.new.self) (plain_way c.args.empty c.args.holds ∷ []) (plain_way c.args.empty c.args.fails ∷ []) c.in_ok-enter.ensures)
+    (entered_then (standing c.args.self.now) (standing c.enter.new.self) (standing c.enter-2.new.self) (plain_way c.args.empty c.args.holds ∷ [])
+    (plain_way c.args.empty c.args.fails ∷ []) c.in_ok-enter.ensures)
     c.enter-2.ensures

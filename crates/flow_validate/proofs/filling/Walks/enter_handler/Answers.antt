@@ -19,5 +19,6 @@ returns c =
     ok_then c.enter.result (Entered old new (plain_way bits c.in-Some.catcher.block ∷ []))
     (Entered old new (handler_ways (class_of c.args.class.now) c.args.window (option_map catcher_of c.args.catcher.now) c.args.thrown))
     (λ h. subst (λ (o : Option Catcher). Entered old new (handler_ways (class_of c.args.class.now) c.args.window (option_map catcher_of o) c.args.thrown)) (sym c.in-Some.is)
-    (handler_entered old new (class_of c.args.class.now) c.args.window (catcher_of c.in-Some.catcher) c.args.thrown c.locals_among.result c.error_bit.result c.error_bit.type_inv drops (c.error_bit.ensures (class_of c.args.class.now)) h))
+    (handler_entered old new (class_of c.args.class.now) c.args.window (catcher_of c.in-Some.catcher) c.args.thrown c.locals_among.result c.error_bit.result c.error_bit.type_inv drops
+    (c.error_bit.ensures (class_of c.args.class.now)) h))
     c.enter.ensures

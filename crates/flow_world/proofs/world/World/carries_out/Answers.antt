@@ -16,7 +16,8 @@ returns-clause-comes g c =
     let left = world_seen c.comes-burst.new.self in
     let t : Telling _ = record { out = last.out.now; fault = last.fault } in
     let told : IfOk c.comes-burst.result (λ e. Comes (tells puts) c.args.scripted first (whole c.args.out.now) e left t) =
-    IfOk-weaker c.comes-burst.result _ _ (λ e does. comes_by (λ k. record { out = k.out.now; fault = k.fault }) _ (tells puts) (λ a b l p. p) c.args.scripted first _ e left _ does) c.comes-burst.ensures.comes in
+    IfOk-weaker c.comes-burst.result _ _ (λ e does. comes_by (λ k. record { out = k.out.now; fault = k.fault }) _ (tells puts) (λ a b l p. p) c.args.scripted first _ e left _ does)
+    c.comes-burst.ensures.comes in
     told_whole (λ e z. Comes (tells puts) c.args.scripted first (whole c.args.out.now) e left z) t _ c.comes-burst.result c.unless_failed.result (search rules) c.unless_failed.ensures told
 
 pub returns-clause-breaks : goal.returns-clause-breaks
@@ -27,8 +28,10 @@ returns-clause-breaks g c =
     let left = world_seen c.comes-burst.new.self in
     let t : Telling _ = record { out = last.out.now; fault = last.fault } in
     let told : IfOk c.comes-burst.result (λ e. Comes (tells puts) c.args.scripted first (whole c.args.out.now) e left t) =
-    IfOk-weaker c.comes-burst.result _ _ (λ e does. comes_by (λ k. record { out = k.out.now; fault = k.fault }) _ (tells puts) (λ a b l p. p) c.args.scripted first _ e left _ does) c.comes-burst.ensures.comes in
-    told_part (λ e z. Comes (tells puts) c.args.scripted first (whole c.args.out.now) e left z) t _ c.comes-burst.result c.unless_failed.result (search rules) c.unless_failed.ensures c.comes-burst.ensures.cause told
+    IfOk-weaker c.comes-burst.result _ _ (λ e does. comes_by (λ k. record { out = k.out.now; fault = k.fault }) _ (tells puts) (λ a b l p. p) c.args.scripted first _ e left _ does)
+    c.comes-burst.ensures.comes in
+    told_part (λ e z. Comes (tells puts) c.args.scripted first (whole c.args.out.now) e left z) t _ c.comes-burst.result c.unless_failed.result
+    (search rules) c.unless_failed.ensures c.comes-burst.ensures.cause told
 
 pub returns-clause-stuck : goal.returns-clause-stuck
 returns-clause-stuck g c = λ stuck.

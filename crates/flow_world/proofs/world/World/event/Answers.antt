@@ -34,7 +34,8 @@ returns-in-Spent-clause-does g c =
       left = world_seen c.carries_out.new.self;
       comes = search rules;
       bound = search rules;
-      does = subst (λ e. Comes (tells g.L.LineOut.puts) c.in-Some.scripted (begins c.in-Some.time (world_seen c.args.self.now)) (whole c.args.out.now) e (world_seen c.carries_out.new.self) (whole c.carries_out.new.out)) is c.in_ok-carries_out.ensures.comes;
+      does = subst (λ e. Comes (tells g.L.LineOut.puts) c.in-Some.scripted (begins c.in-Some.time (world_seen c.args.self.now)) (whole c.args.out.now) e (world_seen c.carries_out.new.self)
+          (whole c.carries_out.new.out)) is c.in_ok-carries_out.ensures.comes;
       after = refl;
     }
 
@@ -47,6 +48,7 @@ returns-in-Rested-clause-does g c =
       left = world_seen c.carries_out.new.self;
       comes = search rules;
       bound = search rules;
-      does = subst (λ e. Comes (tells g.L.LineOut.puts) c.in-Some.scripted (begins c.in-Some.time (world_seen c.args.self.now)) (whole c.args.out.now) e (world_seen c.carries_out.new.self) (whole c.carries_out.new.out)) is c.in_ok-carries_out.ensures.comes;
+      does = subst (λ e. Comes (tells g.L.LineOut.puts) c.in-Some.scripted (begins c.in-Some.time (world_seen c.args.self.now)) (whole c.args.out.now) e (world_seen c.carries_out.new.self)
+          (whole c.carries_out.new.out)) is c.in_ok-carries_out.ensures.comes;
       after = refl;
     }
