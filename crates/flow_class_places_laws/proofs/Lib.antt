@@ -1,0 +1,8 @@
+pub mod Parts
+pub mod Expressions
+pub mod Statements
+pub mod Declarations
+pub mod Naming
+pub mod Fitting
+pub mod Walks
+pub mod Validity

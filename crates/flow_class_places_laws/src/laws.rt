@@ -1,0 +1,11 @@
+// What is proved of classes that are equal but for places.
+
+ghost use Rattle.flow_class_places_laws.specs.Laws.{SoundnessAside, ValidityAside, BreachesAside};
+
+/// The rules of classes say the same of classes that are equal but for places: the first rule that is broken is the same, with the
+/// class that breaks it, and where all rules hold of some classes they hold of the others.
+pub fn validity_without_places()
+    ensures valid { ValidityAside }
+    ensures breaks { BreachesAside }
+    ensures class { SoundnessAside }
+{}
