@@ -8,8 +8,8 @@ use Rattle.flow_value.specs.Values.{ValueTree, refs_of}
 use Rattle.flow_heap_refinement.specs.Evaluation.{GivesFutures, AllNamed}
 use Rattle.flow_numbered.specs.Numbered.{Numbered}
 use Rattle.flow_meaning.specs.Cells.{PromiseSide, FutureSide, side_of, Ref, Waiter, Cell, waiters, held}
-use Rattle.flow_meaning.specs.Requests.{Start, Delay, Never, Listen, Disk, Make, Draw}
-use Rattle.flow_meaning.specs.Process.{Task, Run, Give, Throw, Catch, Store, Keep, Close, Fire, Drop, Entry}
+use Rattle.flow_meaning.specs.Requests.{Make, Draw}
+use Rattle.flow_meaning.specs.Process.{Task, Give, Store, Keep, Close, Drop, Entry}
 use Rattle.flow_meaning.specs.References.{same_side, refs_in, value_in, one, count, count_maybe, count_waiters, count_kept, in_cells, in_entries, in_task, in_tasks}
 use Rattle.flow_meaning.specs.Frame.{Frame, everything}
 use Rattle.flow_heap_refinement.specs.Counted.{frames_hold}
@@ -59,15 +59,12 @@ module _ (k : ℕ) where
       let b = entries_spared xs h.1 in omega (arith, a, b)
 
   task_spared : (t : Task) → TaskNamed (spares k) t → in_task PromiseSide k t ≡ 0
-  task_spared (Run i) h = refl
   task_spared (Give i b o) h = values_spared (value_in o) (outcome_values (spares k) o h)
-  task_spared (Throw i e) h = refl
-  task_spared (Catch i e) h = refl
   task_spared (Store i v) h = let a = values_spared (v ∷ []) (h, tt) in let b = count_joined PromiseSide k (refs_of v) [] in omega (arith, a, b)
   task_spared (Keep i spot r) h = spared r h
   task_spared (Close i o) h = values_spared (value_in o) (outcome_values (spares k) o h)
-  task_spared (Fire cell) h = refl
   task_spared (Drop kd cell) h = spared (kd, cell) h
+  task_spared _ h = refl
 
   tasks_spared : (ts : List Task) → TasksNamed (spares k) ts → in_tasks PromiseSide k ts ≡ 0
   tasks_spared [] h = refl
@@ -110,10 +107,6 @@ pub stays_alone : law.StaysAlone
 stays_alone r k s p t l h e = steps_named r (spares k) s p t (futures_spared k) (any_made r (spares k) s p (next_spared k p.core.made l)) h e
 
 pub born_alone : law.BornAlone
-born_alone n k (Start class args) o = refl
-born_alone n k (Delay ticks) o = refl
-born_alone n k Never o = refl
-born_alone n k (Listen port) o = refl
-born_alone n k (Disk call) o = refl
 born_alone n k (Make kd) o = absurd o
 born_alone n k (Draw lo hi) o = absurd o
+born_alone n k _ o = refl

@@ -1,5 +1,5 @@
 -- Nobody else refers to the promise side of what a process made a cell for.
-use Rattle.std.proofs.Common.{◌≡◌, ◌⊎◌, inl, inr, ℕ, suc, ◌<◌, ◌≤◌, nat_eq, Bool, true, false, List, [], ◌∷◌, refl, ap, arith}
+use Rattle.std.proofs.Common.{◌≡◌, ◌⊎◌, inl, inr, ℕ, suc, ◌<◌, ◌≤◌, nat_eq, Bool, true, false, List, ◌∷◌, refl, ap, arith}
 use Rattle.std.proofs.lemmas.Bool.Decides.{nat_tests}
 use Rattle.std.specs.Prelude.{◌&&◌, not, nat_lt}
 use Rattle.std.specs.declared.option.Option.{Option}
@@ -9,7 +9,7 @@ use Rattle.flow_class.specs.Classes.{RawTree}
 use Rattle.flow_numbered.specs.Numbered.{Numbered, thing, put}
 use Rattle.flow_meaning.specs.Cells.{PromiseSide, side_of, Cell}
 use Rattle.flow_meaning.specs.Requests.{Act, Effects, Make, Start, Draw, Delay, Never, Listen, Disk, Goal, Stored, Kept, Ask, Supply}
-use Rattle.flow_meaning.specs.Process.{Task, Run, Give, Throw, Catch, Store, Keep, Close, Fire, Drop, Halt, Core}
+use Rattle.flow_meaning.specs.Process.{Task, Run, Halt, Core}
 use Rattle.flow_meaning.specs.References.{same_side}
 use Rattle.flow_meaning.specs.Effects.{gives_new, empty_cell}
 use Rattle.flow_meaning.specs.Step.{proc, Stepped, view, answer, run_next, run, step_tasks, step_if}
@@ -74,15 +74,7 @@ module _ (k : ℕ) where
 
     task_born : (s : Supply) (ts : List Task) (c : Core) (xs : Numbered Frame) → owners_of k c ≡ 0 → MaybeAsked (step_tasks (classes r) s ts (proc c xs)) → TaskMakes (spares k) r s c xs ts
     task_born s (Run i ∷ ts) c xs none h = frame_born s i ts (thing xs i) c xs none h
-    task_born s (Give i b o ∷ ts) c xs none h = tt
-    task_born s (Throw i e ∷ ts) c xs none h = tt
-    task_born s (Catch i e ∷ ts) c xs none h = tt
-    task_born s (Store i v ∷ ts) c xs none h = tt
-    task_born s (Keep i spot q ∷ ts) c xs none h = tt
-    task_born s (Close i o ∷ ts) c xs none h = tt
-    task_born s (Fire j ∷ ts) c xs none h = tt
-    task_born s (Drop kd j ∷ ts) c xs none h = tt
-    task_born s [] c xs none h = tt
+    task_born s _ c xs none h = tt
 
     step_born : (s : Supply) (x : Option Halt) (c : Core) (xs : Numbered Frame) (t : Stepped Frame) → owners_of k c ≡ 0 → step_if (classes r) s x (proc c xs) ≡ Some t → Asked t.0.core
         → TaskMakes (spares k) r s c xs c.tasks

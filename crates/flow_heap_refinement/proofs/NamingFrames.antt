@@ -27,7 +27,7 @@ use Rattle.flow_meaning.specs.Process.{View}
 use Rattle.flow_meaning.specs.Evaluating.{Names, setting, bind, StepOf, asks, given, evaluated, Effectful, World, Actor, effect_in, effect_of, world_effect, value, values, call_act, plain_act, function_act, based_act, method_act, sent, cancelled, done, before_last, last_of}
 use Rattle.flow_meaning.specs.Frame.{Memory, Frame, look, emptied, reversed, blanks, everything, put_at, assign, spot_of, go, next_instr, over, lose, raised, raise, with_error}
 use Rattle.flow_meaning.specs.Class as class
-use Rattle.flow_meaning.specs.Class.{classes, class_names, begun, fresh_from}
+use Rattle.flow_meaning.specs.Class.{begun, fresh_from}
 use Rattle.flow_heap_refinement.specs.Evaluation.{Rule, GivesFutures, Named, AllNamed, MaybeNamed, ResNamed, AllResNamed}
 use Rattle.flow_heap_refinement.specs.Evaluation as names
 use Rattle.flow_heap_refinement.proofs.Evaluation.Answering.{read_in_named}
@@ -224,12 +224,7 @@ module _ (p : Rule) where
 
     ref_named : (left : ℕ) (spot : Spot) (u : ValueTree) → Named p u → StepNamed (class.operand_ref ns v f left spot u)
     ref_named left spot (RefValue k cell) n = (n, h)
-    ref_named left spot (IntValue z) n = (tt, h)
-    ref_named left spot (BoolValue z) n = (tt, h)
-    ref_named left spot (TextValue z) n = (tt, h)
-    ref_named left spot VoidValue n = (tt, h)
-    ref_named left spot (ErrorValue z) n = (tt, h)
-    ref_named left spot (RecordValue z vs) n = (tt, h)
+    ref_named left spot _ n = (tt, h)
 
     operand_named : (spot : Spot) (e : ExprTree) (o : Option (Effectful × ExprTrees)) → StepNamed (class.operand_by ns v f spot e o)
     operand_named spot e (Some x) = effects_named (Kept spot) x

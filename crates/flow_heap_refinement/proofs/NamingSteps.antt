@@ -276,12 +276,9 @@ steps_named r p s q t gives above n e = subst (MaybeKeeps p r gives) e (if_keeps
 -- what a step makes
 new_made : (p : Rule) (n : ℕ) (eff : Effect) → HoldsNext p n → HoldsNew p n eff
 new_made p n (Make k) h = h k
-new_made p n (Start class args) h = h kind.Future
 new_made p n (Draw lo hi) h = tt
-new_made p n (Delay ticks) h = h kind.Future
-new_made p n Never h = h kind.Future
 new_made p n (Listen port) h = h kind.FutureStream
-new_made p n (Disk call) h = h kind.Future
+new_made p n _ h = h kind.Future
 
 act_made : (p : Rule) (n : ℕ) (act : Act) → HoldsNext p n → ActMakes p n act
 act_made p n (Effects goal eff) h = new_made p n eff h
@@ -297,15 +294,7 @@ frame_made p r s i c (Some f) h = ask_made p c.made ((classes r).next (view s i 
 
 task_made : (p : Rule) (r : RawTree) (s : Supply) (c : Core) (xs : Numbered Frame) (ts : List Task) → HoldsNext p c.made → TaskMakes p r s c xs ts
 task_made p r s c xs (Run i ∷ ts) h = frame_made p r s i c (thing xs i) h
-task_made p r s c xs (Give i b o ∷ ts) h = tt
-task_made p r s c xs (Throw i e ∷ ts) h = tt
-task_made p r s c xs (Catch i e ∷ ts) h = tt
-task_made p r s c xs (Store i v ∷ ts) h = tt
-task_made p r s c xs (Keep i spot q ∷ ts) h = tt
-task_made p r s c xs (Close i o ∷ ts) h = tt
-task_made p r s c xs (Fire k ∷ ts) h = tt
-task_made p r s c xs (Drop kd k ∷ ts) h = tt
-task_made p r s c xs [] h = tt
+task_made p r s c xs _ h = tt
 
 pub any_made : law.AnyMade
 any_made r p s q h = task_made p r s q.core q.actors q.core.tasks h

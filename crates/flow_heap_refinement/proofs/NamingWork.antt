@@ -5,7 +5,7 @@ use Rattle.std.specs.declared.option.Option.{Option}
 use Rattle.std.specs.declared.option.Option.TheVariants.{None, Some}
 use Rattle.flow_base.specs.ErrorNumbers.{operation_cancelled, second_waiter, broken_promise}
 use Rattle.flow_value.specs.declared.value.Kind.{Kind}
-use Rattle.flow_value.specs.Values.{ValueTree, ValueTrees, IntValue, BoolValue, TextValue, VoidValue, ErrorValue, RecordValue, RefValue, NoValues, MoreValues, OutcomeTree, GoodOutcome, BadOutcome, refs_of, refs_of_all}
+use Rattle.flow_value.specs.Values.{ValueTree, ValueTrees, RecordValue, RefValue, NoValues, MoreValues, OutcomeTree, GoodOutcome, BadOutcome, refs_of, refs_of_all}
 use Rattle.flow_numbered.specs.Numbered.{Numbered, thing, added, put, removed}
 use Rattle.flow_meaning.specs.Cells.{Side, PromiseSide, FutureSide, side_of, Ref, Waiter, Cell, Single, Stream, waiters, held, filled, taken, after_taking, left_by, with_waiter, is_busy, is_complete, is_ready}
 use Rattle.flow_meaning.specs.Requests.{Spot}
@@ -56,13 +56,9 @@ module _ (p : Rule) where
 
   mutual
     value_refs : (v : ValueTree) → Named p v → RefsNamed p (refs_of v)
-    value_refs (IntValue n) h = tt
-    value_refs (BoolValue b) h = tt
-    value_refs (TextValue t) h = tt
-    value_refs VoidValue h = tt
-    value_refs (ErrorValue e) h = tt
     value_refs (RecordValue r vs) h = field_refs vs h
     value_refs (RefValue k c) h = (h, tt)
+    value_refs _ h = tt
 
     field_refs : (vs : ValueTrees) → FieldsNamed p vs → RefsNamed p (refs_of_all vs)
     field_refs NoValues h = tt

@@ -3,11 +3,11 @@ use Rattle.std.proofs.Common.{◌≡◌, ℕ, ◌+◌, nat_eq, Bool, true, false
 use Rattle.std.specs.Prelude.{◌&&◌, not}
 use Rattle.std.specs.declared.option.Option.{Option}
 use Rattle.std.specs.declared.option.Option.TheVariants.{None, Some}
-use Rattle.flow_value.specs.Values.{ValueTree, ValueTrees, IntValue, BoolValue, TextValue, VoidValue, ErrorValue, RecordValue, RefValue, NoValues, MoreValues, OutcomeTree, GoodOutcome, BadOutcome, refs_of, refs_of_all}
+use Rattle.flow_value.specs.Values.{ValueTree, ValueTrees, RecordValue, RefValue, NoValues, MoreValues, OutcomeTree, GoodOutcome, BadOutcome, refs_of, refs_of_all}
 use Rattle.flow_heap_refinement.specs.Evaluation.{Named, FieldsNamed, AllNamed}
 use Rattle.flow_numbered.specs.Numbered.{Numbered}
 use Rattle.flow_meaning.specs.Cells.{PromiseSide, side_of, Ref, Cell, Single, Stream, held}
-use Rattle.flow_meaning.specs.Process.{Entry, Task, Run, Give, Throw, Catch, Store, Keep, Close, Fire, Drop}
+use Rattle.flow_meaning.specs.Process.{Entry, Task, Give, Store, Keep, Close, Drop}
 use Rattle.flow_meaning.specs.References.{count_kept, in_entries, same_side, refs_in, value_in, one, count, in_cells, in_task, in_tasks}
 use Rattle.flow_meaning.specs.Frame.{Memory, Frame, occ_memory}
 use Rattle.flow_heap_refinement.specs.Counted.{frames_hold}
@@ -27,13 +27,9 @@ module _ (k : ℕ) where
 
   mutual
     value_free : (v : ValueTree) → count PromiseSide k (refs_of v) ≡ 0 → Named (spares k) v
-    value_free (IntValue n) h = tt
-    value_free (BoolValue b) h = tt
-    value_free (TextValue t) h = tt
-    value_free VoidValue h = tt
-    value_free (ErrorValue e) h = tt
     value_free (RecordValue r vs) h = fields_free vs h
     value_free (RefValue kd c) h = ref_free (kd, c) (omega (arith, h))
+    value_free _ h = tt
 
     fields_free : (vs : ValueTrees) → count PromiseSide k (refs_of_all vs) ≡ 0 → FieldsNamed (spares k) vs
     fields_free NoValues h = tt
@@ -58,15 +54,12 @@ module _ (k : ℕ) where
   cells_free (x ∷ xs) h = (cell_free x.1 (omega (arith, h)), cells_free xs (omega (arith, h)))
 
   task_free : (t : Task) → in_task PromiseSide k t ≡ 0 → TaskNamed (spares k) t
-  task_free (Run i) h = tt
   task_free (Give i b o) h = outcome_free o h
-  task_free (Throw i e) h = tt
-  task_free (Catch i e) h = tt
   task_free (Store i v) h = value_free v h
   task_free (Keep i spot r) h = ref_free r h
   task_free (Close i o) h = outcome_free o h
-  task_free (Fire cell) h = tt
   task_free (Drop kd cell) h = ref_free (kd, cell) h
+  task_free _ h = tt
 
   tasks_free : (ts : List Task) → in_tasks PromiseSide k ts ≡ 0 → TasksNamed (spares k) ts
   tasks_free [] h = tt

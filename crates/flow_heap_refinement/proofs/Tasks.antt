@@ -8,7 +8,7 @@ use Rattle.flow_cancel.specs.declared.task.Task.TheVariants as task
 use Rattle.flow_cancel.specs.Dropping as memory
 use Rattle.flow_meaning.specs.Cells.{Ref}
 use Rattle.flow_meaning.specs.Requests.{Spot}
-use Rattle.flow_meaning.specs.Process.{Task, Run, Give, Throw, Catch, Store, Keep, Close, Fire, Drop}
+use Rattle.flow_meaning.specs.Process.{Task, Keep}
 use Rattle.flow_meaning.specs.References.{refs_in}
 use Rattle.flow_meaning.specs.Work.{drops}
 use Rattle.flow_meaning.specs.Orderly.{is_of, tasks_of}
@@ -45,28 +45,14 @@ refs_same (v ∷ vs) = ap (λ rs. refs_of (value_of v) ++ rs) (refs_same vs)
 -- Where each actor stands, or how many operands it has kept, may change where it has no operand to keep.
 module _ (spots spots' : ℕ → Spot) (kept kept' : ℕ → ℕ) (i : ℕ) (same : (j : ℕ) → (i ≡ j → ⊥) → (spots' j ≡ spots j) × (kept' j ≡ kept j)) where
   no_keep_rest : (u : Task) (us : List Task) → NoKeep i (u ∷ us) → NoKeep i us
-  no_keep_rest (Run j) us n = n
-  no_keep_rest (Give j b o) us n = n
-  no_keep_rest (Throw j e) us n = n
-  no_keep_rest (Catch j e) us n = n
-  no_keep_rest (Store j v) us n = n
   no_keep_rest (Keep j spot x) us n = n.1
-  no_keep_rest (Close j o) us n = n
-  no_keep_rest (Fire k) us n = n
-  no_keep_rest (Drop kind k) us n = n
+  no_keep_rest _ us n = n
 
   task_aside : (t : stack.Task) (u : Task) (us : List Task) → NoKeep i (u ∷ us) → TaskRepresents spots kept t u → TaskRepresents spots' kept' t u
-  task_aside (task.Run a) u us n h = h
-  task_aside (task.Give a b o) u us n h = h
-  task_aside (task.Throw a e) u us n h = h
-  task_aside (task.Catch a e) u us n h = h
-  task_aside (task.Fire k) u us n h = h
-  task_aside (task.Drop kind k) u us n h = h
-  task_aside (task.Store a v) u us n h = h
   task_aside (task.Keep a m k) u us n h =
       let s = same a.0 (subst (λ x. NoKeep i (x ∷ us)) h.2 n).0 in
       (h.0, h.1 ∙ (rw (s.0, s.1) refl), h.2 ∙ (rw s.0 refl))
-  task_aside (task.Close a o) u us n h = h
+  task_aside _ u us n h = h
 
   pub tasks_aside : (ts : List stack.Task) (us : List Task) → NoKeep i us → TasksRepresent spots kept ts us → TasksRepresent spots' kept' ts us
   tasks_aside [] [] n h = tt
@@ -102,15 +88,8 @@ idle_keeps i (u ∷ us) h = by_test (is_of i u) refl (idle_keeps i us)
     some_is_none vs e = cc
 
     none_of : (u : Task) (us : List Task) → is_of i u ≡ false → NoKeep i us → NoKeep i (u ∷ us)
-    none_of (Run j) us n k = k
-    none_of (Give j b o) us n k = k
-    none_of (Throw j e) us n k = k
-    none_of (Catch j e) us n k = k
-    none_of (Store j v) us n k = k
     none_of (Keep j spot x) us n k = (λ e. grind (arith, n, e), k)
-    none_of (Close j o) us n k = k
-    none_of (Fire c) us n k = k
-    none_of (Drop kind c) us n k = k
+    none_of _ us n k = k
 
     by_test : (b : Bool) → is_of i u ≡ b → (tasks_of i us ≡ [] → NoKeep i us) → NoKeep i (u ∷ us)
     by_test true e rest = absurd (some_is_none (tasks_of i us) (ap (λ c. if c then u ∷ tasks_of i us else tasks_of i us) (sym e) ∙ h))

@@ -12,7 +12,7 @@ use Rattle.flow_eval.specs.Predefined.{natural}
 use Rattle.flow_trace.specs.declared.line.Line.{Line}
 use Rattle.flow_numbered.specs.Numbered.{Numbered, thing, added, put, removed}
 use Rattle.flow_meaning.specs.Cells.{Side, PromiseSide, FutureSide, side_of, Ref, Waiter, Cell, Single, Stream, is_complete, is_ready, waiters}
-use Rattle.flow_meaning.specs.Requests.{Spot, Act, Goes, Pass, Drops, Effects, Operand, Waits, Sends, Cancels, Prints, SendsTo, Returns, Throws, RunsOut, Stuck, DiskCall, Effect, Make, Start, Draw, Delay, Never, Listen, Disk, Goal, Stored, Kept, Ask, Supply}
+use Rattle.flow_meaning.specs.Requests.{Spot, Act, Pass, Effects, Waits, Sends, Cancels, Prints, SendsTo, RunsOut, Stuck, DiskCall, Effect, Make, Start, Draw, Delay, Never, Listen, Disk, Goal, Stored, Kept, Ask, Supply}
 use Rattle.flow_meaning.specs.Process.{Task, Run, Give, Throw, Catch, Store, Keep, Close, Fire, Drop, Entry, Halt, Core, Proc, Raised, Engine}
 use Rattle.flow_meaning.specs.Lines.{broken_line, end_line, throw_line, print_line}
 use Rattle.flow_meaning.specs.References.{Scan, reference_count, scan_of}
@@ -119,21 +119,17 @@ print_tidy z i None c t = tt
 print_tidy z i (Some l) c t = unless c.halted t
 
 react_tidy : (z : Since) → (s : Supply) (i : ℕ) (act : Act) (c : Core) → Awake i c → Rising 0 c.started c.entries → Tidy z c → Unless (Tidy z) (react s i act c).0
-react_tidy z s i Goes c a r t = unless c.halted t
 react_tidy z s i Pass c a r t = after_turn (Tidy z) (pushed (Run i)) c c.left (λ n. unless c.halted t)
-react_tidy z s i (Drops vs) c a r t = unless c.halted t
 react_tidy z s i (Effects goal eff) c a r t = effect_tidy z s i goal eff c t
-react_tidy z s i (Operand spot x) c a r t = unless c.halted t
 react_tidy z s i (Waits spot vs) c a r t = wait_tidy z i spot vs c (thing c.entries i) a refl t
 react_tidy z s i (Sends k o) c a r t = send_in_tidy z (thing c.cells k) i k o c t
 react_tidy z s i (Cancels k) c a r t =
     let d = pushed (Run i) c in unless (cancel_owner (owner k c.entries) d).halted (cancel_owner_tidy z k (owner k c.entries) d refl r t)
 react_tidy z s i (Prints v) c a r t = print_tidy z i (print_line i v) c t
 react_tidy z s i (SendsTo q port text) c a r t = send_to_tidy z s i q port text c t
-react_tidy z s i (Returns v vs) c a r t = unless c.halted t
-react_tidy z s i (Throws e) c a r t = unless c.halted t
 react_tidy z s i RunsOut c a r t = tt
 react_tidy z s i Stuck c a r t = tt
+react_tidy z s i _ c a r t = unless c.halted t
 
 start_tidy : (z : Since) → (i : ℕ) (goal : Goal) (class : ℕ) (name : List ℕ) (c : Core) → Rising 0 c.started c.entries → Tidy z c → Unless (Tidy z) (start_core i goal class name c)
 start_tidy z i goal class name c r t =

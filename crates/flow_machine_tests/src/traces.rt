@@ -1,8 +1,8 @@
 use crate::lines::classes;
 use flow_base::mem_sink::MemSink;
 use flow_machine::host::RunFault;
-use flow_valid::program::ClassProgram;
 use flow_world::{Ending, write_trace};
+use flow_valid::program::ClassProgram;
 use flow_worldfile::read_world;
 use std::alloc::Global;
 use std::test::Fail;

@@ -191,10 +191,10 @@ error_in_second_operand_program = record {
         params = ((record { ty = IntType; name = (id (codes "p")) }) ∷ []);
         body = (DeclareStmt nowhere (record { state = false; ty = (FutureType VoidType); name = (id (codes "out")) }) (Some (CallExpr (id (codes "leaf")) (MoreExprs (IntExpr (pos 1)) NoExprs)))
             (TryStmt nowhere (DeclareStmt nowhere (record { state = false; ty = (FutureType VoidType); name = (id (codes "in")) })
-            (Some (CallExpr (id (codes "leaf")) (MoreExprs (IntExpr (pos 2)) NoExprs)))
+                (Some (CallExpr (id (codes "leaf")) (MoreExprs (IntExpr (pos 2)) NoExprs)))
             (ChooseStmt nowhere (MoreBranches nowhere (record { into = None; next = false; operand = (CallExpr (id (codes "leaf")) (MoreExprs (IntExpr (pos 3)) NoExprs)) }) End
             (MoreBranches nowhere (record { into = None; next = false; operand = (CallExpr (id (codes "delay")) (MoreExprs (BinaryExpr Div (IntExpr (pos 1)) (VarExpr (id (codes "p")))) NoExprs)) })
-            End
+                End
             NoBranches)) End)) nowhere (id (codes "e")) (CallStmt nowhere ((id (codes "trace")) ∷ []) (MoreExprs (MethodExpr (VarExpr (id (codes "e"))) (id (codes "code")) NoExprs) NoExprs) End)
             (ReturnStmt nowhere VoidExpr End)));
         close = nowhere;
@@ -533,7 +533,7 @@ withdrawal_before_branch_program = record {
             (MoreBranches nowhere (record { into = None; next = false; operand = (CallExpr (id (codes "delay")) (MoreExprs (IntExpr (pos 1)) NoExprs)) })
             (CallStmt nowhere ((id (codes "trace")) ∷ []) (MoreExprs (TextExpr (codes "branch")) NoExprs) End)
             (MoreBranches nowhere (record { into = None; next = false; operand = (CallExpr (id (codes "leaf")) (MoreExprs (IntExpr (pos 2)) NoExprs)) }) End NoBranches)))
-            (ReturnStmt nowhere VoidExpr End));
+                (ReturnStmt nowhere VoidExpr End));
         close = nowhere;
       })) ∷ []);
   end = nowhere;
@@ -1031,7 +1031,7 @@ promise_in_a_dropped_stream_program = record {
             (DeclareStmt nowhere (record { state = false; ty = (PromiseType IntType); name = (id (codes "r")) }) None
             (DeclareStmt nowhere (record { state = true; ty = (FutureType IntType); name = (id (codes "f")) }) (Some (MethodExpr (VarExpr (id (codes "r"))) (id (codes "getFuture")) NoExprs))
             (CallStmt nowhere ((id (codes "q")) ∷ (id (codes "send")) ∷ [])
-            (MoreExprs (CallExpr (id (codes "Ask")) (MoreExprs (IntExpr (pos 1)) (MoreExprs (VarExpr (id (codes "r"))) NoExprs))) NoExprs)
+                (MoreExprs (CallExpr (id (codes "Ask")) (MoreExprs (IntExpr (pos 1)) (MoreExprs (VarExpr (id (codes "r"))) NoExprs))) NoExprs)
             (WaitStmt nowhere (record { into = (Some (record { state = false; ty = IntType; name = (id (codes "x")) })); next = false; operand = (VarExpr (id (codes "f"))) })
             (CallStmt nowhere ((id (codes "trace")) ∷ []) (MoreExprs (VarExpr (id (codes "x"))) NoExprs) (ReturnStmt nowhere VoidExpr End)))))));
         close = nowhere;

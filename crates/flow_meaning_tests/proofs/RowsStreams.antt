@@ -181,18 +181,10 @@ request_server_classes = record {
               body = ((ActInstr ((id (codes "trace")) ∷ []) (MoreExprs (MethodExpr (VarExpr (id (codes "l2"))) (id (codes "code")) NoExprs) NoExprs)) ∷ (DropInstr (2 ∷ [])) ∷ []);
               last = (GotoLast 5);
             }) ∷ (record { catcher = None; body = []; last = (ReturnLast VoidExpr) }) ∷ []);
-        groups = (((record {
-          next = false;
-          operand = (CallExpr (id (codes "client")) (MoreExprs (VarExpr (id (codes "s1"))) (MoreExprs (IntExpr (pos 21)) NoExprs)));
-          into = (Some (Local 0));
-          block = 1;
-        })
-            ∷ []) ∷ ((record {
-              next = false;
-              operand = (CallExpr (id (codes "client")) (MoreExprs (VarExpr (id (codes "s1"))) (MoreExprs (IntExpr (pos 0)) NoExprs)));
-              into = (Some (Local 1));
-              block = 3;
-            })
+        groups = (((record { next = false; operand = (CallExpr (id (codes "client")) (MoreExprs (VarExpr (id (codes "s1"))) (MoreExprs (IntExpr (pos 21)) NoExprs))); into = (Some (Local 0));
+            block = 1 })
+            ∷ []) ∷ ((record { next = false; operand = (CallExpr (id (codes "client")) (MoreExprs (VarExpr (id (codes "s1"))) (MoreExprs (IntExpr (pos 0)) NoExprs))); into = (Some (Local 1));
+            block = 3 })
             ∷ []) ∷ []);
       }) ∷ []);
 }
@@ -215,7 +207,7 @@ stream_with_end_program = record {
         (CallStmt nowhere ((id (codes "q")) ∷ (id (codes "send")) ∷ []) (MoreExprs (IntExpr (pos 2)) NoExprs)
         (CallStmt nowhere ((id (codes "q")) ∷ (id (codes "sendError")) ∷ []) (MoreExprs (CallExpr (id (codes "end_of_stream")) NoExprs) NoExprs)
         (TryStmt nowhere (LoopStmt nowhere (WaitStmt nowhere (record
-        { into = (Some (record { state = false; ty = IntType; name = (id (codes "x")) })); next = true; operand = (VarExpr (id (codes "s"))) })
+            { into = (Some (record { state = false; ty = IntType; name = (id (codes "x")) })); next = true; operand = (VarExpr (id (codes "s"))) })
         (CallStmt nowhere ((id (codes "trace")) ∷ []) (MoreExprs (VarExpr (id (codes "x"))) NoExprs) End)) End) nowhere (id (codes "e"))
         (CallStmt nowhere ((id (codes "trace")) ∷ []) (MoreExprs (MethodExpr (VarExpr (id (codes "e"))) (id (codes "code")) NoExprs) NoExprs) End) (ReturnStmt nowhere VoidExpr End)))))));
     close = nowhere;

@@ -214,7 +214,7 @@ promise_broken_at_wait_program = record {
           operand = (CallExpr (id (codes "hold")) (MoreExprs (IntExpr (pos 1)) NoExprs));
         }) (CallStmt nowhere ((id (codes "trace")) ∷ []) (MoreExprs (VarExpr (id (codes "v"))) NoExprs) End)) nowhere
             (id (codes "e")) (CallStmt nowhere ((id (codes "trace")) ∷ []) (MoreExprs (MethodExpr (VarExpr (id (codes "e"))) (id (codes "code")) NoExprs) NoExprs) End)
-            (ReturnStmt nowhere VoidExpr End));
+                (ReturnStmt nowhere VoidExpr End));
         close = nowhere;
       })) ∷ []);
   end = nowhere;

@@ -134,7 +134,8 @@ module _ (r : RawTree) (ls : List Line) (x : Scan) (m : Process) (p : Proc Frame
         ∙ ap (λ ss. record m.heap { streams = record m.heap.streams { things = ss } }) (put_same m.heap.streams.things k y at) in
         subst (λ u. (taken (Stream q d w) ≡ Some (outcome_of u)) × ProcessRepresents r ls (with_refs (outcome_refs u) x) (on_heap (stream_put k (record y { queue = [] })) m)
         (on_core (put_cell k (after_taking (Stream q d w))) p)) (sym is)
-        (subst (λ u. (taken u ≡ Some (BadOutcome z.0)) × ProcessRepresents r ls (with_refs [] x) (on_heap (stream_put k (record y { queue = [] })) m) (on_core (put_cell k (after_taking u)) p)) cell_is (
+        (subst (λ u. (taken u ≡ Some (BadOutcome z.0)) × ProcessRepresents r ls (with_refs [] x) (on_heap (stream_put k (record y { queue = [] })) m) (on_core (put_cell k (after_taking u)) p)) cell_is
+            (
           refl,
           subst (λ h. ProcessRepresents r ls (with_refs [] x) (record m { heap = h }) (on_core (put_cell k c) p)) (sym same_stream)
               (subst (λ cs. ProcessRepresents r ls (with_refs [] x) m (proc (record p.core { cells = cs }) p.actors)) (sym (same_put p.core.cells k c (t.at ∙ ap Some (sym cell_is))))

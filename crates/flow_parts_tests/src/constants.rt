@@ -9,7 +9,7 @@ use flow_simdisk::FILE_BYTES;
 use flow_tree::limits;
 use flow_worldfile::WORLD_BYTES;
 
-const ERRORS: [(ErrorCode, u32); 12] = [
+const ERRORS: [(ErrorCode, u16); 12] = [
     (errors::END_OF_STREAM, 1),
     (errors::TIMED_OUT, 1004),
     (errors::BROKEN_PROMISE, 1100),
@@ -24,7 +24,7 @@ const ERRORS: [(ErrorCode, u32); 12] = [
     (errors::DISK_FAILED, 9008),
 ];
 
-fn first_wrong_error() -> Option<u32> {
+fn first_wrong_error() -> Option<u16> {
     for (error, number) in &ERRORS {
         if error.0 != *number {
             return Some(*number);

@@ -1,6 +1,6 @@
 // Tests of flow_base.
 
-ghost use Rattle.std.specs.Prelude.{◌≡◌, None, IfOk, IsTrue, length, map, string_bytes};
+ghost use Rattle.std.specs.Prelude.{◌≡◌, None, IfOk, IsTrue, map, string_bytes};
 ghost use Rattle.flow_base.specs.MemoryFiles.{are_distinct};
 
 use flow_base::fault::OutFault;
@@ -23,8 +23,7 @@ fn file(alloc: Global, name: &str, bytes: &[u8]) -> Result<(String, Vec<u8>), No
 }
 
 fn both(alloc: Global) -> Result<Vec<(String, Vec<u8>)>, NoMemory>
-    ensures two { IfOk result (λ files. length files.items ≡ 2) }
-    ensures distinct { IfOk result (λ files.
+    ensures { IfOk result (λ files.
         IsTrue (are_distinct (map (λ f. string_bytes f.0) files.items))) }
 {
     let first = file(alloc, "a", b"hello")?;
@@ -107,6 +106,8 @@ struct Trickle {
 
 impl Sink for Trickle {
     ghost seen = { λ s. record { written = None; handed = None; faults = s.faults } };
+
+    ghost handed_first = { λ s. tt };
 
     fn write(&mut self, piece: &[u8]) -> Result<usize, OutFault> {
         if self.bytes.len() >= self.takes {

@@ -1,12 +1,14 @@
-//! flow: one command line over real files and standard output.
+//! flow: one command line over the files of the system and standard output.
 #![tactic(auto)]
 
 mod real;
+mod status;
 
-use crate::real::{RealFiles, StandardOutput};
-use flow_base::sink::Sink;
+use crate::real::{BeginKept, SystemFiles};
+use crate::status::{answer, hand_on_rest, is_noted};
 use flow_refusal::note;
-use flow_top::flow_main;
+use flow_system::gathering::Gathering;
+use flow_system::opened::OpenedFiles;
 use std::io::Write;
 use std::process::ExitCode;
 use std::{env, io};
@@ -20,11 +22,12 @@ fn words(rt: &HostRuntime) -> io::Result<Vec<String>> {
     Ok(words)
 }
 
-// Writes the note on what was answered to standard error. Where that fails, nothing is said: the answer stands.
-fn write_note(rt: &HostRuntime, files: &RealFiles, out: &StandardOutput) {
+// Writes the note on what was answered, which begins so, to standard error. Where that fails, nothing is said: the answer
+// stands.
+fn write_note(rt: &HostRuntime, files: &OpenedFiles<SystemFiles>, begin: &[u8]) {
     let told = note(
         rt.alloc(),
-        out.begin(),
+        begin,
         files.asked(0),
         files.text(0),
         files.asked(1),
@@ -35,33 +38,14 @@ fn write_note(rt: &HostRuntime, files: &RealFiles, out: &StandardOutput) {
     }
 }
 
-// Whether a status says that a text is refused, the words are no command, or a file can't be read.
-fn is_noted(status: u8) -> bool {
-    match status {
-        1 | 2 | 3 | 5 | 10 => true,
-        _ => false,
-    }
-}
-
 fn main(rt: HostRuntime) -> ExitCode {
-    match words(&rt) {
-        Ok(words) => {
-            let mut files = RealFiles::new(&rt);
-            let mut out = StandardOutput::new(&rt);
-            let status = flow_main(rt.alloc(), &words, &mut files, &mut out);
-            // What was gathered before a fault goes out too; the status tells of the fault already.
-            let _ = out.flush();
-            if is_noted(status) {
-                write_note(&rt, &files, &out);
-            }
-            ExitCode::from(status)
-        }
-        Err(error) => {
-            if error.kind() == io::ErrorKind::OutOfMemory {
-                ExitCode::from(7)
-            } else {
-                ExitCode::from(14)
-            }
-        }
+    let alloc = rt.alloc();
+    let mut files = OpenedFiles::new(alloc, SystemFiles::new(&rt));
+    let mut out = BeginKept::new(alloc, Gathering::new(alloc, io::writer(&rt)));
+    let status = answer(alloc, words(&rt), &mut files, &mut out);
+    hand_on_rest(status, &mut out);
+    if is_noted(status) {
+        write_note(&rt, &files, out.begin());
     }
+    ExitCode::from(status)
 }

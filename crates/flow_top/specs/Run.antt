@@ -1,12 +1,11 @@
 -- What a command line comes to, and what is written and answered then.
-use Rattle.std.specs.Prelude.{◌≡◌, ℕ, Bool, ◌+◌, List, [], ◌∷◌, ◌++◌, codes, Result, Ok, Err}
+use Rattle.std.specs.Prelude.{◌≡◌, ◌≢◌, ℕ, Bool, ◌+◌, ◌≤◌, List, [], ◌∷◌, ◌++◌, length, map, codes, Ok, Err}
 use Rattle.std.specs.Io.KnownBytes.{Appends}
-use Rattle.std.specs.declared.option.Option.{Option}
 use Rattle.std.specs.declared.option.Option.TheVariants.{None, Some}
 use Rattle.flow_tree.specs.declared.limits.TheConstants.{PROGRAM_BYTES}
-use Rattle.flow_base.specs.Bytes.{AreFirst, AppendsPart}
+use Rattle.flow_base.specs.Bytes.{AreFirstOf, AppendsPart, Grows}
 use Rattle.flow_base.specs.Faults.{Rose, next_count}
-use Rattle.flow_base.specs.Seen.{FilesSeen, SinkSeen, ReadsWithin}
+use Rattle.flow_base.specs.Seen.{Content, Opening, FilesSeen, SinkSeen}
 use Rattle.flow_base.specs.declared.fault.OutFault.{OutFault}
 use Rattle.flow_base.specs.declared.fault.OutFault.TheVariants as fault
 use Rattle.flow_base.specs.declared.place.Place.{Place}
@@ -18,13 +17,10 @@ use Rattle.flow_tree.specs.declared.fault.Rule.TheVariants.{L}
 use Rattle.flow_tree.specs.DeclView.{program_of}
 use Rattle.flow_tree.specs.Canon.{Canon}
 use Rattle.flow_trace.specs.declared.line.Line.{Line}
-use Rattle.flow_worldfile.specs.declared.world.World0.{World0}
 use Rattle.flow_worldfile.specs.declared.world.WorldFault.{WorldFault}
 use Rattle.flow_worldfile.specs.declared.world.WorldFault.TheVariants as world
 use Rattle.flow_worldfile.specs.Reading as reading
 use Rattle.flow_worldfile.specs.Worlds.{IsInRange, seen}
-use Rattle.flow_machine.specs.declared.host.RunFault.{RunFault}
-use Rattle.flow_machine.specs.declared.host.RunFault.TheVariants as broken
 use Rattle.flow_class.specs.declared.class.RawClasses.{RawClasses}
 use Rattle.flow_class.specs.View.{raw_of}
 use Rattle.flow_classprint.specs.ClassText.{ClassText}
@@ -36,7 +32,6 @@ use Rattle.flow_world.specs.declared.ending.Ending.{Ending}
 use Rattle.flow_world.specs.declared.ending.Ending.TheVariants.{Idle, Bound, Spent}
 use Rattle.flow_world.specs.Ends.{end_line, LastIs}
 use Rattle.flow_world.specs.Written.{bytes_of}
-use Rattle.flow_base.specs.Bytes.{Grows}
 use Rattle.flow_compile_laws.specs.Frames.Framed.{SourceShown}
 use Rattle.flow_top.specs.declared.outcome.Outcome.{Outcome}
 use Rattle.flow_top.specs.declared.outcome.Outcome.TheVariants.{Answered, Run}
@@ -100,39 +95,15 @@ abbrev pub fault_status_of : OutFault → ℕ
 fault_status_of fault.Failed = 6
 fault_status_of fault.OutOfMemory = 7
 
--- The text of a file by its content: as much of it as tells a text within the limit from a longer one; where the content
--- isn't told, bytes that were read.
-abbrev pub IsText : (List ℕ → Option (List ℕ)) → List ℕ → List ℕ → Type 0
-IsText content name text = AreFirst (PROGRAM_BYTES + 1) (content name) text
-
--- the file of this name has this program
-pub record HasProgram (content : List ℕ → Option (List ℕ)) (name : List ℕ) (p : Program) : Type 0 where
+-- A file that was read: its name, and the bytes that were read of it.
+pub record FileText : Type 0 where
+  pub name : List ℕ
   pub text : List ℕ
-  pub is : IsText content name text
-  pub read : IsProgram text p
 
--- the file of this name has a program that none of the rules K1 to K12, L8 and U1 refuses
-pub record HasSound (content : List ℕ → Option (List ℕ)) (name : List ℕ) (p : Program) : Type 0 where
-  pub text : List ℕ
-  pub is : IsText content name text
+-- the text has this program, and none of the rules on programs refuses it
+pub record IsPassing (text : List ℕ) (p : Program) : Type 0 where
   pub sound : IsSound text p
-
--- nor does L9
-pub record HasPassing (content : List ℕ → Option (List ℕ)) (name : List ℕ) (p : Program) : Type 0 where
-  pub has : HasSound content name p
   pub light : first_heavy (program_of p).decls ≡ None
-
--- the file of this name has a program of which this use of a local is lost, the first one in the order of the text
-pub record HasLost (content : List ℕ → Option (List ℕ)) (name : List ℕ) (p : Program) (l : Lost) : Type 0 where
-  pub text : List ℕ
-  pub is : IsText content name text
-  pub found : IsLost text p l
-
--- what is answered for the file of a world
-pub record HasWorld (content : List ℕ → Option (List ℕ)) (name : List ℕ) (answer : Result World0 WorldFault) : Type 0 where
-  pub text : List ℕ
-  pub is : IsText content name text
-  pub answered : reading.ReadsWorld text answer
 
 -- A run that may be made: the program is that of a text, in which nothing is refused; the classes are its own; and the world is
 -- in range.
@@ -147,73 +118,103 @@ abbrev pub MayTell : Outcome → Type 0
 MayTell (Answered outcome) = Unit {0}
 MayTell (Run r) = MayRun r
 
--- What the words come to, by the content of the files (where it isn't told, by bytes that were read), and the names that are
--- asked for.
-pub data Due (words : List (List ℕ)) (content : List ℕ → Option (List ℕ)) : Outcome → List (List ℕ) → Type 0 where
+-- What the words come to, by the texts of the files that were read, in the order of reading.
+pub data Due (words : List (List ℕ)) : Outcome → List FileText → Type 0 where
   -- the words are no command
-  usage : ((name : List ℕ) → NameProgram words name → ⊥) → Due words content (Answered Usage) []
+  usage : ((name : List ℕ) → NameProgram words name → ⊥) → Due words (Answered Usage) []
   -- the text that is formatted is no program
-  unread : (name text : List ℕ) (rule : Rule) (at : Place) → AreFormat words name → IsText content name text → IsUnread text rule at
-      → Due words content (Answered (Refused (source.Refused rule at))) (name ∷ [])
-  formatted : (name : List ℕ) (p : Program) → AreFormat words name → HasProgram content name p
-      → Due words content (Answered (Formatted p)) (name ∷ [])
+  unread : (f : FileText) (rule : Rule) (at : Place) → AreFormat words f.name → IsUnread f.text rule at
+      → Due words (Answered (Refused (source.Refused rule at))) (f ∷ [])
+  formatted : (f : FileText) (p : Program) → AreFormat words f.name → IsProgram f.text p → Due words (Answered (Formatted p)) (f ∷ [])
   -- the program is refused
-  refused : (name text : List ℕ) (rule : Rule) (at : Place) → JudgeProgram words name → IsText content name text → IsRefused text rule at
-      → Due words content (Answered (Refused (source.Refused rule at))) (name ∷ [])
+  refused : (f : FileText) (rule : Rule) (at : Place) → JudgeProgram words f.name → IsRefused f.text rule at
+      → Due words (Answered (Refused (source.Refused rule at))) (f ∷ [])
   -- a use of a local is lost in the program
-  lost : (name : List ℕ) (p : Program) (l : Lost) → JudgeProgram words name → HasLost content name p l
-      → Due words content (Answered (Refused (source.AcrossWait l.at l.declared l.wait))) (name ∷ [])
+  lost : (f : FileText) (p : Program) (l : Lost) → JudgeProgram words f.name → IsLost f.text p l
+      → Due words (Answered (Refused (source.AcrossWait l.at l.declared l.wait))) (f ∷ [])
   -- an actor of the program weighs too much
-  heavy : (name : List ℕ) (p : Program) (at : Place) → JudgeProgram words name → HasSound content name p
-      → first_heavy (program_of p).decls ≡ Some at → Due words content (Answered (heavy_outcome at)) (name ∷ [])
-  passed : (name : List ℕ) (p : Program) → AreCheck words name → HasPassing content name p → Due words content (Answered Passed) (name ∷ [])
-  compiled : (name : List ℕ) (p : Program) (classes : RawClasses) → AreCompile words name → HasPassing content name p
+  heavy : (f : FileText) (p : Program) (at : Place) → JudgeProgram words f.name → IsSound f.text p
+      → first_heavy (program_of p).decls ≡ Some at
+      → Due words (Answered (heavy_outcome at)) (f ∷ [])
+  passed : (f : FileText) (p : Program) → AreCheck words f.name → IsPassing f.text p → Due words (Answered Passed) (f ∷ [])
+  compiled : (f : FileText) (p : Program) (classes : RawClasses) → AreCompile words f.name → IsPassing f.text p
       → Has (program_of p) (raw_of classes)
-      → Due words content (Answered (Compiled classes)) (name ∷ [])
-  -- the world is refused
-  no_world : (name world : List ℕ) (frames : Bool) (p : Program) (fault : WorldFault) → AreRun words name world frames
-      → HasPassing content name p
-      → HasWorld content world (Err fault) → Due words content (Answered (NoWorld fault)) (name ∷ (world ∷ []))
+      → Due words (Answered (Compiled classes)) (f ∷ [])
+  -- the world is refused, and not for want of memory
+  no_world : (f w : FileText) (frames : Bool) (p : Program) (fault : WorldFault) → AreRun words f.name w.name frames → IsPassing f.text p
+      → reading.ReadsWorld w.text (Err fault) → fault ≢ world.OutOfMemory → Due words (Answered (NoWorld fault)) (f ∷ (w ∷ []))
   -- the program is run in the world, by its classes
-  run : (name file : List ℕ) (r : ProgramRun) → AreRun words name file r.frames → HasPassing content name r.program.value
-      → Has (program_of r.program.value) (raw_of r.classes) → HasWorld content file (Ok r.world)
-      → Due words content (Run r) (name ∷ (file ∷ []))
+  run : (f w : FileText) (r : ProgramRun) → AreRun words f.name w.name r.frames → IsPassing f.text r.program.value
+      → Has (program_of r.program.value) (raw_of r.classes) → reading.ReadsWorld w.text (Ok r.world) → Due words (Run r) (f ∷ (w ∷ []))
 
--- each of these files was read to one byte past the limit at most
-abbrev pub AllWithin : List (List ℕ) → FilesSeen → FilesSeen → Type 0
-AllWithin [] before after = Unit {0}
-AllWithin (name ∷ names) before after = ReadsWithin (PROGRAM_BYTES + 1) name before after × AllWithin names before after
+-- the file of an opening, and what was read of it
+abbrev pub file_text : Opening → FileText
+file_text opening = record { name = opening.name; text = opening.read }
 
--- These names were asked for, in their order, and of each file one byte past its limit was read at most.
-pub record AsksNames (before after : FilesSeen) (names : List (List ℕ)) : Type 0 where
+-- each of these texts ends one byte past the limit at most
+abbrev pub AllWithin : List FileText → Type 0
+AllWithin [] = Unit {0}
+AllWithin (f ∷ files) = (length f.text ≤ PROGRAM_BYTES + 1) × AllWithin files
+
+-- These names were asked for since, in their order; these files were opened since, in theirs; and these bytes were read of them, one
+-- past the limit at most.
+pub record ReadsFiles (before after : FilesSeen) (names : List (List ℕ)) (files : List FileText) : Type 0 where
   pub asked : after.asked ≡ before.asked ++ names
-  pub within : AllWithin names before after
+  pub opened : map file_text after.openings ≡ map file_text before.openings ++ files
+  pub within : AllWithin files
 
--- The names asked for where a call failed or there was no memory: the program's, and then the world's only where the program
--- passed.
-pub data AskedSome (words : List (List ℕ)) (content : List ℕ → Option (List ℕ)) : List (List ℕ) → Type 0 where
-  none : AskedSome words content []
-  program : (name : List ℕ) → NameProgram words name → AskedSome words content (name ∷ [])
-  both : (name world : List ℕ) (frames : Bool) (p : Program) → AreRun words name world frames → HasPassing content name p
-      → AskedSome words content (name ∷ (world ∷ []))
+-- a text is as much of what is told of its file as tells a text within the limit from a longer one
+abbrev pub IsText : (List ℕ → Content) → FileText → Type 0
+IsText content f = AreFirstOf (PROGRAM_BYTES + 1) (content f.name) f.text
 
--- What was decided: what is due, and no call of the files failed; or a read fault, where one call failed; or want of memory.
+-- so is each of these texts
+abbrev pub AreTexts : (List ℕ → Content) → List FileText → Type 0
+AreTexts content [] = Unit {0}
+AreTexts content (f ∷ files) = IsText content f × AreTexts content files
+
+-- The name asked for where this file was to be read, and what was read of it, if it was opened: all, or a first part.
+pub data AskedOne (name : List ℕ) : List (List ℕ) → List FileText → Type 0 where
+  none_asked : AskedOne name [] []
+  none_opened : AskedOne name (name ∷ []) []
+  one_opened : (text : List ℕ) → AskedOne name (name ∷ []) (record { name = name; text = text } ∷ [])
+
+-- The names asked for where a call failed or there was no memory, and what was read: the program's, and then the world's only where
+-- the program passed.
+pub data AskedSome (words : List (List ℕ)) (content : List ℕ → Content) : List (List ℕ) → List FileText → Type 0 where
+  program : (name : List ℕ) (names : List (List ℕ)) (files : List FileText) → NameProgram words name → AskedOne name names files
+      → AskedSome words content names files
+  both : (f : FileText) (world : List ℕ) (frames : Bool) (p : Program) (names : List (List ℕ)) (files : List FileText)
+      → AreRun words f.name world frames → IsText content f → IsPassing f.text p → AskedOne world names files
+      → AskedSome words content (f.name ∷ names) (f ∷ files)
+
+-- the names of files
+abbrev pub names_of : List FileText → List (List ℕ)
+names_of files = map (λ (f : FileText). f.name) files
+
+-- What was decided: what is due by the texts that were read, which are those of their files, and no call of the files failed; or a
+-- read fault, where one call failed; or want of memory.
 pub data Decided (words : List (List ℕ)) (before after : FilesSeen) : Outcome → Type 0 where
-  due : (outcome : Outcome) (names : List (List ℕ)) → Due words before.content outcome names → AsksNames before after names
-      → after.faults ≡ before.faults → Decided words before after outcome
-  read_fault : (names : List (List ℕ)) → AskedSome words before.content names → AsksNames before after names
+  due : (outcome : Outcome) (files : List FileText) → Due words outcome files → ReadsFiles before after (names_of files) files
+      → AreTexts before.content files → after.faults ≡ before.faults → Decided words before after outcome
+  read_fault : (names : List (List ℕ)) (files : List FileText) → AskedSome words before.content names files
+      → ReadsFiles before after names files
       → after.faults ≡ next_count before.faults → Decided words before after (Answered ReadFault)
-  no_memory : (names : List (List ℕ)) → AskedSome words before.content names → AsksNames before after names
+  no_memory : (names : List (List ℕ)) (files : List FileText) → AskedSome words before.content names files
+      → ReadsFiles before after names files
       → after.faults ≡ before.faults → Decided words before after (Answered OutOfMemory)
 
--- What was told of an outcome that is no run: its whole text, which was handed on, with its status; or a first part of it, with
--- status 6 where the sink failed, which its count then shows, or 7 where there was no memory.
+-- A first part of this text was written, and what was handed on of all that was written is a first part of it.
+pub record GoesOutInPart (before after : SinkSeen) (text : List ℕ) : Type 0 where
+  pub part : AppendsPart before.written after.written text
+  pub out : Grows after.handed after.written
+
+-- What was told of an outcome that is no run: its whole text, which was handed on, with its status; or a first part of it, of which a
+-- first part is out, with status 6 where the sink failed, which its count then shows, or 7 where there was no memory.
 pub data ReportedTold (outcome : told.Answered) (before after : SinkSeen) : ℕ → Type 0 where
   whole : Appends before.written after.written (text_of outcome) → after.handed ≡ after.written
       → ReportedTold outcome before after (status_of outcome)
-  write_fault : AppendsPart before.written after.written (text_of outcome) → Rose before.faults after.faults
-      → ReportedTold outcome before after 6
-  no_memory_told : AppendsPart before.written after.written (text_of outcome) → ReportedTold outcome before after 7
+  write_fault : GoesOutInPart before after (text_of outcome) → Rose before.faults after.faults → ReportedTold outcome before after 6
+  no_memory_told : GoesOutInPart before after (text_of outcome) → ReportedTold outcome before after 7
 
 -- The lines of a run are what is shown of the program in its world, by its text, up to the end of the run.
 pub record AreLines (r : ProgramRun) (ending : Ending) (lines : List Line) : Type 0 where
@@ -221,14 +222,14 @@ pub record AreLines (r : ProgramRun) (ending : Ending) (lines : List Line) : Typ
   pub last : LastIs (end_line ending) lines
 
 -- What was told of a run that ended: the bytes of its lines, which were handed on, with the status of its end. Or a first part
--- of the bytes of all lines that are shown, with status 6, where the sink failed, which its count then shows. Or there was no
--- memory, with status 7: what was written before the run stays, and no more is said.
+-- of the bytes of all lines that are shown, of which a first part is out, with status 6, where the sink failed, which its count then
+-- shows. Or there was no memory, with status 7: what was written before the run stays, and no more is said.
 pub data ReportedRun (r : ProgramRun) (before after : SinkSeen) : ℕ → Type 0 where
   ended : (ending : Ending) (lines : List Line) → AreLines r ending lines → Appends before.written after.written (bytes_of lines)
       → after.handed ≡ after.written → ReportedRun r before after (ending_status ending)
   run_write_fault : (lines : List Line) → SourceShown r.frames (program_of r.program.value) (seen r.world) lines
-      → AppendsPart before.written after.written (bytes_of lines) → Rose before.faults after.faults → ReportedRun r before after 6
-  run_no_memory : Grows before.written after.written → ReportedRun r before after 7
+      → GoesOutInPart before after (bytes_of lines) → Rose before.faults after.faults → ReportedRun r before after 6
+  run_no_memory : Grows before.written after.written → Grows after.handed after.written → ReportedRun r before after 7
 
 abbrev pub Reported : Outcome → SinkSeen → SinkSeen → ℕ → Type 0
 Reported (Answered outcome) before after status = ReportedTold outcome before after status

@@ -1,5 +1,5 @@
 -- What the steps of a command come to.
-use Rattle.std.specs.Prelude.{◌≡◌, ℕ, ◌⊎◌, List, [], ◌∷◌, Result, Ok, Err}
+use Rattle.std.specs.Prelude.{◌≡◌, ◌≢◌, ℕ, List, [], ◌∷◌, Result, Ok, Err}
 use Rattle.std.specs.declared.option.Option.TheVariants.{None, Some}
 use Rattle.std.specs.declared.vec.Vec.{Vec}
 use Rattle.std.specs.declared.alloc.Global.{Global}
@@ -12,39 +12,46 @@ use Rattle.flow_tree.specs.declared.fault.Rule.{Rule}
 use Rattle.flow_tree.specs.Decls.{ProgramTree}
 use Rattle.flow_class.specs.declared.class.RawClasses.{RawClasses}
 use Rattle.flow_class.specs.View.{raw_of}
-use Rattle.flow_front.specs.Verdict.{IsRefused}
+use Rattle.flow_front.specs.Verdict.{IsSound, IsRefused, IsLost}
 use Rattle.flow_lower.specs.Weighing.{first_heavy}
 use Rattle.flow_lower.specs.Compiled.{Has}
 use Rattle.flow_staterule.specs.declared.sound.Sound.{Sound}
 use Rattle.flow_staterule.specs.declared.rule.Lost.{Lost}
 use Rattle.flow_worldfile.specs.declared.world.World0.{World0}
 use Rattle.flow_worldfile.specs.declared.world.WorldFault.{WorldFault}
+use Rattle.flow_worldfile.specs.declared.world.WorldFault.TheVariants as world
 use Rattle.flow_worldfile.specs.Reading as reading
 use Rattle.flow_top.specs.declared.outcome.Answered as told
 use Rattle.flow_top.specs.declared.outcome.Answered.TheVariants.{ReadFault, OutOfMemory, Refused, NoWorld}
-use Rattle.flow_top.specs.Run.{IsText, HasSound, HasLost, AsksNames, heavy_outcome}
+use Rattle.flow_top.specs.Run.{FileText, IsText, ReadsFiles, AskedOne, heavy_outcome}
+
+-- This file was read, whole or to one byte past the limit, and no call failed.
+pub record ReadsWell (before after : FilesSeen) (f : FileText) : Type 0 where
+  pub reads : ReadsFiles before after (f.name ∷ []) (f ∷ [])
+  pub is : IsText before.content f
+  pub no_fault : after.faults ≡ before.faults
 
 -- What reading the file of this name came to: a call of the files failed exactly where it is unread.
 pub data FileRead (name : List ℕ) (before after : FilesSeen) : Result (Vec ℕ Global) told.Answered → Type 0 where
-  is_read : (v : Vec ℕ Global) → IsText before.content name v.items → AsksNames before after (name ∷ []) → after.faults ≡ before.faults
-      → FileRead name before after (Ok v)
-  is_unread : AsksNames before after (name ∷ []) → after.faults ≡ next_count before.faults → FileRead name before after (Err ReadFault)
-  unasked : AsksNames before after [] → after.faults ≡ before.faults → FileRead name before after (Err OutOfMemory)
-  starved : AsksNames before after (name ∷ []) → after.faults ≡ before.faults → FileRead name before after (Err OutOfMemory)
+  is_read : (v : Vec ℕ Global) → ReadsWell before after (record { name = name; text = v.items }) → FileRead name before after (Ok v)
+  is_unread : (names : List (List ℕ)) (files : List FileText) → AskedOne name names files → ReadsFiles before after names files
+      → after.faults ≡ next_count before.faults → FileRead name before after (Err ReadFault)
+  starved : (names : List (List ℕ)) (files : List FileText) → AskedOne name names files → ReadsFiles before after names files
+      → after.faults ≡ before.faults → FileRead name before after (Err OutOfMemory)
 
 -- What reading and judging the program of this name came to.
 pub data Loaded (name : List ℕ) (before after : FilesSeen) : Result Sound told.Answered → Type 0 where
-  is_loaded : (s : Sound) → HasSound before.content name s.typed.program → AsksNames before after (name ∷ []) → after.faults ≡ before.faults
+  is_loaded : (s : Sound) (text : List ℕ) → IsSound text s.typed.program → ReadsWell before after (record { name = name; text = text })
       → Loaded name before after (Ok s)
-  is_refused : (text : List ℕ) (rule : Rule) (at : Place) → IsText before.content name text → IsRefused text rule at
-      → AsksNames before after (name ∷ []) → after.faults ≡ before.faults
+  is_refused : (text : List ℕ) (rule : Rule) (at : Place) → IsRefused text rule at
+      → ReadsWell before after (record { name = name; text = text })
       → Loaded name before after (Err (Refused (source.Refused rule at)))
-  is_lost : (p : Program) (l : Lost) → HasLost before.content name p l
-      → AsksNames before after (name ∷ []) → after.faults ≡ before.faults
+  is_lost : (text : List ℕ) (p : Program) (l : Lost) → IsLost text p l → ReadsWell before after (record { name = name; text = text })
       → Loaded name before after (Err (Refused (source.AcrossWait l.at l.declared l.wait)))
-  no_text : AsksNames before after (name ∷ []) → after.faults ≡ next_count before.faults → Loaded name before after (Err ReadFault)
-  no_room : (names : List (List ℕ)) → AsksNames before after names → (names ≡ []) ⊎ (names ≡ name ∷ []) → after.faults ≡ before.faults
-      → Loaded name before after (Err OutOfMemory)
+  no_text : (names : List (List ℕ)) (files : List FileText) → AskedOne name names files → ReadsFiles before after names files
+      → after.faults ≡ next_count before.faults → Loaded name before after (Err ReadFault)
+  no_room : (names : List (List ℕ)) (files : List FileText) → AskedOne name names files → ReadsFiles before after names files
+      → after.faults ≡ before.faults → Loaded name before after (Err OutOfMemory)
 
 -- the classes of a program, or that an actor weighs too much
 pub data ClassesOf (p : ProgramTree) : Result RawClasses told.Answered → Type 0 where
@@ -52,8 +59,8 @@ pub data ClassesOf (p : ProgramTree) : Result RawClasses told.Answered → Type 
   is_heavy : (at : Place) → first_heavy p.decls ≡ Some at → ClassesOf p (Err (heavy_outcome at))
   no_classes : ClassesOf p (Err OutOfMemory)
 
--- the world of a text, or its refusal
+-- the world of a text, or its refusal; want of memory is none
 pub data WorldOf (text : List ℕ) : Result World0 told.Answered → Type 0 where
   is_world : (w : World0) → reading.ReadsWorld text (Ok w) → WorldOf text (Ok w)
-  is_none : (fault : WorldFault) → reading.ReadsWorld text (Err fault) → WorldOf text (Err (NoWorld fault))
+  is_none : (fault : WorldFault) → reading.ReadsWorld text (Err fault) → fault ≢ world.OutOfMemory → WorldOf text (Err (NoWorld fault))
   no_room_for_it : WorldOf text (Err OutOfMemory)

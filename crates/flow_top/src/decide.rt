@@ -1,11 +1,10 @@
 // What the words and the files come to.
 
-ghost use Rattle.std.specs.Prelude.{◌≡◌, ◌+◌, ℕ, List, map, string_bytes, IfOk};
-ghost use Rattle.flow_tree.specs.declared.limits.TheConstants.{PROGRAM_BYTES};
-ghost use Rattle.flow_base.specs.Seen.{MovesOnly, ReadsWithin};
+ghost use Rattle.std.specs.Prelude.{◌≡◌, ℕ, List, map, string_bytes, Err, IfOk};
 ghost use Rattle.flow_tree.specs.DeclView.{program_of};
 ghost use Rattle.flow_compile.specs.Right.{IsAccepted};
 ghost use Rattle.flow_top.specs.Words.{AreFormat, AreCheck, AreCompile, AreRun};
+ghost use Rattle.flow_worldfile.specs.Reading.{ReadsWorld};
 ghost use Rattle.flow_worldfile.specs.Worlds.{IsInRange, seen};
 ghost use Rattle.flow_top.specs.Run.{Decided, MayTell, outcome_of, refusal_outcome_of, heavy_outcome};
 ghost use Rattle.flow_top.specs.Steps.{FileRead, Loaded, ClassesOf, WorldOf};
@@ -49,9 +48,6 @@ fn refusal_outcome(fault: SourceFault) -> Answered
 // file has the same limit as a program.
 fn bytes_of<F: Files>(alloc: Global, name: &str, files: &mut F) -> Result<Vec<u8>, Answered>
     ensures content { (F.seen files.new).content ≡ (F.seen files.old).content }
-    ensures others { MovesOnly name.now (F.seen files.old) (F.seen files.new) }
-    ensures within { ReadsWithin (PROGRAM_BYTES + 1) name.now (F.seen files.old)
-        (F.seen files.new) }
     ensures read { FileRead name.now (F.seen files.old) (F.seen files.new) result }
 {
     match read_file(alloc, files, name, PROGRAM_BYTES) {
@@ -63,7 +59,6 @@ fn bytes_of<F: Files>(alloc: Global, name: &str, files: &mut F) -> Result<Vec<u8
 // The program of the file of this name, which passes the rules, or what the command comes to without it.
 fn load<F: Files>(alloc: Global, name: &str, files: &mut F) -> Result<Sound, Answered>
     ensures content { (F.seen files.new).content ≡ (F.seen files.old).content }
-    ensures others { MovesOnly name.now (F.seen files.old) (F.seen files.new) }
     ensures loaded { Loaded name.now (F.seen files.old) (F.seen files.new) result }
 {
     let bytes = match bytes_of(alloc, name, files) {
@@ -143,6 +138,20 @@ fn compiled<F: Files>(alloc: Global, name: &str, files: &mut F) -> Answered
     }
 }
 
+// What a refusal of the world comes to: want of memory is none.
+fn world_outcome(fault: WorldFault) -> Answered
+    ensures { (text : List ℕ) → ReadsWorld text (Err fault) → WorldOf text (Err result) }
+{
+    match fault {
+        WorldFault::OutOfMemory => Answered::OutOfMemory,
+        WorldFault::TooLarge
+        | WorldFault::Form(_)
+        | WorldFault::Range(_)
+        | WorldFault::Twice(_)
+        | WorldFault::NoProcess(_) => Answered::NoWorld(fault),
+    }
+}
+
 // The world of a text, or what the command comes to without it.
 fn world_of(alloc: Global, bytes: &[u8]) -> Result<World0, Answered>
     ensures answered { WorldOf bytes.now result }
@@ -150,8 +159,7 @@ fn world_of(alloc: Global, bytes: &[u8]) -> Result<World0, Answered>
 {
     match read_world(alloc, bytes) {
         Ok(world) => Ok(world),
-        Err(WorldFault::OutOfMemory) => Err(Answered::OutOfMemory),
-        Err(fault) => Err(Answered::NoWorld(fault)),
+        Err(fault) => Err(world_outcome(fault)),
     }
 }
 

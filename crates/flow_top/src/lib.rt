@@ -3,6 +3,7 @@
 
 mod command;
 mod decide;
+pub mod laws;
 mod outcome;
 mod report;
 mod top;

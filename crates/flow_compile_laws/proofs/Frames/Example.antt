@@ -51,7 +51,7 @@ lost_ping_times_out_program = record {
         (CallStmt nowhere ((id (codes "trace")) ∷ []) (MoreExprs (MethodExpr (VarExpr (id (codes "e"))) (id (codes "code")) NoExprs) NoExprs) End) End))
         (WaitStmt nowhere (record { into = (Some (record { state = false; ty = (NamedType (codes "Packet")); name = (id (codes "k")) })); next = true; operand = (VarExpr (id (codes "in"))) })
         (CallStmt nowhere ((id (codes "sendTo")) ∷ []) (MoreExprs (FieldExpr (VarExpr (id (codes "k"))) (id (codes "from")))
-        (MoreExprs (IntExpr (pos 7)) (MoreExprs (TextExpr (codes "pong")) NoExprs)))
+            (MoreExprs (IntExpr (pos 7)) (MoreExprs (TextExpr (codes "pong")) NoExprs)))
         End)) (ReturnStmt nowhere VoidExpr End)));
     close = nowhere;
   })) ∷ []);

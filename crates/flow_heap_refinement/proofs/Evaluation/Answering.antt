@@ -173,10 +173,7 @@ module _ (p : Rule) where
     method_named cells h m (ErrorValue e) vs n = number_named m e
     method_named cells h m (TextValue t) vs n = text_named m t vs
     method_named cells h m (RefValue k c) vs n = reference_named cells h m k c n
-    method_named cells h m (IntValue z) vs n = tt
-    method_named cells h m (BoolValue b) vs n = tt
-    method_named cells h m VoidValue vs n = tt
-    method_named cells h m (RecordValue r us) vs n = tt
+    method_named cells h m _ vs n = tt
 
     pub maybe_method : (cells : ℕ → Option OutcomeTree) → ((k : ℕ) → Content (cells k)) → (m : Option Method) (v : ValueTree) (vs : List ValueTree) → Named p v
         → AnswerNamed (method_called cells m v vs)
@@ -195,12 +192,7 @@ module _ (p : Rule) where
 
   pub field_named : (rs : List RecordTree) (v : ValueTree) (x : List ℕ) → Named p v → MaybeNamed p (field rs v x)
   field_named rs (RecordValue r vs) x h = place_named vs (field_place rs r x) h
-  field_named rs (IntValue z) x h = tt
-  field_named rs (BoolValue b) x h = tt
-  field_named rs (TextValue t) x h = tt
-  field_named rs VoidValue x h = tt
-  field_named rs (ErrorValue e) x h = tt
-  field_named rs (RefValue k c) x h = tt
+  field_named rs _ x h = tt
 
   pub answer_named : (o : Option ValueTree) → MaybeNamed p o → AnswerNamed (field_answer o)
   answer_named None h = tt

@@ -6,7 +6,7 @@ use Rattle.std.specs.Str.{bytes_eq}
 use Rattle.std.specs.declared.option.Option.{Option}
 use Rattle.std.specs.declared.option.Option.TheVariants.{None, Some}
 use Rattle.flow_tree.specs.declared.ty.Ident.{Ident}
-use Rattle.flow_tree.specs.Tree.{TypeTree, IntType, BoolType, StringType, ExprTree, ExprTrees, IntExpr, TextExpr, BoolExpr, VoidExpr, VarExpr, CallExpr, FieldExpr, MethodExpr, NotExpr, NegExpr, BinaryExpr, ParenExpr, NoExprs, MoreExprs}
+use Rattle.flow_tree.specs.Tree.{TypeTree, IntType, BoolType, StringType, ExprTree, ExprTrees, VarExpr, CallExpr, FieldExpr, MethodExpr, NotExpr, NegExpr, BinaryExpr, ParenExpr, NoExprs, MoreExprs}
 use Rattle.flow_tree.specs.Body.{IntoTree, ChangeTree, PlusChange, MinusChange, UpChange, DownChange, Body, End, BlockStmt, IfStmt, IfElseStmt, WhileStmt, ForStmt, LoopStmt, BreakStmt, ContinueStmt, ReturnStmt, ThrowStmt, TryStmt, ChooseStmt, DeclareStmt, AssignStmt, ModifyStmt, CallStmt, WaitStmt}
 use Rattle.flow_tree.specs.Decls.{ParamTree, RoutineTree}
 use Rattle.flow_ast.specs.declared.predefined.Predefined.{Predefined}
@@ -21,7 +21,7 @@ use Rattle.flow_eval.specs.Records.{record_id, field, field_answer}
 use Rattle.flow_eval.specs.Eval.{Res, Done, Fails, Spent, Meaningless, Setting, Runner, then as goes_on, at_once, variable, second, method_called, function_called, declared_called, called, eval, eval_all}
 use Rattle.flow_eval.specs.Functions.{Locals, Run, Goes, Breaks, Continues, Returns, Raises, SpentRun, NoRun, after, scoped, valued, chosen, again, passes, stepped, caught_by, thrown, error_at, rethrown, default_value, bound, declared, with_first, put_in, read_path, put_at_var, put_place, put_path, assigned, entered, finished, scope, skip, leave_loop, change_sign, handled, try_run, evaluated, if_run, pass_run, turn_run, loop_run, for_run, throw_run, declare_run, assign_run, change_operand, changed, modify_run, call_by, call_run, return_run, exec, body_run, run_function, deepest}
 use Rattle.flow_heap_refinement.specs.Evaluation as law
-use Rattle.flow_heap_refinement.specs.Evaluation.{Rule, GivesFutures, Named, FieldsNamed, AllNamed, MaybeNamed, ResNamed, AllResNamed, CellsNamed, LookNamed}
+use Rattle.flow_heap_refinement.specs.Evaluation.{Rule, GivesFutures, Named, AllNamed, MaybeNamed, ResNamed, AllResNamed, CellsNamed, LookNamed}
 use Rattle.flow_heap_refinement.proofs.Evaluation.Answering.{put_in_named, read_in_named, same_of, AnswerNamed, answer_named, call_named, field_named, found_named, inverted_named, maybe_method, more_named, negated_named, once_named, operated_named, record_named, second_named, value_then, values_then}
 
 module _ (p : Rule) where
@@ -44,10 +44,6 @@ module _ (p : Rule) where
 
     mutual
       pub eval_named : (look : List ℕ → Option ValueTree) (e : ExprTree) (left : ℕ) → LookNamed p look → ResNamed p (eval s run look e left)
-      eval_named look (IntExpr n) left h = tt
-      eval_named look (TextExpr t) left h = tt
-      eval_named look (BoolExpr b) left h = tt
-      eval_named look VoidExpr left h = tt
       eval_named look (VarExpr x) left h = once_named p (variable look x.name (named constant_names x.name)) left (var_named look x.name (named constant_names x.name) h)
       eval_named look (CallExpr f xs) left h =
           values_then p (eval_all s run look xs left) (λ vs left. called s run (named call_names f.name) f.name vs left) (all_named look xs left h)
@@ -67,6 +63,7 @@ module _ (p : Rule) where
       eval_named look (BinaryExpr op x y) left h =
           value_then p (eval s run look x left) (λ v left. second op v (eval s run look y) left) (eval_named look x left h) (λ v l n. second_named p op v (eval s run look y) l)
       eval_named look (ParenExpr e) left h = eval_named look e left h
+      eval_named look _ left h = tt
 
       pub all_named : (look : List ℕ → Option ValueTree) (es : ExprTrees) (left : ℕ) → LookNamed p look → AllResNamed p (eval_all s run look es left)
       all_named look NoExprs left h = tt
@@ -120,12 +117,9 @@ module _ (p : Rule) where
     -- statements
     after_named : (r : Run) (go : Locals → ℕ → Run) → RunNamed r → GoNamed go → RunNamed (after r go)
     after_named (Goes vars left) go h f = f vars left h
-    after_named (Breaks vars left) go h f = h
-    after_named (Continues vars left) go h f = h
-    after_named (Returns v left) go h f = h
-    after_named (Raises e vars left) go h f = h
     after_named SpentRun go h f = tt
     after_named NoRun go h f = tt
+    after_named _ go h f = h
 
     scoped_named : (n : ℕ) (r : Run) → RunNamed r → RunNamed (scoped n r)
     scoped_named n (Goes vars left) h = vars_take n vars h
@@ -289,12 +283,9 @@ module _ (p : Rule) where
 
     caught_named : (r : Run) (handler : ℕ → Locals → ℕ → Run) → RunNamed r → ((e : ℕ) → GoNamed (handler e)) → RunNamed (caught_by r handler)
     caught_named (Raises e vars left) handler h f = f e vars left h
-    caught_named (Goes vars left) handler h f = h
-    caught_named (Breaks vars left) handler h f = h
-    caught_named (Continues vars left) handler h f = h
-    caught_named (Returns v left) handler h f = h
     caught_named SpentRun handler h f = tt
     caught_named NoRun handler h f = tt
+    caught_named _ handler h f = h
 
     try_named : (body : Locals → ℕ → Run) (x : List ℕ) (handler : Locals → ℕ → Run) → GoNamed body → GoNamed handler → GoNamed (try_run body x handler)
     try_named body x handler f g vars left h =
@@ -348,12 +339,7 @@ module _ (p : Rule) where
 
     finished_named : (r : Run) → RunNamed r → ResNamed p (finished r)
     finished_named (Returns v left) h = h
-    finished_named (Raises e vars left) h = tt
-    finished_named SpentRun h = tt
-    finished_named (Goes vars left) h = tt
-    finished_named (Breaks vars left) h = tt
-    finished_named (Continues vars left) h = tt
-    finished_named NoRun h = tt
+    finished_named _ h = tt
 
     pub body_named : (f : RoutineTree) (o : Option Locals) (left : ℕ) → MaybeVars o → ResNamed p (body_run s run f o left)
     body_named f None left h = tt

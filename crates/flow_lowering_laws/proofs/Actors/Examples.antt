@@ -123,11 +123,8 @@ break_out_of_try_classes = record {
           body = ((SetInstr ((id (codes "l0")) ∷ []) (VarExpr (id (codes "s1")))) ∷ []);
           last = (TestLast (BinaryExpr Eq (VarExpr (id (codes "l0"))) (IntExpr (pos 2))) 3 5);
         })
-        ∷ (record {
-          catcher = (Some (record { block = 7; error = (Some 2); drops = (1 ∷ 0 ∷ []) }));
-          body = ((SetInstr ((id (codes "l1")) ∷ []) (VarExpr (id (codes "l0")))) ∷ []);
-          last = (GotoLast 4);
-        })
+        ∷ (record { catcher = (Some (record { block = 7; error = (Some 2); drops = (1 ∷ 0 ∷ []) })); body = ((SetInstr ((id (codes "l1")) ∷ []) (VarExpr (id (codes "l0")))) ∷ []);
+        last = (GotoLast 4) })
         ∷ (record { catcher = None; body = ((DropInstr (1 ∷ [])) ∷ (DropInstr (0 ∷ [])) ∷ []); last = (GotoLast 9) })
         ∷ (record {
           catcher = (Some (record { block = 7; error = (Some 2); drops = (0 ∷ []) }));
@@ -347,7 +344,7 @@ catch_around_loop_program = record {
         (WaitStmt nowhere (record { into = None; next = false; operand = (CallExpr (id (codes "delay")) (MoreExprs (IntExpr (pos 1)) NoExprs)) })
         (DeclareStmt nowhere (record { state = false; ty = IntType; name = (id (codes "after")) }) (Some (VarExpr (id (codes "n"))))
         (IfStmt nowhere (BinaryExpr Gt (VarExpr (id (codes "after"))) (IntExpr (pos 2))) (ThrowStmt nowhere (Some (CallExpr (id (codes "timed_out")) NoExprs)) End) End))))) End) nowhere
-        (id (codes "e"))
+            (id (codes "e"))
         (CallStmt nowhere ((id (codes "trace")) ∷ []) (MoreExprs (MethodExpr (VarExpr (id (codes "e"))) (id (codes "code")) NoExprs) NoExprs) End) (ReturnStmt nowhere VoidExpr End)));
     close = nowhere;
   }))

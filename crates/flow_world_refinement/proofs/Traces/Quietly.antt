@@ -188,7 +188,7 @@ module _ (Rests : Process → Proc Frame → Type 0) (Keeps : World Frame → Ty
       (λ left. (
         record { does = λ at. refl; active = refl; file = refl; script = refl; ran = refl },
         link_cut (record w.outside { time = c.time }) (counted c.time p.0 (record m.out { script = left })) p.0 q.0
-        (on_time w.outside m.out c.time c.time p.0 left refl c.represents.outside) here.few here.first here.second,
+            (on_time w.outside m.out c.time c.time p.0 left refl c.represents.outside) here.few here.first here.second,
       ))
       (subst (λ k. puts a (line.Cut k c.time p q) (Ok tt) b) counts done.0)
       (c.happens.after ∙ ap {A = Seen} (λ z. record z { ended = false }) done.2)
@@ -205,7 +205,7 @@ module _ (Rests : Process → Proc Frame → Type 0) (Keeps : World Frame → Ty
       (λ left. (
         record { does = λ at. refl; active = refl; file = refl; script = refl; ran = refl },
         link_healed (record w.outside { time = c.time }) (counted c.time p.0 (record m.out { script = left })) p.0 q.0
-        (on_time w.outside m.out c.time c.time p.0 left refl c.represents.outside) here.few here.first here.second,
+            (on_time w.outside m.out c.time c.time p.0 left refl c.represents.outside) here.few here.first here.second,
       ))
       (subst (λ k. puts a (line.Heal k c.time p q) (Ok tt) b) counts done.0)
       (c.happens.after ∙ ap {A = Seen} (λ z. record z { ended = false }) done.2)
@@ -226,7 +226,7 @@ module _ (Rests : Process → Proc Frame → Type 0) (Keeps : World Frame → Ty
       (λ left. (
         record { does = λ at. refl; active = refl; file = refl; script = refl; ran = refl },
         disk_put (record w.outside { time = c.time }) (counted c.time p.0 (record m.out { script = left })) p.0 failed _
-        (on_time w.outside m.out c.time c.time p.0 left refl c.represents.outside) same,
+            (on_time w.outside m.out c.time c.time p.0 left refl c.represents.outside) same,
       ))
       (subst (λ k. puts a (line.DiskFail k c.time p n) (Ok tt) b) counts done.0)
       (c.happens.after ∙ ap {A = Seen} (λ z. record z { ended = false }) failing.left)

@@ -1,7 +1,7 @@
 use Rattle.std.proofs.Common.{[], refl}
 use Rattle.flow_top.specs.Run.{usage, due}
-use Rattle.flow_top.proofs.Deciding.{asks_none}
+use Rattle.flow_top.proofs.Deciding.{untouched}
 use Rattle.flow_top.proofs.decide.decide.Goals as goal
 
 pub returns-in-None-clause-decided : goal.returns-in-None-clause-decided
-returns-in-None-clause-decided g c = due _ [] (usage c.in-None.ensures) (asks_none refl) refl
+returns-in-None-clause-decided g c = due _ [] (usage c.in-None.ensures) (untouched _) tt refl

@@ -1,6 +1,6 @@
 use Rattle.std.proofs.Common.{Ok, Err, subst}
 use Rattle.flow_front.specs.Verdict.{AnswersText}
-use Rattle.flow_top.proofs.Deciding.{unloaded, loaded, judged, text_is, asked_it, same_faults}
+use Rattle.flow_top.proofs.Deciding.{unloaded, loaded, judged, well}
 use Rattle.flow_top.proofs.decide.load.Goals as goal
 
 pub returns-in-Err-clause-loaded : goal.returns-in-Err-clause-loaded
@@ -12,6 +12,5 @@ returns-in-Ok-front-clause-loaded g c =
 
 pub returns-clause-loaded : goal.returns-clause-loaded
 returns-clause-loaded g c =
-    let read = c.in-Ok.ensures.read in
     let verdict = subst (λ b. AnswersText b (Err c.in-Err-front.fault)) c.deref.ensures.value c.in-Err-front.ensures in
-    judged c.in-Ok.bytes.items c.in-Err-front.fault c.refusal_outcome.ensures (text_is read) verdict (asked_it read) (same_faults read)
+    judged c.in-Ok.bytes.items c.in-Err-front.fault c.refusal_outcome.ensures verdict (well c.in-Ok.ensures.read)

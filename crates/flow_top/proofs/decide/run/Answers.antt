@@ -1,7 +1,7 @@
 use Rattle.std.proofs.Common.{Ok, Err, ◌∙◌, subst}
 use Rattle.flow_top.specs.Words.{of_run}
 use Rattle.flow_top.specs.Steps.{WorldOf}
-use Rattle.flow_top.proofs.Deciding.{accepted, Between, without_program, without_classes, without_world, are_light, was_asked, may_run, ran, not_ran}
+use Rattle.flow_top.proofs.Deciding.{accepted, without_program, without_classes, without_world, are_light, may_run, ran, not_ran}
 use Rattle.flow_top.proofs.decide.run.Goals as goal
 
 pub classes_of-requires : goal.classes_of-requires
@@ -16,38 +16,17 @@ returns-in-Err-classes_of-clause-decided g c = λ words are.
 
 pub returns-in-Err-bytes_of-clause-decided : goal.returns-in-Err-bytes_of-clause-decided
 returns-in-Err-bytes_of-clause-decided g c = λ words are.
-    let between : Between c.args.name.now c.args.world.now _ _ _ = record {
-      content = c.load.ensures.content;
-      asked = was_asked c.in-Ok.ensures.loaded;
-      others = c.load.ensures.others;
-      others_then = c.bytes_of.ensures.others;
-      within_then = c.bytes_of.ensures.within;
-    } in
-    without_world are c.in-Ok.ensures.loaded (are_light c.in-Ok-classes_of.ensures) between c.in-Err-bytes_of.ensures.read
+    without_world are c.in-Ok.ensures.loaded (are_light c.in-Ok-classes_of.ensures) c.in-Err-bytes_of.ensures.read
 
 pub returns-in-Ok-world_of : goal.returns-in-Ok-world_of
 returns-in-Ok-world_of g c = record {
   may_tell = may_run _ (c.of.ensures ∙ c.program.ensures) c.in-Ok.ensures.loaded c.in-Ok-classes_of.ensures c.in-Ok-world_of.ensures.in_range;
   decided = λ words are.
-      let between : Between c.args.name.now c.args.world.now _ _ _ = record {
-        content = c.load.ensures.content;
-        asked = was_asked c.in-Ok.ensures.loaded;
-        others = c.load.ensures.others;
-        others_then = c.bytes_of.ensures.others;
-        within_then = c.bytes_of.ensures.within;
-      } in
       let answered = subst (λ b. WorldOf b (Ok c.in-Ok-world_of.world)) c.deref.ensures.value c.in-Ok-world_of.ensures.answered in
-      ran _ (c.of.ensures ∙ c.program.ensures) are c.in-Ok.ensures.loaded c.in-Ok-classes_of.ensures between c.in-Ok-bytes_of.ensures.read answered;
+      ran _ (c.of.ensures ∙ c.program.ensures) are c.in-Ok.ensures.loaded c.in-Ok-classes_of.ensures c.load.ensures.content c.in-Ok-bytes_of.ensures.read answered;
 }
 
 pub returns-clause-decided : goal.returns-clause-decided
 returns-clause-decided g c = λ words are.
-    let between : Between c.args.name.now c.args.world.now _ _ _ = record {
-      content = c.load.ensures.content;
-      asked = was_asked c.in-Ok.ensures.loaded;
-      others = c.load.ensures.others;
-      others_then = c.bytes_of.ensures.others;
-      within_then = c.bytes_of.ensures.within;
-    } in
     let answered = subst (λ b. WorldOf b (Err c.in-Err-world_of.told)) c.deref.ensures.value c.in-Err-world_of.ensures.answered in
-    not_ran are c.in-Ok.ensures.loaded c.in-Ok-classes_of.ensures between c.in-Ok-bytes_of.ensures.read answered
+    not_ran are c.in-Ok.ensures.loaded c.in-Ok-classes_of.ensures c.load.ensures.content c.in-Ok-bytes_of.ensures.read answered

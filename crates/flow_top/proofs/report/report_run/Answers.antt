@@ -1,5 +1,5 @@
 use Rattle.std.proofs.Common.{◌≡◌, Err, ap, sym, ◌∙◌, subst}
-use Rattle.flow_base.specs.Bytes.{Grows}
+use Rattle.flow_base.proofs.Growing.{grows_kept}
 use Rattle.flow_base.specs.declared.fault.OutFault.{OutFault}
 use Rattle.flow_base.specs.declared.fault.OutFault.TheVariants.{Failed}
 use Rattle.flow_machine.specs.Cause.{fault_of}
@@ -11,7 +11,8 @@ pub returns-in-Err : goal.returns-in-Err
 returns-in-Err g c =
     let is : (f : OutFault) → c.run_fault.result ≡ f → c.write_trace.result ≡ Err (fault_of f) = λ f e. c.in-Err.is ∙ ap Err (sym c.run_fault.ensures ∙ ap fault_of e) in
     subst (ReportedRun c.args.run _ _) (sym c.fault_status.ensures)
-    (broke_off c.args.run _ _ c.run_fault.result c.requires c.write_trace.ensures.grows (λ e. c.write_trace.ensures.part (is Failed e))
+    (broke_off c.args.run _ _ c.run_fault.result c.requires c.write_trace.ensures.grows (g.met.S.Sink.handed_first c.write_trace.new.out)
+    (λ e. c.write_trace.ensures.part (is Failed e))
     (λ e. c.write_trace.ensures.cause.failed (is Failed e)))
 
 pub run_fault-requires : goal.run_fault-requires
@@ -19,12 +20,12 @@ run_fault-requires g c = λ e. never_stuck c.args.run _ c.requires (c.write_trac
 
 pub returns-in-Err-flush : goal.returns-in-Err-flush
 returns-in-Err-flush g c =
-    let grown = subst (λ w. Grows ((g.S.Sink.seen c.args.out.now).written) w) (sym c.flush.ensures.bytes) c.write_trace.ensures.grows in
+    let grown = grows_kept _ _ _ c.write_trace.ensures.grows c.flush.ensures.bytes in
     subst (ReportedRun c.args.run _ _) (sym c.fault_status-in-Err-flush.ensures)
-    (unflushed c.args.run _ _ _ c.in-Ok.ending c.in-Err-flush.fault c.requires c.in-Ok.ensures.traces c.flush.ensures.bytes grown
+    (unflushed c.args.run _ _ _ c.in-Ok.ending c.in-Err-flush.fault c.requires c.in-Ok.ensures.traces c.flush.ensures.bytes grown (g.met.S.Sink.handed_first c.flush.new.self)
     (λ e. rose_after _ _ _ c.write_trace.ensures.cause.kept (c.flush.ensures.cause.failed (c.in-Err-flush.is ∙ ap Err e))))
 
 pub returns : goal.returns
 returns g c =
     subst (ReportedRun c.args.run _ _) (sym c.ending_status.ensures)
-    (came_to_end c.args.run _ _ _ c.in-Ok.ending c.requires c.in-Ok.ensures.traces c.flush.ensures.bytes c.in_default.ensures.handed)
+    (came_to_end c.args.run _ _ _ c.in-Ok.ending c.requires c.in-Ok.ensures.traces c.flush.ensures.bytes c.in_default.ensures.all)
