@@ -6,3 +6,4 @@ pub mod Naming
 pub mod Fitting
 pub mod Walks
 pub mod Validity
+pub mod ReadBack

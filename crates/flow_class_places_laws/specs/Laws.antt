@@ -1,7 +1,14 @@
--- The rules of classes don't depend on places.
-use Rattle.std.specs.Prelude.{◌≡◌, ℕ}
+-- The rules of classes don't depend on places, and class text is read back as the same, places aside.
+use Rattle.std.specs.Prelude.{◌≡◌, ℕ, List}
 use Rattle.std.specs.declared.option.Option.{Option}
+use Rattle.flow_base.specs.declared.place.Place.{Place}
+use Rattle.flow_tree.specs.declared.limits.TheConstants.{OF_CLASS_TEXT}
+use Rattle.flow_tree.specs.declared.token.Spot.{Spot}
+use Rattle.flow_tree.specs.Lexing.{Lexes}
+use Rattle.flow_tree.specs.GrammarToken.{DerivesOf}
 use Rattle.flow_class.specs.Classes.{ClassTree, RawTree}
+use Rattle.flow_classprint.specs.ClassGrammar.{TextRule, IsWritten}
+use Rattle.flow_classprint.specs.ClassText.{ClassText}
 use Rattle.flow_meaning.specs.Placeless.{placeless_class, placeless_classes}
 use Rattle.flow_valid.specs.Validity.{IsSoundClass, IsValid, Breaks}
 
@@ -19,3 +26,17 @@ abbrev pub SoundnessAside : Type 0
 SoundnessAside =
     (a b : RawTree) (c d : ClassTree) → placeless_classes a ≡ placeless_classes b → placeless_class c ≡ placeless_class d
     → IsSoundClass a c → IsSoundClass b d
+
+-- The canonical text of classes has tokens, which are derived as classes equal to them, places aside, within the limits of class
+-- text. The limit on bytes is no part of this.
+pub record AreReadBack (raw : RawTree) : Type 0 where
+  pub spots : List Spot
+  pub end : Place
+  pub tree : RawTree
+  pub lexes : Lexes (ClassText raw) spots end
+  pub derives : DerivesOf OF_CLASS_TEXT (TextRule 1) 7 spots tree
+  pub same : placeless_classes tree ≡ placeless_classes raw
+
+-- So are the records, functions and classes that some class text derives.
+abbrev pub ClassTextReadBack : Type 0
+ClassTextReadBack = (raw : RawTree) → IsWritten raw → AreReadBack raw

@@ -1,4 +1,4 @@
-//! Whether classes are valid doesn't depend on places in the text.
+//! Whether classes are valid doesn't depend on places in the text, and class text is read back as the same, places aside.
 #![tactic(auto)]
 
 pub mod laws;

@@ -71,7 +71,7 @@ more_apart : (ps : List ParamTree) (rest : List ℕ) → Closing rest → Apart 
 more_apart [] rest (closing w) = refl
 more_apart (p ∷ ps) rest (closing w) = refl
 
-sign_comma : (p : Place) → Piece {X = Place} (λ x. sign_at sign.Comma x ∷ []) (sign_at sign.Comma p ∷ []) (44 ∷ []) Any
+pub sign_comma : (p : Place) → Piece {X = Place} (λ x. sign_at sign.Comma x ∷ []) (sign_at sign.Comma p ∷ []) (44 ∷ []) Any
 sign_comma p = under (sign_piece [] sign.Comma p) (λ rest g. comma_ends rest)
 
 more_params_piece : {n : ℕ} {m : List Marked} {ps : List ParamTree} → MoreParamsRule n m ps → AllValid m → Piece {X = MoreParamsKept n ps} (λ y. y.marked) m (more_params_text ps) Closing
@@ -187,7 +187,7 @@ pub record DeclKept (x : DeclTree) : Type 0 where
 record_some : {m : List Marked} {r : RecordTree} → RecordRule m r → 0 < length m
 record_some (fields at p q r x xs rule e) = some_in [] _ _ e
 
-decl_some : {m : List Marked} {x : DeclTree} → DeclRule m x → 0 < length m
+pub decl_some : {m : List Marked} {x : DeclTree} → DeclRule m x → 0 < length m
 decl_some (record_decl r) = record_some r
 decl_some (function_decl at of xs tr rr e st) = starts_some _ at st
 decl_some (actor_decl at p q r of xs tr rr e) = some_in [] _ _ e

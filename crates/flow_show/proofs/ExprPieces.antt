@@ -19,7 +19,7 @@ use Rattle.flow_tree.specs.Grammar.{sign_at, node_sign, Wrapper, FutureOf, Futur
 use Rattle.flow_tree.specs.Canon.{type_text, minus_gap, expr_text, args_text, more_args_text, placeless_ident, placeless_expr, placeless_exprs}
 use Rattle.flow_lex.proofs.Bytes.{true_false, word_is_name}
 use Rattle.flow_show.proofs.Going.{Piece, nothing, both, as_rule, begun, spaced, under}
-use Rattle.flow_show.proofs.TokenPieces.{Apart, name_piece, word_piece, sign_piece, Ends, opens_expr, open_round_ends, close_round_ends, comma_ends, dot_ends, not_ends, minus_ends, less_ends, greater_greater, space_ends}
+use Rattle.flow_show.proofs.TokenPieces.{Apart, name_piece, word_piece, sign_piece, Ends, opens_expr, open_round_ends, close_round_ends, comma_ends, dot_ends, not_ends, minus_ends, less_ends, greater_greater, greater_semicolon, space_ends}
 use Rattle.flow_show.proofs.ValuePieces.{number_piece, text_piece, decimal_opens}
 use Rattle.flow_show.proofs.Valid.{AllValid, valid_head, valid_tail, valid_left, valid_right, valid_begun}
 
@@ -73,18 +73,21 @@ type_opens v (wrapped_type {t = t} w p q r of rule e) a =
 pub less_by : (v : List ℕ) → Lettered v → Ends sign.Less v
 less_by v l = subst (Ends sign.Less) (sym l.is) (less_ends l.first l.rest l.letter)
 
--- behind a type comes a space, or the `>` of the type around it
+-- behind a type comes a space, the `>` of the type around it, or a semicolon
 pub data AfterType : List ℕ → Type 0 where
   space : (w : List ℕ) → AfterType (32 ∷ w)
   closed : (w : List ℕ) → AfterType (62 ∷ w)
+  semicolon : (w : List ℕ) → AfterType (59 ∷ w)
 
 after_apart : (w : List ℕ) → AfterType w → Apart w
 after_apart w (space v) = refl
 after_apart w (closed v) = refl
+after_apart w (semicolon v) = refl
 
 greater_after : (w : List ℕ) → AfterType w → Ends sign.Greater w
 greater_after w (space v) = space_ends sign.Greater v
 greater_after w (closed v) = greater_greater v
+greater_after w (semicolon v) = greater_semicolon v
 
 pub type_piece : {d : ℕ} {m : List Marked} {t : TypeTree} → TypeRule d m t → AllValid m → Piece {X = TypeKept d t} (λ x. x.marked) m (type_text t) AfterType
 type_piece {d} (int_type p) v = under (as_rule (word_piece (Node d ∷ []) word.Int p) (λ x. record { marked = _; rule = int_type x }) (λ x. refl) refl refl) after_apart

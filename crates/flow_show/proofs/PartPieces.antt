@@ -77,7 +77,7 @@ into_piece (declared x kept of s r e) v = into_by x kept of s r e (subst AllVali
 
 -- waits
 
-abbrev wait_word : Bool → List ℕ
+abbrev pub wait_word : Bool → List ℕ
 wait_word next = if next then codes "waitNext(" else codes "wait("
 
 pub record OperandKept (d : ℕ) (next : Bool) (t : ExprTree) : Type 0 where
@@ -87,7 +87,7 @@ pub record OperandKept (d : ℕ) (next : Bool) (t : ExprTree) : Type 0 where
   pub like : placeless_expr tree ≡ placeless_expr t
   pub some : 0 < length marked
 
-operand_piece : {d : ℕ} {m : List Marked} {next : Bool} {t : ExprTree} → OperandRule d m next t → AllValid m
+pub operand_piece : {d : ℕ} {m : List Marked} {next : Bool} {t : ExprTree} → OperandRule d m next t → AllValid m
     → Piece {X = OperandKept d next t} (λ y. y.marked) m (wait_word next ++ (expr_text t ++ codes ")")) Apart
 operand_piece (wait p q r of rule e) v =
     as_rule

@@ -2,9 +2,11 @@
 use Rattle.std.proofs.Common.{◌≡◌, ℕ, List, [], ◌∷◌, ◌++◌, refl, sym, ap, ◌∙◌, subst}
 use Rattle.std.proofs.lemmas.List.{append-nil}
 use Rattle.flow_base.specs.declared.place.Place.{Place}
+use Rattle.flow_tree.specs.declared.limits.Limits.{Limits}
+use Rattle.flow_tree.specs.declared.limits.TheConstants.{OF_PROGRAMS}
 use Rattle.flow_tree.specs.Decls.{ProgramTree}
 use Rattle.flow_tree.specs.Lexing.{place_after, ReadsTokens, Lexes}
-use Rattle.flow_tree.specs.GrammarToken.{Part, Marked, spots_of, AllInLimits, Keeps}
+use Rattle.flow_tree.specs.GrammarToken.{Part, Marked, spots_of, AllInLimitsOf, KeepsOf, AllInLimits, Keeps}
 use Rattle.flow_tree.specs.GrammarDecl.{ProgramRule, program}
 use Rattle.flow_tree.specs.Canon.{decls_text, bare, first_place}
 use Rattle.flow_show.specs.Laws.{IsReadBack, RoundTrip, OneText, TwiceIsOnce}
@@ -14,25 +16,26 @@ use Rattle.flow_show.proofs.DeclPieces.{decls_piece}
 use Rattle.flow_show.proofs.SameText.{same_text}
 
 -- limits are kept by parts alone
-limits_cat : (n : ℕ) (a b : List Part) → AllInLimits n a → AllInLimits n b → AllInLimits n (a ++ b)
-limits_cat n [] b h k = k
-limits_cat n (p ∷ a) b h k = (h.0, limits_cat n a b h.1 k)
+module _ (l : Limits) (n : ℕ) where
+  limits_cat : (a b : List Part) → AllInLimitsOf l n a → AllInLimitsOf l n b → AllInLimitsOf l n (a ++ b)
+  limits_cat [] b h k = k
+  limits_cat (p ∷ a) b h k = (h.0, limits_cat a b h.1 k)
 
-limits_left : (n : ℕ) (a b : List Part) → AllInLimits n (a ++ b) → AllInLimits n a
-limits_left n [] b h = tt
-limits_left n (p ∷ a) b h = (h.0, limits_left n a b h.1)
+  limits_left : (a b : List Part) → AllInLimitsOf l n (a ++ b) → AllInLimitsOf l n a
+  limits_left [] b h = tt
+  limits_left (p ∷ a) b h = (h.0, limits_left a b h.1)
 
-limits_right : (n : ℕ) (a b : List Part) → AllInLimits n (a ++ b) → AllInLimits n b
-limits_right n [] b h = h
-limits_right n (p ∷ a) b h = limits_right n a b h.1
+  limits_right : (a b : List Part) → AllInLimitsOf l n (a ++ b) → AllInLimitsOf l n b
+  limits_right [] b h = h
+  limits_right (p ∷ a) b h = limits_right a b h.1
 
-of_parts : (n : ℕ) (m : List Marked) → AllInLimits n (all_parts m) → Keeps n m
-of_parts n [] h = tt
-of_parts n (x ∷ m) h = (limits_left n x.parts (all_parts m) h, of_parts n m (limits_right n x.parts (all_parts m) h))
+  pub of_parts : (m : List Marked) → AllInLimitsOf l n (all_parts m) → KeepsOf l n m
+  of_parts [] h = tt
+  of_parts (x ∷ m) h = (limits_left x.parts (all_parts m) h, of_parts m (limits_right x.parts (all_parts m) h))
 
-to_parts : (n : ℕ) (m : List Marked) → Keeps n m → AllInLimits n (all_parts m)
-to_parts n [] h = tt
-to_parts n (x ∷ m) h = limits_cat n x.parts (all_parts m) h.0 (to_parts n m h.1)
+  pub to_parts : (m : List Marked) → KeepsOf l n m → AllInLimitsOf l n (all_parts m)
+  to_parts [] h = tt
+  to_parts (x ∷ m) h = limits_cat x.parts (all_parts m) h.0 (to_parts m h.1)
 
 read_back : (n : ℕ) (end : Place) (m : List Marked) (q : ProgramTree) → ProgramRule end m q → AllValid m → Keeps n m → IsReadBack n q
 read_back n end m q (program {xs = xs} r) v keeps =
@@ -47,7 +50,7 @@ read_back n end m q (program {xs = xs} r) v keeps =
         marked = got.value.marked;
         rule = program got.value.rule;
         is = refl;
-        keeps = of_parts n got.value.marked (subst (AllInLimits n) (sym got.parts) (to_parts n m keeps));
+        keeps = of_parts OF_PROGRAMS n got.value.marked (subst (AllInLimits n) (sym got.parts) (to_parts OF_PROGRAMS n m keeps));
       };
       same = ap (λ ds. record { decls = ds; end = first_place }) got.value.like;
     }

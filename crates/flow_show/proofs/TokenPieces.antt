@@ -182,6 +182,9 @@ less_ends c w h = ends_before Less 60 c w refl refl refl (letter_no_pair c h)
 pub greater_greater : (w : List ℕ) → Ends Greater (62 ∷ w)
 greater_greater w = ends_before Greater 62 62 w refl refl refl refl
 
+pub greater_semicolon : (w : List ℕ) → Ends Greater (59 ∷ w)
+greater_semicolon w = ends_before Greater 62 59 w refl refl refl refl
+
 -- before a space any sign ends
 pub space_ends : (g : signs.Sign) (rest : List ℕ) → Ends g (32 ∷ rest)
 space_ends Equal rest = two_ends Equal 61 61 (32 ∷ rest) refl refl refl

@@ -29,7 +29,7 @@ Valid (Text t) = IsTextToken t
 Valid (token.Word k) = Unit {0}
 Valid (token.Sign g) = Unit {0}
 
-valid_token : (t : Token) (w : List ℕ) → Spells t w → IsBounded t → Valid t
+pub valid_token : (t : Token) (w : List ℕ) → Spells t w → IsBounded t → Valid t
 valid_token (Name n) w s b = record { form = subst (λ x. is_name_text x ≡ true) (sym s.2) s.0; free = λ k e. s.1 k (e ∙ s.2); short = b }
 valid_token (Number z) w s b = record { value = digits_value 10 w; is = s.1; small = omega (arith, subst IsBounded (ap Number s.1) b) }
 valid_token (Text t) w s b = record { bytes = inside_bytes s.2; short = b }
