@@ -16,7 +16,7 @@ use Rattle.flow_eval.specs.Eval.{Setting, truth_of}
 use Rattle.flow_eval.specs.Functions.{run_function}
 use Rattle.flow_eval.specs.View.{Gives, GivesAll, setting_of}
 use Rattle.flow_eval.specs.declared.stop.Halt.{Halt}
-use Rattle.flow_code.specs.declared.expr.evaluate.ActorViewTree as code
+use Rattle.flow_code.specs.declared.expr.evaluate.ActorView as code
 use Rattle.flow_code.specs.Resolved.Tree.{Node, Nodes}
 use Rattle.flow_code.specs.Resolved.Evaluation.{ActorViewTree, value_at, values_at}
 use Rattle.flow_code.specs.Resolved.View.{places_in, held_in, actor_view_of}
@@ -43,7 +43,7 @@ held_same None xs n e = ap (λ l. get_or l n None) e
 held_same (Some f) xs n e = at_place f.places xs n e.0 e.1
 
 -- with the setting known, and the places of its frame
-pub same_sight : {C : Type 0} (content : C → ℕ → Option OutcomeTree) (sight : code.ActorViewTree C) (program : Code) (i : ℕ) (p : Process)
+pub same_sight : {C : Type 0} (content : C → ℕ → Option OutcomeTree) (sight : code.ActorView C) (program : Code) (i : ℕ) (p : Process)
     → setting_of content sight.setting ≡ setting_in program p → sight.fields.now ≡ program.fields → IsFilled (thing p.heap.frames.things i) sight.places.now
     → actor_view_of content sight ≡ sight_in program i p
 same_sight content sight program i p e names filled =
