@@ -8,7 +8,7 @@ ghost use Rattle.flow_types.specs.VariablesView.{variable_list, variable_lists};
 
 use crate::collect::all_variables;
 use crate::variable::Variable;
-use flow_rules::program::judge_program;
+use crate::program::judge_program;
 use flow_tree::decl::Program;
 use flow_tree::fault::SourceFault;
 use std::alloc::Global;

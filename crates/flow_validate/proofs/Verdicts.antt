@@ -12,12 +12,12 @@ use Rattle.flow_tree.specs.Tree.{TypeTree}
 use Rattle.flow_tree.specs.Decls.{DeclTree}
 use Rattle.flow_tree.specs.DeclView.{decl_of}
 use Rattle.flow_ast.specs.Typing.{or_else}
-use Rattle.flow_rules.specs.declared.top_names.TopNames.{TopNames}
+use Rattle.flow_types.specs.declared.top_names.TopNames.{TopNames}
 use Rattle.flow_rules.specs.Known.{Meaning, known, holds_by, record_holds}
 use Rattle.flow_rules.specs.Judged.{Setting}
 use Rattle.flow_rules.specs.Rules.{setting_of, decls_refusal, first_large, packet_size, is_main}
-use Rattle.flow_rules.specs.MapView.{known_by, flag_of}
-use Rattle.flow_rules.specs.ProgramView.{setting_by}
+use Rattle.flow_types.specs.MapView.{known_by, flag_of}
+use Rattle.flow_types.specs.ProgramView.{setting_by}
 use Rattle.flow_class.specs.Classes.{ClassTree, RawTree}
 use Rattle.flow_valid.specs.Heads.{plain_decls, all_decls, declarations_kept, first_head, broken_head, has_main}
 use Rattle.flow_valid.specs.Named.{names_exist}

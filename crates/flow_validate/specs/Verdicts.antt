@@ -2,8 +2,8 @@
 use Rattle.std.specs.Prelude.{◌≡◌, ℕ, ◌<◌, true, List, slice_get}
 use Rattle.std.specs.declared.option.Option.{Option}
 use Rattle.std.specs.declared.option.Option.TheVariants.{None, Some}
-use Rattle.flow_rules.specs.declared.top_names.TopNames.{TopNames}
-use Rattle.flow_rules.specs.ProgramView.{setting_by}
+use Rattle.flow_types.specs.declared.top_names.TopNames.{TopNames}
+use Rattle.flow_types.specs.ProgramView.{setting_by}
 use Rattle.flow_rules.specs.Rules.{setting_of}
 use Rattle.flow_class.specs.Classes.{ClassTree, RawTree}
 use Rattle.flow_validate.specs.declared.invalid.Invalid.{Invalid}

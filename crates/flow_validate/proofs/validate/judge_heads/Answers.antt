@@ -1,7 +1,7 @@
 use Rattle.std.proofs.Common.{map, sym, ◌∙◌}
 use Rattle.std.specs.Option.{option_map}
 use Rattle.flow_tree.specs.DeclView.{decl_of}
-use Rattle.flow_rules.specs.View.{meaning_of}
+use Rattle.flow_types.specs.View.{meaning_of}
 use Rattle.flow_class.specs.View.{class_of}
 use Rattle.flow_valid.specs.Validity.{declaration, head, main}
 use Rattle.flow_validate.proofs.Verdicts.{kept_by, head_by, main_by}
