@@ -12,7 +12,7 @@ use Rattle.flow_tree.specs.Decls.{SlotTree}
 use Rattle.flow_ast.specs.Slots.{body_slots, branch_slots}
 use Rattle.flow_ast.specs.Typing.{or_else}
 use Rattle.flow_rules.specs.Least.{unless}
-use Rattle.flow_rules.specs.declared.rule.TheConstants.{WAIT_OUTSIDE}
+use Rattle.flow_rules.specs.declared.rule.SemanticRule.TheVariants.{WaitInFunction}
 use Rattle.flow_rules.specs.Judged.{Setting}
 use Rattle.flow_rules.specs.Items.{Env, Refusal, item, with_states, with_var, in_loop, in_catch, behind, started, slot_names, fresh, test_fault, maybe_test, body_refusal, branch_refusal}
 use Rattle.flow_types.specs.WalkView.{Says, Steps, StmtAnswer, Leads, PartAnswer, else_refusal, else_slots}
@@ -107,9 +107,9 @@ pub shape_loop : (e : Env) (at : Place) (b : Body) → Shape e (LoopStmt at b) (
 shape_loop e at b = record { refusal = λ k. refl; slots = λ k. refl; exact = refl }
 
 pub shape_choose : (e : Env) (at : Place) (bs : Branches)
-    → Shape e (ChooseStmt at bs) (or_else (item at (unless (not e.setting.plain) WAIT_OUTSIDE)) (branch_refusal e bs)) (branch_slots bs)
+    → Shape e (ChooseStmt at bs) (or_else (item at (unless (not e.setting.plain) WaitInFunction)) (branch_refusal e bs)) (branch_slots bs)
 shape_choose e at bs = record {
-  refusal = λ k. sym (or_assoc (item at (unless (not e.setting.plain) WAIT_OUTSIDE)) (branch_refusal e bs) (body_refusal (with_states e (slot_names (branch_slots bs))) k));
+  refusal = λ k. sym (or_assoc (item at (unless (not e.setting.plain) WaitInFunction)) (branch_refusal e bs) (body_refusal (with_states e (slot_names (branch_slots bs))) k));
   slots = λ k. refl;
   exact = refl;
 }

@@ -6,17 +6,18 @@ use Rattle.flow_tree.specs.declared.ty.Ident.{Ident}
 use Rattle.flow_tree.specs.declared.expr.Op.{Op}
 use Rattle.flow_tree.specs.Tree.{TypeTree, ExprTree, ExprTrees}
 use Rattle.flow_ast.specs.Typing.{with_type}
+use Rattle.flow_rules.specs.declared.rule.SemanticRule.{SemanticRule}
 use Rattle.flow_rules.specs.Least.{lesser}
 use Rattle.flow_rules.specs.Judged.{Setting, Need, Callee, placed, said, calls, calls_on, called, called_on, needs_of, field_form, of_field, operands, form, fault, faults}
 use Rattle.flow_rules.specs.Items.{path_form, path_fault, base_form, base_fault, ends_of, call_by_name, call_on, call_fault}
 use Rattle.flow_types.proofs.Steps.{path_step, fault_step}
 
-pub call_is : (s : Setting) (whole : Bool) (f : List ℕ) (es : ExprTrees) (c : Option Callee) (ns : List Need) (judged r : Option ℕ) → c ≡ called s f → ns ≡ needs_of c → judged ≡ faults s 0 ns es
+pub call_is : (s : Setting) (whole : Bool) (f : List ℕ) (es : ExprTrees) (c : Option Callee) (ns : List Need) (judged r : Option SemanticRule) → c ≡ called s f → ns ≡ needs_of c → judged ≡ faults s 0 ns es
     → r ≡ lesser judged (calls es c (placed s whole)) → r ≡ lesser (faults s 0 (needs_of (called s f)) es) (calls es (called s f) (placed s whole))
 call_is s whole f es c ns judged r hc hn hj hr =
     hr ∙ ap (λ j. lesser j (calls es c (placed s whole))) (hj ∙ ap (λ n. faults s 0 n es) hn) ∙ ap (λ k. lesser (faults s 0 (needs_of k) es) (calls es k (placed s whole))) hc
 
-pub method_is : (s : Setting) (t : Option TypeTree) (m : List ℕ) (es : ExprTrees) (c : Option Callee) (ns : List Need) (b judged r e : Option ℕ) (u : Option TypeTree) → t ≡ u → b ≡ e
+pub method_is : (s : Setting) (t : Option TypeTree) (m : List ℕ) (es : ExprTrees) (c : Option Callee) (ns : List Need) (b judged r e : Option SemanticRule) (u : Option TypeTree) → t ≡ u → b ≡ e
     → c ≡ called_on t m → ns ≡ needs_of c
     → judged ≡ faults s 0 ns es → r ≡ lesser b (lesser judged (calls_on t es c (placed s false)))
     → r ≡ lesser e (lesser (faults s 0 (needs_of (called_on u m)) es) (calls_on u es (called_on u m) (placed s false)))
@@ -25,22 +26,22 @@ method_is s t m es c ns b judged r e u ht hb hc hn hj hr =
     ∙ ap (λ k. lesser e (lesser (faults s 0 (needs_of k) es) (calls_on t es k (placed s false)))) hc
     ∙ ap (λ v. lesser e (lesser (faults s 0 (needs_of (called_on v m)) es) (calls_on v es (called_on v m) (placed s false)))) ht
 
-pub sign_is : (op : Op) (a b r x y : Option ℕ) (t u v w : Option TypeTree) → a ≡ x → b ≡ y → t ≡ v → u ≡ w → r ≡ lesser (lesser a b) (operands op t u) → r ≡ lesser (lesser x y) (operands op v w)
+pub sign_is : (op : Op) (a b r x y : Option SemanticRule) (t u v w : Option TypeTree) → a ≡ x → b ≡ y → t ≡ v → u ≡ w → r ≡ lesser (lesser a b) (operands op t u) → r ≡ lesser (lesser x y) (operands op v w)
 sign_is op a b r x y t u v w ha hb ht hu hr = hr ∙ ap₂ (λ m n. lesser (lesser m n) (operands op t u)) ha hb ∙ ap₂ (λ m n. lesser (lesser x y) (operands op m n)) ht hu
 
-pub named_is : (s : Setting) (f : List ℕ) (es : ExprTrees) (c : Option Callee) (ns : List Need) (judged own r : Option ℕ) → c ≡ called s f → ns ≡ needs_of c → judged ≡ faults s 0 ns es
+pub named_is : (s : Setting) (f : List ℕ) (es : ExprTrees) (c : Option Callee) (ns : List Need) (judged own r : Option SemanticRule) → c ≡ called s f → ns ≡ needs_of c → judged ≡ faults s 0 ns es
     → own ≡ calls es c (said s) → r ≡ lesser judged own → r ≡ call_by_name s f es
 named_is s f es c ns judged own r hc hn hj ho hr =
     hr ∙ ap₂ (λ j k. lesser j k) (hj ∙ ap (λ n. faults s 0 n es) hn) ho ∙ ap (λ k. lesser (faults s 0 (needs_of k) es) (calls es k (said s))) hc
 
-pub called_is : (s : Setting) (base : List Ident) (m : List ℕ) (es : ExprTrees) (t : Option TypeTree) (c : Option Callee) (ns : List Need) (b judged own rest r : Option ℕ) → t ≡ base_form s base
+pub called_is : (s : Setting) (base : List Ident) (m : List ℕ) (es : ExprTrees) (t : Option TypeTree) (c : Option Callee) (ns : List Need) (b judged own rest r : Option SemanticRule) → t ≡ base_form s base
     → b ≡ base_fault s base
     → c ≡ called_on t m → ns ≡ needs_of c → judged ≡ faults s 0 ns es → own ≡ calls es c (said s) → rest ≡ lesser judged own → r ≡ lesser b rest → r ≡ call_on s base m es
 called_is s base m es t c ns b judged own rest r ht hb hc hn hj ho hrest hr =
     hr ∙ ap₂ lesser hb (hrest ∙ ap₂ lesser (hj ∙ ap (λ n. faults s 0 n es) hn) ho ∙ ap (λ k. lesser (faults s 0 (needs_of k) es) (calls es k (said s))) (hc ∙ ap (λ v. called_on v m) ht))
 
 -- one more name on a path, both its type and what fails
-pub both_step : (s : Setting) (xs : List Ident) (i : ℕ) (x : Ident) (t u total : Option TypeTree) (acc new sum : Option ℕ) → i < length xs → x ≡ get_or xs i x
+pub both_step : (s : Setting) (xs : List Ident) (i : ℕ) (x : Ident) (t u total : Option TypeTree) (acc new sum : Option SemanticRule) → i < length xs → x ≡ get_or xs i x
     → u ≡ with_type t (λ v. field_form s v x.name) → new ≡ lesser acc (of_field s t x.name)
     → (path_form s t (drop i xs) ≡ total) × (lesser acc (path_fault s t (drop i xs)) ≡ sum)
     → (path_form s u (drop (i + 1) xs) ≡ total) × (lesser new (path_fault s u (drop (i + 1) xs)) ≡ sum)

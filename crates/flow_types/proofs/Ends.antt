@@ -14,7 +14,7 @@ use Rattle.flow_tree.specs.Decls.{SlotTree}
 use Rattle.flow_tree.specs.StmtView.{stmt_of, body_of, branch_of, branches_of}
 use Rattle.flow_ast.specs.Slots.{body_slots, branch_slots, waited_slots}
 use Rattle.flow_ast.specs.Typing.{or_else}
-use Rattle.flow_rules.specs.declared.rule.TheConstants.{WAIT_OUTSIDE}
+use Rattle.flow_rules.specs.declared.rule.SemanticRule.TheVariants.{WaitInFunction}
 use Rattle.flow_rules.specs.Least.{unless}
 use Rattle.flow_rules.specs.Items.{Env, Refusal, item, with_states, with_var, in_loop, in_catch, declared, waited, behind, started, slot_names, fresh, test_fault, maybe_test, declare_fault, wait_fault, body_refusal, branch_refusal}
 use Rattle.flow_types.specs.WalkView.{bare, Grows, Says, Steps, Passes, StmtAnswer, BranchAnswer, BodyAnswer, PartAnswer, Leads, else_refusal, else_slots}

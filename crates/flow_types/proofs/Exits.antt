@@ -11,7 +11,7 @@ use Rattle.flow_tree.specs.Body.{IntoTree, WaitTree, ChangeTree, Body, End, Bloc
 use Rattle.flow_tree.specs.Decls.{SlotTree}
 use Rattle.flow_ast.specs.Slots.{body_slots, branch_slots}
 use Rattle.flow_ast.specs.Typing.{or_else}
-use Rattle.flow_rules.specs.declared.rule.TheConstants.{WAIT_OUTSIDE, BREAK_OUTSIDE}
+use Rattle.flow_rules.specs.declared.rule.SemanticRule.TheVariants.{WaitInFunction, BreakOutside}
 use Rattle.flow_rules.specs.Least.{unless}
 use Rattle.flow_rules.specs.Judged.{wanted}
 use Rattle.flow_rules.specs.Items.{Env, Refusal, item, with_states, with_var, in_loop, in_catch, declared, waited, behind, started, slot_names, fresh, test_fault, maybe_test, throw_fault, assign_fault, modify_fault, call_fault, declare_fault, wait_fault, body_refusal, branch_refusal}
@@ -162,15 +162,15 @@ module _ (e new : Env) (at : Place) (b : Body) (q : Place) (x : Ident) (h : Body
       (subst (λ (m : Env). Leads mid new (body_refusal (in_catch (with_var m x.name ErrorType)) h) (body_slots h) r) l.1 k)))
 
 -- a `choose`
-pub choose_item : (e new : Env) (at : Place) (bs : Branches) (x : SourceFault) → Says (item at (unless (not e.setting.plain) WAIT_OUTSIDE)) (Err x) → StmtAnswer e new (ChooseStmt at bs) (Err x)
+pub choose_item : (e new : Env) (at : Place) (bs : Branches) (x : SourceFault) → Says (item at (unless (not e.setting.plain) WaitInFunction)) (Err x) → StmtAnswer e new (ChooseStmt at bs) (Err x)
 choose_item e new at bs x h =
-    let i = item at (unless (not e.setting.plain) WAIT_OUTSIDE) in
+    let i = item at (unless (not e.setting.plain) WaitInFunction) in
     shape_fails e new (ChooseStmt at bs) (or_else i (branch_refusal e bs)) (branch_slots bs) x (shape_choose e at bs) (fails_first i (branch_refusal e bs) x (says_fails i x h))
 
-pub choose_last : (e new : Env) (at : Place) (bs : Branches) (u : Unit {0}) (r : Result (Unit {0}) SourceFault) → Says (item at (unless (not e.setting.plain) WAIT_OUTSIDE)) (Ok u)
+pub choose_last : (e new : Env) (at : Place) (bs : Branches) (u : Unit {0}) (r : Result (Unit {0}) SourceFault) → Says (item at (unless (not e.setting.plain) WaitInFunction)) (Ok u)
     → Leads e new (branch_refusal e bs) (branch_slots bs) r → StmtAnswer e new (ChooseStmt at bs) r
 choose_last e new at bs u r h l =
-    let i = item at (unless (not e.setting.plain) WAIT_OUTSIDE) in
+    let i = item at (unless (not e.setting.plain) WaitInFunction) in
     shape_answer e new (ChooseStmt at bs) (or_else i (branch_refusal e bs)) (branch_slots bs) r (shape_choose e at bs) (after_item e new i (branch_refusal e bs) (branch_slots bs) u r h l)
 
 -- a declaration, and a wait
@@ -202,11 +202,11 @@ only_item : (e : Env) (f : Body → Body) (before : Option Refusal) (r : Result 
 only_item e f before r refuses slots exact h = shape_answer e e f before [] r (shape_item e f before refuses slots exact) (item_answer e before r h)
 
 module _ (e : Env) (at : Place) (r : Result (Unit {0}) SourceFault) where
-  pub break_is : Says (item at (unless e.looped BREAK_OUTSIDE)) r → StmtAnswer e e (BreakStmt at) r
-  break_is h = only_item e (BreakStmt at) (item at (unless e.looped BREAK_OUTSIDE)) r (λ k. refl) (λ k. refl) refl h
+  pub break_is : Says (item at (unless e.looped BreakOutside)) r → StmtAnswer e e (BreakStmt at) r
+  break_is h = only_item e (BreakStmt at) (item at (unless e.looped BreakOutside)) r (λ k. refl) (λ k. refl) refl h
 
-  pub continue_is : Says (item at (unless e.looped BREAK_OUTSIDE)) r → StmtAnswer e e (ContinueStmt at) r
-  continue_is h = only_item e (ContinueStmt at) (item at (unless e.looped BREAK_OUTSIDE)) r (λ k. refl) (λ k. refl) refl h
+  pub continue_is : Says (item at (unless e.looped BreakOutside)) r → StmtAnswer e e (ContinueStmt at) r
+  continue_is h = only_item e (ContinueStmt at) (item at (unless e.looped BreakOutside)) r (λ k. refl) (λ k. refl) refl h
 
   pub return_is : (v : ExprTree) → Says (item at (wanted e.setting false v e.returns)) r → StmtAnswer e e (ReturnStmt at v) r
   return_is v h = only_item e (ReturnStmt at v) (item at (wanted e.setting false v e.returns)) r (λ k. refl) (λ k. refl) refl h

@@ -18,11 +18,12 @@ use Rattle.flow_ast.specs.Slots.{body_slots, branch_slots}
 use Rattle.flow_types.specs.declared.type_view.TypeView as code
 use Rattle.flow_types.specs.declared.walk.Walk.{Walk}
 use Rattle.flow_types.specs.declared.walk.Around.{Around}
+use Rattle.flow_rules.specs.declared.rule.SemanticRule.{SemanticRule}
 use Rattle.flow_rules.specs.Judged.{Setting}
 use Rattle.flow_rules.specs.Items.{Env, item, with_states, with_var, if_state, declared, waited, fresh, into_fault, maybe_into, declare_fault, wait_fault, body_refusal, branch_refusal}
+use Rattle.flow_rules.proofs.Lesser.{lesser_both}
 use Rattle.flow_types.specs.View.{found_of}
 use Rattle.flow_types.specs.WalkView.{env_of, Says, StmtAnswer, BodyAnswer, PartAnswer, Leads, else_refusal, else_slots}
-use Rattle.flow_rules.proofs.Lesser.{lesser_both}
 use Rattle.flow_types.proofs.Ends.{part_some}
 use Rattle.flow_types.proofs.Exits.{declare_ok, wait_ok, memory_stmt}
 
@@ -56,7 +57,7 @@ pub wait_fresh : (s : Setting) (ss : List (List ℕ)) (w : WaitTree) → wait_fa
 wait_fresh s ss w h = (lesser_both _ _ h).0
 
 -- an item by what fails in it
-pub says_at : (at : Place) (f g : Option ℕ) (r : Result (Unit {0}) SourceFault) → f ≡ g → Says (item at f) r → Says (item at g) r
+pub says_at : (at : Place) (f g : Option SemanticRule) (r : Result (Unit {0}) SourceFault) → f ≡ g → Says (item at f) r → Says (item at g) r
 says_at at f g r is h = subst (λ k. Says (item at k) r) is h
 
 -- bodies by their statements

@@ -19,7 +19,8 @@ use Rattle.flow_tree.specs.View.{type_of}
 use Rattle.flow_tree.specs.DeclView.{param_of, params_of, decl_of}
 use Rattle.flow_ast.specs.TypingNames.{named}
 use Rattle.flow_ast.specs.Typing.{is_there, or_else}
-use Rattle.flow_rules.specs.declared.rule.TheConstants.{UNKNOWN_NAME, TWICE, FALLS_OFF}
+use Rattle.flow_rules.specs.declared.rule.SemanticRule.{SemanticRule}
+use Rattle.flow_rules.specs.declared.rule.SemanticRule.TheVariants.{UnknownName, TakenName, FallsOff}
 use Rattle.flow_rules.specs.Least.{lesser, unless}
 use Rattle.flow_rules.specs.Known.{Meaning, field_row, row_of, packet_row, known, type_known, is_predefined}
 use Rattle.flow_rules.specs.Judged.{Setting}
@@ -35,15 +36,15 @@ use Rattle.flow_types.specs.declared.top_names.TopNames.{TopNames}
 use Rattle.flow_rules.specs.Known.{holds_by, record_holds}
 use lib.ListN.{length-map}
 use Rattle.flow_rules.specs.Items.{Env}
+use Rattle.flow_rules.proofs.Lesser.{lesser_none, lesser_assoc, lesser_both, holds, no_item}
 use Rattle.flow_types.specs.MapView.{known_by, flag_of, vars_of}
 use Rattle.flow_types.specs.SettingView.{setting_view}
 use Rattle.flow_types.specs.WalkView.{Says, texts_of, env_of}
 use Rattle.flow_types.specs.ProgramView.{ParamsIn, setting_by}
 use Rattle.flow_types.proofs.Steps.{drop_more, drop_all}
-use Rattle.flow_rules.proofs.Lesser.{lesser_none, lesser_assoc, lesser_both}
 use Rattle.flow_types.proofs.Lookups.{among_any}
 use Rattle.flow_types.proofs.Inserts.{row_inserted, text_inserted}
-use Rattle.flow_types.proofs.Walking.{unless_none, none_there, item_none}
+use Rattle.flow_types.proofs.Walking.{none_there}
 use Rattle.flow_types.proofs.Fails.{Fails, fails_first, fails_next, says_fails}
 
 -- a name that is put into a set or a map is taken from then on
@@ -127,20 +128,20 @@ pub row_taken : {A X : Type 0} (f : A → X) (k : Bor (List ℕ)) (v : A) (es : 
 row_taken f k v es = λ i x. row_at f k v es x i
 
 -- one more field
-pub fields_step : (k : List ℕ → Option Meaning) (fs : List Param) (i : ℕ) (f : Param) (old own new total : Option ℕ) (taken more : List ℕ → Bool) → i < length fs → f ≡ get_or fs i f
-    → own ≡ lesser (unless (type_known k (type_of f.ty)) UNKNOWN_NAME) (unless (not (taken f.name.name)) TWICE) → new ≡ lesser old own → more ≡ with_name f.name.name taken
+pub fields_step : (k : List ℕ → Option Meaning) (fs : List Param) (i : ℕ) (f : Param) (old own new total : Option SemanticRule) (taken more : List ℕ → Bool) → i < length fs → f ≡ get_or fs i f
+    → own ≡ lesser (unless (type_known k (type_of f.ty)) UnknownName) (unless (not (taken f.name.name)) TakenName) → new ≡ lesser old own → more ≡ with_name f.name.name taken
     → lesser old (fields_fault k taken (params_of (drop i fs))) ≡ total → lesser new (fields_fault k more (params_of (drop (i + 1) fs))) ≡ total
 fields_step k fs i f old own new total taken more lt at o n m h =
     let rest = params_of (drop (i + 1) fs) in
     ap₂ (λ a t. lesser a (fields_fault k t rest)) (n ∙ ap (lesser old) o) m ∙ lesser_assoc old _ (fields_fault k (with_name f.name.name taken) rest)
     ∙ ap (λ l. lesser old (fields_fault k taken (params_of l))) (sym (drop_more fs i f lt at)) ∙ h
 
-pub fields_end : (k : List ℕ → Option Meaning) (fs : List Param) (i : ℕ) (old total : Option ℕ) (taken : List ℕ → Bool) → length fs ≤ i
+pub fields_end : (k : List ℕ → Option Meaning) (fs : List Param) (i : ℕ) (old total : Option SemanticRule) (taken : List ℕ → Bool) → length fs ≤ i
     → lesser old (fields_fault k taken (params_of (drop i fs))) ≡ total → old ≡ total
 fields_end k fs i old total taken le h = sym (lesser_none old) ∙ ap (λ l. lesser old (fields_fault k taken (params_of l))) (sym (drop_all fs i le)) ∙ h
 
 -- one more parameter
-pub params_step : (s : Setting) (ps : List Param) (i : ℕ) (p : Param) (old own new total : Option ℕ) (taken more : List ℕ → Bool) → i < length ps → p ≡ get_or ps i p
+pub params_step : (s : Setting) (ps : List Param) (i : ℕ) (p : Param) (old own new total : Option SemanticRule) (taken more : List ℕ → Bool) → i < length ps → p ≡ get_or ps i p
     → own ≡ param_fault s taken (param_of p) → new ≡ lesser old own → more ≡ with_name p.name.name taken
     → lesser old (params_fault s taken (params_of (drop i ps))) ≡ total → lesser new (params_fault s more (params_of (drop (i + 1) ps))) ≡ total
 params_step s ps i p old own new total taken more lt at o n m h =
@@ -148,7 +149,7 @@ params_step s ps i p old own new total taken more lt at o n m h =
     ap₂ (λ a t. lesser a (params_fault s t rest)) (n ∙ ap (lesser old) o) m ∙ lesser_assoc old _ (params_fault s (with_name p.name.name taken) rest)
     ∙ ap (λ l. lesser old (params_fault s taken (params_of l))) (sym (drop_more ps i p lt at)) ∙ h
 
-pub params_end : (s : Setting) (ps : List Param) (i : ℕ) (old total : Option ℕ) (taken : List ℕ → Bool) → length ps ≤ i → lesser old (params_fault s taken (params_of (drop i ps))) ≡ total
+pub params_end : (s : Setting) (ps : List Param) (i : ℕ) (old total : Option SemanticRule) (taken : List ℕ → Bool) → length ps ≤ i → lesser old (params_fault s taken (params_of (drop i ps))) ≡ total
     → old ≡ total
 params_end s ps i old total taken le h = sym (lesser_none old) ∙ ap (λ l. lesser old (params_fault s taken (params_of l))) (sym (drop_all ps i le)) ∙ h
 
@@ -172,8 +173,8 @@ or_none false b h = (refl, h)
 
 pub param_free : (s : Setting) (taken : List ℕ → Bool) (p : ParamTree) → param_fault s taken p ≡ None → taken p.name.name ≡ false
 param_free s taken p h =
-    let once = (lesser_both (written s p.ty) (unless (not (taken p.name.name || is_predefined p.name.name || is_there (s.known p.name.name))) TWICE) h).1 in
-    let all = not_false _ (unless_none _ _ once) in
+    let once = (lesser_both (written s p.ty) (unless (not (taken p.name.name || is_predefined p.name.name || is_there (s.known p.name.name))) TakenName) h).1 in
+    let all = not_false _ (holds _ _ once) in
     let two = (or_none (taken p.name.name || is_predefined p.name.name) (is_there (s.known p.name.name)) all).0 in
     (or_none (taken p.name.name) (is_predefined p.name.name) two).0
 
@@ -187,7 +188,7 @@ texts ks = map (λ (j : Bor (List ℕ)). j.now) ks
 abbrev taken_by : List (Bor (List ℕ) × code.TypeView) → List ℕ → Bool
 taken_by es x = is_there (named (map (bound found_of) es) x)
 
-module _ (s : Setting) (p : ParamTree) (k : Bor (List ℕ)) (v : code.TypeView) (es es' : List (Bor (List ℕ) × code.TypeView)) (ks ks' : List (Bor (List ℕ))) (fault : Option ℕ)
+module _ (s : Setting) (p : ParamTree) (k : Bor (List ℕ)) (v : code.TypeView) (es es' : List (Bor (List ℕ) × code.TypeView)) (ks ks' : List (Bor (List ℕ))) (fault : Option SemanticRule)
     (entries : es' ≡ insert_entry same_text es k v) (keys : ks' ≡ insert_key same_text ks k) (name : k.now ≡ p.name.name) where
   pub new_taken : taken_by es' ≡ with_name p.name.name (taken_by es)
   new_taken = ap taken_by entries ∙ row_taken found_of k v es ∙ ap (λ x. with_name x (taken_by es)) name
@@ -208,7 +209,7 @@ module _ (s : Setting) (p : ParamTree) (k : Bor (List ℕ)) (v : code.TypeView) 
 
 -- where no rule fails at a name at the top, it is new
 pub name_new : (before : List ℕ → Option Meaning) (x : List ℕ) → name_fault before x ≡ None → before x ≡ None
-name_new before x h = none_there (before x) (or_none (is_predefined x) (is_there (before x)) (not_false _ (unless_none _ _ h))).1
+name_new before x h = none_there (before x) (or_none (is_predefined x) (is_there (before x)) (not_false _ (holds _ _ h))).1
 
 or_both : {A : Type 0} (o p : Option A) → or_else o p ≡ None → (o ≡ None) × (p ≡ None)
 or_both None p h = (refl, h)
@@ -216,11 +217,11 @@ or_both (Some a) p h = cc
 
 routine_new : (before : List ℕ → Option Meaning) (s : Setting) (f : RoutineTree) → routine_refusal before s f ≡ None → before f.name.name ≡ None
 routine_new before s f h =
-    let header : header_fault before s f ≡ None = item_none f.at (header_fault before s f) (or_both (item f.at (header_fault before s f)) _ h).0 in
+    let header : header_fault before s f ≡ None = no_item f.at (header_fault before s f) (or_both (item f.at (header_fault before s f)) _ h).0 in
     name_new before f.name.name (lesser_both (name_fault before f.name.name) _ header).0
 
 pub decl_new : (all : Bool → Setting) (before : List ℕ → Option Meaning) (d : DeclTree) → decl_refusal all before d ≡ None → before (row_of d).0 ≡ None
-decl_new all before (StructDecl r) h = name_new before r.name.name (lesser_both (name_fault before r.name.name) _ (item_none r.at (record_fault before r) h)).0
+decl_new all before (StructDecl r) h = name_new before r.name.name (lesser_both (name_fault before r.name.name) _ (no_item r.at (record_fault before r) h)).0
 decl_new all before (FunctionDecl f) h = routine_new before (all true) f h
 decl_new all before (ActorDecl f) h = routine_new before (all false) f h
 

@@ -12,6 +12,7 @@ use Rattle.flow_tree.specs.Body.{Body, Branches}
 use Rattle.flow_tree.specs.View.{expr_of, exprs_of}
 use Rattle.flow_tree.specs.StmtView.{stmt_of, body_of, branch_of, branches_of}
 use Rattle.flow_ast.specs.Typing.{with_type}
+use Rattle.flow_rules.specs.declared.rule.SemanticRule.{SemanticRule}
 use Rattle.flow_rules.specs.Least.{lesser}
 use Rattle.flow_rules.specs.Judged.{Setting, Need, fault, faults, form, fits, field_form, of_field}
 use Rattle.flow_rules.specs.Items.{path_form, path_fault}
@@ -54,7 +55,7 @@ pub branch_end : (ss : List When) (i : ℕ) (acc total : Ways) → length ss ≤
 branch_end ss i acc total le h = sym (either_nowhere acc) ∙ ap (λ l. either acc (branch_ways (branches_of l))) (sym (drop_all ss i le)) ∙ h
 
 -- one more argument
-pub args_step : (s : Setting) (ns : List Need) (es : List Expr) (i : ℕ) (e : Expr) (acc own total : Option ℕ) → i < length es → e ≡ get_or es i e
+pub args_step : (s : Setting) (ns : List Need) (es : List Expr) (i : ℕ) (e : Expr) (acc own total : Option SemanticRule) → i < length es → e ≡ get_or es i e
     → own ≡ lesser (fault s false (expr_of e)) (fits (form s (expr_of e)) (slice_get ns i)) → lesser acc (faults s i ns (exprs_of (drop i es))) ≡ total
     → lesser (lesser acc own) (faults s (i + 1) ns (exprs_of (drop (i + 1) es))) ≡ total
 args_step s ns es i e acc own total lt at is h =
@@ -65,7 +66,7 @@ args_step s ns es i e acc own total lt at is h =
     ∙ ap (λ x. lesser acc (lesser (lesser (fault s false (expr_of e)) (fits (form s (expr_of e)) (slice_get ns i))) x)) k
     ∙ ap (λ l. lesser acc (faults s i ns (exprs_of l))) (sym (drop_more es i e lt at)) ∙ h
 
-pub args_end : (s : Setting) (ns : List Need) (es : List Expr) (i : ℕ) (acc total : Option ℕ) → length es ≤ i → lesser acc (faults s i ns (exprs_of (drop i es))) ≡ total → acc ≡ total
+pub args_end : (s : Setting) (ns : List Need) (es : List Expr) (i : ℕ) (acc total : Option SemanticRule) → length es ≤ i → lesser acc (faults s i ns (exprs_of (drop i es))) ≡ total → acc ≡ total
 args_end s ns es i acc total le h = sym (lesser_none acc) ∙ ap (λ l. lesser acc (faults s i ns (exprs_of l))) (sym (drop_all es i le)) ∙ h
 
 -- one more name on a path
@@ -85,7 +86,7 @@ fault_more s None x [] = refl
 fault_more s None x (y ∷ ys) = refl
 fault_more s (Some t) x xs = refl
 
-pub fault_step : (s : Setting) (xs : List Ident) (i : ℕ) (x : Ident) (t u : Option TypeTree) (acc new total : Option ℕ) → i < length xs → x ≡ get_or xs i x
+pub fault_step : (s : Setting) (xs : List Ident) (i : ℕ) (x : Ident) (t u : Option TypeTree) (acc new total : Option SemanticRule) → i < length xs → x ≡ get_or xs i x
     → u ≡ with_type t (λ v. field_form s v x.name) → new ≡ lesser acc (of_field s t x.name)
     → lesser acc (path_fault s t (drop i xs)) ≡ total → lesser new (path_fault s u (drop (i + 1) xs)) ≡ total
 fault_step s xs i x t u acc new total lt at is n h =
@@ -95,5 +96,5 @@ fault_step s xs i x t u acc new total lt at is n h =
 pub path_end : (s : Setting) (xs : List Ident) (i : ℕ) (t total : Option TypeTree) → length xs ≤ i → path_form s t (drop i xs) ≡ total → t ≡ total
 path_end s xs i t total le h = ap (λ l. path_form s t l) (sym (drop_all xs i le)) ∙ h
 
-pub fault_end : (s : Setting) (xs : List Ident) (i : ℕ) (t : Option TypeTree) (acc total : Option ℕ) → length xs ≤ i → lesser acc (path_fault s t (drop i xs)) ≡ total → acc ≡ total
+pub fault_end : (s : Setting) (xs : List Ident) (i : ℕ) (t : Option TypeTree) (acc total : Option SemanticRule) → length xs ≤ i → lesser acc (path_fault s t (drop i xs)) ≡ total → acc ≡ total
 fault_end s xs i t acc total le h = sym (lesser_none acc) ∙ ap (λ l. lesser acc (path_fault s t l)) (sym (drop_all xs i le)) ∙ h

@@ -8,10 +8,12 @@ use Rattle.flow_tree.specs.Body.{Body, End, DeclareStmt, WaitStmt, IntoTree, Bra
 use Rattle.flow_ast.specs.Slots.{body_slots, branch_slots}
 use Rattle.flow_ast.specs.TypingNames.{named}
 use Rattle.flow_ast.specs.Typing.{is_there}
+use Rattle.flow_rules.specs.declared.rule.SemanticRule.{SemanticRule}
 use Rattle.flow_rules.specs.Least.{unless}
 use Rattle.flow_rules.specs.Known.{is_predefined}
 use Rattle.flow_rules.specs.Judged.{Setting}
 use Rattle.flow_rules.specs.Items.{Env, item, with_states, declared, waited, behind, started, slot_names, among, fresh, body_refusal, branch_refusal}
+use Rattle.flow_rules.proofs.Lesser.{holds, no_item}
 use Rattle.flow_types.specs.WalkView.{bare, Grows, Steps, Passes}
 
 -- variables and names of state variables, put into what is in force
@@ -104,10 +106,6 @@ pub vars_cut : {A X : Type 0} (f : A → X) (first inner new : List A) (n : ℕ)
 vars_cut f first inner new n len is = ap (map f) is ∙ ap (λ m. map f (take m inner)) len ∙ map_take f first inner
 
 -- a variable whose name is free is not in force
-pub unless_none : (b : Bool) (k : ℕ) → unless b k ≡ None → b ≡ true
-unless_none true k h = refl
-unless_none false k h = cc
-
 pub none_there : {A : Type 0} (o : Option A) → is_there o ≡ false → o ≡ None
 none_there None h = refl
 none_there (Some x) h = cc
@@ -131,7 +129,7 @@ fresh_free s ss state x h =
     let b = is_predefined x in
     let c = is_there (s.known x) in
     let d = state && among ss x in
-    let all : not (((a || b) || c) || d) ≡ true = unless_none _ _ h in
+    let all : not (((a || b) || c) || d) ≡ true = holds _ _ h in
     let three : not ((a || b) || c) ≡ true = not_true _ (first_false ((a || b) || c) d all) in
     let two : not (a || b) ≡ true = not_true _ (first_false (a || b) c three) in
     none_there (named s.vars x) (first_false a b two)
@@ -141,11 +139,7 @@ fresh_new s ss x h =
     let a = is_there (named s.vars x) in
     let b = is_predefined x in
     let c = is_there (s.known x) in
-    second_false ((a || b) || c) (among ss x) (unless_none _ _ h)
-
-pub item_none : (at : Place) (f : Option ℕ) → item at f ≡ None → f ≡ None
-item_none at None h = refl
-item_none at (Some k) h = cc
+    second_false ((a || b) || c) (among ss x) (holds _ _ h)
 
 -- along the branches of a `choose`
 pub record Beside (first e : Env) (rest all : Branches) : Type 0 where

@@ -12,6 +12,7 @@ use Rattle.flow_ast.specs.Typing.{is_there}
 use Rattle.flow_types.specs.declared.top_names.TopNames.{TopNames}
 use Rattle.flow_types.specs.declared.walk.Walk.{Walk}
 use Rattle.flow_types.specs.declared.program.Routine.{Routine}
+use Rattle.flow_rules.specs.declared.rule.SemanticRule.{SemanticRule}
 use Rattle.flow_rules.specs.Known.{field_row, holds_by}
 use Rattle.flow_rules.specs.Judged.{Setting}
 use Rattle.flow_rules.specs.Items.{among}
@@ -47,7 +48,7 @@ abbrev pub Otherwise : Walk → Walk → Type 0
 Otherwise old new = (new.setting.names ≡ old.setting.names) × (new.setting.plain ≡ old.setting.plain) × (new.returns ≡ old.returns)
 
 -- one more parameter is in force; its tables have one more row, where nothing fails at it
-pub record NewParam (old new : Walk) (x : List ℕ) (t : TypeTree) (fault : Option ℕ) : Type 0 where
+pub record NewParam (old new : Walk) (x : List ℕ) (t : TypeTree) (fault : Option SemanticRule) : Type 0 where
   pub only : ParamsOnly new
   pub taken : taken_in new ≡ with_name x (taken_in old)
   pub vars : fault ≡ None → vars_of new.setting.vars ≡ vars_of old.setting.vars ++ (x, t) ∷ []

@@ -7,8 +7,8 @@ ghost use Rattle.flow_types.specs.Variables.{variables_of};
 ghost use Rattle.flow_types.specs.VariablesView.{variable_list, variable_lists};
 
 use crate::collect::all_variables;
-use crate::variable::Variable;
 use crate::program::judge_program;
+use crate::variable::Variable;
 use flow_tree::decl::Program;
 use flow_tree::fault::SourceFault;
 use std::alloc::Global;

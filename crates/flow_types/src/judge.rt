@@ -6,6 +6,7 @@ ghost use Rattle.flow_tree.specs.View.{type_of, expr_of, exprs_of};
 ghost use Rattle.flow_tree.specs.DeclView.{params_of};
 ghost use Rattle.flow_ast.specs.Typing.{is_there, with_type};
 ghost use Rattle.flow_ast.specs.TypingNames.{named};
+ghost use Rattle.flow_rules.specs.declared.rule.SemanticRule.TheVariants.{UnknownName};
 ghost use Rattle.flow_rules.specs.Least.{lesser, unless};
 ghost use Rattle.flow_rules.specs.Known.{field_row};
 ghost use Rattle.flow_rules.specs.Judged.{Traced, wants, fits, operands, sum_form, sign_form, needs_of, gives_of, not_here, placed, said, calls, calls_on, called, called_on, variable_form, field_form, field_of, of_field, form, fault, faults, wanted};
@@ -17,14 +18,12 @@ ghost use Rattle.flow_types.specs.SettingView.{setting_view};
 use crate::callee::{
     Callee, Kind, Meaning, Need, Needs, called_on, declared_callee, predefined_callee,
 };
-use flow_rules::rule::{
-    DISCARD, EFFECT_INSIDE, NOT_HERE, UNKNOWN_NAME, WRONG_COUNT, WRONG_TYPE, lesser, unless,
-};
 use crate::top_names::TopNames;
 use crate::type_view::{TypeView, same_found, takes_both, takes_equality, takes_sign};
 use flow_ast::predefined::{predefined_call, predefined_constant};
 use flow_ast::typing::find_named;
 use flow_base::name::Name;
+use flow_rules::rule::{SemanticRule, lesser, unless};
 use flow_tree::decl::Param;
 use flow_tree::expr::{Expr, Op};
 use flow_tree::ty::{Ident, Ty};
@@ -46,7 +45,7 @@ pub struct Setting<'n, 'a> {
 #[derive(Clone, Copy)]
 pub struct Judged<'a> {
     pub form: Option<TypeView<'a>>,
-    pub fault: Option<u8>,
+    pub fault: Option<SemanticRule>,
 }
 
 fn sound<'a>(form: TypeView<'a>) -> Judged<'a>
@@ -62,36 +61,36 @@ fn sound<'a>(form: TypeView<'a>) -> Judged<'a>
 // An expression that has to be known.
 fn known<'a>(form: Option<TypeView<'a>>) -> Judged<'a>
     ensures form { option_map found_of result.form ≡ option_map found_of form.entry }
-    ensures fault { result.fault ≡ unless (is_there (option_map found_of form.entry)) UNKNOWN_NAME }
+    ensures fault { result.fault ≡ unless (is_there (option_map found_of form.entry)) UnknownName }
 {
     Judged {
         form,
-        fault: unless(form.is_some(), UNKNOWN_NAME),
+        fault: unless(form.is_some(), SemanticRule::UnknownName),
     }
 }
 
 /// This type is wanted, where there is one.
-pub fn wants(form: Option<TypeView<'_>>, wanted: TypeView<'_>) -> Option<u8>
+pub fn wants(form: Option<TypeView<'_>>, wanted: TypeView<'_>) -> Option<SemanticRule>
     ensures { result ≡ wants (option_map found_of form.entry) (found_of wanted.entry) }
 {
     match form {
-        Some(form) => unless(same_found(form, wanted), WRONG_TYPE),
+        Some(form) => unless(same_found(form, wanted), SemanticRule::WrongType),
         None => None,
     }
 }
 
 // A type that `trace` takes is wanted, where there is one.
-fn traced(form: Option<TypeView<'_>>) -> Option<u8>
+fn traced(form: Option<TypeView<'_>>) -> Option<SemanticRule>
     ensures { result ≡ fits (option_map found_of form.entry) (Some Traced) }
 {
     match form {
-        Some(form) => unless(takes_equality(form), WRONG_TYPE),
+        Some(form) => unless(takes_equality(form), SemanticRule::WrongType),
         None => None,
     }
 }
 
 // An argument fits what stands at its place, if something does.
-fn fits(form: Option<TypeView<'_>>, need: Option<Need<'_>>) -> Option<u8>
+fn fits(form: Option<TypeView<'_>>, need: Option<Need<'_>>) -> Option<SemanticRule>
     ensures { result ≡ fits (option_map found_of form.entry) (option_map need_of need.entry) }
 {
     match need {
@@ -102,17 +101,21 @@ fn fits(form: Option<TypeView<'_>>, need: Option<Need<'_>>) -> Option<u8>
 }
 
 /// What a sign asks of its operands, as far as they have types.
-pub fn operands(op: Op, left: Option<TypeView<'_>>, right: Option<TypeView<'_>>) -> Option<u8>
+pub fn operands(
+    op: Op,
+    left: Option<TypeView<'_>>,
+    right: Option<TypeView<'_>>,
+) -> Option<SemanticRule>
     ensures { result ≡ operands op (option_map found_of left.entry)
         (option_map found_of right.entry) }
 {
     match left {
         Some(left) => match right {
-            Some(right) => unless(takes_both(op, left, right), WRONG_TYPE),
-            None => unless(takes_sign(op, left), WRONG_TYPE),
+            Some(right) => unless(takes_both(op, left, right), SemanticRule::WrongType),
+            None => unless(takes_sign(op, left), SemanticRule::WrongType),
         },
         None => match right {
-            Some(right) => unless(takes_sign(op, right), WRONG_TYPE),
+            Some(right) => unless(takes_sign(op, right), SemanticRule::WrongType),
             None => None,
         },
     }
@@ -214,10 +217,10 @@ fn field_named<'a>(fields: &'a [Param], name: &[u8]) -> Option<TypeView<'a>>
 
 impl<'n, 'a> Setting<'n, 'a> {
     /// What isn't in force in a function.
-    pub fn not_here(&self) -> Option<u8>
+    pub fn not_here(&self) -> Option<SemanticRule>
         ensures { result ≡ not_here (setting_view self.now) }
     {
-        unless(!self.plain, NOT_HERE)
+        unless(!self.plain, SemanticRule::NotInFunction)
     }
 
     /// Whether a variable of this name is in force.
@@ -241,54 +244,59 @@ impl<'n, 'a> Setting<'n, 'a> {
     }
 
     // What is called may stand in an expression, an effect only as a whole one.
-    fn placed(&self, whole: bool, kind: Kind) -> Option<u8>
+    fn placed(&self, whole: bool, kind: Kind) -> Option<SemanticRule>
         ensures { result ≡ placed (setting_view self.now) whole (kind_of kind) }
     {
         match kind {
             Kind::Value | Kind::Function => None,
             Kind::Clock => self.not_here(),
-            Kind::Effect => lesser(unless(whole, EFFECT_INSIDE), self.not_here()),
-            Kind::Statement => lesser(self.not_here(), Some(WRONG_TYPE)),
+            Kind::Effect => lesser(unless(whole, SemanticRule::EffectInside), self.not_here()),
+            Kind::Statement => lesser(self.not_here(), Some(SemanticRule::WrongType)),
         }
     }
 
     // What is called may stand as a statement.
-    fn said(&self, kind: Kind) -> Option<u8>
+    fn said(&self, kind: Kind) -> Option<SemanticRule>
         ensures { result ≡ said (setting_view self.now) (kind_of kind) }
     {
         match kind {
-            Kind::Value => Some(DISCARD),
+            Kind::Value => Some(SemanticRule::LostValue),
             Kind::Function => None,
-            Kind::Clock | Kind::Effect => lesser(self.not_here(), Some(DISCARD)),
+            Kind::Clock | Kind::Effect => lesser(self.not_here(), Some(SemanticRule::LostValue)),
             Kind::Statement => self.not_here(),
         }
     }
 
     // Something is called in an expression, with as many arguments as it needs.
-    fn placed_call(&self, whole: bool, args: &[Expr], callee: Option<Callee<'a>>) -> Option<u8>
+    fn placed_call(
+        &self,
+        whole: bool,
+        args: &[Expr],
+        callee: Option<Callee<'a>>,
+    ) -> Option<SemanticRule>
         ensures { result ≡ calls (exprs_of args.now) (option_map callee_of callee.entry)
             (placed (setting_view self.now) whole) }
     {
         match callee {
             Some(callee) => lesser(
-                unless(callee.needs.are_as_many(args), WRONG_COUNT),
+                unless(callee.needs.are_as_many(args), SemanticRule::WrongCount),
                 self.placed(whole, callee.kind),
             ),
-            None => Some(UNKNOWN_NAME),
+            None => Some(SemanticRule::UnknownName),
         }
     }
 
     // Something is called as a statement, with as many arguments as it needs.
-    fn said_call(&self, args: &[Expr], callee: Option<Callee<'a>>) -> Option<u8>
+    fn said_call(&self, args: &[Expr], callee: Option<Callee<'a>>) -> Option<SemanticRule>
         ensures { result ≡ calls (exprs_of args.now) (option_map callee_of callee.entry)
             (said (setting_view self.now)) }
     {
         match callee {
             Some(callee) => lesser(
-                unless(callee.needs.are_as_many(args), WRONG_COUNT),
+                unless(callee.needs.are_as_many(args), SemanticRule::WrongCount),
                 self.said(callee.kind),
             ),
-            None => Some(UNKNOWN_NAME),
+            None => Some(SemanticRule::UnknownName),
         }
     }
 
@@ -414,7 +422,7 @@ impl<'n, 'a> Setting<'n, 'a> {
         whole: bool,
         args: &[Expr],
         callee: Option<Callee<'a>>,
-        judged: Option<u8>,
+        judged: Option<SemanticRule>,
     ) -> Judged<'a>
         ensures form { option_map found_of result.form
             ≡ gives_of (option_map callee_of callee.entry) }
@@ -429,7 +437,12 @@ impl<'n, 'a> Setting<'n, 'a> {
     }
 
     // A call of a method on an expression.
-    fn method(&self, base: Judged<'a>, callee: Option<Callee<'a>>, args: &[Expr]) -> Option<u8>
+    fn method(
+        &self,
+        base: Judged<'a>,
+        callee: Option<Callee<'a>>,
+        args: &[Expr],
+    ) -> Option<SemanticRule>
         ensures { result ≡ calls_on (option_map found_of base.entry.form) (exprs_of args.now)
             (option_map callee_of callee.entry) (placed (setting_view self.now) false) }
     {
@@ -445,7 +458,7 @@ impl<'n, 'a> Setting<'n, 'a> {
         base: Judged<'a>,
         args: &[Expr],
         callee: Option<Callee<'a>>,
-        judged: Option<u8>,
+        judged: Option<SemanticRule>,
     ) -> Judged<'a>
         ensures form { option_map found_of result.form
             ≡ gives_of (option_map callee_of callee.entry) }
@@ -523,7 +536,7 @@ impl<'n, 'a> Setting<'n, 'a> {
 
     // Arguments, each judged, and compared as far as something is needed.
     #[cycle(judge)]
-    fn judge_args(&self, needs: Needs<'a>, args: &'a [Expr]) -> Option<u8>
+    fn judge_args(&self, needs: Needs<'a>, args: &'a [Expr]) -> Option<SemanticRule>
         ensures { result ≡ faults (setting_view self.now) 0 (needs_view needs.entry)
             (exprs_of args.now) }
     {
@@ -539,7 +552,7 @@ impl<'n, 'a> Setting<'n, 'a> {
     }
 
     /// An expression of which this type is wanted.
-    pub fn wanted(&self, whole: bool, expr: &'a Expr, ty: TypeView<'a>) -> Option<u8>
+    pub fn wanted(&self, whole: bool, expr: &'a Expr, ty: TypeView<'a>) -> Option<SemanticRule>
         ensures { result ≡ wanted (setting_view self.now) whole (expr_of expr.now)
             (found_of ty.entry) }
     {
@@ -548,7 +561,7 @@ impl<'n, 'a> Setting<'n, 'a> {
     }
 
     // A call by a name as a statement.
-    fn named_call(&self, name: &'a Name, args: &'a [Expr]) -> Option<u8>
+    fn named_call(&self, name: &'a Name, args: &'a [Expr]) -> Option<SemanticRule>
         ensures { result ≡ call_by_name (setting_view self.now) name.now (exprs_of args.now) }
     {
         let callee = self.called(name);
@@ -559,7 +572,7 @@ impl<'n, 'a> Setting<'n, 'a> {
     }
 
     // A call of a method as a statement.
-    fn method_call(&self, path: &[Ident], name: &Name, args: &'a [Expr]) -> Option<u8>
+    fn method_call(&self, path: &[Ident], name: &Name, args: &'a [Expr]) -> Option<SemanticRule>
         ensures { result ≡ call_on (setting_view self.now) path.now name.now (exprs_of args.now) }
     {
         let base = self.base(path);
@@ -574,7 +587,7 @@ impl<'n, 'a> Setting<'n, 'a> {
     }
 
     /// A call as a statement.
-    pub fn call(&self, path: &'a [Ident], args: &'a [Expr]) -> Option<u8>
+    pub fn call(&self, path: &'a [Ident], args: &'a [Expr]) -> Option<SemanticRule>
         ensures { result ≡ call_fault (setting_view self.now) path.now (exprs_of args.now) }
     {
         match path {
@@ -585,12 +598,15 @@ impl<'n, 'a> Setting<'n, 'a> {
     }
 
     /// A written type: its records are known, and in a function it holds no reference.
-    pub fn written(&self, ty: &Ty) -> Option<u8>
+    pub fn written(&self, ty: &Ty) -> Option<SemanticRule>
         ensures { result ≡ written (setting_view self.now) (type_of ty.now) }
     {
         lesser(
-            unless(self.names.type_known(ty), UNKNOWN_NAME),
-            unless(!(self.plain && self.names.holds(ty)), NOT_HERE),
+            unless(self.names.type_known(ty), SemanticRule::UnknownName),
+            unless(
+                !(self.plain && self.names.holds(ty)),
+                SemanticRule::NotInFunction,
+            ),
         )
     }
 }

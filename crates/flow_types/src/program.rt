@@ -7,6 +7,7 @@ ghost use Rattle.flow_tree.specs.View.{type_of};
 ghost use Rattle.flow_tree.specs.DeclView.{param_of, params_of, record_of, function_of, actor_of, decl_of, program_of};
 ghost use Rattle.flow_ast.specs.Typing.{is_there, packet_fields, param_types, same_type};
 ghost use Rattle.flow_ast.specs.TypingNames.{named};
+ghost use Rattle.flow_rules.specs.declared.rule.SemanticRule.TheVariants.{TakenName, UnknownName};
 ghost use Rattle.flow_rules.specs.Least.{lesser, unless};
 ghost use Rattle.flow_rules.specs.Known.{field_row, row_of, type_known, is_predefined};
 ghost use Rattle.flow_rules.specs.Items.{item, among};
@@ -20,7 +21,6 @@ ghost use Rattle.flow_types.specs.ProgramView.{routine_of, setting_by, taken_in,
 use crate::callee::Meaning;
 use crate::closing::ways_of;
 use crate::judge::{Setting, Vars};
-use flow_rules::rule::{FALLS_OFF, NO_MAIN, TWICE, UNKNOWN_NAME, lesser, unless};
 use crate::size::sizes;
 use crate::top_names::{
     Meanings, TopNames, is_known, is_predefined, meaning_of, name_of, packet_fields, predefined,
@@ -31,6 +31,7 @@ use crate::walk::{Around, Walk, has_text, item};
 use flow_base::memory::NoMemory;
 use flow_base::name::Name;
 use flow_base::place::Place;
+use flow_rules::rule::{SemanticRule, lesser, unless};
 use flow_tree::decl::{ActorDecl, Decl, FunctionDecl, Param, Program, RecordDecl};
 use flow_tree::fault::SourceFault;
 use flow_tree::stmt::Stmt;
@@ -39,22 +40,29 @@ use indexmap::{IndexMap, IndexSet};
 use std::alloc::Global;
 
 // A name at the top is not predefined, and not that of a declaration before it.
-fn name_fault(before: &Meanings<'_>, name: &Name) -> Option<u8>
+fn name_fault(before: &Meanings<'_>, name: &Name) -> Option<SemanticRule>
     ensures { result ≡ name_fault (named (rows_of before.now)) name.now }
 {
     let taken = is_predefined(name.bytes()) || is_known(before, name.bytes());
-    unless(!taken, TWICE)
+    unless(!taken, SemanticRule::TakenName)
 }
 
 // The record of a field is declared before, and its name is that of no field before it.
-fn field_fault(before: &Meanings<'_>, names: &IndexSet<&[u8]>, field: &Param) -> Option<u8>
+fn field_fault(
+    before: &Meanings<'_>,
+    names: &IndexSet<&[u8]>,
+    field: &Param,
+) -> Option<SemanticRule>
     ensures { result ≡ lesser (unless (type_known (named (rows_of before.now))
-        (type_of field.now.ty)) UNKNOWN_NAME)
-        (unless (not (among (texts_of names.now) field.now.name.name)) TWICE) }
+        (type_of field.now.ty)) UnknownName)
+        (unless (not (among (texts_of names.now) field.now.name.name)) TakenName) }
 {
     lesser(
-        unless(type_known(before, &field.ty), UNKNOWN_NAME),
-        unless(!has_text(names, field.name.name.bytes()), TWICE),
+        unless(type_known(before, &field.ty), SemanticRule::UnknownName),
+        unless(
+            !has_text(names, field.name.name.bytes()),
+            SemanticRule::TakenName,
+        ),
     )
 }
 
@@ -63,7 +71,7 @@ fn fields_fault(
     alloc: Global,
     before: &Meanings<'_>,
     fields: &[Param],
-) -> Result<Option<u8>, NoMemory>
+) -> Result<Option<SemanticRule>, NoMemory>
     ensures { IfOk result (λ o. o ≡ fields_fault (named (rows_of before.now)) (λ x. false)
         (params_of fields.now)) }
 {
@@ -100,13 +108,16 @@ fn free(setting: &Setting<'_, '_>, name: &[u8]) -> bool
 }
 
 // What fails at a parameter.
-fn param_fault(setting: &Setting<'_, '_>, param: &Param) -> Option<u8>
+fn param_fault(setting: &Setting<'_, '_>, param: &Param) -> Option<SemanticRule>
     ensures { result ≡ param_fault (setting_view setting.now)
         (λ x. is_there (named (vars_of setting.now.vars) x)) (param_of param.now) }
 {
     lesser(
         setting.written(&param.ty),
-        unless(free(setting, param.name.name.bytes()), TWICE),
+        unless(
+            free(setting, param.name.name.bytes()),
+            SemanticRule::TakenName,
+        ),
     )
 }
 
@@ -114,7 +125,7 @@ fn param_fault(setting: &Setting<'_, '_>, param: &Param) -> Option<u8>
 fn add_param<'a>(
     walk: &mut Walk<'_, 'a>,
     param: &'a Param,
-    fault: Option<u8>,
+    fault: Option<SemanticRule>,
 ) -> Result<(), NoMemory>
     requires only { ParamsOnly walk.old }
     requires fault { fault ≡ param_fault (setting_view walk.old.setting) (taken_in walk.old)
@@ -129,7 +140,10 @@ fn add_param<'a>(
 }
 
 // Parameters, which are in force from here on.
-fn params_fault<'a>(walk: &mut Walk<'_, 'a>, params: &'a [Param]) -> Result<Option<u8>, NoMemory>
+fn params_fault<'a>(
+    walk: &mut Walk<'_, 'a>,
+    params: &'a [Param],
+) -> Result<Option<SemanticRule>, NoMemory>
     requires empty { (vars_of walk.old.setting.vars ≡ []) × (texts_of walk.old.states ≡ []) }
     ensures fault { IfOk result (λ o. o
         ≡ params_fault (setting_view walk.old.setting) (λ x. false) (params_of params.now)) }
@@ -161,7 +175,7 @@ fn header_fault<'a>(
     before: &Meanings<'_>,
     walk: &mut Walk<'_, 'a>,
     routine: Routine<'a>,
-) -> Result<Option<u8>, NoMemory>
+) -> Result<Option<SemanticRule>, NoMemory>
     requires empty { (vars_of walk.old.setting.vars ≡ []) × (texts_of walk.old.states ≡ []) }
     ensures fault { IfOk result (λ o. o
         ≡ header_fault (named (rows_of before.now)) (setting_view walk.old.setting)
@@ -212,7 +226,10 @@ fn judge_inside<'a>(
         caught: false,
     };
     walk.body(around, routine.body)?;
-    item(routine.close, unless(!ways_of(routine.body).end, FALLS_OFF))
+    item(
+        routine.close,
+        unless(!ways_of(routine.body).end, SemanticRule::FallsOff),
+    )
 }
 
 // A routine's header, its body and its closing brace.
@@ -354,6 +371,9 @@ pub fn judge_program(alloc: Global, program: &Program) -> Result<(), SourceFault
     let packet = packet_fields(alloc)?;
     let names = TopNames::new(alloc, &packet, &program.decls)?;
     declarations(alloc, &names, &packet, &program.decls)?;
-    item(program.end, unless(is_main(names.find(b"main")), NO_MAIN))?;
+    item(
+        program.end,
+        unless(is_main(names.find(b"main")), SemanticRule::NoMain),
+    )?;
     sizes(alloc, &program.decls)
 }

@@ -10,7 +10,6 @@ ghost use Rattle.flow_rules.specs.Rules.{or_leaf, type_size, fields_size, record
 ghost use Rattle.flow_types.specs.SizeView.{size_of, sizes_of, FieldsSized, RecordSized, SizeAnswer};
 ghost use Rattle.flow_types.specs.WalkView.{Says};
 
-use flow_rules::rule::LARGE_RECORD;
 use flow_base::memory::NoMemory;
 use flow_tree::decl::{Decl, Param, RecordDecl};
 use flow_tree::fault::{Rule, SourceFault};
@@ -114,7 +113,7 @@ fn add_size<'a>(sizes: &mut Sizes<'a>, declared: &'a RecordDecl) -> Result<(), S
 {
     let Some(size) = record_size(sizes, declared) else {
         return Err(SourceFault::Refused {
-            rule: Rule::L(LARGE_RECORD),
+            rule: Rule::L(8),
             at: declared.at,
         });
     };

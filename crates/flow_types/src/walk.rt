@@ -17,10 +17,10 @@ ghost use Rattle.flow_types.specs.SettingView.{setting_view};
 ghost use Rattle.flow_types.specs.WalkView.{texts_of, env_of, Says, StmtAnswer, BranchAnswer, BodyAnswer, PartAnswer, Leads, else_refusal, else_slots};
 
 use crate::judge::{Setting, operands, wants};
-use flow_rules::rule::{BREAK_OUTSIDE, NEEDS_VALUE, TWICE, WAIT_OUTSIDE, lesser, unless};
 use crate::top_names::is_predefined;
 use crate::type_view::{ElementView, TypeView};
 use flow_base::place::Place;
+use flow_rules::rule::{SemanticRule, lesser, unless};
 use flow_tree::expr::{Expr, Op};
 use flow_tree::fault::{Rule, SourceFault};
 use flow_tree::stmt::{Change, Into, Stmt, StmtKind, Target, Waiting, When};
@@ -51,12 +51,12 @@ pub fn has_text(texts: &IndexSet<&[u8]>, text: &[u8]) -> bool
 }
 
 /// An item at this place, with the least rule that fails in it.
-pub fn item(at: Place, fault: Option<u8>) -> Result<(), SourceFault>
+pub fn item(at: Place, fault: Option<SemanticRule>) -> Result<(), SourceFault>
     ensures { Says (item at fault) result }
 {
     match fault {
         Some(rule) => Err(SourceFault::Refused {
-            rule: Rule::K(rule),
+            rule: Rule::K(rule.number()),
             at,
         }),
         None => Ok(()),
@@ -118,7 +118,7 @@ impl<'n, 'a> Walk<'n, 'a> {
     }
 
     // A new variable has a name that is free.
-    fn fresh(&self, state: bool, name: &Ident) -> Option<u8>
+    fn fresh(&self, state: bool, name: &Ident) -> Option<SemanticRule>
         ensures { result ≡ fresh (setting_view self.now.setting) (texts_of self.now.states) state
             name.now.name }
     {
@@ -127,16 +127,16 @@ impl<'n, 'a> Walk<'n, 'a> {
             || is_predefined(bytes)
             || self.setting.has_name(bytes)
             || (state && self.has_state(bytes));
-        unless(!taken, TWICE)
+        unless(!taken, SemanticRule::TakenName)
     }
 
-    fn state_here(&self, state: bool) -> Option<u8>
+    fn state_here(&self, state: bool) -> Option<SemanticRule>
         ensures { result ≡ state_here (setting_view self.now.setting) state }
     {
         if state { self.setting.not_here() } else { None }
     }
 
-    fn into(&self, into: &Into) -> Option<u8>
+    fn into(&self, into: &Into) -> Option<SemanticRule>
         ensures { result ≡ into_fault (setting_view self.now.setting) (texts_of self.now.states)
             (into_of into.now) }
     {
@@ -149,7 +149,7 @@ impl<'n, 'a> Walk<'n, 'a> {
         )
     }
 
-    fn maybe_into(&self, into: &Option<Into>) -> Option<u8>
+    fn maybe_into(&self, into: &Option<Into>) -> Option<SemanticRule>
         ensures { result ≡ maybe_into (setting_view self.now.setting) (texts_of self.now.states)
             (option_map into_of into.now) }
     {
@@ -212,13 +212,13 @@ impl<'n, 'a> Walk<'n, 'a> {
         }
     }
 
-    fn test(&self, test: &'a Expr) -> Option<u8>
+    fn test(&self, test: &'a Expr) -> Option<SemanticRule>
         ensures { result ≡ test_fault (setting_view self.now.setting) (expr_of test.now) }
     {
         self.setting.wanted(false, test, TypeView::Bool)
     }
 
-    fn maybe_test(&self, test: &'a Option<Expr>) -> Option<u8>
+    fn maybe_test(&self, test: &'a Option<Expr>) -> Option<SemanticRule>
         ensures { result ≡ maybe_test (setting_view self.now.setting)
             (option_map expr_of test.now) }
     {
@@ -228,34 +228,34 @@ impl<'n, 'a> Walk<'n, 'a> {
         }
     }
 
-    fn thrown(&self, caught: bool, error: &'a Option<Expr>) -> Option<u8>
+    fn thrown(&self, caught: bool, error: &'a Option<Expr>) -> Option<SemanticRule>
         ensures { result ≡ throw_fault (setting_view self.now.setting) caught
             (option_map expr_of error.now) }
     {
         match error {
             Some(error) => self.setting.wanted(false, error, TypeView::Error),
-            None => unless(caught, BREAK_OUTSIDE),
+            None => unless(caught, SemanticRule::BreakOutside),
         }
     }
 
-    fn value(&self, ty: &'a Ty, value: &'a Option<Expr>) -> Option<u8>
+    fn value(&self, ty: &'a Ty, value: &'a Option<Expr>) -> Option<SemanticRule>
         ensures { result ≡ value_fault (setting_view self.now.setting) (type_of ty.now)
             (option_map expr_of value.now) }
     {
         match value {
             Some(value) => self.setting.wanted(true, value, TypeView::of(ty)),
-            None => unless(has_default(ty), NEEDS_VALUE),
+            None => unless(has_default(ty), SemanticRule::NeedsValue),
         }
     }
 
-    fn declaration(&self, into: &'a Into, value: &'a Option<Expr>) -> Option<u8>
+    fn declaration(&self, into: &'a Into, value: &'a Option<Expr>) -> Option<SemanticRule>
         ensures { result ≡ declare_fault (setting_view self.now.setting) (texts_of self.now.states)
             (into_of into.now) (option_map expr_of value.now) }
     {
         lesser(self.into(into), self.value(&into.ty, value))
     }
 
-    fn assignment(&self, target: &Target, value: &'a Expr) -> Option<u8>
+    fn assignment(&self, target: &Target, value: &'a Expr) -> Option<SemanticRule>
         ensures { result ≡ assign_fault (setting_view self.now.setting) target.now.path.items
             (expr_of value.now) }
     {
@@ -268,7 +268,7 @@ impl<'n, 'a> Walk<'n, 'a> {
         lesser(lesser(target.fault, value.fault), assigned)
     }
 
-    fn operand(&self, op: Op, target: Option<TypeView<'a>>, value: &'a Expr) -> Option<u8>
+    fn operand(&self, op: Op, target: Option<TypeView<'a>>, value: &'a Expr) -> Option<SemanticRule>
         ensures { result ≡ lesser (fault (setting_view self.now.setting) false (expr_of value.now))
             (operands op (option_map found_of target.entry)
             (form (setting_view self.now.setting) (expr_of value.now))) }
@@ -277,7 +277,7 @@ impl<'n, 'a> Walk<'n, 'a> {
         lesser(value.fault, operands(op, target, value.form))
     }
 
-    fn change(&self, target: Option<TypeView<'a>>, change: &'a Change) -> Option<u8>
+    fn change(&self, target: Option<TypeView<'a>>, change: &'a Change) -> Option<SemanticRule>
         ensures { result ≡ change_fault (setting_view self.now.setting)
             (option_map found_of target.entry) (change_of change.now) }
     {
@@ -288,7 +288,7 @@ impl<'n, 'a> Walk<'n, 'a> {
         }
     }
 
-    fn modification(&self, target: &Target, change: &'a Change) -> Option<u8>
+    fn modification(&self, target: &Target, change: &'a Change) -> Option<SemanticRule>
         ensures { result ≡ modify_fault (setting_view self.now.setting) target.now.path.items
             (change_of change.now) }
     {
@@ -296,7 +296,7 @@ impl<'n, 'a> Walk<'n, 'a> {
         lesser(target.fault, self.change(target.form, change))
     }
 
-    fn waiting(&self, waiting: &'a Waiting) -> Option<u8>
+    fn waiting(&self, waiting: &'a Waiting) -> Option<SemanticRule>
         ensures { result ≡ wait_fault (setting_view self.now.setting) (texts_of self.now.states)
             (waiting_of waiting.now) }
     {
@@ -305,7 +305,7 @@ impl<'n, 'a> Walk<'n, 'a> {
             self.maybe_into(&waiting.into),
             lesser(
                 self.setting.wanted(true, &waiting.operand, wanted),
-                unless(!self.setting.plain, WAIT_OUTSIDE),
+                unless(!self.setting.plain, SemanticRule::WaitInFunction),
             ),
         )
     }
@@ -434,7 +434,7 @@ impl<'n, 'a> Walk<'n, 'a> {
             }
             StmtKind::Loop(body) => self.scoped(around.in_loop(), body),
             StmtKind::Break | StmtKind::Continue => {
-                item(at, unless(around.looped, BREAK_OUTSIDE))
+                item(at, unless(around.looped, SemanticRule::BreakOutside))
             }
             StmtKind::Return(value) => { item(at, self.setting.wanted(false, value, self.returns)) }
             StmtKind::Throw(error) => item(at, self.thrown(around.caught, error)),
@@ -444,7 +444,10 @@ impl<'n, 'a> Walk<'n, 'a> {
                 self.handler(around, error, handler)
             }
             StmtKind::Choose(branches) => {
-                item(at, unless(!self.setting.plain, WAIT_OUTSIDE))?;
+                item(
+                    at,
+                    unless(!self.setting.plain, SemanticRule::WaitInFunction),
+                )?;
                 self.branches(around, branches)
             }
             StmtKind::Declare(into, value) => {

@@ -7,6 +7,7 @@ use Rattle.flow_tree.specs.declared.ty.Ident.{Ident}
 use Rattle.flow_tree.specs.Tree.{TypeTree, BoolType, VoidType, ErrorType, FutureType, FutureStreamType, PromiseType, PromiseStreamType, ExprTree, CallExpr}
 use Rattle.flow_tree.specs.Decls.{SlotTree}
 use Rattle.flow_ast.specs.Typing.{same_type}
+use Rattle.flow_rules.specs.declared.rule.SemanticRule.{SemanticRule}
 use Rattle.flow_rules.specs.Least.{lesser}
 use Rattle.flow_rules.specs.Judged.{Setting, Callee, Kind, Effect, form, fault, wanted, called}
 use Rattle.flow_rules.specs.Items.{target_form, target_fault, assigned, call_fault}
@@ -96,7 +97,7 @@ is_effect s (CallExpr f es) = calls_effect (called s f.name)
 is_effect s _ = false
 
 -- an assignment, whose value may be an effect or not
-abbrev pub put_fault : Setting → (effect : Bool) → List Ident → ExprTree → Option ℕ
+abbrev pub put_fault : Setting → (effect : Bool) → List Ident → ExprTree → Option SemanticRule
 put_fault s effect path e = lesser (lesser (target_fault s path) (fault s effect e)) (assigned (form s e) (target_form s path))
 
 abbrev pub is_promise : Option TypeTree → Bool

@@ -13,6 +13,7 @@ use Rattle.flow_rules.specs.Known.{field_row}
 use Rattle.flow_rules.specs.Judged.{Setting}
 use Rattle.flow_rules.specs.Items.{written}
 use Rattle.flow_rules.specs.Rules.{setting_of, name_fault, params_fault, body_env, decls_refusal}
+use Rattle.flow_rules.proofs.Lesser.{no_second}
 use Rattle.flow_meaning.specs.Evaluating.{Names}
 use Rattle.flow_meaning.specs.Source.{actors_in, names_of}
 use Rattle.flow_split.specs.Around.{whole}
@@ -25,7 +26,7 @@ use Rattle.flow_lowering_laws.specs.Actors.Parts.{HasParts}
 use Rattle.flow_lowering_laws.specs.Actors.InPlace.{InPlace}
 use Rattle.flow_lowering_laws.specs.Actors.Laws.{IsSmall}
 use Rattle.flow_lowering_laws.proofs.Programs.Whole.{EachActor, Formed, Placed, decls_formed, program_decls, as_many, decls_placed, small}
-use Rattle.flow_typing_laws.proofs.Typing.Names.{none_some, some_same, no_second}
+use Rattle.flow_typing_laws.proofs.Typing.Names.{none_some, some_same}
 use Rattle.flow_typing_laws.proofs.Typing.Agreement.{neither_first}
 use Rattle.flow_validity_laws.proofs.Naming.{both}
 use Rattle.flow_validity_laws.proofs.Numbered.{numbered_well, all_types}

@@ -1,7 +1,7 @@
 use Rattle.std.proofs.Common.{suc, length, map, codes, Ok, Err, [], ap, ◌∙◌}
 use Rattle.std.proofs.lemmas.Result.{err_from_is_err_and}
 use Rattle.flow_tree.specs.DeclView.{decl_of}
-use Rattle.flow_rules.specs.declared.rule.TheConstants.{NO_MAIN}
+use Rattle.flow_rules.specs.declared.rule.SemanticRule.TheVariants.{NoMain}
 use Rattle.flow_rules.specs.Least.{unless}
 use Rattle.flow_rules.specs.Known.{known, record_holds}
 use Rattle.flow_rules.specs.Items.{item}
@@ -32,9 +32,9 @@ returns-in_err-item c =
     let p = err_from_is_err_and c.from_residual-in_err-item.result c.from_residual-in_err-item.ensures.1 in
     let u = c.in_ok-declarations.field-0 in
     let before = decls_by (setting_of (map decl_of ds)) (setting_by n) ds c.deref-4.result.now (Ok u) c.deref-4.ensures.value (setting_all n ds k h) c.in_ok-declarations.ensures in
-    let main = c.unless.ensures ∙ ap (λ b. unless b NO_MAIN) (c.is_main.ensures ∙ ap is_main (c.find.ensures ∙ ap (λ f. f (codes "main")) k)) in
+    let main = c.unless.ensures ∙ ap (λ b. unless b NoMain) (c.is_main.ensures ∙ ap is_main (c.find.ensures ∙ ap (λ f. f (codes "main")) k)) in
     rw (p.1, p.2) (says_next (decls_refusal (setting_of (map decl_of ds)) [] (map decl_of ds)) _ (Err x) before
-    (says_first (item c.args.program.now.end (unless (is_main (known (map decl_of ds) (codes "main"))) NO_MAIN)) _ x (says_at c.args.program.now.end _ _ (Err x) main c.in_err-item.ensures)))
+    (says_first (item c.args.program.now.end (unless (is_main (known (map decl_of ds) (codes "main"))) NoMain)) _ x (says_at c.args.program.now.end _ _ (Err x) main c.in_err-item.ensures)))
 
 pub returns : goal.returns
 returns c =
@@ -46,7 +46,7 @@ returns c =
     let v = c.in_ok-item.field-0 in
     let r = c.sizes.result in
     let before = decls_by (setting_of (map decl_of ds)) (setting_by n) ds c.deref-4.result.now (Ok u) c.deref-4.ensures.value (setting_all n ds k h) c.in_ok-declarations.ensures in
-    let main = c.unless.ensures ∙ ap (λ b. unless b NO_MAIN) (c.is_main.ensures ∙ ap is_main (c.find.ensures ∙ ap (λ f. f (codes "main")) k)) in
+    let main = c.unless.ensures ∙ ap (λ b. unless b NoMain) (c.is_main.ensures ∙ ap is_main (c.find.ensures ∙ ap (λ f. f (codes "main")) k)) in
     says_next (decls_refusal (setting_of (map decl_of ds)) [] (map decl_of ds)) _ r before
-    (says_next (item c.args.program.now.end (unless (is_main (known (map decl_of ds) (codes "main"))) NO_MAIN)) _ r (says_at c.args.program.now.end _ _ (Ok v) main c.in_ok-item.ensures)
+    (says_next (item c.args.program.now.end (unless (is_main (known (map decl_of ds) (codes "main"))) NoMain)) _ r (says_at c.args.program.now.end _ _ (Ok v) main c.in_ok-item.ensures)
     (large_by _ ds c.deref-5.result.now r c.deref-5.ensures.value c.sizes.ensures))

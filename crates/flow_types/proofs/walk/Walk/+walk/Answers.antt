@@ -10,13 +10,14 @@ use Rattle.flow_types.specs.View.{found_of}
 use Rattle.flow_types.specs.MapView.{bound}
 use Rattle.flow_types.specs.SettingView.{setting_view}
 use Rattle.flow_types.specs.WalkView.{env_of, texts_of}
-use Rattle.flow_types.proofs.Walking.{vars_cut, item_none}
+use Rattle.flow_types.proofs.Walking.{vars_cut}
 use Rattle.flow_types.proofs.Fails.{if_or, grows_started, scoped_closed}
 use Rattle.flow_types.proofs.Ends.{scoped_ok, body_step, body_ok, branches_step, branches_ok, handler_err, handler_ok, when_body, when_ok}
 use Rattle.flow_types.proofs.Exits.{block_leads, if_then, if_last, loop_leads, while_item, while_last, loop_last, for_init, for_item, for_step_err, for_body_err, for_ok, try_body, try_item, try_last, choose_item, choose_last, declare_item, wait_item, assign_is}
 use Rattle.flow_types.proofs.StmtKinds.{stmt_block, stmt_while, stmt_loop, stmt_try, stmt_choose, stmt_declare, stmt_assign, stmt_wait, stmt_if, stmt_for, answer_as, branch_answer}
 use Rattle.flow_types.proofs.Parts.{declare_fresh, wait_fresh, says_at, leads_at, handled_at, body_at, else_some, part_is, branches_at, declare_last, wait_last}
 use Rattle.flow_types.proofs.walk.Walk.+walk.Goals as goal
+use Rattle.flow_rules.proofs.Lesser.{no_item}
 
 pub body-loop-stmt-preserved : goal.body-loop-stmt-preserved
 body-loop-stmt-preserved h c =
@@ -32,7 +33,7 @@ body-returns h c =
 pub branch-waited-requires : goal.branch-waited-requires
 branch-waited-requires h c =
     let w = out-When c.args.branch.now in
-    wait_fresh (setting_view c.args.self.now.setting) (texts_of c.args.self.now.states) (waiting_of w.waiting) (sym c.waiting.ensures ∙ item_none w.at c.waiting.result c.in_ok-item.ensures)
+    wait_fresh (setting_view c.args.self.now.setting) (texts_of c.args.self.now.states) (waiting_of w.waiting) (sym c.waiting.ensures ∙ no_item w.at c.waiting.result c.in_ok-item.ensures)
 
 pub branch-returns-in_err-body : goal.branch-returns-in_err-body
 branch-returns-in_err-body h c =
@@ -233,13 +234,13 @@ pub stmt-declared-requires : goal.stmt-declared-requires
 stmt-declared-requires h c =
     let at = (out-Stmt c.args.stmt.now).at in
     declare_fresh (setting_view c.args.self.now.setting) (texts_of c.args.self.now.states) (into_of c.in-Declare.into) (option_map expr_of c.in-Declare.value)
-    (sym c.declaration.ensures ∙ item_none at c.declaration.result c.in_ok-item-in-Declare.ensures)
+    (sym c.declaration.ensures ∙ no_item at c.declaration.result c.in_ok-item-in-Declare.ensures)
 
 pub stmt-waited-requires : goal.stmt-waited-requires
 stmt-waited-requires h c =
     let at = (out-Stmt c.args.stmt.now).at in
     wait_fresh (setting_view c.args.self.now.setting) (texts_of c.args.self.now.states) (waiting_of c.in-Wait.waiting)
-    (sym c.waiting.ensures ∙ item_none at c.waiting.result c.in_ok-item-in-Wait.ensures)
+    (sym c.waiting.ensures ∙ no_item at c.waiting.result c.in_ok-item-in-Wait.ensures)
 
 pub stmt-returns-in-Block : goal.stmt-returns-in-Block
 stmt-returns-in-Block h c =

@@ -3,9 +3,9 @@ use Rattle.std.specs.Option.{option_map}
 use Rattle.flow_tree.specs.StmtView.{into_of}
 use Rattle.flow_types.specs.declared.walk.Around.{Around}
 use Rattle.flow_rules.specs.Items.{maybe_into, waited}
+use Rattle.flow_rules.proofs.Lesser.{lesser_both}
 use Rattle.flow_types.specs.SettingView.{setting_view}
 use Rattle.flow_types.specs.WalkView.{texts_of, env_of}
-use Rattle.flow_rules.proofs.Lesser.{lesser_both}
 use Rattle.flow_types.proofs.Parts.{into_fresh}
 use Rattle.std.proofs.Common.{◌≡◌}
 use Rattle.flow_types.proofs.walk.Walk.waited.Goals as goal
