@@ -14,12 +14,12 @@ use Rattle.flow_ast.specs.Typing.{or_else}
 use Rattle.flow_class.specs.declared.class.Slotted.TheVariants.{Slot, Local}
 use Rattle.flow_class.specs.Classes.{BlockTree, CallbackTree, ClassTree, RawTree, InstrTree, LastTree, SetInstr, EffectInstr, NewInstr, ActInstr, DropInstr, GotoLast, PassLast, TestLast, ChooseLast, ReturnLast, ThrowLast}
 use Rattle.flow_valid.specs.Heads.{ident, declarations_kept, broken_head, has_main}
-use Rattle.flow_valid.specs.Validity.{broken_rule}
+use Rattle.flow_valid.specs.Validity.{number, broken_rule}
 
 -- the first of the rules V1 to V7 that a class program breaks, and the class, where there is one
 abbrev in_classes : RawTree → (from : ℕ) → List ClassTree → Option (ℕ × Option ℕ)
 in_classes r i [] = None
-in_classes r i (c ∷ cs) = or_else (option_map (λ k. (k, Some i)) (broken_rule r c)) (in_classes r (suc i) cs)
+in_classes r i (c ∷ cs) = or_else (option_map (λ k. (number k, Some i)) (broken_rule r c)) (in_classes r (suc i) cs)
 
 abbrev in_heads : RawTree → Option ℕ → Option (ℕ × Option ℕ)
 in_heads r (Some i) = Some (2, Some i)

@@ -1,1 +1,2 @@
+pub mod ClassRules
 mod Examples
