@@ -1,2 +1,1 @@
 pub mod ClassRules
-mod Examples
