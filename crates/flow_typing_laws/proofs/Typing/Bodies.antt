@@ -9,7 +9,7 @@ use Rattle.flow_tree.specs.Body.{Body, End, BlockStmt, IfStmt, IfElseStmt, While
 use Rattle.flow_tree.specs.Decls.{ParamTree, RecordTree, RoutineTree, DeclTree, StructDecl, FunctionDecl, ActorDecl}
 use Rattle.flow_tree.proofs.ForParts.{InitKind, no_init, declares, assigns, modifies, init_kind, StepKind, no_step, assigned, modified, step_kind}
 use Rattle.flow_ast.specs.Typing.{is_there}
-use Rattle.flow_ast.specs.Leaving.{has_statement, reaches_end, reaches_break}
+use Rattle.flow_ast.specs.Leaving.{has_statement}
 use Rattle.flow_ast.specs.Fits.{declared_in, ThrowFits, BodyFits, FunctionFits, FunctionsFit}
 use Rattle.flow_rules.specs.declared.rule.SemanticRule.TheVariants.{FallsOff, BreakOutside, WaitInFunction}
 use Rattle.flow_rules.specs.Least.{unless}
@@ -22,6 +22,7 @@ use Rattle.flow_rules.proofs.Lesser.{no_second, holds, no_item}
 use Rattle.flow_typing_laws.specs.ControlFlow.Laws.{HasSimpleParts, AllHaveSimpleParts}
 use Rattle.flow_meaning.specs.Source.{records_in, functions_in, actors_in}
 use Rattle.flow_typing_laws.specs.Typing.Scopes.{setting_in}
+use Rattle.flow_typing_laws.specs.Typing.Ends.{SameEnds}
 use Rattle.flow_typing_laws.specs.Typing.Paths.{HasPaths, AllHavePaths}
 use Rattle.flow_typing_laws.proofs.Typing.Names.{none_some, some_none, some_same}
 use Rattle.flow_typing_laws.proofs.Typing.Agreement.{Distinct, neither_first, neither_second, not_true}
@@ -181,10 +182,6 @@ module _ (ds : List DeclTree) (apart : Distinct ds) where
       some_none (ap (λ (s : Setting). unless (not s.plain) WaitInFunction) (sym k.setting) ∙ u)
 
 -- a function's end is reached by structure as the rule on closing braces says
-record SameEnds (b : Body) : Type 0 where
-  ends : reaches_end b ≡ (closing.ways b).end
-  breaks : reaches_break b ≡ (closing.ways b).breaks
-
 or_true : (a : Bool) → a || true ≡ true
 or_true true = refl
 or_true false = refl
@@ -194,7 +191,7 @@ or_false true = refl
 or_false false = refl
 
 module _ (rs : List RecordTree) (fs actors : List RoutineTree) (r : TypeTree) where
-  same_ends : (b : Body) (loop : Bool) (c : Option (List ℕ)) (vars : List ParamTree) → BodyFits rs fs actors r loop c vars b → SameEnds b
+  pub same_ends : (b : Body) (loop : Bool) (c : Option (List ℕ)) (vars : List ParamTree) → BodyFits rs fs actors r loop c vars b → SameEnds b
   same_ends (BlockStmt at b t) loop c vars f =
       let x = same_ends b loop c vars f.0 in
       let y = same_ends t loop c vars f.1 in
