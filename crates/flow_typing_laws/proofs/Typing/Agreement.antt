@@ -19,7 +19,7 @@ use Rattle.flow_rules.specs.Known.{Meaning, RecordOf, FunctionOf, ActorOf, field
 use Rattle.flow_rules.specs.Judged.{Setting, field_of, field_form}
 use Rattle.flow_rules.specs.Items.{item, written}
 use Rattle.flow_rules.specs.Rules.{name_fault, fields_fault, record_fault, params_fault, header_fault, routine_refusal, decl_refusal, decls_refusal}
-use Rattle.flow_rules.proofs.Lesser.{no_first, holds}
+use Rattle.flow_rules.proofs.Lesser.{no_first, holds, no_item}
 use Rattle.flow_meaning.specs.Source.{records_in, functions_in, actors_in}
 use Rattle.flow_typing_laws.specs.Typing.Agreeing.{IsDeclared, Agrees}
 use Rattle.flow_typing_laws.specs.Typing.Scopes.{scope_in, setting_in}
