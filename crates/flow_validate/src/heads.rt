@@ -19,13 +19,13 @@ ghost use Rattle.flow_validate.specs.Answers.{Tells};
 
 use flow_base::memory::NoMemory;
 use flow_class::class::Class;
+use flow_tree::decl::{Decl, Param, Slot};
+use flow_tree::fault::SourceFault;
+use flow_tree::ty::Ty;
 use flow_types::program::declarations;
 use flow_types::size::sizes;
 use flow_types::top_names::{TopNames, is_predefined, name_of};
 use flow_types::walk::has_text;
-use flow_tree::decl::{Decl, Param, Slot};
-use flow_tree::fault::SourceFault;
-use flow_tree::ty::Ty;
 use indexmap::IndexSet;
 use std::alloc::Global;
 

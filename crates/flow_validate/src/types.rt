@@ -25,14 +25,14 @@ use flow_base::memory::NoMemory;
 use flow_base::name::Name;
 use flow_choose::places::var_over;
 use flow_class::class::{Block, Callback, Class, Group, Instr, Last, Slotted};
-use flow_types::callee::{Callee, Kind};
-use flow_types::judge::{Setting, Vars, wants};
 use flow_rules::rule::lesser;
-use flow_types::type_view::{ElementView, TypeView};
 use flow_tree::decl::Slot;
 use flow_tree::expr::Expr;
 use flow_tree::stmt::Target;
 use flow_tree::ty::Ty;
+use flow_types::callee::{Callee, Kind};
+use flow_types::judge::{Setting, Vars, wants};
+use flow_types::type_view::{ElementView, TypeView};
 use indexmap::IndexMap;
 use std::alloc::Global;
 

@@ -23,10 +23,10 @@ use crate::named::names_exist;
 use crate::types::{PlaceNames, place_names, types_fit, variables};
 use flow_base::memory::NoMemory;
 use flow_class::class::{Class, RawClasses};
+use flow_tree::decl::{Decl, Param};
 use flow_types::judge::Setting;
 use flow_types::program::is_main;
 use flow_types::top_names::{TopNames, packet_fields};
-use flow_tree::decl::{Decl, Param};
 use flow_valid::program::ClassProgram;
 use std::alloc::Global;
 
