@@ -11,8 +11,3 @@ pub refused_checked : (p : ProgramTree) (x : SourceFault) → Says (refusal_of p
 refused_checked p (Refused rule at) h = h
 refused_checked p (AcrossWait at declared wait) h = h
 refused_checked p OutOfMemory h = h
-
-pub memory_checked : (p : ProgramTree) (x : SourceFault) → x ≡ OutOfMemory → Checked p (Err x)
-memory_checked p (Refused rule at) h = cc
-memory_checked p (AcrossWait at declared wait) h = cc
-memory_checked p OutOfMemory h = _
