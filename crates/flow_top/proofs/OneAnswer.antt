@@ -268,13 +268,15 @@ module _ (words : List (List ℕ)) (content : List ℕ → Content) (tells : Tel
       let x = same_world w v n q.frames b a t s in never_refused v.text e q.world (subst (λ (z : FileText). Refuses z.text e) x j) l
   behind_once _ _ _ _ (runs v q a i h l) (runs w r b j k m) s t =
       let x = same_world v w q.frames r.frames a b s t in
-      let y = subst (λ (z : FileText). reading.ReadsWorld z.text (Ok q.world)) x l in
-      (ap (λ z. z ∷ []) x, record {
-        program = one.program q.program.value r.program.value i.sound.typed.read j.sound.typed.read;
-        classes = same_classes q.program.value r.program.value (raw_of q.classes) (raw_of r.classes) i j h k;
-        world = is_read w.text (Ok q.world) y (seen r.world) m.1 m.0;
-        frames = frames_once v w q.frames r.frames x a b;
-      })
+      let y = subst (λ (z : FileText). reading.ReadsWorld z.text (Ok q.world)) x l in (
+        ap (λ z. z ∷ []) x,
+        record {
+          program = one.program q.program.value r.program.value i.sound.typed.read j.sound.typed.read;
+          classes = same_classes q.program.value r.program.value (raw_of q.classes) (raw_of r.classes) i j h k;
+          world = is_read w.text (Ok q.world) y (seen r.world) m.1 m.0;
+          frames = frames_once v w q.frames r.frames x a b;
+        },
+      )
 
 pub one_answer : ((text : List ℕ) → OneVerdict text) → OneAnswer
 one_answer one words content o p fs gs tells a s b t = by (way_of words o fs a) (way_of words p gs b) s t
