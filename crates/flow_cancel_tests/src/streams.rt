@@ -7,22 +7,60 @@ use flow_stream::head::{Head, Wait};
 use flow_stream::streams::Streams;
 use std::alloc::Global;
 
+// Adds an element to stream 1, where it is there and has no end.
+fn push(streams: &mut Streams<u64>, item: u64) -> Result<bool, NoMemory> {
+    let Some(_references) = streams.references(CellId(1)) else {
+        return Ok(false);
+    };
+    if streams.ended(CellId(1)) {
+        return Ok(false);
+    }
+    streams.push(CellId(1), item)?;
+    Ok(true)
+}
+
+// Ends stream 1, where it is there and has no end.
+fn end(streams: &mut Streams<u64>) -> bool {
+    let Some(_references) = streams.references(CellId(1)) else {
+        return false;
+    };
+    if streams.ended(CellId(1)) {
+        return false;
+    }
+    streams.end(CellId(1), ErrorCode(1));
+    true
+}
+
+// What comes first of stream 1, which is taken.
+fn pop(streams: &mut Streams<u64>) -> Head<u64> {
+    let Some(_references) = streams.references(CellId(1)) else {
+        return Head::Nothing;
+    };
+    streams.pop(CellId(1))
+}
+
+// Whether this is the element of stream 1 at a place.
+fn has_item(streams: &Streams<u64>, place: usize, item: Option<&u64>) -> bool {
+    let Some(_references) = streams.references(CellId(1)) else {
+        return false;
+    };
+    streams.item(CellId(1), place) == item
+}
+
 // Whether a new stream gives nothing, then its elements in order, and then its end.
 fn gives_what_came(streams: &mut Streams<u64>) -> Result<bool, NoMemory>
     requires { streams.old ≡ record { things = []; greatest = 0 } }
 {
     streams.make(CellId(1))?;
-    let nothing = matches!(&streams.pop(CellId(1)), Head::Nothing);
-    let idle = !streams.ready(CellId(1));
-    streams.push(CellId(1), 1)?;
-    streams.push(CellId(1), 2)?;
-    streams.end(CellId(1), ErrorCode(1));
-    let seen = streams.item(CellId(1), 1) == Some(&2) && streams.item(CellId(1), 2) == None;
-    let first = matches!(&streams.pop(CellId(1)), Head::Item(1));
-    let second = matches!(&streams.pop(CellId(1)), Head::Item(2));
-    let ready = streams.ready(CellId(1));
-    let ended = matches!(&streams.pop(CellId(1)), Head::End(ErrorCode(1)));
-    Ok(nothing && idle && seen && first && second && ready && ended)
+    let nothing = matches!(&pop(streams), Head::Nothing);
+    let idle = streams.is_ready(CellId(1)) == Some(false);
+    let filled = push(streams, 1)? && push(streams, 2)? && end(streams);
+    let seen = has_item(streams, 1, Some(&2)) && has_item(streams, 2, None);
+    let first = matches!(&pop(streams), Head::Item(1));
+    let second = matches!(&pop(streams), Head::Item(2));
+    let ready = streams.is_ready(CellId(1)) == Some(true);
+    let ended = matches!(&pop(streams), Head::End(ErrorCode(1)));
+    Ok(nothing && idle && filled && seen && first && second && ready && ended)
 }
 
 // A function that makes streams has one end, since all of them are dropped at each.
@@ -35,6 +73,31 @@ fn elements_then_end(alloc: Global) -> Result<bool, NoMemory> {
 fn elements_come_before_the_end(rt: HostRuntime) -> Result<(), NoMemory> {
     assert!(rt; elements_then_end(rt.alloc())?);
     Ok(())
+}
+
+// Has a waiter wait at stream 1, where it is there.
+fn add(streams: &mut Streams<u64>, waiter: Waiter) -> Option<Wait> {
+    let Some(_references) = streams.references(CellId(1)) else {
+        return None;
+    };
+    Some(streams.add_waiter(CellId(1), waiter))
+}
+
+// Whether this is who waits at stream 1.
+fn waits(streams: &Streams<u64>, waiter: Option<Waiter>) -> bool {
+    let Some(_references) = streams.references(CellId(1)) else {
+        return false;
+    };
+    streams.waiter(CellId(1)) == waiter
+}
+
+// Nobody waits at stream 1, where it is there.
+fn remove(streams: &mut Streams<u64>) -> bool {
+    let Some(_references) = streams.references(CellId(1)) else {
+        return false;
+    };
+    streams.remove_waiter(CellId(1));
+    true
 }
 
 // Whether a second waiter is taken only when the first one is gone.
@@ -50,12 +113,10 @@ fn takes_one(streams: &mut Streams<u64>) -> Result<bool, NoMemory>
         callback: 1,
     };
     streams.make(CellId(1))?;
-    let added = streams.add_waiter(CellId(1), one) == Wait::Added;
-    let busy = streams.add_waiter(CellId(1), two) == Wait::Busy;
-    let waits = streams.waiter(CellId(1)) == Some(one);
-    streams.remove_waiter(CellId(1));
-    let gone = streams.waiter(CellId(1)) == None;
-    Ok(added && busy && waits && gone && streams.add_waiter(CellId(1), two) == Wait::Added)
+    let added = add(streams, one) == Some(Wait::Added);
+    let busy = add(streams, two) == Some(Wait::Busy) && waits(streams, Some(one));
+    let gone = remove(streams) && waits(streams, None);
+    Ok(added && busy && gone && add(streams, two) == Some(Wait::Added))
 }
 
 fn waiters_in_turn(alloc: Global) -> Result<bool, NoMemory> {

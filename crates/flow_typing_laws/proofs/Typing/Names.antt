@@ -8,8 +8,6 @@ use Rattle.std.specs.declared.option.Option.{Option}
 use Rattle.std.specs.declared.option.Option.TheVariants.{None, Some}
 use Rattle.flow_tree.specs.Tree.{TypeTree, IntType, BoolType, StringType, VoidType, ErrorType, NamedType, FutureType, FutureStreamType, PromiseType, PromiseStreamType}
 use Rattle.flow_ast.specs.Typing.{same_type, is_there}
-use Rattle.flow_rules.specs.declared.rule.SemanticRule.{SemanticRule}
-use Rattle.flow_rules.specs.Least.{lesser, unless}
 
 pub bytes_same : (x y : List ℕ) → bytes_eq x y ≡ true → x ≡ y
 bytes_same x y e = (bytes_eq-Decides x y).0 e
