@@ -8,7 +8,7 @@ use Rattle.std.specs.declared.option.Option.{Option}
 use Rattle.std.specs.declared.option.Option.TheVariants.{None, Some}
 use Rattle.flow_tree.specs.Decls.{RoutineTree, DeclTree, StructDecl, FunctionDecl, ActorDecl, ProgramTree}
 use Rattle.flow_ast.specs.declared.predefined.Predefined.{Predefined}
-use Rattle.flow_ast.specs.declared.predefined.Predefined.TheVariants.{ToString, ToInt, Now, EndOfStream, TimedOut, BrokenPromise, OperationCancelled, ActorCancelled, Error, RandomInt, Delay, Never, Listen, ReadFile, WriteFile, SyncFile, FileSize, Trace, SendTo}
+use Rattle.flow_ast.specs.declared.predefined.Predefined.TheVariants.{ToString}
 use Rattle.flow_ast.specs.TypingNames.{named, call_names}
 use Rattle.flow_ast.specs.Typing.{is_there, is_packet, is_effect, signature}
 use Rattle.flow_rules.specs.Known.{Meaning, RecordOf, FunctionOf, ActorOf, row_of, packet_row, known}
