@@ -60,7 +60,7 @@ pub breach_over : BreachesAside
 breach_over a b rule at e (declaration h) = declaration (kept_there a b e h)
 breach_over a b rule at e (head k h) = head (kept_there a b e k) (head_there a b e h)
 breach_over a b rule at e (main k h m) = main (kept_there a b e k) (head_there a b e h) (main_there a b e m)
-breach_over a b rule at e (class {i} c k h m sound there broken) =
+breach_over a b rule at e (class {i} {k} c q h m sound there broken) =
     let d = class_there a b e i c there in
-    class d.0 (kept_there a b e k) (head_there a b e h) (main_there a b e m)
-    (λ j x less at. sound_there a b e j (λ y k. sound j y less k) x at) d.1 (breaks_over a b c d.0 rule e (sym d.2) broken)
+    class d.0 (kept_there a b e q) (head_there a b e h) (main_there a b e m)
+    (λ j x less at. sound_there a b e j (λ y z. sound j y less z) x at) d.1 (breaks_over a b c d.0 k e (sym d.2) broken)

@@ -13,11 +13,11 @@ use Rattle.flow_class.specs.declared.class.Slotted.{Slotted}
 use Rattle.flow_class.specs.declared.class.Slotted.TheVariants.{Slot, Local}
 use Rattle.flow_class.specs.Classes.{CatcherTree, InstrTree, SetInstr, EffectInstr, NewInstr, ActInstr, DropInstr, LastTree, GotoLast, PassLast, TestLast, ChooseLast, ReturnLast, ThrowLast, BlockTree, CallbackTree, ClassTree, RawTree}
 use Rattle.flow_class.specs.Code.{Fetched, Body, Last, Nothing, fetch_in, fetch_at, fetch, catcher_in, catcher_at, group_at, callback_at, type_at}
-use Rattle.flow_valid.specs.Named.{listed, expr_places, path_place, base_place, instr_places, last_places, catcher_places, targets, has_place, has_block, has_catcher, has_group, has_last, has_named, has_operand, names_exist}
+use Rattle.flow_valid.specs.Named.{listed, expr_places, path_place, base_place, instr_places, last_places, catcher_places, targets, has_place, has_block, has_catcher, has_group, has_last, has_named, has_operand}
 use Rattle.flow_valid.specs.Filling.{same_place, among, operands, instr_reads, group_reads, reads}
-use Rattle.flow_valid.specs.Validity.{IsValid, all_blocks, leads_forward, groups_chosen, is_of, takes_error, distinct, catches, catchers_kept, instr_fits, last_fits, callback_fits, block_fits, types_fit, first_broken}
+use Rattle.flow_valid.specs.Validity.{IsValid, all_blocks, is_of, takes_error, distinct, catches, instr_fits, last_fits, callback_fits, block_fits}
 use Rattle.flow_valid.proofs.ClassRules.{Sound, sound_of}
-use Rattle.flow_typing_laws.proofs.Typing.Names.{type_same, none_some, some_none, some_same, there}
+use Rattle.flow_typing_laws.proofs.Typing.Names.{type_same, none_some, some_same, there}
 use Rattle.flow_progress.specs.Places.{class_vars}
 use Rattle.flow_progress.specs.Rules.{InstrFits, BranchFits, IsBlock, LastFits, KeepsRules, ClassRules}
 use Rattle.flow_progress.specs.Written.{IsWritten, AreWritten, heads, FunctionsKept}
