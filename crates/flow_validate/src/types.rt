@@ -25,7 +25,7 @@ use flow_base::memory::NoMemory;
 use flow_base::name::Name;
 use flow_choose::places::var_over;
 use flow_class::class::{Block, Callback, Class, Group, Instr, Last, Slotted};
-use flow_rules::rule::lesser;
+use flow_rules::rule::{SemanticRule, lesser};
 use flow_tree::decl::Slot;
 use flow_tree::expr::Expr;
 use flow_tree::stmt::Target;
@@ -73,7 +73,7 @@ fn put_fault<'a>(
     effect: bool,
     target: &Target,
     value: &'a Expr,
-) -> Option<u8>
+) -> Option<SemanticRule>
     ensures { result ≡ put_fault (setting_view setting.now) effect target.now.path.items
         (expr_of value.now) }
 {
