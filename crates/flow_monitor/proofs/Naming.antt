@@ -7,9 +7,9 @@ use Rattle.flow_base.specs.Names.{IsName, is_name_text, letter, digit, name_byte
 use Rattle.flow_trace.specs.declared.line.Line.{Line}
 use Rattle.flow_monitor.specs.Ears.{IsMonitorName, Ears, nobody, after, or_here, says_stop, first_below, first_stop, name_at, names}
 use Rattle.flow_monitor.specs.Heard.{is_heard}
-use Rattle.flow_monitor.specs.Cut.{ears_after, stop_in}
+use Rattle.flow_monitor.specs.Cut.{ears_after, stop_in, cut_from, Cut}
 
-names_map : (line : Line) (ears : Ears) → names (after line ears) ≡ names ears
+pub names_map : (line : Line) (ears : Ears) → names (after line ears) ≡ names ears
 names_map line [] = refl
 names_map line (l ∷ ears) = ap (λ ns. l.name ∷ ns) (names_map line ears)
 
@@ -29,7 +29,7 @@ name_by (l ∷ ears) (suc k) = name_by ears k
 pub name_stays : (ears others : Ears) (k : ℕ) → names others ≡ names ears → name_at others k ≡ name_at ears k
 name_stays ears others k e = name_by others k ∙ ap (λ ns. slice_index_or ns k []) e ∙ sym (name_by ears k)
 
-many_stay : (ears others : Ears) → names others ≡ names ears → length others ≡ length ears
+pub many_stay : (ears others : Ears) → names others ≡ names ears → length others ≡ length ears
 many_stay ears others e = sym (length-map others (λ l. l.name)) ∙ ap length e ∙ length-map ears (λ l. l.name)
 
 some_same : {x y : ℕ} → Some x ≡ Some y → x ≡ y
@@ -95,3 +95,15 @@ text_form (b ∷ w) least h =
 
 pub monitor_name : (bytes : List ℕ) → IsMonitorName bytes → IsName bytes
 monitor_name bytes m = record { form = text_form bytes m.least m.letters; short = let most : length bytes ≤ 32 = m.most in omega (arith, most) }
+
+-- nobody cuts nothing
+nobody_stops : (line : Line) → stop_in line [] ≡ None
+nobody_stops line = if_heard (λ s. s ≡ None) (is_heard line) (first_stop line []) None refl refl
+
+nobody_after : (line : Line) → ears_after line [] ≡ []
+nobody_after line = if_heard (λ e. e ≡ []) (is_heard line) (after line []) [] refl refl
+
+pub nobody_cuts : (lines : List Line) → Cut [] lines ≡ lines
+nobody_cuts [] = refl
+nobody_cuts (l ∷ lines) =
+    ap (λ ls. l ∷ ls) (ap (λ s. cut_from s (ears_after l []) lines) (nobody_stops l) ∙ ap (λ e. cut_from None e lines) (nobody_after l) ∙ nobody_cuts lines)

@@ -7,6 +7,7 @@ ghost use Rattle.flow_monitor.specs.Ears.{Ears, IsMonitorName, ear_hears, says_s
 
 use crate::monitor::{Heard, Monitor};
 use flow_trace::line::Line;
+use std::alloc::Global;
 
 /// Who hears the lines of a trace and may say that it is to stop: monitors, numbered from 0.
 pub trait Audience {
@@ -109,6 +110,17 @@ fn name_of(seats: &[Seat], k: usize) -> &str
 #[derive(Drop)]
 pub struct Panel {
     pub(crate) seats: Vec<Seat>,
+}
+
+impl Panel {
+    /// A panel of no monitor. It takes no memory.
+    pub fn empty(alloc: Global) -> Panel
+        ensures { ⟦<Panel as Audience>⟧.ears result ≡ [] }
+    {
+        Panel {
+            seats: Vec::new(alloc),
+        }
+    }
 }
 
 impl Audience for Panel {

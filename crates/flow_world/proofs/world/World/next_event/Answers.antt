@@ -4,7 +4,7 @@ use Rattle.flow_world.specs.Happening.{Comes, begins, ends}
 use Rattle.flow_world.specs.FaultedLines.{tells, whole}
 use Rattle.flow_world.specs.Worlds.{world_seen}
 use Rattle.flow_world.proofs.Happenings.{ended_again}
-use Rattle.flow_world.proofs.world.World.event.Goals as goal
+use Rattle.flow_world.proofs.world.World.next_event.Goals as goal
 
 pub returns-in_err-carries_out-clause-breaks : goal.returns-in_err-carries_out-clause-breaks
 returns-in_err-carries_out-clause-breaks g c = λ failed.
