@@ -1,3 +1,4 @@
+pub mod Cut
 pub mod Deeds
 pub mod Disks
 pub mod Events

@@ -1,6 +1,7 @@
 // Runs of classes and of programs.
 
 ghost use Rattle.flow_world.specs.FaultedLines.{tells};
+ghost use Rattle.flow_end_to_end.specs.Cut.{ClassesCut, ClassesCutInPart, ProgramCut, ProgramCutInPart};
 ghost use Rattle.flow_end_to_end.specs.Exact.{ClassesShown, ClassesNeverStuck, ProgramShown, ProgramInPart, ProgramNeverStuck};
 
 use flow_trace::out::LineOut;
@@ -22,4 +23,13 @@ pub fn program_runs_are_exact<L: LineOut>()
 pub fn runs_are_never_stuck<L: LineOut>()
     ensures classes { ClassesNeverStuck (tells L.puts) }
     ensures programs { ProgramNeverStuck (tells L.puts) }
+{}
+
+/// The lines that a run in memory puts where a panel hears it are what is shown, cut where a monitor says Stop: of valid classes,
+/// and of a program by its text; where a line failed, that was put up to this line.
+pub fn watched_runs_are_cut<L: LineOut>()
+    ensures classes { ClassesCut L.puts }
+    ensures classes_in_part { ClassesCutInPart L.puts }
+    ensures programs { ProgramCut L.puts }
+    ensures programs_in_part { ProgramCutInPart L.puts }
 {}

@@ -33,7 +33,7 @@ seen_of f t = record { out = f t.out; fault = t.fault }
 
 module _ {A B : Type 0} (f : A → B) (puts : A → Line → Result (Unit {0}) OutFault → A → Type 0) (puts_there : B → Line → Result (Unit {0}) OutFault → B → Type 0)
     (there : (a b : A) (l : Line) → puts a l (Ok tt) b → puts_there (f a) l (Ok tt) (f b)) where
-  goes_by : (frames : Bool) (w : Seen) (a : A) (v : Seen) (b : A) → RunsEvents puts frames w a v b → RunsEvents puts_there frames w (f a) v (f b)
+  pub goes_by : (frames : Bool) (w : Seen) (a : A) (v : Seen) (b : A) → RunsEvents puts frames w a v b → RunsEvents puts_there frames w (f a) v (f b)
   goes_by frames w a _ _ no_event = no_event
   goes_by frames w a v d (one_more {u = u} {b = b} {c = c} goes does puts_frames) =
       one_more (goes_by frames w a u b goes) (does_event_by f puts puts_there there Ran u b v c does) (lines_by f puts puts_there there c d _ puts_frames)

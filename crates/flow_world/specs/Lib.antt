@@ -17,3 +17,5 @@ pub mod Ends
 pub mod Tracing
 pub mod Written
 pub mod StuckTraces
+pub mod Watching
+pub mod WatchedTraces

@@ -1,10 +1,11 @@
 use Rattle.std.proofs.Common.{rules, sym, ap, subst, ◌∙◌}
 use Rattle.std.proofs.lemmas.Result.{IfOk-weaker}
 use Rattle.flow_base.specs.Bytes.{Grows}
-use Rattle.flow_world.specs.Tracing.{Traces, TracesPart}
+use Rattle.flow_world.specs.FaultedLines.{whole}
+use Rattle.flow_world.specs.Watching.{hearing, watching}
+use Rattle.flow_world.specs.WatchedTraces.{HeardTrace, HeardTracePart}
 use Rattle.flow_world.specs.Written.{put_bytes}
-use Rattle.flow_world.specs.FaultedLines.{tells, whole, failed}
-use Rattle.flow_world.proofs.MovedTraces.{seen_of, told_by, traces_by, part_by, stuck_by}
+use Rattle.flow_world.proofs.MovedHeard.{heard_trace_by, heard_part_by, heard_stuck_by}
 use Rattle.flow_world.proofs.to_sink.write_trace.Goals as goal
 
 pub returns-clause-traces : goal.returns-clause-traces
@@ -12,17 +13,22 @@ returns-clause-traces g c =
     let name = ap (λ k. k.0) c.put_trace-ending.ensures.kept in
     IfOk-weaker c.put_trace-ending.result _ _
     (λ ending t.
-    let moved = traces_by (seen_of (λ w. (g.S.Sink.seen w.out.now).written)) _ (tells put_bytes)
-    (told_by (λ w. (g.S.Sink.seen w.out.now).written) _ put_bytes (λ a b l answer p. p.1)) c.args.with_frames c.args.classes c.args.world _ ending _ t in
-    subst (λ v. Traces (tells put_bytes) c.args.with_frames c.args.classes c.args.world (whole (g.S.Sink.seen c.args.out.now).written) ending (whole (g.S.Sink.seen v).written)) (search rules) moved)
+    let moved = heard_trace_by (λ w. (g.S.Sink.seen w.out.now).written) _ put_bytes (λ a b l answer p. p.1) c.args.with_frames c.args.classes c.args.world _ ending _ t.1 in (
+      t.0,
+      subst (λ v. HeardTrace put_bytes c.args.with_frames c.args.classes c.args.world (watching (g.S.Sink.seen c.args.out.now).written (g.P.Audience.ears c.args.panel.now)) ending
+          (whole (hearing (g.S.Sink.seen v).written (g.P.Audience.ears c.put_trace-ending.new.panel) t.0))) (search rules) moved,
+    ))
     c.put_trace-ending.ensures.traces
 
 pub returns-clause-part : goal.returns-clause-part
 returns-clause-part g c = λ fails.
     let name = ap (λ k. k.0) c.put_trace-ending.ensures.kept in
-    let moved = part_by (seen_of (λ w. (g.S.Sink.seen w.out.now).written)) _ (tells put_bytes)
-    (told_by (λ w. (g.S.Sink.seen w.out.now).written) _ put_bytes (λ a b l answer p. p.1)) c.args.with_frames c.args.classes c.args.world _ _ (c.put_trace-ending.ensures.part fails) in
-    subst (λ v. TracesPart (tells put_bytes) c.args.with_frames c.args.classes c.args.world (whole (g.S.Sink.seen c.args.out.now).written) (failed (g.S.Sink.seen v).written)) (search rules) moved
+    let t = c.put_trace-ending.ensures.part fails in
+    let moved = heard_part_by (λ w. (g.S.Sink.seen w.out.now).written) _ put_bytes (λ a b l answer p. p.1) c.args.with_frames c.args.classes c.args.world _ _ t.1 in (
+      t.0,
+      subst (λ v. HeardTracePart put_bytes c.args.with_frames c.args.classes c.args.world (watching (g.S.Sink.seen c.args.out.now).written (g.P.Audience.ears c.args.panel.now))
+          (hearing (g.S.Sink.seen v).written (g.P.Audience.ears c.put_trace-ending.new.panel) t.0)) (search rules) moved,
+    )
 
 pub returns-clause-last : goal.returns-clause-last
 returns-clause-last g c =
@@ -39,5 +45,7 @@ returns-clause-last g c =
 
 pub returns-clause-stuck : goal.returns-clause-stuck
 returns-clause-stuck g c = λ stuck.
-    stuck_by (seen_of (λ w. (g.S.Sink.seen w.out.now).written)) _ (tells put_bytes)
-    (told_by (λ w. (g.S.Sink.seen w.out.now).written) _ put_bytes (λ a b l answer p. p.1)) c.args.with_frames c.args.classes c.args.world _ (c.put_trace-ending.ensures.stuck stuck)
+    let t = c.put_trace-ending.ensures.stuck stuck in
+    let moved = heard_stuck_by (λ w. (g.S.Sink.seen w.out.now).written) _ put_bytes (λ a b l answer p. p.1) c.args.with_frames c.args.classes c.args.world _ _
+    c.put_trace-ending.ensures.part t in
+    moved
