@@ -18,8 +18,7 @@ use Rattle.flow_meaning.specs.Source.{names_of, actors_in}
 use Rattle.flow_rules.specs.Known.{row_of, known}
 use Rattle.flow_rules.specs.Rules.{setting_of, decls_refusal}
 use Rattle.flow_valid.specs.Heads.{plain_decls, all_decls, declarations_kept, head_of}
-use Rattle.flow_valid.specs.Named.{names_exist}
-use Rattle.flow_valid.specs.Validity.{leads_forward, groups_chosen, catchers_kept, types_fit, first_broken, broken_rule}
+use Rattle.flow_valid.specs.Validity.{broken_rule}
 use Rattle.flow_split.specs.Around.{whole}
 use Rattle.flow_split.specs.Counts.{stmt_groups_counted, groups_counted, groups_in}
 use Rattle.flow_split.specs.Weight.{weight, stmt_weight, weights_counted, body_weight}

@@ -1,12 +1,11 @@
 -- What is due by the words is one outcome, over files that tell.
-use Rattle.std.proofs.Common.{◌≡◌, ◌≢◌, ℕ, Bool, true, false, List, [], ◌∷◌, ◌⊎◌, inl, inr, codes, get_or, length, take, refl, sym, ap, ap₂, ◌∙◌, subst, arith, Option, Some, None, Ok, Err, ◌≤◌, ◌<◌}
+use Rattle.std.proofs.Common.{◌≡◌, ◌≢◌, ℕ, Bool, true, false, List, [], ◌∷◌, ◌⊎◌, inl, inr, codes, get_or, length, refl, sym, ap, ap₂, ◌∙◌, subst, arith, ◌+◌, Option, Some, None, Ok, Err, ◌<◌}
 use Rattle.flow_base.specs.declared.place.Place.{Place}
 use Rattle.flow_base.specs.Bytes.{AreFirstOf}
 use Rattle.flow_base.specs.Seen.{Content, Untold, Missing, Bytes}
 use Rattle.flow_tree.specs.declared.limits.TheConstants.{PROGRAM_BYTES}
 use Rattle.flow_tree.specs.declared.decl.Program.{Program}
 use Rattle.flow_tree.specs.declared.fault.Rule.{Rule}
-use Rattle.flow_tree.specs.declared.fault.Rule.TheVariants.{L}
 use Rattle.flow_tree.specs.declared.fault.SourceFault.TheVariants as source
 use Rattle.flow_tree.specs.Decls.{ProgramTree}
 use Rattle.flow_tree.specs.DeclView.{program_of}
@@ -15,10 +14,9 @@ use Rattle.flow_worldfile.specs.declared.TheConstants.{WORLD_BYTES}
 use Rattle.flow_worldfile.specs.declared.world.World0.{World0}
 use Rattle.flow_worldfile.specs.declared.world.WorldFault.{WorldFault}
 use Rattle.flow_worldfile.specs.declared.world.WorldFault.TheVariants as world
-use Rattle.flow_worldfile.specs.Worlds.{seen}
+use Rattle.flow_worldfile.specs.Worlds.{World, said, world_of, seen}
 use Rattle.flow_worldfile.specs.Reading as reading
-use Rattle.flow_worldfile.proofs.OneVerdict.{one_verdict}
-use Rattle.flow_worldfile.proofs.AnswerLemmas.{is_read}
+use Rattle.flow_worldfile.specs.Laws.{OneVerdict as OneWorldVerdict}
 use Rattle.flow_class.specs.declared.class.RawClasses.{RawClasses}
 use Rattle.flow_class.specs.Classes.{RawTree}
 use Rattle.flow_class.specs.View.{raw_of}
@@ -35,7 +33,7 @@ use Rattle.flow_top.specs.declared.outcome.Answered as told
 use Rattle.flow_top.specs.declared.outcome.Answered.TheVariants.{Usage, Refused, NoWorld, Passed, Compiled, Formatted}
 use Rattle.flow_top.specs.Words.{AreFormat, AreCheck, AreCompile, AreRun, last_words, JudgeProgram, of_check, of_compile, of_run, NameProgram, of_format, of_judged}
 use Rattle.flow_top.specs.Run.{FileText, IsText, AreTexts, IsPassing, heavy_outcome, text_of, status_of, Due, usage, unread, formatted, refused, lost, heavy, passed, compiled as are_compiled, no_world, run}
-use Rattle.flow_top.specs.OneAnswer.{TellsAll, SameRun, SameOutcome, OneAnswer}
+use Rattle.flow_top.specs.OneAnswer.{TellsAll, SameOutcome, OneAnswer}
 use Rattle.flow_top.proofs.Missing.{judged_is, named_is, world_is}
 
 -- The words: the first is the command, and the last of a run says whether frames are told.
@@ -61,8 +59,8 @@ never_formats words name other are judges = by (judges_by words other judges)
 same_frames : (a b c : List ℕ) (m n : Bool) → a ∷ (b ∷ (c ∷ last_words m)) ≡ a ∷ (b ∷ (c ∷ last_words n)) → m ≡ n
 same_frames a b c true true e = refl
 same_frames a b c false false e = refl
-same_frames a b c true false e = let n : 4 ≡ 3 = ap length e in cc
-same_frames a b c false true e = let n : 3 ≡ 4 = ap length e in cc
+same_frames a b c true false e = let n : ◌≡◌ {A = ℕ} 4 3 = ap length e in cc
+same_frames a b c false true e = let n : ◌≡◌ {A = ℕ} 3 4 = ap length e in cc
 
 -- The texts of files that tell: one for each name.
 same_text : (content : Content) (t u : List ℕ) → content ≢ Untold → AreFirstOf (PROGRAM_BYTES + 1) content t → AreFirstOf (PROGRAM_BYTES + 1) content u → t ≡ u
@@ -86,9 +84,9 @@ data Verdict : Type 0 where
   passes : Verdict
 
 data Judged (text : List ℕ) : Verdict → Type 0 where
-  is_refused : {rule : Rule} {at : Place} → IsRefused text rule at → Judged text (refuses rule at)
-  is_lost : {l : Lost} (p : Program) → IsLost text p l → Judged text (loses l)
-  is_heavy : {at : Place} (p : Program) → IsSound text p → first_heavy (program_of p).decls ≡ Some at → Judged text (weighs at)
+  is_refused : (rule : Rule) (at : Place) → IsRefused text rule at → Judged text (refuses rule at)
+  is_lost : (l : Lost) (p : Program) → IsLost text p l → Judged text (loses l)
+  is_heavy : (at : Place) (p : Program) → IsSound text p → first_heavy (program_of p).decls ≡ Some at → Judged text (weighs at)
   is_passing : (p : Program) → IsPassing text p → Judged text passes
 
 module _ (text : List ℕ) (one : OneVerdict text) where
@@ -108,22 +106,22 @@ module _ (text : List ℕ) (one : OneVerdict text) where
   heavy_passing p q at s h t = let e : Some at ≡ None = sym h ∙ (same_weight p q s t.sound ∙ t.light) in cc
 
   judged_once : {v w : Verdict} → Judged text v → Judged text w → v ≡ w
-  judged_once (is_refused {rule} {at} r) (is_refused {other} {place} s) = let e = one.refusal rule other at place r s in ap₂ refuses e.0 e.1
-  judged_once (is_refused {rule} {at} r) (is_lost {l} q t) = lost_refused q l rule at t r
-  judged_once (is_refused {rule} {at} r) (is_heavy q t k) = sound_refused q rule at t r
-  judged_once (is_refused {rule} {at} r) (is_passing q t) = sound_refused q rule at t.sound r
-  judged_once (is_lost {l} p s) (is_refused {rule} {at} r) = lost_refused p l rule at s r
-  judged_once (is_lost {l} p s) (is_lost {m} q t) = ap loses (one.lost p q l m s t)
-  judged_once (is_lost {l} p s) (is_heavy q t k) = sound_lost q p l t s
-  judged_once (is_lost {l} p s) (is_passing q t) = sound_lost q p l t.sound s
-  judged_once (is_heavy p s h) (is_refused {rule} {at} r) = sound_refused p rule at s r
-  judged_once (is_heavy p s h) (is_lost {l} q t) = sound_lost p q l s t
-  judged_once (is_heavy {at} p s h) (is_heavy {place} q t k) =
+  judged_once (is_refused rule at r) (is_refused other place s) = let e = one.refusal rule other at place r s in ap₂ refuses e.0 e.1
+  judged_once (is_refused rule at r) (is_lost l q t) = lost_refused q l rule at t r
+  judged_once (is_refused rule at r) (is_heavy place q t k) = sound_refused q rule at t r
+  judged_once (is_refused rule at r) (is_passing q t) = sound_refused q rule at t.sound r
+  judged_once (is_lost l p s) (is_refused rule at r) = lost_refused p l rule at s r
+  judged_once (is_lost l p s) (is_lost m q t) = ap loses (one.lost p q l m s t)
+  judged_once (is_lost l p s) (is_heavy place q t k) = sound_lost q p l t s
+  judged_once (is_lost l p s) (is_passing q t) = sound_lost q p l t.sound s
+  judged_once (is_heavy at p s h) (is_refused rule place r) = sound_refused p rule place s r
+  judged_once (is_heavy at p s h) (is_lost l q t) = sound_lost p q l s t
+  judged_once (is_heavy at p s h) (is_heavy place q t k) =
       let e : Some at ≡ Some place = sym h ∙ (same_weight p q s t ∙ k) in ap weighs cc
-  judged_once (is_heavy {at} p s h) (is_passing q t) = heavy_passing p q at s h t
-  judged_once (is_passing p s) (is_refused {rule} {at} r) = sound_refused p rule at s.sound r
-  judged_once (is_passing p s) (is_lost {l} q t) = sound_lost p q l s.sound t
-  judged_once (is_passing p s) (is_heavy {at} q t k) = heavy_passing q p at t k s
+  judged_once (is_heavy at p s h) (is_passing q t) = heavy_passing p q at s h t
+  judged_once (is_passing p s) (is_refused rule at r) = sound_refused p rule at s.sound r
+  judged_once (is_passing p s) (is_lost l q t) = sound_lost p q l s.sound t
+  judged_once (is_passing p s) (is_heavy at q t k) = heavy_passing q p at t k s
   judged_once (is_passing p s) (is_passing q t) = refl
 
 -- what a verdict comes to that stops a command
@@ -167,26 +165,32 @@ refuses_by text (world.NoProcess line) h some = by_rule line reading.W4 h
 refuses_by text world.TooLarge h some = too_large h
 refuses_by text world.OutOfMemory h some = absurd (some refl)
 
-line_of : reading.WorldVerdict → ℕ
+abbrev line_of : reading.WorldVerdict → ℕ
 line_of (reading.accepted ds) = 0
 line_of (reading.refused line rule) = line
 
-rule_of : reading.WorldVerdict → reading.Rule
+abbrev rule_of : reading.WorldVerdict → reading.Rule
 rule_of (reading.accepted ds) = reading.W1
 rule_of (reading.refused line rule) = rule
 
-refuses_once : (text : List ℕ) (a b : WorldFault) → Refuses text a → Refuses text b → a ≡ b
-refuses_once text _ _ (by_rule line rule h) (by_rule other second k) =
-    let e = one_verdict text (reading.refused line rule) (reading.refused other second) h.1 k.1 in
-    ap₂ fault_of (ap line_of e) (ap rule_of e)
-refuses_once text _ _ (by_rule line rule h) (too_large l) = absurd (omega (arith, h.0, l))
-refuses_once text _ _ (too_large l) (by_rule line rule h) = absurd (omega (arith, h.0, l))
-refuses_once text _ _ (too_large l) (too_large k) = refl
+module _ (judged_once : OneWorldVerdict) (text : List ℕ) where
+  refuses_once : (a b : WorldFault) → Refuses text a → Refuses text b → a ≡ b
+  refuses_once _ _ (by_rule line rule h) (by_rule other second k) =
+      let e = judged_once text (reading.refused line rule) (reading.refused other second) h.1 k.1 in ap₂ fault_of (ap line_of e) (ap rule_of e)
+  refuses_once _ _ (by_rule line rule h) (too_large l) = absurd (omega (arith, h.0, l))
+  refuses_once _ _ (too_large l) (by_rule line rule h) = absurd (omega (arith, h.0, l))
+  refuses_once _ _ (too_large l) (too_large k) = refl
 
-never_refused : {A : Type 0} (text : List ℕ) (fault : WorldFault) (w : World0) → Refuses text fault → reading.ReadsWorld text (Ok w) → A
-never_refused text _ w (by_rule line rule h) (small, (ds, judged, is)) =
-    let e : reading.refused line rule ≡ reading.accepted ds = one_verdict text (reading.refused line rule) (reading.accepted ds) h.1 judged in absurd cc
-never_refused text _ w (too_large l) (small, is) = absurd (omega (arith, l, small))
+  never_refused : {A : Type 0} (fault : WorldFault) (w : World0) → Refuses text fault → reading.ReadsWorld text (Ok w) → A
+  never_refused _ w (by_rule line rule h) (small, (ds, judged, is)) =
+      let e : reading.refused line rule ≡ reading.accepted ds = judged_once text (reading.refused line rule) (reading.accepted ds) h.1 judged in absurd cc
+  never_refused _ w (too_large l) (small, is) = absurd (omega (arith, l, small))
+
+  world_once : (v w : World) → reading.IsFileOf text v → reading.IsFileOf text w → v ≡ w
+  world_once v w (ds, judged, is) (es, there, says) =
+      let same : reading.accepted ds ≡ reading.accepted es = judged_once text (reading.accepted ds) (reading.accepted es) judged there in
+      let lines_same : ds ≡ es = cc in
+      is ∙ ap (λ l. world_of (said l)) lines_same ∙ sym says
 
 -- What a command comes to behind its program, which passes.
 data Behind (words : List (List ℕ)) (f : FileText) : Outcome → List FileText → Type 0 where
@@ -209,9 +213,9 @@ way_of : (words : List (List ℕ)) (o : Outcome) (fs : List FileText) → Due wo
 way_of words _ _ (usage none) = no_command none
 way_of words _ _ (unread f rule at are why) = formats f _ are (no_program rule at why)
 way_of words _ _ (formatted f p are is) = formats f _ are (program p is)
-way_of words _ _ (refused f rule at judges why) = stops f (refuses rule at) _ judges (is_refused why) refl
-way_of words _ _ (lost f p l judges why) = stops f (loses l) _ judges (is_lost p why) refl
-way_of words _ _ (heavy f p at judges sound is) = stops f (weighs at) _ judges (is_heavy p sound is) refl
+way_of words _ _ (refused f rule at judges why) = stops f (refuses rule at) _ judges (is_refused rule at why) refl
+way_of words _ _ (lost f p l judges why) = stops f (loses l) _ judges (is_lost l p why) refl
+way_of words _ _ (heavy f p at judges sound is) = stops f (weighs at) _ judges (is_heavy at p sound is) refl
 way_of words _ _ (passed f p are passing) = goes f _ _ (of_check are) (is_passing p passing) (checks are)
 way_of words _ _ (are_compiled f p classes are passing has) = goes f _ _ (of_compile are) (is_passing p passing) (compiles p classes are passing has)
 way_of words _ _ (no_world f w frames p fault are passing answered some) =
@@ -228,10 +232,10 @@ compile_or_run words name other file frames a b = let e : codes "compile" ≡ co
 check_or_compile : {A : Type 0} (words : List (List ℕ)) (name other : List ℕ) → AreCheck words name → AreCompile words other → A
 check_or_compile words name other a b = let e : codes "check" ≡ codes "compile" = sym (ap command a.are) ∙ ap command b.are in absurd cc
 
-Same : (o p : Outcome) (fs gs : List FileText) → Type 0
+abbrev Same : (o p : Outcome) (fs gs : List FileText) → Type 0
 Same o p fs gs = (fs ≡ gs) × SameOutcome o p
 
-module _ (words : List (List ℕ)) (content : List ℕ → Content) (tells : TellsAll content) (f : FileText) (one : OneVerdict f.text) where
+module _ (judged_world : OneWorldVerdict) (words : List (List ℕ)) (content : List ℕ → Content) (tells : TellsAll content) (f : FileText) (one : OneVerdict f.text) where
   -- the two are runs of the same words
   same_world : (v w : FileText) (m n : Bool) → AreRun words f.name v.name m → AreRun words f.name w.name n → AreTexts content (v ∷ []) → AreTexts content (w ∷ []) → v ≡ w
   same_world v w m n a b s t =
@@ -258,14 +262,14 @@ module _ (words : List (List ℕ)) (content : List ℕ → Content) (tells : Tel
   behind_once _ _ _ _ (no_world_is v m d a i) (compiles q c b j k) s t = compile_or_run words f.name f.name v.name m b a
   behind_once _ _ _ _ (no_world_is v m d a i) (no_world_is w n e b j) s t =
       let x = same_world v w m n a b s t in
-      let y = refuses_once w.text d e (subst (λ (z : FileText). Refuses z.text d) x i) j in
+      let y = refuses_once judged_world w.text d e (subst (λ (z : FileText). Refuses z.text d) x i) j in
       (ap (λ z. z ∷ []) x, (ap (λ z. text_of (NoWorld z)) y, ap (λ z. status_of (NoWorld z)) y))
   behind_once _ _ _ _ (no_world_is v m d a i) (runs w r b j k l) s t =
-      let x = same_world v w m r.frames a b s t in never_refused w.text d r.world (subst (λ (z : FileText). Refuses z.text d) x i) l
+      let x = same_world v w m r.frames a b s t in never_refused judged_world w.text d r.world (subst (λ (z : FileText). Refuses z.text d) x i) l
   behind_once _ _ _ _ (runs v q a i h l) (checks b) s t = check_or_run words f.name f.name v.name q.frames b a
   behind_once _ _ _ _ (runs v q a i h l) (compiles p c b j k) s t = compile_or_run words f.name f.name v.name q.frames b a
   behind_once _ _ _ _ (runs v q a i h l) (no_world_is w n e b j) s t =
-      let x = same_world w v n q.frames b a t s in never_refused v.text e q.world (subst (λ (z : FileText). Refuses z.text e) x j) l
+      let x = same_world w v n q.frames b a t s in never_refused judged_world v.text e q.world (subst (λ (z : FileText). Refuses z.text e) x j) l
   behind_once _ _ _ _ (runs v q a i h l) (runs w r b j k m) s t =
       let x = same_world v w q.frames r.frames a b s t in
       let y = subst (λ (z : FileText). reading.ReadsWorld z.text (Ok q.world)) x l in (
@@ -273,13 +277,13 @@ module _ (words : List (List ℕ)) (content : List ℕ → Content) (tells : Tel
         record {
           program = one.program q.program.value r.program.value i.sound.typed.read j.sound.typed.read;
           classes = same_classes q.program.value r.program.value (raw_of q.classes) (raw_of r.classes) i j h k;
-          world = is_read w.text (Ok q.world) y (seen r.world) m.1 m.0;
+          world = world_once judged_world w.text (seen q.world) (seen r.world) y.1 m.1;
           frames = frames_once v w q.frames r.frames x a b;
         },
       )
 
-pub one_answer : ((text : List ℕ) → OneVerdict text) → OneAnswer
-one_answer one words content o p fs gs tells a s b t = by (way_of words o fs a) (way_of words p gs b) s t
+pub one_answer : ((text : List ℕ) → OneVerdict text) → OneWorldVerdict → OneAnswer
+one_answer one judged_world words content o p fs gs tells a s b t = by (way_of words o fs a) (way_of words p gs b) s t
   where
     stops_or_goes : (text : List ℕ) (v : Verdict) (x : told.Answered) {A : Type 0} → Judged text v → stopped v ≡ Some x → Judged text passes → A
     stops_or_goes text v x j e k = let n : stopped passes ≡ Some x = ap stopped (sym (judged_once text (one text) j k)) ∙ e in absurd cc
@@ -312,5 +316,5 @@ one_answer one words content o p fs gs tells a s b t = by (way_of words o fs a) 
         let e = judged_file f g a b s.0 t.0 in stops_or_goes g.text w y j k (subst (λ (z : FileText). Judged z.text passes) e i)
     by (goes f o rest a i h) (goes g q more b j k) s t =
         let e = judged_file f g a b s.0 t.0 in
-        let r = behind_once words content tells g (one g.text) o q rest more (subst (λ (z : FileText). Behind words z o rest) e h) k s.1 t.1 in
+        let r = behind_once judged_world words content tells g (one g.text) o q rest more (subst (λ (z : FileText). Behind words z o rest) e h) k s.1 t.1 in
         (ap₂ (λ z zs. z ∷ zs) e r.0, r.1)

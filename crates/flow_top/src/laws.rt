@@ -4,6 +4,7 @@ ghost use Rattle.flow_top.specs.Laws.{MissingProgram, MissingWorld};
 ghost use Rattle.flow_top.specs.OneAnswer.{OneAnswer};
 
 use flow_front::laws::one_verdict;
+use flow_worldfile::laws::one_verdict as one_world_verdict;
 
 /// Where the program that the words name is missing, there is a read fault or want of memory.
 pub fn missing_program()
@@ -20,4 +21,5 @@ pub fn one_answer()
     ensures { OneAnswer }
 {
     one_verdict();
+    one_world_verdict();
 }

@@ -5,11 +5,12 @@ use Rattle.std.specs.declared.option.Option.TheVariants.{None, Some}
 use Rattle.flow_tree.specs.declared.ty.Ident.{Ident}
 use Rattle.flow_tree.specs.declared.expr.Op.{Op}
 use Rattle.flow_tree.specs.Tree.{TypeTree, ExprTree, ExprTrees}
+use Rattle.flow_tree.specs.Body.{ChangeTree}
 use Rattle.flow_ast.specs.Typing.{with_type}
 use Rattle.flow_rules.specs.declared.rule.SemanticRule.{SemanticRule}
 use Rattle.flow_rules.specs.Least.{lesser}
-use Rattle.flow_rules.specs.Judged.{Setting, Need, Callee, placed, said, calls, calls_on, called, called_on, needs_of, field_form, of_field, operands, form, fault, faults}
-use Rattle.flow_rules.specs.Items.{path_form, path_fault, base_form, base_fault, ends_of, call_by_name, call_on, call_fault}
+use Rattle.flow_rules.specs.Judged.{Setting, Need, Callee, placed, said, calls, calls_on, called, called_on, needs_of, field_form, of_field, operands, form, fault, faults, wants}
+use Rattle.flow_rules.specs.Items.{path_form, path_fault, base_form, base_fault, ends_of, call_by_name, call_on, call_fault, target_form, target_fault, change_fault, modify_fault}
 use Rattle.flow_types.proofs.Steps.{path_step, fault_step}
 
 pub call_is : (s : Setting) (whole : Bool) (f : List ℕ) (es : ExprTrees) (c : Option Callee) (ns : List Need) (judged r : Option SemanticRule) → c ≡ called s f → ns ≡ needs_of c → judged ≡ faults s 0 ns es
@@ -25,6 +26,15 @@ method_is s t m es c ns b judged r e u ht hb hc hn hj hr =
     hr ∙ ap₂ (λ x j. lesser x (lesser j (calls_on t es c (placed s false)))) hb (hj ∙ ap (λ n. faults s 0 n es) hn)
     ∙ ap (λ k. lesser e (lesser (faults s 0 (needs_of k) es) (calls_on t es k (placed s false)))) hc
     ∙ ap (λ v. lesser e (lesser (faults s 0 (needs_of (called_on v m)) es) (calls_on v es (called_on v m) (placed s false)))) ht
+
+-- an operand of which a type is wanted
+pub wanted_is : (u : TypeTree) (a w r x : Option SemanticRule) (t v : Option TypeTree) → a ≡ x → t ≡ v → w ≡ wants t u → r ≡ lesser a w → r ≡ lesser x (wants v u)
+wanted_is u a w r x t v ha ht hw hr = hr ∙ ap₂ lesser ha (hw ∙ ap (λ o. wants o u) ht)
+
+-- a target that is changed
+pub modified_is : (s : Setting) (xs ys : List Ident) (d : ChangeTree) (t : Option TypeTree) (a b r : Option SemanticRule) → xs ≡ ys → t ≡ target_form s xs
+    → a ≡ target_fault s xs → b ≡ change_fault s t d → r ≡ lesser a b → r ≡ modify_fault s ys d
+modified_is s xs ys d t a b r e ht ha hb hr = hr ∙ ap₂ lesser ha (hb ∙ ap (λ o. change_fault s o d) ht) ∙ ap (λ l. modify_fault s l d) e
 
 pub sign_is : (op : Op) (a b r x y : Option SemanticRule) (t u v w : Option TypeTree) → a ≡ x → b ≡ y → t ≡ v → u ≡ w → r ≡ lesser (lesser a b) (operands op t u) → r ≡ lesser (lesser x y) (operands op v w)
 sign_is op a b r x y t u v w ha hb ht hu hr = hr ∙ ap₂ (λ m n. lesser (lesser m n) (operands op t u)) ha hb ∙ ap₂ (λ m n. lesser (lesser x y) (operands op m n)) ht hu

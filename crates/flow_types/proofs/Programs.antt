@@ -149,6 +149,14 @@ params_step s ps i p old own new total taken more lt at o n m h =
     ap₂ (λ a t. lesser a (params_fault s t rest)) (n ∙ ap (lesser old) o) m ∙ lesser_assoc old _ (params_fault s (with_name p.name.name taken) rest)
     ∙ ap (λ l. lesser old (params_fault s taken (params_of l))) (sym (drop_more ps i p lt at)) ∙ h
 
+-- what fails at a parameter doesn't hang on the variables in force
+abbrev judging : Bor TopNames → Bool → List (List ℕ × TypeTree) → Setting
+judging n plain vars = record { known = known_by n.now; holds = holds_by (flag_of n.now); vars = vars; plain = plain }
+
+pub any_variables : (n m : Bor TopNames) (a b : Bool) (us vs : List (List ℕ × TypeTree)) (taken : List ℕ → Bool) (p : ParamTree) → n ≡ m → a ≡ b
+    → param_fault (judging n a us) taken p ≡ param_fault (judging m b vs) taken p
+any_variables n m a b us vs taken p e f = ap₂ (λ x y. param_fault (judging x y us) taken p) e f
+
 pub params_end : (s : Setting) (ps : List Param) (i : ℕ) (old total : Option SemanticRule) (taken : List ℕ → Bool) → length ps ≤ i → lesser old (params_fault s taken (params_of (drop i ps))) ≡ total
     → old ≡ total
 params_end s ps i old total taken le h = sym (lesser_none old) ∙ ap (λ l. lesser old (params_fault s taken (params_of l))) (sym (drop_all ps i le)) ∙ h

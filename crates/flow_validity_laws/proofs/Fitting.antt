@@ -127,7 +127,8 @@ module _ (base : Setting) (ns : Names) (c : ClassTree) (few_slots : length c.slo
     pub caught : Caught base ns c agree vs s sees e.caught o
 
   -- a judgement in what is in force
-  pub at_item : (e : Env) (vs : List (List ℕ × TypeTree)) (at : Place) (f : Setting → Option SemanticRule) → e.setting ≡ over_names base c vs → item at (f e.setting) ≡ None → f (over_names base c vs) ≡ None
+  pub at_item : (e : Env) (vs : List (List ℕ × TypeTree)) (at : Place) (f : Setting → Option SemanticRule) → e.setting ≡ over_names base c vs → item at (f e.setting) ≡ None
+      → f (over_names base c vs) ≡ None
   at_item e vs at f k h = ap f (sym k) ∙ no_item at (f e.setting) h
 
   pub stands_states : (e : Env) (xs : List (List ℕ)) (vs : List (List ℕ × TypeTree)) (s : Scope) (o : Option (List ℕ)) → Stands e vs s o → Stands (with_states e xs) vs s o

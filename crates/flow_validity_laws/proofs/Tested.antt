@@ -100,7 +100,8 @@ types_well p h a k =
     (both (list_all (block_fits c (over_class base c)) c.blocks) _
     (both (block_fits c (over_class base c) (block_with None ch)) _ (block_fit base ns c k.small.slots k.small.locals agree None ch f) f.more) f.groups)
 
-all_hold : (a b c d e : Bool) → a ≡ true → b ≡ true → c ≡ true → d ≡ true → e ≡ true → first_broken ((rule.Names, a) ∷ (rule.Edges, b) ∷ (rule.Groups, c) ∷ (rule.Catchers, d) ∷ (rule.Types, e) ∷ []) ≡ None
+all_hold : (a b c d e : Bool) → a ≡ true → b ≡ true → c ≡ true → d ≡ true → e ≡ true
+    → first_broken ((rule.Names, a) ∷ (rule.Edges, b) ∷ (rule.Groups, c) ∷ (rule.Catchers, d) ∷ (rule.Types, e) ∷ []) ≡ None
 all_hold true true true true true f g h i j = refl
 all_hold false b c d e f g h i j = cc
 all_hold true false c d e f g h i j = cc

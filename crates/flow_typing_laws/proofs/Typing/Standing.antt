@@ -84,7 +84,8 @@ module _ (ds : List DeclTree) (plain : Bool) where
   }
 
   -- a rule at an item, in the words of the scope
-  pub at_item : (e : Env) (vars : List ParamTree) (at : Place) (f : Setting → Option SemanticRule) → e.setting ≡ setting_in ds plain vars → item at (f e.setting) ≡ None → f (setting_in ds plain vars) ≡ None
+  pub at_item : (e : Env) (vars : List ParamTree) (at : Place) (f : Setting → Option SemanticRule) → e.setting ≡ setting_in ds plain vars → item at (f e.setting) ≡ None
+      → f (setting_in ds plain vars) ≡ None
   at_item e vars at f k h = ap f (sym k) ∙ no_item at (f e.setting) h
 
   pub step_declares : (t : Body) → StepKind t → declared_in t ≡ []

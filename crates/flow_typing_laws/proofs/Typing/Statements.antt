@@ -232,7 +232,8 @@ module _ (ds : List DeclTree) (apart : Distinct ds) where
     many = ap (λ l. as_many es (map Exactly l)) d.4 ∙ holds (as_many es (map Exactly ts)) WrongCount (no_first (unless (as_many es (map Exactly ts)) WrongCount) None h);
   }
   declared_function vars x es (Some (ActorOf ts t)) d h =
-      absurd (some_none (no_second (not_here (at_function vars)) (Some LostValue) (no_second (unless (as_many es (map Exactly ts)) WrongCount) (lesser (not_here (at_function vars)) (Some LostValue)) h)))
+      absurd (some_none (no_second (not_here (at_function vars)) (Some LostValue)
+      (no_second (unless (as_many es (map Exactly ts)) WrongCount) (lesser (not_here (at_function vars)) (Some LostValue)) h)))
 
   name_function : (vars : List ParamTree) (x : List ℕ) (es : ExprTrees) (p : Option Predefined) → calls es (called_as (at_function vars) x p) (said (at_function vars)) ≡ None
       → IsFunction vars x es (called_as (at_function vars) x p)

@@ -15,5 +15,6 @@ pub record SameEnds (b : Body) : Type 0 where
 
 -- so they do of each body that fits in a function
 abbrev pub EndsAlike : Type 0
-EndsAlike = (rs : List RecordTree) (fs actors : List RoutineTree) (r : TypeTree) (b : Body) (loop : Bool) (c : Option (List ℕ)) (vars : List ParamTree)
-    → BodyFits rs fs actors r loop c vars b → SameEnds b
+EndsAlike =
+    (rs : List RecordTree) (fs actors : List RoutineTree) (r : TypeTree) (b : Body)
+    (loop : Bool) (c : Option (List ℕ)) (vars : List ParamTree) → BodyFits rs fs actors r loop c vars b → SameEnds b

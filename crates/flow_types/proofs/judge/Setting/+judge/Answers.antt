@@ -1,14 +1,14 @@
 use Rattle.std.proofs.Common.{false, ◌+◌, drop, sym, ap, ap₂, ◌∙◌}
 use Rattle.std.specs.Option.{option_map}
-use Rattle.flow_tree.specs.Tree.{MethodExpr}
+use Rattle.flow_tree.specs.Tree.{BoolType, IntType, MethodExpr}
 use Rattle.flow_tree.specs.View.{exprs_of, expr_of}
 use Rattle.flow_rules.specs.Least.{lesser}
 use Rattle.flow_rules.specs.Judged.{fault, form, faults, fits, calls, placed, called_on}
 use Rattle.flow_types.specs.View.{found_of, callee_of, needs_view}
 use Rattle.flow_types.specs.SettingView.{setting_view}
-use Rattle.flow_types.proofs.Calls.{call_is, method_is, sign_is}
+use Rattle.flow_types.proofs.Calls.{call_is, method_is, wanted_is, sign_is}
 use Rattle.flow_types.proofs.Steps.{args_step, args_end}
-use Rattle.flow_types.proofs.ExprKinds.{is_call, is_method, is_binary}
+use Rattle.flow_types.proofs.ExprKinds.{is_call, is_method, is_not, is_negative, is_binary}
 use Rattle.flow_types.proofs.judge.Setting.+judge.Goals as goal
 
 pub judge-returns-in-Call-clause-fault : goal.judge-returns-in-Call-clause-fault
@@ -41,6 +41,28 @@ judge_method-returns-clause-fault h c =
     c.method_judged.result.fault
     (fault s false e) (form s e) c.judge-base.ensures.form c.judge-base.ensures.fault
     (c.called_on-callee.ensures ∙ ap (called_on t) c.bytes.ensures.bytes) c.needs_of.ensures c.judge_args-judged.ensures c.method_judged.ensures.fault
+
+pub judge-returns-in-Not-clause-fault : goal.judge-returns-in-Not-clause-fault
+judge-returns-in-Not-clause-fault h c =
+    let s = setting_view c.args.self.now in
+    let e = expr_of c.in-Not.of.value in
+    wanted_is BoolType c.judge-of.result.fault c.wants.result c.lesser.result (fault s false e)
+    (option_map found_of c.judge-of.result.form) (form s e)
+    (c.judge-of.ensures.fault ∙ ap (λ x. fault s false (expr_of x)) c.deref-in-Not.ensures)
+    (c.judge-of.ensures.form ∙ ap (λ x. form s (expr_of x)) c.deref-in-Not.ensures)
+    c.wants.ensures c.lesser.ensures
+    ∙ sym (ap (fault s c.args.whole) (is_not c.args.expr.now c.in-Not.of c.in-Not.is))
+
+pub judge-returns-in-Neg-clause-fault : goal.judge-returns-in-Neg-clause-fault
+judge-returns-in-Neg-clause-fault h c =
+    let s = setting_view c.args.self.now in
+    let e = expr_of c.in-Neg.of.value in
+    wanted_is IntType c.judge-of-in-Neg.result.fault c.wants-in-Neg.result c.lesser-in-Neg.result (fault s false e)
+    (option_map found_of c.judge-of-in-Neg.result.form) (form s e)
+    (c.judge-of-in-Neg.ensures.fault ∙ ap (λ x. fault s false (expr_of x)) c.deref-in-Neg.ensures)
+    (c.judge-of-in-Neg.ensures.form ∙ ap (λ x. form s (expr_of x)) c.deref-in-Neg.ensures)
+    c.wants-in-Neg.ensures c.lesser-in-Neg.ensures
+    ∙ sym (ap (fault s c.args.whole) (is_negative c.args.expr.now c.in-Neg.of c.in-Neg.is))
 
 pub judge-returns-in-Binary-clause-fault : goal.judge-returns-in-Binary-clause-fault
 judge-returns-in-Binary-clause-fault h c =
