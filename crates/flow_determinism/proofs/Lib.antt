@@ -5,3 +5,5 @@ pub mod Whole
 pub mod Written
 pub mod Referred
 pub mod Ended
+pub mod Shown
+pub mod Derived
