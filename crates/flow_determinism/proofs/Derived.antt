@@ -1,20 +1,21 @@
 -- What tokens derive as classes is written as class text has classes.
-use Rattle.std.proofs.Common.{◌≡◌, ℕ, zero, suc, ◌+◌, ◌≤◌, ◌^◌, List, [], ◌∷◌, length, subst, arith}
+use Rattle.std.proofs.Common.{◌≡◌, ℕ, zero, suc, ◌+◌, ◌≤◌, ◌^◌, List, [], ◌∷◌, length, Bool, subst, arith}
 use Rattle.std.specs.List.{AllByRecursion}
 use Rattle.std.specs.Prelude.{slice_get}
 use Rattle.std.specs.declared.option.Option.TheVariants.{Some}
+use Rattle.flow_base.specs.declared.place.Place.{Place}
 use Rattle.flow_tree.specs.declared.ty.Ident.{Ident}
 use Rattle.flow_tree.specs.Body.{Body, AssignStmt, ModifyStmt, CallStmt, ForStmt}
 use Rattle.flow_tree.specs.Decls.{SlotTree, RecordTree, RoutineTree}
 use Rattle.flow_tree.specs.Tree.{TypeTree, ExprTree}
 use Rattle.flow_tree.specs.Formed.{IsPath, IsFormed}
 use Rattle.flow_tree.specs.GrammarToken.{Marked}
-use Rattle.flow_tree.specs.GrammarDecl.{routine, function_decl}
+use Rattle.flow_tree.specs.GrammarDecl.{RoutineRule, routine, function_decl}
 use Rattle.flow_tree.proofs.Folds.{each_follows}
 use Rattle.flow_tree.proofs.Formed.{stmts_formed}
 use Rattle.flow_class.specs.Classes.{InstrTree, BlockTree, CallbackTree, ClassTree, RawTree}
 use Rattle.flow_classprint.specs.ClassGrammar as grammar
-use Rattle.flow_classprint.specs.ClassGrammar.{IsNumber, VarPathRule, CalleeRule, InstrRule, InstrsRule, BlockRule, NumberedRule, GroupsRule, ClassRule, ClassesRule, HeadsRule, SlotRule, LocalRule}
+use Rattle.flow_classprint.specs.ClassGrammar.{IsNumber, VarPathRule, CalleeRule, AssignRule, InstrRule, InstrsRule, BlockRule, NumberedRule, GroupsRule, ClassRule, ClassesRule, FunctionRule, HeadsRule, TextRule, SlotRule, LocalRule}
 use Rattle.flow_valid.specs.Validity.{IsValid}
 use Rattle.flow_typing_laws.specs.ControlFlow.Laws.{IsSimpleFor}
 use Rattle.flow_typing_laws.specs.Typing.Paths.{IsNamed}
@@ -31,7 +32,7 @@ callee_written : {all : List Marked} {xs : List Ident} → CalleeRule all xs →
 callee_written (grammar.callee x) = tt
 callee_written (grammar.method r) = tt
 
-assign_written : {w : List ℕ} {all : List Marked} {xs : List Ident} {e : ExprTree} → grammar.AssignRule w all xs e → IsPath xs
+assign_written : {w : List ℕ} {all : List Marked} {xs : List Ident} {e : ExprTree} → AssignRule w all xs e → IsPath xs
 assign_written (grammar.assign p q r path value x e eq) = path_written x
 
 instr_written : {all : List Marked} {i : InstrTree} → InstrRule all i → HasPath i
@@ -53,17 +54,18 @@ blocks_written grammar.none = tt
 blocks_written (grammar.next first rest b bs eq) = (block_written b, blocks_written bs)
 
 -- things with numbers below 2^32 are so many at most
-counted : {A : Type 0} (rule : ℕ → List Marked → A → Type 0) → ({n : ℕ} {all : List Marked} {x : A} → rule n all x → IsNumber n)
+counted : {A : Type 0} (rule : ℕ → List Marked → A → Type 0) → ((n : ℕ) (all : List Marked) (x : A) → rule n all x → IsNumber n)
     → {n : ℕ} {all : List Marked} {xs : List A} → n ≤ 2 ^ 32 → NumberedRule rule n all xs → n + length xs ≤ 2 ^ 32
 counted rule small {n = n} h grammar.none = omega (arith, h)
-counted rule small {n = n} h (grammar.next {xs = xs} first rest x more eq) =
-    let later = counted rule small {n = suc n} (omega (arith, small x)) more in omega (arith, later)
+counted rule small {n = n} h (grammar.next {x = x} {xs = xs} first rest r more eq) =
+    let one = small n first x r in
+    let later = counted rule small {n = suc n} (omega (arith, one)) more in omega (arith, later)
 
-slot_counted : {n : ℕ} {all : List Marked} {s : SlotTree} → SlotRule n all s → IsNumber n
-slot_counted (grammar.slot p q r s of h t eq) = h
+slot_numbered : (n : ℕ) (all : List Marked) (s : SlotTree) → SlotRule n all s → IsNumber n
+slot_numbered n all _ (grammar.slot p q r s of h t eq) = h
 
-local_counted : {n : ℕ} {all : List Marked} {t : TypeTree} → LocalRule n all t → IsNumber n
-local_counted (grammar.local p q r of h t eq) = h
+local_numbered : (n : ℕ) (all : List Marked) (t : TypeTree) → LocalRule n all t → IsNumber n
+local_numbered n all _ (grammar.local p q r of h t eq) = h
 
 groups_written : {g k : ℕ} {all : List Marked} {gs : List (List CallbackTree)} → GroupsRule g k all gs → AllByRecursion HasCallback gs
 groups_written grammar.no_groups = tt
@@ -75,11 +77,11 @@ record IsWhole (c : ClassTree) : Type 0 where
   groups : AllByRecursion HasCallback c.groups
 
 class_written : {all : List Marked} {c : ClassTree} → ClassRule all c → IsWhole c
-class_written (grammar.class {ss = ss} {ls = ls} {b = b} {bs = bs} p q r s u v w of slots locals blocks groups t n ss' ls' bs' gs' eq) = record {
+class_written (grammar.class {b = b} {bs = bs} p q r s u v w of slots locals blocks groups t n ss' ls' bs' gs' eq) = record {
   written = record {
     begins = begins_there b.body b.last;
-    slots = omega (arith, counted SlotRule slot_counted {n = 0} (omega arith) ss');
-    locals = omega (arith, counted LocalRule local_counted {n = 0} (omega arith) ls');
+    slots = let few = counted SlotRule slot_numbered {n = 0} (omega arith) ss' in omega (arith, few);
+    locals = let few = counted LocalRule local_numbered {n = 0} (omega arith) ls' in omega (arith, few);
     paths = λ k m i e. blocks_pathed (b ∷ bs) k m i (blocks_written bs') e;
   };
   groups = groups_written gs';
@@ -100,9 +102,12 @@ named (ModifyStmt at xs c k) h = h
 named (CallStmt at xs es k) h = h
 named _ h = tt
 
-function_written : {all : List Marked} {f : RoutineTree} → grammar.FunctionRule all f → HasBody f
-function_written (grammar.function_rule {f = f} of (function_decl at w xs t (routine p q r close x params ys ps ss same) eq s)) =
-    let formed = stmts_formed ss in (each_follows IsFormed IsSimpleFor simple_for _ formed, each_follows IsFormed IsNamed named _ formed)
+routine_written : {actor : Bool} {at : Place} {t : TypeTree} {all : List Marked} {f : RoutineTree} → RoutineRule actor at t all f → HasBody f
+routine_written (routine {body = body} p q r close x params xs ps ss eq) =
+    let formed = stmts_formed ss in (each_follows IsFormed IsSimpleFor simple_for body formed, each_follows IsFormed IsNamed named body formed)
+
+function_written : {all : List Marked} {f : RoutineTree} → FunctionRule all f → HasBody f
+function_written (grammar.function_rule of (function_decl at w xs t r eq s)) = routine_written r
 
 heads_written : {all : List Marked} {rs : List RecordTree} {fs : List RoutineTree} → HeadsRule all rs fs → AllByRecursion HasBody fs
 heads_written grammar.no_heads = tt
@@ -118,7 +123,7 @@ at_number P (y ∷ ys) zero x h e = subst P (same e) h.0
     same q = cc
 at_number P (y ∷ ys) (suc k) x h e = at_number P ys k x h.1 e
 
-text_whole : {version : ℕ} {all : List Marked} (raw : RawTree) → grammar.TextRule version all raw → IsValid raw → AreWhole raw
+text_whole : {version : ℕ} {all : List Marked} (raw : RawTree) → TextRule version all raw → IsValid raw → AreWhole raw
 text_whole raw (grammar.text p q heads classes h cs eq) valid =
     let whole = classes_written cs in
     record {
