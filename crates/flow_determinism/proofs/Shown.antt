@@ -10,7 +10,7 @@ use Rattle.flow_meaning.specs.Process.{Engine, Spent}
 use Rattle.flow_meaning.specs.Requests.{Spot}
 use Rattle.flow_meaning.specs.Runs.{Runs, IsRun, before, after, lines_of}
 use Rattle.flow_meaning.specs.Runs as run
-use Rattle.flow_meaning.specs.World.{World, Begun, next_of, begun_by, at_start}
+use Rattle.flow_meaning.specs.World.{World, Begun, at_start}
 use Rattle.flow_meaning.proofs.BurstOnce.{two, same, burst_once}
 use Rattle.flow_compile_laws.specs.Frames.Framed.{seen_if, Shows, ends, spent, event, IsShown}
 use Rattle.flow_invariants.specs.Fitting.Laws.{OneTrace}

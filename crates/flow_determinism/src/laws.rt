@@ -1,6 +1,7 @@
 // Laws of the runs of sound programs.
 
-ghost use Rattle.flow_determinism.specs.Laws.{CompilesWritten, ClassesRun, SourcesRun, ClassesShowOne, SourcesShowOne, DerivedWhole, CompilesWhole, ProgramsKeep, ProgramsRest, SourcesReferred, SourcesEnd};
+ghost use Rattle.flow_determinism.specs.Laws.{CompilesWritten, ClassesRun, SourcesRun, CompilesWhole, ProgramsKeep, ProgramsRest, SourcesReferred, SourcesEnd};
+ghost use Rattle.flow_determinism.specs.Laws.{ClassesShowOne, SourcesShowOne, DerivedWhole};
 
 use flow_compile_laws::laws::traces::compile_preserves_traces;
 use flow_invariants::laws::fitting::valid_classes_have_one_trace;
