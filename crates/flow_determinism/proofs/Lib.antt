@@ -6,4 +6,3 @@ pub mod Written
 pub mod Referred
 pub mod Ended
 pub mod Shown
-pub mod Derived

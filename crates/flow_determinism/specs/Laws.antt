@@ -2,13 +2,9 @@
 use Rattle.std.specs.Prelude.{ℕ, Bool, List}
 use Rattle.std.specs.List.{AllByRecursion}
 use Rattle.flow_tree.specs.declared.decl.Program.{Program}
-use Rattle.flow_tree.specs.declared.limits.Limits.{Limits}
-use Rattle.flow_tree.specs.declared.token.Spot.{Spot}
 use Rattle.flow_tree.specs.DeclView.{program_of}
-use Rattle.flow_tree.specs.GrammarToken.{DerivesOf}
 use Rattle.flow_worldfile.specs.Worlds as file
 use Rattle.flow_class.specs.Classes.{RawTree}
-use Rattle.flow_classprint.specs.ClassGrammar.{TextRule}
 use Rattle.flow_compile_laws.specs.Frames.Framed.{SourceShown, ClassShown}
 use Rattle.flow_lower.specs.Compiled.{compiled}
 use Rattle.flow_front.specs.Verdict.{IsSound}
@@ -17,7 +13,6 @@ use Rattle.flow_meaning.specs.Items.{Actor}
 use Rattle.flow_meaning.specs.Runs.{SourceStates, SourceTrace, ClassTrace}
 use Rattle.flow_meaning.specs.Source.{source}
 use Rattle.flow_meaning.specs.World.{World}
-use Rattle.flow_valid.specs.Validity.{IsValid}
 use Rattle.flow_invariants.specs.Ended.{UnreferredEnd}
 use Rattle.flow_invariants.specs.Fitting.Laws.{AreValid, OneTrace}
 use Rattle.flow_invariants.specs.Unmarked.{AreWhole, StatesRest, StepsKeep}
@@ -50,12 +45,6 @@ abbrev pub SourcesShowOne : Type 0
 SourcesShowOne =
     (text : List ℕ) (program : Program) (with_frames : Bool) (w : file.World) → IsSound text program → file.IsInRange w
     → OneTrace (SourceShown with_frames (program_of program) w)
-
--- Valid classes that tokens derive are written as class text has classes, whatever its version and its limits are.
-abbrev pub DerivedWhole : Type 0
-DerivedWhole =
-    (limits : Limits) (version last : ℕ) (tokens : List Spot) (raw : RawTree) → DerivesOf limits (TextRule version) last tokens raw
-    → IsValid raw → AreWhole raw
 
 -- Each group of a program's classes has a callback, so they keep within an event what they have to, and no unfinished actor is
 -- marked at its end.

@@ -1,7 +1,7 @@
 // Laws of the runs of sound programs.
 
 ghost use Rattle.flow_determinism.specs.Laws.{CompilesWritten, ClassesRun, SourcesRun, CompilesWhole, ProgramsKeep, ProgramsRest, SourcesReferred, SourcesEnd};
-ghost use Rattle.flow_determinism.specs.Laws.{ClassesShowOne, SourcesShowOne, DerivedWhole};
+ghost use Rattle.flow_determinism.specs.Laws.{ClassesShowOne, SourcesShowOne};
 
 use flow_compile_laws::laws::traces::compile_preserves_traces;
 use flow_invariants::laws::fitting::valid_classes_have_one_trace;
@@ -34,12 +34,6 @@ pub fn one_list_of_lines_is_shown()
     accepted_programs_have_one_trace();
     valid_classes_have_one_trace();
 }
-
-/// Valid classes that class text derives are whole: each class has a block, the numbers of its places are below 2^64, no path is
-/// empty, functions are formed as the grammar has them, and each group has a callback.
-pub fn derived_classes_are_whole()
-    ensures { DerivedWhole }
-{}
 
 /// Each `choose` of such a program has a branch, so each group of its classes has a callback. So between two steps
 /// of an event its processes keep what they have to, and at each boundary of a run no unfinished actor is marked
