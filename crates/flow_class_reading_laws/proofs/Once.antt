@@ -1,5 +1,5 @@
 -- A text has one answer at most.
-use Rattle.std.proofs.Common.{◌≡◌, ℕ, zero, suc, ◌≤◌, ◌<◌, List, length, take, drop, Result, Ok, Err, refl, sym, ap, ap₂, ◌∙◌, subst, arith, ◌⊎◌, inl, inr}
+use Rattle.std.proofs.Common.{◌≡◌, ℕ, zero, suc, ◌≤◌, ◌<◌, List, [], ◌∷◌, length, take, drop, Ok, Err, refl, sym, ap, ap₂, ◌∙◌, subst, arith, ◌⊎◌, inl, inr}
 use Rattle.std.proofs.lemmas.List.{take-append-drop}
 use Rattle.std.specs.Prelude.{slice_get, unwrap_or}
 use Rattle.std.specs.Option.{option_map}
@@ -13,18 +13,16 @@ use Rattle.flow_tree.specs.GrammarToken.{Marked, KeepsOf, GoodOf}
 use Rattle.flow_tree.specs.GrammarAnswer.{place_at}
 use Rattle.flow_lex.proofs.Once.{reads_once}
 use Rattle.flow_parse.proofs.Spots.{spots_take}
-use Rattle.flow_class.specs.declared.class.RawClasses.{RawClasses}
 use Rattle.flow_class.specs.Classes.{ClassTree, RawTree}
 use Rattle.flow_class.specs.View.{raw_of}
 use Rattle.flow_classprint.specs.ClassGrammar.{TextRule}
 use Rattle.flow_valid.specs.declared.rule.ClassRule.{ClassRule}
 use Rattle.flow_valid.specs.Filling.{ReadsFilled, ReadsEmpty}
-use Rattle.flow_valid.specs.Validity.{broken_rule, number, IsSoundClass, IsValid, BreaksIn, tested, unfilled, Breaks, declaration, head, main, class}
-use Rattle.flow_classread.specs.declared.fault.ClassFault.{ClassFault}
+use Rattle.flow_valid.specs.Validity.{number, IsSoundClass, IsValid, BreaksIn, tested, unfilled, Breaks, declaration, head, main, class}
 use Rattle.flow_classread.specs.declared.fault.ClassFault.TheVariants.{Form, Invalid, TooLarge, OutOfMemory}
 use Rattle.flow_classread.specs.declared.read.TheConstants.{CLASS_BYTES}
-use Rattle.flow_classread.specs.ClassAnswer.{IsText, BeginsText, begun, whole, FailsIn, IsClassText, IsNoText, lexical, form, BreaksFirst, class_name, ClassAnswer}
-use Rattle.flow_class_reading_laws.specs.Laws.{told, OneAnswer}
+use Rattle.flow_classread.specs.ClassAnswer.{IsText, BeginsText, begun, whole, FailsIn, IsClassText, IsNoText, lexical, form, BreaksFirst, class_name}
+use Rattle.flow_class_reading_laws.specs.Laws.{OneAnswer}
 
 -- reads are filled or one is of an empty place
 filled_empty : (c : ClassTree) → ReadsFilled c → ReadsEmpty c → ⊥
@@ -165,7 +163,7 @@ neither_less a b f g = omega (arith, f, g)
 one_failure : (t u : Tokens) (m n : ℕ) → t.spots.items ≡ u.spots.items → t.end ≡ u.end → FailsIn t m → FailsIn u n → m ≡ n
 one_failure t u m n e q f g =
     let same = neither_less f.number g.number (λ lt. f.bad (begins_there t u (sym e) f.number (g.first f.number lt)))
-        (λ lt. g.bad (begins_there u t e g.number (f.first g.number lt))) in
+    (λ lt. g.bad (begins_there u t e g.number (f.first g.number lt))) in
     f.line_is ∙ ap (λ p. p.line) (place_there t u e q f.number ∙ ap (place_at u) same) ∙ sym g.line_is
 
 one_line : (bytes : List ℕ) (m n : ℕ) → IsNoText bytes m → IsNoText bytes n → m ≡ n

@@ -1,10 +1,10 @@
 -- What was written is read back.
-use Rattle.std.proofs.Common.{◌≡◌, ℕ, ◌≤◌, List, length, Result, Ok, Err, sym, ap, ◌∙◌, subst, arith}
+use Rattle.std.proofs.Common.{◌≡◌, ℕ, ◌≤◌, length, Result, Ok, Err, sym, ap, ◌∙◌, subst, arith}
 use Rattle.flow_class.specs.declared.class.RawClasses.{RawClasses}
 use Rattle.flow_class.specs.Classes.{RawTree}
 use Rattle.flow_class.specs.View.{raw_of}
 use Rattle.flow_classprint.specs.ClassText.{ClassText}
-use Rattle.flow_valid.specs.Validity.{IsValid, Breaks}
+use Rattle.flow_valid.specs.Validity.{IsValid}
 use Rattle.flow_meaning.specs.Placeless.{placeless_classes}
 use Rattle.flow_class_places_laws.specs.Laws.{AreReadBack}
 use Rattle.flow_class_places_laws.proofs.Validity.{breach_over}
