@@ -1,3 +1,5 @@
+pub mod Growing
+pub mod Parts
 pub mod Deeds
 pub mod Disks
 pub mod Events

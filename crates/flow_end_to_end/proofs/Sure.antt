@@ -1,22 +1,27 @@
--- No run in memory of the classes of a program goes astray.
-use Rattle.std.proofs.Common.{◌≡◌, ◌<◌, ◌⊎◌, inl, inr, ℕ, zero, suc, Bool, true, false, List, [], ◌∷◌, length, map, refl, sym, subst, ap, ◌∙◌, arith, if◌then◌else◌}
+-- A run in memory of the classes of a program that fails isn't stuck, and has told a first part of what is shown.
+use Rattle.std.proofs.Common.{◌≡◌, ◌<◌, ◌⊎◌, inl, inr, ℕ, zero, suc, Bool, true, false, List, [], ◌∷◌, ◌++◌, length, map, refl, sym, subst, ap, ◌∙◌, arith, if◌then◌else◌}
 use Rattle.std.proofs.lemmas.Bool.Decides.{nat_tests}
-use Rattle.std.specs.Prelude.{Result, nat_eq, slice_get, option_map, slice_index_or}
+use Rattle.std.specs.Prelude.{Result, Ok, IsSome, nat_eq, slice_get, option_map, slice_index_or}
 use Rattle.std.specs.declared.option.Option.{Option}
 use Rattle.std.specs.declared.option.Option.TheVariants.{None, Some}
 use Rattle.flow_base.specs.declared.fault.OutFault.{OutFault}
 use Rattle.flow_tree.specs.DeclView.{program_of}
 use Rattle.flow_trace.specs.declared.line.Line.{Line}
-use Rattle.flow_worldfile.specs.Worlds.{seen}
+use Rattle.flow_trace.specs.declared.line.Line.TheVariants as line
+use Rattle.flow_worldfile.specs.Worlds.{IsInRange, seen}
+use Rattle.flow_worldfile.specs.declared.world.World0.{World0}
 use Rattle.flow_class.specs.Classes.{ClassTree, RawTree}
 use Rattle.flow_class.specs.View.{raw_of, class_of}
 use Rattle.flow_class.specs.declared.class.Class.{Class}
+use Rattle.flow_class.specs.declared.class.RawClasses.{RawClasses}
 use Rattle.flow_code.specs.declared.program.Code.{Code}
 use Rattle.flow_meaning.specs.Frame.{Frame}
 use Rattle.flow_numbered.specs.Numbered.{Numbered, thing}
 use Rattle.flow_meaning.specs.Orderly.{Rising}
 use Rattle.flow_meaning.specs.Process.{Entry, Proc}
-use Rattle.flow_meaning.specs.Runs.{after}
+use Rattle.flow_meaning.specs.Runs.{after, lines_of}
+use Rattle.flow_meaning.specs.Class.{classes}
+use Rattle.flow_meaning.proofs.InOrder.{no_thing}
 use Rattle.flow_meaning.specs.Boundaries.{FramesIn}
 use Rattle.flow_meaning.specs.Deliver.{idle}
 use Rattle.flow_meaning.specs.Views.{Unfinished, Frames, frame_spot, unfinished}
@@ -34,17 +39,33 @@ use Rattle.flow_world.specs.Ending.{Seen}
 use Rattle.flow_world_refinement.specs.Order.Showing.{WorldRepresents}
 use Rattle.flow_world_refinement.proofs.Order.Started.{start_shown}
 use Rattle.flow_world.specs.Tracing.{RunsEvents}
-use Rattle.flow_world.specs.StuckTraces.{SomeNoClass, FramesStuck, FramesStuckIf, EventsStuck, event_stuck, frames_stuck}
+use Rattle.flow_world.specs.BreakingTraces.{SomeNoClass, FramesStuck, FramesStuckIf, FramesFail, EventsFail, event_fails, frames_fail, counted_out, no_memory, head_fails, events_fail, end_fails}
+use Rattle.flow_world.specs.BreakingEvents.{EventFails}
+use Rattle.flow_world.specs.FaultedLines.{Telling, tells}
+use Rattle.flow_world.specs.Around.{PutsPart, no_more, put_then}
+use Rattle.flow_world.specs.Happening.{EventDoes}
+use Rattle.flow_world.specs.Starting.{Starts}
+use Rattle.flow_world.specs.declared.event.Event.TheVariants as event
+use Rattle.flow_world.proofs.Putting.{part_more, part_all, puts_part}
+use Rattle.flow_machine.specs.declared.host.RunFault.{RunFault}
+use Rattle.flow_machine.specs.declared.host.RunFault.TheVariants.{Stuck}
 use Rattle.flow_world_refinement.specs.Invariants.{WorldInvariant}
 use Rattle.flow_world_refinement.specs.Effects.Quiescence.{Quiescent}
 use Rattle.flow_world_refinement.proofs.Effects.Settling.{settled_first}
 use Rattle.flow_world_refinement.proofs.Events.Whole.{happening}
-use Rattle.flow_end_to_end.specs.Events.{MemoryWorldInvariant}
-use Rattle.flow_end_to_end.proofs.Events.{event_sure}
+use Rattle.flow_end_to_end.specs.Events.{MemoryWorldInvariant, NextInPart}
+use Rattle.flow_end_to_end.proofs.Events.{not_stuck, memory_not_stuck, event_in_part}
 use Rattle.flow_end_to_end.proofs.Upheld.{upheld_starts, upheld_stays}
-use Rattle.flow_world_refinement.specs.Traces.Traced.{EventBegan, EventsFollow}
+use Rattle.flow_world_refinement.specs.Traces.Traced.{EventBegan, EventsFollow, KeepsOn, FramesShown}
 use Rattle.flow_world_refinement.proofs.Traces.Whole.{Went, went}
 use Rattle.flow_world_refinement.proofs.Traces.Codes.{code_stays}
+use Rattle.flow_world_refinement.proofs.Traces.Onwards.{goes_on}
+use Rattle.flow_world_refinement.proofs.Order.Next.{same_end, goes_on as goes_on_now}
+use Rattle.flow_compile_laws.specs.Frames.Framed.{ClassShown, seen_if, Shows, ends, spent, event}
+use Rattle.flow_compile_laws.proofs.Frames.Alike.{shown_of_classes}
+use Rattle.flow_compile_laws.proofs.Traces.{are_carried}
+use Rattle.flow_lowering_laws.proofs.Programs.Whole.{compiles_faithfully}
+use Rattle.flow_lower.specs.Compiled.{compiled}
 use Rattle.flow_world_refinement.specs.Views.Views.{told_frame}
 use Rattle.flow_world_refinement.specs.Views.Waiting.{WorldWaits}
 use Rattle.flow_world_refinement.proofs.Views.Traced.{Waits, events, keeps_on, frames}
@@ -52,8 +73,8 @@ use Rattle.flow_world_refinement.proofs.Views.Told.{world_told}
 use Rattle.flow_world_refinement.proofs.Views.Waiting.{start_waits}
 use Rattle.flow_determinism.proofs.Whole.{compiles_whole}
 use Rattle.flow_class_text_laws.proofs.Compiled.{compiled_few}
-use Rattle.flow_end_to_end.specs.Exact.{HaveFewPlaces, ClassesNeverStuck, ProgramNeverStuck}
-use Rattle.flow_end_to_end.proofs.Shown.{code_first}
+use Rattle.flow_end_to_end.specs.Exact.{HaveFewPlaces, ClassesFailInPart, ProgramFailsInPart}
+use Rattle.flow_end_to_end.proofs.Shown.{code_first, lines_shown, classes_shown}
 
 -- a class that is there by its text is there
 class_there : (cs : List Class) (r : RawTree) (k : ℕ) (c : ClassTree) → map class_of cs ≡ r.classes → slice_get r.classes k ≡ Some c → slice_get cs k ≡ None → ⊥
@@ -131,42 +152,122 @@ module _ {A : Type 0} (puts : A → Line → Result (Unit {0}) OutFault → A �
       let e = happening puts r w v m a b code s k.lasting h in
       record { event = event_began r m a b e.event; rests = e.rests; shows = e.shows }
 
-  pub classes_sure : ClassesNeverStuck puts
-  classes_sure c file with_frames a whole few range t = by_end t.events
-    where
-      r : RawTree
-      r = raw_of c
+-- what fails
+module _ {A : Type 0} (puts : A → Line → Result (Unit {0}) OutFault → A → Type 0) (c : RawClasses) (file : World0) (with_frames : Bool) (f : RunFault) (t : Telling A) (whole : AreWhole (raw_of c))
+    (few : HaveFewPlaces (raw_of c)) (range : IsInRange (seen file)) where
+  abbrev r : RawTree
+  r = raw_of c
 
-      Keeps : World Frame → Type 0
-      Keeps = Waits (Quiescent r) (MemoryWorldInvariant r) (IsProgram r)
+  abbrev Keeps : World Frame → Type 0
+  Keeps = Waits (Quiescent r) (MemoryWorldInvariant r) (IsProgram r)
 
-      first : WorldRepresents (Quiescent r) t.first (at_start (seen file))
-      first = start_shown (Quiescent r) c file t.first (settled_first r) t.starts
+  -- some of these lines were told
+  abbrev Part : Telling A → List Line → Type 0
+  Part a lines = PutsPart (tells puts) a lines t
 
-      Came : Seen → A → Type 0
-      Came v b = Went (Quiescent r) Keeps (IsProgram r) puts r with_frames (at_start (seen file)) t.headed v b
+  -- what is shown of the classes, after the first line
+  abbrev ShownFrom : World Frame → List Line → Type 0
+  ShownFrom m lines = Shows (classes r) frame_spot with_frames m lines
 
-      came : (v : Seen) (b : A) → RunsEvents puts with_frames t.first t.headed v b → Came v b
-      came v b goes =
-          went (Quiescent r) Keeps (IsProgram r) puts r with_frames (events (Quiescent r) (MemoryWorldInvariant r) (IsProgram r) puts r (events_follow r))
-          (keeps_on (Quiescent r) (MemoryWorldInvariant r) (IsProgram r) r (upheld_stays r whole.valid))
-          (frames (Quiescent r) (MemoryWorldInvariant r) (IsProgram r) with_frames r (λ q x s. (s.resting.shown.holds.shows, s.resting.sorted)) (λ m k. k.lasting.keeps.fits.count))
-          t.first v (at_start (seen file)) t.headed b (code_first c file whole few t.first t.starts) (ap raw_of t.starts.program) first
-          (upheld_starts r (seen file) range, start_waits (seen file)) goes
+  stays : KeepsOn (Quiescent r) (MemoryWorldInvariant r) (IsProgram r) r
+  stays = upheld_stays r whole.valid
 
-      by_frames : (frames_asked : Bool) (v : Seen) (m : World Frame) → raw_of v.code.program ≡ r → WorldRepresents (Quiescent r) v m → Keeps m → FramesStuckIf frames_asked v → ⊥
-      by_frames true v m text s k stuck = frames_there r whole v m (ap (λ (x : RawTree). x.classes) text) s k.0.lasting k.1 stuck
-      by_frames false v m text s k stuck = stuck
+  seen_frames : FramesShown (Quiescent r) Keeps (IsProgram r) with_frames r
+  seen_frames = frames (Quiescent r) (MemoryWorldInvariant r) (IsProgram r) with_frames r (λ q x s. (s.resting.shown.holds.shows, s.resting.sorted)) (λ m k. k.lasting.keeps.fits.count)
 
-      by_end : EventsStuck puts with_frames t.first t.headed → ⊥
-      by_end (event_stuck {v = v} {b = b} goes stuck) = let x = came v b goes in event_sure puts r v x.last b x.code x.shows x.keeps.0 stuck
-      by_end (frames_stuck {u = u} {v = v} {b = b} {c = d} goes does stuck) =
-          let x = came u b goes in
-          let shown = events_follow r u v x.last b d x.code x.shows x.keeps.0 does in
-          let kept = keeps_on (Quiescent r) (MemoryWorldInvariant r) (IsProgram r) r (upheld_stays r whole.valid) x.last shown.event.begun shown.event.left x.keeps shown.event.begins
-          shown.event.follows shown.rests in
-          by_frames with_frames v (after x.last shown.event.begun shown.event.left) (ap (λ (z : Code). raw_of z.program) (code_stays puts u v b d Rested does) ∙ x.text) shown.shows kept stuck
+  by_frames : (frames_asked : Bool) (v : Seen) (m : World Frame) → raw_of v.code.program ≡ r → WorldRepresents (Quiescent r) v m → Keeps m → FramesStuckIf frames_asked v → ⊥
+  by_frames true v m text s k stuck = frames_there r whole v m (ap (λ (x : RawTree). x.classes) text) s k.0.lasting k.1 stuck
+  by_frames false v m text s k stuck = stuck
 
-  pub program_sure : ProgramNeverStuck puts
-  program_sure text program c file with_frames a sound light has range t =
-      classes_sure c file with_frames a (subst AreWhole (sym has) (compiles_whole text program sound)) (subst HaveFewPlaces (sym has) (compiled_few text program sound light)) range t
+  module _ (first : Seen) (headed : Telling A) (starts : Starts c file first) where
+    abbrev Came : Seen → Telling A → Type 0
+    Came v b = Went (Quiescent r) Keeps (IsProgram r) (tells puts) r with_frames (at_start (seen file)) headed v b
+
+    came : (v : Seen) (b : Telling A) → RunsEvents (tells puts) with_frames first headed v b → Came v b
+    came v b goes =
+        went (Quiescent r) Keeps (IsProgram r) (tells puts) r with_frames (events (Quiescent r) (MemoryWorldInvariant r) (IsProgram r) (tells puts) r (events_follow (tells puts) r))
+        (keeps_on (Quiescent r) (MemoryWorldInvariant r) (IsProgram r) r stays) seen_frames
+        first v (at_start (seen file)) headed b (code_first c file whole few first starts) (ap raw_of starts.program) (start_shown (Quiescent r) c file first (settled_first r) starts)
+        (upheld_starts r (seen file) range, start_waits (seen file)) goes
+
+    -- the event that failed is the next one that is shown
+    next_part : (v : Seen) (b : Telling A) (m : World Frame) (lines : List Line) → WorldRepresents (Quiescent r) v m → EventFails puts v b f t → NextInPart (tells puts) r m b f t
+        → ShownFrom m lines → Part b lines
+    next_part v b m _ s fails next (ends last x) =
+        absurd (no_thing (sym (goes_on_now (Quiescent r) (tells puts) v v m b b s (subst IsSome (sym fails.comes) refl) fails.bound) ∙ x))
+    next_part v b m _ s fails next (spent g l i j o q) = part_more (tells puts) b t (lines_of g l) _ (next.1 g l j o)
+    next_part v b m _ s fails next (event g l i j o q runs) = part_more (tells puts) b t (lines_of g l) _ (next.1 g l j o)
+
+    -- so are frames that failed those that are shown after their event
+    frames_part : (u v : Seen) (b d : Telling A) (m : World Frame) (lines : List Line) → Keeps m → WorldRepresents (Quiescent r) u m → IsProgram r u.code → raw_of u.code.program ≡ r
+        → EventDoes (tells puts) event.Ran u b v d → FramesFail puts with_frames v d f t → ShownFrom m lines → (f ≡ Stuck → ⊥) × Part b lines
+    frames_part u v b d m lines k s code text does fails run =
+        let shown = events_follow (tells puts) r u v m b d code s k.0 does in
+        let begun = shown.event.begun in
+        let left = shown.event.left in
+        let next = after m begun left in
+        let kept = keeps_on (Quiescent r) (MemoryWorldInvariant r) (IsProgram r) r stays m begun left k shown.event.begins shown.event.follows shown.rests in
+        let same_text = ap (λ (z : Code). raw_of z.program) (code_stays (tells puts) u v b d Rested does) ∙ text in
+        let ongoing = (same_end (Quiescent r) (tells puts) u v m b d s).2 does in
+        let y = goes_on (classes r) frame_spot with_frames m begun left lines ongoing shown.event.begins shown.event.follows shown.rests run in
+        let views = seen_if (classes r) frame_spot with_frames next in
+        let part = subst (λ ls. PutsPart (tells puts) d ls t) (seen_frames v next same_text shown.shows kept) fails.part in (
+          λ e. by_frames with_frames v next same_text shown.shows kept (fails.stuck e),
+          subst (Part b) (sym y.1) (puts_part (tells puts) b d t (lines_of begun left) (views ++ y.0) shown.event.lines (part_more (tells puts) d t views y.0 part)),
+        )
+
+    abbrev Shown : Telling A → Type 0
+    Shown a = (lines : List Line) × ClassShown with_frames r (seen file) lines × Part a lines
+
+    -- some events ran, and then this failed
+    after_events : (a : Telling A) (v : Seen) (b : Telling A) → tells puts a line.Head (Ok tt) headed → (x : Came v b)
+        → ((lines : List Line) → ShownFrom x.last lines → (f ≡ Stuck → ⊥) × Part b lines) → (f ≡ Stuck → ⊥) × Shown a
+    after_events a v b head x fails =
+        let all = lines_shown c file with_frames whole range in
+        let rest = x.onwards all.0 all.1 in
+        let z = fails rest.0 rest.2 in (
+          z.0,
+          (
+            line.Head ∷ all.0,
+            record { rest = all.0; shows = all.1; with_head = refl },
+            put_then head (subst (Part headed) (sym rest.1) (puts_part (tells puts) headed b t x.lines rest.0 x.put z.1)),
+          ),
+        )
+
+    events_part : (a : Telling A) → tells puts a line.Head (Ok tt) headed → EventsFail puts with_frames first headed f t → (f ≡ Stuck → ⊥) × Shown a
+    events_part a head (event_fails {v = v} {b = b} goes fails) =
+        let x = came v b goes in
+        let next = event_in_part puts r v x.last b f t x.code x.shows x.keeps.0 fails in
+        after_events a v b head x (λ lines run. (next.0, next_part v b x.last lines x.shows fails next run))
+    events_part a head (frames_fail {u = u} {v = v} {b = b} {c = d} goes does fails) =
+        let x = came u b goes in after_events a u b head x (λ lines run. frames_part u v b d x.last lines x.keeps x.shows x.code x.text does fails run)
+    events_part a head (counted_out {v = v} {b = b} goes is same) =
+        let x = came v b goes in after_events a v b head x (λ lines run. (memory_not_stuck f is, subst (λ z. PutsPart (tells puts) b lines z) (sym same) no_more))
+
+module _ {A : Type 0} (puts : A → Line → Result (Unit {0}) OutFault → A → Type 0) where
+  pub classes_fail : ClassesFailInPart puts
+  classes_fail c file with_frames a f t whole few range (no_memory is same) =
+      let all = lines_shown c file with_frames whole range in (
+        memory_not_stuck f is,
+        (
+          line.Head ∷ all.0,
+          record { rest = all.0; shows = all.1; with_head = refl },
+          subst (PutsPart (tells puts) a (line.Head ∷ all.0)) (sym same) no_more,
+        ),
+      )
+  classes_fail c file with_frames a f t whole few range (head_fails fault is failed told) =
+      let all = lines_shown c file with_frames whole range in
+      (λ e. not_stuck fault (sym is ∙ e), (line.Head ∷ all.0, record { rest = all.0; shows = all.1; with_head = refl }, put_then told no_more))
+  classes_fail c file with_frames a f t whole few range (events_fail first headed starts head fails) =
+      events_part puts c file with_frames f t whole few range first headed starts a head fails
+  classes_fail c file with_frames a f t whole few range (end_fails fault e is failed traces) =
+      let x = classes_shown (tells puts) c file with_frames a t e whole few range traces in (λ stuck. not_stuck fault (sym is ∙ stuck), (x.0, x.1, part_all (tells puts) a t x.0 x.2))
+
+  pub program_fails : ProgramFailsInPart puts
+  program_fails text program c file with_frames a f t sound light has range fails =
+      let x = classes_fail c file with_frames a f t (subst AreWhole (sym has) (compiles_whole text program sound)) (subst HaveFewPlaces (sym has) (compiled_few text program sound light)) range fails in
+      let lines = x.1.0 in
+      let by_text = shown_of_classes (program_of program) (compiled (program_of program)) (are_carried program (compiles_faithfully text program sound.typed))
+      with_frames (seen file) lines
+      (subst (λ (r : RawTree). ClassShown with_frames r (seen file) lines) has x.1.1) in
+      (x.0, (lines, by_text, x.1.2))

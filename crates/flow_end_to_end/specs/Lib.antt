@@ -1,3 +1,4 @@
+pub mod Parts
 pub mod Actions
 pub mod Events
 pub mod Exact

@@ -1,7 +1,6 @@
 // Runs of classes and of programs.
 
-ghost use Rattle.flow_world.specs.FaultedLines.{tells};
-ghost use Rattle.flow_end_to_end.specs.Exact.{ClassesShown, ClassesNeverStuck, ProgramShown, ProgramInPart, ProgramNeverStuck};
+ghost use Rattle.flow_end_to_end.specs.Exact.{ClassesShown, ClassesFailInPart, ProgramShown, ProgramInPart, ProgramFailsInPart};
 
 use flow_trace::out::LineOut;
 
@@ -18,8 +17,9 @@ pub fn program_runs_are_exact<L: LineOut>()
     ensures part { ProgramInPart L.puts }
 {}
 
-/// No run in memory of valid classes goes astray, nor of a program's classes, whatever becomes of the lines that it puts.
-pub fn runs_are_never_stuck<L: LineOut>()
-    ensures classes { ClassesNeverStuck (tells L.puts) }
-    ensures programs { ProgramNeverStuck (tells L.puts) }
+/// A run in memory of valid classes, or of a program's classes, that fails isn't stuck; and what it put till then is a first part
+/// of what is shown: whatever failed, a put or for want of memory.
+pub fn failed_runs_are_exact<L: LineOut>()
+    ensures classes { ClassesFailInPart L.puts }
+    ensures programs { ProgramFailsInPart L.puts }
 {}

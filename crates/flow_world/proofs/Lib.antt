@@ -8,7 +8,7 @@ pub mod Listening
 pub mod Numbers
 pub mod MovedHosts
 pub mod MovedEvents
-pub mod MovedStuck
+pub mod MovedBreaking
 pub mod Happenings
 pub mod Putting
 pub mod Telling

@@ -1,14 +1,15 @@
 // Traces that go out as they are made.
 
-ghost use Rattle.std.specs.Prelude.{IfOk, IsErrOf};
+ghost use Rattle.std.specs.Prelude.{◌≡◌, ℕ, List, IfOk, IfErr, IsErrOf};
+ghost use Rattle.std.specs.declared.option.Option.{Option};
 ghost use Rattle.flow_trace.specs.Bytes.{Bytes};
 ghost use Rattle.flow_machine.specs.Cause.{RunCause};
-ghost use Rattle.flow_machine.specs.declared.host.RunFault.TheVariants.{Failed, Stuck};
+ghost use Rattle.flow_machine.specs.declared.host.RunFault.TheVariants.{Failed};
 ghost use Rattle.flow_worldfile.specs.Worlds.{IsInRange, seen};
-ghost use Rattle.flow_world.specs.FaultedLines.{tells, whole, failed};
+ghost use Rattle.flow_world.specs.FaultedLines.{Telling, tells, whole, failed};
 ghost use Rattle.flow_world.specs.Ends.{end_line};
 ghost use Rattle.flow_world.specs.Tracing.{Traces, TracesPart};
-ghost use Rattle.flow_world.specs.StuckTraces.{TraceStuck};
+ghost use Rattle.flow_world.specs.BreakingTraces.{TraceFails};
 ghost use Rattle.flow_world.specs.Written.{put_bytes};
 ghost use Rattle.flow_base.specs.Bytes.{Grows};
 ghost use Rattle.flow_trace.specs.Out.{GrowsTo};
@@ -42,8 +43,9 @@ pub fn write_trace<S: Sink>(
         (whole (S.seen out.old).written) ending (whole (S.seen out.new).written)) }
     ensures part { IsErrOf result Failed → TracesPart (tells put_bytes) with_frames classes world
         (whole (S.seen out.old).written) (failed (S.seen out.new).written) }
-    ensures stuck { IsErrOf result Stuck → TraceStuck (tells put_bytes) with_frames classes world
-        (whole (S.seen out.old).written) }
+    ensures fails { IfErr result (λ f. (t : Telling (Option (List ℕ)))
+        × (t.out ≡ (S.seen out.new).written)
+        × TraceFails put_bytes with_frames classes world (whole (S.seen out.old).written) f t) }
     ensures last { IfOk result (λ ending. GrowsTo
         (S.seen out.old).written (S.seen out.new).written (Bytes (end_line ending))) }
 {

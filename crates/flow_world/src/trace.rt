@@ -1,17 +1,17 @@
 // The trace of classes in a world.
 
-ghost use Rattle.std.specs.Prelude.{◌≡◌, false, IfOk, IsErrOf};
+ghost use Rattle.std.specs.Prelude.{◌≡◌, false, IfOk, IfErr, IsErrOf};
 ghost use Rattle.flow_machine.specs.Cause.{RunCause};
-ghost use Rattle.flow_machine.specs.declared.host.RunFault.TheVariants.{Failed, Stuck};
+ghost use Rattle.flow_machine.specs.declared.host.RunFault.TheVariants.{Failed};
 ghost use Rattle.flow_worldfile.specs.Worlds.{IsInRange, seen};
-ghost use Rattle.flow_world.specs.FaultedLines.{tells, whole, failed};
+ghost use Rattle.flow_world.specs.FaultedLines.{Telling, tells, whole, failed};
 ghost use Rattle.flow_class.specs.declared.class.RawClasses.{RawClasses};
 ghost use Rattle.flow_worldfile.specs.declared.world.World0.{World0 as File};
 ghost use Rattle.flow_world.specs.Starting.{Starts};
 ghost use Rattle.flow_world.specs.Worlds.{world_seen};
 ghost use Rattle.flow_world.specs.Ends.{PutLast, end_line};
 ghost use Rattle.flow_world.specs.Tracing.{RunsToEnd, GoesPart, Traces, TracesPart};
-ghost use Rattle.flow_world.specs.StuckTraces.{EventsStuck, TraceStuck};
+ghost use Rattle.flow_world.specs.BreakingTraces.{EventsFail, TraceFails};
 
 use crate::ending::Ending;
 use crate::frames::put_frames_if;
@@ -41,8 +41,8 @@ pub fn put_trace<L: LineOut>(
         (whole out.old) ending (whole out.new)) }
     ensures part { IsErrOf result Failed → TracesPart (tells L.puts) with_frames classes world
         (whole out.old) (failed out.new) }
-    ensures stuck { IsErrOf result Stuck → TraceStuck (tells L.puts) with_frames classes world
-        (whole out.old) }
+    ensures fails { IfErr result (λ f. (t : Telling L) × (t.out ≡ out.new)
+        × TraceFails L.puts with_frames classes world (whole out.old) f t) }
     ensures last { IfOk result (λ ending. PutLast L.puts (end_line ending) out.new) }
 {
     // What owns a world has few ways out, since all of the world is dropped at each.
@@ -68,9 +68,9 @@ fn put_lines<L: LineOut>(
     ensures part { IsErrOf result Failed → (classes : RawClasses) (file : File)
         → Starts classes file (world_seen world.old) → TracesPart (tells L.puts) with_frames classes
         file (whole out.old) (failed out.new) }
-    ensures stuck { IsErrOf result Stuck → (classes : RawClasses) (file : File)
-        → Starts classes file (world_seen world.old) → TraceStuck (tells L.puts) with_frames classes
-        file (whole out.old) }
+    ensures fails { IfErr result (λ f. (classes : RawClasses) (file : File)
+        → Starts classes file (world_seen world.old) → (t : Telling L) × (t.out ≡ out.new)
+        × TraceFails L.puts with_frames classes file (whole out.old) f t) }
     ensures last { IfOk result (λ ending. PutLast L.puts (end_line ending) out.new) }
 {
     put(out, Line::Head)?;
@@ -80,7 +80,8 @@ fn put_lines<L: LineOut>(
 }
 
 #[tactic(auto, using(flow_machine::proofs::Causes::cause_before))]
-/// Runs events up to the end of the run, or to one a line of which failed.
+/// Runs events up to the end of the run, or to one a line of which failed. `OutOfMemory` comes where there is no memory, and after
+/// 2^64 - 1 events, since no more are counted; a world's bound is lower.
 fn put_events<L: LineOut>(
     alloc: Global,
     world: &mut World,
@@ -92,8 +93,8 @@ fn put_events<L: LineOut>(
         (world_seen world.old) (whole out.old) ending (world_seen world.new) (whole out.new)) }
     ensures part { IsErrOf result Failed → GoesPart (tells L.puts) with_frames
         (world_seen world.old) (whole out.old) (failed out.new) }
-    ensures stuck { IsErrOf result Stuck → EventsStuck (tells L.puts) with_frames
-        (world_seen world.old) (whole out.old) }
+    ensures fails { IfErr result (λ f. (t : Telling L) × (t.out ≡ out.new)
+        × EventsFail L.puts with_frames (world_seen world.old) (whole out.old) f t) }
     ensures cause { RunCause (L.faults out.old) (L.faults out.new) result }
     ensures kept { L.kept out.new ≡ L.kept out.old }
 {

@@ -1,10 +1,11 @@
-use Rattle.std.proofs.Common.{rules, ◌≡◌, refl, subst, arith}
+use Rattle.std.proofs.Common.{rules, ◌≡◌, refl, sym, subst, arith}
 use Rattle.flow_world.specs.declared.event.Event.TheVariants.{Ran, Idle, BoundReached, Spent}
 use Rattle.flow_world.specs.Happening.{EventDoes}
-use Rattle.flow_world.specs.FaultedLines.{tells, whole}
+use Rattle.flow_world.specs.FaultedLines.{Telling, tells, whole}
 use Rattle.flow_world.specs.Worlds.{world_seen}
 use Rattle.flow_world.specs.Tracing.{no_event, one_more, some}
-use Rattle.flow_world.specs.StuckTraces.{event_stuck, frames_stuck}
+use Rattle.std.specs.Prelude.{Err, IfErr}
+use Rattle.flow_world.specs.BreakingTraces.{EventsFail, event_fails, frames_fail, counted_out}
 use Rattle.flow_world.proofs.Parts.{part_of_event}
 use Rattle.flow_world.proofs.trace.put_events.Goals as goal
 
@@ -69,12 +70,25 @@ returns-in_err-put_frames_if-in-Ran-clause-part g c = λ failed.
     (subst (λ e. EventDoes (tells g.L.LineOut.puts) e (world_seen c.events.world) (whole c.events.out) (world_seen c.event.new.self) (whole c.event.new.out)) is c.in_ok-event.ensures.does)
     (c.put_frames_if.ensures.part (search rules)))
 
-pub returns-in_err-event-clause-stuck : goal.returns-in_err-event-clause-stuck
-returns-in_err-event-clause-stuck g c = λ stuck. event_stuck c.events.invariant.goes (c.event.ensures.stuck (search rules))
+pub returns-in_err-event-clause-fails : goal.returns-in_err-event-clause-fails
+returns-in_err-event-clause-fails g c =
+    let is : c.from_residual.result ≡ Err c.in_err-event.field-0.0 = search rules in
+    let fails = c.in_err-event.ensures.fails in
+    subst (λ r. IfErr r (λ f. (t : Telling _) × (t.out ≡ c.event.new.out) × EventsFail g.L.LineOut.puts c.args.with_frames (world_seen c.args.world.now) (whole c.args.out.now) f t)) (sym is)
+    (fails.0, fails.1, event_fails c.events.invariant.goes fails.2)
 
-pub returns-in_err-put_frames_if-in-Ran-clause-stuck : goal.returns-in_err-put_frames_if-in-Ran-clause-stuck
-returns-in_err-put_frames_if-in-Ran-clause-stuck g c = λ stuck.
-    let is : c.in_ok-event.field-0 ≡ Ran = search rules in
-    frames_stuck c.events.invariant.goes
-    (subst (λ e. EventDoes (tells g.L.LineOut.puts) e (world_seen c.events.world) (whole c.events.out) (world_seen c.event.new.self) (whole c.event.new.out)) is c.in_ok-event.ensures.does)
-    (c.put_frames_if.ensures.stuck (search rules))
+pub returns-in_err-put_frames_if-in-Ran-clause-fails : goal.returns-in_err-put_frames_if-in-Ran-clause-fails
+returns-in_err-put_frames_if-in-Ran-clause-fails g c =
+    let is : c.from_residual-in_err-put_frames_if-in-Ran.result ≡ Err c.in_err-put_frames_if-in-Ran.field-0.0 = search rules in
+    let ran : c.in_ok-event.field-0 ≡ Ran = search rules in
+    let fails = c.in_err-put_frames_if-in-Ran.ensures.fails in
+    subst (λ r. IfErr r (λ f. (t : Telling _) × (t.out ≡ c.put_frames_if.new.out) × EventsFail g.L.LineOut.puts c.args.with_frames (world_seen c.args.world.now) (whole c.args.out.now) f t))
+    (sym is) (
+      fails.0,
+      fails.1,
+      frames_fail c.events.invariant.goes
+          (subst (λ e. EventDoes (tells g.L.LineOut.puts) e (world_seen c.events.world) (whole c.events.out) (world_seen c.event.new.self) (whole c.event.new.out)) ran c.in_ok-event.ensures.does) fails.2,
+    )
+
+pub returns-clause-fails : goal.returns-clause-fails
+returns-clause-fails g c = (whole c.events.out, refl, counted_out c.events.invariant.goes refl refl)

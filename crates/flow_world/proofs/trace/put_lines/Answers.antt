@@ -1,9 +1,14 @@
-use Rattle.std.proofs.Common.{rules, subst}
-use Rattle.std.specs.Prelude.{Ok, Err}
+use Rattle.std.proofs.Common.{rules, ◌≡◌, refl, sym, subst}
+use Rattle.std.specs.Prelude.{Ok, Err, IfErr}
 use Rattle.flow_base.specs.declared.fault.OutFault.TheVariants.{Failed}
-use Rattle.flow_world.specs.FaultedLines.{whole, failed}
+use Rattle.flow_world.specs.FaultedLines.{Telling, whole, failed}
 use Rattle.flow_world.specs.Worlds.{world_seen}
-use Rattle.flow_world.proofs.Telling.{whole_line, failed_line}
+use Rattle.flow_world.proofs.Telling.{whole_line, failed_line, failed_put}
+use Rattle.std.specs.declared.option.Option.TheVariants.{Some}
+use Rattle.flow_class.specs.declared.class.RawClasses.{RawClasses}
+use Rattle.flow_worldfile.specs.declared.world.World0.{World0}
+use Rattle.flow_world.specs.Starting.{Starts}
+use Rattle.flow_world.specs.BreakingTraces.{TraceFails, head_fails, events_fail, end_fails}
 use Rattle.flow_world.specs.Tracing.{no_event, begun, all}
 use Rattle.flow_world.proofs.Parts.{part_of_run}
 use Rattle.flow_world.proofs.trace.put_lines.Goals as goal
@@ -26,7 +31,7 @@ returns-in_err-put-clause-part g c = λ fails classes file starts. begun (record
   last = world_seen c.args.world.now;
   headed = failed c.put.new.out;
   starts = starts;
-  head = failed_line g.L.LineOut.puts _ _ _ (c.put.ensures.fails (search rules));
+  head = failed_line g.L.LineOut.puts _ _ _ (failed_put g.L.LineOut.puts _ _ _ c.put.result (search rules) c.put.ensures.fails);
   goes = no_event;
 })
 
@@ -44,14 +49,48 @@ returns-in_err-put-2-clause-part g c = λ fails classes file starts. all {e = c.
   starts = starts;
   head = whole_line g.L.LineOut.puts _ _ _ c.in_ok-put.ensures.puts;
   goes = c.in_ok-ending.ensures.goes;
-  ended = failed_line g.L.LineOut.puts _ _ _ (subst (λ l. g.L.LineOut.puts c.put_events.new.out l (Err Failed) c.put-2.new.out) c.line.ensures (c.put-2.ensures.fails (search rules)));
+  ended = failed_line g.L.LineOut.puts _ _ _ (subst (λ l. g.L.LineOut.puts c.put_events.new.out l (Err Failed) c.put-2.new.out) c.line.ensures (failed_put g.L.LineOut.puts _ _ _ c.put-2.result (search rules) c.put-2.ensures.fails));
 })
 
-pub returns-in_err-ending-clause-stuck : goal.returns-in_err-ending-clause-stuck
-returns-in_err-ending-clause-stuck g c = λ stuck classes file starts. record {
-  first = world_seen c.args.world.now;
-  headed = whole c.put.new.out;
-  starts = starts;
-  head = whole_line g.L.LineOut.puts _ _ _ c.in_ok-put.ensures.puts;
-  events = c.put_events.ensures.stuck (search rules);
-}
+pub returns-in_err-put-clause-fails : goal.returns-in_err-put-clause-fails
+returns-in_err-put-clause-fails g c =
+    let is : c.from_residual.result ≡ Err c.in_err-put.field-0.0 = search rules in
+    let fails = c.in_err-put.ensures.fails in
+    subst (λ r. IfErr r (λ f. (classes : RawClasses) (file : World0) → Starts classes file (world_seen c.args.world.now)
+    → (t : Telling _) × (t.out ≡ c.put.new.out) × TraceFails g.L.LineOut.puts c.args.with_frames classes file (whole c.args.out.now) f t)) (sym is)
+    (λ classes file starts. (record { out = c.put.new.out; fault = Some fails.fault }, refl, head_fails fails.fault fails.is refl (Err fails.fault, fails.put, refl)))
+
+pub returns-in_err-ending-clause-fails : goal.returns-in_err-ending-clause-fails
+returns-in_err-ending-clause-fails g c =
+    let is : c.from_residual-in_err-ending.result ≡ Err c.in_err-ending.field-0.0 = search rules in
+    let fails = c.in_err-ending.ensures.fails in
+    subst (λ r. IfErr r (λ f. (classes : RawClasses) (file : World0) → Starts classes file (world_seen c.args.world.now)
+    → (t : Telling _) × (t.out ≡ c.put_events.new.out) × TraceFails g.L.LineOut.puts c.args.with_frames classes file (whole c.args.out.now) f t)) (sym is)
+    (λ classes file starts. (
+      fails.0,
+      fails.1,
+      events_fail (world_seen c.args.world.now) (whole c.put.new.out) starts (whole_line g.L.LineOut.puts _ _ _ c.in_ok-put.ensures.puts) fails.2,
+    ))
+
+pub returns-in_err-put-2-clause-fails : goal.returns-in_err-put-2-clause-fails
+returns-in_err-put-2-clause-fails g c =
+    let is : c.from_residual-in_err-put-2.result ≡ Err c.in_err-put-2.field-0.0 = search rules in
+    let fails = c.in_err-put-2.ensures.fails in
+    let e = c.in_ok-ending.ending in
+    let last = subst (λ l. g.L.LineOut.puts c.put_events.new.out l (Err fails.fault) c.put-2.new.out) c.line.ensures fails.put in
+    subst (λ r. IfErr r (λ f. (classes : RawClasses) (file : World0) → Starts classes file (world_seen c.args.world.now)
+    → (t : Telling _) × (t.out ≡ c.put-2.new.out) × TraceFails g.L.LineOut.puts c.args.with_frames classes file (whole c.args.out.now) f t)) (sym is)
+    (λ classes file starts. (
+      record { out = c.put-2.new.out; fault = Some fails.fault },
+      refl,
+      end_fails fails.fault e fails.is refl (record {
+        first = world_seen c.args.world.now;
+        left = world_seen c.put_events.new.world;
+        headed = whole c.put.new.out;
+        before = whole c.put_events.new.out;
+        starts = starts;
+        head = whole_line g.L.LineOut.puts _ _ _ c.in_ok-put.ensures.puts;
+        goes = c.in_ok-ending.ensures.goes;
+        ended = (Err fails.fault, last, refl);
+      }),
+    ))
