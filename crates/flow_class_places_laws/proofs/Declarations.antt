@@ -8,7 +8,7 @@ use Rattle.flow_tree.specs.Decls.{ParamTree, RecordTree, RoutineTree, DeclTree, 
 use Rattle.flow_tree.specs.Canon.{placeless_param, placeless_record, placeless_routine, placeless_decl, placeless_body}
 use Rattle.flow_ast.specs.Typing.{is_there}
 use Rattle.flow_ast.specs.TypingNames.{named}
-use Rattle.flow_rules.specs.declared.rule.TheConstants.{UNKNOWN_NAME, TWICE, FALLS_OFF}
+use Rattle.flow_rules.specs.declared.rule.SemanticRule.TheVariants.{UnknownName, TakenName, FallsOff}
 use Rattle.flow_rules.specs.Least.{lesser, unless}
 use Rattle.flow_rules.specs.Known.{Meaning, RecordOf, FunctionOf, ActorOf, field_row, row_of, packet_row, known, type_known, holds}
 use Rattle.flow_rules.specs.Judged.{Setting}
@@ -44,7 +44,7 @@ fields_fault_aside : (before : List ℕ → Option Meaning) (taken : List ℕ �
     → fields_fault before taken (map placeless_param fs) ≡ fields_fault before taken fs
 fields_fault_aside before taken [] = refl
 fields_fault_aside before taken (f ∷ fs) =
-    ap (λ k. lesser (lesser (unless (type_known before f.ty) UNKNOWN_NAME) (unless (not (taken f.name.name)) TWICE)) k)
+    ap (λ k. lesser (lesser (unless (type_known before f.ty) UnknownName) (unless (not (taken f.name.name)) TakenName)) k)
     (fields_fault_aside before (with_name f.name.name taken) fs)
 
 params_fault_aside : (s : Setting) (taken : List ℕ → Bool) (ps : List ParamTree) → params_fault s taken (map placeless_param ps) ≡ params_fault s taken ps
@@ -61,7 +61,7 @@ routine_aside : (before : List ℕ → Option Meaning) (s : Setting) (f : Routin
 routine_aside before s f =
     or_same (item_same f.at (ap (λ k. lesser (name_fault before f.name.name) (lesser (written s f.returns) k)) (params_fault_aside s (λ x. false) f.params)))
     (or_same (record { same = ap (λ e. is_none (body_refusal e (placeless_body f.body))) (body_env_aside s f) ∙ (body_aside f.body (body_env s f)).same })
-    (item_same f.close (ap (λ (w : Ways). unless (not w.end) FALLS_OFF) (ways_aside f.body))))
+    (item_same f.close (ap (λ (w : Ways). unless (not w.end) FallsOff) (ways_aside f.body))))
 
 decl_aside : (all : Bool → Setting) (before : List ℕ → Option Meaning) (d : DeclTree) → Alike (decl_refusal all before (placeless_decl d)) (decl_refusal all before d)
 decl_aside all before (StructDecl r) =

@@ -6,7 +6,8 @@ use Rattle.std.specs.declared.option.Option.TheVariants.{None, Some}
 use Rattle.flow_tree.specs.Tree.{TypeTree, BoolType, IntType, ExprTree, ExprTrees, IntExpr, TextExpr, BoolExpr, VoidExpr, VarExpr, CallExpr, FieldExpr, MethodExpr, NotExpr, NegExpr, BinaryExpr, ParenExpr, NoExprs, MoreExprs}
 use Rattle.flow_tree.specs.Canon.{placeless_expr, placeless_exprs}
 use Rattle.flow_ast.specs.Typing.{with_type}
-use Rattle.flow_rules.specs.declared.rule.TheConstants.{WRONG_COUNT}
+use Rattle.flow_rules.specs.declared.rule.SemanticRule.{SemanticRule}
+use Rattle.flow_rules.specs.declared.rule.SemanticRule.TheVariants.{WrongCount}
 use Rattle.flow_rules.specs.Least.{lesser, unless}
 use Rattle.flow_rules.specs.Judged.{Setting, Need, Kind, Callee, called, called_on, needs_of, gives_of, field_form, sign_form, form, wants, fits, operands, placed, as_many, calls, calls_on, of_field, fault, faults, wanted}
 
@@ -16,11 +17,11 @@ as_many_aside NoExprs (n ∷ ns) = refl
 as_many_aside (MoreExprs e es) [] = refl
 as_many_aside (MoreExprs e es) (n ∷ ns) = as_many_aside es ns
 
-pub calls_aside : (es : ExprTrees) (c : Option Callee) (may : Kind → Option ℕ) → calls (placeless_exprs es) c may ≡ calls es c may
+pub calls_aside : (es : ExprTrees) (c : Option Callee) (may : Kind → Option SemanticRule) → calls (placeless_exprs es) c may ≡ calls es c may
 calls_aside es None may = refl
-calls_aside es (Some c) may = ap (λ b. lesser (unless b WRONG_COUNT) (may c.kind)) (as_many_aside es c.needs)
+calls_aside es (Some c) may = ap (λ b. lesser (unless b WrongCount) (may c.kind)) (as_many_aside es c.needs)
 
-calls_on_aside : (t : Option TypeTree) (es : ExprTrees) (c : Option Callee) (may : Kind → Option ℕ) → calls_on t (placeless_exprs es) c may ≡ calls_on t es c may
+calls_on_aside : (t : Option TypeTree) (es : ExprTrees) (c : Option Callee) (may : Kind → Option SemanticRule) → calls_on t (placeless_exprs es) c may ≡ calls_on t es c may
 calls_on_aside None es c may = refl
 calls_on_aside (Some t) es c may = calls_aside es c may
 

@@ -1,5 +1,5 @@
 -- Whether the expressions of a class fit doesn't depend on places, nor which rule is broken first.
-use Rattle.std.proofs.Common.{◌≡◌, ℕ, List, [], ◌∷◌, ◌++◌, Bool, true, false, ◌&&◌, map, refl, ap, ap₂, ◌∙◌}
+use Rattle.std.proofs.Common.{◌≡◌, List, [], ◌∷◌, ◌++◌, Bool, true, false, ◌&&◌, map, refl, ap, ap₂, ◌∙◌}
 use Rattle.std.specs.Prelude.{is_none}
 use Rattle.std.specs.List.{list_all}
 use Rattle.std.specs.declared.option.Option.{Option}
@@ -13,6 +13,8 @@ use Rattle.flow_rules.specs.Items.{assigned}
 use Rattle.flow_class.specs.declared.class.Slotted.{Slotted}
 use Rattle.flow_class.specs.Classes.{InstrTree, SetInstr, EffectInstr, NewInstr, ActInstr, DropInstr, LastTree, GotoLast, PassLast, TestLast, ChooseLast, ReturnLast, ThrowLast, BlockTree, CallbackTree, ClassTree, RawTree}
 use Rattle.flow_meaning.specs.Placeless.{placeless_instr, placeless_last, placeless_block, placeless_callback, placeless_class, placeless_classes}
+use Rattle.flow_valid.specs.declared.rule.ClassRule.{ClassRule}
+use Rattle.flow_valid.specs.declared.rule.ClassRule.TheVariants as rule
 use Rattle.flow_valid.specs.Named.{names_exist}
 use Rattle.flow_valid.specs.Validity.{leads_forward, groups_chosen, catchers_kept, slot_rows, local_rows, class_setting, is_effect, put_fault, is_promise, operand_type, has_type, instr_fits, last_fits, operand_fits, taken_type, callback_fits, block_fits, types_fit, first_broken, broken_rule}
 use Rattle.flow_class_places_laws.proofs.Parts.{list_all_over}
@@ -85,8 +87,8 @@ types_aside : (r : RawTree) (c : ClassTree) → types_fit (placeless_classes r) 
 types_aside r c = ap (λ s. fits (placeless_class c) s) (class_setting_aside r c) ∙ fits_aside c (class_setting r c)
 
 -- the first rule that a class breaks
-abbrev first_of : (names forward groups catchers types : Bool) → Option ℕ
-first_of n f g c t = first_broken ((3, n) ∷ (4, f) ∷ (5, g) ∷ (6, c) ∷ (7, t) ∷ [])
+abbrev first_of : (names forward groups catchers types : Bool) → Option ClassRule
+first_of n f g c t = first_broken ((rule.Names, n) ∷ (rule.Edges, f) ∷ (rule.Groups, g) ∷ (rule.Catchers, c) ∷ (rule.Types, t) ∷ [])
 
 pub rule_aside : (r : RawTree) (c : ClassTree) → broken_rule (placeless_classes r) (placeless_class c) ≡ broken_rule r c
 rule_aside r c =

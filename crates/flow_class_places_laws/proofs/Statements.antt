@@ -14,7 +14,8 @@ use Rattle.flow_ast.specs.Slots.{into_slots, waited_slots, stmt_slots, slots_lis
 use Rattle.flow_ast.specs.Leaving.{has_statement}
 use Rattle.flow_ast.specs.Typing.{is_there}
 use Rattle.flow_ast.specs.TypingNames.{named}
-use Rattle.flow_rules.specs.declared.rule.TheConstants.{UNKNOWN_NAME, WAIT_OUTSIDE}
+use Rattle.flow_rules.specs.declared.rule.SemanticRule.{SemanticRule}
+use Rattle.flow_rules.specs.declared.rule.SemanticRule.TheVariants.{UnknownName, WaitInFunction}
 use Rattle.flow_rules.specs.Least.{lesser, unless}
 use Rattle.flow_rules.specs.Judged.{Setting, faults, wanted, operands, of_field, field_form, variable_form, called, called_on, needs_of, calls, said}
 use Rattle.flow_rules.specs.Items.{Env, item, with_var, with_states, in_loop, in_catch, slot_names, behind, declared, waited, fresh, into_fault, value_fault, path_form, path_fault, target_form, target_fault, assigned, assign_fault, change_fault, ends_of, base_form, base_fault, call_on, call_fault, wait_type, maybe_into, wait_fault, maybe_test, throw_fault, declare_fault, modify_fault, started, body_refusal, branch_refusal}
@@ -40,7 +41,7 @@ module _ (s : Setting) where
 
   pub target_fault_aside : (xs : List Ident) → target_fault s (map placeless_ident xs) ≡ target_fault s xs
   target_fault_aside [] = refl
-  target_fault_aside (x ∷ xs) = ap (λ k. lesser (unless (is_there (named s.vars x.name)) UNKNOWN_NAME) k) (path_fault_aside (named s.vars x.name) xs)
+  target_fault_aside (x ∷ xs) = ap (λ k. lesser (unless (is_there (named s.vars x.name)) UnknownName) k) (path_fault_aside (named s.vars x.name) xs)
 
   base_form_aside : (xs : List Ident) → base_form s (map placeless_ident xs) ≡ base_form s xs
   base_form_aside [] = refl
@@ -48,7 +49,7 @@ module _ (s : Setting) where
 
   base_fault_aside : (xs : List Ident) → base_fault s (map placeless_ident xs) ≡ base_fault s xs
   base_fault_aside [] = refl
-  base_fault_aside (x ∷ xs) = ap (λ k. lesser (unless (is_there (variable_form s x.name)) UNKNOWN_NAME) k) (path_fault_aside (variable_form s x.name) xs)
+  base_fault_aside (x ∷ xs) = ap (λ k. lesser (unless (is_there (variable_form s x.name)) UnknownName) k) (path_fault_aside (variable_form s x.name) xs)
 
   ends_aside : (x : Ident) (xs : List Ident)
       → ends_of (placeless_ident x) (map placeless_ident xs) ≡ (map placeless_ident (ends_of x xs).0, placeless_ident (ends_of x xs).1)
@@ -108,7 +109,7 @@ module _ (s : Setting) where
 
   wait_aside : (states : List (List ℕ)) (w : WaitTree) → wait_fault s states (placeless_wait w) ≡ wait_fault s states w
   wait_aside states w =
-      ap₂ (λ k n. lesser k (lesser n (unless (not s.plain) WAIT_OUTSIDE))) (into_aside states w.into)
+      ap₂ (λ k n. lesser k (lesser n (unless (not s.plain) WaitInFunction))) (into_aside states w.into)
       (wanted_aside s true w.operand (wait_type w.next (option_map placeless_into w.into)) ∙ ap (λ t. wanted s true w.operand t) (type_aside w.next w.into))
     where
       type_aside : (next : Bool) (o : Option IntoTree) → wait_type next (option_map placeless_into o) ≡ wait_type next o
@@ -220,10 +221,10 @@ mutual
   branch_ways_aside (MoreBranches p w b bs) = ap₂ (λ v u. either v u) (ways_aside b) (branch_ways_aside bs)
 
 -- an item is refused as another is
-pub item_same : (q : Place) {f g : Option ℕ} → f ≡ g → Alike (item first_place f) (item q g)
+pub item_same : (q : Place) {f g : Option SemanticRule} → f ≡ g → Alike (item first_place f) (item q g)
 item_same q {f} {g} h = record { same = ap (λ k. is_none (item first_place k)) h ∙ at_any g }
   where
-    at_any : (k : Option ℕ) → is_none (item first_place k) ≡ is_none (item q k)
+    at_any : (k : Option SemanticRule) → is_none (item first_place k) ≡ is_none (item q k)
     at_any None = refl
     at_any (Some n) = refl
 

@@ -6,6 +6,7 @@ use Rattle.std.specs.declared.option.Option.{Option}
 use Rattle.std.specs.declared.option.Option.TheVariants.{Some}
 use Rattle.flow_class.specs.Classes.{ClassTree, RawTree}
 use Rattle.flow_meaning.specs.Placeless.{placeless_class, placeless_classes}
+use Rattle.flow_valid.specs.declared.rule.ClassRule.{ClassRule}
 use Rattle.flow_valid.specs.Heads.{declarations_kept, broken_head, has_main}
 use Rattle.flow_valid.specs.Validity.{broken_rule, IsSoundClass, BreaksIn, tested, unfilled, declaration, head, main, class}
 use Rattle.flow_class_places_laws.specs.Laws.{SoundnessAside, ValidityAside, BreachesAside}
@@ -20,7 +21,7 @@ rule_same a b c d e k = sym (rule_aside b d) ∙ ap₂ (λ r z. broken_rule r z)
 pub sound_over : SoundnessAside
 sound_over a b c d e k h = record { tested = rule_same a b c d e k ∙ h.tested; filled = filled_over c d k h.filled }
 
-breaks_over : (a b : RawTree) (c d : ClassTree) (rule : ℕ) → placeless_classes a ≡ placeless_classes b → placeless_class c ≡ placeless_class d → BreaksIn a c rule → BreaksIn b d rule
+breaks_over : (a b : RawTree) (c d : ClassTree) (rule : ClassRule) → placeless_classes a ≡ placeless_classes b → placeless_class c ≡ placeless_class d → BreaksIn a c rule → BreaksIn b d rule
 breaks_over a b c d rule e k (tested h) = tested (rule_same a b c d e k ∙ h)
 breaks_over a b c d rule e k (unfilled h w) = unfilled (rule_same a b c d e k ∙ h) (empty_over c d k w)
 
@@ -59,7 +60,7 @@ pub breach_over : BreachesAside
 breach_over a b rule at e (declaration h) = declaration (kept_there a b e h)
 breach_over a b rule at e (head k h) = head (kept_there a b e k) (head_there a b e h)
 breach_over a b rule at e (main k h m) = main (kept_there a b e k) (head_there a b e h) (main_there a b e m)
-breach_over a b rule at e (class {i} c k h m sound there broken) =
+breach_over a b rule at e (class {i} {k} c q h m sound there broken) =
     let d = class_there a b e i c there in
-    class d.0 (kept_there a b e k) (head_there a b e h) (main_there a b e m)
-    (λ j x less at. sound_there a b e j (λ y k. sound j y less k) x at) d.1 (breaks_over a b c d.0 rule e (sym d.2) broken)
+    class d.0 (kept_there a b e q) (head_there a b e h) (main_there a b e m)
+    (λ j x less at. sound_there a b e j (λ y z. sound j y less z) x at) d.1 (breaks_over a b c d.0 k e (sym d.2) broken)

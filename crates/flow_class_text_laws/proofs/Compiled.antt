@@ -18,8 +18,7 @@ use Rattle.flow_meaning.specs.Source.{names_of, actors_in}
 use Rattle.flow_rules.specs.Known.{row_of, known}
 use Rattle.flow_rules.specs.Rules.{setting_of, decls_refusal}
 use Rattle.flow_valid.specs.Heads.{plain_decls, all_decls, declarations_kept, head_of}
-use Rattle.flow_valid.specs.Named.{names_exist}
-use Rattle.flow_valid.specs.Validity.{leads_forward, groups_chosen, catchers_kept, types_fit, first_broken, broken_rule}
+use Rattle.flow_valid.specs.Validity.{broken_rule}
 use Rattle.flow_split.specs.Around.{whole}
 use Rattle.flow_split.specs.Counts.{stmt_groups_counted, groups_counted, groups_in}
 use Rattle.flow_split.specs.Weight.{weight, stmt_weight, weights_counted, body_weight}
@@ -34,6 +33,7 @@ use Rattle.flow_front.specs.Verdict.{IsSound}
 use Rattle.flow_lowering_laws.proofs.Programs.Grammar.{slots_count}
 use Rattle.flow_lowering_laws.proofs.Programs.Whole.{EachActor, Formed, decls_formed, program_decls, as_many}
 use Rattle.flow_validity_laws.proofs.Filled.{all_valid}
+use Rattle.flow_valid.proofs.ClassRules.{sound_of}
 use Rattle.flow_classprint.specs.ClassGrammar.{IsWritten}
 use Rattle.flow_class_text_laws.specs.Laws.{AreLight, CompilesFew}
 use Rattle.flow_class_text_laws.proofs.Writable.{ClassWritable}
@@ -100,20 +100,6 @@ class_said ns a n le formed h =
       groups = c.groups;
     }
 
--- the first rules of a class hold
-holds : (k : ℕ) (b : Bool) (rest : List (ℕ × Bool)) → first_broken ((k, b) ∷ rest) ≡ None → (b ≡ true) × (first_broken rest ≡ None)
-holds k true rest h = (refl, h)
-holds k false rest h = absurd (some_none h)
-
-named_and_typed : (r : RawTree) (c : ClassTree) → broken_rule r c ≡ None → (names_exist c ≡ true) × (types_fit r c ≡ true)
-named_and_typed r c h =
-    let last = (7, types_fit r c) ∷ [] in
-    let a = holds 3 (names_exist c) ((4, leads_forward c) ∷ (5, groups_chosen c) ∷ (6, catchers_kept c) ∷ last) h in
-    let b = holds 4 (leads_forward c) ((5, groups_chosen c) ∷ (6, catchers_kept c) ∷ last) a.1 in
-    let d = holds 5 (groups_chosen c) ((6, catchers_kept c) ∷ last) b.1 in
-    let e = holds 6 (catchers_kept c) last d.1 in
-    (a.0, (holds 7 (types_fit r c) [] e.1).0)
-
 -- sizes of the records that are known in the classes
 heads_plain : (cs : List ClassTree) → AllByRecursion (λ d. NoRecord (row_of d).1) (map head_of cs)
 heads_plain [] = tt
@@ -139,8 +125,8 @@ module _ (r : RawTree) (ns : Names) (n : ℕ) (le : n ≤ TOKENS) (sized : AllSi
   classes_writable (FunctionDecl q ∷ ds) h f l k = classes_writable ds h.1 f l k
   classes_writable (ActorDecl a ∷ ds) h f l k =
       let c = class_in ns a in
-      let t = named_and_typed r c k.0 in
-      (class_writable r c (class_few ns a n le f.0 l.0) sized t.0 t.1 (class_said ns a n le f.0 h.0), classes_writable ds h.1 f.1 l.1 k.1)
+      let t = sound_of r c k.0 in
+      (class_writable r c (class_few ns a n le f.0 l.0) sized t.names t.types (class_said ns a n le f.0 h.0), classes_writable ds h.1 f.1 l.1 k.1)
 
 -- the few places of a class
 places_few : (ns : Names) (a : RoutineTree) (n : ℕ) → n ≤ TOKENS → Formed n a → let c = class_in ns a in length c.slots + length c.locals ≤ 2 ^ 32

@@ -24,10 +24,11 @@ use Rattle.flow_class.specs.Classes.{CatcherTree, InstrTree, SetInstr, EffectIns
 use Rattle.flow_rules.specs.Known.{known}
 use Rattle.flow_rules.specs.Judged.{Setting, variable_as, variable_form, fault, form}
 use Rattle.flow_rules.specs.Items.{path_fault, target_form, target_fault, assigned, base_fault, ends_of, call_fault}
+use Rattle.flow_rules.proofs.Lesser.{no_first, holds}
 use Rattle.flow_valid.specs.Heads.{all_decls}
 use Rattle.flow_valid.specs.Named.{listed, expr_places, instr_places, has_place, has_block, has_catcher, has_group, has_last, has_named, has_operand, names_exist}
 use Rattle.flow_valid.specs.Validity.{slot_rows, local_rows, class_setting, put_fault, is_effect, instr_fits, last_fits, block_fits, types_fit}
-use Rattle.flow_typing_laws.proofs.Typing.Names.{none_some, there, no_first, holds, bytes_same}
+use Rattle.flow_typing_laws.proofs.Typing.Names.{none_some, there, bytes_same}
 use Rattle.flow_classprint.specs.ClassGrammar.{IsNumber, IsPlace, IsSpelled, var_path, callee, method}
 use Rattle.flow_class_text_laws.proofs.Writable.{PathWritable, CalleeWritable, AreNumbers, SomeNumbers, InstrWritable, LastWritable, IsMaybeNumber, IsMaybePlace, CatchWritable, BlockWritable, CallbackWritable, GroupWritable, SlotWritable, TypeWritable, SomeBlocks, FewFrom, all_callbacks, ClassWritable}
 use Rattle.flow_class_text_laws.proofs.Names.{place_again}

@@ -19,8 +19,9 @@ use Rattle.flow_rules.specs.Known.{Meaning, RecordOf, FunctionOf, ActorOf, field
 use Rattle.flow_rules.specs.Judged.{Setting, field_of, field_form, of_field}
 use Rattle.flow_rules.specs.Items.{path_fault, target_fault}
 use Rattle.flow_rules.specs.Rules.{name_fault, with_name, fields_fault, record_fault, decl_refusal, decls_refusal, Size, packet_size, or_leaf, type_size, fields_size, record_size, too_large, large_record, with_size, first_large}
-use Rattle.flow_typing_laws.proofs.Typing.Names.{some_none, none_some, some_same, Held, there, no_first, no_second, holds}
-use Rattle.flow_typing_laws.proofs.Typing.Agreement.{neither_first, neither_second, no_item}
+use Rattle.flow_rules.proofs.Lesser.{no_first, no_second, holds, no_item}
+use Rattle.flow_typing_laws.proofs.Typing.Names.{some_none, none_some, some_same, Held, there}
+use Rattle.flow_typing_laws.proofs.Typing.Agreement.{neither_first, neither_second}
 
 -- names in two tables
 pub data Where {A : Type 0} (xs ys : List (List ℕ × A)) (x : List ℕ) (a : A) : Type 0 where

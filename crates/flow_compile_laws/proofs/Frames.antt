@@ -1,3 +1,2 @@
 pub mod Traces
 pub mod Alike
-pub mod Example

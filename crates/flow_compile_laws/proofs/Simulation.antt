@@ -18,4 +18,3 @@ pub mod Given
 pub mod Fresh
 pub mod Follows
 pub mod Law
-pub mod Example

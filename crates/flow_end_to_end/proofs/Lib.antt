@@ -1,3 +1,4 @@
+pub mod Cut
 pub mod Growing
 pub mod Parts
 pub mod Deeds

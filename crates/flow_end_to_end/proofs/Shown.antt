@@ -51,14 +51,14 @@ code_first c file whole few w s = record {
 }
 
 -- and its run begins as boundaries want it
-begins : (c : RawClasses) (file : World0) → AreWhole (raw_of c) → HaveFewPlaces (raw_of c) → IsInRange (seen file)
+pub begins : (c : RawClasses) (file : World0) → AreWhole (raw_of c) → HaveFewPlaces (raw_of c) → IsInRange (seen file)
     → BoundaryBegins (Quiescent (raw_of c)) (WorldInvariant (raw_of c)) (IsProgram (raw_of c)) c file
 begins c file whole few range =
     let r = raw_of c in
     record { fresh = settled_first r; code = code_first c file whole few; keeps = lasting_starts r (seen file) range; keeps_on = lasting_stays r whole.valid }
 
 -- whoever runs shows something: the lines of the run, with what is seen after each event where it is asked for
-shown_by : {A : Type 0} (e : Engine A) (spot : A → Spot) (with_frames : Bool) (w : World A) (states : List (World A)) (lines : List Line) → Runs e w states lines
+pub shown_by : {A : Type 0} (e : Engine A) (spot : A → Spot) (with_frames : Bool) (w : World A) (states : List (World A)) (lines : List Line) → Runs e w states lines
     → (shown : List Line) × Shows e spot with_frames w shown
 shown_by e spot with_frames w _ _ (run.ends last g) = (last ∷ [], ends last g)
 shown_by e spot with_frames w _ _ (run.spent b l g k n h) = (lines_of b l ++ line.EndSpent ∷ [], spent b l g k n h)

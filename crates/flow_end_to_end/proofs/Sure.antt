@@ -1,4 +1,4 @@
--- A run in memory of the classes of a program that fails isn't stuck, and has told a first part of what is shown.
+-- In a run in memory of valid classes no frame that is told is of no class, and each event follows, whatever else a world keeps.
 use Rattle.std.proofs.Common.{◌≡◌, ◌<◌, ◌⊎◌, inl, inr, ℕ, zero, suc, Bool, true, false, List, [], ◌∷◌, ◌++◌, length, map, refl, sym, subst, ap, ◌∙◌, arith, if◌then◌else◌}
 use Rattle.std.proofs.lemmas.Bool.Decides.{nat_tests}
 use Rattle.std.specs.Prelude.{Result, Ok, IsSome, nat_eq, slice_get, option_map, slice_index_or}
@@ -140,134 +140,19 @@ module _ (r : RawTree) (whole : AreWhole r) where
       by_place (inl (lt, is)) t = process_there w m same k p.0 (subst (λ n. p.0 < n) k.keeps.fits.count lt) (subst (λ fs. SomeNoClass cs (map told_frame fs)) is t)
       by_place (inr none) t = subst (λ fs. SomeNoClass cs (map told_frame fs)) none t
 
+  pub frames_if_there : (frames_asked : Bool) (w : Seen) (m : World Frame) → raw_of w.code.program ≡ r → WorldRepresents (Quiescent r) w m → WorldInvariant r m → WorldWaits m
+      → FramesStuckIf frames_asked w → ⊥
+  frames_if_there true w m text s k waits stuck = frames_there w m (ap (λ (x : RawTree). x.classes) text) s k waits stuck
+  frames_if_there false w m text s k waits stuck = stuck
+
 module _ {A : Type 0} (puts : A → Line → Result (Unit {0}) OutFault → A → Type 0) where
   -- each event follows, whatever else a world keeps
   event_began : (r : RawTree) (m : World Frame) (a b : A) → EventBegan (Quiescent r) (WorldInvariant r) (IsProgram r) puts r m a b
       → EventBegan (Quiescent r) (MemoryWorldInvariant r) (IsProgram r) puts r m a b
   event_began r m a b e = record { begun = e.begun; left = e.left; begins = e.begins; follows = e.follows; lines = e.lines }
 
-  events_follow : (r : RawTree) → EventsFollow (Quiescent r) (MemoryWorldInvariant r) (IsProgram r) puts r
+  pub events_follow : (r : RawTree) → EventsFollow (Quiescent r) (MemoryWorldInvariant r) (IsProgram r) puts r
   unfolding event_began
   events_follow r w v m a b code s k h =
       let e = happening puts r w v m a b code s k.lasting h in
       record { event = event_began r m a b e.event; rests = e.rests; shows = e.shows }
-
--- what fails
-module _ {A : Type 0} (puts : A → Line → Result (Unit {0}) OutFault → A → Type 0) (c : RawClasses) (file : World0) (with_frames : Bool) (f : RunFault) (t : Telling A) (whole : AreWhole (raw_of c))
-    (few : HaveFewPlaces (raw_of c)) (range : IsInRange (seen file)) where
-  abbrev r : RawTree
-  r = raw_of c
-
-  abbrev Keeps : World Frame → Type 0
-  Keeps = Waits (Quiescent r) (MemoryWorldInvariant r) (IsProgram r)
-
-  -- some of these lines were told
-  abbrev Part : Telling A → List Line → Type 0
-  Part a lines = PutsPart (tells puts) a lines t
-
-  -- what is shown of the classes, after the first line
-  abbrev ShownFrom : World Frame → List Line → Type 0
-  ShownFrom m lines = Shows (classes r) frame_spot with_frames m lines
-
-  stays : KeepsOn (Quiescent r) (MemoryWorldInvariant r) (IsProgram r) r
-  stays = upheld_stays r whole.valid
-
-  seen_frames : FramesShown (Quiescent r) Keeps (IsProgram r) with_frames r
-  seen_frames = frames (Quiescent r) (MemoryWorldInvariant r) (IsProgram r) with_frames r (λ q x s. (s.resting.shown.holds.shows, s.resting.sorted)) (λ m k. k.lasting.keeps.fits.count)
-
-  by_frames : (frames_asked : Bool) (v : Seen) (m : World Frame) → raw_of v.code.program ≡ r → WorldRepresents (Quiescent r) v m → Keeps m → FramesStuckIf frames_asked v → ⊥
-  by_frames true v m text s k stuck = frames_there r whole v m (ap (λ (x : RawTree). x.classes) text) s k.0.lasting k.1 stuck
-  by_frames false v m text s k stuck = stuck
-
-  module _ (first : Seen) (headed : Telling A) (starts : Starts c file first) where
-    abbrev Came : Seen → Telling A → Type 0
-    Came v b = Went (Quiescent r) Keeps (IsProgram r) (tells puts) r with_frames (at_start (seen file)) headed v b
-
-    came : (v : Seen) (b : Telling A) → RunsEvents (tells puts) with_frames first headed v b → Came v b
-    came v b goes =
-        went (Quiescent r) Keeps (IsProgram r) (tells puts) r with_frames (events (Quiescent r) (MemoryWorldInvariant r) (IsProgram r) (tells puts) r (events_follow (tells puts) r))
-        (keeps_on (Quiescent r) (MemoryWorldInvariant r) (IsProgram r) r stays) seen_frames
-        first v (at_start (seen file)) headed b (code_first c file whole few first starts) (ap raw_of starts.program) (start_shown (Quiescent r) c file first (settled_first r) starts)
-        (upheld_starts r (seen file) range, start_waits (seen file)) goes
-
-    -- the event that failed is the next one that is shown
-    next_part : (v : Seen) (b : Telling A) (m : World Frame) (lines : List Line) → WorldRepresents (Quiescent r) v m → EventFails puts v b f t → NextInPart (tells puts) r m b f t
-        → ShownFrom m lines → Part b lines
-    next_part v b m _ s fails next (ends last x) =
-        absurd (no_thing (sym (goes_on_now (Quiescent r) (tells puts) v v m b b s (subst IsSome (sym fails.comes) refl) fails.bound) ∙ x))
-    next_part v b m _ s fails next (spent g l i j o q) = part_more (tells puts) b t (lines_of g l) _ (next.1 g l j o)
-    next_part v b m _ s fails next (event g l i j o q runs) = part_more (tells puts) b t (lines_of g l) _ (next.1 g l j o)
-
-    -- so are frames that failed those that are shown after their event
-    frames_part : (u v : Seen) (b d : Telling A) (m : World Frame) (lines : List Line) → Keeps m → WorldRepresents (Quiescent r) u m → IsProgram r u.code → raw_of u.code.program ≡ r
-        → EventDoes (tells puts) event.Ran u b v d → FramesFail puts with_frames v d f t → ShownFrom m lines → (f ≡ Stuck → ⊥) × Part b lines
-    frames_part u v b d m lines k s code text does fails run =
-        let shown = events_follow (tells puts) r u v m b d code s k.0 does in
-        let begun = shown.event.begun in
-        let left = shown.event.left in
-        let next = after m begun left in
-        let kept = keeps_on (Quiescent r) (MemoryWorldInvariant r) (IsProgram r) r stays m begun left k shown.event.begins shown.event.follows shown.rests in
-        let same_text = ap (λ (z : Code). raw_of z.program) (code_stays (tells puts) u v b d Rested does) ∙ text in
-        let ongoing = (same_end (Quiescent r) (tells puts) u v m b d s).2 does in
-        let y = goes_on (classes r) frame_spot with_frames m begun left lines ongoing shown.event.begins shown.event.follows shown.rests run in
-        let views = seen_if (classes r) frame_spot with_frames next in
-        let part = subst (λ ls. PutsPart (tells puts) d ls t) (seen_frames v next same_text shown.shows kept) fails.part in (
-          λ e. by_frames with_frames v next same_text shown.shows kept (fails.stuck e),
-          subst (Part b) (sym y.1) (puts_part (tells puts) b d t (lines_of begun left) (views ++ y.0) shown.event.lines (part_more (tells puts) d t views y.0 part)),
-        )
-
-    abbrev Shown : Telling A → Type 0
-    Shown a = (lines : List Line) × ClassShown with_frames r (seen file) lines × Part a lines
-
-    -- some events ran, and then this failed
-    after_events : (a : Telling A) (v : Seen) (b : Telling A) → tells puts a line.Head (Ok tt) headed → (x : Came v b)
-        → ((lines : List Line) → ShownFrom x.last lines → (f ≡ Stuck → ⊥) × Part b lines) → (f ≡ Stuck → ⊥) × Shown a
-    after_events a v b head x fails =
-        let all = lines_shown c file with_frames whole range in
-        let rest = x.onwards all.0 all.1 in
-        let z = fails rest.0 rest.2 in (
-          z.0,
-          (
-            line.Head ∷ all.0,
-            record { rest = all.0; shows = all.1; with_head = refl },
-            put_then head (subst (Part headed) (sym rest.1) (puts_part (tells puts) headed b t x.lines rest.0 x.put z.1)),
-          ),
-        )
-
-    events_part : (a : Telling A) → tells puts a line.Head (Ok tt) headed → EventsFail puts with_frames first headed f t → (f ≡ Stuck → ⊥) × Shown a
-    events_part a head (event_fails {v = v} {b = b} goes fails) =
-        let x = came v b goes in
-        let next = event_in_part puts r v x.last b f t x.code x.shows x.keeps.0 fails in
-        after_events a v b head x (λ lines run. (next.0, next_part v b x.last lines x.shows fails next run))
-    events_part a head (frames_fail {u = u} {v = v} {b = b} {c = d} goes does fails) =
-        let x = came u b goes in after_events a u b head x (λ lines run. frames_part u v b d x.last lines x.keeps x.shows x.code x.text does fails run)
-    events_part a head (counted_out {v = v} {b = b} goes is same) =
-        let x = came v b goes in after_events a v b head x (λ lines run. (memory_not_stuck f is, subst (λ z. PutsPart (tells puts) b lines z) (sym same) no_more))
-
-module _ {A : Type 0} (puts : A → Line → Result (Unit {0}) OutFault → A → Type 0) where
-  pub classes_fail : ClassesFailInPart puts
-  classes_fail c file with_frames a f t whole few range (no_memory is same) =
-      let all = lines_shown c file with_frames whole range in (
-        memory_not_stuck f is,
-        (
-          line.Head ∷ all.0,
-          record { rest = all.0; shows = all.1; with_head = refl },
-          subst (PutsPart (tells puts) a (line.Head ∷ all.0)) (sym same) no_more,
-        ),
-      )
-  classes_fail c file with_frames a f t whole few range (head_fails fault is failed told) =
-      let all = lines_shown c file with_frames whole range in
-      (λ e. not_stuck fault (sym is ∙ e), (line.Head ∷ all.0, record { rest = all.0; shows = all.1; with_head = refl }, put_then told no_more))
-  classes_fail c file with_frames a f t whole few range (events_fail first headed starts head fails) =
-      events_part puts c file with_frames f t whole few range first headed starts a head fails
-  classes_fail c file with_frames a f t whole few range (end_fails fault e is failed traces) =
-      let x = classes_shown (tells puts) c file with_frames a t e whole few range traces in (λ stuck. not_stuck fault (sym is ∙ stuck), (x.0, x.1, part_all (tells puts) a t x.0 x.2))
-
-  pub program_fails : ProgramFailsInPart puts
-  program_fails text program c file with_frames a f t sound light has range fails =
-      let x = classes_fail c file with_frames a f t (subst AreWhole (sym has) (compiles_whole text program sound)) (subst HaveFewPlaces (sym has) (compiled_few text program sound light)) range fails in
-      let lines = x.1.0 in
-      let by_text = shown_of_classes (program_of program) (compiled (program_of program)) (are_carried program (compiles_faithfully text program sound.typed))
-      with_frames (seen file) lines
-      (subst (λ (r : RawTree). ClassShown with_frames r (seen file) lines) has x.1.1) in
-      (x.0, (lines, by_text, x.1.2))

@@ -14,14 +14,11 @@ use Rattle.flow_front.specs.Verdict.{IsSound}
 use Rattle.flow_lower.specs.Weighing.{first_heavy}
 use Rattle.flow_lower.specs.Compiled.{Has}
 use Rattle.flow_invariants.specs.Unmarked.{AreWhole}
-use Rattle.flow_world.specs.Around.{Puts, PutsPart}
-use Rattle.flow_world.specs.FaultedLines.{Telling, tells, whole, failed}
+use Rattle.flow_world.specs.Around.{Puts}
+use Rattle.flow_world.specs.FaultedLines.{tells, whole, failed}
 use Rattle.flow_world.specs.declared.ending.Ending.{Ending}
 use Rattle.flow_world.specs.Ends.{end_line, LastIs}
 use Rattle.flow_world.specs.Tracing.{Traces, Begins, TracesPart}
-use Rattle.flow_world.specs.BreakingTraces.{TraceFails}
-use Rattle.flow_machine.specs.declared.host.RunFault.{RunFault}
-use Rattle.flow_machine.specs.declared.host.RunFault.TheVariants.{Stuck}
 use Rattle.flow_compile_laws.specs.Frames.Framed.{SourceShown, ClassShown}
 
 -- each class has 2^32 places at most
@@ -61,19 +58,3 @@ module _ {A : Type 0} (puts : A → Line → Result (Unit {0}) OutFault → A �
       → IsInRange (seen file) → TracesPart (tells puts) with_frames c file (whole a) (failed b)
       → (lines : List Line) × SourceShown with_frames (program_of program) (seen file) lines
       × Puts (tells puts) (whole a) lines (failed b)
-
-  -- A run of valid classes that fails isn't stuck, and what was told is a first part of what is shown of them.
-  abbrev pub ClassesFailInPart : Type 0
-  ClassesFailInPart =
-      (c : RawClasses) (file : World0) (with_frames : Bool) (a : Telling A) (f : RunFault) (t : Telling A) → AreWhole (raw_of c)
-      → HaveFewPlaces (raw_of c) → IsInRange (seen file) → TraceFails puts with_frames c file a f t
-      → (f ≡ Stuck → ⊥) × ((lines : List Line) × ClassShown with_frames (raw_of c) (seen file) lines × PutsPart (tells puts) a lines t)
-
-  -- nor is one of the classes of a text, and what was told is a first part of what is shown of the text
-  abbrev pub ProgramFailsInPart : Type 0
-  ProgramFailsInPart =
-      (text : List ℕ) (program : Program) (c : RawClasses) (file : World0) (with_frames : Bool) (a : Telling A) (f : RunFault)
-      (t : Telling A) → IsSound text program → first_heavy (program_of program).decls ≡ None → Has (program_of program) (raw_of c)
-      → IsInRange (seen file) → TraceFails puts with_frames c file a f t
-      → (f ≡ Stuck → ⊥)
-      × ((lines : List Line) × SourceShown with_frames (program_of program) (seen file) lines × PutsPart (tells puts) a lines t)

@@ -2,6 +2,7 @@
 
 ghost use Rattle.flow_class.specs.Classes.{RawTree};
 ghost use Rattle.flow_invariants.specs.Fitting.Laws.{AreValid};
+ghost use Rattle.flow_world.specs.Watching.{hears};
 ghost use Rattle.flow_end_to_end.specs.Events.{MemoryWorldInvariantStarts, MemoryWorldInvariantStays, EventFailsInPart};
 
 use flow_trace::out::LineOut;
@@ -12,7 +13,7 @@ pub fn worlds_preserve_memory_invariant()
     ensures stays { (r : RawTree) → AreValid r → MemoryWorldInvariantStays r }
 {}
 
-/// An event that fails isn't stuck, and what it put is a first part of the lines of the event.
+/// An event that a panel hears and that fails isn't stuck, and what it put is a first part of the lines of the event.
 pub fn failed_events_put_first_parts<L: LineOut>()
-    ensures { (r : RawTree) → EventFailsInPart L.puts r }
+    ensures { (r : RawTree) → EventFailsInPart (hears L.puts) r }
 {}

@@ -15,7 +15,7 @@ ghost use Rattle.flow_eval.specs.WellTyped.{HasMeaning, CallAt, WellTyped, WellT
 use crate::cells::{CellView, NoCells};
 use crate::evaluate::{Setting, Turns, evaluate, run_at};
 use crate::stop::{Halt, Stop};
-use crate::variables::{Var, VarList, Variables, Vars};
+use crate::variables::Var;
 use flow_ast::decl::{FunctionDecl, RecordDecl};
 use flow_ast::expr::Expr;
 use flow_tree::limits::CALL_DEPTH;
@@ -61,46 +61,26 @@ fn setting<'a, C: CellView>(
 }
 
 #[tactic(auto, using(crate::proofs::Meanings::meant, crate::proofs::Meanings::means_value))]
-fn evaluated<V: Variables, C: CellView>(
+fn evaluated<C: CellView>(
     setting: &Setting<C>,
-    vars: &V,
+    vars: &[Var],
     expr: &Expr,
     turns: &mut Turns,
 ) -> Result<Value, Stop>
-    requires { HasMeaning (Eval (setting_of C.content setting.now) (V.by_name vars.now)
+    requires { HasMeaning (Eval (setting_of C.content setting.now) (named (map var_of vars.now))
         (expr_of expr.now) turns.old.left) }
-    ensures { Means (Eval (setting_of C.content setting.now) (V.by_name vars.now) (expr_of expr.now)
-        turns.old.left) result turns.new.left }
+    ensures { Means (Eval (setting_of C.content setting.now) (named (map var_of vars.now))
+        (expr_of expr.now) turns.old.left) result turns.new.left }
 {
-    match evaluate(setting, CALL_DEPTH, &Vars::Outer(vars), expr, turns) {
+    match evaluate(setting, CALL_DEPTH, vars, expr, turns) {
         Ok(value) => Ok(value),
         Err(halt) => Err(stopped(halt)),
     }
 }
 
-/// The value of a well-typed expression without effects, over variables that are kept anywhere, and
-/// the turns that are left. `Spent` comes exactly where a turn is needed and none is left, `Thrown`
-/// exactly where evaluation throws that error.
-pub fn eval_in<V: Variables, C: CellView>(
-    alloc: Global,
-    plain: &Plain,
-    expr: &Expr,
-    vars: &V,
-    view: &C,
-    now: u64,
-    turns: &mut Turns,
-) -> Result<Value, Stop>
-    requires moment { now < 2 ^ 63 }
-    requires typed { WellTyped (setting_with plain.now.records.items plain.now.functions.items
-        (C.content view.now) now) (V.by_name vars.now) (expr_of expr.now) }
-    ensures { Means (Eval (setting_with plain.now.records.items plain.now.functions.items
-        (C.content view.now) now) (V.by_name vars.now) (expr_of expr.now) turns.old.left) result
-        turns.new.left }
-{
-    evaluated(&setting(alloc, plain, view, now), vars, expr, turns)
-}
-
-/// The same over a list of variables.
+/// The value of a well-typed expression without effects over a list of variables, and the turns that
+/// are left. `Spent` comes exactly where a turn is needed and none is left, `Thrown` exactly where
+/// evaluation throws that error.
 pub fn eval<V: CellView>(
     alloc: Global,
     plain: &Plain,
@@ -117,7 +97,7 @@ pub fn eval<V: CellView>(
         (V.content view.now) now) (named (map var_of vars.now)) (expr_of expr.now) turns.old.left)
         result turns.new.left }
 {
-    eval_in(alloc, plain, expr, &VarList { vars }, view, now, turns)
+    evaluated(&setting(alloc, plain, view, now), vars, expr, turns)
 }
 
 #[tactic(auto, using(crate::proofs::Meanings::meant, crate::proofs::Meanings::means_value))]
@@ -133,7 +113,7 @@ fn called(
     ensures { Means (CallAt (setting_of (λ _. no_cells) setting.now) function
         (map value_of args.items) turns.old.left) result turns.new.left }
 {
-    match run_at::<VarList, NoCells>(setting, CALL_DEPTH, function, args, turns) {
+    match run_at(setting, CALL_DEPTH, function, args, turns) {
         Ok(value) => Ok(value),
         Err(halt) => Err(stopped(halt)),
     }

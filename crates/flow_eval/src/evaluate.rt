@@ -10,7 +10,7 @@ ghost use Rattle.flow_eval.specs.Records.{field, field_answer};
 ghost use Rattle.flow_eval.specs.Eval.{eval, eval_all, variable, second, method_called, called, function_called};
 ghost use Rattle.flow_ast.specs.Typing.{routine_named};
 ghost use Rattle.flow_eval.specs.Functions.{routine_at, called_body, nested};
-ghost use Rattle.flow_eval.specs.Variables.{look_of};
+ghost use Rattle.flow_eval.specs.Variables.{var_of};
 ghost use Rattle.flow_eval.specs.View.{GivesAnswer, Gives, GivesAll, setting_of};
 
 use crate::cells::CellView;
@@ -20,7 +20,7 @@ use crate::predefined::{call_answer, method_answer};
 use crate::records::{field, record_id};
 use crate::statements::{finished, run_body};
 use crate::stop::Halt;
-use crate::variables::{Variables, Vars, look};
+use crate::variables::{Var, find_var};
 use flow_ast::decl::{FunctionDecl, RecordDecl};
 use flow_ast::expr::{Expr, Op};
 use flow_ast::predefined::{predefined_call, predefined_constant, predefined_method};
@@ -64,14 +64,14 @@ fn as_truth(value: &Value) -> Result<Value, Halt>
     }
 }
 
-fn variable<V: Variables>(alloc: Global, vars: &Vars<V>, name: &[u8]) -> Result<Value, Halt>
-    ensures { GivesAnswer (variable (look_of V.by_name vars.now) name.now
+fn variable(alloc: Global, vars: &[Var], name: &[u8]) -> Result<Value, Halt>
+    ensures { GivesAnswer (variable (named (map var_of vars.now)) name.now
         (named constant_names name.now)) result }
 {
     if let Some(n) = predefined_constant(name) {
         return Ok(Value::Int(i64::from(n)));
     }
-    match look(vars, name) {
+    match find_var(vars, name) {
         Some(value) => Ok(value.copy(alloc)?),
         None => Err(Halt::NoMeaning),
     }
@@ -124,15 +124,15 @@ fn function_place(functions: &[FunctionDecl], name: &[u8]) -> Option<usize>
 /// An expression over these variables, with the turns that are left. Calls of plain functions may
 /// still be nested so deep.
 #[cycle(evaluate)]
-pub fn evaluate<V: Variables, C: CellView>(
+pub fn evaluate<C: CellView>(
     setting: &Setting<C>,
     nest: u32,
-    vars: &Vars<V>,
+    vars: &[Var],
     expr: &Expr,
     turns: &mut Turns,
 ) -> Result<Value, Halt>
     ensures gives { Gives (nested eval (setting_of C.content setting.now) nest
-        (look_of V.by_name vars.now) (expr_of expr.now) turns.old.left) result turns.new.left }
+        (named (map var_of vars.now)) (expr_of expr.now) turns.old.left) result turns.new.left }
     ensures fewer { turns.new.left ≤ turns.old.left }
 {
     match expr {
@@ -143,7 +143,7 @@ pub fn evaluate<V: Variables, C: CellView>(
         Expr::Var(name) => variable(setting.alloc, vars, name.name.bytes()),
         Expr::Call(name, args) => {
             let args = evaluate_all(setting, nest, vars, args, turns)?;
-            call_named::<V, C>(setting, nest, name.name.bytes(), args, turns)
+            call_named(setting, nest, name.name.bytes(), args, turns)
         }
         Expr::Field(of, name) => {
             let base = evaluate(setting, nest, vars, of, turns)?;
@@ -165,17 +165,17 @@ pub fn evaluate<V: Variables, C: CellView>(
 }
 
 #[cycle(evaluate)]
-fn evaluate_second<V: Variables, C: CellView>(
+fn evaluate_second<C: CellView>(
     setting: &Setting<C>,
     nest: u32,
-    vars: &Vars<V>,
+    vars: &[Var],
     op: Op,
     left: &Value,
     right: &Expr,
     turns: &mut Turns,
 ) -> Result<Value, Halt>
     ensures gives { Gives (second op (value_of left.now) (nested eval
-        (setting_of C.content setting.now) nest (look_of V.by_name vars.now) (expr_of right.now))
+        (setting_of C.content setting.now) nest (named (map var_of vars.now)) (expr_of right.now))
         turns.old.left) result turns.new.left }
     ensures fewer { turns.new.left ≤ turns.old.left }
 {
@@ -210,15 +210,15 @@ fn evaluate_second<V: Variables, C: CellView>(
 /// Arguments from left to right.
 #[cycle(evaluate)]
 #[tactic(auto, using(crate::proofs::Steps::args_more, crate::proofs::Steps::args_stopped, crate::proofs::Steps::prefixed_none, crate::proofs::Weights::arg_below))]
-pub fn evaluate_all<V: Variables, C: CellView>(
+pub fn evaluate_all<C: CellView>(
     setting: &Setting<C>,
     nest: u32,
-    vars: &Vars<V>,
+    vars: &[Var],
     args: &[Expr],
     turns: &mut Turns,
 ) -> Result<Vec<Value>, Halt>
     ensures gives { GivesAll (nested eval_all (setting_of C.content setting.now) nest
-        (look_of V.by_name vars.now) (exprs_of args.now) turns.old.left) result turns.new.left }
+        (named (map var_of vars.now)) (exprs_of args.now) turns.old.left) result turns.new.left }
     ensures fewer { turns.new.left ≤ turns.old.left }
 {
     let mut values = Vec::new(setting.alloc);
@@ -230,7 +230,7 @@ pub fn evaluate_all<V: Variables, C: CellView>(
 
 /// A call by its name of what has no effect: a predefined call, a record, or a function.
 #[cycle(evaluate)]
-fn call_named<V: Variables, C: CellView>(
+fn call_named<C: CellView>(
     setting: &Setting<C>,
     nest: u32,
     name: &[u8],
@@ -248,12 +248,12 @@ fn call_named<V: Variables, C: CellView>(
     if let Some(id) = record_id(setting.records, name) {
         return Ok(Value::record(setting.alloc, id, args)?);
     }
-    call_function::<V, C>(setting, nest, name, args, turns)
+    call_function(setting, nest, name, args, turns)
 }
 
 /// A call of the first function of a name.
 #[cycle(evaluate)]
-pub fn call_function<V: Variables, C: CellView>(
+pub fn call_function<C: CellView>(
     setting: &Setting<C>,
     nest: u32,
     name: &[u8],
@@ -266,7 +266,7 @@ pub fn call_function<V: Variables, C: CellView>(
     ensures fewer { turns.new.left ≤ turns.old.left }
 {
     match function_place(setting.functions, name) {
-        Some(k) => run_at::<V, C>(setting, nest, k, args, turns),
+        Some(k) => run_at(setting, nest, k, args, turns),
         None => Err(Halt::NoMeaning),
     }
 }
@@ -274,7 +274,7 @@ pub fn call_function<V: Variables, C: CellView>(
 /// A call of the function at a place: it takes a turn, is judged for its depth, and runs.
 #[cycle(evaluate)]
 #[tactic(auto, using(crate::proofs::Steps::run_deeper, crate::proofs::Steps::run_spent, crate::proofs::Steps::run_too_deep, crate::proofs::Steps::function_got, crate::proofs::Weights::call_falls))]
-pub fn run_at<V: Variables, C: CellView>(
+pub fn run_at<C: CellView>(
     setting: &Setting<C>,
     nest: u32,
     function: usize,
@@ -294,13 +294,13 @@ pub fn run_at<V: Variables, C: CellView>(
     if nest == 0 {
         return Err(Halt::Thrown(OUT_OF_RANGE));
     }
-    run_called::<V, C>(setting, nest - 1, function, args, turns)
+    run_called(setting, nest - 1, function, args, turns)
 }
 
 /// The body of the function at a place, over these arguments.
 #[cycle(evaluate)]
 #[tactic(auto, using(crate::proofs::Steps::entered_body, crate::proofs::Steps::entered_none, crate::proofs::Weights::body_at_falls))]
-fn run_called<V: Variables, C: CellView>(
+fn run_called<C: CellView>(
     setting: &Setting<C>,
     nest: u32,
     function: usize,
@@ -316,7 +316,7 @@ fn run_called<V: Variables, C: CellView>(
     let called = &setting.functions[function];
     match entered(setting.alloc, &called.params, args) {
         Ok(mut locals) => {
-            let flow = run_body::<V, C>(setting, nest, &called.body, None, &mut locals, turns);
+            let flow = run_body(setting, nest, &called.body, None, &mut locals, turns);
             finished(flow)
         }
         Err(Halt::NoMeaning) => Err(Halt::NoMeaning),

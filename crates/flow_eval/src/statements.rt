@@ -8,7 +8,7 @@ ghost use Rattle.std.specs.Option.{option_map, option_copied};
 ghost use Rattle.flow_tree.specs.StmtView.{stmt_of, kind_of, body_of, simple_of, else_of, into_of, change_of};
 ghost use Rattle.flow_eval.specs.Answers.{error_of};
 ghost use Rattle.flow_eval.specs.Operators.{operated};
-ghost use Rattle.flow_eval.specs.Functions.{read_path, declared, default_value, evaluated, Run, Locals, finished, nested, exec, scope, if_run, pass_run, turn_run, loop_run, for_run, try_run, handled, return_run, throw_run, declare_run, assign_run, change_operand, change_sign, modify_run, call_run, assigned, put_path, rethrown};
+ghost use Rattle.flow_eval.specs.Functions.{read_path, declared, default_value, Run, Locals, finished, nested, exec, scope, if_run, pass_run, turn_run, loop_run, for_run, try_run, handled, return_run, throw_run, declare_run, assign_run, change_operand, change_sign, modify_run, call_run, assigned, put_path, rethrown};
 ghost use Rattle.flow_eval.specs.Variables.{var_of};
 ghost use Rattle.flow_eval.specs.View.{GivesAnswer, Gives, Ran, StmtRan, else_run, setting_of};
 
@@ -17,7 +17,7 @@ use crate::evaluate::{Setting, Turns, bool_of, call_function, evaluate, evaluate
 use crate::locals::{bind, default_value, put_path, read_path};
 use crate::operators::operated;
 use crate::stop::Halt;
-use crate::variables::{Var, Variables, Vars, find_var};
+use crate::variables::{Var, find_var};
 use flow_ast::decl::RecordDecl;
 use flow_ast::expr::{Expr, Op};
 use flow_ast::stmt::{Change, Into, Stmt, StmtKind, Target};
@@ -146,26 +146,10 @@ fn rethrow(locals: &[Var], caught: Option<&Name>) -> Result<Flow, Halt>
     }
 }
 
-/// An expression over the variables of a function.
-#[cycle(evaluate)]
-fn evaluate_in<V: Variables, C: CellView>(
-    setting: &Setting<C>,
-    nest: u32,
-    locals: &Vec<Var>,
-    expr: &Expr,
-    turns: &mut Turns,
-) -> Result<Value, Halt>
-    ensures gives { Gives (nested evaluated (setting_of C.content setting.now) nest
-        (expr_of expr.now) (map var_of locals.now.items) turns.old.left) result turns.new.left }
-    ensures fewer { turns.new.left ≤ turns.old.left }
-{
-    evaluate(setting, nest, &Vars::<V>::Inner(locals), expr, turns)
-}
-
 /// Statements one after another.
 #[cycle(evaluate)]
 #[tactic(auto, using(crate::proofs::Steps::body_more, crate::proofs::Steps::body_ends, crate::proofs::Steps::body_stops, crate::proofs::Weights::stmt_below))]
-pub fn run_body<V: Variables, C: CellView>(
+pub fn run_body<C: CellView>(
     setting: &Setting<C>,
     nest: u32,
     stmts: &[Stmt],
@@ -179,7 +163,7 @@ pub fn run_body<V: Variables, C: CellView>(
     ensures fewer { turns.new.left ≤ turns.old.left }
 {
     for stmt in stmts {
-        match run_stmt::<V, C>(setting, nest, stmt, caught, locals, turns)? {
+        match run_stmt(setting, nest, stmt, caught, locals, turns)? {
             Flow::Next => {}
             Flow::Break => return Ok(Flow::Break),
             Flow::Continue => return Ok(Flow::Continue),
@@ -191,7 +175,7 @@ pub fn run_body<V: Variables, C: CellView>(
 
 /// One statement.
 #[cycle(evaluate)]
-fn run_stmt<V: Variables, C: CellView>(
+fn run_stmt<C: CellView>(
     setting: &Setting<C>,
     nest: u32,
     stmt: &Stmt,
@@ -205,12 +189,12 @@ fn run_stmt<V: Variables, C: CellView>(
         (option_copied caught.entry)) result (map var_of locals.new.items) turns.new.left }
     ensures fewer { turns.new.left ≤ turns.old.left }
 {
-    run_kind::<V, C>(setting, nest, stmt.at, &stmt.kind, caught, locals, turns)
+    run_kind(setting, nest, stmt.at, &stmt.kind, caught, locals, turns)
 }
 
 /// One statement at a place.
 #[cycle(evaluate)]
-fn run_kind<V: Variables, C: CellView>(
+fn run_kind<C: CellView>(
     setting: &Setting<C>,
     nest: u32,
     at: Place,
@@ -226,39 +210,33 @@ fn run_kind<V: Variables, C: CellView>(
     ensures fewer { turns.new.left ≤ turns.old.left }
 {
     match kind {
-        StmtKind::Block(body) => run_scope::<V, C>(setting, nest, body, caught, locals, turns),
+        StmtKind::Block(body) => run_scope(setting, nest, body, caught, locals, turns),
         StmtKind::If(test, body, otherwise) => {
-            run_if::<V, C>(setting, nest, test, body, otherwise, caught, locals, turns)
+            run_if(setting, nest, test, body, otherwise, caught, locals, turns)
         }
         StmtKind::While(test, body) => {
-            run_loop::<V, C>(setting, nest, Some(test), None, body, caught, locals, turns)
+            run_loop(setting, nest, Some(test), None, body, caught, locals, turns)
         }
         StmtKind::For(init, test, step, body) => {
-            run_for::<V, C>(setting, nest, init, test, step, body, caught, locals, turns)
+            run_for(setting, nest, init, test, step, body, caught, locals, turns)
         }
-        StmtKind::Loop(body) => {
-            run_loop::<V, C>(setting, nest, None, None, body, caught, locals, turns)
-        }
+        StmtKind::Loop(body) => { run_loop(setting, nest, None, None, body, caught, locals, turns) }
         StmtKind::Break => Ok(Flow::Break),
         StmtKind::Continue => Ok(Flow::Continue),
-        StmtKind::Return(value) => run_return::<V, C>(setting, nest, value, locals, turns),
-        StmtKind::Throw(error) => run_throw::<V, C>(setting, nest, error, caught, locals, turns),
+        StmtKind::Return(value) => run_return(setting, nest, value, locals, turns),
+        StmtKind::Throw(error) => run_throw(setting, nest, error, caught, locals, turns),
         StmtKind::Try(body, _, error, handler) => {
-            run_try::<V, C>(setting, nest, body, error, handler, caught, locals, turns)
+            run_try(setting, nest, body, error, handler, caught, locals, turns)
         }
         StmtKind::Choose(_) => Err(Halt::NoMeaning),
-        StmtKind::Declare(into, value) => {
-            run_declare::<V, C>(setting, nest, into, value, locals, turns)
-        }
+        StmtKind::Declare(into, value) => { run_declare(setting, nest, into, value, locals, turns) }
         StmtKind::Assign(target, value) => {
-            run_assign::<V, C>(setting, nest, target, value, locals, turns)
+            run_assign(setting, nest, target, value, locals, turns)
         }
         StmtKind::Modify(target, change) => {
-            run_modify::<V, C>(setting, nest, target, change, locals, turns)
+            run_modify(setting, nest, target, change, locals, turns)
         }
-        StmtKind::Call(target, args) => {
-            run_call::<V, C>(setting, nest, target, args, locals, turns)
-        }
+        StmtKind::Call(target, args) => { run_call(setting, nest, target, args, locals, turns) }
         StmtKind::Wait(_) => Err(Halt::NoMeaning),
     }
 }
@@ -266,7 +244,7 @@ fn run_kind<V: Variables, C: CellView>(
 /// Statements as a scope of their own.
 #[cycle(evaluate)]
 #[tactic(auto, using(crate::proofs::Steps::scope_cut))]
-fn run_scope<V: Variables, C: CellView>(
+fn run_scope<C: CellView>(
     setting: &Setting<C>,
     nest: u32,
     stmts: &Vec<Stmt>,
@@ -280,7 +258,7 @@ fn run_scope<V: Variables, C: CellView>(
     ensures fewer { turns.new.left ≤ turns.old.left }
 {
     let count = locals.len();
-    let flow = run_body::<V, C>(setting, nest, stmts, caught, locals, turns);
+    let flow = run_body(setting, nest, stmts, caught, locals, turns);
     locals.truncate(count);
     flow
 }
@@ -288,7 +266,7 @@ fn run_scope<V: Variables, C: CellView>(
 /// One of two bodies by a condition.
 #[cycle(evaluate)]
 #[tactic(auto, using(crate::proofs::Parts::if_true, crate::proofs::Parts::if_false))]
-fn run_if<V: Variables, C: CellView>(
+fn run_if<C: CellView>(
     setting: &Setting<C>,
     nest: u32,
     test: &Expr,
@@ -305,17 +283,17 @@ fn run_if<V: Variables, C: CellView>(
         turns.old.left) result (map var_of locals.new.items) turns.new.left }
     ensures fewer { turns.new.left ≤ turns.old.left }
 {
-    let value = evaluate_in::<V, C>(setting, nest, locals, test, turns)?;
+    let value = evaluate(setting, nest, locals, test, turns)?;
     match bool_of(&value) {
-        Some(true) => run_scope::<V, C>(setting, nest, body, caught, locals, turns),
-        Some(false) => run_else::<V, C>(setting, nest, otherwise, caught, locals, turns),
+        Some(true) => run_scope(setting, nest, body, caught, locals, turns),
+        Some(false) => run_else(setting, nest, otherwise, caught, locals, turns),
         None => Err(Halt::NoMeaning),
     }
 }
 
 /// The body of an `else`, where there is one.
 #[cycle(evaluate)]
-fn run_else<V: Variables, C: CellView>(
+fn run_else<C: CellView>(
     setting: &Setting<C>,
     nest: u32,
     otherwise: &Option<Vec<Stmt>>,
@@ -329,7 +307,7 @@ fn run_else<V: Variables, C: CellView>(
     ensures fewer { turns.new.left ≤ turns.old.left }
 {
     match otherwise {
-        Some(body) => run_scope::<V, C>(setting, nest, body, caught, locals, turns),
+        Some(body) => run_scope(setting, nest, body, caught, locals, turns),
         None => Ok(Flow::Next),
     }
 }
@@ -337,7 +315,7 @@ fn run_else<V: Variables, C: CellView>(
 /// A pass of a loop, whose turn was taken: the condition, and then the body, or past the loop.
 #[cycle(evaluate)]
 #[tactic(auto, using(crate::proofs::Parts::pass_none, crate::proofs::Parts::pass_true, crate::proofs::Parts::pass_false, crate::proofs::Parts::pass_stops))]
-fn run_pass<V: Variables, C: CellView>(
+fn run_pass<C: CellView>(
     setting: &Setting<C>,
     nest: u32,
     test: Option<&Expr>,
@@ -354,11 +332,11 @@ fn run_pass<V: Variables, C: CellView>(
     ensures fewer { turns.new.left ≤ turns.old.left }
 {
     let Some(test) = test else {
-        return run_scope::<V, C>(setting, nest, body, caught, locals, turns);
+        return run_scope(setting, nest, body, caught, locals, turns);
     };
-    let value = evaluate_in::<V, C>(setting, nest, locals, test, turns)?;
+    let value = evaluate(setting, nest, locals, test, turns)?;
     match bool_of(&value) {
-        Some(true) => run_scope::<V, C>(setting, nest, body, caught, locals, turns),
+        Some(true) => run_scope(setting, nest, body, caught, locals, turns),
         Some(false) => Ok(Flow::Break),
         None => Err(Halt::NoMeaning),
     }
@@ -366,7 +344,7 @@ fn run_pass<V: Variables, C: CellView>(
 
 /// A pass of a loop and its step, whose turn was taken.
 #[cycle(evaluate)]
-fn run_turn<V: Variables, C: CellView>(
+fn run_turn<C: CellView>(
     setting: &Setting<C>,
     nest: u32,
     test: Option<&Expr>,
@@ -384,9 +362,9 @@ fn run_turn<V: Variables, C: CellView>(
         turns.old.left) result (map var_of locals.new.items) turns.new.left }
     ensures fewer { turns.new.left ≤ turns.old.left }
 {
-    match run_pass::<V, C>(setting, nest, test, body, caught, locals, turns)? {
-        Flow::Next => run_part::<V, C>(setting, nest, step, caught, locals, turns),
-        Flow::Continue => run_part::<V, C>(setting, nest, step, caught, locals, turns),
+    match run_pass(setting, nest, test, body, caught, locals, turns)? {
+        Flow::Next => run_part(setting, nest, step, caught, locals, turns),
+        Flow::Continue => run_part(setting, nest, step, caught, locals, turns),
         Flow::Break => Ok(Flow::Break),
         Flow::Return(value) => Ok(Flow::Return(value)),
     }
@@ -395,7 +373,7 @@ fn run_turn<V: Variables, C: CellView>(
 /// The passes of a loop, each of which takes a turn before it.
 #[cycle(evaluate)]
 #[tactic(auto, using(crate::proofs::Steps::loop_more, crate::proofs::Steps::loop_round, crate::proofs::Steps::loop_left, crate::proofs::Steps::loop_returns, crate::proofs::Steps::loop_stops, crate::proofs::Steps::loop_spent))]
-fn run_loop<V: Variables, C: CellView>(
+fn run_loop<C: CellView>(
     setting: &Setting<C>,
     nest: u32,
     test: Option<&Expr>,
@@ -415,7 +393,7 @@ fn run_loop<V: Variables, C: CellView>(
 {
     while turns.left > 0 {
         turns.left -= 1;
-        match run_turn::<V, C>(setting, nest, test, step, body, caught, locals, turns)? {
+        match run_turn(setting, nest, test, step, body, caught, locals, turns)? {
             Flow::Next => {}
             Flow::Continue => {}
             Flow::Break => return Ok(Flow::Next),
@@ -427,7 +405,7 @@ fn run_loop<V: Variables, C: CellView>(
 
 /// A part of a `for`, where it is there.
 #[cycle(evaluate)]
-fn run_part<V: Variables, C: CellView>(
+fn run_part<C: CellView>(
     setting: &Setting<C>,
     nest: u32,
     part: Option<&Box<Stmt>>,
@@ -442,7 +420,7 @@ fn run_part<V: Variables, C: CellView>(
     ensures fewer { turns.new.left ≤ turns.old.left }
 {
     match part {
-        Some(stmt) => run_stmt::<V, C>(setting, nest, stmt, caught, locals, turns),
+        Some(stmt) => run_stmt(setting, nest, stmt, caught, locals, turns),
         None => Ok(Flow::Next),
     }
 }
@@ -450,7 +428,7 @@ fn run_part<V: Variables, C: CellView>(
 /// A `for` with its init, as a scope of its own.
 #[cycle(evaluate)]
 #[tactic(auto, using(crate::proofs::Steps::scope_cut))]
-fn run_for<V: Variables, C: CellView>(
+fn run_for<C: CellView>(
     setting: &Setting<C>,
     nest: u32,
     init: &Option<Box<Stmt>>,
@@ -471,7 +449,7 @@ fn run_for<V: Variables, C: CellView>(
     ensures fewer { turns.new.left ≤ turns.old.left }
 {
     let count = locals.len();
-    let flow = run_for_parts::<V, C>(setting, nest, init, test, step, body, caught, locals, turns);
+    let flow = run_for_parts(setting, nest, init, test, step, body, caught, locals, turns);
     locals.truncate(count);
     flow
 }
@@ -479,7 +457,7 @@ fn run_for<V: Variables, C: CellView>(
 /// A `for` in the scope of its init.
 #[cycle(evaluate)]
 #[tactic(auto, using(crate::proofs::Parts::for_ran))]
-fn run_for_parts<V: Variables, C: CellView>(
+fn run_for_parts<C: CellView>(
     setting: &Setting<C>,
     nest: u32,
     init: &Option<Box<Stmt>>,
@@ -499,8 +477,8 @@ fn run_for_parts<V: Variables, C: CellView>(
         (map var_of locals.new.items) turns.new.left }
     ensures fewer { turns.new.left ≤ turns.old.left }
 {
-    match run_part::<V, C>(setting, nest, init.as_ref(), caught, locals, turns)? {
-        Flow::Next => run_loop::<V, C>(
+    match run_part(setting, nest, init.as_ref(), caught, locals, turns)? {
+        Flow::Next => run_loop(
             setting,
             nest,
             test.as_ref(),
@@ -519,7 +497,7 @@ fn run_for_parts<V: Variables, C: CellView>(
 /// A `try` with its handler.
 #[cycle(evaluate)]
 #[tactic(auto, using(crate::proofs::Steps::uncaught))]
-fn run_try<V: Variables, C: CellView>(
+fn run_try<C: CellView>(
     setting: &Setting<C>,
     nest: u32,
     body: &Vec<Stmt>,
@@ -536,9 +514,9 @@ fn run_try<V: Variables, C: CellView>(
         turns.new.left }
     ensures fewer { turns.new.left ≤ turns.old.left }
 {
-    match run_scope::<V, C>(setting, nest, body, caught, locals, turns) {
+    match run_scope(setting, nest, body, caught, locals, turns) {
         Err(Halt::Thrown(code)) => {
-            run_handler::<V, C>(setting, nest, code, error, handler, locals, turns)
+            run_handler(setting, nest, code, error, handler, locals, turns)
         }
         Err(Halt::Spent) => Err(Halt::Spent),
         Err(Halt::NoMeaning) => Err(Halt::NoMeaning),
@@ -550,7 +528,7 @@ fn run_try<V: Variables, C: CellView>(
 /// The handler of a caught error, as a scope with its variable.
 #[cycle(evaluate)]
 #[tactic(auto, using(crate::proofs::Steps::scope_cut))]
-fn run_handler<V: Variables, C: CellView>(
+fn run_handler<C: CellView>(
     setting: &Setting<C>,
     nest: u32,
     code: ErrorCode,
@@ -566,14 +544,14 @@ fn run_handler<V: Variables, C: CellView>(
 {
     let count = locals.len();
     bind(setting.alloc, locals, &error.name, Value::Error(code))?;
-    let flow = run_body::<V, C>(setting, nest, handler, Some(&error.name), locals, turns);
+    let flow = run_body(setting, nest, handler, Some(&error.name), locals, turns);
     locals.truncate(count);
     flow
 }
 
 /// A `return`.
 #[cycle(evaluate)]
-fn run_return<V: Variables, C: CellView>(
+fn run_return<C: CellView>(
     setting: &Setting<C>,
     nest: u32,
     value: &Expr,
@@ -585,14 +563,14 @@ fn run_return<V: Variables, C: CellView>(
         (map var_of locals.new.items) turns.new.left }
     ensures fewer { turns.new.left ≤ turns.old.left }
 {
-    let value = evaluate_in::<V, C>(setting, nest, locals, value, turns)?;
+    let value = evaluate(setting, nest, locals, value, turns)?;
     Ok(Flow::Return(value))
 }
 
 /// A `throw`, of an error or of the innermost catch's variable.
 #[cycle(evaluate)]
 #[tactic(auto, using(crate::proofs::Parts::throw_stops, crate::proofs::Parts::throw_some, crate::proofs::Parts::throw_none))]
-fn run_throw<V: Variables, C: CellView>(
+fn run_throw<C: CellView>(
     setting: &Setting<C>,
     nest: u32,
     error: &Option<Expr>,
@@ -608,7 +586,7 @@ fn run_throw<V: Variables, C: CellView>(
     let Some(error) = error else {
         return rethrow(locals, caught);
     };
-    let value = evaluate_in::<V, C>(setting, nest, locals, error, turns)?;
+    let value = evaluate(setting, nest, locals, error, turns)?;
     match error_of(&value) {
         Some(code) => Err(Halt::Thrown(code)),
         None => Err(Halt::NoMeaning),
@@ -618,7 +596,7 @@ fn run_throw<V: Variables, C: CellView>(
 /// A declaration.
 #[cycle(evaluate)]
 #[tactic(auto, using(crate::proofs::Parts::declare_ran, crate::proofs::Parts::declare_none))]
-fn run_declare<V: Variables, C: CellView>(
+fn run_declare<C: CellView>(
     setting: &Setting<C>,
     nest: u32,
     into: &Into,
@@ -634,14 +612,14 @@ fn run_declare<V: Variables, C: CellView>(
     let Some(value) = value else {
         return declare_default(setting.alloc, locals, into);
     };
-    let value = evaluate_in::<V, C>(setting, nest, locals, value, turns)?;
+    let value = evaluate(setting, nest, locals, value, turns)?;
     declare(setting.alloc, locals, into, value)
 }
 
 /// An assignment.
 #[cycle(evaluate)]
 #[tactic(auto, using(crate::proofs::Parts::assign_ran))]
-fn run_assign<V: Variables, C: CellView>(
+fn run_assign<C: CellView>(
     setting: &Setting<C>,
     nest: u32,
     target: &Target,
@@ -654,13 +632,13 @@ fn run_assign<V: Variables, C: CellView>(
         result (map var_of locals.new.items) turns.new.left }
     ensures fewer { turns.new.left ≤ turns.old.left }
 {
-    let value = evaluate_in::<V, C>(setting, nest, locals, value, turns)?;
+    let value = evaluate(setting, nest, locals, value, turns)?;
     store(setting.records, locals, target, value)
 }
 
 /// The operand of a change.
 #[cycle(evaluate)]
-fn operand<V: Variables, C: CellView>(
+fn operand<C: CellView>(
     setting: &Setting<C>,
     nest: u32,
     locals: &Vec<Var>,
@@ -672,8 +650,8 @@ fn operand<V: Variables, C: CellView>(
     ensures fewer { turns.new.left ≤ turns.old.left }
 {
     match change {
-        Change::Plus(value) => evaluate_in::<V, C>(setting, nest, locals, value, turns),
-        Change::Minus(value) => evaluate_in::<V, C>(setting, nest, locals, value, turns),
+        Change::Plus(value) => evaluate(setting, nest, locals, value, turns),
+        Change::Minus(value) => evaluate(setting, nest, locals, value, turns),
         Change::Up => Ok(Value::Int(1)),
         Change::Down => Ok(Value::Int(1)),
     }
@@ -682,7 +660,7 @@ fn operand<V: Variables, C: CellView>(
 /// A change of a variable in place.
 #[cycle(evaluate)]
 #[tactic(auto, using(crate::proofs::Parts::modify_ran))]
-fn run_modify<V: Variables, C: CellView>(
+fn run_modify<C: CellView>(
     setting: &Setting<C>,
     nest: u32,
     target: &Target,
@@ -698,14 +676,14 @@ fn run_modify<V: Variables, C: CellView>(
     let Some(old) = read_target(setting.records, locals, target) else {
         return Err(Halt::NoMeaning);
     };
-    let value = operand::<V, C>(setting, nest, locals, change, turns)?;
+    let value = operand(setting, nest, locals, change, turns)?;
     let value = changed_value(setting.alloc, change, old, &value)?;
     store(setting.records, locals, target, value)
 }
 
 /// A call of a function as a statement.
 #[cycle(evaluate)]
-fn run_call<V: Variables, C: CellView>(
+fn run_call<C: CellView>(
     setting: &Setting<C>,
     nest: u32,
     target: &Target,
@@ -718,11 +696,11 @@ fn run_call<V: Variables, C: CellView>(
         result (map var_of locals.new.items) turns.new.left }
     ensures fewer { turns.new.left ≤ turns.old.left }
 {
-    let args = evaluate_all(setting, nest, &Vars::<V>::Inner(locals), args, turns)?;
+    let args = evaluate_all(setting, nest, locals, args, turns)?;
     if target.path.len() != 1 {
         return Err(Halt::NoMeaning);
     }
     let name = target.path[0].name.bytes();
-    let _value = call_function::<V, C>(setting, nest, name, args, turns)?;
+    let _value = call_function(setting, nest, name, args, turns)?;
     Ok(Flow::Next)
 }

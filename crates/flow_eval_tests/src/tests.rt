@@ -19,7 +19,7 @@ use flow_base::name::{Name, is_name};
 use flow_eval::cells::CellView;
 use flow_eval::evaluate::{Setting, Turns, evaluate};
 use flow_eval::stop::Halt;
-use flow_eval::variables::{Var, VarList, Vars};
+use flow_eval::variables::Var;
 use flow_value::value::{Kind, Outcome, Value};
 use std::alloc::Global;
 
@@ -96,13 +96,7 @@ fn value(alloc: Global, expr: &Expr, vars: &[Var], view: &Every) -> Result<Value
         time: 17,
     };
     let mut turns = Turns { left: 0 };
-    evaluate(
-        &setting,
-        64,
-        &Vars::Outer(&VarList { vars }),
-        expr,
-        &mut turns,
-    )
+    evaluate(&setting, 64, vars, expr, &mut turns)
 }
 
 fn is_value(alloc: Global, expr: &Expr, vars: &[Var], view: &Every, wanted: &str) -> bool {

@@ -6,5 +6,3 @@ mod frame;
 pub mod frames;
 pub mod held;
 pub mod standing;
-#[cfg(test)]
-mod tests;

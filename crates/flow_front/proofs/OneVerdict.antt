@@ -149,6 +149,8 @@ one_verdict one text = record {
   program = one_program one text;
   refusal = refused_once one text;
   lost = lost_once one text;
+  unread = unread_once text;
+  read_or_unread = read_or_unread text;
   typed_or_refused = typed_or_refused one text;
   sound_or_lost = sound_or_lost one text;
 }

@@ -14,4 +14,3 @@ pub mod Waits
 pub mod Carried
 pub mod Whole
 pub mod Shapes
-pub mod Examples

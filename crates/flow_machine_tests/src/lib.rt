@@ -12,3 +12,5 @@ mod lines;
 mod running;
 #[cfg(test)]
 mod traces;
+#[cfg(test)]
+mod watched;

@@ -1,8 +1,9 @@
 use crate::lines::classes;
 use flow_base::mem_sink::MemSink;
 use flow_machine::host::RunFault;
+use flow_monitor::Panel;
 use flow_valid::program::ClassProgram;
-use flow_world::{Ending, write_trace};
+use flow_world::{Ending, RunEnding, write_trace};
 use flow_worldfile::read_world;
 use std::alloc::Global;
 use std::test::Fail;
@@ -11,7 +12,7 @@ use std::test::Fail;
 const RETURNING: &[u8] = b"ACTOR Future<Void> main(int p) { return Void(); }";
 
 /// How a run ends, or why it breaks off.
-type Ended = Result<Ending, RunFault>;
+type Ended = Result<RunEnding, RunFault>;
 
 fn written_by(
     alloc: Global,
@@ -20,8 +21,9 @@ fn written_by(
     with_frames: bool,
     out: &mut MemSink,
 ) -> Result<Ended, Fail> {
+    let mut panel = Panel::empty(alloc);
     match read_world(alloc, world) {
-        Ok(world) => Ok(write_trace(alloc, classes, world, with_frames, out)),
+        Ok(world) => Ok(write_trace(alloc, classes, world, with_frames, &mut panel, out)),
         Err(_) => Err(Fail::from("no world")),
     }
 }
@@ -41,7 +43,7 @@ fn a_bound_of_no_events(rt: HostRuntime) -> Result<(), Fail> {
     let alloc = rt.alloc();
     let mut sink = MemSink::new(alloc, Vec::new(alloc));
     let ended = written(alloc, b"events 0\n", true, &mut sink)?;
-    assert!(rt; ended == Ok(Ending::Bound));
+    assert!(rt; ended == Ok(RunEnding::Own(Ending::Bound)));
     assert_eq!(rt; sink.bytes(), b"trace 1\nend bound\n".as_slice());
     Ok(())
 }

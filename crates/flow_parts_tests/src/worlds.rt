@@ -2,6 +2,7 @@
 
 use flow_base::ids::ProcId;
 use flow_base::memory::NoMemory;
+use flow_gen::gen_world;
 use flow_worldfile::{Act, At, World0, print_world, read_world};
 use std::alloc::Global;
 
@@ -23,6 +24,9 @@ const PRINTED: &[u8] =
 
 const DEFAULT: &[u8] =
     b"seed 0\nprocesses 1\nevents 1000\nturns 100000\nlatency 1 2\ndiskdelay 1 2\nloss 0\n";
+
+const GENERATED: &[u8] =
+    b"seed 42\nprocesses 4\nevents 1000000\nturns 1000000\nlatency 1 2\ndiskdelay 1 2\nloss 0\n";
 
 fn prints(alloc: Global, world: &World0, wanted: &[u8]) -> Result<bool, NoMemory> {
     let printed = print_world(alloc, world)?;
@@ -69,5 +73,13 @@ fn a_world_is_read_and_printed(rt: HostRuntime) -> Result<(), NoMemory> {
 #[test]
 fn an_empty_file_is_the_default_world(rt: HostRuntime) -> Result<(), NoMemory> {
     assert!(rt; is_printed(rt.alloc(), b"", DEFAULT)?);
+    Ok(())
+}
+
+#[test]
+fn the_generated_world_is_as_it_is_printed(rt: HostRuntime) -> Result<(), NoMemory> {
+    let text = gen_world(rt.alloc(), 20, 42)?;
+    assert!(rt; text.as_slice() == GENERATED);
+    assert!(rt; is_printed(rt.alloc(), &text, GENERATED)?);
     Ok(())
 }

@@ -13,7 +13,7 @@ use Rattle.flow_value.specs.declared.value.Kind.{Kind}
 use Rattle.flow_value.specs.declared.value.Kind.TheVariants as kind
 use Rattle.flow_value.specs.Values.{ValueTree, ValueTrees, NoValues, MoreValues, RecordValue, RefValue}
 use Rattle.flow_eval.specs.Typed.{HaveTypes, reference_type, future_side}
-use Rattle.flow_rules.specs.declared.rule.TheConstants.{UNKNOWN_NAME, TWICE}
+use Rattle.flow_rules.specs.declared.rule.SemanticRule.TheVariants.{UnknownName, TakenName}
 use Rattle.flow_rules.specs.Least.{lesser, unless}
 use Rattle.flow_rules.specs.Known.{Meaning, RecordOf, row_of, known, is_record, type_known}
 use Rattle.flow_rules.specs.Judged.{Setting}
@@ -22,8 +22,9 @@ use Rattle.flow_class.specs.Classes.{RawTree}
 use Rattle.flow_valid.specs.Heads.{plain_decls, all_decls}
 use Rattle.flow_valid.specs.Validity.{IsValid}
 use Rattle.flow_rules.specs.Rules.{setting_of}
-use Rattle.flow_typing_laws.proofs.Typing.Names.{bytes_sym, none_some, no_first, no_second, holds}
-use Rattle.flow_typing_laws.proofs.Typing.Agreement.{neither_first, neither_second, no_item}
+use Rattle.flow_rules.proofs.Lesser.{no_first, no_second, holds, no_item}
+use Rattle.flow_typing_laws.proofs.Typing.Names.{bytes_sym, none_some}
+use Rattle.flow_typing_laws.proofs.Typing.Agreement.{neither_first, neither_second}
 use Rattle.flow_progress.specs.Fitting.{CellTypes, typed_by, Fits}
 use Rattle.flow_progress.proofs.Tops.{none_is}
 use Rattle.flow_progress.proofs.Unseen.{Off}
@@ -80,10 +81,10 @@ fields_known : (done more : List RecordTree) (taken : List ℕ → Bool) (fs : L
     → AllBelow (done ++ more) (2 + length done) (param_types fs)
 fields_known done more taken [] h = tt
 fields_known done more taken (f ∷ fs) h =
-    let a = lesser (unless (type_known (known (map StructDecl done)) f.ty) UNKNOWN_NAME) (unless (not (taken f.name.name)) TWICE) in
+    let a = lesser (unless (type_known (known (map StructDecl done)) f.ty) UnknownName) (unless (not (taken f.name.name)) TakenName) in
     let b = no_first a (fields_fault (known (map StructDecl done)) (with_name f.name.name taken) fs) h in
-    let k = holds (type_known (known (map StructDecl done)) f.ty) UNKNOWN_NAME
-    (no_first (unless (type_known (known (map StructDecl done)) f.ty) UNKNOWN_NAME) (unless (not (taken f.name.name)) TWICE) b) in
+    let k = holds (type_known (known (map StructDecl done)) f.ty) UnknownName
+    (no_first (unless (type_known (known (map StructDecl done)) f.ty) UnknownName) (unless (not (taken f.name.name)) TakenName) b) in
     (level_known done more f.ty k, fields_known done more (with_name f.name.name taken) fs (no_second a (fields_fault (known (map StructDecl done)) (with_name f.name.name taken) fs) h))
 
 snoc : {A : Type 0} (xs : List A) (y : A) (ys : List A) → (xs ++ y ∷ []) ++ ys ≡ xs ++ y ∷ ys

@@ -13,11 +13,13 @@ use Rattle.flow_ast.specs.declared.predefined.Predefined.{Predefined}
 use Rattle.flow_ast.specs.declared.predefined.Predefined.TheVariants as predefined
 use Rattle.flow_ast.specs.TypingNames.{named, call_names}
 use Rattle.flow_ast.specs.Typing.{Signature, signature, is_effect, same_type, same_types, types_in, all_without_effects}
-use Rattle.flow_rules.specs.declared.rule.TheConstants.{WRONG_COUNT}
+use Rattle.flow_rules.specs.declared.rule.SemanticRule.{SemanticRule}
+use Rattle.flow_rules.specs.declared.rule.SemanticRule.TheVariants.{WrongCount}
 use Rattle.flow_rules.specs.Least.{lesser, unless}
 use Rattle.flow_rules.specs.Known.{Meaning, RecordOf, FunctionOf, ActorOf, known}
 use Rattle.flow_rules.specs.Judged as judged
 use Rattle.flow_rules.specs.Judged.{Setting, Kind, Need, Exactly, Callee, predefined_kind, predefined_callee, declared_callee, called_as, called, needs_of, gives_of, wants, placed, as_many, calls, faults, wanted}
+use Rattle.flow_rules.proofs.Lesser.{no_first, no_second, holds}
 use Rattle.flow_class.specs.Classes.{ClassTree, RawTree}
 use Rattle.flow_valid.specs.Heads.{all_decls}
 use Rattle.flow_valid.specs.Validity.{IsValid, is_effect_kind, calls_effect}
@@ -25,7 +27,7 @@ use Rattle.flow_valid.specs.Validity as validity
 use Rattle.flow_meaning.specs.Evaluating.{Effectful, World, Actor, world_if, effectful_of, effectful, effect_in}
 use Rattle.flow_meaning.specs.Class.{class_name, class_names}
 use Rattle.flow_typing_laws.specs.Typing.Scopes.{scope_in, setting_in}
-use Rattle.flow_typing_laws.proofs.Typing.Names.{type_same, none_some, no_first, no_second, holds}
+use Rattle.flow_typing_laws.proofs.Typing.Names.{type_same, none_some}
 use Rattle.flow_typing_laws.proofs.Typing.Expressions.{all_typed, from_start, wanted_is}
 use Rattle.flow_typing_laws.proofs.Typing.Agreement.{agrees}
 use Rattle.flow_progress.specs.Rules.{AllTyped, EffectGives, EffectFits}
@@ -76,7 +78,7 @@ same_placed s _ e = refl
 
 same_calls : (s : Setting) (xs : ExprTrees) (o : Option Callee) → calls_effect o ≡ false → calls xs o (placed s true) ≡ calls xs o (placed s false)
 same_calls s xs None e = refl
-same_calls s xs (Some k) e = ap (lesser (unless (as_many xs k.needs) WRONG_COUNT)) (same_placed s k.kind e)
+same_calls s xs (Some k) e = ap (lesser (unless (as_many xs k.needs) WrongCount)) (same_placed s k.kind e)
 
 module _ (r : RawTree) (valid : IsValid r) (c : ClassTree) (vars : List ParamTree) where
   abbrev here : Setting
@@ -90,8 +92,8 @@ module _ (r : RawTree) (valid : IsValid r) (c : ClassTree) (vars : List ParamTre
       subst (λ s. (types_in s es ≡ Some ts) × (all_without_effects s es ≡ true)) (scope_same r vars)
       (subst (λ l. types_in (scope_in (all_decls r) vars) es ≡ Some l) (sym same) k.in_scope, k.quiet)
 
-  many : (es : ExprTrees) (ns : List Need) (o : Option ℕ) → lesser (unless (as_many es ns) WRONG_COUNT) o ≡ None → as_many es ns ≡ true
-  many es ns o h = holds (as_many es ns) WRONG_COUNT (no_first (unless (as_many es ns) WRONG_COUNT) o h)
+  many : (es : ExprTrees) (ns : List Need) (o : Option SemanticRule) → lesser (unless (as_many es ns) WrongCount) o ≡ None → as_many es ns ≡ true
+  many es ns o h = holds (as_many es ns) WrongCount (no_first (unless (as_many es ns) WrongCount) o h)
 
   -- by what is called
   record IsGiven (xs : ExprTrees) (o : Option Effectful) (t : TypeTree) : Type 0 where

@@ -1,5 +1,5 @@
 -- An instruction of a class in which no rule fails fits.
-use Rattle.std.proofs.Common.{◌≡◌, ◌<◌, ℕ, zero, suc, Bool, true, false, ◌&&◌, inl, inr, ◌⊎◌, List, [], ◌∷◌, length, refl, sym, ap, ap₂, subst, ◌∙◌, arith}
+use Rattle.std.proofs.Common.{◌≡◌, ◌<◌, ℕ, zero, suc, Bool, true, false, ◌&&◌, inl, inr, ◌⊎◌, List, [], ◌∷◌, length, refl, sym, ap, subst, ◌∙◌, arith}
 use Rattle.std.specs.Prelude.{is_none, slice_get}
 use Rattle.std.specs.List.{list_all}
 use Rattle.std.specs.Option.{option_map}
@@ -19,6 +19,7 @@ use Rattle.flow_ast.specs.Fits.{fields_type, path_type}
 use Rattle.flow_rules.specs.Least.{lesser}
 use Rattle.flow_rules.specs.Judged.{Setting, form, fault, wants, wanted}
 use Rattle.flow_rules.specs.Items.{target_form, target_fault, assigned, call_fault, ends_of}
+use Rattle.flow_rules.proofs.Lesser.{no_first, no_second, no_lesser}
 use Rattle.flow_class.specs.declared.class.Slotted.{Slotted}
 use Rattle.flow_class.specs.Classes.{InstrTree, SetInstr, EffectInstr, NewInstr, ActInstr, DropInstr, LastTree, GotoLast, PassLast, TestLast, ChooseLast, ReturnLast, ThrowLast, CallbackTree, ClassTree, RawTree}
 use Rattle.flow_class.specs.Code.{Nothing, fetch_in, fetch_at, callback_at, type_at}
@@ -30,7 +31,7 @@ use Rattle.flow_meaning.specs.Evaluating.{before_last, last_of}
 use Rattle.flow_tree.specs.Formed.{IsPath}
 use Rattle.flow_typing_laws.specs.Typing.Scopes.{setting_in}
 use Rattle.flow_typing_laws.specs.Typing.CallsFit.{HaveTypes, NameFits, MethodFits, PathFits, CallStands}
-use Rattle.flow_typing_laws.proofs.Typing.Names.{none_some, some_same, no_first, no_second}
+use Rattle.flow_typing_laws.proofs.Typing.Names.{none_some, some_same}
 use Rattle.flow_typing_laws.proofs.Typing.Agreement.{Distinct}
 use Rattle.flow_typing_laws.proofs.Typing.Statements.{yields, target}
 use Rattle.flow_typing_laws.proofs.Typing.CallsFitting.{call_stands}
@@ -39,9 +40,6 @@ use Rattle.flow_progress.specs.Rules.{takes_type, MessageFits, Typed, AllTyped, 
 use Rattle.flow_progress.specs.Written.{HasPath, heads}
 use Rattle.flow_progress.proofs.Tops.{first_true, second_true, none_is, all_records, all_functions, scope_same, all_distinct}
 use Rattle.flow_progress.proofs.EffectsTyped.{effect_fits, operand_effect, operand_value}
-
-none_both : (x y : Option ℕ) → x ≡ None → y ≡ None → lesser x y ≡ None
-none_both x y a b = ap₂ lesser a b
 
 ends_same : (x : Ident) (xs : List Ident) → ends_of x xs ≡ (before_last x xs, last_of x xs)
 ends_same x [] = refl
@@ -90,7 +88,7 @@ module _ (r : RawTree) (valid : IsValid r) (c : ClassTree) where
         t.type,
         ap (λ rs. path_type rs vars path) (sym (all_records r))
             ∙ t.in_scope,
-        none_both (fault here whole e) (wants (form here e) t.type) (no_second (target_fault here path) (fault here whole e) a) w,
+        no_lesser (fault here whole e) (wants (form here e) t.type) (no_second (target_fault here path) (fault here whole e) a) w,
       )
 
   -- a call by a name

@@ -13,10 +13,11 @@ use Rattle.flow_class.specs.declared.class.Slotted.{Slotted}
 use Rattle.flow_class.specs.declared.class.Slotted.TheVariants.{Slot, Local}
 use Rattle.flow_class.specs.Classes.{CatcherTree, InstrTree, SetInstr, EffectInstr, NewInstr, ActInstr, DropInstr, LastTree, GotoLast, PassLast, TestLast, ChooseLast, ReturnLast, ThrowLast, BlockTree, CallbackTree, ClassTree, RawTree}
 use Rattle.flow_class.specs.Code.{Fetched, Body, Last, Nothing, fetch_in, fetch_at, fetch, catcher_in, catcher_at, group_at, callback_at, type_at}
-use Rattle.flow_valid.specs.Named.{listed, expr_places, path_place, base_place, instr_places, last_places, catcher_places, targets, has_place, has_block, has_catcher, has_group, has_last, has_named, has_operand, names_exist}
+use Rattle.flow_valid.specs.Named.{listed, expr_places, path_place, base_place, instr_places, last_places, catcher_places, targets, has_place, has_block, has_catcher, has_group, has_last, has_named, has_operand}
 use Rattle.flow_valid.specs.Filling.{same_place, among, operands, instr_reads, group_reads, reads}
-use Rattle.flow_valid.specs.Validity.{IsValid, all_blocks, leads_forward, groups_chosen, is_of, takes_error, distinct, catches, catchers_kept, instr_fits, last_fits, callback_fits, block_fits, types_fit, first_broken}
-use Rattle.flow_typing_laws.proofs.Typing.Names.{type_same, none_some, some_none, some_same, there}
+use Rattle.flow_valid.specs.Validity.{IsValid, all_blocks, is_of, takes_error, distinct, catches, instr_fits, last_fits, callback_fits, block_fits}
+use Rattle.flow_valid.proofs.ClassRules.{Sound, sound_of}
+use Rattle.flow_typing_laws.proofs.Typing.Names.{type_same, none_some, some_same, there}
 use Rattle.flow_progress.specs.Places.{class_vars}
 use Rattle.flow_progress.specs.Rules.{InstrFits, BranchFits, IsBlock, LastFits, KeepsRules, ClassRules}
 use Rattle.flow_progress.specs.Written.{IsWritten, AreWritten, heads, FunctionsKept}
@@ -50,10 +51,6 @@ at_blocks p m (d ∷ bs) zero b h e =
 at_blocks p m (d ∷ bs) (suc n) b h e =
     let z : suc m + n ≡ m + suc n = omega arith in
     subst (λ k. p k b ≡ true) z (at_blocks p (suc m) bs n b (second_true (p m d) (all_blocks p (suc m) bs) h) e)
-
-passed : (n : ℕ) (b : Bool) (xs : List (ℕ × Bool)) → first_broken ((n, b) ∷ xs) ≡ None → (b ≡ true) × (first_broken xs ≡ None)
-passed n true xs e = (refl, e)
-passed n false xs e = absurd (some_none e)
 
 -- what is fetched stands in a block
 record InBlock (c : ClassTree) (b n : ℕ) (f : Fetched) : Type 0 where
@@ -114,27 +111,21 @@ read_all p (ActInstr path es) h = h
 read_all p (DropInstr ns) h = refl
 
 module _ (r : RawTree) (valid : IsValid r) (k : ℕ) (c : ClassTree) (at : slice_get r.classes k ≡ Some c) (w : IsWritten c) where
-  kept_names : (names_exist c ≡ true) × (catchers_kept c ≡ true) × (types_fit r c ≡ true)
-  kept_names =
-      let a = passed 3 (names_exist c) ((4, leads_forward c) ∷ (5, groups_chosen c) ∷ (6, catchers_kept c) ∷ (7, types_fit r c) ∷ []) (valid.classes k c at).tested in
-      let b = passed 4 (leads_forward c) ((5, groups_chosen c) ∷ (6, catchers_kept c) ∷ (7, types_fit r c) ∷ []) a.1 in
-      let d = passed 5 (groups_chosen c) ((6, catchers_kept c) ∷ (7, types_fit r c) ∷ []) b.1 in
-      let e = passed 6 (catchers_kept c) ((7, types_fit r c) ∷ []) d.1 in
-      let f = passed 7 (types_fit r c) [] e.1 in
-      (a.0, e.0, f.0)
+  kept_names : Sound r c
+  kept_names = sound_of r c (valid.classes k c at).tested
 
   abbrev set : Setting
   set = here r valid c
 
   fitting : list_all (block_fits c set) c.blocks && list_all (list_all (callback_fits c set)) c.groups ≡ true
-  fitting = subst (λ s. list_all (block_fits c s) c.blocks && list_all (list_all (callback_fits c s)) c.groups ≡ true) (same_setting r c) kept_names.2
+  fitting = subst (λ s. list_all (block_fits c s) c.blocks && list_all (list_all (callback_fits c s)) c.groups ≡ true) (same_setting r c) kept_names.types
 
   -- a block
   block_fitting : (b : ℕ) (d : BlockTree) → slice_get c.blocks b ≡ Some d → block_fits c set d ≡ true
   block_fitting b d e = at_all (block_fits c set) c.blocks b d (first_true (list_all (block_fits c set) c.blocks) (list_all (list_all (callback_fits c set)) c.groups) fitting) e
 
   block_named : (b : ℕ) (d : BlockTree) → slice_get c.blocks b ≡ Some d → has_named c d ≡ true
-  block_named b d e = at_all (has_named c) c.blocks b d (first_true (list_all (has_named c) c.blocks) (list_all (list_all (has_operand c)) c.groups) kept_names.0) e
+  block_named b d e = at_all (has_named c) c.blocks b d (first_true (list_all (has_named c) c.blocks) (list_all (list_all (has_operand c)) c.groups) kept_names.names) e
 
   abbrev bodies : BlockTree → Bool
   bodies d = list_all (λ (i : InstrTree). list_all (has_place c) (instr_places i)) d.body
@@ -161,7 +152,7 @@ module _ (r : RawTree) (valid : IsValid r) (k : ℕ) (c : ClassTree) (at : slice
       go (Some ks) q e = at_all p ks n d (in_group p c.groups g ks h q) e
 
   groups_named : list_all (list_all (has_operand c)) c.groups ≡ true
-  groups_named = second_true (list_all (has_named c) c.blocks) (list_all (list_all (has_operand c)) c.groups) kept_names.0
+  groups_named = second_true (list_all (has_named c) c.blocks) (list_all (list_all (has_operand c)) c.groups) kept_names.names
 
   branches : (g n : ℕ) (d : CallbackTree) → callback_at c g n ≡ Some d → BranchFits r (heads r) c (class_vars c) d
   branches g n d e =
@@ -197,7 +188,7 @@ module _ (r : RawTree) (valid : IsValid r) (k : ℕ) (c : ClassTree) (at : slice
   catchers b q e =
       let d = catcher_there b q (slice_get c.blocks b) refl e in
       let h = subst (λ o. has_catcher c o ≡ true) d.2 (catcher_named b d.0 d.1) in
-      let m = subst (λ o. catches c (0 + b) o ≡ true) d.2 (at_blocks (λ n (x : BlockTree). catches c n x.catcher) 0 c.blocks b d.0 kept_names.1 d.1) in
+      let m = subst (λ o. catches c (0 + b) o ≡ true) d.2 (at_blocks (λ n (x : BlockTree). catches c n x.catcher) 0 c.blocks b d.0 kept_names.catchers d.1) in
       let t = second_true (nat_lt (0 + b) q.block) (takes_error c q.error) (first_true (nat_lt (0 + b) q.block && takes_error c q.error) (distinct q.drops) m) in
       (block_there r valid c q.block (first_true (has_block c q.block) (list_all (has_place c) (catcher_places q)) h), λ n f. takes_local q.error n t f)
 

@@ -1,8 +1,7 @@
 -- The note on a refusal: the place in its file, what the rule asks, and the line with a mark under the place.
-use Rattle.std.specs.Prelude.{◌≡◌, ℕ, zero, suc, ◌+◌, ◌-◌, ◌||◌, ◌==◌, min, nat_lt, List, [], ◌∷◌, ◌++◌, map, take, drop, replicate, codes, decimal, if◌then◌else◌}
+use Rattle.std.specs.Prelude.{◌≡◌, ℕ, zero, suc, ◌+◌, ◌-◌, ◌||◌, ◌==◌, min, nat_lt, List, [], ◌++◌, map, take, drop, replicate, codes, decimal, if◌then◌else◌}
 use Rattle.std.specs.List.{position_or_len}
 use Rattle.flow_base.specs.declared.place.Place.{Place}
-use Rattle.flow_tree.specs.declared.fault.Rule.{Rule}
 use Rattle.flow_tree.specs.declared.fault.Rule.TheVariants.{L}
 use Rattle.flow_tree.specs.declared.fault.SourceFault.{SourceFault}
 use Rattle.flow_tree.specs.declared.fault.SourceFault.TheVariants.{Refused, AcrossWait, OutOfMemory}

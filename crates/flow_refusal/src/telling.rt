@@ -2,6 +2,7 @@
 
 ghost use Rattle.std.specs.Prelude.{◌≡◌, ◌++◌, true, codes, decimal, IfOk};
 ghost use Rattle.flow_tree.specs.declared.fault.SourceFault.TheVariants.{Refused, AcrossWait};
+ghost use Rattle.flow_refusal.specs.Refusal.{refusal_text};
 ghost use Rattle.flow_refusal.specs.Note.{said, remark, overall, line_remark, program_note, world_note, Notes};
 
 use crate::excerpt::{line_at, put_excerpt, put_window};
@@ -161,12 +162,12 @@ fn on_world(
     Ok(out)
 }
 
-// What is said of a fault of a program.
-fn fault_words(fault: &SourceFault) -> &'static str {
+// What is said of a fault of a program, where there is a rule that it breaks.
+fn fault_words(fault: &SourceFault) -> Option<&'static str> {
     match fault {
         SourceFault::Refused { rule, .. } => rule_words(*rule),
-        SourceFault::AcrossWait { .. } => ACROSS_WAIT,
-        SourceFault::OutOfMemory => "",
+        SourceFault::AcrossWait { .. } => Some(ACROSS_WAIT),
+        SourceFault::OutOfMemory => None,
     }
 }
 
@@ -211,8 +212,28 @@ fn on_world_line(
     }
 }
 
+// The note on a fault of a program that a line tells, and none where no rule has its number.
+#[tactic(auto, using(crate::proofs::Noting::program_noted, crate::proofs::Noting::nothing_noted))]
+fn on_fault(
+    alloc: Global,
+    answer: &[u8],
+    name: &str,
+    text: &[u8],
+    world: &str,
+    world_text: &[u8],
+    fault: &SourceFault,
+) -> Result<Vec<u8>, NoMemory>
+    requires { answer.now ≡ refusal_text fault.now }
+    ensures { IfOk result (λ v. Notes answer.now name.now text.now world.now world_text.now
+        v.items) }
+{
+    match fault_words(fault) {
+        Some(words) => on_program(alloc, name, text, fault, words),
+        None => Ok(Vec::new(alloc)),
+    }
+}
+
 // The note on a line that tells a fault of a file, and none on another.
-#[tactic(auto, using(crate::proofs::Noting::program_noted))]
 fn on_line(
     alloc: Global,
     answer: &[u8],
@@ -225,7 +246,7 @@ fn on_line(
         v.items) }
 {
     match read_refusal(alloc, answer)? {
-        Some(fault) => on_program(alloc, name, text, &fault, fault_words(&fault)),
+        Some(fault) => on_fault(alloc, answer, name, text, world, world_text, &fault),
         None => on_world_line(alloc, answer, name, text, world, world_text),
     }
 }

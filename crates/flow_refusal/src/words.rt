@@ -4,19 +4,21 @@ use flow_tree::fault::Rule;
 use flow_worldfile::WorldFault;
 
 /// What is said where a rule of the spelling or the form of a text fails.
-fn spelling(number: u8) -> &'static str {
-    match number {
+fn spelling(number: u8) -> Option<&'static str> {
+    let words = match number {
         1 => "S1: no token begins with this byte, or a quoted text may not hold it",
         2 => "S2: this quoted text isn't closed on its line",
         3 => "S3: this comment isn't closed",
         4 => "S4: this number is too large, or this name or text too long",
-        _ => "S5: no program goes on so here",
-    }
+        5 => "S5: no program goes on so here",
+        _ => return None,
+    };
+    Some(words)
 }
 
 /// What is said where a limit is passed.
-fn limit(number: u8) -> &'static str {
-    match number {
+fn limit(number: u8) -> Option<&'static str> {
+    let words = match number {
         1 => "L1: a program has at most 1,048,576 bytes",
         2 => "L2: a program has at most 200,000 tokens",
         3 => "L3: a program has at most 4,096 declarations",
@@ -25,13 +27,15 @@ fn limit(number: u8) -> &'static str {
         6 => "L6: a declaration has at most 1,000 parameters and state variables, or fields",
         7 => "L7: a choose has at most 64 branches",
         8 => "L8: a record is at most 16 deep in others, with at most 1,024 plain fields in all",
-        _ => "L9: this actor weighs more than 60,000; split it",
-    }
+        9 => "L9: this actor weighs more than 60,000; split it",
+        _ => return None,
+    };
+    Some(words)
 }
 
 /// What is said where a rule of the meaning of a program fails.
-fn meaning(number: u8) -> &'static str {
-    match number {
+fn meaning(number: u8) -> Option<&'static str> {
+    let words = match number {
         1 => "K1: nothing of this name is in force here",
         2 => "K2: this name is in force already, or predefined",
         3 => "K3: a value of another type is needed here",
@@ -45,12 +49,14 @@ fn meaning(number: u8) -> &'static str {
         9 => "K9: `break` and `continue` need a loop around them, and `throw;` a catch",
         10 => "K10: only an actor can wait",
         11 => "K11: a program needs an actor `ACTOR Future<Void> main(int p)`",
-        _ => "K12: what this call gives would be lost; wait for it or keep it",
-    }
+        12 => "K12: what this call gives would be lost; wait for it or keep it",
+        _ => return None,
+    };
+    Some(words)
 }
 
-/// What is said where a rule on a program fails.
-pub fn rule_words(rule: Rule) -> &'static str {
+/// What is said where a rule on a program fails. `None` where there is no rule of this number.
+pub fn rule_words(rule: Rule) -> Option<&'static str> {
     match rule {
         Rule::S(number) => spelling(number),
         Rule::L(number) => limit(number),

@@ -18,8 +18,9 @@ use Rattle.flow_ast.specs.Slots.{body_slots, branch_slots, waited_slots}
 use Rattle.flow_ast.specs.Fits.{has_plain_default}
 use Rattle.flow_ast.specs.TypingNames.{named}
 use Rattle.flow_ast.specs.Typing.{or_else, is_there}
-use Rattle.flow_rules.specs.declared.rule.TheConstants.{UNKNOWN_NAME, TWICE, NOT_HERE, NEEDS_VALUE, BREAK_OUTSIDE, WAIT_OUTSIDE}
-use Rattle.flow_rules.specs.Least.{lesser, unless}
+use Rattle.flow_rules.specs.declared.rule.SemanticRule.{SemanticRule}
+use Rattle.flow_rules.specs.declared.rule.SemanticRule.TheVariants.{UnknownName, TakenName, NotInFunction, NeedsValue, BreakOutside, WaitInFunction}
+use Rattle.flow_rules.specs.Least.{number, lesser, unless}
 use Rattle.flow_rules.specs.Known.{type_known, is_predefined}
 use Rattle.flow_rules.specs.Judged.{Setting, field_form, variable_form, of_field, form, fault, faults, wanted, wants, operands, not_here, called, called_on, needs_of, calls, said}
 
@@ -36,8 +37,8 @@ abbrev pub Refusal : Type 0
 Refusal = Rule × Place
 
 -- an item at this place, with the least rule that fails in it
-abbrev pub item : Place → Option ℕ → Option Refusal
-item at f = option_map (λ k. (K k, at)) f
+abbrev pub item : Place → Option SemanticRule → Option Refusal
+item at f = option_map (λ k. (K (number k), at)) f
 
 abbrev pub with_var : Env → List ℕ → TypeTree → Env
 with_var e x t = record e { setting = record e.setting { vars = e.setting.vars ++ (x, t) ∷ [] } }
@@ -70,8 +71,8 @@ waited e None = e
 waited e (Some i) = declared e i
 
 -- a written type: its records are known, and in a function it holds no reference
-abbrev pub written : Setting → TypeTree → Option ℕ
-written s t = lesser (unless (type_known s.known t) UNKNOWN_NAME) (unless (not (s.plain && s.holds t)) NOT_HERE)
+abbrev pub written : Setting → TypeTree → Option SemanticRule
+written s t = lesser (unless (type_known s.known t) UnknownName) (unless (not (s.plain && s.holds t)) NotInFunction)
 
 abbrev pub among : List (List ℕ) → List ℕ → Bool
 among [] x = false
@@ -79,15 +80,15 @@ among (y ∷ ys) x = bytes_eq x y || among ys x
 
 -- a new variable: its name is that of no variable in force, not predefined, and none at the top; and a
 -- state variable's is that of no parameter and no earlier state variable
-abbrev pub fresh : Setting → List (List ℕ) → Bool → List ℕ → Option ℕ
+abbrev pub fresh : Setting → List (List ℕ) → Bool → List ℕ → Option SemanticRule
 fresh s states state x = unless (not (is_there (named s.vars x) || is_predefined x || is_there (s.known x) || (state && among states x)))
-    TWICE
+    TakenName
 
-abbrev pub state_here : Setting → Bool → Option ℕ
+abbrev pub state_here : Setting → Bool → Option SemanticRule
 state_here s true = not_here s
 state_here s false = None
 
-abbrev pub into_fault : Setting → List (List ℕ) → IntoTree → Option ℕ
+abbrev pub into_fault : Setting → List (List ℕ) → IntoTree → Option SemanticRule
 into_fault s states i = lesser (written s i.ty) (lesser (state_here s i.state) (fresh s states i.state i.name.name))
 
 -- the types of variables that have a value without one being given: a promise or a promise of a stream is made
@@ -96,8 +97,8 @@ has_default (PromiseType t) = true
 has_default (PromiseStreamType t) = true
 has_default t = has_plain_default t
 
-abbrev pub value_fault : Setting → TypeTree → Option ExprTree → Option ℕ
-value_fault s t None = unless (has_default t) NEEDS_VALUE
+abbrev pub value_fault : Setting → TypeTree → Option ExprTree → Option SemanticRule
+value_fault s t None = unless (has_default t) NeedsValue
 value_fault s t (Some v) = wanted s true v t
 
 -- the type of what a path leads to from a base of this type, and the least rule that fails on it
@@ -106,7 +107,7 @@ path_form s t [] = t
 path_form s None (x ∷ xs) = None
 path_form s (Some t) (x ∷ xs) = path_form s (field_form s t x.name) xs
 
-abbrev pub path_fault : Setting → Option TypeTree → List Ident → Option ℕ
+abbrev pub path_fault : Setting → Option TypeTree → List Ident → Option SemanticRule
 path_fault s t [] = None
 path_fault s None (x ∷ xs) = None
 path_fault s (Some t) (x ∷ xs) = lesser (of_field s (Some t) x.name) (path_fault s (field_form s t x.name) xs)
@@ -116,19 +117,19 @@ abbrev pub target_form : Setting → List Ident → Option TypeTree
 target_form s [] = None
 target_form s (x ∷ xs) = path_form s (named s.vars x.name) xs
 
-abbrev pub target_fault : Setting → List Ident → Option ℕ
+abbrev pub target_fault : Setting → List Ident → Option SemanticRule
 target_fault s [] = None
-target_fault s (x ∷ xs) = lesser (unless (is_there (named s.vars x.name)) UNKNOWN_NAME) (path_fault s (named s.vars x.name) xs)
+target_fault s (x ∷ xs) = lesser (unless (is_there (named s.vars x.name)) UnknownName) (path_fault s (named s.vars x.name) xs)
 
-abbrev pub assigned : Option TypeTree → Option TypeTree → Option ℕ
+abbrev pub assigned : Option TypeTree → Option TypeTree → Option SemanticRule
 assigned t None = None
 assigned t (Some u) = wants t u
 
-abbrev pub assign_fault : Setting → List Ident → ExprTree → Option ℕ
+abbrev pub assign_fault : Setting → List Ident → ExprTree → Option SemanticRule
 assign_fault s xs v = lesser (lesser (target_fault s xs) (fault s true v)) (assigned (form s v) (target_form s xs))
 
 -- `x += e` is `x = x + (e)`, `++` adds 1; likewise `-=` and `--`
-abbrev pub change_fault : Setting → Option TypeTree → ChangeTree → Option ℕ
+abbrev pub change_fault : Setting → Option TypeTree → ChangeTree → Option SemanticRule
 change_fault s t (PlusChange v) = lesser (fault s false v) (operands Add t (form s v))
 change_fault s t (MinusChange v) = lesser (fault s false v) (operands Sub t (form s v))
 change_fault s t UpChange = wants t IntType
@@ -143,19 +144,19 @@ abbrev pub base_form : Setting → List Ident → Option TypeTree
 base_form s [] = None
 base_form s (x ∷ xs) = path_form s (variable_form s x.name) xs
 
-abbrev pub base_fault : Setting → List Ident → Option ℕ
+abbrev pub base_fault : Setting → List Ident → Option SemanticRule
 base_fault s [] = None
-base_fault s (x ∷ xs) = lesser (unless (is_there (variable_form s x.name)) UNKNOWN_NAME) (path_fault s (variable_form s x.name) xs)
+base_fault s (x ∷ xs) = lesser (unless (is_there (variable_form s x.name)) UnknownName) (path_fault s (variable_form s x.name) xs)
 
-abbrev pub call_by_name : Setting → List ℕ → ExprTrees → Option ℕ
+abbrev pub call_by_name : Setting → List ℕ → ExprTrees → Option SemanticRule
 call_by_name s f es = lesser (faults s 0 (needs_of (called s f)) es) (calls es (called s f) (said s))
 
-abbrev pub call_on : Setting → List Ident → List ℕ → ExprTrees → Option ℕ
+abbrev pub call_on : Setting → List Ident → List ℕ → ExprTrees → Option SemanticRule
 call_on s base m es =
     lesser (base_fault s base)
     (lesser (faults s 0 (needs_of (called_on (base_form s base) m)) es) (calls es (called_on (base_form s base) m) (said s)))
 
-abbrev pub call_fault : Setting → List Ident → ExprTrees → Option ℕ
+abbrev pub call_fault : Setting → List Ident → ExprTrees → Option SemanticRule
 call_fault s [] es = None
 call_fault s (f ∷ []) es = call_by_name s f.name es
 call_fault s (x ∷ (y ∷ ys)) es = call_on s (ends_of x (y ∷ ys)).0 (ends_of x (y ∷ ys)).1.name es
@@ -167,30 +168,30 @@ wait_type true None = FutureStreamType VoidType
 wait_type false (Some i) = FutureType i.ty
 wait_type true (Some i) = FutureStreamType i.ty
 
-abbrev pub maybe_into : Setting → List (List ℕ) → Option IntoTree → Option ℕ
+abbrev pub maybe_into : Setting → List (List ℕ) → Option IntoTree → Option SemanticRule
 maybe_into s states None = None
 maybe_into s states (Some i) = into_fault s states i
 
-abbrev pub wait_fault : Setting → List (List ℕ) → WaitTree → Option ℕ
+abbrev pub wait_fault : Setting → List (List ℕ) → WaitTree → Option SemanticRule
 wait_fault s states w =
     lesser (maybe_into s states w.into)
-    (lesser (wanted s true w.operand (wait_type w.next w.into)) (unless (not s.plain) WAIT_OUTSIDE))
+    (lesser (wanted s true w.operand (wait_type w.next w.into)) (unless (not s.plain) WaitInFunction))
 
-abbrev pub test_fault : Setting → ExprTree → Option ℕ
+abbrev pub test_fault : Setting → ExprTree → Option SemanticRule
 test_fault s t = wanted s false t BoolType
 
-abbrev pub maybe_test : Setting → Option ExprTree → Option ℕ
+abbrev pub maybe_test : Setting → Option ExprTree → Option SemanticRule
 maybe_test s None = None
 maybe_test s (Some t) = test_fault s t
 
-abbrev pub throw_fault : Setting → Bool → Option ExprTree → Option ℕ
-throw_fault s caught None = unless caught BREAK_OUTSIDE
+abbrev pub throw_fault : Setting → Bool → Option ExprTree → Option SemanticRule
+throw_fault s caught None = unless caught BreakOutside
 throw_fault s caught (Some v) = wanted s false v ErrorType
 
-abbrev pub declare_fault : Setting → List (List ℕ) → IntoTree → Option ExprTree → Option ℕ
+abbrev pub declare_fault : Setting → List (List ℕ) → IntoTree → Option ExprTree → Option SemanticRule
 declare_fault s states i v = lesser (into_fault s states i) (value_fault s i.ty v)
 
-abbrev pub modify_fault : Setting → List Ident → ChangeTree → Option ℕ
+abbrev pub modify_fault : Setting → List Ident → ChangeTree → Option SemanticRule
 modify_fault s xs c = lesser (target_fault s xs) (change_fault s (target_form s xs) c)
 
 -- the variable that the init of a `for` declares is in force in its parts and its body
@@ -215,8 +216,8 @@ abbrev mutual
       (or_else (body_refusal (started e i) n)
       (or_else (body_refusal (in_loop (behind (started e i) n)) b) (body_refusal (behind (behind (behind e i) n) b) k))))
   body_refusal e (LoopStmt at b k) = or_else (body_refusal (in_loop e) b) (body_refusal (behind e b) k)
-  body_refusal e (BreakStmt at k) = or_else (item at (unless e.looped BREAK_OUTSIDE)) (body_refusal e k)
-  body_refusal e (ContinueStmt at k) = or_else (item at (unless e.looped BREAK_OUTSIDE)) (body_refusal e k)
+  body_refusal e (BreakStmt at k) = or_else (item at (unless e.looped BreakOutside)) (body_refusal e k)
+  body_refusal e (ContinueStmt at k) = or_else (item at (unless e.looped BreakOutside)) (body_refusal e k)
   body_refusal e (ReturnStmt at v k) = or_else (item at (wanted e.setting false v e.returns)) (body_refusal e k)
   body_refusal e (ThrowStmt at v k) = or_else (item at (throw_fault e.setting e.caught v)) (body_refusal e k)
   body_refusal e (TryStmt at b q x h k) =
@@ -224,7 +225,7 @@ abbrev mutual
       (or_else (item q (fresh e.setting (behind e b).states false x.name))
       (or_else (body_refusal (in_catch (with_var (behind e b) x.name ErrorType)) h) (body_refusal (behind (behind e b) h) k)))
   body_refusal e (ChooseStmt at bs k) =
-      or_else (item at (unless (not e.setting.plain) WAIT_OUTSIDE))
+      or_else (item at (unless (not e.setting.plain) WaitInFunction))
       (or_else (branch_refusal e bs) (body_refusal (with_states e (slot_names (branch_slots bs))) k))
   body_refusal e (DeclareStmt at i v k) = or_else (item at (declare_fault e.setting e.states i v)) (body_refusal (declared e i) k)
   body_refusal e (AssignStmt at xs v k) = or_else (item at (assign_fault e.setting xs v)) (body_refusal e k)

@@ -13,8 +13,9 @@ use Rattle.flow_ast.specs.declared.predefined.Method.{Method}
 use Rattle.flow_ast.specs.declared.predefined.Method.TheVariants as method
 use Rattle.flow_tree.specs.Tree.{TypeTree, IntType, BoolType, StringType, VoidType, ErrorType, NamedType, FutureType, PromiseType, PromiseStreamType, ExprTree, ExprTrees, IntExpr, TextExpr, BoolExpr, VoidExpr, VarExpr, CallExpr, FieldExpr, MethodExpr, NotExpr, NegExpr, BinaryExpr, ParenExpr, NoExprs, MoreExprs}
 use Rattle.flow_ast.specs.TypingNames.{named, call_names, method_names, constant_names}
-use Rattle.flow_ast.specs.Typing.{Signature, signature, is_effect, same_type, sign_type, binary_type, equality_type, method_in, with_type, is_there}
-use Rattle.flow_rules.specs.declared.rule.TheConstants.{UNKNOWN_NAME, WRONG_TYPE, WRONG_COUNT, EFFECT_INSIDE, NOT_HERE, DISCARD}
+use Rattle.flow_ast.specs.Typing.{Signature, signature, same_type, sign_type, binary_type, equality_type, method_in, with_type, is_there}
+use Rattle.flow_rules.specs.declared.rule.SemanticRule.{SemanticRule}
+use Rattle.flow_rules.specs.declared.rule.SemanticRule.TheVariants.{UnknownName, WrongType, WrongCount, EffectInside, NotInFunction, LostValue}
 use Rattle.flow_rules.specs.Least.{lesser, unless}
 use Rattle.flow_rules.specs.Known.{Meaning, RecordOf, FunctionOf, ActorOf}
 
@@ -174,42 +175,42 @@ form s (BinaryExpr op a b) = sign_form op (form s a) (form s b)
 form s (ParenExpr e) = form s e
 
 -- this type is wanted, where there is one
-abbrev pub wants : Option TypeTree → TypeTree → Option ℕ
+abbrev pub wants : Option TypeTree → TypeTree → Option SemanticRule
 wants None u = None
-wants (Some t) u = unless (same_type t u) WRONG_TYPE
+wants (Some t) u = unless (same_type t u) WrongType
 
 -- an argument fits what stands at its place, if something does
-abbrev pub fits : Option TypeTree → Option Need → Option ℕ
+abbrev pub fits : Option TypeTree → Option Need → Option SemanticRule
 fits t None = None
 fits t (Some (Exactly u)) = wants t u
 fits None (Some Traced) = None
-fits (Some t) (Some Traced) = unless (is_there (equality_type t)) WRONG_TYPE
+fits (Some t) (Some Traced) = unless (is_there (equality_type t)) WrongType
 
 -- what a sign asks of its operands, as far as they have types
-abbrev pub operands : Op → Option TypeTree → Option TypeTree → Option ℕ
+abbrev pub operands : Op → Option TypeTree → Option TypeTree → Option SemanticRule
 operands op None None = None
-operands op (Some t) None = unless (is_there (sign_type op t)) WRONG_TYPE
-operands op None (Some u) = unless (is_there (sign_type op u)) WRONG_TYPE
-operands op (Some t) (Some u) = unless (is_there (binary_type op t u)) WRONG_TYPE
+operands op (Some t) None = unless (is_there (sign_type op t)) WrongType
+operands op None (Some u) = unless (is_there (sign_type op u)) WrongType
+operands op (Some t) (Some u) = unless (is_there (binary_type op t u)) WrongType
 
 -- what isn't in force in a function
-abbrev pub not_here : Setting → Option ℕ
-not_here s = unless (not s.plain) NOT_HERE
+abbrev pub not_here : Setting → Option SemanticRule
+not_here s = unless (not s.plain) NotInFunction
 
 -- what is called may stand in an expression, an effect only as a whole one; a statement call has no type
-abbrev pub placed : Setting → Bool → Kind → Option ℕ
+abbrev pub placed : Setting → Bool → Kind → Option SemanticRule
 placed s whole Value = None
 placed s whole OfFunction = None
 placed s whole Clock = not_here s
-placed s whole Effect = lesser (unless whole EFFECT_INSIDE) (not_here s)
-placed s whole Statement = lesser (not_here s) (Some WRONG_TYPE)
+placed s whole Effect = lesser (unless whole EffectInside) (not_here s)
+placed s whole Statement = lesser (not_here s) (Some WrongType)
 
 -- what is called may stand as a statement
-abbrev pub said : Setting → Kind → Option ℕ
-said s Value = Some DISCARD
+abbrev pub said : Setting → Kind → Option SemanticRule
+said s Value = Some LostValue
 said s OfFunction = None
-said s Clock = lesser (not_here s) (Some DISCARD)
-said s Effect = lesser (not_here s) (Some DISCARD)
+said s Clock = lesser (not_here s) (Some LostValue)
+said s Effect = lesser (not_here s) (Some LostValue)
 said s Statement = not_here s
 
 -- whether there are as many arguments as are needed
@@ -220,28 +221,28 @@ as_many (MoreExprs e es) [] = false
 as_many (MoreExprs e es) (n ∷ ns) = as_many es ns
 
 -- something is called, with as many arguments as it needs
-abbrev pub calls : ExprTrees → Option Callee → (Kind → Option ℕ) → Option ℕ
-calls xs None may = Some UNKNOWN_NAME
-calls xs (Some c) may = lesser (unless (as_many xs c.needs) WRONG_COUNT) (may c.kind)
+abbrev pub calls : ExprTrees → Option Callee → (Kind → Option SemanticRule) → Option SemanticRule
+calls xs None may = Some UnknownName
+calls xs (Some c) may = lesser (unless (as_many xs c.needs) WrongCount) (may c.kind)
 
 -- the same behind a base, which may have no type
-abbrev pub calls_on : Option TypeTree → ExprTrees → Option Callee → (Kind → Option ℕ) → Option ℕ
+abbrev pub calls_on : Option TypeTree → ExprTrees → Option Callee → (Kind → Option SemanticRule) → Option SemanticRule
 calls_on None xs c may = None
 calls_on (Some t) xs c may = calls xs c may
 
-abbrev pub of_field : Setting → Option TypeTree → List ℕ → Option ℕ
+abbrev pub of_field : Setting → Option TypeTree → List ℕ → Option SemanticRule
 of_field s None x = None
-of_field s (Some t) x = unless (is_there (field_form s t x)) UNKNOWN_NAME
+of_field s (Some t) x = unless (is_there (field_form s t x)) UnknownName
 
 -- the least rule that fails in an expression, which may be an effect where it is whole; and in
 -- arguments, the first with this number, each judged, and compared as far as something is needed
 abbrev mutual
-  pub fault : Setting → Bool → ExprTree → Option ℕ
+  pub fault : Setting → Bool → ExprTree → Option SemanticRule
   fault s whole (IntExpr n) = None
   fault s whole (TextExpr t) = None
   fault s whole (BoolExpr b) = None
   fault s whole VoidExpr = None
-  fault s whole (VarExpr x) = unless (is_there (variable_form s x.name)) UNKNOWN_NAME
+  fault s whole (VarExpr x) = unless (is_there (variable_form s x.name)) UnknownName
   fault s whole (CallExpr f xs) = lesser (faults s 0 (needs_of (called s f.name)) xs) (calls xs (called s f.name) (placed s whole))
   fault s whole (FieldExpr e x) = lesser (fault s false e) (of_field s (form s e) x.name)
   fault s whole (MethodExpr e m xs) =
@@ -253,10 +254,10 @@ abbrev mutual
   fault s whole (BinaryExpr op a b) = lesser (lesser (fault s false a) (fault s false b)) (operands op (form s a) (form s b))
   fault s whole (ParenExpr e) = fault s false e
 
-  pub faults : Setting → ℕ → List Need → ExprTrees → Option ℕ
+  pub faults : Setting → ℕ → List Need → ExprTrees → Option SemanticRule
   faults s k ns NoExprs = None
   faults s k ns (MoreExprs e es) = lesser (lesser (fault s false e) (fits (form s e) (slice_get ns k))) (faults s (suc k) ns es)
 
 -- an expression of which this type is wanted
-abbrev pub wanted : Setting → Bool → ExprTree → TypeTree → Option ℕ
+abbrev pub wanted : Setting → Bool → ExprTree → TypeTree → Option SemanticRule
 wanted s whole e t = lesser (fault s whole e) (wants (form s e) t)

@@ -4,12 +4,3 @@ pub mod Judged
 pub mod Items
 pub mod Closing
 pub mod Rules
-pub mod View
-pub mod Holding
-pub mod MapView
-pub mod SettingView
-pub mod ClosingView
-pub mod WalkView
-pub mod SizeView
-pub mod ProgramView
-pub mod HoldView

@@ -1,20 +1,19 @@
 -- The first refusal of a program: by the least rule of K1 to K12 at its first item in which one fails,
 -- and where none does by L8 at its first record that is too large.
-use Rattle.std.specs.Prelude.{ℕ, suc, Bool, true, false, not, ◌&&◌, ◌||◌, List, [], ◌∷◌, ◌++◌, map, length, codes, nat_lt, ◌+◌, max, if◌then◌else◌}
+use Rattle.std.specs.Prelude.{ℕ, suc, Bool, true, false, not, ◌||◌, List, [], ◌∷◌, ◌++◌, map, length, codes, nat_lt, ◌+◌, max, if◌then◌else◌}
 use Rattle.std.specs.Str.{bytes_eq}
 use Rattle.std.specs.declared.option.Option.{Option}
 use Rattle.std.specs.declared.option.Option.TheVariants.{None, Some}
-use Rattle.flow_base.specs.declared.place.Place.{Place}
 use Rattle.flow_tree.specs.declared.fault.Rule.TheVariants.{L}
 use Rattle.flow_tree.specs.declared.limits.TheConstants.{NESTING, LEAF_FIELDS}
 use Rattle.flow_tree.specs.Tree.{TypeTree, IntType, VoidType, NamedType}
-use Rattle.flow_tree.specs.Body.{Body}
 use Rattle.flow_tree.specs.Decls.{ParamTree, RecordTree, RoutineTree, DeclTree, StructDecl, FunctionDecl, ActorDecl, ProgramTree}
 use Rattle.flow_ast.specs.TypingNames.{named}
 use Rattle.flow_ast.specs.Typing.{or_else, is_there}
-use Rattle.flow_rules.specs.declared.rule.TheConstants.{UNKNOWN_NAME, TWICE, FALLS_OFF, NO_MAIN, LARGE_RECORD}
+use Rattle.flow_rules.specs.declared.rule.SemanticRule.{SemanticRule}
+use Rattle.flow_rules.specs.declared.rule.SemanticRule.TheVariants.{UnknownName, TakenName, FallsOff, NoMain}
 use Rattle.flow_rules.specs.Least.{lesser, unless}
-use Rattle.flow_rules.specs.Known.{Meaning, RecordOf, FunctionOf, ActorOf, field_row, known, type_known, holds, is_predefined}
+use Rattle.flow_rules.specs.Known.{Meaning, ActorOf, field_row, known, type_known, holds, is_predefined}
 use Rattle.flow_rules.specs.Judged.{Setting}
 use Rattle.flow_rules.specs.Items.{Env, Refusal, item, written, body_refusal}
 use Rattle.flow_rules.specs.Closing.{ways}
@@ -24,33 +23,33 @@ abbrev pub setting_of : List DeclTree → Bool → Setting
 setting_of ds plain = record { known = known ds; holds = holds (known ds) (suc (length ds)); vars = []; plain = plain }
 
 -- a name at the top is not predefined, and not that of a declaration before it
-abbrev pub name_fault : (List ℕ → Option Meaning) → List ℕ → Option ℕ
-name_fault before x = unless (not (is_predefined x || is_there (before x))) TWICE
+abbrev pub name_fault : (List ℕ → Option Meaning) → List ℕ → Option SemanticRule
+name_fault before x = unless (not (is_predefined x || is_there (before x))) TakenName
 
 -- this name is taken too
 abbrev pub with_name : List ℕ → (List ℕ → Bool) → List ℕ → Bool
 with_name y taken x = bytes_eq x y || taken x
 
 -- the records of a record's fields are declared before it, and no two fields have one name
-abbrev pub fields_fault : (List ℕ → Option Meaning) → (List ℕ → Bool) → List ParamTree → Option ℕ
+abbrev pub fields_fault : (List ℕ → Option Meaning) → (List ℕ → Bool) → List ParamTree → Option SemanticRule
 fields_fault before taken [] = None
 fields_fault before taken (f ∷ fs) =
-    lesser (lesser (unless (type_known before f.ty) UNKNOWN_NAME) (unless (not (taken f.name.name)) TWICE))
+    lesser (lesser (unless (type_known before f.ty) UnknownName) (unless (not (taken f.name.name)) TakenName))
     (fields_fault before (with_name f.name.name taken) fs)
 
-abbrev pub record_fault : (List ℕ → Option Meaning) → RecordTree → Option ℕ
+abbrev pub record_fault : (List ℕ → Option Meaning) → RecordTree → Option SemanticRule
 record_fault before r = lesser (name_fault before r.name.name) (fields_fault before (λ x. false) r.fields)
 
 -- a parameter's type is known, and its name that of none before it, not predefined, and none at the top
-abbrev pub param_fault : Setting → (List ℕ → Bool) → ParamTree → Option ℕ
+abbrev pub param_fault : Setting → (List ℕ → Bool) → ParamTree → Option SemanticRule
 param_fault s taken p =
-    lesser (written s p.ty) (unless (not (taken p.name.name || is_predefined p.name.name || is_there (s.known p.name.name))) TWICE)
+    lesser (written s p.ty) (unless (not (taken p.name.name || is_predefined p.name.name || is_there (s.known p.name.name))) TakenName)
 
-abbrev pub params_fault : Setting → (List ℕ → Bool) → List ParamTree → Option ℕ
+abbrev pub params_fault : Setting → (List ℕ → Bool) → List ParamTree → Option SemanticRule
 params_fault s taken [] = None
 params_fault s taken (p ∷ ps) = lesser (param_fault s taken p) (params_fault s (with_name p.name.name taken) ps)
 
-abbrev pub header_fault : (List ℕ → Option Meaning) → Setting → RoutineTree → Option ℕ
+abbrev pub header_fault : (List ℕ → Option Meaning) → Setting → RoutineTree → Option SemanticRule
 header_fault before s f = lesser (name_fault before f.name.name) (lesser (written s f.returns) (params_fault s (λ x. false) f.params))
 
 abbrev pub param_name : ParamTree → List ℕ
@@ -70,7 +69,7 @@ body_env s f = record {
 abbrev pub routine_refusal : (List ℕ → Option Meaning) → Setting → RoutineTree → Option Refusal
 routine_refusal before s f =
     or_else (item f.at (header_fault before s f))
-    (or_else (body_refusal (body_env s f) f.body) (item f.close (unless (not (ways f.body).end) FALLS_OFF)))
+    (or_else (body_refusal (body_env s f) f.body) (item f.close (unless (not (ways f.body).end) FallsOff)))
 
 -- a declaration, in a program in whose functions and in whose actors this is in force
 abbrev pub decl_refusal : (Bool → Setting) → (List ℕ → Option Meaning) → DeclTree → Option Refusal
@@ -126,7 +125,7 @@ abbrev pub too_large : Size → Bool
 too_large n = nat_lt NESTING n.nesting || nat_lt LEAF_FIELDS n.leaves
 
 abbrev pub large_record : Bool → RecordTree → Option Refusal
-large_record true r = Some (L LARGE_RECORD, r.at)
+large_record true r = Some (L 8, r.at)
 large_record false r = None
 
 -- of several records with one name the first has its size
@@ -144,5 +143,5 @@ first_large ns (ActorDecl f ∷ ds) = first_large ns ds
 abbrev pub refusal_of : ProgramTree → Option Refusal
 refusal_of p =
     or_else (decls_refusal (setting_of p.decls) [] p.decls)
-    (or_else (item p.end (unless (is_main (known p.decls (codes "main"))) NO_MAIN))
+    (or_else (item p.end (unless (is_main (known p.decls (codes "main"))) NoMain))
     (first_large ((codes "Packet", packet_size) ∷ []) p.decls))

@@ -44,7 +44,6 @@ use flow_code::program::Code;
 use flow_eval::cells::CellView;
 use flow_eval::evaluate::{Setting, Turns, run_at};
 use flow_eval::stop::Halt;
-use flow_eval::variables::VarList;
 use flow_frame::held::Held;
 use flow_tree::limits::CALL_DEPTH;
 use flow_value::value::{Kind, Outcome, Value};
@@ -109,7 +108,7 @@ fn run_function<C: CellView>(
     if function >= setting.functions.len() {
         return Err(Halt::NoMeaning);
     }
-    run_at::<VarList, C>(setting, CALL_DEPTH, function, args, turns)
+    run_at(setting, CALL_DEPTH, function, args, turns)
 }
 
 /// A value is forgotten, and the actor goes on at its next instruction.

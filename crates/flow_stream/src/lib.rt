@@ -5,5 +5,3 @@
 pub mod head;
 mod stream;
 pub mod streams;
-#[cfg(test)]
-mod tests;

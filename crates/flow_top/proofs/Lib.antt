@@ -1,3 +1,4 @@
 pub mod Deciding
 pub mod Missing
+pub mod OneAnswer
 pub mod Reporting

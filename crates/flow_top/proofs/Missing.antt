@@ -9,17 +9,17 @@ use Rattle.flow_top.specs.Run.{FileText, IsText, AreTexts, Due, usage, unread, f
 use Rattle.flow_top.specs.Laws.{IsWorldless}
 
 -- the program's name is the second word
-judged_is : (words : List (List ℕ)) (name : List ℕ) → JudgeProgram words name → get_or words 1 [] ≡ name
+pub judged_is : (words : List (List ℕ)) (name : List ℕ) → JudgeProgram words name → get_or words 1 [] ≡ name
 judged_is words name (of_check are) = ap (λ l. get_or l 1 []) are.are
 judged_is words name (of_compile are) = ap (λ l. get_or l 1 []) are.are
 judged_is words name (of_run world frames are) = ap (λ l. get_or l 1 []) are.are
 
-named_is : (words : List (List ℕ)) (name : List ℕ) → NameProgram words name → get_or words 1 [] ≡ name
+pub named_is : (words : List (List ℕ)) (name : List ℕ) → NameProgram words name → get_or words 1 [] ≡ name
 named_is words name (of_format are) = ap (λ l. get_or l 1 []) are.are
 named_is words name (of_judged judges) = judged_is words name judges
 
 -- the world's is the third
-world_is : (words : List (List ℕ)) (name world : List ℕ) (frames : Bool) → AreRun words name world frames → get_or words 2 [] ≡ world
+pub world_is : (words : List (List ℕ)) (name world : List ℕ) (frames : Bool) → AreRun words name world frames → get_or words 2 [] ≡ world
 world_is words name world frames are = ap (λ l. get_or l 2 []) are.are
 
 -- a text of a missing file

@@ -7,6 +7,8 @@ ghost use Rattle.flow_base.specs.Faults.{HasCause};
 ghost use Rattle.flow_refusal.specs.Refusal.{refusal_text, world_refusal};
 ghost use Rattle.flow_machine.specs.declared.host.RunFault.TheVariants.{Stuck};
 ghost use Rattle.flow_machine.specs.Cause.{fault_of};
+ghost use Rattle.flow_world.specs.WatchedTraces.{IsEnding};
+ghost use Rattle.flow_world.specs.declared.run_ending.RunEnding.TheVariants.{Own};
 ghost use Rattle.flow_top.specs.Run.{text_of, status_of, world_status, ending_status, fault_status_of, MayRun, MayTell, ReportedTold, ReportedRun, Reported};
 
 use crate::outcome::{Answered, Outcome, ProgramRun};
@@ -15,10 +17,11 @@ use flow_base::output::write_whole;
 use flow_base::sink::Sink;
 use flow_classprint::write_classes;
 use flow_machine::host::RunFault;
+use flow_monitor::Panel;
 use flow_refusal::{refusal_line, refusal_status, world_line};
 use flow_show::show::show_lines;
 use flow_tree::fault::SourceFault;
-use flow_world::{Ending, write_trace};
+use flow_world::{Ending, RunEnding, write_trace};
 use flow_worldfile::WorldFault;
 use std::alloc::Global;
 
@@ -146,6 +149,17 @@ fn run_fault(fault: RunFault) -> OutFault
     }
 }
 
+// How a run ends by itself that nobody hears.
+fn own_ending(ending: RunEnding) -> Ending
+    requires { IsEnding ending 0 }
+    ensures { ending ≡ Own result }
+{
+    match ending {
+        RunEnding::Own(own) => own,
+        RunEnding::Stopped(_) => unreachable!(),
+    }
+}
+
 // Runs the program in the world by its classes, writes the lines as they are made and flushes them, and gives the status.
 fn report_run<S: Sink>(alloc: Global, run: ProgramRun, out: &mut S) -> u8
     requires { MayRun run }
@@ -157,8 +171,9 @@ fn report_run<S: Sink>(alloc: Global, run: ProgramRun, out: &mut S) -> u8
         world,
         frames,
     } = run;
-    let ending = match write_trace(alloc, classes, world, frames, out) {
-        Ok(ending) => ending,
+    let mut panel = Panel::empty(alloc);
+    let ending = match write_trace(alloc, classes, world, frames, &mut panel, out) {
+        Ok(ending) => own_ending(ending),
         Err(fault) => return fault_status(run_fault(fault)),
     };
     if let Err(fault) = out.flush() {

@@ -1,3 +1,12 @@
+pub mod View
+pub mod Holding
+pub mod MapView
+pub mod SettingView
+pub mod ClosingView
+pub mod WalkView
+pub mod SizeView
+pub mod ProgramView
+pub mod HoldView
 pub mod Checked
 pub mod Variables
 pub mod VariablesView

@@ -28,7 +28,3 @@ AddsBranch f old new = (rest : Branches) → variable_list new ++ branch_variabl
 abbrev pub else_variables : Option Body → List VariableTree
 else_variables None = []
 else_variables (Some b) = body_variables b
-
--- of one declaration after another
-abbrev pub variable_lists : List (Vec Variable Global) → List (List VariableTree)
-variable_lists vs = map (λ (v : Vec Variable Global). variable_list v.items) vs

@@ -5,7 +5,7 @@ ghost use Rattle.std.specs.Option.{option_map};
 ghost use Rattle.flow_tree.specs.DeclView.{param_of, params_of, decl_of};
 ghost use Rattle.flow_tree.specs.StmtView.{into_of, stmt_of, body_of, branch_of, branches_of, simple_of, else_of};
 ghost use Rattle.flow_types.specs.Variables.{param_variable, into_variable, into_variables, error_variable, body_variables, branch_variables, variables_of};
-ghost use Rattle.flow_types.specs.VariablesView.{variable_of, variable_list, variable_lists, else_variables, AddsOf, AddsBranch};
+ghost use Rattle.flow_types.specs.VariablesView.{variable_of, variable_list, else_variables, AddsOf, AddsBranch};
 
 use crate::variable::{VarKind, Variable};
 use flow_base::memory::NoMemory;
@@ -229,16 +229,4 @@ pub fn variables_in(alloc: Global, decl: &Decl) -> Result<Vec<Variable>, NoMemor
             Ok(found)
         }
     }
-}
-
-/// The variables of each declaration.
-#[tactic(auto, using(crate::proofs::Adding::decls_step, crate::proofs::Adding::decls_end))]
-pub fn all_variables(alloc: Global, decls: &[Decl]) -> Result<Vec<Vec<Variable>>, NoMemory>
-    ensures { IfOk result (λ v. variable_lists v.items ≡ map variables_of (map decl_of decls.now)) }
-{
-    let mut all = Vec::new(alloc);
-    for decl in decls {
-        all.push(variables_in(alloc, decl)?)?;
-    }
-    Ok(all)
 }

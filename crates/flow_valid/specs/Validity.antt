@@ -7,6 +7,7 @@ use Rattle.flow_tree.specs.declared.ty.Ident.{Ident}
 use Rattle.flow_tree.specs.Tree.{TypeTree, BoolType, VoidType, ErrorType, FutureType, FutureStreamType, PromiseType, PromiseStreamType, ExprTree, CallExpr}
 use Rattle.flow_tree.specs.Decls.{SlotTree}
 use Rattle.flow_ast.specs.Typing.{same_type}
+use Rattle.flow_rules.specs.declared.rule.SemanticRule.{SemanticRule}
 use Rattle.flow_rules.specs.Least.{lesser}
 use Rattle.flow_rules.specs.Judged.{Setting, Callee, Kind, Effect, form, fault, wanted, called}
 use Rattle.flow_rules.specs.Items.{target_form, target_fault, assigned, call_fault}
@@ -16,6 +17,8 @@ use Rattle.flow_class.specs.declared.class.Slotted.TheVariants.{Slot, Local}
 use Rattle.flow_class.specs.Places.{place_name}
 use Rattle.flow_class.specs.Classes.{CatcherTree, InstrTree, SetInstr, EffectInstr, NewInstr, ActInstr, DropInstr, LastTree, GotoLast, TestLast, ChooseLast, ReturnLast, ThrowLast, BlockTree, CallbackTree, ClassTree, RawTree}
 use Rattle.flow_class.specs.Code.{type_at}
+use Rattle.flow_valid.specs.declared.rule.ClassRule.{ClassRule}
+use Rattle.flow_valid.specs.declared.rule.ClassRule.TheVariants as rule
 use Rattle.flow_valid.specs.Heads.{all_decls, declarations_kept, broken_head, has_main}
 use Rattle.flow_valid.specs.Named.{names_exist}
 use Rattle.flow_valid.specs.Filling.{ReadsEmpty, ReadsFilled}
@@ -96,7 +99,7 @@ is_effect s (CallExpr f es) = calls_effect (called s f.name)
 is_effect s _ = false
 
 -- an assignment, whose value may be an effect or not
-abbrev pub put_fault : Setting → (effect : Bool) → List Ident → ExprTree → Option ℕ
+abbrev pub put_fault : Setting → (effect : Bool) → List Ident → ExprTree → Option SemanticRule
 put_fault s effect path e = lesser (lesser (target_fault s path) (fault s effect e)) (assigned (form s e) (target_form s path))
 
 abbrev pub is_promise : Option TypeTree → Bool
@@ -145,15 +148,28 @@ module _ (c : ClassTree) (s : Setting) where
 abbrev pub types_fit : RawTree → ClassTree → Bool
 types_fit r c = list_all (block_fits c (class_setting r c)) c.blocks && list_all (list_all (callback_fits c (class_setting r c))) c.groups
 
+-- the number of a rule, behind the letter V
+abbrev pub number : ClassRule → ℕ
+number rule.Declarations = 1
+number rule.Heads = 2
+number rule.Names = 3
+number rule.Edges = 4
+number rule.Groups = 5
+number rule.Catchers = 6
+number rule.Types = 7
+number rule.Reads = 8
+
 -- the first of these rules that doesn't hold
-abbrev pub first_broken : List (ℕ × Bool) → Option ℕ
+abbrev pub first_broken : List (ClassRule × Bool) → Option ClassRule
 first_broken [] = None
 first_broken (x ∷ xs) = if x.1 then first_broken xs else Some x.0
 
 -- the first of the rules V3 to V7 that a class breaks
-abbrev pub broken_rule : RawTree → ClassTree → Option ℕ
+abbrev pub broken_rule : RawTree → ClassTree → Option ClassRule
 broken_rule r c =
-    first_broken ((3, names_exist c) ∷ (4, leads_forward c) ∷ (5, groups_chosen c) ∷ (6, catchers_kept c) ∷ (7, types_fit r c) ∷ [])
+    first_broken
+    ((rule.Names, names_exist c) ∷ (rule.Edges, leads_forward c) ∷ (rule.Groups, groups_chosen c)
+    ∷ (rule.Catchers, catchers_kept c) ∷ (rule.Types, types_fit r c) ∷ [])
 
 -- a class keeps V3 to V8
 pub record IsSoundClass (r : RawTree) (c : ClassTree) : Type 0 where
@@ -168,17 +184,17 @@ pub record IsValid (r : RawTree) : Type 0 where
   pub classes : (i : ℕ) (c : ClassTree) → slice_get r.classes i ≡ Some c → IsSoundClass r c
 
 -- the first rule that a class breaks
-pub data BreaksIn (r : RawTree) (c : ClassTree) : (rule : ℕ) → Type 0 where
-  tested : {k : ℕ} → broken_rule r c ≡ Some k → BreaksIn r c k
-  unfilled : broken_rule r c ≡ None → ReadsEmpty c → BreaksIn r c 8
+pub data BreaksIn (r : RawTree) (c : ClassTree) : ClassRule → Type 0 where
+  tested : {k : ClassRule} → broken_rule r c ≡ Some k → BreaksIn r c k
+  unfilled : broken_rule r c ≡ None → ReadsEmpty c → BreaksIn r c rule.Reads
 
--- The first rule that a class program breaks, and the class, where there is one: V1 on all records and functions; then V2
+-- The number of the first rule that a class program breaks, and the class, where there is one: V1 on all records and functions; then V2
 -- on class after class, and on `main`; then V3 to V8 on class after class.
-pub data Breaks (r : RawTree) : (rule : ℕ) (class : Option ℕ) → Type 0 where
-  declaration : declarations_kept r ≡ false → Breaks r 1 None
-  head : {i : ℕ} → declarations_kept r ≡ true → broken_head r ≡ Some i → Breaks r 2 (Some i)
-  main : declarations_kept r ≡ true → broken_head r ≡ None → has_main r ≡ false → Breaks r 2 None
-  class : {i k : ℕ} (c : ClassTree) →
+pub data Breaks (r : RawTree) : (number : ℕ) (class : Option ℕ) → Type 0 where
+  declaration : declarations_kept r ≡ false → Breaks r (number rule.Declarations) None
+  head : {i : ℕ} → declarations_kept r ≡ true → broken_head r ≡ Some i → Breaks r (number rule.Heads) (Some i)
+  main : declarations_kept r ≡ true → broken_head r ≡ None → has_main r ≡ false → Breaks r (number rule.Heads) None
+  class : {i : ℕ} {k : ClassRule} (c : ClassTree) →
       declarations_kept r ≡ true → broken_head r ≡ None → has_main r ≡ true →
       ((j : ℕ) (d : ClassTree) → j < i → slice_get r.classes j ≡ Some d → IsSoundClass r d) →
-      slice_get r.classes i ≡ Some c → BreaksIn r c k → Breaks r k (Some i)
+      slice_get r.classes i ≡ Some c → BreaksIn r c k → Breaks r (number k) (Some i)

@@ -4,3 +4,4 @@
 
 mod copying;
 pub mod program;
+pub mod rule;

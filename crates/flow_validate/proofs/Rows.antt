@@ -16,9 +16,9 @@ use Rattle.flow_tree.specs.Decls.{SlotTree}
 use Rattle.flow_tree.specs.View.{type_of}
 use Rattle.flow_tree.specs.DeclView.{slot_of}
 use Rattle.flow_ast.specs.TypingNames.{named}
-use Rattle.flow_rules.specs.declared.type_view.TypeView as code
-use Rattle.flow_rules.specs.View.{found_of}
-use Rattle.flow_rules.specs.MapView.{bound}
+use Rattle.flow_types.specs.declared.type_view.TypeView as code
+use Rattle.flow_types.specs.View.{found_of}
+use Rattle.flow_types.specs.MapView.{bound}
 use Rattle.flow_class.specs.declared.class.Slotted.TheVariants.{Slot, Local}
 use Rattle.flow_class.specs.Places.{place_name}
 use Rattle.flow_valid.specs.Validity.{slot_rows, local_rows}

@@ -12,16 +12,18 @@ use Rattle.flow_tree.specs.Tree.{TypeTree}
 use Rattle.flow_tree.specs.Decls.{DeclTree}
 use Rattle.flow_tree.specs.DeclView.{decl_of}
 use Rattle.flow_ast.specs.Typing.{or_else}
-use Rattle.flow_rules.specs.declared.top_names.TopNames.{TopNames}
+use Rattle.flow_types.specs.declared.top_names.TopNames.{TopNames}
 use Rattle.flow_rules.specs.Known.{Meaning, known, holds_by, record_holds}
 use Rattle.flow_rules.specs.Judged.{Setting}
 use Rattle.flow_rules.specs.Rules.{setting_of, decls_refusal, first_large, packet_size, is_main}
-use Rattle.flow_rules.specs.MapView.{known_by, flag_of}
-use Rattle.flow_rules.specs.ProgramView.{setting_by}
+use Rattle.flow_types.specs.MapView.{known_by, flag_of}
+use Rattle.flow_types.specs.ProgramView.{setting_by}
 use Rattle.flow_class.specs.Classes.{ClassTree, RawTree}
+use Rattle.flow_valid.specs.declared.rule.ClassRule.{ClassRule}
+use Rattle.flow_valid.specs.declared.rule.ClassRule.TheVariants as rule
 use Rattle.flow_valid.specs.Heads.{plain_decls, all_decls, declarations_kept, first_head, broken_head, has_main}
 use Rattle.flow_valid.specs.Named.{names_exist}
-use Rattle.flow_valid.specs.Validity.{slot_rows, local_rows, class_setting, leads_forward, groups_chosen, catchers_kept, types_fit, first_broken, broken_rule, IsSoundClass, IsValid, BreaksIn, Breaks, class}
+use Rattle.flow_valid.specs.Validity.{slot_rows, local_rows, class_setting, leads_forward, groups_chosen, catchers_kept, types_fit, number, first_broken, broken_rule, IsSoundClass, IsValid, BreaksIn, Breaks, class}
 use Rattle.flow_validate.specs.Verdicts.{Sees, AreHeadsKept, AreSoundClasses, AreSoundBelow}
 
 -- the setting of a class, by the names that the code sees
@@ -31,11 +33,11 @@ class_seen r n c vs sees e = ap₂ (λ (f : Bool → Setting) (v : List (List �
 
 -- the first broken rule, by what is asked one after another
 pub broken_by : (r : RawTree) (c : ClassTree) (a b g k t : Bool) → a ≡ names_exist c → b ≡ leads_forward c → g ≡ groups_chosen c → k ≡ catchers_kept c → t ≡ types_fit r c
-    → first_broken ((3, a) ∷ (4, b) ∷ (5, g) ∷ (6, k) ∷ (7, t) ∷ []) ≡ broken_rule r c
+    → first_broken ((rule.Names, a) ∷ (rule.Edges, b) ∷ (rule.Groups, g) ∷ (rule.Catchers, k) ∷ (rule.Types, t) ∷ []) ≡ broken_rule r c
 broken_by r c a b g k t ea eb eg ek et =
-    ap₂ (λ x y. first_broken ((3, x) ∷ (4, y) ∷ (5, g) ∷ (6, k) ∷ (7, t) ∷ [])) ea eb
-    ∙ ap₂ (λ x y. first_broken ((3, names_exist c) ∷ (4, leads_forward c) ∷ (5, x) ∷ (6, y) ∷ (7, t) ∷ [])) eg ek
-    ∙ ap (λ x. first_broken ((3, names_exist c) ∷ (4, leads_forward c) ∷ (5, groups_chosen c) ∷ (6, catchers_kept c) ∷ (7, x) ∷ [])) et
+    ap₂ (λ x y. first_broken ((rule.Names, x) ∷ (rule.Edges, y) ∷ (rule.Groups, g) ∷ (rule.Catchers, k) ∷ (rule.Types, t) ∷ [])) ea eb
+    ∙ ap₂ (λ x y. first_broken ((rule.Names, names_exist c) ∷ (rule.Edges, leads_forward c) ∷ (rule.Groups, x) ∷ (rule.Catchers, y) ∷ (rule.Types, t) ∷ [])) eg ek
+    ∙ ap (λ x. first_broken ((rule.Names, names_exist c) ∷ (rule.Edges, leads_forward c) ∷ (rule.Groups, groups_chosen c) ∷ (rule.Catchers, catchers_kept c) ∷ (rule.Types, x) ∷ [])) et
 
 -- what the names show
 pub sees_by : (r : RawTree) (n : TopNames) (ds : List Decl) → known_by n ≡ known (map decl_of ds) → flag_of n ≡ record_holds (known (map decl_of ds)) (suc (length ds))
@@ -83,8 +85,8 @@ sound_all n cs k r sees classes le below i c at =
     within (e, inl (x, lt, f, g)) = omega arith
     within (e, inr (over, none)) = absurd cc
 
-pub class_breaks : (n : TopNames) (cs : List ClassTree) (k : ℕ) (c : ClassTree) (rule : ℕ) (r : RawTree) → Sees r n → r.classes ≡ cs → AreHeadsKept r → slice_get cs k ≡ Some c
-    → BreaksIn r c rule → AreSoundBelow n cs k → Breaks r rule (Some k)
+pub class_breaks : (n : TopNames) (cs : List ClassTree) (k : ℕ) (c : ClassTree) (rule : ClassRule) (r : RawTree) → Sees r n → r.classes ≡ cs → AreHeadsKept r → slice_get cs k ≡ Some c
+    → BreaksIn r c rule → AreSoundBelow n cs k → Breaks r (number rule) (Some k)
 class_breaks n cs k c rule r sees classes heads at breaks below =
     class c heads.declarations heads.heads heads.main (λ j d lt is. below r sees j d lt (ap (λ l. slice_get l j) (sym classes) ∙ is)) (ap (λ l. slice_get l k) classes ∙ at) breaks
 

@@ -2,17 +2,18 @@
 use Rattle.std.specs.Prelude.{◌≡◌, ℕ, ◌<◌, true, List, slice_get}
 use Rattle.std.specs.declared.option.Option.{Option}
 use Rattle.std.specs.declared.option.Option.TheVariants.{None, Some}
-use Rattle.flow_rules.specs.declared.top_names.TopNames.{TopNames}
-use Rattle.flow_rules.specs.ProgramView.{setting_by}
+use Rattle.flow_types.specs.declared.top_names.TopNames.{TopNames}
+use Rattle.flow_types.specs.ProgramView.{setting_by}
 use Rattle.flow_rules.specs.Rules.{setting_of}
 use Rattle.flow_class.specs.Classes.{ClassTree, RawTree}
 use Rattle.flow_validate.specs.declared.invalid.Invalid.{Invalid}
 use Rattle.flow_validate.specs.declared.invalid.Invalid.TheVariants as invalid
+use Rattle.flow_valid.specs.declared.rule.ClassRule.{ClassRule}
 use Rattle.flow_valid.specs.Heads.{all_decls, declarations_kept, broken_head, has_main}
 use Rattle.flow_valid.specs.Validity.{IsSoundClass, BreaksIn, Breaks}
 
 -- a class breaks no rule, or a first one
-abbrev pub ClassTold : RawTree → ClassTree → Option ℕ → Type 0
+abbrev pub ClassTold : RawTree → ClassTree → Option ClassRule → Type 0
 ClassTold r c None = IsSoundClass r c
 ClassTold r c (Some k) = BreaksIn r c k
 

@@ -9,9 +9,9 @@ ghost use Rattle.flow_tree.specs.Tree.{BoolType, ErrorType};
 ghost use Rattle.flow_tree.specs.View.{type_of, expr_of, exprs_of};
 ghost use Rattle.flow_tree.specs.DeclView.{slot_of};
 ghost use Rattle.flow_rules.specs.Judged.{Setting as Judging};
-ghost use Rattle.flow_rules.specs.View.{found_of, inner_of, kind_of, callee_of};
-ghost use Rattle.flow_rules.specs.MapView.{vars_of};
-ghost use Rattle.flow_rules.specs.SettingView.{setting_view};
+ghost use Rattle.flow_types.specs.View.{found_of, inner_of, kind_of, callee_of};
+ghost use Rattle.flow_types.specs.MapView.{vars_of};
+ghost use Rattle.flow_types.specs.SettingView.{setting_view};
 ghost use Rattle.flow_class.specs.Code.{type_at};
 ghost use Rattle.flow_class.specs.View.{class_of, block_of, instr_of, last_of, callback_of, group_of};
 ghost use Rattle.flow_validate.specs.Apart.{types_fit_in};
@@ -25,14 +25,14 @@ use flow_base::memory::NoMemory;
 use flow_base::name::Name;
 use flow_choose::places::var_over;
 use flow_class::class::{Block, Callback, Class, Group, Instr, Last, Slotted};
-use flow_rules::callee::{Callee, Kind};
-use flow_rules::judge::{Setting, Vars, wants};
-use flow_rules::rule::lesser;
-use flow_rules::type_view::{ElementView, TypeView};
+use flow_rules::rule::{SemanticRule, lesser};
 use flow_tree::decl::Slot;
 use flow_tree::expr::Expr;
 use flow_tree::stmt::Target;
 use flow_tree::ty::Ty;
+use flow_types::callee::{Callee, Kind};
+use flow_types::judge::{Setting, Vars, wants};
+use flow_types::type_view::{ElementView, TypeView};
 use indexmap::IndexMap;
 use std::alloc::Global;
 
@@ -73,7 +73,7 @@ fn put_fault<'a>(
     effect: bool,
     target: &Target,
     value: &'a Expr,
-) -> Option<u8>
+) -> Option<SemanticRule>
     ensures { result ≡ put_fault (setting_view setting.now) effect target.now.path.items
         (expr_of value.now) }
 {

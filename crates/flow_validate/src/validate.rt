@@ -23,11 +23,12 @@ use crate::named::names_exist;
 use crate::types::{PlaceNames, place_names, types_fit, variables};
 use flow_base::memory::NoMemory;
 use flow_class::class::{Class, RawClasses};
-use flow_rules::judge::Setting;
-use flow_rules::program::is_main;
-use flow_rules::top_names::{TopNames, packet_fields};
 use flow_tree::decl::{Decl, Param};
+use flow_types::judge::Setting;
+use flow_types::program::is_main;
+use flow_types::top_names::{TopNames, packet_fields};
 use flow_valid::program::ClassProgram;
+use flow_valid::rule::ClassRule;
 use std::alloc::Global;
 
 // Whether the types of a class fit, where its places are variables by their names.
@@ -57,7 +58,7 @@ fn broken_rule<'a>(
     names: &TopNames<'a>,
     places: &'a PlaceNames,
     class: &'a Class,
-) -> Result<Option<u8>, NoMemory>
+) -> Result<Option<ClassRule>, NoMemory>
     requires few { HasFewPlaces (class_of class.now) }
     requires places { AreEnough places.now.slots.items places.now.locals.items
         (class_of class.now) }
@@ -66,19 +67,19 @@ fn broken_rule<'a>(
     ensures named { IfOk result (λ o. o ≡ None → names_exist (class_of class.now) ≡ true) }
 {
     if !names_exist(class) {
-        return Ok(Some(3));
+        return Ok(Some(ClassRule::Names));
     }
     if !leads_forward(class) {
-        return Ok(Some(4));
+        return Ok(Some(ClassRule::Edges));
     }
     if !groups_chosen(alloc, class)? {
-        return Ok(Some(5));
+        return Ok(Some(ClassRule::Groups));
     }
     if !catchers_kept(alloc, class)? {
-        return Ok(Some(6));
+        return Ok(Some(ClassRule::Catchers));
     }
     if !is_typed(alloc, names, places, class)? {
-        return Ok(Some(7));
+        return Ok(Some(ClassRule::Types));
     }
     Ok(None)
 }
@@ -89,7 +90,7 @@ fn class_rule<'a>(
     names: &TopNames<'a>,
     places: &'a PlaceNames,
     class: &'a Class,
-) -> Result<Option<u8>, NoMemory>
+) -> Result<Option<ClassRule>, NoMemory>
     requires few { HasFewPlaces (class_of class.now) }
     requires places { AreEnough places.now.slots.items places.now.locals.items
         (class_of class.now) }
@@ -99,7 +100,7 @@ fn class_rule<'a>(
         return Ok(Some(rule));
     }
     if !reads_filled(alloc, class)? {
-        return Ok(Some(8));
+        return Ok(Some(ClassRule::Reads));
     }
     Ok(None)
 }
@@ -123,7 +124,7 @@ fn judge_classes<'a>(
     for (place, class) in classes.iter().enumerate() {
         if let Some(rule) = class_rule(alloc, names, places, class)? {
             return Err(Invalid::Rule {
-                rule,
+                rule: rule.number(),
                 class: Some(place as u32),
             });
         }
@@ -148,19 +149,19 @@ fn judge_heads<'a>(
 {
     if !declarations_kept(alloc, names, packet, plain)? {
         return Err(Invalid::Rule {
-            rule: 1,
+            rule: ClassRule::Declarations.number(),
             class: None,
         });
     }
     if let Some(class) = broken_head(alloc, names, plain, classes)? {
         return Err(Invalid::Rule {
-            rule: 2,
+            rule: ClassRule::Heads.number(),
             class: Some(class),
         });
     }
     if !is_main(names.find(b"main")) {
         return Err(Invalid::Rule {
-            rule: 2,
+            rule: ClassRule::Heads.number(),
             class: None,
         });
     }

@@ -18,6 +18,7 @@ use Rattle.flow_class.specs.Scopes.{Scope, Mark, scope, place_of, over, over_all
 use Rattle.flow_layout.specs.Locals.{body_locals, declared_locals}
 use Rattle.flow_rules.specs.Judged.{Setting, called, fault, form, wants}
 use Rattle.flow_rules.specs.Items.{Env, item, declared as rule_declared, into_fault, value_fault, declare_fault, assign_fault, modify_fault, call_fault, body_refusal}
+use Rattle.flow_rules.proofs.Lesser.{no_first, no_second, no_item}
 use Rattle.flow_staterule.specs.declared.scope.Point.{Point}
 use Rattle.flow_staterule.specs.declared.ways.Ways.{Ways}
 use Rattle.flow_staterule.specs.declared.uses.Caught.{Caught}
@@ -39,8 +40,8 @@ use Rattle.flow_lowering_laws.proofs.Actors.Places.{names, names_with, Placing, 
 use Rattle.flow_lowering_laws.proofs.Actors.Further.{into_locals_count}
 use Rattle.flow_tree.specs.Formed.{IsPath}
 use Rattle.flow_typing_laws.specs.Typing.Paths.{HasPaths}
-use Rattle.flow_typing_laws.proofs.Typing.Names.{bytes_same, none_some, no_first, no_second}
-use Rattle.flow_typing_laws.proofs.Typing.Agreement.{neither_first, neither_second, no_item}
+use Rattle.flow_typing_laws.proofs.Typing.Names.{bytes_same, none_some}
+use Rattle.flow_typing_laws.proofs.Typing.Agreement.{neither_first, neither_second}
 use Rattle.flow_validity_laws.proofs.OverPlaces.{over_names, Sees}
 use Rattle.flow_validity_laws.proofs.InForce.{New, grows_declared}
 use Rattle.flow_validity_laws.proofs.Fitting.{Stands, at_item, new_here, stands_into, above_taken}

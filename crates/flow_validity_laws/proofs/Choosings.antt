@@ -29,7 +29,6 @@ use Rattle.flow_valid.specs.Validity.{calls_effect}
 use Rattle.flow_lowering_laws.proofs.Actors.Standing.{locals_front, locals_back}
 use Rattle.flow_lowering_laws.proofs.Actors.Around.{above_more}
 use Rattle.flow_lowering_laws.proofs.Actors.Further.{locals_count, locals_after}
-use Rattle.flow_typing_laws.proofs.Typing.Names.{no_first}
 use Rattle.flow_typing_laws.proofs.Typing.Agreement.{neither_first, neither_second}
 use Rattle.flow_validity_laws.proofs.OverPlaces.{over_names, Sees}
 use Rattle.flow_validity_laws.proofs.Fitting.{at_item, stands_behind, stands_marked}
@@ -41,6 +40,7 @@ use Rattle.flow_validity_laws.proofs.Surroundings.{Aims, behind_once, HandWay, s
 use Rattle.flow_validity_laws.proofs.Reading.{whole_in}
 use Rattle.flow_validity_laws.proofs.Grounds.{here_aim, Ground, ground_inner, live_to, leaf, exits_here}
 use Rattle.flow_rules.specs.Items.{in_loop}
+use Rattle.flow_rules.proofs.Lesser.{no_first}
 use Rattle.flow_validity_laws.proofs.Waysides.{reached_left, reached_right, reached_onward, exits_onward}
 use Rattle.flow_validity_laws.proofs.Surroundings.{hand_left, hand_right, hand_onward}
 use Rattle.flow_validity_laws.proofs.Alive.{Said, Thrown, thrown_marked, Outer, Lives, rest_lives}

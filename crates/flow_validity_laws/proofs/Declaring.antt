@@ -5,32 +5,30 @@ use Rattle.std.proofs.lemmas.List.{append-nil, map-append}
 use Rattle.std.specs.declared.option.Option.{Option}
 use Rattle.std.specs.declared.option.Option.TheVariants.{None, Some}
 use Rattle.flow_base.specs.declared.place.Place.{Place}
-use Rattle.flow_tree.specs.Tree.{TypeTree, IntType, BoolType, StringType, VoidType, ErrorType, NamedType, FutureType, FutureStreamType, PromiseType, PromiseStreamType}
+use Rattle.flow_tree.specs.Tree.{TypeTree, NamedType, FutureType, FutureStreamType, PromiseType, PromiseStreamType}
 use Rattle.flow_tree.specs.Decls.{ParamTree, RecordTree, RoutineTree, DeclTree, StructDecl, FunctionDecl, ActorDecl, ProgramTree}
 use Rattle.flow_ast.specs.TypingNames.{named}
 use Rattle.flow_ast.specs.Typing.{or_else, is_there, is_packet}
-use Rattle.flow_rules.specs.declared.rule.TheConstants.{UNKNOWN_NAME, TWICE, NO_MAIN}
+use Rattle.flow_rules.specs.declared.rule.SemanticRule.{SemanticRule}
+use Rattle.flow_rules.specs.declared.rule.SemanticRule.TheVariants.{UnknownName, TakenName, NoMain}
 use Rattle.flow_rules.specs.Least.{lesser, unless}
 use Rattle.flow_rules.specs.Known.{Meaning, row_of, packet_row, known, is_record, type_known, is_predefined}
 use Rattle.flow_rules.specs.Judged.{Setting}
 use Rattle.flow_rules.specs.Items.{item, written}
 use Rattle.flow_rules.specs.Rules.{setting_of, name_fault, with_name, fields_fault, record_fault, params_fault, header_fault, routine_refusal, decl_refusal, decls_refusal, Size, packet_size, record_size, too_large, large_record, with_size, first_large, is_main, refusal_of}
+use Rattle.flow_rules.proofs.Lesser.{no_first, no_second, no_lesser, holds, no_item}
 use Rattle.flow_meaning.specs.Source.{functions_in}
 use Rattle.flow_lower.specs.Compiled.{compiled}
 use Rattle.flow_valid.specs.Heads.{all_decls, declarations_kept, has_main}
-use Rattle.flow_typing_laws.proofs.Typing.Names.{bytes_sym, some_none, no_first, no_second, holds}
-use Rattle.flow_typing_laws.proofs.Typing.Agreement.{neither_first, neither_second, no_item, not_true, neither_left, neither_right, Apart, Distinct, distinct}
+use Rattle.flow_typing_laws.proofs.Typing.Names.{bytes_sym, some_none}
+use Rattle.flow_typing_laws.proofs.Typing.Agreement.{neither_first, neither_second, not_true, neither_left, neither_right, Apart, Distinct, distinct}
 use Rattle.flow_validity_laws.proofs.Sorting.{structs, functions, structs_append, plain_append, RowsApart, none_of, apart_both, rows, structs_apart, functions_apart, known_same, setting_same}
 
 both_none : {A : Type 0} (x y : Option A) → x ≡ None → y ≡ None → or_else x y ≡ None
 both_none None y e f = f
 both_none (Some a) y e f = absurd (some_none e)
 
-no_lesser : (x y : Option ℕ) → x ≡ None → y ≡ None → lesser x y ≡ None
-no_lesser None y e f = f
-no_lesser (Some a) y e f = absurd (some_none e)
-
-still_item : (at : Place) (f : Option ℕ) → f ≡ None → item at f ≡ None
+still_item : (at : Place) (f : Option SemanticRule) → f ≡ None → item at f ≡ None
 still_item at None e = refl
 still_item at (Some k) e = absurd (some_none e)
 
@@ -79,25 +77,25 @@ type_less k j l (PromiseType t) e = type_less k j l t e
 type_less k j l (PromiseStreamType t) e = type_less k j l t e
 type_less k j l _ e = refl
 
-unless_true : (b : Bool) (n : ℕ) → b ≡ true → unless b n ≡ None
+unless_true : (b : Bool) (n : SemanticRule) → b ≡ true → unless b n ≡ None
 unless_true true n e = refl
 unless_true false n e = cc
 
-new_name : (p a c : Bool) → (a ≡ false → c ≡ false) → unless (not (p || a)) TWICE ≡ None → unless (not (p || c)) TWICE ≡ None
+new_name : (p a c : Bool) → (a ≡ false → c ≡ false) → unless (not (p || a)) TakenName ≡ None → unless (not (p || c)) TakenName ≡ None
 new_name p a c f h =
-    let n = not_true (p || a) (holds (not (p || a)) TWICE h) in
-    ap (λ b. unless (not (b || c)) TWICE) (neither_left p a n) ∙ ap (λ b. unless (not b) TWICE) (f (neither_right p a n))
+    let n = not_true (p || a) (holds (not (p || a)) TakenName h) in
+    ap (λ b. unless (not (b || c)) TakenName) (neither_left p a n) ∙ ap (λ b. unless (not b) TakenName) (f (neither_right p a n))
 
 fields_less : (k j : List ℕ → Option Meaning) → Less k j → (taken : List ℕ → Bool) (fs : List ParamTree) → fields_fault k taken fs ≡ None → fields_fault j taken fs ≡ None
 fields_less k j l taken [] h = refl
 fields_less k j l taken (f ∷ fs) h =
-    let known_type = unless (type_known k f.ty) UNKNOWN_NAME in
-    let once = unless (not (taken f.name.name)) TWICE in
+    let known_type = unless (type_known k f.ty) UnknownName in
+    let once = unless (not (taken f.name.name)) TakenName in
     let rest = fields_fault k (with_name f.name.name taken) fs in
     let a = no_first (lesser known_type once) rest h in
-    no_lesser (lesser (unless (type_known j f.ty) UNKNOWN_NAME) once) (fields_fault j (with_name f.name.name taken) fs)
-    (no_lesser (unless (type_known j f.ty) UNKNOWN_NAME) once (unless_true (type_known j f.ty) UNKNOWN_NAME
-    (type_less k j l f.ty (holds (type_known k f.ty) UNKNOWN_NAME (no_first known_type once a)))) (no_second known_type once a))
+    no_lesser (lesser (unless (type_known j f.ty) UnknownName) once) (fields_fault j (with_name f.name.name taken) fs)
+    (no_lesser (unless (type_known j f.ty) UnknownName) once (unless_true (type_known j f.ty) UnknownName
+    (type_less k j l f.ty (holds (type_known k f.ty) UnknownName (no_first known_type once a)))) (no_second known_type once a))
     (fields_less k j l (with_name f.name.name taken) fs (no_second (lesser known_type once) rest h))
 
 record_less : (k j : List ℕ → Option Meaning) → Less k j → (r : RecordTree) → record_fault k r ≡ None → record_fault j r ≡ None
@@ -165,7 +163,7 @@ pub header_new : (before : List ℕ → Option Meaning) (s : Setting) (f : Routi
 header_new before s f h =
     let n = no_first (name_fault before f.name.name) (lesser (written s f.returns) (params_fault s (λ x. false) f.params)) h in
     neither_left (is_predefined f.name.name) (is_there (before f.name.name))
-    (not_true (is_predefined f.name.name || is_there (before f.name.name)) (holds (not (is_predefined f.name.name || is_there (before f.name.name))) TWICE n))
+    (not_true (is_predefined f.name.name || is_there (before f.name.name)) (holds (not (is_predefined f.name.name || is_there (before f.name.name))) TakenName n))
 
 pub no_packet : (x : List ℕ) → is_predefined x ≡ false → is_packet x ≡ false
 no_packet x e = neither_left (is_packet x) _ (neither_left _ _ e)
@@ -251,11 +249,11 @@ pub is_accepted : (p : ProgramTree) → refusal_of p ≡ None → Accepted p
 is_accepted p h =
     let d = decls_refusal (setting_of p.decls) [] p.decls in
     let a = neither_first d _ h in
-    let m = unless (is_main (known p.decls (codes "main"))) NO_MAIN in
+    let m = unless (is_main (known p.decls (codes "main"))) NoMain in
     let r = neither_second d _ h in
     record {
       decls = a;
-      main = holds (is_main (known p.decls (codes "main"))) NO_MAIN (no_item p.end m (neither_first (item p.end m) _ r));
+      main = holds (is_main (known p.decls (codes "main"))) NoMain (no_item p.end m (neither_first (item p.end m) _ r));
       sizes = neither_second (item p.end m) _ r;
       apart = distinct (setting_of p.decls) [] p.decls a;
     }

@@ -8,18 +8,19 @@ use Rattle.std.specs.declared.option.Option.{Option}
 use Rattle.std.specs.declared.option.Option.TheVariants.{None, Some}
 use Rattle.flow_tree.specs.Decls.{RoutineTree, DeclTree, StructDecl, FunctionDecl, ActorDecl, ProgramTree}
 use Rattle.flow_ast.specs.declared.predefined.Predefined.{Predefined}
-use Rattle.flow_ast.specs.declared.predefined.Predefined.TheVariants.{ToString, ToInt, Now, EndOfStream, TimedOut, BrokenPromise, OperationCancelled, ActorCancelled, Error, RandomInt, Delay, Never, Listen, ReadFile, WriteFile, SyncFile, FileSize, Trace, SendTo}
+use Rattle.flow_ast.specs.declared.predefined.Predefined.TheVariants.{ToString}
 use Rattle.flow_ast.specs.TypingNames.{named, call_names}
 use Rattle.flow_ast.specs.Typing.{is_there, is_packet, is_effect, signature}
 use Rattle.flow_rules.specs.Known.{Meaning, RecordOf, FunctionOf, ActorOf, row_of, packet_row, known}
 use Rattle.flow_rules.specs.Judged.{Setting, declared_callee, predefined_callee, called_as, called}
 use Rattle.flow_rules.specs.Items.{item, body_refusal}
 use Rattle.flow_rules.specs.Rules.{setting_of, header_fault, body_env, decl_refusal, decls_refusal}
+use Rattle.flow_rules.proofs.Lesser.{no_item}
 use Rattle.flow_meaning.specs.Evaluating.{world_if, effectful_of, effectful}
 use Rattle.flow_meaning.specs.Source.{actors_in, routine_name, names_of}
 use Rattle.flow_valid.specs.Validity.{calls_effect}
 use Rattle.flow_typing_laws.proofs.Typing.Names.{bytes_same, bytes_sym}
-use Rattle.flow_typing_laws.proofs.Typing.Agreement.{neither_first, neither_second, no_item, Apart, Distinct}
+use Rattle.flow_typing_laws.proofs.Typing.Agreement.{neither_first, neither_second, Apart, Distinct}
 use Rattle.flow_lowering_laws.proofs.Programs.Whole.{EachActor}
 use Rattle.flow_validity_laws.proofs.Sorting.{rows}
 use Rattle.flow_validity_laws.proofs.Declaring.{Accepted, header_new, no_packet}

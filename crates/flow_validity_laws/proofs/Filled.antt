@@ -16,6 +16,7 @@ use Rattle.flow_rules.specs.Known.{field_row}
 use Rattle.flow_rules.specs.Judged.{Setting}
 use Rattle.flow_rules.specs.Items.{written}
 use Rattle.flow_rules.specs.Rules.{setting_of, name_fault, params_fault, body_env}
+use Rattle.flow_rules.proofs.Lesser.{no_second}
 use Rattle.flow_staterule.specs.declared.scope.Point.{Point}
 use Rattle.flow_staterule.specs.Uses.{Variable, mention, use_of, parameter, begins}
 use Rattle.flow_staterule.specs.Ways.{ways}
@@ -32,7 +33,7 @@ use Rattle.flow_valid.specs.Validity.{IsValid}
 use Rattle.flow_typing_laws.proofs.ControlFlow.SimpleParts.{program_parts}
 use Rattle.flow_typing_laws.specs.Typing.Paths.{HasPaths, AllHavePaths}
 use Rattle.flow_typing_laws.proofs.Typing.PathsDerived.{program_paths}
-use Rattle.flow_typing_laws.proofs.Typing.Names.{none_some, no_second}
+use Rattle.flow_typing_laws.proofs.Typing.Names.{none_some}
 use Rattle.flow_lowering_laws.proofs.Programs.Whole.{EachActor}
 use Rattle.flow_validity_laws.proofs.InForce.{sees_params, param_at}
 use Rattle.flow_validity_laws.proofs.Numbered.{seam, one_more, all_types}

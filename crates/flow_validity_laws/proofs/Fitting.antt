@@ -14,10 +14,12 @@ use Rattle.flow_class.specs.Classes.{InstrTree, DropInstr, ActInstr, LastTree, G
 use Rattle.flow_class.specs.Scopes.{Scope, Mark, Var, scope, over, over_all, path_over, act_over, Above}
 use Rattle.flow_catch.specs.Inner.{left_lists}
 use Rattle.flow_layout.specs.Locals.{body_locals, branch_locals, declared_locals, into_locals}
-use Rattle.flow_rules.specs.declared.rule.TheConstants.{WAIT_OUTSIDE}
+use Rattle.flow_rules.specs.declared.rule.SemanticRule.{SemanticRule}
+use Rattle.flow_rules.specs.declared.rule.SemanticRule.TheVariants.{WaitInFunction}
 use Rattle.flow_rules.specs.Least.{unless}
 use Rattle.flow_rules.specs.Judged.{Setting, called, wanted}
 use Rattle.flow_rules.specs.Items.{Env, item, with_var, with_states, in_loop, in_catch, behind, declared, waited, started, fresh, into_fault, value_fault, declare_fault, assign_fault, modify_fault, call_fault, wait_fault, maybe_into, wait_type, test_fault, maybe_test, throw_fault, slot_names, body_refusal, branch_refusal}
+use Rattle.flow_rules.proofs.Lesser.{no_first, no_second, no_item}
 use Rattle.flow_meaning.specs.Evaluating.{Names, effectful}
 use Rattle.flow_meaning.specs.Items.{change}
 use Rattle.flow_split.specs.Around.{Exit, Text, Scoped, Part, Hand, Around, inner, pass, guarded, handling}
@@ -34,8 +36,8 @@ use Rattle.flow_lowering_laws.proofs.Actors.Places.{names, names_with, Placing, 
 use Rattle.flow_lowering_laws.proofs.Actors.Further.{locals_count, branch_locals_count, into_locals_count, locals_after, exited_local, names_taken, try_room}
 use Rattle.flow_lowering_laws.proofs.Actors.Fors.{step_locals, test_local}
 use Rattle.std.specs.Str.{bytes_eq}
-use Rattle.flow_typing_laws.proofs.Typing.Names.{bytes_self, no_first, no_second}
-use Rattle.flow_typing_laws.proofs.Typing.Agreement.{neither_first, neither_second, no_item}
+use Rattle.flow_typing_laws.proofs.Typing.Names.{bytes_self}
+use Rattle.flow_typing_laws.proofs.Typing.Agreement.{neither_first, neither_second}
 use Rattle.flow_validity_laws.proofs.Naming.{both, all_both}
 use Rattle.flow_validity_laws.proofs.OverPlaces.{over_names, over_class, Sees}
 use Rattle.flow_validity_laws.proofs.InForce.{New, is_new, new_into, class_var, sees_into, sees_error}
@@ -125,7 +127,8 @@ module _ (base : Setting) (ns : Names) (c : ClassTree) (few_slots : length c.slo
     pub caught : Caught base ns c agree vs s sees e.caught o
 
   -- a judgement in what is in force
-  pub at_item : (e : Env) (vs : List (List ℕ × TypeTree)) (at : Place) (f : Setting → Option ℕ) → e.setting ≡ over_names base c vs → item at (f e.setting) ≡ None → f (over_names base c vs) ≡ None
+  pub at_item : (e : Env) (vs : List (List ℕ × TypeTree)) (at : Place) (f : Setting → Option SemanticRule) → e.setting ≡ over_names base c vs → item at (f e.setting) ≡ None
+      → f (over_names base c vs) ≡ None
   at_item e vs at f k h = ap f (sym k) ∙ no_item at (f e.setting) h
 
   pub stands_states : (e : Env) (xs : List (List ℕ)) (vs : List (List ℕ × TypeTree)) (s : Scope) (o : Option (List ℕ)) → Stands e vs s o → Stands (with_states e xs) vs s o
@@ -460,7 +463,7 @@ module _ (base : Setting) (ns : Names) (c : ClassTree) (few_slots : length c.slo
         let v = inner w (Scoped (GotoLast j.block)) in
         let ks = callbacks ns c.slots s tr g bs in
         let c0 : Chunk = record (ends w s true [] (ChooseLast n.group)) { groups = ks ∷ [] } in
-        let i = item at (unless (not e.setting.plain) WAIT_OUTSIDE) in
+        let i = item at (unless (not e.setting.plain) WaitInFunction) in
         let m = neither_second i _ h in
         let hb = neither_first (branch_refusal e bs) _ m in
         let rb = locals_front ns c n.local (branch_locals bs) (body_locals x) r in

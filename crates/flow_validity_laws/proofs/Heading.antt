@@ -7,18 +7,18 @@ use Rattle.std.specs.declared.option.Option.TheVariants.{None, Some}
 use Rattle.flow_tree.specs.Decls.{ParamTree, SlotTree, DeclTree, StructDecl, FunctionDecl, ActorDecl, ProgramTree}
 use Rattle.flow_ast.specs.Slots.{param_slot, body_slots, slots_of}
 use Rattle.flow_ast.specs.Typing.{is_there}
-use Rattle.flow_rules.specs.declared.rule.TheConstants.{UNKNOWN_NAME}
+use Rattle.flow_rules.specs.declared.rule.SemanticRule.TheVariants.{UnknownName}
 use Rattle.flow_rules.specs.Least.{unless}
 use Rattle.flow_rules.specs.Known.{row_of, known, type_known, is_predefined}
 use Rattle.flow_rules.specs.Judged.{Setting}
 use Rattle.flow_rules.specs.Items.{item, written, body_refusal}
 use Rattle.flow_rules.specs.Rules.{setting_of, with_name, name_fault, param_fault, params_fault, header_fault, body_env, decl_refusal, decls_refusal}
+use Rattle.flow_rules.proofs.Lesser.{no_first, no_second, holds, no_item}
 use Rattle.flow_meaning.specs.Evaluating.{Names}
 use Rattle.flow_meaning.specs.Source.{actors_in, names_of}
 use Rattle.flow_lower.specs.Compiled.{class_in, compiled}
 use Rattle.flow_valid.specs.Heads.{head_of, head_kept, first_head, broken_head}
-use Rattle.flow_typing_laws.proofs.Typing.Names.{no_first, no_second, holds}
-use Rattle.flow_typing_laws.proofs.Typing.Agreement.{neither_first, neither_second, no_item, Distinct}
+use Rattle.flow_typing_laws.proofs.Typing.Agreement.{neither_first, neither_second, Distinct}
 use Rattle.flow_validity_laws.proofs.Naming.{both, all_both}
 use Rattle.flow_validity_laws.proofs.Sorting.{structs, functions, structs_append, plain_append, RowsApart, apart_both, rows, structs_apart, functions_apart, actors_apart, head_rows, known_same}
 use Rattle.flow_validity_laws.proofs.Declaring.{Accepted, alone, not_known, no_packet, header_new}
@@ -36,7 +36,7 @@ params_known s taken (p ∷ ps) h =
     let f = param_fault s taken p in
     let r = params_fault s (with_name p.name.name taken) ps in
     let w = no_first (written s p.ty) _ (no_first f r h) in
-    both (type_known s.known p.ty) _ (holds (type_known s.known p.ty) UNKNOWN_NAME (no_first (unless (type_known s.known p.ty) UNKNOWN_NAME) _ w))
+    both (type_known s.known p.ty) _ (holds (type_known s.known p.ty) UnknownName (no_first (unless (type_known s.known p.ty) UnknownName) _ w))
     (params_known s (with_name p.name.name taken) ps (no_second f r h))
 
 slots_count : (ps : List ParamTree) → length (map param_slot ps) ≡ length ps

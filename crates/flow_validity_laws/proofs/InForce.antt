@@ -18,18 +18,19 @@ use Rattle.flow_class.specs.Places.{place_name, place_named}
 use Rattle.flow_class.specs.Classes.{ClassTree}
 use Rattle.flow_class.specs.Code.{type_at}
 use Rattle.flow_class.specs.Scopes.{Scope, Var, find, slot_place, place_by, place_of}
-use Rattle.flow_rules.specs.declared.rule.TheConstants.{TWICE}
+use Rattle.flow_rules.specs.declared.rule.SemanticRule.TheVariants.{TakenName}
 use Rattle.flow_rules.specs.Least.{lesser}
 use Rattle.flow_rules.specs.Known.{field_row, is_predefined}
 use Rattle.flow_rules.specs.Judged.{Setting}
 use Rattle.flow_rules.specs.Items.{written, state_here, among, fresh, into_fault}
 use Rattle.flow_rules.specs.Rules.{with_name, param_fault, params_fault}
+use Rattle.flow_rules.proofs.Lesser.{no_first, no_second, holds}
 use Rattle.flow_meaning.specs.Evaluating.{Names}
 use Rattle.flow_meaning.specs.Carry.{DeclaredAs}
 use Rattle.flow_split.specs.Lowered.{with_into}
 use Rattle.flow_valid.specs.Validity.{slot_rows, local_rows}
 use Rattle.flow_lowering_laws.proofs.Actors.Places.{slot_named, local_named, Placing}
-use Rattle.flow_typing_laws.proofs.Typing.Names.{bytes_same, bytes_self, none_some, some_same, no_first, no_second, holds}
+use Rattle.flow_typing_laws.proofs.Typing.Names.{bytes_same, bytes_self, none_some, some_same}
 use Rattle.flow_typing_laws.proofs.Typing.Agreement.{not_true, neither_left, neither_right}
 use Rattle.flow_validity_laws.proofs.Naming.{constant_no_place}
 use Rattle.flow_validity_laws.proofs.OverPlaces.{class_vars, Placed, Sees}
@@ -150,7 +151,7 @@ is_new s states state x h =
     let a = is_there (named s.vars x) in
     let b = is_predefined x in
     let d = is_there (s.known x) in
-    let n = not_true (a || b || d || (state && among states x)) (holds _ TWICE h) in
+    let n = not_true (a || b || d || (state && among states x)) (holds _ TakenName h) in
     let m = neither_left (a || b) d (neither_left (a || b || d) (state && among states x) n) in
     record { unknown = not_there (named s.vars x) (neither_left a b m); plain = plain_of x (neither_right a b m) }
 
@@ -293,7 +294,7 @@ module _ (base : Setting) (ns : Names) (c : ClassTree) (few_slots : length c.slo
       own : named constant_names p.name.name ≡ None
       own =
           let f = no_second (written s p.ty) _ (no_first (param_fault s taken p) (params_fault s (with_name p.name.name taken) ps) h) in
-          let n = not_true (taken p.name.name || is_predefined p.name.name || is_there (s.known p.name.name)) (holds _ TWICE f) in
+          let n = not_true (taken p.name.name || is_predefined p.name.name || is_there (s.known p.name.name)) (holds _ TakenName f) in
           plain_of p.name.name (neither_right (taken p.name.name) (is_predefined p.name.name) (neither_left (taken p.name.name || is_predefined p.name.name) (is_there (s.known p.name.name)) n))
 
       by_name : (b : Bool) → bytes_eq x p.name.name ≡ b → (if b then Some p.ty else named (map field_row ps) x) ≡ Some t → (named (map field_row ps) x ≡ Some t → named constant_names x ≡ None)

@@ -7,7 +7,7 @@ use Rattle.std.specs.declared.option.Option.TheVariants.{None, Some}
 use Rattle.flow_base.specs.declared.place.Place.{Place}
 use Rattle.flow_tree.specs.declared.ty.Ident.{Ident}
 use Rattle.flow_tree.specs.declared.expr.Op.TheVariants.{Add, Sub}
-use Rattle.flow_tree.specs.Tree.{TypeTree, IntType, BoolType, StringType, VoidType, ErrorType, PromiseType, PromiseStreamType, ExprTree, ExprTrees, IntExpr, TextExpr, BoolExpr, VoidExpr, VarExpr, CallExpr, FieldExpr, MethodExpr, NotExpr, NegExpr, BinaryExpr, ParenExpr}
+use Rattle.flow_tree.specs.Tree.{TypeTree, IntType, BoolType, StringType, VoidType, ErrorType, PromiseType, PromiseStreamType, ExprTree, ExprTrees, IntExpr, TextExpr, BoolExpr, VarExpr, CallExpr, FieldExpr}
 use Rattle.flow_tree.specs.Body.{IntoTree, WaitTree, ChangeTree, PlusChange, MinusChange, UpChange, DownChange}
 use Rattle.flow_ast.specs.TypingNames.{named}
 use Rattle.flow_ast.specs.Typing.{is_there, with_type, same_type, sum_type, int_only, binary_type}
@@ -16,19 +16,20 @@ use Rattle.flow_class.specs.Places.{place_name}
 use Rattle.flow_class.specs.Classes.{InstrTree, SetInstr, NewInstr, ActInstr, ThrowLast, ClassTree}
 use Rattle.flow_class.specs.Code.{type_at}
 use Rattle.flow_class.specs.Scopes.{Scope, place_of, var_over, over, over_all, path_over, act_over}
-use Rattle.flow_rules.specs.declared.rule.TheConstants.{UNKNOWN_NAME, WRONG_TYPE, NEEDS_VALUE}
+use Rattle.flow_rules.specs.declared.rule.SemanticRule.TheVariants.{UnknownName, WrongType, NeedsValue}
 use Rattle.flow_rules.specs.Least.{lesser, unless}
 use Rattle.flow_rules.specs.Judged.{Setting, field_form, variable_as, variable_form, sign_form, form, wants, operands, of_field, fault, wanted, called}
 use Rattle.flow_rules.specs.Items.{has_default, value_fault, path_form, path_fault, target_form, target_fault, assigned as fits_target, assign_fault, change_fault, modify_fault, call_fault, wait_type, throw_fault}
+use Rattle.flow_rules.proofs.Lesser.{no_first, no_second, no_lesser, holds}
 use Rattle.flow_choose.specs.Places.{ident_at}
 use Rattle.flow_meaning.specs.Evaluating.{Names, effectful, effect_in}
 use Rattle.flow_meaning.specs.Items.{path_from, modified, change}
 use Rattle.flow_split.specs.Lowered.{first_value, new_at, first_at, assign_by, assigned, changed, place_in, taken_in, declares, thrown, callback, cancelled}
 use Rattle.flow_valid.specs.Validity.{calls_effect, is_effect, put_fault, is_promise, operand_type, has_type, instr_fits, last_fits, operand_fits, taken_type, callback_fits}
-use Rattle.flow_typing_laws.proofs.Typing.Names.{some_none, type_same, type_self, no_first, no_second, holds, there}
+use Rattle.flow_typing_laws.proofs.Typing.Names.{some_none, type_same, type_self, there}
 use Rattle.flow_typing_laws.proofs.Typing.Expressions.{sum_there}
 use Rattle.flow_validity_laws.proofs.Naming.{both}
-use Rattle.flow_validity_laws.proofs.OverPlaces.{no_lesser, class_vars, over_names, over_class, Sees, place_form, same, wanted_same, put_same, call_same, quiet}
+use Rattle.flow_validity_laws.proofs.OverPlaces.{class_vars, over_names, over_class, Sees, place_form, same, wanted_same, put_same, call_same, quiet}
 
 pub none_is : {A : Type 0} (o : Option A) → o ≡ None → is_none o ≡ true
 none_is None e = refl
@@ -86,32 +87,32 @@ int_there IntType e = refl
 int_there t e = cc
 
 wants_self : (t : TypeTree) → wants (Some t) t ≡ None
-wants_self t = ap (λ b. unless b WRONG_TYPE) (type_self t)
+wants_self t = ap (λ b. unless b WrongType) (type_self t)
 
 -- the sum of what is there and something that fits it has its type
 sum_suits : (o q : Option TypeTree) → operands Add o q ≡ None → fits_target (sign_form Add o q) o ≡ None
 sum_suits None q h = refl
 sum_suits (Some t) None h =
-    let w = holds (is_there (sum_type t)) WRONG_TYPE h in
+    let w = holds (is_there (sum_type t)) WrongType h in
     ap (λ u. wants u t) (sum_there t w) ∙ wants_self t
 sum_suits (Some t) (Some u) h =
-    let w = first_of (same_type t u) (sum_type t) (holds (is_there (binary_type Add t u)) WRONG_TYPE h) in
+    let w = first_of (same_type t u) (sum_type t) (holds (is_there (binary_type Add t u)) WrongType h) in
     ap (λ b. wants (if_typed b (sum_type t)) t) w.0 ∙ ap (λ v. wants v t) (sum_there t w.1) ∙ wants_self t
 
 difference_suits : (o q : Option TypeTree) → operands Sub o q ≡ None → fits_target (Some IntType) o ≡ None
 difference_suits None q h = refl
-difference_suits (Some t) None h = ap (wants (Some IntType)) (int_there t (holds (is_there (int_only t)) WRONG_TYPE h))
+difference_suits (Some t) None h = ap (wants (Some IntType)) (int_there t (holds (is_there (int_only t)) WrongType h))
 difference_suits (Some t) (Some u) h =
-    let w = first_of (same_type t u) (int_only t) (holds (is_there (binary_type Sub t u)) WRONG_TYPE h) in
+    let w = first_of (same_type t u) (int_only t) (holds (is_there (binary_type Sub t u)) WrongType h) in
     ap (wants (Some IntType)) (int_there t w.1)
 
 one_more : (o : Option TypeTree) → wants o IntType ≡ None → operands Add o (Some IntType) ≡ None
 one_more None h = refl
-one_more (Some t) h = ap (λ u. operands Add (Some u) (Some IntType)) (type_same t IntType (holds (same_type t IntType) WRONG_TYPE h))
+one_more (Some t) h = ap (λ u. operands Add (Some u) (Some IntType)) (type_same t IntType (holds (same_type t IntType) WrongType h))
 
 one_less : (o : Option TypeTree) → wants o IntType ≡ None → operands Sub o (Some IntType) ≡ None
 one_less None h = refl
-one_less (Some t) h = ap (λ u. operands Sub (Some u) (Some IntType)) (type_same t IntType (holds (same_type t IntType) WRONG_TYPE h))
+one_less (Some t) h = ap (λ u. operands Sub (Some u) (Some IntType)) (type_same t IntType (holds (same_type t IntType) WrongType h))
 
 changes : (s : Setting) (old : ExprTree) (o : Option TypeTree) (d : ChangeTree) → form s old ≡ o → fault s false old ≡ None → change_fault s o d ≡ None → Changes s (modified d old) o
 changes s old o (PlusChange e) f h k =
@@ -195,11 +196,11 @@ module _ (base : Setting) (ns : Names) (c : ClassTree) (agree : (f : List ℕ) �
       let o = target_form names (x ∷ xs) in
       let a = no_first t (change_fault names o d) h in
       let k = no_second t (change_fault names o d) h in
-      let known = unless (is_there (named vs x.name)) UNKNOWN_NAME in
-      let f = there (named vs x.name) (holds (is_there (named vs x.name)) UNKNOWN_NAME (no_first known (path_fault names (named vs x.name) xs) a)) in
+      let known = unless (is_there (named vs x.name)) UnknownName in
+      let f = there (named vs x.name) (holds (is_there (named vs x.name)) UnknownName (no_first known (path_fault names (named vs x.name) xs) a)) in
       let p = sees x.name f.value f.is in
       let var : variable_form names x.name ≡ named vs x.name = ap (variable_as names x.name) p.plain in
-      let sound : fault names false (VarExpr x) ≡ None = ap (λ q. unless (is_there q) UNKNOWN_NAME) var ∙ no_first known (path_fault names (named vs x.name) xs) a in
+      let sound : fault names false (VarExpr x) ≡ None = ap (λ q. unless (is_there q) UnknownName) var ∙ no_first known (path_fault names (named vs x.name) xs) a in
       let old = path_expr names xs (VarExpr x) (named vs x.name) var sound (no_second known (path_fault names (named vs x.name) xs) a) in
       let new = changes names (path_from (VarExpr x) xs) o d old.by_form old.sound k in
       let e = modified d (path_from (VarExpr x) xs) in
@@ -235,7 +236,7 @@ module _ (base : Setting) (ns : Names) (c : ClassTree) (agree : (f : List ℕ) �
   put_own effect o t x e p h w =
       let own = own_form o t x p in
       no_lesser (lesser (target_fault places (ident_at o x ∷ [])) (fault places effect e)) _
-      (no_lesser (target_fault places (ident_at o x ∷ [])) (fault places effect e) (ap (λ q. lesser (unless (is_there q) UNKNOWN_NAME) None) own) h) (ap (λ q. fits_target (form places e) q) own ∙ w)
+      (no_lesser (target_fault places (ident_at o x ∷ [])) (fault places effect e) (ap (λ q. lesser (unless (is_there q) UnknownName) None) own) h) (ap (λ q. fits_target (form places e) q) own ∙ w)
 
   literal_fits : (t : TypeTree) (i : IntoTree) (o : Option Slotted) → has_default t ≡ true → IsAt o t → InstrsFit (first_at i o (first_value t))
   literal_fits IntType i o h p = one_fits (SetInstr (ident_at o i.name ∷ []) (IntExpr (pos 0)))
@@ -249,7 +250,7 @@ module _ (base : Setting) (ns : Names) (c : ClassTree) (agree : (f : List ℕ) �
   literal_fits t i o h p = cc
 
   pub declare_fits : (l : ℕ) (i : IntoTree) (v : Option ExprTree) → IsAt (place_in ns c.slots i l s) i.ty → value_fault names i.ty v ≡ None → InstrsFit (declares ns c.slots s l i v)
-  declare_fits l i None p h = literal_fits i.ty i (place_in ns c.slots i l s) (holds (has_default i.ty) NEEDS_VALUE h) p
+  declare_fits l i None p h = literal_fits i.ty i (place_in ns c.slots i l s) (holds (has_default i.ty) NeedsValue h) p
   declare_fits l i (Some v) p h =
       let o = place_in ns c.slots i l s in
       let w = wants (form names v) i.ty in
@@ -273,7 +274,7 @@ module _ (base : Setting) (ns : Names) (c : ClassTree) (agree : (f : List ℕ) �
       let p = sees q.0 ErrorType q.2 in
       let e : variable_form places (var_over (option_and_then (place_of c.slots s) o)) ≡ Some ErrorType =
       ap (λ z. variable_form places (var_over (option_and_then (place_of c.slots s) z))) q.1 ∙ place_form base c vs s sees q.0 ErrorType p in
-      none_is (wanted places false (thrown ns c.slots s at None o) ErrorType) (ap (λ z. lesser (unless (is_there z) UNKNOWN_NAME) (wants z ErrorType)) e)
+      none_is (wanted places false (thrown ns c.slots s at None o) ErrorType) (ap (λ z. lesser (unless (is_there z) UnknownName) (wants z ErrorType)) e)
 
   -- a callback
   waits_type : (next : Bool) (i : IntoTree) → operand_type next i.ty ≡ wait_type next (Some i)

@@ -18,6 +18,7 @@ use Rattle.flow_catch.specs.Inner.{inner_locals, left_lists}
 use Rattle.flow_layout.specs.Locals.{body_locals}
 use Rattle.flow_rules.specs.Judged.{Setting, called, fault, form, wants, wanted}
 use Rattle.flow_rules.specs.Items.{item, behind as rule_behind, throw_fault, body_refusal}
+use Rattle.flow_rules.proofs.Lesser.{no_first, holds}
 use Rattle.flow_staterule.specs.declared.scope.Point.{Point}
 use Rattle.flow_staterule.specs.declared.ways.Ways.{Ways}
 use Rattle.flow_staterule.specs.declared.uses.Caught.{Caught}
@@ -34,7 +35,6 @@ use Rattle.flow_valid.specs.Filling.{among}
 use Rattle.flow_lowering_laws.proofs.Actors.Standing.{locals_front}
 use Rattle.flow_lowering_laws.proofs.Actors.Around.{above_more}
 use Rattle.flow_lowering_laws.proofs.Actors.Further.{locals_after}
-use Rattle.flow_typing_laws.proofs.Typing.Names.{no_first, holds}
 use Rattle.flow_typing_laws.proofs.Typing.Agreement.{neither_first, neither_second}
 use Rattle.flow_validity_laws.proofs.OverPlaces.{over_names, Sees}
 use Rattle.flow_validity_laws.proofs.Fitting.{at_item, stands_behind, stands_marked}

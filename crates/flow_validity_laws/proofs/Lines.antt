@@ -9,7 +9,7 @@ use Rattle.std.specs.declared.option.Option.TheVariants.{None, Some}
 use Rattle.flow_base.proofs.Bools.{and_left, and_right}
 use Rattle.flow_base.specs.declared.place.Place.{Place}
 use Rattle.flow_tree.specs.declared.ty.Ident.{Ident}
-use Rattle.flow_tree.specs.Tree.{TypeTree, IntType, BoolType, ExprTree, ExprTrees, IntExpr, TextExpr, BoolExpr, VoidExpr, VarExpr, CallExpr, FieldExpr, MethodExpr, NotExpr, NegExpr, BinaryExpr, ParenExpr, NoExprs, MoreExprs}
+use Rattle.flow_tree.specs.Tree.{TypeTree, IntType, BoolType, ExprTree, ExprTrees, VarExpr, CallExpr, FieldExpr, MethodExpr, NotExpr, NegExpr, BinaryExpr, ParenExpr, NoExprs, MoreExprs}
 use Rattle.flow_ast.specs.TypingNames.{named, constant_names}
 use Rattle.flow_ast.specs.Typing.{or_else, is_there}
 use Rattle.flow_class.specs.declared.class.Slotted.{Slotted}
@@ -17,16 +17,17 @@ use Rattle.flow_class.specs.declared.class.Slotted.TheVariants as place
 use Rattle.flow_class.specs.Places.{place_name, place_named}
 use Rattle.flow_class.specs.Classes.{ClassTree}
 use Rattle.flow_class.specs.Scopes.{Scope, Mark, place_of, var_over, name_over, over, over_all}
-use Rattle.flow_rules.specs.declared.rule.TheConstants.{UNKNOWN_NAME}
+use Rattle.flow_rules.specs.declared.rule.SemanticRule.TheVariants.{UnknownName}
 use Rattle.flow_rules.specs.Least.{lesser}
 use Rattle.flow_rules.specs.Judged.{Setting, Need, called, called_on, needs_of, calls, calls_on, placed, form, fault, faults, fits, wants, operands, of_field, variable_as}
+use Rattle.flow_rules.proofs.Lesser.{no_first, no_second, holds}
 use Rattle.flow_staterule.specs.declared.scope.Point.{Point}
 use Rattle.flow_staterule.specs.declared.scope.Use.{Use}
 use Rattle.flow_staterule.specs.Uses.{Variable, use_of, mention, expr_uses, exprs_uses}
 use Rattle.flow_meaning.specs.Evaluating.{Names}
 use Rattle.flow_valid.specs.Named.{listed, expr_places, exprs_places}
 use Rattle.flow_valid.specs.Filling.{same_place, among, is_local}
-use Rattle.flow_typing_laws.proofs.Typing.Names.{bytes_same, bytes_self, bytes_sym, none_some, no_first, no_second, holds, there}
+use Rattle.flow_typing_laws.proofs.Typing.Names.{bytes_same, bytes_self, bytes_sym, none_some, there}
 use Rattle.flow_validity_laws.proofs.Naming.{constant_no_place}
 use Rattle.flow_validity_laws.proofs.OverPlaces.{over_names}
 use Rattle.flow_validity_laws.proofs.InForce.{New, named_append, Grows}
@@ -292,7 +293,7 @@ module _ (base : Setting) (c : ClassTree) where
 
       mutual
         pub expr_in : (whole : Bool) (e : ExprTree) → fault (over_names base c rows) whole e ≡ None → AllFresh (expr_uses vs p e) → AllIn (expr_places (over c.slots s e)) set
-        expr_in whole (VarExpr x) f h = var_in x (named constant_names x.name) refl (holds _ UNKNOWN_NAME f) h
+        expr_in whole (VarExpr x) f h = var_in x (named constant_names x.name) refl (holds _ UnknownName f) h
         expr_in whole (CallExpr g es) f h =
             let n = over_names base c rows in
             exprs_in 0 (needs_of (called n g.name)) es (no_first (faults n 0 (needs_of (called n g.name)) es) (calls es (called n g.name) (placed n whole)) f) h

@@ -3,7 +3,7 @@ use Rattle.std.proofs.Common.{◌≡◌, ℕ, suc, Bool, true, false, List, [], 
 use Rattle.std.specs.declared.option.Option.{Option}
 use Rattle.std.specs.declared.option.Option.TheVariants.{None, Some}
 use Rattle.flow_tree.specs.declared.ty.Ident.{Ident}
-use Rattle.flow_tree.specs.Tree.{TypeTree, IntType, BoolType, NamedType, ExprTree, ExprTrees, IntExpr, TextExpr, BoolExpr, VoidExpr, VarExpr, CallExpr, FieldExpr, MethodExpr, NotExpr, NegExpr, BinaryExpr, ParenExpr, NoExprs, MoreExprs}
+use Rattle.flow_tree.specs.Tree.{TypeTree, IntType, BoolType, NamedType, ExprTree, ExprTrees, VarExpr, CallExpr, FieldExpr, MethodExpr, NotExpr, NegExpr, BinaryExpr, ParenExpr, NoExprs, MoreExprs}
 use Rattle.flow_ast.specs.declared.predefined.Method.{Method}
 use Rattle.flow_ast.specs.TypingNames.{named, constant_names, method_names}
 use Rattle.flow_ast.specs.Typing.{is_there, with_type}
@@ -11,16 +11,14 @@ use Rattle.flow_class.specs.declared.class.Slotted.{Slotted}
 use Rattle.flow_class.specs.Places.{place_name}
 use Rattle.flow_class.specs.Classes.{ClassTree}
 use Rattle.flow_class.specs.Scopes.{Scope, place_of, var_over, name_over, over, over_all, path_over, act_over}
-use Rattle.flow_rules.specs.declared.rule.TheConstants.{UNKNOWN_NAME, WRONG_COUNT}
+use Rattle.flow_rules.specs.declared.rule.SemanticRule.{SemanticRule}
+use Rattle.flow_rules.specs.declared.rule.SemanticRule.TheVariants.{UnknownName, WrongCount}
 use Rattle.flow_rules.specs.Least.{lesser, unless}
 use Rattle.flow_rules.specs.Judged.{Setting, Need, Kind, Value, OfFunction, Clock, Effect, Statement, Callee, called, called_by, called_on, needs_of, gives_of, field_form, variable_as, variable_form, sign_form, form, wants, fits, operands, placed, said, as_many, calls, calls_on, of_field, fault, faults, wanted}
 use Rattle.flow_rules.specs.Items.{path_form, path_fault, target_form, target_fault, assigned, ends_of, call_fault}
+use Rattle.flow_rules.proofs.Lesser.{no_first, no_second, no_lesser, holds}
 use Rattle.flow_valid.specs.Validity.{slot_rows, local_rows, is_effect_kind, calls_effect, is_effect, put_fault}
-use Rattle.flow_typing_laws.proofs.Typing.Names.{some_none, no_first, no_second, holds, there}
-
-pub no_lesser : (x y : Option ℕ) → x ≡ None → y ≡ None → lesser x y ≡ None
-no_lesser None y e f = f
-no_lesser (Some a) y e f = absurd (some_none e)
+use Rattle.flow_typing_laws.proofs.Typing.Names.{some_none, there}
 
 module _ (base : Setting) (c : ClassTree) where
   -- the places of the class by their names
@@ -56,7 +54,7 @@ module _ (base : Setting) (c : ClassTree) where
 
     field_fault : (o : Option TypeTree) (x : List ℕ) → of_field over_class o x ≡ of_field (over_names vs) o x
     field_fault None x = refl
-    field_fault (Some t) x = ap (λ q. unless (is_there q) UNKNOWN_NAME) (field_same t x)
+    field_fault (Some t) x = ap (λ q. unless (is_there q) UnknownName) (field_same t x)
 
     placed_same : (whole : Bool) (k : Kind) → placed over_class whole k ≡ placed (over_names vs) whole k
     placed_same whole Value = refl
@@ -84,9 +82,9 @@ module _ (base : Setting) (c : ClassTree) where
     as_many_same (MoreExprs e es) [] = refl
     as_many_same (MoreExprs e es) (n ∷ ns) = as_many_same es ns
 
-    calls_same : (es : ExprTrees) (o : Option Callee) (may can : Kind → Option ℕ) → ((k : Kind) → can k ≡ may k) → calls es o may ≡ None → calls (over_all c.slots s es) o can ≡ None
+    calls_same : (es : ExprTrees) (o : Option Callee) (may can : Kind → Option SemanticRule) → ((k : Kind) → can k ≡ may k) → calls es o may ≡ None → calls (over_all c.slots s es) o can ≡ None
     calls_same es None may can e h = h
-    calls_same es (Some k) may can e h = ap₂ (λ b f. lesser (unless b WRONG_COUNT) f) (as_many_same es k.needs) (e k.kind) ∙ h
+    calls_same es (Some k) may can e h = ap₂ (λ b f. lesser (unless b WrongCount) f) (as_many_same es k.needs) (e k.kind) ∙ h
 
     calls_on_same : (o : Option TypeTree) (es : ExprTrees) (m : List ℕ) → calls_on o es (called_on o m) (placed (over_names vs) false) ≡ None
         → calls_on o (over_all c.slots s es) (called_on o m) (placed over_class false) ≡ None
@@ -109,8 +107,8 @@ module _ (base : Setting) (c : ClassTree) where
     mutual
       pub same : (whole : Bool) (e : ExprTree) → fault (over_names vs) whole e ≡ None → IsSame whole e
       same whole (VarExpr x) h =
-          let f = by_constant x.name (named constant_names x.name) refl (holds (is_there (variable_form (over_names vs) x.name)) UNKNOWN_NAME h) in
-          record { by_form = f; sound = ap (λ o. unless (is_there o) UNKNOWN_NAME) f ∙ h }
+          let f = by_constant x.name (named constant_names x.name) refl (holds (is_there (variable_form (over_names vs) x.name)) UnknownName h) in
+          record { by_form = f; sound = ap (λ o. unless (is_there o) UnknownName) f ∙ h }
       same whole (CallExpr f es) h =
           let o = called (over_names vs) f.name in
           let l = faults (over_names vs) 0 (needs_of o) es in
@@ -191,12 +189,12 @@ module _ (base : Setting) (c : ClassTree) where
     pub target_same : (xs : List Ident) → target_fault (over_names vs) xs ≡ None → IsTarget xs
     target_same [] h = record { sound = refl; by_form = refl }
     target_same (x ∷ xs) h =
-        let f = there (named vs x.name) (holds (is_there (named vs x.name)) UNKNOWN_NAME (no_first (unless (is_there (named vs x.name)) UNKNOWN_NAME) _ h)) in
+        let f = there (named vs x.name) (holds (is_there (named vs x.name)) UnknownName (no_first (unless (is_there (named vs x.name)) UnknownName) _ h)) in
         let p = sees x.name f.value f.is in
         let e : named class_vars (var_over (place_of c.slots s x.name)) ≡ named vs x.name = ap (λ o. named class_vars (var_over o)) p.is ∙ p.typed ∙ sym f.is in
         record {
-          sound = ap (λ o. lesser (unless (is_there o) UNKNOWN_NAME) (path_fault over_class o xs)) e
-              ∙ ap (λ q. lesser (unless (is_there (named vs x.name)) UNKNOWN_NAME) q) (path_fault_same vs xs (named vs x.name)) ∙ h;
+          sound = ap (λ o. lesser (unless (is_there o) UnknownName) (path_fault over_class o xs)) e
+              ∙ ap (λ q. lesser (unless (is_there (named vs x.name)) UnknownName) q) (path_fault_same vs xs (named vs x.name)) ∙ h;
           by_form = ap (λ o. path_form over_class o xs) e ∙ path_form_same vs xs (named vs x.name);
         }
 
@@ -215,7 +213,7 @@ module _ (base : Setting) (c : ClassTree) where
         → lesser (path_fault (over_names vs) (Some IntType) xs) (lesser (faults (over_names vs) 0 (needs_of (called_on (path_form (over_names vs) (Some IntType) xs) m)) es)
         (calls es (called_on (path_form (over_names vs) (Some IntType) xs) m) (said (over_names vs)))) ≡ None
         → ⊥
-    no_base (x ∷ xs) es m h = some_none (no_first (Some UNKNOWN_NAME) (path_fault (over_names vs) None xs) (no_first (lesser (Some UNKNOWN_NAME) (path_fault (over_names vs) None xs)) _ h))
+    no_base (x ∷ xs) es m h = some_none (no_first (Some UnknownName) (path_fault (over_names vs) None xs) (no_first (lesser (Some UnknownName) (path_fault (over_names vs) None xs)) _ h))
     no_base [] es m h = by_method (named method_names m) (no_second (faults (over_names vs) 0 (needs_of (called_on (Some IntType) m)) es) _ h)
       where
         by_method : (o : Option Method) → calls es (called_by IntType o) (said (over_names vs)) ≡ None → ⊥
@@ -223,9 +221,9 @@ module _ (base : Setting) (c : ClassTree) where
         by_method (Some m) h = some_none h
 
     -- a call behind a base of this type
-    abbrev judged : Setting → List Ident → List ℕ → Option TypeTree → ExprTrees → Option ℕ
+    abbrev judged : Setting → List Ident → List ℕ → Option TypeTree → ExprTrees → Option SemanticRule
     judged st zs m t es =
-        lesser (lesser (unless (is_there t) UNKNOWN_NAME) (path_fault st t zs))
+        lesser (lesser (unless (is_there t) UnknownName) (path_fault st t zs))
         (lesser (faults st 0 (needs_of (called_on (path_form st t zs) m)) es) (calls es (called_on (path_form st t zs) m) (said st)))
 
     rest_same : (m : List ℕ) (es : ExprTrees) (t : Option TypeTree) → lesser (faults (over_names vs) 0 (needs_of (called_on t m)) es) (calls es (called_on t m) (said (over_names vs))) ≡ None
@@ -239,9 +237,9 @@ module _ (base : Setting) (c : ClassTree) where
     judged_same : (zs : List Ident) (m : List ℕ) (es : ExprTrees) (t : Option TypeTree) → judged (over_names vs) zs m t es ≡ None → judged over_class zs m t (over_all c.slots s es) ≡ None
     judged_same zs m es t k =
         let u = path_form (over_names vs) t zs in
-        let l = lesser (unless (is_there t) UNKNOWN_NAME) (path_fault (over_names vs) t zs) in
+        let l = lesser (unless (is_there t) UnknownName) (path_fault (over_names vs) t zs) in
         let r = lesser (faults (over_names vs) 0 (needs_of (called_on u m)) es) (calls es (called_on u m) (said (over_names vs))) in
-        no_lesser (lesser (unless (is_there t) UNKNOWN_NAME) (path_fault over_class t zs)) _ (ap (λ q. lesser (unless (is_there t) UNKNOWN_NAME) q) (path_fault_same vs zs t) ∙ no_first l r k)
+        no_lesser (lesser (unless (is_there t) UnknownName) (path_fault over_class t zs)) _ (ap (λ q. lesser (unless (is_there t) UnknownName) q) (path_fault_same vs zs t) ∙ no_first l r k)
         (ap (λ q. lesser (faults over_class 0 (needs_of (called_on q m)) (over_all c.slots s es)) (calls (over_all c.slots s es) (called_on q m) (said over_class))) (path_form_same vs zs t)
         ∙ rest_same m es u (no_second l r k))
 
@@ -251,8 +249,8 @@ module _ (base : Setting) (c : ClassTree) where
     by_base zs y m es (Some n) e h = absurd (no_base zs es m (subst (λ q. judged (over_names vs) zs m (variable_as (over_names vs) y.name q) es ≡ None) e h))
     by_base zs y m es None e h =
         let k = subst (λ q. judged (over_names vs) zs m (variable_as (over_names vs) y.name q) es ≡ None) e h in
-        let known = unless (is_there (named vs y.name)) UNKNOWN_NAME in
-        let f = there (named vs y.name) (holds (is_there (named vs y.name)) UNKNOWN_NAME
+        let known = unless (is_there (named vs y.name)) UnknownName in
+        let f = there (named vs y.name) (holds (is_there (named vs y.name)) UnknownName
         (no_first known (path_fault (over_names vs) (named vs y.name) zs) (no_first (lesser known (path_fault (over_names vs) (named vs y.name) zs)) _ k))) in
         subst (λ q. judged over_class zs m q (over_all c.slots s es) ≡ None) (sym (place_form y.name f.value (sees y.name f.value f.is) ∙ sym f.is)) (judged_same zs m es (named vs y.name) k)
 
@@ -275,8 +273,8 @@ module _ (base : Setting) (c : ClassTree) where
             (subst (λ q. judged (over_names vs) (ends_of y ys).0 (ends_of y ys).1.name (variable_as (over_names vs) x.name q) es ≡ None) e h))
         by_kind None e =
             let k = subst (λ q. judged (over_names vs) (ends_of y ys).0 (ends_of y ys).1.name (variable_as (over_names vs) x.name q) es ≡ None) e h in
-            let known = unless (is_there (named vs x.name)) UNKNOWN_NAME in
-            holds (is_there (named vs x.name)) UNKNOWN_NAME (no_first known (path_fault (over_names vs) (named vs x.name) (ends_of y ys).0)
+            let known = unless (is_there (named vs x.name)) UnknownName in
+            holds (is_there (named vs x.name)) UnknownName (no_first known (path_fault (over_names vs) (named vs x.name) (ends_of y ys).0)
             (no_first (lesser known (path_fault (over_names vs) (named vs x.name) (ends_of y ys).0)) _ k))
 
     -- what is no effect may stand where none may
@@ -290,7 +288,7 @@ module _ (base : Setting) (c : ClassTree) where
     quiet_calls : (es : ExprTrees) (o : Option Callee) → calls_effect o ≡ false → calls es o (placed (over_names vs) true) ≡ None → calls es o (placed (over_names vs) false) ≡ None
     quiet_calls es None e h = h
     quiet_calls es (Some k) e h =
-        let n = unless (as_many es k.needs) WRONG_COUNT in
+        let n = unless (as_many es k.needs) WrongCount in
         no_lesser n (placed (over_names vs) false k.kind) (no_first n (placed (over_names vs) true k.kind) h) (quiet_kind k.kind e (no_second n (placed (over_names vs) true k.kind) h))
 
     pub quiet : (e : ExprTree) → is_effect (over_names vs) e ≡ false → fault (over_names vs) true e ≡ None → fault (over_names vs) false e ≡ None

@@ -31,8 +31,7 @@ use Rattle.flow_lowering_laws.proofs.Actors.Standing.{LocalsAt, locals_front}
 use Rattle.flow_lowering_laws.proofs.Actors.Around.{above_more}
 use Rattle.flow_lowering_laws.proofs.Actors.Places.{names, names_with, placing}
 use Rattle.flow_typing_laws.specs.Typing.Paths.{HasPaths}
-use Rattle.flow_typing_laws.proofs.Typing.Names.{no_first, no_second}
-use Rattle.flow_typing_laws.proofs.Typing.Agreement.{neither_first, no_item}
+use Rattle.flow_typing_laws.proofs.Typing.Agreement.{neither_first}
 use Rattle.flow_validity_laws.proofs.Fitting.{Stands, at_item, new_here, stands_behind, stands_into, above_taken}
 use Rattle.flow_validity_laws.proofs.Walks.{Places, AllIn, after}
 use Rattle.flow_validity_laws.proofs.Waysides.{Meets, Exits}
@@ -54,6 +53,7 @@ use Rattle.flow_split.specs.Lowered.{tested, test_before, dropping, later}
 use Rattle.flow_tree.specs.Formed.{IsStep, IsInit}
 use Rattle.flow_lowering_laws.specs.Actors.InPlace.{started as place_started}
 use Rattle.flow_rules.specs.Items.{started}
+use Rattle.flow_rules.proofs.Lesser.{no_first, no_second, no_item}
 use Rattle.flow_staterule.specs.Uses.{declaring}
 use Rattle.flow_staterule.specs.Ways.{with_step}
 use Rattle.flow_validity_laws.proofs.Fitting.{stands_into}

@@ -13,10 +13,11 @@ use Rattle.flow_class.specs.declared.class.Slotted.{Slotted}
 use Rattle.flow_class.specs.Places.{place_name, place_named}
 use Rattle.flow_class.specs.Classes.{InstrTree, SetInstr, NewInstr, ActInstr, ClassTree}
 use Rattle.flow_class.specs.Scopes.{Scope, place_of, var_over, over, over_all, path_over, act_over}
-use Rattle.flow_rules.specs.declared.rule.TheConstants.{UNKNOWN_NAME}
+use Rattle.flow_rules.specs.declared.rule.SemanticRule.TheVariants.{UnknownName}
 use Rattle.flow_rules.specs.Least.{lesser, unless}
 use Rattle.flow_rules.specs.Judged.{Setting, Need, called, called_on, needs_of, calls, said, variable_as, variable_form, form, fault, faults, operands}
 use Rattle.flow_rules.specs.Items.{target_form, target_fault, path_fault, assigned as fits_target, assign_fault, change_fault, modify_fault, ends_of, base_form, base_fault, call_fault}
+use Rattle.flow_rules.proofs.Lesser.{no_first, no_second, holds}
 use Rattle.flow_choose.specs.Places.{ident_at}
 use Rattle.flow_staterule.specs.declared.scope.Point.{Point}
 use Rattle.flow_staterule.specs.Uses.{Variable, named as named_use, expr_uses, exprs_uses, target_uses, base_uses, change_uses}
@@ -25,7 +26,7 @@ use Rattle.flow_meaning.specs.Items.{path_from, modified}
 use Rattle.flow_split.specs.Lowered.{first_value, new_at, first_at, assign_by, assigned, place_in, declares}
 use Rattle.flow_valid.specs.Named.{listed, expr_places, exprs_places, base_place}
 use Rattle.flow_valid.specs.Filling.{among, filled_path, instr_reads, instr_fills, instr_empties}
-use Rattle.flow_typing_laws.proofs.Typing.Names.{no_first, no_second, holds, there}
+use Rattle.flow_typing_laws.proofs.Typing.Names.{there}
 use Rattle.flow_validity_laws.proofs.OverPlaces.{over_names, Sees, base_known}
 use Rattle.flow_validity_laws.proofs.Walks.{Places, AllIn, after}
 use Rattle.flow_validity_laws.proofs.Lines.{and_true, Has, Covers, AllFresh, fresh_left, fresh_right, in_both, in_none, Lined, found_in, expr_in, exprs_in, same_self}
@@ -86,7 +87,7 @@ module _ (base : Setting) (ns : Names) (c : ClassTree) where
     target_in : (xs : List Ident) → target_fault names xs ≡ None → AllFresh (target_uses vs p xs) → AllIn (base_place (path_over c.slots s xs)) z
     target_in [] f h = in_none z
     target_in (x ∷ []) f h = in_none z
-    target_in (x ∷ (y ∷ ys)) f h = root_in x (holds (is_there (named rows x.name)) UNKNOWN_NAME (no_first (unless (is_there (named rows x.name)) UNKNOWN_NAME) _ f)) h
+    target_in (x ∷ (y ∷ ys)) f h = root_in x (holds (is_there (named rows x.name)) UnknownName (no_first (unless (is_there (named rows x.name)) UnknownName) _ f)) h
 
     pub assign_in : (xs : List Ident) (e : ExprTree) → assign_fault names xs e ≡ None → AllFresh (target_uses vs p xs ++ expr_uses vs p e)
         → AllIn (instr_reads (assigned ns c.slots s (path_over c.slots s xs) e)) z
@@ -117,11 +118,11 @@ module _ (base : Setting) (ns : Names) (c : ClassTree) where
         let o = target_form names (x ∷ xs) in
         let a = no_first t (change_fault names o d) f in
         let us = named_use vs p x in
-        let known = unless (is_there (named rows x.name)) UNKNOWN_NAME in
+        let known = unless (is_there (named rows x.name)) UnknownName in
         let b = no_first known (path_fault names (named rows x.name) xs) a in
-        let r = there (named rows x.name) (holds (is_there (named rows x.name)) UNKNOWN_NAME b) in
+        let r = there (named rows x.name) (holds (is_there (named rows x.name)) UnknownName b) in
         let var : variable_form names x.name ≡ named rows x.name = ap (variable_as names x.name) (sees x.name r.value r.is).plain in
-        let sound : fault names false (VarExpr x) ≡ None = ap (λ q. unless (is_there q) UNKNOWN_NAME) var ∙ b in
+        let sound : fault names false (VarExpr x) ≡ None = ap (λ q. unless (is_there q) UnknownName) var ∙ b in
         let fresh = fresh_left us (change_uses vs p d) h in
         reads_assigned s (path_over c.slots s (x ∷ xs)) (modified d (path_from (VarExpr x) xs)) z (target_in (x ∷ xs) a fresh)
         (changed_in d (path_from (VarExpr x) xs) o (no_second t (change_fault names o d) f) (fresh_right us (change_uses vs p d) h) (from_path xs (VarExpr x) (whole_in false (VarExpr x) sound fresh)))

@@ -28,7 +28,6 @@ use Rattle.flow_lowering_laws.specs.Actors.InPlace.{InPlace}
 use Rattle.flow_lowering_laws.proofs.Actors.Standing.{LocalsAt, locals_front, locals_back}
 use Rattle.flow_lowering_laws.proofs.Actors.Around.{above_more}
 use Rattle.flow_lowering_laws.proofs.Actors.Further.{locals_count}
-use Rattle.flow_typing_laws.proofs.Typing.Names.{no_first}
 use Rattle.flow_typing_laws.proofs.Typing.Agreement.{neither_first, neither_second}
 use Rattle.flow_validity_laws.proofs.OverPlaces.{over_names}
 use Rattle.flow_validity_laws.proofs.Fitting.{at_item, stands_behind, stands_marked}
@@ -50,6 +49,7 @@ use Rattle.flow_validity_laws.proofs.Grounds.{ground_pass}
 use Rattle.flow_split.specs.Lowered.{tested, test_before, dropping, later}
 use Rattle.flow_lowering_laws.proofs.Actors.Fors.{step_is_init, step_later, step_locals, test_block, test_local, test_group}
 use Rattle.flow_rules.specs.Items.{started, maybe_test}
+use Rattle.flow_rules.proofs.Lesser.{no_first}
 use Rattle.flow_staterule.specs.Uses.{declaring}
 use Rattle.flow_staterule.specs.Ways.{with_step}
 use Rattle.flow_validity_laws.proofs.Choosings.{test_leaf, head_hand, body_hand, head_meets}

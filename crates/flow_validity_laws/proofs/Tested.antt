@@ -13,19 +13,21 @@ use Rattle.flow_rules.specs.Known.{field_row}
 use Rattle.flow_rules.specs.Judged.{Setting}
 use Rattle.flow_rules.specs.Items.{written}
 use Rattle.flow_rules.specs.Rules.{setting_of, name_fault, params_fault, body_env, decls_refusal}
+use Rattle.flow_rules.proofs.Lesser.{no_second}
 use Rattle.flow_meaning.specs.Evaluating.{Names}
 use Rattle.flow_meaning.specs.Source.{actors_in, names_of}
 use Rattle.flow_split.specs.Around.{whole}
 use Rattle.flow_split.specs.Lowered.{block_with, lowered}
 use Rattle.flow_lower.specs.Compiled.{class_in, compiled}
 use Rattle.flow_front.specs.Verdict.{IsTyped}
+use Rattle.flow_valid.specs.declared.rule.ClassRule.TheVariants as rule
 use Rattle.flow_valid.specs.Named.{names_exist}
 use Rattle.flow_valid.specs.Validity.{leads_forward, groups_chosen, catchers_kept, class_setting, block_fits, callback_fits, types_fit, first_broken, broken_rule}
 use Rattle.flow_lowering_laws.specs.Actors.Parts.{HasParts}
 use Rattle.flow_lowering_laws.specs.Actors.InPlace.{InPlace}
 use Rattle.flow_lowering_laws.specs.Actors.Laws.{IsSmall}
 use Rattle.flow_lowering_laws.proofs.Programs.Whole.{EachActor, Formed, Placed, decls_formed, program_decls, as_many, decls_placed, small}
-use Rattle.flow_typing_laws.proofs.Typing.Names.{none_some, some_same, no_second}
+use Rattle.flow_typing_laws.proofs.Typing.Names.{none_some, some_same}
 use Rattle.flow_typing_laws.proofs.Typing.Agreement.{neither_first}
 use Rattle.flow_validity_laws.proofs.Naming.{both}
 use Rattle.flow_validity_laws.proofs.Numbered.{numbered_well, all_types}
@@ -98,7 +100,8 @@ types_well p h a k =
     (both (list_all (block_fits c (over_class base c)) c.blocks) _
     (both (block_fits c (over_class base c) (block_with None ch)) _ (block_fit base ns c k.small.slots k.small.locals agree None ch f) f.more) f.groups)
 
-all_hold : (a b c d e : Bool) → a ≡ true → b ≡ true → c ≡ true → d ≡ true → e ≡ true → first_broken ((3, a) ∷ (4, b) ∷ (5, c) ∷ (6, d) ∷ (7, e) ∷ []) ≡ None
+all_hold : (a b c d e : Bool) → a ≡ true → b ≡ true → c ≡ true → d ≡ true → e ≡ true
+    → first_broken ((rule.Names, a) ∷ (rule.Edges, b) ∷ (rule.Groups, c) ∷ (rule.Catchers, d) ∷ (rule.Types, e) ∷ []) ≡ None
 all_hold true true true true true f g h i j = refl
 all_hold false b c d e f g h i j = cc
 all_hold true false c d e f g h i j = cc

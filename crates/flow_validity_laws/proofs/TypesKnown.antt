@@ -9,13 +9,13 @@ use Rattle.flow_tree.specs.Body.{IntoTree, WaitTree, Body, End, BlockStmt, IfStm
 use Rattle.flow_tree.specs.Decls.{SlotTree}
 use Rattle.flow_ast.specs.Slots.{body_slots, branch_slots, declared_slots, into_slots}
 use Rattle.flow_layout.specs.Locals.{body_locals, branch_locals, declared_locals, into_locals}
-use Rattle.flow_rules.specs.declared.rule.TheConstants.{UNKNOWN_NAME}
+use Rattle.flow_rules.specs.declared.rule.SemanticRule.TheVariants.{UnknownName}
 use Rattle.flow_rules.specs.Least.{lesser, unless}
 use Rattle.flow_rules.specs.Known.{Meaning, type_known}
 use Rattle.flow_rules.specs.Judged.{Setting}
 use Rattle.flow_rules.specs.Items.{Env, item, with_var, with_states, in_loop, in_catch, behind, declared, waited, started, written, fresh, state_here, into_fault, declare_fault, wait_fault, maybe_into, slot_names, body_refusal, branch_refusal}
-use Rattle.flow_typing_laws.proofs.Typing.Names.{no_first, holds}
-use Rattle.flow_typing_laws.proofs.Typing.Agreement.{neither_first, neither_second, no_item}
+use Rattle.flow_rules.proofs.Lesser.{no_first, holds, no_item}
+use Rattle.flow_typing_laws.proofs.Typing.Agreement.{neither_first, neither_second}
 use Rattle.flow_validity_laws.proofs.Naming.{both, all_both}
 
 module _ (k : List ℕ → Option Meaning) where
@@ -39,7 +39,7 @@ module _ (k : List ℕ → Option Meaning) where
   type_of_into : (s : Setting) (states : List (List ℕ)) (i : IntoTree) → s.known ≡ k → into_fault s states i ≡ None → type_known k i.ty ≡ true
   type_of_into s states i e h =
       let w = no_first (written s i.ty) (lesser (state_here s i.state) (fresh s states i.state i.name.name)) h in
-      ap (λ j. type_known j i.ty) (sym e) ∙ holds (type_known s.known i.ty) UNKNOWN_NAME (no_first (unless (type_known s.known i.ty) UNKNOWN_NAME) _ w)
+      ap (λ j. type_known j i.ty) (sym e) ∙ holds (type_known s.known i.ty) UnknownName (no_first (unless (type_known s.known i.ty) UnknownName) _ w)
 
   by_state : (b : Bool) (i : IntoTree) → type_known k i.ty ≡ true → AreKnown (if b then record { ty = i.ty; name = i.name.name } ∷ [] else []) (if b then [] else i.ty ∷ [])
   by_state true i h = record { slots = both (type_known k i.ty) true h refl; locals = refl }

@@ -34,7 +34,7 @@ use Rattle.flow_lowering_laws.proofs.Actors.Standing.{LocalsAt, locals_front, lo
 use Rattle.flow_lowering_laws.proofs.Actors.Around.{above_more}
 use Rattle.flow_lowering_laws.proofs.Actors.Places.{names, placing}
 use Rattle.flow_lowering_laws.proofs.Actors.Further.{locals_count, into_locals_count}
-use Rattle.flow_typing_laws.proofs.Typing.Names.{none_some, some_same, no_first, no_second}
+use Rattle.flow_typing_laws.proofs.Typing.Names.{none_some, some_same}
 use Rattle.flow_typing_laws.proofs.Typing.Agreement.{neither_first, neither_second}
 use Rattle.flow_validity_laws.proofs.OverPlaces.{over_names, Sees}
 use Rattle.flow_validity_laws.proofs.Fitting.{Stands, at_item, new_here, stands_marked, above_taken}
@@ -54,7 +54,8 @@ use Rattle.flow_ast.specs.Slots.{branch_groups, waited_slots}
 use Rattle.flow_class.specs.Code.{group_at, callback_at}
 use Rattle.flow_layout.specs.Locals.{branch_locals, into_locals}
 use Rattle.flow_rules.specs.Items.{waited, maybe_into, wait_fault, wait_type, branch_refusal}
-use Rattle.flow_rules.specs.declared.rule.TheConstants.{WAIT_OUTSIDE}
+use Rattle.flow_rules.specs.declared.rule.SemanticRule.TheVariants.{WaitInFunction}
+use Rattle.flow_rules.proofs.Lesser.{no_first, no_second}
 use Rattle.flow_staterule.specs.Ways.{waited_at, branch_ways}
 use Rattle.flow_staterule.specs.Uses.{with_into as with_variable, branch_uses}
 use Rattle.flow_split.specs.Counts.{grouped, past_branches, branch_blocks, branch_group_count}
@@ -406,7 +407,7 @@ module _ (base : Setting) (ns : Names) (c : ClassTree) (few_slots : length c.slo
       let k2 = left k (ChooseStmt at bs End) in
       let us = branch_uses (k - 1) vs p q cu bs in
       let ws = uses k2 vs point cu x in
-      let f = item at (unless (not e.setting.plain) WAIT_OUTSIDE) in
+      let f = item at (unless (not e.setting.plain) WaitInFunction) in
       let h2 = neither_second f _ said.judged in
       let hb = neither_first (branch_refusal e bs) _ h2 in
       let e2 = with_states e (slot_names (branch_slots bs)) in

@@ -6,6 +6,7 @@ pub mod Events
 pub mod ServedAround
 pub mod Listening
 pub mod Numbers
+pub mod MovedHeard
 pub mod MovedHosts
 pub mod MovedEvents
 pub mod MovedBreaking
@@ -16,4 +17,6 @@ pub mod Beginnings
 pub mod Framing
 pub mod MovedTraces
 pub mod Parts
+pub mod WatchedTraces
+pub mod Watching
 pub mod Writing

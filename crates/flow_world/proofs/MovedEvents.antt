@@ -19,7 +19,7 @@ use Rattle.flow_machine.specs.declared.host.Burst.{Burst}
 use Rattle.flow_machine.specs.declared.host.Burst.TheVariants.{Rested, Spent as SpentBurst}
 use Rattle.flow_world.specs.declared.action.EventAction.{EventAction}
 use Rattle.flow_world.specs.declared.event.Event.{Event}
-use Rattle.flow_world.specs.declared.event.Event.TheVariants.{Ran, Idle, BoundReached, Spent}
+use Rattle.flow_world.specs.declared.event.Event.TheVariants.{Ran, Idle, BoundReached, Spent, Stopped}
 use Rattle.flow_world.specs.declared.outside.What.{What}
 use Rattle.flow_world.specs.declared.outside.What.TheVariants as what
 use Rattle.flow_world.specs.declared.place.Place.{Place}
@@ -151,3 +151,4 @@ module _ {A B : Type 0} (f : A → B) (puts : A → Line → Result (Unit {0}) O
   does_event_by Spent w a v b t = happens_by w a SpentBurst v b t
   does_event_by Idle w a v b t = (t.0, t.1, ap f t.2)
   does_event_by BoundReached w a v b t = (t.0, t.1, t.2, ap f t.3)
+  does_event_by (Stopped k) w a v b t = t

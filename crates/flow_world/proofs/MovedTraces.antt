@@ -12,12 +12,11 @@ use Rattle.flow_world.specs.declared.event.Event.TheVariants.{Ran}
 use Rattle.flow_world.specs.Ending.{Seen}
 use Rattle.flow_world.specs.FaultedLines.{Telling, TellsAfter, tells}
 use Rattle.flow_world.proofs.MovedEvents.{lines_by, comes_by, does_event_by}
-use Rattle.flow_world.proofs.MovedBreaking.{lines_part_by, moment_breaks_by}
+use Rattle.flow_world.proofs.MovedBreaking.{moment_breaks_by}
 use Rattle.flow_machine.specs.declared.host.RunFault.{RunFault}
 use Rattle.flow_world.specs.declared.ending.Ending.{Ending}
 use Rattle.flow_world.specs.Tracing.{RunsEvents, no_event, one_more, Traces, Begins, TracesPart, begun, all}
 use Rattle.flow_world.specs.BreakingEvents.{MomentFails, breaks_off, went_on, EventFails}
-use Rattle.flow_world.specs.BreakingTraces.{EventsFail, event_fails, frames_fail, counted_out, TraceFails, no_memory, head_fails, events_fail, end_fails}
 
 -- where lines are told, seen as something else
 module _ {A B : Type 0} (f : A → B) (puts : A → Line → Result (Unit {0}) OutFault → A → Type 0) (puts_there : B → Line → Result (Unit {0}) OutFault → B → Type 0)
@@ -35,7 +34,7 @@ seen_of f t = record { out = f t.out; fault = t.fault }
 
 module _ {A B : Type 0} (f : A → B) (puts : A → Line → Result (Unit {0}) OutFault → A → Type 0) (puts_there : B → Line → Result (Unit {0}) OutFault → B → Type 0)
     (there : (a b : A) (l : Line) → puts a l (Ok tt) b → puts_there (f a) l (Ok tt) (f b)) where
-  goes_by : (frames : Bool) (w : Seen) (a : A) (v : Seen) (b : A) → RunsEvents puts frames w a v b → RunsEvents puts_there frames w (f a) v (f b)
+  pub goes_by : (frames : Bool) (w : Seen) (a : A) (v : Seen) (b : A) → RunsEvents puts frames w a v b → RunsEvents puts_there frames w (f a) v (f b)
   goes_by frames w a _ _ no_event = no_event
   goes_by frames w a v d (one_more {u = u} {b = b} {c = c} goes does puts_frames) =
       one_more (goes_by frames w a u b goes) (does_event_by f puts puts_there there Ran u b v c does) (lines_by f puts puts_there there c d _ puts_frames)
@@ -76,13 +75,13 @@ module _ {A B : Type 0} (f : A → B) (puts : A → Line → Result (Unit {0}) O
   part_by frames classes file a b (begun t) = begun (begins_by frames classes file a b t)
   part_by frames classes file a b (all {e = e} t) = all (traces_by frames classes file a e b t)
 
--- a run fails there, too
+-- an event fails there, too
 module _ {A B : Type 0} (f : A → B) (puts : A → Line → Result (Unit {0}) OutFault → A → Type 0) (puts_there : B → Line → Result (Unit {0}) OutFault → B → Type 0)
     (there : (a b : A) (l : Line) (answer : Result (Unit {0}) OutFault) → puts a l answer b → puts_there (f a) l answer (f b)) where
   told : (a b : Telling A) (l : Line) → tells puts a l (Ok tt) b → tells puts_there (seen_of f a) l (Ok tt) (seen_of f b)
   told a b l t = told_by f puts puts_there there a b l t
 
-  told_any : (a b : Telling A) (l : Line) (answer : Result (Unit {0}) OutFault) → tells puts a l answer b → tells puts_there (seen_of f a) l answer (seen_of f b)
+  pub told_any : (a b : Telling A) (l : Line) (answer : Result (Unit {0}) OutFault) → tells puts a l answer b → tells puts_there (seen_of f a) l answer (seen_of f b)
   told_any a b l (Ok tt) t = told a b l t
   told_any a b l (Err fault) t = absurd t
 
@@ -91,21 +90,5 @@ module _ {A B : Type 0} (f : A → B) (puts : A → Line → Result (Unit {0}) O
   moment_fails_by time scripted w a z t (breaks_off x) = breaks_off (moment_breaks_by (seen_of f) (tells puts) (tells puts_there) told_any time scripted w a z t x)
   moment_fails_by time scripted w a z t (went_on fault e v is failed x) = went_on fault e v is failed (comes_by (seen_of f) (tells puts) (tells puts_there) told scripted _ a e v t x)
 
-  event_fails_by : (w : Seen) (a : Telling A) (z : RunFault) (t : Telling A) → EventFails puts w a z t → EventFails puts_there w (seen_of f a) z (seen_of f t)
+  pub event_fails_by : (w : Seen) (a : Telling A) (z : RunFault) (t : Telling A) → EventFails puts w a z t → EventFails puts_there w (seen_of f a) z (seen_of f t)
   event_fails_by w a z t x = record { time = x.time; scripted = x.scripted; comes = x.comes; bound = x.bound; fails = moment_fails_by x.time x.scripted w a z t x.fails }
-
-  events_fail_by : (frames : Bool) (w : Seen) (a : Telling A) (z : RunFault) (t : Telling A) → EventsFail puts frames w a z t → EventsFail puts_there frames w (seen_of f a) z (seen_of f t)
-  events_fail_by frames w a z t (event_fails {v = v} {b = b} goes x) =
-      event_fails (goes_by (seen_of f) (tells puts) (tells puts_there) told frames w a v b goes) (event_fails_by v b z t x)
-  events_fail_by frames w a z t (frames_fail {u = u} {v = v} {b = b} {c = c} goes does x) =
-      frames_fail (goes_by (seen_of f) (tells puts) (tells puts_there) told frames w a u b goes) (does_event_by (seen_of f) (tells puts) (tells puts_there) told Ran u b v c does)
-      (record { part = lines_part_by (seen_of f) (tells puts) (tells puts_there) told_any c t _ x.part; stuck = x.stuck })
-  events_fail_by frames w a z t (counted_out {v = v} {b = b} goes is same) =
-      counted_out (goes_by (seen_of f) (tells puts) (tells puts_there) told frames w a v b goes) is (ap (seen_of f) same)
-
-  pub trace_fails_by : (frames : Bool) (classes : RawClasses) (file : World0) (a : Telling A) (z : RunFault) (t : Telling A)
-      → TraceFails puts frames classes file a z t → TraceFails puts_there frames classes file (seen_of f a) z (seen_of f t)
-  trace_fails_by frames classes file a z t (no_memory is same) = no_memory is (ap (seen_of f) same)
-  trace_fails_by frames classes file a z t (head_fails fault is failed x) = head_fails fault is failed (told a t _ x)
-  trace_fails_by frames classes file a z t (events_fail first headed starts head x) = events_fail first (seen_of f headed) starts (told a headed _ head) (events_fail_by frames first headed z t x)
-  trace_fails_by frames classes file a z t (end_fails fault e is failed x) = end_fails fault e is failed (traces_by (seen_of f) (tells puts) (tells puts_there) told frames classes file a e t x)

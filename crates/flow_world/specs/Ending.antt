@@ -10,7 +10,7 @@ use Rattle.flow_machine.specs.declared.host.RunFault.{RunFault}
 use Rattle.flow_world.specs.declared.place.Place.{Place}
 use Rattle.flow_world.specs.Changes.{Surroundings}
 use Rattle.flow_world.specs.declared.event.Event.{Event}
-use Rattle.flow_world.specs.declared.event.Event.TheVariants.{Ran, Idle, BoundReached, Spent}
+use Rattle.flow_world.specs.declared.event.Event.TheVariants.{Ran, Idle, BoundReached, Spent, Stopped}
 
 -- the time of the first line of a script
 abbrev pub script_time : List At → Option ℕ
@@ -69,10 +69,11 @@ pub record OneMore (before after : Seen) : Type 0 where
   pub bound : after.bound ≡ before.bound
 
 -- What a call for the next event means: nothing comes, or the bound is reached, and the world is as before; or the event
--- ran. After one that was spent or broke off none may follow.
+-- ran. After one that was spent, stopped or broke off none may follow.
 abbrev pub MeansEvent : Seen → Result Event RunFault → Seen → Type 0
 MeansEvent before (Ok Idle) after = (next before ≡ None) × (after ≡ before)
 MeansEvent before (Ok BoundReached) after = IsSome (next before) × (before.bound ≤ before.ran) × (after ≡ before)
 MeansEvent before (Ok Ran) after = OneMore before after × (after.ended ≡ false)
 MeansEvent before (Ok Spent) after = OneMore before after × (after.ended ≡ true)
+MeansEvent before (Ok (Stopped k)) after = OneMore before after × (after.ended ≡ true)
 MeansEvent before (Err fault) after = MayRun before × (after.ended ≡ true)

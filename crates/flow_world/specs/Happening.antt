@@ -38,7 +38,7 @@ use Rattle.flow_machine.specs.declared.host.Burst.TheVariants.{Rested, Spent as 
 use Rattle.flow_world.specs.declared.action.EventAction.{EventAction}
 use Rattle.flow_world.specs.declared.action.EventAction.TheVariants.{Boots, Stops, Delivers, Brings}
 use Rattle.flow_world.specs.declared.event.Event.{Event}
-use Rattle.flow_world.specs.declared.event.Event.TheVariants.{Ran, Idle, BoundReached, Spent}
+use Rattle.flow_world.specs.declared.event.Event.TheVariants.{Ran, Idle, BoundReached, Spent, Stopped}
 use Rattle.flow_world.specs.declared.outside.What.{What}
 use Rattle.flow_world.specs.declared.outside.What.TheVariants as what
 use Rattle.flow_world.specs.declared.place.Place.{Place}
@@ -247,9 +247,10 @@ module _ {A : Type 0} (puts : A → Line → Result (Unit {0}) OutFault → A �
     pub happens : Happens w a burst left b
     pub ended : v ≡ record left { ended = true }
 
-  -- What a call for the next event does.
+  -- What a call for the next event does, where nobody hears its lines: none is stopped then.
   abbrev pub EventDoes : Event → Seen → A → Seen → A → Type 0
   EventDoes Ran w a v b = Happens w a Rested v b
   EventDoes Spent w a v b = Happens w a SpentBurst v b
   EventDoes Idle w a v b = (next w ≡ None) × (v ≡ w) × (b ≡ a)
   EventDoes BoundReached w a v b = IsSome (next w) × (w.bound ≤ w.ran) × (v ≡ w) × (b ≡ a)
+  EventDoes (Stopped k) w a v b = ⊥

@@ -16,4 +16,6 @@ pub mod Worlds
 pub mod Ends
 pub mod Tracing
 pub mod Written
+pub mod Watching
+pub mod WatchedTraces
 pub mod BreakingTraces

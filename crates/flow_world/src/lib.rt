@@ -14,14 +14,17 @@ mod outside;
 mod place;
 mod ports;
 pub mod put;
+mod run_ending;
 mod script;
 mod starting;
 pub mod teller;
 mod to_sink;
 pub mod trace;
+mod watched;
 pub mod world;
 
 pub use ending::Ending;
 pub use event::Event;
+pub use run_ending::RunEnding;
 pub use to_sink::write_trace;
 pub use world::World;

@@ -108,7 +108,7 @@ impl World {
         self.outside.net.processes()
     }
 
-    /// Whether an event was spent or broke off: none may follow.
+    /// Whether an event was spent, was stopped or broke off: none may follow.
     pub fn ended(&self) -> bool
         ensures { result ≡ self.now.ended }
     {
@@ -118,7 +118,7 @@ impl World {
     /// Runs the next event and puts its lines. With no event pending and no line of the script left it is idle, and else,
     /// with as many events run as the bound, the bound is reached; neither puts a line, and both are answered again. Where a
     /// put fails the event goes on to its end, with no line more, and then that fault is answered.
-    pub fn event<L: LineOut>(&mut self, out: &mut L) -> Result<Event, RunFault>
+    pub(crate) fn next_event<L: LineOut>(&mut self, out: &mut L) -> Result<Event, RunFault>
         requires { self.old.ended ≡ false }
         ensures means { MeansEvent (world_seen self.old) result (world_seen self.new) }
         ensures does { IfOk result (λ e. EventDoes (tells L.puts) e
@@ -143,6 +143,13 @@ impl World {
                 Ok(Event::Ran)
             }
         }
+    }
+
+    /// No event may follow.
+    pub(crate) fn end(&mut self)
+        ensures { world_seen self.new ≡ record (world_seen self.old) { ended = true } }
+    {
+        self.ended = true;
     }
 
     /// Carries out what comes next to its end. The fault of a put is answered then.

@@ -12,7 +12,7 @@ use Rattle.flow_valid.specs.Validity.{chooses, times_chosen, each_once, IsValid}
 use Rattle.flow_code.specs.Coding.{home_noted, homes_from, homes_of}
 use Rattle.flow_meaning.proofs.Posture.{same_number}
 use Rattle.flow_progress.proofs.Tops.{first_true, second_true}
-use Rattle.flow_progress.proofs.Valid.{sound_of}
+use Rattle.flow_valid.proofs.ClassRules.{sound_of}
 use Rattle.flow_operation_refinement.specs.Coded.{AtHome}
 
 -- what holds of all holds of each

@@ -26,7 +26,6 @@ use flow_eval::evaluate::{Setting, Turns, bool_of, run_at};
 use flow_eval::operators::{compared, inverted, negated, on_ints, operated};
 use flow_eval::predefined::{call_answer, method_answer};
 use flow_eval::stop::Halt;
-use flow_eval::variables::VarList;
 use flow_tree::limits::CALL_DEPTH;
 use flow_value::value::{Record, Value};
 use std::alloc::Global;
@@ -203,7 +202,7 @@ fn call_function<C: CellView>(
     if function >= setting.functions.len() {
         return Err(Halt::NoMeaning);
     }
-    run_at::<VarList, C>(setting, CALL_DEPTH, function, args, turns)
+    run_at(setting, CALL_DEPTH, function, args, turns)
 }
 
 /// An expression of an actor, with the turns that are left.

@@ -5,7 +5,8 @@ use Rattle.flow_tree.specs.StmtView.{change_of, body_of, simple_of}
 use Rattle.flow_value.specs.View.{value_of}
 use Rattle.flow_eval.specs.Eval.{eval_all}
 use Rattle.flow_eval.specs.Functions.{run_function, exec, loop_run, turn_run}
-use Rattle.flow_eval.specs.Variables.{look_of, var_of}
+use Rattle.flow_ast.specs.TypingNames.{named}
+use Rattle.flow_eval.specs.Variables.{var_of}
 use Rattle.flow_eval.specs.View.{setting_of}
 use Rattle.flow_eval.proofs.Steps.{prefixed, LoopAt}
 use Rattle.flow_eval.proofs.Weights.{room, body_room_at, weight, weights, maybe_weight, change_weight, body_weight, stmt_weight, kind_weight, part_of, else_of}
@@ -95,9 +96,6 @@ decreases-statements::run_call g l = l.nest * room l.setting.now.functions.now +
 abbrev pub decreases-evaluate::run_called : goal.decreases-evaluate::run_called
 decreases-evaluate::run_called g l = l.nest * room l.setting.now.functions.now + body_room_at l.setting.now.functions.now l.function
 
-abbrev pub decreases-statements::evaluate_in : goal.decreases-statements::evaluate_in
-decreases-statements::evaluate_in g l = l.nest * room l.setting.now.functions.now + (weight (expr_of l.expr.now) + 1)
-
 abbrev pub decreases-statements::run_turn : goal.decreases-statements::run_turn
 decreases-statements::run_turn g l = l.nest * room l.setting.now.functions.now +
     (maybe_weight (option_map expr_of (option_copied l.test)) + part_of (option_copied l.step) + body_weight l.body.now.items + 8)
@@ -105,10 +103,10 @@ decreases-statements::run_turn g l = l.nest * room l.setting.now.functions.now +
 abbrev pub invariant-evaluate::evaluate_all-loop-arg : goal.invariant-evaluate::evaluate_all-loop-arg
 invariant-evaluate::evaluate_all-loop-arg g l = record {
   fewer : l.turns.left ≤ l.initial.turns.left;
-  comes : eval_all (setting_of g.C.CellView.content l.setting) (run_function (setting_of g.C.CellView.content l.setting) l.nest) (look_of g.V.Variables.by_name l.vars)
+  comes : eval_all (setting_of g.C.CellView.content l.setting) (run_function (setting_of g.C.CellView.content l.setting) l.nest) (named (map var_of l.vars))
       (exprs_of l.args) l.initial.turns.left
       ≡ prefixed (setting_of g.C.CellView.content l.setting) (run_function (setting_of g.C.CellView.content l.setting) l.nest) (map value_of l.values.items)
-      (eval_all (setting_of g.C.CellView.content l.setting) (run_function (setting_of g.C.CellView.content l.setting) l.nest) (look_of g.V.Variables.by_name l.vars)
+      (eval_all (setting_of g.C.CellView.content l.setting) (run_function (setting_of g.C.CellView.content l.setting) l.nest) (named (map var_of l.vars))
       (exprs_of (drop l.arg-index l.args)) l.turns.left);
 }
 

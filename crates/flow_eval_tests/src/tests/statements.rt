@@ -8,7 +8,6 @@ use flow_base::memory::NoMemory;
 use flow_eval::cells::NoCells;
 use flow_eval::evaluate::{Setting, Turns, run_at};
 use flow_eval::stop::Halt;
-use flow_eval::variables::VarList;
 use flow_value::value::Value;
 use std::alloc::Global;
 
@@ -29,7 +28,7 @@ fn came(
         view: &NoCells,
         time: 0,
     };
-    run_at::<VarList, NoCells>(&setting, 64, 0, args, turns)
+    run_at(&setting, 64, 0, args, turns)
 }
 
 // An argument and the turns that are left, and what the call comes to and the turns that it leaves.

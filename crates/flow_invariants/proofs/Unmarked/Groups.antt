@@ -12,7 +12,7 @@ use Rattle.flow_valid.specs.Named.{instr_places, last_places, targets, has_place
 use Rattle.flow_valid.specs.Validity.{IsValid}
 use Rattle.flow_progress.proofs.Ahead.{own_last}
 use Rattle.flow_progress.proofs.Tops.{first_true, second_true}
-use Rattle.flow_progress.proofs.Valid.{sound_of}
+use Rattle.flow_valid.proofs.ClassRules.{sound_of}
 use Rattle.flow_invariants.specs.Unmarked.{HasCallback}
 
 all_at : {A : Type 0} (p : A → Bool) (xs : List A) (n : ℕ) (x : A) → list_all p xs ≡ true → slice_get xs n ≡ Some x → p x ≡ true

@@ -17,10 +17,12 @@ use Rattle.flow_tree.specs.Decls.{SlotTree}
 use Rattle.flow_ast.specs.Slots.{body_slots, branch_slots, declared_slots, into_slots}
 use Rattle.flow_ast.specs.TypingNames.{named}
 use Rattle.flow_ast.specs.Typing.{or_else, is_there}
+use Rattle.flow_rules.specs.declared.rule.SemanticRule.{SemanticRule}
 use Rattle.flow_rules.specs.Least.{lesser, unless}
 use Rattle.flow_rules.specs.Known.{is_predefined}
 use Rattle.flow_rules.specs.Judged.{Setting}
 use Rattle.flow_rules.specs.Items.{Env, item, with_var, with_states, in_loop, in_catch, slot_names, behind, if_state, declared, waited, written, among, fresh, state_here, into_fault, maybe_into, throw_fault, declare_fault, started, body_refusal, branch_refusal}
+use Rattle.flow_rules.proofs.Lesser.{lesser_both, holds, no_item}
 use Rattle.flow_tree.specs.Formed.{IsInit}
 use Rattle.flow_lowering_laws.specs.Actors.Parts.{HasParts, HaveParts}
 use Rattle.flow_lowering_laws.specs.Actors.InPlace.{NotAmong, naming_if, naming, naming_any, IsThrown, MayDeclare, MayTake, InPlace, AllInPlace}
@@ -40,19 +42,6 @@ true_false h = cc
 pub neither : {A : Type 0} (a b : Option A) → or_else a b ≡ None → (a ≡ None) × (b ≡ None)
 neither None b h = (refl, h)
 neither (Some x) b h = absurd (some_none h)
-
-no_fault : (at : Place) (f : Option ℕ) → item at f ≡ None → f ≡ None
-no_fault at None h = refl
-no_fault at (Some k) h = cc
-
-none_lesser : (a b : Option ℕ) → lesser a b ≡ None → (a ≡ None) × (b ≡ None)
-none_lesser None b h = (refl, h)
-none_lesser (Some m) None h = absurd (some_none h)
-none_lesser (Some m) (Some n) h = absurd (some_none h)
-
-holds : (b : Bool) (k : ℕ) → unless b k ≡ None → b ≡ true
-holds true k h = refl
-holds false k h = cc
 
 not_there : {A : Type 0} (o : Option A) → is_there o ≡ false → o ≡ None
 not_there None h = refl
@@ -77,8 +66,8 @@ is_new s states state x h =
 
 new_into : (s : Setting) (states : List (List ℕ)) (i : IntoTree) → into_fault s states i ≡ None → New s.vars states i.state i.name.name
 new_into s states i h =
-    let a = none_lesser (written s i.ty) (lesser (state_here s i.state) (fresh s states i.state i.name.name)) h in
-    let b = none_lesser (state_here s i.state) (fresh s states i.state i.name.name) a.1 in
+    let a = lesser_both (written s i.ty) (lesser (state_here s i.state) (fresh s states i.state i.name.name)) h in
+    let b = lesser_both (state_here s i.state) (fresh s states i.state i.name.name) a.1 in
     is_new s states i.state i.name.name b.1
 
 -- a name that one more row doesn't know
@@ -222,7 +211,7 @@ module _ (all_slots : List SlotTree) where
       → Stand (started e i).setting.vars (started e i).states (place.started i xs) (before ++ body_slots i) m rest
   starts (DeclareStmt at i v End) e xs before m rest is h st =
       let a = neither (item at (declare_fault e.setting e.states i v)) None h in
-      let b = none_lesser (into_fault e.setting e.states i) _ (no_fault at _ a.0) in
+      let b = lesser_both (into_fault e.setting e.states i) _ (no_item at _ a.0) in
       let alone = append-nil (declared_slots i) in
       let d = declares e.setting e.states xs before m rest i b.0 (subst (λ l. Stand e.setting.vars e.states xs before (l ++ m) rest) alone st) in
       subst (λ l. Stand (declared e i).setting.vars (declared e i).states (naming i xs) (before ++ l) m rest) (sym alone) d.stands
@@ -311,14 +300,14 @@ module _ (all_slots : List SlotTree) where
         )
     in_place (BreakStmt at k) e l t xs before rest p h el ec st =
         let a = neither _ (body_refusal e k) h in
-        (sym el ∙ holds _ _ (no_fault at _ a.0), in_place k e l t xs before rest p.1 a.1 el ec st)
+        (sym el ∙ holds _ _ (no_item at _ a.0), in_place k e l t xs before rest p.1 a.1 el ec st)
     in_place (ContinueStmt at k) e l t xs before rest p h el ec st =
         let a = neither _ (body_refusal e k) h in
-        (sym el ∙ holds _ _ (no_fault at _ a.0), in_place k e l t xs before rest p.1 a.1 el ec st)
+        (sym el ∙ holds _ _ (no_item at _ a.0), in_place k e l t xs before rest p.1 a.1 el ec st)
     in_place (ReturnStmt at v k) e l t xs before rest p h el ec st = in_place k e l t xs before rest p.1 (neither _ (body_refusal e k) h).1 el ec st
     in_place (ThrowStmt at v k) e l t xs before rest p h el ec st =
         let a = neither _ (body_refusal e k) h in
-        (is_thrown e.setting e.caught t v ec (no_fault at _ a.0), in_place k e l t xs before rest p.1 a.1 el ec st)
+        (is_thrown e.setting e.caught t v ec (no_item at _ a.0), in_place k e l t xs before rest p.1 a.1 el ec st)
     in_place (TryStmt at b q x d k) e l t xs before rest p h el ec st =
         let a = neither (body_refusal e b) _ h in
         let f = behind e b in
@@ -340,7 +329,7 @@ module _ (all_slots : List SlotTree) where
         )
     in_place (DeclareStmt at i v k) e l t xs before rest p h el ec st =
         let a = neither _ (body_refusal (declared e i) k) h in
-        let b = none_lesser (into_fault e.setting e.states i) _ (no_fault at _ a.0) in
+        let b = lesser_both (into_fault e.setting e.states i) _ (no_item at _ a.0) in
         let d = declares e.setting e.states xs before (body_slots k) rest i b.0 st in
         (d.may, in_place k (declared e i) l t (naming i xs) (before ++ declared_slots i) rest p.1 a.1 el ec d.stands)
     in_place (AssignStmt at ys v k) e l t xs before rest p h el ec st = in_place k e l t xs before rest p.1 (neither _ (body_refusal e k) h).1 el ec st
@@ -348,7 +337,7 @@ module _ (all_slots : List SlotTree) where
     in_place (CallStmt at ys es k) e l t xs before rest p h el ec st = in_place k e l t xs before rest p.1 (neither _ (body_refusal e k) h).1 el ec st
     in_place (WaitStmt at w k) e l t xs before rest p h el ec st =
         let a = neither _ (body_refusal (waited e w.into) k) h in
-        let b = none_lesser (maybe_into e.setting e.states w.into) _ (no_fault at _ a.0) in
+        let b = lesser_both (maybe_into e.setting e.states w.into) _ (no_item at _ a.0) in
         let d = takes e xs before (body_slots k) rest w.into b.0 st in
         (d.may, in_place k (waited e w.into) l t (naming_any w.into xs) (before ++ into_slots w.into) rest p.1 a.1 (waited_looped e w.into ∙ el) (waited_caught e w.into ∙ ec) d.stands)
 
@@ -358,7 +347,7 @@ module _ (all_slots : List SlotTree) where
     all_in_place (MoreBranches at w b bs) e l t xs before rest p h el ec st =
         let a = neither _ _ h in
         let c = neither (body_refusal (waited e w.into) b) _ a.1 in
-        let f = none_lesser (maybe_into e.setting e.states w.into) _ (no_fault at _ a.0) in
+        let f = lesser_both (maybe_into e.setting e.states w.into) _ (no_item at _ a.0) in
         let mine = into_slots w.into in
         let s = regrouped e.setting.vars e.states xs before mine (body_slots b) (branch_slots bs) rest st in
         let d = takes e xs before (body_slots b ++ branch_slots bs) rest w.into f.0 s in

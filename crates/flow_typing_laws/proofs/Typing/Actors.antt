@@ -10,7 +10,7 @@ use Rattle.flow_tree.specs.Body.{IntoTree, WaitTree, Body, End, BlockStmt, IfStm
 use Rattle.flow_tree.specs.Decls.{ParamTree, RoutineTree, DeclTree, StructDecl, FunctionDecl, ActorDecl}
 use Rattle.flow_tree.proofs.ForParts.{InitKind, no_init, declares, assigns, modifies, init_kind, StepKind, no_step, assigned, modified, step_kind}
 use Rattle.flow_ast.specs.Fits.{declared_in, path_type, ThrowFits}
-use Rattle.flow_rules.specs.declared.rule.TheConstants.{NEEDS_VALUE, FALLS_OFF, BREAK_OUTSIDE, WAIT_OUTSIDE}
+use Rattle.flow_rules.specs.declared.rule.SemanticRule.TheVariants.{NeedsValue, FallsOff, BreakOutside, WaitInFunction}
 use Rattle.flow_rules.specs.Least.{lesser, unless}
 use Rattle.flow_rules.specs.Known.{known}
 use Rattle.flow_rules.specs.Judged.{Setting, form, fault, wanted, wants}
@@ -19,6 +19,7 @@ use Rattle.flow_rules.specs.Items.{Env, item, with_var, with_states, in_loop, in
 use Rattle.flow_rules.specs.Items as rule
 use Rattle.flow_ast.specs.Slots.{body_slots, branch_slots, waited_slots}
 use Rattle.flow_rules.specs.Rules.{setting_of, header_fault, body_env, routine_refusal, decl_refusal, decls_refusal}
+use Rattle.flow_rules.proofs.Lesser.{no_first, no_second, holds, no_item}
 use Rattle.flow_typing_laws.specs.ControlFlow.Laws.{HasSimpleParts, HaveSimpleParts, AllHaveSimpleParts}
 use Rattle.flow_meaning.specs.Source.{records_in, functions_in, actors_in}
 use Rattle.flow_typing_laws.specs.Typing.Scopes.{scope_in, setting_in}
@@ -26,9 +27,9 @@ use Rattle.flow_typing_laws.specs.Typing.Joined.{IsTyped}
 use Rattle.flow_tree.specs.Formed.{IsPath}
 use Rattle.flow_typing_laws.specs.Typing.Paths.{HasPaths, HavePaths, AllHavePaths}
 use Rattle.flow_typing_laws.specs.Typing.ActorFits.{into_param, waited_params, Gives, ValueGiven, StandsWell, StandWell, ActorFits}
-use Rattle.flow_typing_laws.proofs.Typing.Names.{none_some, some_same, no_first, no_second, holds}
+use Rattle.flow_typing_laws.proofs.Typing.Names.{none_some, some_same}
 use Rattle.flow_typing_laws.proofs.Typing.Expressions.{typed, wanted_is}
-use Rattle.flow_typing_laws.proofs.Typing.Agreement.{Distinct, agrees, neither_first, neither_second, no_item, not_true}
+use Rattle.flow_typing_laws.proofs.Typing.Agreement.{Distinct, agrees, neither_first, neither_second, not_true}
 use Rattle.flow_typing_laws.proofs.Typing.Standing.{caught_param, Stands, stands_behind, stands_loop, stands_declared, stands_caught, at_item, stands_started}
 use Rattle.flow_typing_laws.proofs.Typing.CallsFitting.{call_stands}
 use Rattle.flow_typing_laws.proofs.Typing.Statements.{yields, maybe_yields, target, modify_fits}
@@ -47,7 +48,7 @@ module _ (ds : List DeclTree) (apart : Distinct ds) where
       (k.in_scope ∙ ap Some same, k.inside)
 
   value_given : (vars : List ParamTree) (states : List (List ℕ)) (i : IntoTree) (v : Option ExprTree) → declare_fault (at_actor vars) states i v ≡ None → ValueGiven ds vars i.ty v
-  value_given vars states i None h = holds (rule.has_default i.ty) NEEDS_VALUE (no_second (into_fault (at_actor vars) states i) (value_fault (at_actor vars) i.ty None) h)
+  value_given vars states i None h = holds (rule.has_default i.ty) NeedsValue (no_second (into_fault (at_actor vars) states i) (value_fault (at_actor vars) i.ty None) h)
   value_given vars states i (Some v) h = gives vars v i.ty (no_second (into_fault (at_actor vars) states i) (value_fault (at_actor vars) i.ty (Some v)) h)
 
   assign_gives : (vars : List ParamTree) (xs : List Ident) (v : ExprTree) → IsPath xs → assign_fault (at_actor vars) xs v ≡ None
@@ -66,12 +67,12 @@ module _ (ds : List DeclTree) (apart : Distinct ds) where
   wait_gives vars states w h =
       let s = at_actor vars in
       let q = wanted s true w.operand (wait_type w.next w.into) in
-      gives vars w.operand (wait_type w.next w.into) (no_first q (unless (not s.plain) WAIT_OUTSIDE) (no_second (maybe_into s states w.into) (lesser q (unless (not s.plain) WAIT_OUTSIDE)) h))
+      gives vars w.operand (wait_type w.next w.into) (no_first q (unless (not s.plain) WaitInFunction) (no_second (maybe_into s states w.into) (lesser q (unless (not s.plain) WaitInFunction)) h))
 
   throw_stands : (e : Env) (vars : List ParamTree) (r : TypeTree) (loop : Bool) (c : Option (List ℕ)) (at : Place) (v : Option ExprTree) → Stands ds false e vars r loop c
       → item at (throw_fault e.setting e.caught v) ≡ None
       → ThrowFits (records_in ds) (functions_in ds) (actors_in ds) vars c v
-  throw_stands e vars r loop c at None k h = k.in_caught (holds e.caught BREAK_OUTSIDE (no_item at (throw_fault e.setting e.caught None) h))
+  throw_stands e vars r loop c at None k h = k.in_caught (holds e.caught BreakOutside (no_item at (throw_fault e.setting e.caught None) h))
   throw_stands e vars r loop c at (Some v) k h = yields ds apart false vars v ErrorType (at_item ds false e vars at (λ s. wanted s false v ErrorType) k.setting h)
 
   stands_waited : (e : Env) (o : Option IntoTree) (vars : List ParamTree) (r : TypeTree) (loop : Bool) (c : Option (List ℕ)) → Stands ds false e vars r loop c
@@ -175,11 +176,11 @@ module _ (ds : List DeclTree) (apart : Distinct ds) where
       stands_well t (behind e b) vars r loop c (stands_behind ds false e b vars r loop c k) s.2 p.2 (neither_second (body_refusal (in_loop e) b) _ h),
     )
     stands_well (BreakStmt at t) e vars r loop c k s p h =
-        let i = unless e.looped BREAK_OUTSIDE in
-        (k.looped (holds e.looped BREAK_OUTSIDE (no_item at i (neither_first (item at i) _ h))), stands_well t e vars r loop c k s.1 p.1 (neither_second (item at i) _ h))
+        let i = unless e.looped BreakOutside in
+        (k.looped (holds e.looped BreakOutside (no_item at i (neither_first (item at i) _ h))), stands_well t e vars r loop c k s.1 p.1 (neither_second (item at i) _ h))
     stands_well (ContinueStmt at t) e vars r loop c k s p h =
-        let i = unless e.looped BREAK_OUTSIDE in
-        (k.looped (holds e.looped BREAK_OUTSIDE (no_item at i (neither_first (item at i) _ h))), stands_well t e vars r loop c k s.1 p.1 (neither_second (item at i) _ h))
+        let i = unless e.looped BreakOutside in
+        (k.looped (holds e.looped BreakOutside (no_item at i (neither_first (item at i) _ h))), stands_well t e vars r loop c k s.1 p.1 (neither_second (item at i) _ h))
     stands_well (ReturnStmt at v t) e vars r loop c k s p h =
         let i = item at (wanted e.setting false v e.returns) in (
           yields ds apart false vars v r (ap (wanted (at_actor vars) false v) (sym k.returns) ∙ at_item ds false e vars at (λ s. wanted s false v e.returns) k.setting (neither_first i _ h)),
@@ -201,7 +202,7 @@ module _ (ds : List DeclTree) (apart : Distinct ds) where
           stands_well t (behind eb o) vars r loop c (stands_behind ds false eb o vars r loop c kb) s.3 p.3 (neither_second (body_refusal ec o) _ m),
         )
     stands_well (ChooseStmt at bs t) e vars r loop c k s p h =
-        let i = item at (unless (not e.setting.plain) WAIT_OUTSIDE) in
+        let i = item at (unless (not e.setting.plain) WaitInFunction) in
         let l = neither_second i _ h in
         let e' = with_states e (slot_names (branch_slots bs)) in (
           stand_well bs e vars r loop c k s.1 p.1 (neither_first (branch_refusal e bs) _ l),
@@ -250,8 +251,8 @@ module _ (ds : List DeclTree) (apart : Distinct ds) where
       let i = item f.at (header_fault (known before) (setting_of ds false) f) in
       let l = neither_second i _ h in
       let k : Stands ds false e f.params f.returns false None = record { setting = refl; returns = refl; looped = λ z. z; in_caught = λ z. absurd (false≢true z) } in
-      let q = no_item f.close (unless (not (closing.ways f.body).end) FALLS_OFF) (neither_second (body_refusal e f.body) _ l) in
-      (stands_well f.body e f.params f.returns false None k s p (neither_first (body_refusal e f.body) _ l), not_true (closing.ways f.body).end (holds (not (closing.ways f.body).end) FALLS_OFF q))
+      let q = no_item f.close (unless (not (closing.ways f.body).end) FallsOff) (neither_second (body_refusal e f.body) _ l) in
+      (stands_well f.body e f.params f.returns false None k s p (neither_first (body_refusal e f.body) _ l), not_true (closing.ways f.body).end (holds (not (closing.ways f.body).end) FallsOff q))
 
   pub actors_fit : (before rest : List DeclTree) → decls_refusal (setting_of ds) before rest ≡ None → AllHaveSimpleParts rest → AllHavePaths rest → (k : ℕ) (a : RoutineTree)
       → slice_get (actors_in rest) k ≡ Some a → ActorFits ds a

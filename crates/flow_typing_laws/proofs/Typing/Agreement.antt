@@ -7,21 +7,21 @@ use Rattle.std.proofs.lemmas.Bool.{false≢true, true≢false}
 use Rattle.std.proofs.lemmas.List.{map-append}
 use Rattle.std.specs.declared.option.Option.{Option}
 use Rattle.std.specs.declared.option.Option.TheVariants.{None, Some}
-use Rattle.flow_base.specs.declared.place.Place.{Place}
-use Rattle.flow_tree.specs.Tree.{TypeTree, IntType, BoolType, StringType, VoidType, ErrorType, NamedType, FutureType, FutureStreamType, PromiseType, PromiseStreamType}
+use Rattle.flow_tree.specs.Tree.{TypeTree, NamedType, FutureType}
 use Rattle.flow_tree.specs.Decls.{ParamTree, RecordTree, RoutineTree, DeclTree, StructDecl, FunctionDecl, ActorDecl}
 use Rattle.flow_ast.specs.TypingNames.{named}
 use Rattle.flow_ast.specs.Typing.{ScopeTree, takes, or_else, is_there, is_packet, packet_fields, record_named, routine_named, param_named, param_types, function_call, actor_call, declared_field, record_field, field_type}
-use Rattle.flow_rules.specs.declared.rule.TheConstants.{TWICE}
+use Rattle.flow_rules.specs.declared.rule.SemanticRule.TheVariants.{TakenName}
 use Rattle.flow_rules.specs.Least.{lesser}
 use Rattle.flow_rules.specs.Known.{Meaning, RecordOf, FunctionOf, ActorOf, field_row, row_of, packet_row, known, is_predefined}
 use Rattle.flow_rules.specs.Judged.{Setting, field_of, field_form}
 use Rattle.flow_rules.specs.Items.{item, written}
 use Rattle.flow_rules.specs.Rules.{name_fault, fields_fault, record_fault, params_fault, header_fault, routine_refusal, decl_refusal, decls_refusal}
+use Rattle.flow_rules.proofs.Lesser.{no_first, holds, no_item}
 use Rattle.flow_meaning.specs.Source.{records_in, functions_in, actors_in}
 use Rattle.flow_typing_laws.specs.Typing.Agreeing.{IsDeclared, Agrees}
 use Rattle.flow_typing_laws.specs.Typing.Scopes.{scope_in, setting_in}
-use Rattle.flow_typing_laws.proofs.Typing.Names.{bytes_same, bytes_self, bytes_sym, some_none, no_first, holds}
+use Rattle.flow_typing_laws.proofs.Typing.Names.{bytes_same, bytes_self, bytes_sym, some_none}
 
 -- no refusal comes of two parts
 pub neither_first : {A : Type 0} (x y : Option A) → or_else x y ≡ None → x ≡ None
@@ -31,10 +31,6 @@ neither_first (Some a) y e = absurd (some_none e)
 pub neither_second : {A : Type 0} (x y : Option A) → or_else x y ≡ None → y ≡ None
 neither_second None y e = e
 neither_second (Some a) y e = absurd (some_none e)
-
-pub no_item : (at : Place) (f : Option ℕ) → item at f ≡ None → f ≡ None
-no_item at None e = refl
-no_item at (Some k) e = absurd (some_none e)
 
 pub not_true : (b : Bool) → not b ≡ true → b ≡ false
 not_true true e = absurd (false≢true e)
@@ -54,7 +50,7 @@ name_of d = (row_of d).0
 -- a declaration that is not refused has a new name
 new_name : (before : List DeclTree) (x : List ℕ) → name_fault (known before) x ≡ None → is_there (known before x) ≡ false
 new_name before x e =
-    let h = not_true (is_predefined x || is_there (known before x)) (holds (not (is_predefined x || is_there (known before x))) TWICE e) in
+    let h = not_true (is_predefined x || is_there (known before x)) (holds (not (is_predefined x || is_there (known before x))) TakenName e) in
     neither_right (is_predefined x) (is_there (known before x)) h
 
 routine_new : (before : List DeclTree) (s : Setting) (f : RoutineTree) → routine_refusal (known before) s f ≡ None → is_there (known before f.name.name) ≡ false

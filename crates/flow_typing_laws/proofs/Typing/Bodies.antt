@@ -9,32 +9,34 @@ use Rattle.flow_tree.specs.Body.{Body, End, BlockStmt, IfStmt, IfElseStmt, While
 use Rattle.flow_tree.specs.Decls.{ParamTree, RecordTree, RoutineTree, DeclTree, StructDecl, FunctionDecl, ActorDecl}
 use Rattle.flow_tree.proofs.ForParts.{InitKind, no_init, declares, assigns, modifies, init_kind, StepKind, no_step, assigned, modified, step_kind}
 use Rattle.flow_ast.specs.Typing.{is_there}
-use Rattle.flow_ast.specs.Leaving.{has_statement, reaches_end, reaches_break}
+use Rattle.flow_ast.specs.Leaving.{has_statement}
 use Rattle.flow_ast.specs.Fits.{declared_in, ThrowFits, BodyFits, FunctionFits, FunctionsFit}
-use Rattle.flow_rules.specs.declared.rule.TheConstants.{FALLS_OFF, BREAK_OUTSIDE, WAIT_OUTSIDE}
+use Rattle.flow_rules.specs.declared.rule.SemanticRule.TheVariants.{FallsOff, BreakOutside, WaitInFunction}
 use Rattle.flow_rules.specs.Least.{unless}
 use Rattle.flow_rules.specs.Known.{known}
 use Rattle.flow_rules.specs.Judged.{Setting, wanted}
 use Rattle.flow_rules.specs.Closing as closing
 use Rattle.flow_rules.specs.Items.{Env, item, with_var, in_loop, in_catch, behind, declared, started, fresh, assign_fault, modify_fault, call_fault, test_fault, maybe_test, throw_fault, declare_fault, wait_fault, maybe_into, wait_type, body_refusal}
 use Rattle.flow_rules.specs.Rules.{setting_of, header_fault, body_env, routine_refusal, decl_refusal, decls_refusal}
+use Rattle.flow_rules.proofs.Lesser.{no_second, holds, no_item}
 use Rattle.flow_typing_laws.specs.ControlFlow.Laws.{HasSimpleParts, AllHaveSimpleParts}
 use Rattle.flow_meaning.specs.Source.{records_in, functions_in, actors_in}
 use Rattle.flow_typing_laws.specs.Typing.Scopes.{setting_in}
+use Rattle.flow_typing_laws.specs.Typing.Ends.{SameEnds}
 use Rattle.flow_typing_laws.specs.Typing.Paths.{HasPaths, AllHavePaths}
-use Rattle.flow_typing_laws.proofs.Typing.Names.{none_some, some_none, some_same, no_second, holds}
-use Rattle.flow_typing_laws.proofs.Typing.Agreement.{Distinct, neither_first, neither_second, no_item, not_true}
+use Rattle.flow_typing_laws.proofs.Typing.Names.{none_some, some_none, some_same}
+use Rattle.flow_typing_laws.proofs.Typing.Agreement.{Distinct, neither_first, neither_second, not_true}
 use Rattle.flow_typing_laws.proofs.Typing.Standing.{param, caught_param, Stands, stands_behind, stands_loop, stands_declared, stands_caught, at_item, step_declares, stands_started}
 use Rattle.flow_typing_laws.proofs.Typing.Statements.{yields, maybe_yields, declare_fits, assign_fits, modify_fits, call_fits}
 
 module _ (ds : List DeclTree) (apart : Distinct ds) where
-  plain_out : (e : Env) (vars : List ParamTree) (at : Place) → e.setting ≡ setting_in ds true vars → item at (unless (not e.setting.plain) WAIT_OUTSIDE) ≡ None → ⊥
-  plain_out e vars at k h = some_none (at_item ds true e vars at (λ s. unless (not s.plain) WAIT_OUTSIDE) k h)
+  plain_out : (e : Env) (vars : List ParamTree) (at : Place) → e.setting ≡ setting_in ds true vars → item at (unless (not e.setting.plain) WaitInFunction) ≡ None → ⊥
+  plain_out e vars at k h = some_none (at_item ds true e vars at (λ s. unless (not s.plain) WaitInFunction) k h)
 
   throw_fits : (e : Env) (vars : List ParamTree) (r : TypeTree) (loop : Bool) (c : Option (List ℕ)) (at : Place) (v : Option ExprTree) → Stands ds true e vars r loop c
       → item at (throw_fault e.setting e.caught v) ≡ None
       → ThrowFits (records_in ds) (functions_in ds) (actors_in ds) vars c v
-  throw_fits e vars r loop c at None k h = k.in_caught (holds e.caught BREAK_OUTSIDE (no_item at (throw_fault e.setting e.caught None) h))
+  throw_fits e vars r loop c at None k h = k.in_caught (holds e.caught BreakOutside (no_item at (throw_fault e.setting e.caught None) h))
   throw_fits e vars r loop c at (Some v) k h = yields ds apart true vars v ErrorType (at_item ds true e vars at (λ s. wanted s false v ErrorType) k.setting h)
 
   abbrev Fitting : TypeTree → Bool → Option (List ℕ) → List ParamTree → Body → Type 0
@@ -132,11 +134,11 @@ module _ (ds : List DeclTree) (apart : Distinct ds) where
     body_fits t (behind e b) vars r loop c (stands_behind ds true e b vars r loop c k) s.2 p.2 (neither_second (body_refusal (in_loop e) b) _ h),
   )
   body_fits (BreakStmt at t) e vars r loop c k s p h =
-      let i = unless e.looped BREAK_OUTSIDE in
-      (k.looped (holds e.looped BREAK_OUTSIDE (no_item at i (neither_first (item at i) _ h))), body_fits t e vars r loop c k s.1 p.1 (neither_second (item at i) _ h))
+      let i = unless e.looped BreakOutside in
+      (k.looped (holds e.looped BreakOutside (no_item at i (neither_first (item at i) _ h))), body_fits t e vars r loop c k s.1 p.1 (neither_second (item at i) _ h))
   body_fits (ContinueStmt at t) e vars r loop c k s p h =
-      let i = unless e.looped BREAK_OUTSIDE in
-      (k.looped (holds e.looped BREAK_OUTSIDE (no_item at i (neither_first (item at i) _ h))), body_fits t e vars r loop c k s.1 p.1 (neither_second (item at i) _ h))
+      let i = unless e.looped BreakOutside in
+      (k.looped (holds e.looped BreakOutside (no_item at i (neither_first (item at i) _ h))), body_fits t e vars r loop c k s.1 p.1 (neither_second (item at i) _ h))
   body_fits (ReturnStmt at v t) e vars r loop c k s p h =
       let i = item at (wanted e.setting false v e.returns) in (
         yields ds apart true vars v r (ap (wanted (setting_in ds true vars) false v) (sym k.returns) ∙ at_item ds true e vars at (λ s. wanted s false v e.returns) k.setting (neither_first i _ h)),
@@ -157,7 +159,7 @@ module _ (ds : List DeclTree) (apart : Distinct ds) where
         body_fits o ec (vars ++ caught_param x ∷ []) r loop (Some x.name) kc s.2 p.2 (neither_first (body_refusal ec o) _ m),
         body_fits t (behind eb o) vars r loop c (stands_behind ds true eb o vars r loop c kb) s.3 p.3 (neither_second (body_refusal ec o) _ m),
       )
-  body_fits (ChooseStmt at bs t) e vars r loop c k s p h = plain_out e vars at k.setting (neither_first (item at (unless (not e.setting.plain) WAIT_OUTSIDE)) _ h)
+  body_fits (ChooseStmt at bs t) e vars r loop c k s p h = plain_out e vars at k.setting (neither_first (item at (unless (not e.setting.plain) WaitInFunction)) _ h)
   body_fits (DeclareStmt at i v t) e vars r loop c k s p h =
       let f = item at (declare_fault e.setting e.states i v) in (
         declare_fits ds apart vars e.states i v (at_item ds true e vars at (λ s. declare_fault s e.states i v) k.setting (neither_first f _ h)),
@@ -176,14 +178,10 @@ module _ (ds : List DeclTree) (apart : Distinct ds) where
       let f = wait_fault e.setting e.states w in
       let i = no_item at f (neither_first (item at f) _ h) in
       let j = no_second (maybe_into e.setting e.states w.into) _ i in
-      let u = no_second (wanted e.setting true w.operand (wait_type w.next w.into)) (unless (not e.setting.plain) WAIT_OUTSIDE) j in
-      some_none (ap (λ (s : Setting). unless (not s.plain) WAIT_OUTSIDE) (sym k.setting) ∙ u)
+      let u = no_second (wanted e.setting true w.operand (wait_type w.next w.into)) (unless (not e.setting.plain) WaitInFunction) j in
+      some_none (ap (λ (s : Setting). unless (not s.plain) WaitInFunction) (sym k.setting) ∙ u)
 
 -- a function's end is reached by structure as the rule on closing braces says
-record SameEnds (b : Body) : Type 0 where
-  ends : reaches_end b ≡ (closing.ways b).end
-  breaks : reaches_break b ≡ (closing.ways b).breaks
-
 or_true : (a : Bool) → a || true ≡ true
 or_true true = refl
 or_true false = refl
@@ -193,7 +191,7 @@ or_false true = refl
 or_false false = refl
 
 module _ (rs : List RecordTree) (fs actors : List RoutineTree) (r : TypeTree) where
-  same_ends : (b : Body) (loop : Bool) (c : Option (List ℕ)) (vars : List ParamTree) → BodyFits rs fs actors r loop c vars b → SameEnds b
+  pub same_ends : (b : Body) (loop : Bool) (c : Option (List ℕ)) (vars : List ParamTree) → BodyFits rs fs actors r loop c vars b → SameEnds b
   same_ends (BlockStmt at b t) loop c vars f =
       let x = same_ends b loop c vars f.0 in
       let y = same_ends t loop c vars f.1 in
@@ -246,10 +244,10 @@ module _ (ds : List DeclTree) (apart : Distinct ds) where
       let l = neither_second i _ h in
       let k : Stands ds true e f.params f.returns false None = record { setting = refl; returns = refl; looped = λ z. z; in_caught = λ z. absurd (false≢true z) } in
       let b = body_fits ds apart f.body e f.params f.returns false None k s p (neither_first (body_refusal e f.body) _ l) in
-      let q = no_item f.close (unless (not (closing.ways f.body).end) FALLS_OFF) (neither_second (body_refusal e f.body) _ l) in (
+      let q = no_item f.close (unless (not (closing.ways f.body).end) FallsOff) (neither_second (body_refusal e f.body) _ l) in (
         b,
         (same_ends (records_in ds) (functions_in ds) (actors_in ds) f.returns f.body false None f.params b).ends
-            ∙ not_true (closing.ways f.body).end (holds (not (closing.ways f.body).end) FALLS_OFF q),
+            ∙ not_true (closing.ways f.body).end (holds (not (closing.ways f.body).end) FallsOff q),
       )
 
   pub functions_fit : (before rest : List DeclTree) → decls_refusal (setting_of ds) before rest ≡ None → AllHaveSimpleParts rest → AllHavePaths rest → (k : ℕ) (f : RoutineTree)

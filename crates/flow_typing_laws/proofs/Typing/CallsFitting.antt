@@ -14,17 +14,19 @@ use Rattle.flow_ast.specs.declared.predefined.Method.TheVariants as method
 use Rattle.flow_ast.specs.TypingNames.{named, call_names, method_names, constant_names}
 use Rattle.flow_ast.specs.Typing.{Signature, signature, is_there, same_type, same_types, param_types, equality_type, more_types, types_in, method_in, without_effects}
 use Rattle.flow_ast.specs.Fits.{fields_type}
-use Rattle.flow_rules.specs.declared.rule.TheConstants.{UNKNOWN_NAME, WRONG_TYPE, WRONG_COUNT, DISCARD}
+use Rattle.flow_rules.specs.declared.rule.SemanticRule.{SemanticRule}
+use Rattle.flow_rules.specs.declared.rule.SemanticRule.TheVariants.{UnknownName, WrongType, WrongCount, LostValue}
 use Rattle.flow_rules.specs.Least.{lesser, unless}
 use Rattle.flow_rules.specs.Known.{Meaning, RecordOf, FunctionOf, ActorOf}
 use Rattle.flow_rules.specs.Judged.{Setting, Need, Exactly, Traced, predefined_callee, declared_callee, called_as, called, called_by, called_on, sends, cancels, stated_on, method_callee, needs_of, form, fault, faults, fits, said, as_many, calls, variable_form}
 use Rattle.flow_rules.specs.Items.{path_form, path_fault, ends_of, base_form, base_fault, call_fault}
+use Rattle.flow_rules.proofs.Lesser.{no_first, no_second, holds}
 use Rattle.flow_meaning.specs.Source.{records_in}
 use Rattle.flow_typing_laws.specs.Typing.Agreeing.{IsDeclared}
 use Rattle.flow_typing_laws.specs.Typing.Scopes.{scope_in, setting_in}
 use Rattle.flow_tree.specs.Formed.{IsPath}
 use Rattle.flow_typing_laws.specs.Typing.CallsFit.{HaveTypes, NameFits, SendFits, CancelFits, MethodFits, base_type, CallStands}
-use Rattle.flow_typing_laws.proofs.Typing.Names.{type_same, some_none, there, no_first, no_second, holds}
+use Rattle.flow_typing_laws.proofs.Typing.Names.{type_same, some_none, there}
 use Rattle.flow_typing_laws.proofs.Typing.Expressions.{typed, all_typed, from_start, equality_there, constant_typed}
 use Rattle.flow_typing_laws.proofs.Typing.Agreement.{Distinct, agrees}
 use Rattle.flow_typing_laws.proofs.Typing.Statements.{path_to}
@@ -65,12 +67,12 @@ module _ (ds : List DeclTree) (apart : Distinct ds) (vars : List ParamTree) wher
   here = setting_in ds false vars
 
   -- as many arguments as are needed
-  many : (es : ExprTrees) (ns : List Need) (o : Option ℕ) → lesser (unless (as_many es ns) WRONG_COUNT) o ≡ None → as_many es ns ≡ true
-  many es ns o h = holds (as_many es ns) WRONG_COUNT (no_first (unless (as_many es ns) WRONG_COUNT) o h)
+  many : (es : ExprTrees) (ns : List Need) (o : Option SemanticRule) → lesser (unless (as_many es ns) WrongCount) o ≡ None → as_many es ns ≡ true
+  many es ns o h = holds (as_many es ns) WrongCount (no_first (unless (as_many es ns) WrongCount) o h)
 
   -- what gives a value, or has an effect, doesn't stand as a statement
-  discarded : (es : ExprTrees) (ns : List Need) → lesser (unless (as_many es ns) WRONG_COUNT) (Some DISCARD) ≡ None → ⊥
-  discarded es ns h = some_none (no_second (unless (as_many es ns) WRONG_COUNT) (Some DISCARD) h)
+  discarded : (es : ExprTrees) (ns : List Need) → lesser (unless (as_many es ns) WrongCount) (Some LostValue) ≡ None → ⊥
+  discarded es ns h = some_none (no_second (unless (as_many es ns) WrongCount) (Some LostValue) h)
 
   have_types : (ns : List Need) (ts : List TypeTree) (es : ExprTrees) → ns ≡ map Exactly ts → as_many es ns ≡ true → faults here 0 ns es ≡ None → HaveTypes ds vars es ts
   have_types ns ts es n m h =
@@ -85,7 +87,7 @@ module _ (ds : List DeclTree) (apart : Distinct ds) (vars : List ParamTree) wher
       let k = typed here (scope_in ds vars) (agrees ds vars apart false) false e (no_first (fault here false e) (fits (form here e) (Some Traced)) r) in
       let w = ap (λ o. fits o (Some Traced)) (sym k.by_form) ∙ no_second (fault here false e) (fits (form here e) (Some Traced)) r in (
         k.type,
-        equality_there k.type (holds (is_there (equality_type k.type)) WRONG_TYPE w),
+        equality_there k.type (holds (is_there (equality_type k.type)) WrongType w),
         (ap (λ o. more_types o (Some [])) k.in_scope, both_true (without_effects (scope_in ds vars) e) true (k.quiet (inl refl)) refl),
       )
 
@@ -137,9 +139,9 @@ module _ (ds : List DeclTree) (apart : Distinct ds) (vars : List ParamTree) wher
   based : (x : Ident) (xs : List Ident) → base_fault here (x ∷ xs) ≡ None → Based ds vars (x ∷ xs)
   based x xs h =
       let o = variable_form here x.name in
-      let a = no_first (unless (is_there o) UNKNOWN_NAME) (path_fault here o xs) h in
-      let f = there o (holds (is_there o) UNKNOWN_NAME a) in
-      let r = path_to ds apart false vars xs f.value (ap (λ z. path_fault here z xs) (sym f.is) ∙ no_second (unless (is_there o) UNKNOWN_NAME) (path_fault here o xs) h) in
+      let a = no_first (unless (is_there o) UnknownName) (path_fault here o xs) h in
+      let f = there o (holds (is_there o) UnknownName a) in
+      let r = path_to ds apart false vars xs f.value (ap (λ z. path_fault here z xs) (sym f.is) ∙ no_second (unless (is_there o) UnknownName) (path_fault here o xs) h) in
       record {
         type = r.type;
         by_form = ap (λ z. path_form here z xs) f.is ∙ r.by_form;

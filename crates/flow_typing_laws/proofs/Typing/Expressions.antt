@@ -6,7 +6,7 @@ use Rattle.std.specs.declared.option.Option.{Option}
 use Rattle.std.specs.declared.option.Option.TheVariants.{None, Some}
 use Rattle.flow_tree.specs.declared.ty.Ident.{Ident}
 use Rattle.flow_tree.specs.declared.expr.Op.{Op}
-use Rattle.flow_tree.specs.declared.expr.Op.TheVariants.{Or, And, Eq, Ne, Lt, Le, Gt, Ge, Add, Sub, Mul, Div, Rem}
+use Rattle.flow_tree.specs.declared.expr.Op.TheVariants.{Or, And, Eq, Ne, Add, Sub, Mul, Div, Rem}
 use Rattle.flow_ast.specs.declared.predefined.Predefined.{Predefined}
 use Rattle.flow_ast.specs.declared.predefined.Predefined.TheVariants as predefined
 use Rattle.flow_ast.specs.declared.predefined.Method.{Method}
@@ -14,13 +14,14 @@ use Rattle.flow_ast.specs.declared.predefined.Method.TheVariants as method
 use Rattle.flow_tree.specs.Tree.{TypeTree, IntType, BoolType, StringType, VoidType, NamedType, FutureType, PromiseType, PromiseStreamType, ExprTree, ExprTrees, IntExpr, TextExpr, BoolExpr, VoidExpr, VarExpr, CallExpr, FieldExpr, MethodExpr, NotExpr, NegExpr, BinaryExpr, ParenExpr, NoExprs, MoreExprs}
 use Rattle.flow_ast.specs.TypingNames.{named, call_names, method_names, constant_names}
 use Rattle.flow_ast.specs.Typing.{ScopeTree, Signature, takes, signature, is_effect, applied, same_type, same_types, sum_type, order_type, equality_type, int_only, bool_only, binary_type, with_type, more_types, type_in, types_in, method_in, call_in, declared_call, effect_in, field_type, variable_in, is_there, without_effects, all_without_effects}
-use Rattle.flow_rules.specs.declared.rule.TheConstants.{UNKNOWN_NAME, WRONG_TYPE, WRONG_COUNT, EFFECT_INSIDE, NOT_HERE}
+use Rattle.flow_rules.specs.declared.rule.SemanticRule.TheVariants.{UnknownName, WrongType, WrongCount, EffectInside, NotInFunction}
 use Rattle.flow_rules.specs.Least.{lesser, unless}
 use Rattle.flow_rules.specs.Known.{Meaning, RecordOf, FunctionOf, ActorOf}
 use Rattle.flow_rules.specs.Judged.{Setting, Need, Exactly, Value, OfFunction, Effect, Statement, Callee, predefined_kind, stated, predefined_callee, declared_callee, called_as, called, sends, cancels, stated_on, method_callee, called_by, called_on, needs_of, gives_of, field_form, variable_as, variable_form, sign_form, form, wants, fits, operands, not_here, placed, as_many, calls, calls_on, of_field, fault, faults}
+use Rattle.flow_rules.proofs.Lesser.{no_first, no_second, holds}
 use Rattle.flow_typing_laws.specs.Typing.Agreeing.{IsDeclared, Agrees}
 use Rattle.flow_typing_laws.specs.Typing.Joined.{IsTyped}
-use Rattle.flow_typing_laws.proofs.Typing.Names.{type_same, type_self, none_some, some_none, some_same, there, no_first, no_second, holds}
+use Rattle.flow_typing_laws.proofs.Typing.Names.{type_same, type_self, none_some, some_none, some_same, there}
 
 -- what a sign gives where its operands fit it
 bool_there : (t : TypeTree) → is_there (bool_only t) ≡ true → bool_only t ≡ Some BoolType
@@ -69,7 +70,7 @@ signed _ t u e = cut (same_type t u) (order_type t) BoolType e (order_there t)
 
 -- a type that is wanted
 pub wanted_is : (o : Option TypeTree) (t u : TypeTree) → o ≡ Some t → wants o u ≡ None → t ≡ u
-wanted_is o t u e w = type_same t u (holds (same_type t u) WRONG_TYPE (ap (λ x. wants x u) (sym e) ∙ w))
+wanted_is o t u e w = type_same t u (holds (same_type t u) WrongType (ap (λ x. wants x u) (sym e) ∙ w))
 
 both_true : (a b : Bool) → a ≡ true → b ≡ true → a && b ≡ true
 both_true true b e f = f
@@ -88,11 +89,11 @@ abbrev pub Quiet : Setting → Bool → Type 0
 Quiet s whole = (whole ≡ false) ⊎ (s.plain ≡ true)
 
 statement_out : (s : Setting) (whole : Bool) → placed s whole Statement ≡ None → ⊥
-statement_out s whole e = some_none (no_second (not_here s) (Some WRONG_TYPE) e)
+statement_out s whole e = some_none (no_second (not_here s) (Some WrongType) e)
 
 effect_out : (s : Setting) (whole : Bool) → placed s whole Effect ≡ None → Quiet s whole → ⊥
-effect_out s whole e (inl q) = false≢true (sym q ∙ holds whole EFFECT_INSIDE (no_first (unless whole EFFECT_INSIDE) (not_here s) e))
-effect_out s whole e (inr q) = not_both s.plain (holds (not s.plain) NOT_HERE (no_second (unless whole EFFECT_INSIDE) (not_here s) e)) q
+effect_out s whole e (inl q) = false≢true (sym q ∙ holds whole EffectInside (no_first (unless whole EffectInside) (not_here s) e))
+effect_out s whole e (inr q) = not_both s.plain (holds (not s.plain) NotInFunction (no_second (unless whole EffectInside) (not_here s) e)) q
 
 effect_quiet : (s : Setting) (whole : Bool) (p : Predefined) → placed s whole (predefined_kind p) ≡ None → Quiet s whole → is_effect p ≡ false
 effect_quiet s whole predefined.RandomInt e q = absurd (effect_out s whole e q)
@@ -117,15 +118,15 @@ pub record Called (s : Setting) (whole : Bool) (xs : ExprTrees) (o : Option Call
 
 predefined_called : (s : Setting) (whole : Bool) (xs : ExprTrees) (p : Predefined) (g : Option Signature) → calls xs (Some (predefined_callee p g)) (placed s whole) ≡ None
     → Called s whole xs (Some (predefined_callee p g)) g (is_effect p)
-predefined_called s whole xs p None e = absurd (statement_out s whole (no_second (unless (as_many xs (stated p)) WRONG_COUNT) (placed s whole Statement) e))
+predefined_called s whole xs p None e = absurd (statement_out s whole (no_second (unless (as_many xs (stated p)) WrongCount) (placed s whole Statement) e))
 predefined_called s whole xs p (Some g) e = record {
   params = g.params;
   result = g.gives;
   gives = refl;
   needs = refl;
   signs = refl;
-  many = holds (as_many xs (map Exactly g.params)) WRONG_COUNT (no_first (unless (as_many xs (map Exactly g.params)) WRONG_COUNT) (placed s whole (predefined_kind p)) e);
-  quiet = λ q. effect_quiet s whole p (no_second (unless (as_many xs (map Exactly g.params)) WRONG_COUNT) (placed s whole (predefined_kind p)) e) q;
+  many = holds (as_many xs (map Exactly g.params)) WrongCount (no_first (unless (as_many xs (map Exactly g.params)) WrongCount) (placed s whole (predefined_kind p)) e);
+  quiet = λ q. effect_quiet s whole p (no_second (unless (as_many xs (map Exactly g.params)) WrongCount) (placed s whole (predefined_kind p)) e) q;
 }
 
 declared_called : (s : Setting) (c : ScopeTree) (whole : Bool) (xs : ExprTrees) (x : List ℕ) (m : Option Meaning) → IsDeclared c x m
@@ -138,7 +139,7 @@ declared_called s c whole xs x (Some (RecordOf fs)) d e = let ts = map (λ (f : 
   gives = refl;
   needs = refl;
   signs = d.0;
-  many = holds (as_many xs (map Exactly ts)) WRONG_COUNT (no_first (unless (as_many xs (map Exactly ts)) WRONG_COUNT) (placed s whole Value) e);
+  many = holds (as_many xs (map Exactly ts)) WrongCount (no_first (unless (as_many xs (map Exactly ts)) WrongCount) (placed s whole Value) e);
   quiet = λ q. d.1;
 }
 declared_called s c whole xs x (Some (FunctionOf ts t)) d e = record {
@@ -147,7 +148,7 @@ declared_called s c whole xs x (Some (FunctionOf ts t)) d e = record {
   gives = refl;
   needs = refl;
   signs = d.0;
-  many = holds (as_many xs (map Exactly ts)) WRONG_COUNT (no_first (unless (as_many xs (map Exactly ts)) WRONG_COUNT) (placed s whole OfFunction) e);
+  many = holds (as_many xs (map Exactly ts)) WrongCount (no_first (unless (as_many xs (map Exactly ts)) WrongCount) (placed s whole OfFunction) e);
   quiet = λ q. d.1;
 }
 declared_called s c whole xs x (Some (ActorOf ts t)) d e = record {
@@ -156,8 +157,8 @@ declared_called s c whole xs x (Some (ActorOf ts t)) d e = record {
   gives = refl;
   needs = refl;
   signs = d;
-  many = holds (as_many xs (map Exactly ts)) WRONG_COUNT (no_first (unless (as_many xs (map Exactly ts)) WRONG_COUNT) (placed s whole Effect) e);
-  quiet = λ q. absurd (effect_out s whole (no_second (unless (as_many xs (map Exactly ts)) WRONG_COUNT) (placed s whole Effect) e) q);
+  many = holds (as_many xs (map Exactly ts)) WrongCount (no_first (unless (as_many xs (map Exactly ts)) WrongCount) (placed s whole Effect) e);
+  quiet = λ q. absurd (effect_out s whole (no_second (unless (as_many xs (map Exactly ts)) WrongCount) (placed s whole Effect) e) q);
 }
 
 name_called : (s : Setting) (c : ScopeTree) → Agrees s c → (whole : Bool) (xs : ExprTrees) (x : List ℕ) (p : Option Predefined) → calls xs (called_as s x p) (placed s whole) ≡ None
@@ -184,7 +185,7 @@ stated_statement t m k e = absurd (none_some e)
 stated_out : (s : Setting) (xs : ExprTrees) (t : TypeTree) (m : Method) (o : Option Callee) → stated_on t m ≡ o → calls xs o (placed s false) ≡ None → ⊥
 stated_out s xs t m None h e = some_none e
 stated_out s xs t m (Some k) h e =
-    statement_out s false (ap (placed s false) (sym (stated_statement t m k h)) ∙ no_second (unless (as_many xs k.needs) WRONG_COUNT) (placed s false k.kind) e)
+    statement_out s false (ap (placed s false) (sym (stated_statement t m k h)) ∙ no_second (unless (as_many xs k.needs) WrongCount) (placed s false k.kind) e)
 
 signed_method : (s : Setting) (xs : ExprTrees) (t : TypeTree) (m : Method) (g : Option Signature) → calls xs (method_callee t m g) (placed s false) ≡ None
     → Called s false xs (method_callee t m g) g false
@@ -195,7 +196,7 @@ signed_method s xs t m (Some g) e = record {
   gives = refl;
   needs = refl;
   signs = refl;
-  many = holds (as_many xs (map Exactly g.params)) WRONG_COUNT (no_first (unless (as_many xs (map Exactly g.params)) WRONG_COUNT) (placed s false Value) e);
+  many = holds (as_many xs (map Exactly g.params)) WrongCount (no_first (unless (as_many xs (map Exactly g.params)) WrongCount) (placed s false Value) e);
   quiet = λ q. refl;
 }
 
@@ -255,7 +256,7 @@ module _ (s : Setting) (c : ScopeTree) (a : Agrees s c) where
   of_field_expr : (whole : Bool) (e : ExprTree) (x : Ident) → IsTyped s c false e → of_field s (form s e) x.name ≡ None → IsTyped s c whole (FieldExpr e x)
   of_field_expr whole e x b h =
       let h' = ap (λ o. of_field s o x.name) (sym b.by_form) ∙ h in
-      let t = there (field_form s b.type x.name) (holds (is_there (field_form s b.type x.name)) UNKNOWN_NAME h') in
+      let t = there (field_form s b.type x.name) (holds (is_there (field_form s b.type x.name)) UnknownName h') in
       record {
         type = t.value;
         by_form = ap (λ o. with_type o (λ t. field_form s t x.name)) b.by_form ∙ t.is;
@@ -267,7 +268,7 @@ module _ (s : Setting) (c : ScopeTree) (a : Agrees s c) where
   of_binary : (whole : Bool) (op : Op) (e f : ExprTree) → IsTyped s c false e → IsTyped s c false f → operands op (form s e) (form s f) ≡ None → IsTyped s c whole (BinaryExpr op e f)
   of_binary whole op e f b d h =
       let h' = ap₂ (operands op) (sym b.by_form) (sym d.by_form) ∙ h in
-      let ok = holds (is_there (binary_type op b.type d.type)) WRONG_TYPE h' in
+      let ok = holds (is_there (binary_type op b.type d.type)) WrongType h' in
       let t = there (binary_type op b.type d.type) ok in
       record {
         type = t.value;
@@ -313,7 +314,7 @@ module _ (s : Setting) (c : ScopeTree) (a : Agrees s c) where
     typed whole (BoolExpr b) h = record { type = BoolType; by_form = refl; in_scope = refl; quiet = λ q. refl; inside = refl }
     typed whole VoidExpr h = record { type = VoidType; by_form = refl; in_scope = refl; quiet = λ q. refl; inside = refl }
     typed whole (VarExpr x) h =
-        let t = there (variable_form s x.name) (holds (is_there (variable_form s x.name)) UNKNOWN_NAME h) in
+        let t = there (variable_form s x.name) (holds (is_there (variable_form s x.name)) UnknownName h) in
         record { type = t.value; by_form = t.is; in_scope = sym (constant_typed s c a x.name (named constant_names x.name)) ∙ t.is; quiet = λ q. refl; inside = refl }
     typed whole (CallExpr f xs) h =
         of_call whole f xs (name_called s c a whole xs f.name (named call_names f.name) (no_second (faults s 0 (needs_of (called s f.name)) xs) (calls xs (called s f.name) (placed s whole)) h))

@@ -8,7 +8,6 @@ use Rattle.std.specs.declared.option.Option.{Option}
 use Rattle.std.specs.declared.option.Option.TheVariants.{None, Some}
 use Rattle.flow_tree.specs.Tree.{TypeTree, IntType, BoolType, StringType, VoidType, ErrorType, NamedType, FutureType, FutureStreamType, PromiseType, PromiseStreamType}
 use Rattle.flow_ast.specs.Typing.{same_type, is_there}
-use Rattle.flow_rules.specs.Least.{lesser, unless}
 
 pub bytes_same : (x y : List ℕ) → bytes_eq x y ≡ true → x ≡ y
 bytes_same x y e = (bytes_eq-Decides x y).0 e
@@ -70,18 +69,3 @@ pub record Held {A : Type 0} (o : Option A) : Type 0 where
 pub there : {A : Type 0} (o : Option A) → is_there o ≡ true → Held o
 there None e = absurd (false≢true e)
 there (Some x) e = record { value = x; is = refl }
-
--- No rule fails in two parts where the lesser of theirs is none.
-pub no_first : (x y : Option ℕ) → lesser x y ≡ None → x ≡ None
-no_first None y e = refl
-no_first (Some m) None e = absurd (some_none e)
-no_first (Some m) (Some n) e = absurd (some_none e)
-
-pub no_second : (x y : Option ℕ) → lesser x y ≡ None → y ≡ None
-no_second None y e = e
-no_second (Some m) None e = refl
-no_second (Some m) (Some n) e = absurd (some_none e)
-
-pub holds : (b : Bool) (k : ℕ) → unless b k ≡ None → b ≡ true
-holds true k e = refl
-holds false k e = absurd (some_none e)

@@ -12,15 +12,16 @@ use Rattle.flow_tree.proofs.ForParts.{InitKind, no_init, declares, assigns, modi
 use Rattle.flow_ast.specs.TypingNames.{named}
 use Rattle.flow_ast.specs.Typing.{is_there, param_named}
 use Rattle.flow_ast.specs.Fits.{declared_in, CaughtFits}
-use Rattle.flow_rules.specs.declared.rule.TheConstants.{TWICE}
+use Rattle.flow_rules.specs.declared.rule.SemanticRule.{SemanticRule}
+use Rattle.flow_rules.specs.declared.rule.SemanticRule.TheVariants.{TakenName}
 use Rattle.flow_rules.specs.Known.{field_row, is_predefined}
 use Rattle.flow_rules.specs.Judged.{Setting}
 use Rattle.flow_rules.specs.Items.{Env, item, with_var, in_loop, in_catch, behind, declared, started, among, fresh}
 use Rattle.flow_rules.specs.Rules.{setting_of}
+use Rattle.flow_rules.proofs.Lesser.{holds, no_item}
 use Rattle.flow_meaning.specs.Source.{records_in, functions_in, actors_in}
 use Rattle.flow_typing_laws.specs.Typing.Scopes.{setting_in}
-use Rattle.flow_typing_laws.proofs.Typing.Names.{holds}
-use Rattle.flow_typing_laws.proofs.Typing.Agreement.{rows_named, no_item, not_true, neither_left}
+use Rattle.flow_typing_laws.proofs.Typing.Agreement.{rows_named, not_true, neither_left}
 use Rattle.flow_typing_laws.proofs.Typing.Statements.{more_params, last_param, there_of}
 
 abbrev pub param : IntoTree → ParamTree
@@ -68,7 +69,7 @@ module _ (ds : List DeclTree) (plain : Bool) where
       let a = is_there (named s.vars x.name) in
       let b = is_predefined x.name in
       let c = is_there (s.known x.name) in
-      let n = not_true (a || b || c || (false && among states x.name)) (holds (not (a || b || c || (false && among states x.name))) TWICE h) in
+      let n = not_true (a || b || c || (false && among states x.name)) (holds (not (a || b || c || (false && among states x.name))) TakenName h) in
       let m = neither_left a b (neither_left (a || b) c (neither_left (a || b || c) (false && among states x.name) n)) in
       last_param vars (caught_param x) (sym (there_of (param_named vars x.name)) ∙ ap is_there (sym (rows_named vars x.name)) ∙ m)
 
@@ -83,7 +84,8 @@ module _ (ds : List DeclTree) (plain : Bool) where
   }
 
   -- a rule at an item, in the words of the scope
-  pub at_item : (e : Env) (vars : List ParamTree) (at : Place) (f : Setting → Option ℕ) → e.setting ≡ setting_in ds plain vars → item at (f e.setting) ≡ None → f (setting_in ds plain vars) ≡ None
+  pub at_item : (e : Env) (vars : List ParamTree) (at : Place) (f : Setting → Option SemanticRule) → e.setting ≡ setting_in ds plain vars → item at (f e.setting) ≡ None
+      → f (setting_in ds plain vars) ≡ None
   at_item e vars at f k h = ap f (sym k) ∙ no_item at (f e.setting) h
 
   pub step_declares : (t : Body) → StepKind t → declared_in t ≡ []

@@ -17,17 +17,18 @@ use Rattle.flow_tree.specs.Decls.{ParamTree, RecordTree, RoutineTree, DeclTree}
 use Rattle.flow_ast.specs.TypingNames.{named, call_names, method_names}
 use Rattle.flow_ast.specs.Typing.{Signature, signature, is_there, routine_named, param_named, param_types, same_type, sum_type, int_only, binary_type, method_in}
 use Rattle.flow_ast.specs.Fits.{fields_type, path_type, has_plain_default, Yields, MaybeYields, ChangeFits, DeclareFits, CallFits}
-use Rattle.flow_rules.specs.declared.rule.TheConstants.{UNKNOWN_NAME, WRONG_TYPE, WRONG_COUNT, NOT_HERE, NEEDS_VALUE, DISCARD}
+use Rattle.flow_rules.specs.declared.rule.SemanticRule.TheVariants.{UnknownName, WrongType, WrongCount, NotInFunction, NeedsValue, LostValue}
 use Rattle.flow_rules.specs.Least.{lesser, unless}
 use Rattle.flow_rules.specs.Known.{Meaning, RecordOf, FunctionOf, ActorOf, type_known}
 use Rattle.flow_rules.specs.Judged.{Setting, Exactly, Callee, predefined_kind, stated, predefined_callee, declared_callee, called_as, called, stated_on, method_callee, called_by, called_on, needs_of, field_form, form, fault, faults, wanted, wants, operands, not_here, said, as_many, calls, of_field}
 use Rattle.flow_rules.specs.Items.{behind, written, fresh, state_here, into_fault, value_fault, path_form, path_fault, target_form, target_fault, assigned, assign_fault, change_fault, modify_fault, ends_of, base_form, base_fault, call_fault, maybe_test, declare_fault}
 use Rattle.flow_rules.specs.Items as rule
+use Rattle.flow_rules.proofs.Lesser.{no_first, no_second, holds}
 use Rattle.flow_meaning.specs.Source.{records_in, functions_in, actors_in}
 use Rattle.flow_typing_laws.specs.Typing.Agreeing.{IsDeclared}
 use Rattle.flow_typing_laws.specs.Typing.Scopes.{scope_in, setting_in}
 use Rattle.flow_tree.specs.Formed.{IsPath}
-use Rattle.flow_typing_laws.proofs.Typing.Names.{bytes_self, type_same, none_some, some_none, there, no_first, no_second, holds}
+use Rattle.flow_typing_laws.proofs.Typing.Names.{bytes_self, type_same, none_some, some_none, there}
 use Rattle.flow_typing_laws.proofs.Typing.Expressions.{typed, all_typed, wanted_is, sum_there, stated_statement, from_start}
 use Rattle.flow_typing_laws.proofs.Typing.Agreement.{Distinct, agrees}
 
@@ -102,7 +103,7 @@ module _ (ds : List DeclTree) (apart : Distinct ds) (plain : Bool) where
       let s = at_vars vars in
       let a = no_first (of_field s (Some t) x.name) (path_fault s (field_form s t x.name) xs) h in
       let b = no_second (of_field s (Some t) x.name) (path_fault s (field_form s t x.name) xs) h in
-      let f = there (field_form s t x.name) (holds (is_there (field_form s t x.name)) UNKNOWN_NAME a) in
+      let f = there (field_form s t x.name) (holds (is_there (field_form s t x.name)) UnknownName a) in
       let r = path_to vars xs f.value (ap (λ o. path_fault s o xs) (sym f.is) ∙ b) in
       record {
         type = r.type;
@@ -120,9 +121,9 @@ module _ (ds : List DeclTree) (apart : Distinct ds) (plain : Bool) where
   target vars (x ∷ xs) p h =
       let s = at_vars vars in
       let o = named s.vars x.name in
-      let a = no_first (unless (is_there o) UNKNOWN_NAME) (path_fault s o xs) h in
-      let b = no_second (unless (is_there o) UNKNOWN_NAME) (path_fault s o xs) h in
-      let f = there o (holds (is_there o) UNKNOWN_NAME a) in
+      let a = no_first (unless (is_there o) UnknownName) (path_fault s o xs) h in
+      let b = no_second (unless (is_there o) UnknownName) (path_fault s o xs) h in
+      let f = there o (holds (is_there o) UnknownName a) in
       let r = path_to vars xs f.value (ap (λ z. path_fault s z xs) (sym f.is) ∙ b) in
       record {
         type = r.type;
@@ -134,17 +135,17 @@ module _ (ds : List DeclTree) (apart : Distinct ds) (plain : Bool) where
   change_fits vars (PlusChange v) t h =
       let s = at_vars vars in
       let k = typed s (scope_in ds vars) (agrees ds vars apart plain) false v (no_first (fault s false v) (operands Add (Some t) (form s v)) h) in
-      let w = holds (is_there (binary_type Add t k.type)) WRONG_TYPE (ap (operands Add (Some t)) (sym k.by_form) ∙ no_second (fault s false v) (operands Add (Some t) (form s v)) h) in
+      let w = holds (is_there (binary_type Add t k.type)) WrongType (ap (operands Add (Some t)) (sym k.by_form) ∙ no_second (fault s false v) (operands Add (Some t) (form s v)) h) in
       let same = type_same t k.type (cut_first (same_type t k.type) (sum_type t) w) in
       (sum_there t (cut_second (same_type t k.type) (sum_type t) w), (k.in_scope ∙ ap Some (sym same), k.quiet (inl refl)))
   change_fits vars (MinusChange v) t h =
       let s = at_vars vars in
       let k = typed s (scope_in ds vars) (agrees ds vars apart plain) false v (no_first (fault s false v) (operands Sub (Some t) (form s v)) h) in
-      let w = holds (is_there (binary_type Sub t k.type)) WRONG_TYPE (ap (operands Sub (Some t)) (sym k.by_form) ∙ no_second (fault s false v) (operands Sub (Some t) (form s v)) h) in
+      let w = holds (is_there (binary_type Sub t k.type)) WrongType (ap (operands Sub (Some t)) (sym k.by_form) ∙ no_second (fault s false v) (operands Sub (Some t) (form s v)) h) in
       let same = type_same t k.type (cut_first (same_type t k.type) (int_only t) w) in
       (int_self t (cut_second (same_type t k.type) (int_only t) w), (k.in_scope ∙ ap Some (sym same), k.quiet (inl refl)))
-  change_fits vars UpChange t h = type_same t IntType (holds (same_type t IntType) WRONG_TYPE h)
-  change_fits vars DownChange t h = type_same t IntType (holds (same_type t IntType) WRONG_TYPE h)
+  change_fits vars UpChange t h = type_same t IntType (holds (same_type t IntType) WrongType h)
+  change_fits vars DownChange t h = type_same t IntType (holds (same_type t IntType) WrongType h)
 
   pub modify_fits : (vars : List ParamTree) (xs : List Ident) (c : ChangeTree) → IsPath xs → modify_fault (at_vars vars) xs c ≡ None
       → (t : TypeTree) × (path_type rs vars xs ≡ Some t) × ChangeFits rs fs as' vars c t
@@ -169,8 +170,8 @@ module _ (ds : List DeclTree) (apart : Distinct ds) where
   default_fits vars IntType w d = refl
   default_fits vars BoolType w d = refl
   default_fits vars StringType w d = refl
-  default_fits vars (PromiseType t) w d = absurd (some_none (no_second (unless (type_known (at_function vars).known (PromiseType t)) UNKNOWN_NAME) (Some NOT_HERE) w))
-  default_fits vars (PromiseStreamType t) w d = absurd (some_none (no_second (unless (type_known (at_function vars).known (PromiseStreamType t)) UNKNOWN_NAME) (Some NOT_HERE) w))
+  default_fits vars (PromiseType t) w d = absurd (some_none (no_second (unless (type_known (at_function vars).known (PromiseType t)) UnknownName) (Some NotInFunction) w))
+  default_fits vars (PromiseStreamType t) w d = absurd (some_none (no_second (unless (type_known (at_function vars).known (PromiseStreamType t)) UnknownName) (Some NotInFunction) w))
   default_fits vars t w d = absurd (false≢true d)
 
   pub declare_fits : (vars : List ParamTree) (states : List (List ℕ)) (i : IntoTree) (v : Option ExprTree) → declare_fault (at_function vars) states i v ≡ None
@@ -179,7 +180,7 @@ module _ (ds : List DeclTree) (apart : Distinct ds) where
       let a = no_first (into_fault (at_function vars) states i) (value_fault (at_function vars) i.ty None) h in
       let b = no_second (into_fault (at_function vars) states i) (value_fault (at_function vars) i.ty None) h in
       default_fits vars i.ty (no_first (written (at_function vars) i.ty) (lesser (state_here (at_function vars) i.state) (fresh (at_function vars) states i.state i.name.name)) a)
-      (holds (rule.has_default i.ty) NEEDS_VALUE b)
+      (holds (rule.has_default i.ty) NeedsValue b)
   declare_fits vars states i (Some v) h = whole_yields vars v i.ty (no_second (into_fault (at_function vars) states i) (value_fault (at_function vars) i.ty (Some v)) h)
 
   pub assign_fits : (vars : List ParamTree) (xs : List Ident) (v : ExprTree) → IsPath xs → assign_fault (at_function vars) xs v ≡ None
@@ -196,22 +197,22 @@ module _ (ds : List DeclTree) (apart : Distinct ds) where
 
   -- in a function a call as a statement is that of a function
   predefined_out : (vars : List ParamTree) (p : Predefined) → said (at_function vars) (predefined_kind p) ≡ None → ⊥
-  predefined_out vars predefined.Now h = some_none (no_second (not_here (at_function vars)) (Some DISCARD) h)
-  predefined_out vars predefined.RandomInt h = some_none (no_second (not_here (at_function vars)) (Some DISCARD) h)
-  predefined_out vars predefined.Delay h = some_none (no_second (not_here (at_function vars)) (Some DISCARD) h)
-  predefined_out vars predefined.Never h = some_none (no_second (not_here (at_function vars)) (Some DISCARD) h)
-  predefined_out vars predefined.Listen h = some_none (no_second (not_here (at_function vars)) (Some DISCARD) h)
-  predefined_out vars predefined.ReadFile h = some_none (no_second (not_here (at_function vars)) (Some DISCARD) h)
-  predefined_out vars predefined.WriteFile h = some_none (no_second (not_here (at_function vars)) (Some DISCARD) h)
-  predefined_out vars predefined.SyncFile h = some_none (no_second (not_here (at_function vars)) (Some DISCARD) h)
-  predefined_out vars predefined.FileSize h = some_none (no_second (not_here (at_function vars)) (Some DISCARD) h)
+  predefined_out vars predefined.Now h = some_none (no_second (not_here (at_function vars)) (Some LostValue) h)
+  predefined_out vars predefined.RandomInt h = some_none (no_second (not_here (at_function vars)) (Some LostValue) h)
+  predefined_out vars predefined.Delay h = some_none (no_second (not_here (at_function vars)) (Some LostValue) h)
+  predefined_out vars predefined.Never h = some_none (no_second (not_here (at_function vars)) (Some LostValue) h)
+  predefined_out vars predefined.Listen h = some_none (no_second (not_here (at_function vars)) (Some LostValue) h)
+  predefined_out vars predefined.ReadFile h = some_none (no_second (not_here (at_function vars)) (Some LostValue) h)
+  predefined_out vars predefined.WriteFile h = some_none (no_second (not_here (at_function vars)) (Some LostValue) h)
+  predefined_out vars predefined.SyncFile h = some_none (no_second (not_here (at_function vars)) (Some LostValue) h)
+  predefined_out vars predefined.FileSize h = some_none (no_second (not_here (at_function vars)) (Some LostValue) h)
   predefined_out vars predefined.Trace h = some_none h
   predefined_out vars predefined.SendTo h = some_none h
   predefined_out vars p h = some_none h
 
   signed_out : (vars : List ParamTree) (es : ExprTrees) (p : Predefined) (g : Option Signature) → calls es (Some (predefined_callee p g)) (said (at_function vars)) ≡ None → ⊥
-  signed_out vars es p None h = some_none (no_second (unless (as_many es (stated p)) WRONG_COUNT) (Some NOT_HERE) h)
-  signed_out vars es p (Some g) h = predefined_out vars p (no_second (unless (as_many es (map Exactly g.params)) WRONG_COUNT) (said (at_function vars) (predefined_kind p)) h)
+  signed_out vars es p None h = some_none (no_second (unless (as_many es (stated p)) WrongCount) (Some NotInFunction) h)
+  signed_out vars es p (Some g) h = predefined_out vars p (no_second (unless (as_many es (map Exactly g.params)) WrongCount) (said (at_function vars) (predefined_kind p)) h)
 
   record IsFunction (vars : List ParamTree) (x : List ℕ) (es : ExprTrees) (o : Option Callee) : Type 0 where
     function : RoutineTree
@@ -223,15 +224,16 @@ module _ (ds : List DeclTree) (apart : Distinct ds) where
       → calls es (option_map (declared_callee x) m) (said (at_function vars)) ≡ None
       → IsFunction vars x es (option_map (declared_callee x) m)
   declared_function vars x es None d h = absurd (some_none h)
-  declared_function vars x es (Some (RecordOf fs)) d h = absurd (some_none (no_second (unless (as_many es (map Exactly (map (λ (f : List ℕ × TypeTree). f.1) fs))) WRONG_COUNT) (Some DISCARD) h))
+  declared_function vars x es (Some (RecordOf fs)) d h = absurd (some_none (no_second (unless (as_many es (map Exactly (map (λ (f : List ℕ × TypeTree). f.1) fs))) WrongCount) (Some LostValue) h))
   declared_function vars x es (Some (FunctionOf ts t)) d h = record {
     function = d.2;
     found = d.3;
     needs = ap (map Exactly) (sym d.4);
-    many = ap (λ l. as_many es (map Exactly l)) d.4 ∙ holds (as_many es (map Exactly ts)) WRONG_COUNT (no_first (unless (as_many es (map Exactly ts)) WRONG_COUNT) None h);
+    many = ap (λ l. as_many es (map Exactly l)) d.4 ∙ holds (as_many es (map Exactly ts)) WrongCount (no_first (unless (as_many es (map Exactly ts)) WrongCount) None h);
   }
   declared_function vars x es (Some (ActorOf ts t)) d h =
-      absurd (some_none (no_second (not_here (at_function vars)) (Some DISCARD) (no_second (unless (as_many es (map Exactly ts)) WRONG_COUNT) (lesser (not_here (at_function vars)) (Some DISCARD)) h)))
+      absurd (some_none (no_second (not_here (at_function vars)) (Some LostValue)
+      (no_second (unless (as_many es (map Exactly ts)) WrongCount) (lesser (not_here (at_function vars)) (Some LostValue)) h)))
 
   name_function : (vars : List ParamTree) (x : List ℕ) (es : ExprTrees) (p : Option Predefined) → calls es (called_as (at_function vars) x p) (said (at_function vars)) ≡ None
       → IsFunction vars x es (called_as (at_function vars) x p)
@@ -241,11 +243,11 @@ module _ (ds : List DeclTree) (apart : Distinct ds) where
   stated_out : (vars : List ParamTree) (es : ExprTrees) (t : TypeTree) (m : Method) (o : Option Callee) → stated_on t m ≡ o → calls es o (said (at_function vars)) ≡ None → ⊥
   stated_out vars es t m None e h = some_none h
   stated_out vars es t m (Some k) e h =
-      some_none (ap (said (at_function vars)) (sym (stated_statement t m k e)) ∙ no_second (unless (as_many es k.needs) WRONG_COUNT) (said (at_function vars) k.kind) h)
+      some_none (ap (said (at_function vars)) (sym (stated_statement t m k e)) ∙ no_second (unless (as_many es k.needs) WrongCount) (said (at_function vars) k.kind) h)
 
   method_out : (vars : List ParamTree) (es : ExprTrees) (t : TypeTree) (m : Method) (g : Option Signature) → calls es (method_callee t m g) (said (at_function vars)) ≡ None → ⊥
   method_out vars es t m None h = stated_out vars es t m (stated_on t m) refl h
-  method_out vars es t m (Some g) h = some_none (no_second (unless (as_many es (map Exactly g.params)) WRONG_COUNT) (Some DISCARD) h)
+  method_out vars es t m (Some g) h = some_none (no_second (unless (as_many es (map Exactly g.params)) WrongCount) (Some LostValue) h)
 
   by_out : (vars : List ParamTree) (es : ExprTrees) (t : TypeTree) (m : Option Method) → calls es (called_by t m) (said (at_function vars)) ≡ None → ⊥
   by_out vars es t None h = some_none h

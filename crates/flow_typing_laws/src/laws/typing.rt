@@ -6,6 +6,7 @@ ghost use Rattle.flow_tree.specs.Decls.{ProgramTree};
 ghost use Rattle.flow_tree.specs.declared.token.Tokens.{Tokens};
 ghost use Rattle.flow_tree.specs.GrammarDecl.{IsProgram};
 ghost use Rattle.flow_rules.specs.Rules.{refusal_of};
+ghost use Rattle.flow_typing_laws.specs.Typing.Ends.{EndsAlike};
 ghost use Rattle.flow_typing_laws.specs.Typing.Joined.{AcceptedFits};
 
 use crate::laws::control_flow::grammar_keeps_for_parts_simple;
@@ -19,3 +20,9 @@ pub fn accepted_programs_are_well_typed()
 {
     grammar_keeps_for_parts_simple();
 }
+
+/// What fits in a function asks of the end of a body what the rule on closing braces does: both say of each body that fits
+/// whether its end is reached, and whether a `break` of the loop around it is.
+pub fn closing_rule_agrees_with_fitting()
+    ensures { EndsAlike }
+{}

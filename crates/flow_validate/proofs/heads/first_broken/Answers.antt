@@ -2,7 +2,7 @@ use Rattle.std.proofs.Common.{map, sym, ap, ◌∙◌}
 use Rattle.flow_tree.specs.DeclView.{decl_of}
 use Rattle.flow_ast.specs.Typing.{is_there}
 use Rattle.flow_rules.specs.Known.{known}
-use Rattle.flow_rules.specs.MapView.{known_by}
+use Rattle.flow_types.specs.MapView.{known_by}
 use Rattle.flow_class.specs.View.{class_of}
 use Rattle.flow_valid.specs.Heads.{head_of, first_head}
 use Rattle.flow_validate.proofs.Taken.{taken_more}

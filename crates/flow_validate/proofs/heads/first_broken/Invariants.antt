@@ -1,7 +1,7 @@
 use Rattle.std.proofs.Common.{◌≡◌, ◌++◌, map, take, drop}
 use Rattle.flow_tree.specs.DeclView.{decl_of}
-use Rattle.flow_rules.specs.MapView.{known_by}
-use Rattle.flow_rules.specs.WalkView.{texts_of}
+use Rattle.flow_types.specs.MapView.{known_by}
+use Rattle.flow_types.specs.WalkView.{texts_of}
 use Rattle.flow_class.specs.View.{class_of}
 use Rattle.flow_valid.specs.Heads.{head_of, first_head}
 use Rattle.flow_validate.specs.Apart.{AreTaken}

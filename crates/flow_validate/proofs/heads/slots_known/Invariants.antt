@@ -3,7 +3,7 @@ use Rattle.std.specs.List.{list_all}
 use Rattle.flow_tree.specs.Decls.{SlotTree}
 use Rattle.flow_tree.specs.DeclView.{slot_of}
 use Rattle.flow_rules.specs.Known.{type_known}
-use Rattle.flow_rules.specs.MapView.{known_by}
+use Rattle.flow_types.specs.MapView.{known_by}
 use Rattle.flow_validate.proofs.heads.slots_known.Given as goal
 
 abbrev pub invariant-loop-slot : goal.invariant-loop-slot

@@ -1,6 +1,6 @@
 use Rattle.std.proofs.Common.{map, take}
 use Rattle.flow_tree.specs.DeclView.{decl_of}
-use Rattle.flow_rules.specs.WalkView.{texts_of}
+use Rattle.flow_types.specs.WalkView.{texts_of}
 use Rattle.flow_validate.specs.Apart.{AreTaken}
 use Rattle.flow_validate.proofs.heads.take_names.Given as goal
 

@@ -2,7 +2,7 @@ use Rattle.std.proofs.Common.{length, sym, ap, ◌∙◌, rules, ◌++◌, take,
 use Rattle.std.proofs.lemmas.List.{length_push}
 use Rattle.std.proofs.lemmas.Slice.Zip.{zip_turn}
 use Rattle.flow_tree.specs.View.{type_of}
-use Rattle.flow_rules.specs.MapView.{vars_of}
+use Rattle.flow_types.specs.MapView.{vars_of}
 use Rattle.flow_valid.specs.Validity.{local_rows}
 use Rattle.flow_validate.proofs.Rows.{local_step}
 use Rattle.flow_validate.proofs.types.add_locals.Goals as goal

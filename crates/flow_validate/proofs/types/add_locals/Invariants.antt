@@ -1,6 +1,6 @@
 use Rattle.std.proofs.Common.{◌≡◌, ◌++◌, length, map, take}
 use Rattle.flow_tree.specs.View.{type_of}
-use Rattle.flow_rules.specs.MapView.{vars_of}
+use Rattle.flow_types.specs.MapView.{vars_of}
 use Rattle.flow_valid.specs.Validity.{local_rows}
 use Rattle.flow_validate.proofs.types.add_locals.Given as goal
 

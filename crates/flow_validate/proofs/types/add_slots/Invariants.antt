@@ -1,6 +1,6 @@
 use Rattle.std.proofs.Common.{◌≡◌, length, map, take}
 use Rattle.flow_tree.specs.DeclView.{slot_of}
-use Rattle.flow_rules.specs.MapView.{vars_of}
+use Rattle.flow_types.specs.MapView.{vars_of}
 use Rattle.flow_valid.specs.Validity.{slot_rows}
 use Rattle.flow_validate.proofs.types.add_slots.Given as goal
 

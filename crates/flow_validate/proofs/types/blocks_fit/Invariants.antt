@@ -1,7 +1,7 @@
 use Rattle.std.proofs.Common.{◌≡◌, drop, map}
 use Rattle.std.specs.List.{list_all}
 use Rattle.flow_class.specs.View.{class_of, block_of}
-use Rattle.flow_rules.specs.SettingView.{setting_view}
+use Rattle.flow_types.specs.SettingView.{setting_view}
 use Rattle.flow_valid.specs.Validity.{block_fits}
 use Rattle.flow_validate.proofs.types.blocks_fit.Given as goal
 

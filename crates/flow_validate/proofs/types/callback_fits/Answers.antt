@@ -1,7 +1,7 @@
 use Rattle.std.proofs.Common.{true, sym, ap, ◌∙◌}
 use Rattle.std.specs.Option.{option_map}
-use Rattle.flow_rules.specs.View.{inner_of}
-use Rattle.flow_rules.specs.SettingView.{setting_view}
+use Rattle.flow_types.specs.View.{inner_of}
+use Rattle.flow_types.specs.SettingView.{setting_view}
 use Rattle.flow_class.specs.View.{class_of, callback_of}
 use Rattle.flow_valid.specs.Validity.{has_type, operand_fits}
 use Rattle.flow_validate.proofs.types.callback_fits.Goals as goal

@@ -1,7 +1,7 @@
 use Rattle.std.proofs.Common.{sym, ap, ◌∙◌}
 use Rattle.flow_tree.specs.View.{expr_of}
 use Rattle.flow_tree.proofs.Views.{expr_call}
-use Rattle.flow_rules.specs.SettingView.{setting_view}
+use Rattle.flow_types.specs.SettingView.{setting_view}
 use Rattle.flow_valid.specs.Validity.{calls_effect, is_effect}
 use Rattle.flow_validate.proofs.types.is_effect.Goals as goal
 

@@ -1,5 +1,5 @@
 use Rattle.std.proofs.Common.{ap, ◌∙◌}
-use Rattle.flow_rules.specs.MapView.{vars_of}
+use Rattle.flow_types.specs.MapView.{vars_of}
 use Rattle.flow_class.specs.View.{class_of}
 use Rattle.flow_validate.specs.Apart.{types_fit_in}
 use Rattle.flow_validate.proofs.Verdicts.{class_seen}

@@ -20,8 +20,9 @@ pub returns-in-Some-clause-refused : goal.returns-in-Some-clause-refused
 returns-in-Some-clause-refused c = λ r sees classes heads.
     let class = c.index-classes-place.result in
     let at = class_at c.args.classes.now c.loop-place.place class c.loop-place-test.true c.index-classes-place.is in
-    class_breaks c.args.names.now (map class_of c.args.classes.now) c.loop-place.place (class_of class) c.in-Some.rule r sees classes heads at
-    (subst (ClassTold r (class_of class)) c.in-Some.is (c.in_ok-rule.ensures r sees)) c.loop-place.invariant
+    rw c.number.ensures
+    (class_breaks c.args.names.now (map class_of c.args.classes.now) c.loop-place.place (class_of class) c.in-Some.rule r sees classes heads at
+    (subst (ClassTold r (class_of class)) c.in-Some.is (c.in_ok-rule.ensures r sees)) c.loop-place.invariant)
 
 pub loop-place-preserved : goal.loop-place-preserved
 loop-place-preserved c =

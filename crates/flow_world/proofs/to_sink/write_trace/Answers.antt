@@ -1,13 +1,15 @@
 use Rattle.std.proofs.Common.{rules, ◌≡◌, refl, sym, ap, subst, ◌∙◌}
 use Rattle.std.specs.Prelude.{Err, IfErr}
 use Rattle.flow_machine.specs.declared.host.RunFault.TheVariants.{OutOfMemory}
-use Rattle.flow_world.specs.BreakingTraces.{TraceFails, no_memory}
+use Rattle.flow_world.specs.BreakingTraces.{TraceFails}
 use Rattle.std.proofs.lemmas.Result.{IfErr-weaker, IfOk-weaker}
 use Rattle.flow_base.specs.Bytes.{Grows}
-use Rattle.flow_world.specs.Tracing.{Traces, TracesPart}
+use Rattle.flow_world.specs.FaultedLines.{telling, whole}
+use Rattle.flow_world.specs.Watching.{hearing, watching}
+use Rattle.flow_world.specs.WatchedTraces.{HeardTrace, HeardTracePart}
 use Rattle.flow_world.specs.Written.{put_bytes}
-use Rattle.flow_world.specs.FaultedLines.{Telling, tells, whole, failed}
-use Rattle.flow_world.proofs.MovedTraces.{seen_of, told_by, traces_by, part_by, trace_fails_by}
+use Rattle.flow_world.proofs.MovedHeard.{heard_trace_by, heard_part_by, trace_fails_by}
+use Rattle.flow_world.proofs.WatchedTraces.{TraceFailsSo, fails_before}
 use Rattle.flow_world.proofs.to_sink.write_trace.Goals as goal
 
 pub returns-clause-traces : goal.returns-clause-traces
@@ -15,17 +17,22 @@ returns-clause-traces g c =
     let name = ap (λ k. k.0) c.put_trace-ending.ensures.kept in
     IfOk-weaker c.put_trace-ending.result _ _
     (λ ending t.
-    let moved = traces_by (seen_of (λ w. (g.S.Sink.seen w.out.now).written)) _ (tells put_bytes)
-    (told_by (λ w. (g.S.Sink.seen w.out.now).written) _ put_bytes (λ a b l answer p. p.1)) c.args.with_frames c.args.classes c.args.world _ ending _ t in
-    subst (λ v. Traces (tells put_bytes) c.args.with_frames c.args.classes c.args.world (whole (g.S.Sink.seen c.args.out.now).written) ending (whole (g.S.Sink.seen v).written)) (search rules) moved)
+    let moved = heard_trace_by (λ w. (g.S.Sink.seen w.out.now).written) _ put_bytes (λ a b l answer p. p.1) c.args.with_frames c.args.classes c.args.world _ ending _ t.1 in (
+      t.0,
+      subst (λ v. HeardTrace put_bytes c.args.with_frames c.args.classes c.args.world (watching (g.S.Sink.seen c.args.out.now).written (g.P.Audience.ears c.args.panel.now)) ending
+          (whole (hearing (g.S.Sink.seen v).written (g.P.Audience.ears c.put_trace-ending.new.panel) t.0))) (search rules) moved,
+    ))
     c.put_trace-ending.ensures.traces
 
 pub returns-clause-part : goal.returns-clause-part
 returns-clause-part g c = λ fails.
     let name = ap (λ k. k.0) c.put_trace-ending.ensures.kept in
-    let moved = part_by (seen_of (λ w. (g.S.Sink.seen w.out.now).written)) _ (tells put_bytes)
-    (told_by (λ w. (g.S.Sink.seen w.out.now).written) _ put_bytes (λ a b l answer p. p.1)) c.args.with_frames c.args.classes c.args.world _ _ (c.put_trace-ending.ensures.part fails) in
-    subst (λ v. TracesPart (tells put_bytes) c.args.with_frames c.args.classes c.args.world (whole (g.S.Sink.seen c.args.out.now).written) (failed (g.S.Sink.seen v).written)) (search rules) moved
+    let t = c.put_trace-ending.ensures.part fails in
+    let moved = heard_part_by (λ w. (g.S.Sink.seen w.out.now).written) _ put_bytes (λ a b l answer p. p.1) c.args.with_frames c.args.classes c.args.world _ _ t.1 in (
+      t.0,
+      subst (λ v. HeardTracePart put_bytes c.args.with_frames c.args.classes c.args.world (watching (g.S.Sink.seen c.args.out.now).written (g.P.Audience.ears c.args.panel.now))
+          (hearing (g.S.Sink.seen v).written (g.P.Audience.ears c.put_trace-ending.new.panel) t.0)) (search rules) moved,
+    )
 
 pub returns-clause-last : goal.returns-clause-last
 returns-clause-last g c =
@@ -43,18 +50,22 @@ returns-clause-last g c =
 pub returns-clause-fails : goal.returns-clause-fails
 returns-clause-fails g c =
     let name = ap (λ k. k.0) c.put_trace-ending.ensures.kept in
+    let ears = g.P.Audience.ears c.args.panel.now in
+    let others = g.P.Audience.ears c.put_trace-ending.new.panel in
     IfErr-weaker c.put_trace-ending.result _ _
-    (λ f fails.
-    let t = seen_of (λ w. (g.S.Sink.seen w.out.now).written) fails.0 in
-    let moved : TraceFails put_bytes c.args.with_frames c.args.classes c.args.world (whole (g.S.Sink.seen c.args.out.now).written) f t =
-    trace_fails_by (λ w. (g.S.Sink.seen w.out.now).written) _ put_bytes (λ a b l answer p. p.1) c.args.with_frames c.args.classes c.args.world _ f fails.0 fails.2 in
-    subst (λ v. (z : Telling _) × (z.out ≡ (g.S.Sink.seen v).written) × TraceFails put_bytes c.args.with_frames c.args.classes c.args.world (whole (g.S.Sink.seen c.args.out.now).written) f z) (search rules)
-    (t, ap (λ w. (g.S.Sink.seen w.out.now).written) fails.1, moved))
+    (λ f t.
+    let moved = trace_fails_by (λ w. (g.S.Sink.seen w.out.now).written) _ put_bytes (λ a b l answer p. p.1) c.args.with_frames c.args.classes c.args.world _ f _ t.2 in (
+      t.0,
+      t.1,
+      subst (λ v. TraceFails put_bytes c.args.with_frames c.args.classes c.args.world (watching (g.S.Sink.seen c.args.out.now).written ears) f
+          (telling (hearing (g.S.Sink.seen v).written others t.0) t.1)) (search rules) moved,
+    ))
     c.put_trace-ending.ensures.fails
 
 pub returns-in_err-buffer-clause-fails : goal.returns-in_err-buffer-clause-fails
 returns-in_err-buffer-clause-fails g c =
     let is : c.from_residual.result ≡ Err OutOfMemory = search rules in
     let before = (g.S.Sink.seen c.args.out.now).written in
-    subst (λ r. IfErr r (λ f. (t : Telling _) × (t.out ≡ before) × TraceFails put_bytes c.args.with_frames c.args.classes c.args.world (whole before) f t)) (sym is)
-    (whole before, refl, no_memory refl refl)
+    let ears = g.P.Audience.ears c.args.panel.now in
+    subst (λ r. IfErr r (λ f. TraceFailsSo put_bytes c.args.with_frames c.args.classes c.args.world before ears f before ears)) (sym is)
+    (fails_before put_bytes c.args.with_frames c.args.classes c.args.world before ears)

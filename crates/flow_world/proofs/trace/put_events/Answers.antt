@@ -1,12 +1,10 @@
-use Rattle.std.proofs.Common.{rules, ◌≡◌, refl, sym, subst, arith}
-use Rattle.flow_world.specs.declared.event.Event.TheVariants.{Ran, Idle, BoundReached, Spent}
-use Rattle.flow_world.specs.Happening.{EventDoes}
-use Rattle.flow_world.specs.FaultedLines.{Telling, tells, whole}
-use Rattle.flow_world.specs.Worlds.{world_seen}
-use Rattle.flow_world.specs.Tracing.{no_event, one_more, some}
+use Rattle.std.proofs.Common.{rules, ◌≡◌, ◌∙◌, refl, sym, subst, arith}
 use Rattle.std.specs.Prelude.{Err, IfErr}
-use Rattle.flow_world.specs.BreakingTraces.{EventsFail, event_fails, frames_fail, counted_out}
-use Rattle.flow_world.proofs.Parts.{part_of_event}
+use Rattle.flow_world.specs.declared.ending.Ending.TheVariants as ending
+use Rattle.flow_world.specs.declared.event.Event.TheVariants.{Ran, Idle, BoundReached, Spent, Stopped}
+use Rattle.flow_world.specs.Worlds.{world_seen}
+use Rattle.flow_world.specs.Watching.{watching}
+use Rattle.flow_world.proofs.WatchedTraces.{HeardSo, quietly_first, quietly_on, ends_itself, stops_after, breaks_in_event, breaks_in_frames, breaks_in_last, FailsSo, fails_in_event, fails_in_frames, fails_in_last, fails_counting}
 use Rattle.flow_world.proofs.trace.put_events.Goals as goal
 
 pub events-init : goal.events-init
@@ -14,38 +12,34 @@ events-init g c = record {
   going = c.requires;
   risen = omega arith;
   same = refl;
-  goes = no_event;
+  named = refl;
+  quietly = quietly_first _ _ _ _ _;
 }
 
 pub returns-in-Idle-clause-goes : goal.returns-in-Idle-clause-goes
 returns-in-Idle-clause-goes g c =
     let is : c.in_ok-event.field-0 ≡ Idle = search rules in
-    record {
-      last = world_seen c.events.world;
-      before = whole c.events.out;
-      goes = c.events.invariant.goes;
-      ends = subst (λ e. EventDoes (tells g.L.LineOut.puts) e (world_seen c.events.world) (whole c.events.out) (world_seen c.event.new.self) (whole c.event.new.out)) is c.in_ok-event.ensures.does;
-    }
+    ends_itself _ _ ending.Idle _ _ _ _ _ _ _ _ c.events.invariant.quietly
+    (subst (λ e. HeardSo g.L.LineOut.puts e (world_seen c.events.world) c.events.out (g.P.Audience.ears c.events.panel) (world_seen c.event.new.self) c.event.new.out (g.P.Audience.ears c.event.new.panel)) is c.in_ok-event.ensures.does)
 
 pub returns-in-BoundReached-clause-goes : goal.returns-in-BoundReached-clause-goes
 returns-in-BoundReached-clause-goes g c =
     let is : c.in_ok-event.field-0 ≡ BoundReached = search rules in
-    record {
-      last = world_seen c.events.world;
-      before = whole c.events.out;
-      goes = c.events.invariant.goes;
-      ends = subst (λ e. EventDoes (tells g.L.LineOut.puts) e (world_seen c.events.world) (whole c.events.out) (world_seen c.event.new.self) (whole c.event.new.out)) is c.in_ok-event.ensures.does;
-    }
+    ends_itself _ _ ending.Bound _ _ _ _ _ _ _ _ c.events.invariant.quietly
+    (subst (λ e. HeardSo g.L.LineOut.puts e (world_seen c.events.world) c.events.out (g.P.Audience.ears c.events.panel) (world_seen c.event.new.self) c.event.new.out (g.P.Audience.ears c.event.new.panel)) is c.in_ok-event.ensures.does)
 
 pub returns-in-Spent-clause-goes : goal.returns-in-Spent-clause-goes
 returns-in-Spent-clause-goes g c =
     let is : c.in_ok-event.field-0 ≡ Spent = search rules in
-    record {
-      last = world_seen c.events.world;
-      before = whole c.events.out;
-      goes = c.events.invariant.goes;
-      ends = subst (λ e. EventDoes (tells g.L.LineOut.puts) e (world_seen c.events.world) (whole c.events.out) (world_seen c.event.new.self) (whole c.event.new.out)) is c.in_ok-event.ensures.does;
-    }
+    ends_itself _ _ ending.Spent _ _ _ _ _ _ _ _ c.events.invariant.quietly
+    (subst (λ e. HeardSo g.L.LineOut.puts e (world_seen c.events.world) c.events.out (g.P.Audience.ears c.events.panel) (world_seen c.event.new.self) c.event.new.out (g.P.Audience.ears c.event.new.panel)) is c.in_ok-event.ensures.does)
+
+pub returns-in-Stopped-clause-goes : goal.returns-in-Stopped-clause-goes
+returns-in-Stopped-clause-goes g c =
+    let is : c.in_ok-event.field-0 ≡ Stopped c.in-Stopped.k = search rules in
+    stops_after _ _ _ _ _ _ _ _ _ _ _ _ c.events.invariant.quietly
+    (subst (λ e. HeardSo g.L.LineOut.puts e (world_seen c.events.world) c.events.out (g.P.Audience.ears c.events.panel) (world_seen c.event.new.self) c.event.new.out (g.P.Audience.ears c.event.new.panel)) is c.in_ok-event.ensures.does)
+    c.in_ok-put_frames_if-in-Stopped.ensures.puts
 
 pub events-preserved : goal.events-preserved
 events-preserved g c =
@@ -54,41 +48,53 @@ events-preserved g c =
       going = search rules;
       risen = search rules;
       same = search rules;
-      goes = one_more c.events.invariant.goes
-          (subst (λ e. EventDoes (tells g.L.LineOut.puts) e (world_seen c.events.world) (whole c.events.out) (world_seen c.event.new.self) (whole c.event.new.out)) is c.in_ok-event.ensures.does)
+      named = c.event.ensures.names ∙ c.events.invariant.named;
+      quietly = quietly_on _ _ _ _ _ _ _ _ _ _ _ c.events.invariant.quietly
+          (subst (λ e. HeardSo g.L.LineOut.puts e (world_seen c.events.world) c.events.out (g.P.Audience.ears c.events.panel) (world_seen c.event.new.self) c.event.new.out (g.P.Audience.ears c.event.new.panel)) is c.in_ok-event.ensures.does)
           c.in_ok-put_frames_if-in-Ran.ensures.puts;
     }
 
 pub returns-in_err-event-clause-part : goal.returns-in_err-event-clause-part
 returns-in_err-event-clause-part g c = λ failed.
-    part_of_event g.L.LineOut.puts c.args.with_frames _ _ _ (whole c.args.out.now) (whole c.events.out) _ c.events.invariant.goes (c.event.ensures.breaks (search rules))
+    breaks_in_event _ _ _ _ _ _ _ _ _ _ c.events.invariant.quietly (c.event.ensures.breaks (search rules))
 
 pub returns-in_err-put_frames_if-in-Ran-clause-part : goal.returns-in_err-put_frames_if-in-Ran-clause-part
 returns-in_err-put_frames_if-in-Ran-clause-part g c = λ failed.
     let is : c.in_ok-event.field-0 ≡ Ran = search rules in
-    some (one_more c.events.invariant.goes
-    (subst (λ e. EventDoes (tells g.L.LineOut.puts) e (world_seen c.events.world) (whole c.events.out) (world_seen c.event.new.self) (whole c.event.new.out)) is c.in_ok-event.ensures.does)
-    (c.put_frames_if.ensures.part (search rules)))
+    breaks_in_frames _ _ _ _ _ _ _ _ _ _ _ c.events.invariant.quietly
+    (subst (λ e. HeardSo g.L.LineOut.puts e (world_seen c.events.world) c.events.out (g.P.Audience.ears c.events.panel) (world_seen c.event.new.self) c.event.new.out (g.P.Audience.ears c.event.new.panel)) is c.in_ok-event.ensures.does)
+    (c.put_frames_if.ensures.part (search rules))
+
+pub returns-in_err-put_frames_if-in-Stopped-clause-part : goal.returns-in_err-put_frames_if-in-Stopped-clause-part
+returns-in_err-put_frames_if-in-Stopped-clause-part g c = λ failed.
+    let is : c.in_ok-event.field-0 ≡ Stopped c.in-Stopped.k = search rules in
+    breaks_in_last _ _ _ _ _ _ _ _ _ _ _ _ c.events.invariant.quietly
+    (subst (λ e. HeardSo g.L.LineOut.puts e (world_seen c.events.world) c.events.out (g.P.Audience.ears c.events.panel) (world_seen c.event.new.self) c.event.new.out (g.P.Audience.ears c.event.new.panel)) is c.in_ok-event.ensures.does)
+    (c.put_frames_if-in-Stopped.ensures.part (search rules))
 
 pub returns-in_err-event-clause-fails : goal.returns-in_err-event-clause-fails
 returns-in_err-event-clause-fails g c =
     let is : c.from_residual.result ≡ Err c.in_err-event.field-0.0 = search rules in
-    let fails = c.in_err-event.ensures.fails in
-    subst (λ r. IfErr r (λ f. (t : Telling _) × (t.out ≡ c.event.new.out) × EventsFail g.L.LineOut.puts c.args.with_frames (world_seen c.args.world.now) (whole c.args.out.now) f t)) (sym is)
-    (fails.0, fails.1, event_fails c.events.invariant.goes fails.2)
+    subst (λ r. IfErr r (λ f. FailsSo g.L.LineOut.puts c.args.with_frames (world_seen c.args.world.now) (watching c.args.out.now (g.P.Audience.ears c.args.panel.now)) f c.event.new.out (g.P.Audience.ears c.event.new.panel)))
+    (sym is) (fails_in_event _ _ _ _ _ _ _ _ _ _ c.events.invariant.quietly c.in_err-event.ensures.fails)
 
 pub returns-in_err-put_frames_if-in-Ran-clause-fails : goal.returns-in_err-put_frames_if-in-Ran-clause-fails
 returns-in_err-put_frames_if-in-Ran-clause-fails g c =
     let is : c.from_residual-in_err-put_frames_if-in-Ran.result ≡ Err c.in_err-put_frames_if-in-Ran.field-0.0 = search rules in
     let ran : c.in_ok-event.field-0 ≡ Ran = search rules in
-    let fails = c.in_err-put_frames_if-in-Ran.ensures.fails in
-    subst (λ r. IfErr r (λ f. (t : Telling _) × (t.out ≡ c.put_frames_if.new.out) × EventsFail g.L.LineOut.puts c.args.with_frames (world_seen c.args.world.now) (whole c.args.out.now) f t))
-    (sym is) (
-      fails.0,
-      fails.1,
-      frames_fail c.events.invariant.goes
-          (subst (λ e. EventDoes (tells g.L.LineOut.puts) e (world_seen c.events.world) (whole c.events.out) (world_seen c.event.new.self) (whole c.event.new.out)) ran c.in_ok-event.ensures.does) fails.2,
-    )
+    subst (λ r. IfErr r (λ f. FailsSo g.L.LineOut.puts c.args.with_frames (world_seen c.args.world.now) (watching c.args.out.now (g.P.Audience.ears c.args.panel.now)) f c.put_frames_if.new.out (g.P.Audience.ears c.event.new.panel)))
+    (sym is) (fails_in_frames _ _ _ _ _ _ _ _ _ _ _ _ c.events.invariant.quietly
+    (subst (λ e. HeardSo g.L.LineOut.puts e (world_seen c.events.world) c.events.out (g.P.Audience.ears c.events.panel) (world_seen c.event.new.self) c.event.new.out (g.P.Audience.ears c.event.new.panel)) ran c.in_ok-event.ensures.does)
+    c.in_err-put_frames_if-in-Ran.ensures.fails)
+
+pub returns-in_err-put_frames_if-in-Stopped-clause-fails : goal.returns-in_err-put_frames_if-in-Stopped-clause-fails
+returns-in_err-put_frames_if-in-Stopped-clause-fails g c =
+    let is : c.from_residual-in_err-put_frames_if-in-Stopped.result ≡ Err c.in_err-put_frames_if-in-Stopped.field-0.0 = search rules in
+    let ran : c.in_ok-event.field-0 ≡ Stopped c.in-Stopped.k = search rules in
+    subst (λ r. IfErr r (λ f. FailsSo g.L.LineOut.puts c.args.with_frames (world_seen c.args.world.now) (watching c.args.out.now (g.P.Audience.ears c.args.panel.now)) f c.put_frames_if-in-Stopped.new.out (g.P.Audience.ears c.event.new.panel)))
+    (sym is) (fails_in_last _ _ _ _ _ _ _ _ _ _ _ _ _ c.events.invariant.quietly
+    (subst (λ e. HeardSo g.L.LineOut.puts e (world_seen c.events.world) c.events.out (g.P.Audience.ears c.events.panel) (world_seen c.event.new.self) c.event.new.out (g.P.Audience.ears c.event.new.panel)) ran c.in_ok-event.ensures.does)
+    c.in_err-put_frames_if-in-Stopped.ensures.fails)
 
 pub returns-clause-fails : goal.returns-clause-fails
-returns-clause-fails g c = (whole c.events.out, refl, counted_out c.events.invariant.goes refl refl)
+returns-clause-fails g c = fails_counting _ _ _ _ _ _ _ c.events.invariant.quietly

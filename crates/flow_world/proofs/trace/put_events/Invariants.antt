@@ -1,7 +1,8 @@
 use Rattle.std.proofs.Common.{◌≡◌, ◌≤◌, false}
-use Rattle.flow_world.specs.FaultedLines.{tells, whole}
+use Rattle.flow_monitor.specs.Ears.{names}
+use Rattle.flow_world.specs.Watching.{watching}
+use Rattle.flow_world.specs.WatchedTraces.{Quietly}
 use Rattle.flow_world.specs.Worlds.{world_seen}
-use Rattle.flow_world.specs.Tracing.{RunsEvents}
 use Rattle.flow_world.proofs.trace.put_events.Given as goal
 
 abbrev pub invariant-events : goal.invariant-events
@@ -9,5 +10,7 @@ invariant-events g l = record {
   going : l.world.ended ≡ false;
   risen : g.L.LineOut.faults l.initial.out ≤ g.L.LineOut.faults l.out;
   same : g.L.LineOut.kept l.out ≡ g.L.LineOut.kept l.initial.out;
-  goes : RunsEvents (tells g.L.LineOut.puts) l.with_frames (world_seen l.initial.world) (whole l.initial.out) (world_seen l.world) (whole l.out);
+  named : names (g.P.Audience.ears l.panel) ≡ names (g.P.Audience.ears l.initial.panel);
+  quietly : Quietly g.L.LineOut.puts l.with_frames (world_seen l.initial.world) (watching l.initial.out (g.P.Audience.ears l.initial.panel)) (world_seen l.world)
+      (watching l.out (g.P.Audience.ears l.panel));
 }

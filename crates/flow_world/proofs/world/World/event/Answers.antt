@@ -1,54 +1,28 @@
-use Rattle.std.proofs.Common.{rules, ◌≡◌, refl, subst}
-use Rattle.flow_machine.specs.declared.host.Burst.TheVariants.{Rested, Spent}
-use Rattle.flow_world.specs.Happening.{Comes, begins, ends}
-use Rattle.flow_world.specs.FaultedLines.{tells, whole}
-use Rattle.flow_world.specs.Worlds.{world_seen}
-use Rattle.flow_world.proofs.Happenings.{ended_again}
+use Rattle.std.proofs.Common.{rules, refl, ap}
+use Rattle.flow_world.specs.Watching.{hearing}
+use Rattle.flow_world.proofs.Watching.{event_heard, break_heard, fails_heard, answer_does, known_event, known_break, known_fails}
 use Rattle.flow_world.proofs.world.World.event.Goals as goal
 
-pub returns-in_err-carries_out-clause-breaks : goal.returns-in_err-carries_out-clause-breaks
-returns-in_err-carries_out-clause-breaks g c = λ failed.
-    let left = world_seen c.carries_out.new.self in
-    let told = c.carries_out.ensures.breaks (search rules) in
-    record {
-      burst = told.0;
-      left = ends told.0 left;
-      happens = record {
-        time = c.in-Some.time;
-        scripted = c.in-Some.scripted;
-        left = left;
-        comes = search rules;
-        bound = search rules;
-        does = told.1;
-        after = refl;
-      };
-      ended = ended_again told.0 left c.carries_out.ensures.ended;
-    }
+pub returns-clause-does : goal.returns-clause-does
+returns-clause-does g c =
+    let kept = c.next_event-event.ensures.kept in
+    let panel_name = ap (λ k. k.0) kept in
+    let out_name = ap (λ k. k.1) kept in
+    let does = event_heard (λ w. hearing w.out.now (g.P.Audience.ears w.panel.now) w.stop) g.L.LineOut.puts _ (λ a b l answer t. t) _ _ _ _ _ c.in_ok-event.ensures.does in
+    known_event g.L.LineOut.puts g.P.Audience.ears _ _ _ _ _ _ _ _ _ _ (search rules) (search rules) c.settle.ensures.event
+    (answer_does g.L.LineOut.puts _ _ _ _ _ _ _ refl c.settle.ensures.world does)
 
-pub returns-in-Spent-clause-does : goal.returns-in-Spent-clause-does
-returns-in-Spent-clause-does g c =
-    let is : c.in_ok-carries_out.field-0 ≡ Spent = search rules in
-    record {
-      time = c.in-Some.time;
-      scripted = c.in-Some.scripted;
-      left = world_seen c.carries_out.new.self;
-      comes = search rules;
-      bound = search rules;
-      does = subst (λ e. Comes (tells g.L.LineOut.puts) c.in-Some.scripted (begins c.in-Some.time (world_seen c.args.self.now)) (whole c.args.out.now) e (world_seen c.carries_out.new.self)
-          (whole c.carries_out.new.out)) is c.in_ok-carries_out.ensures.comes;
-      after = refl;
-    }
+pub returns-in_err-event-clause-breaks : goal.returns-in_err-event-clause-breaks
+returns-in_err-event-clause-breaks g c = λ fails.
+    let kept = c.next_event-event.ensures.kept in
+    let panel_name = ap (λ k. k.0) kept in
+    let out_name = ap (λ k. k.1) kept in
+    let breaks = break_heard (λ w. hearing w.out.now (g.P.Audience.ears w.panel.now) w.stop) g.L.LineOut.puts _ (λ a b l answer t. t) _ _ _ _ (c.next_event-event.ensures.breaks (search rules)) in
+    known_break g.L.LineOut.puts g.P.Audience.ears _ _ _ _ _ _ _ _ (search rules) (search rules) breaks
 
-pub returns-in-Rested-clause-does : goal.returns-in-Rested-clause-does
-returns-in-Rested-clause-does g c =
-    let is : c.in_ok-carries_out.field-0 ≡ Rested = search rules in
-    record {
-      time = c.in-Some.time;
-      scripted = c.in-Some.scripted;
-      left = world_seen c.carries_out.new.self;
-      comes = search rules;
-      bound = search rules;
-      does = subst (λ e. Comes (tells g.L.LineOut.puts) c.in-Some.scripted (begins c.in-Some.time (world_seen c.args.self.now)) (whole c.args.out.now) e (world_seen c.carries_out.new.self)
-          (whole c.carries_out.new.out)) is c.in_ok-carries_out.ensures.comes;
-      after = refl;
-    }
+pub returns-in_err-event-clause-fails : goal.returns-in_err-event-clause-fails
+returns-in_err-event-clause-fails g c =
+    let kept = c.next_event-event.ensures.kept in
+    let panel_name = ap (λ k. k.0) kept in
+    let out_name = ap (λ k. k.1) kept in
+    ?

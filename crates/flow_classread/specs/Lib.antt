@@ -1,0 +1,4 @@
+pub mod Parts
+pub mod Rising
+pub mod Strays
+pub mod Tokens

@@ -1,0 +1,10 @@
+//! Class text, read by its grammar: the records, functions and classes that its tokens are, or the token at which they are refused.
+#![tactic(auto)]
+
+pub mod block;
+pub mod class;
+pub mod expr;
+pub mod group;
+pub mod instr;
+pub mod text;
+pub mod token;

@@ -1,0 +1,4 @@
+pub mod InnerLines
+pub mod EventLines
+pub mod Cutting
+pub mod Cuts

@@ -1,0 +1,5 @@
+pub mod Attaching
+pub mod Cut
+pub mod Ears
+pub mod Heard
+pub mod Shipped
