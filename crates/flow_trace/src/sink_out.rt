@@ -1,6 +1,6 @@
 // Lines that go out as they are put.
 
-ghost use Rattle.std.specs.Prelude.{◌≡◌};
+ghost use Rattle.std.specs.Prelude.{◌≡◌, IfOk};
 ghost use Rattle.std.specs.Borrow.{GName};
 ghost use Rattle.std.proofs.Props.{props};
 ghost use Rattle.flow_base.specs.Bytes.{Grows};
@@ -10,8 +10,10 @@ use crate::buffer::{LineBuf, print_line};
 use crate::line::Line;
 use crate::out::LineOut;
 use flow_base::fault::OutFault;
+use flow_base::memory::NoMemory;
 use flow_base::output::write_whole;
 use flow_base::sink::Sink;
+use std::alloc::Global;
 use std::snapshot::Snapshot;
 
 /// Lines that are written to a sink as they are put, each by one call where the sink takes it whole; and the sink as it was
@@ -22,6 +24,25 @@ pub struct SinkOut<'a, S: Sink> {
     pub before: Snapshot<S>,
     ghost grown: { Grows (S.seen before.value).written
         (S.seen out.now).written } by { Prim.hlevel props },
+    ghost handed: { Grows (S.seen before.value).handed
+        (S.seen out.now).handed } by { Prim.hlevel props },
+}
+
+impl<'a, S: Sink> SinkOut<'a, S> {
+    /// Over a sink that lines are to go to from now on. It takes memory for a line.
+    pub fn new(alloc: Global, out: &'a mut S) -> Result<SinkOut<'a, S>, NoMemory>
+        ensures same_sink { IfOk result (λ w. (w.out.ghost_name ≡ out.entry.ghost_name)
+            × (w.out.now ≡ out.old)) }
+        ensures before { IfOk result (λ w. w.before.value ≡ out.old) }
+    {
+        let buffer = LineBuf::new(alloc)?;
+        let before = Snapshot::of(&*out);
+        Ok(SinkOut {
+            out,
+            buffer,
+            before,
+        })
+    }
 }
 
 impl<'a, S: Sink> LineOut for SinkOut<'a, S> {
