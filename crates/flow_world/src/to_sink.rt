@@ -21,18 +21,17 @@ use crate::trace::put_trace;
 use flow_base::sink::Sink;
 use flow_machine::host::RunFault;
 use flow_monitor::Audience;
-use flow_trace::buffer::LineBuf;
 use flow_trace::sink_out::SinkOut;
 use flow_valid::program::ClassProgram;
 use flow_worldfile::World0;
 use std::alloc::Global;
-use std::snapshot::Snapshot;
 
 /// Runs classes in a world and writes the lines of the trace, each as it is made, with the frames after each event that was
 /// not spent where they are asked for: where the run comes to its end, what was written is the bytes of these lines, from the
 /// first to the last; where the sink failed, of the lines up to one in an event, in the frames after it or at the end, of which a
 /// first part may be written. The panel hears the lines of events; where one of it says Stop in an event that isn't spent, the
-/// trace ends after that event and its frames. What was written before stays as it is. `Failed` comes only where the sink's count of faults rose.
+/// trace ends after that event and its frames. Where there is no memory, a first part of the bytes of these lines was written. What
+/// was written before stays as it is, and what was handed on. `Failed` comes only where the sink's count of faults rose.
 pub fn write_trace<P: Audience, S: Sink>(
     alloc: Global,
     classes: ClassProgram,
@@ -44,6 +43,7 @@ pub fn write_trace<P: Audience, S: Sink>(
     requires { IsInRange (seen world) }
     ensures cause { RunCause (S.seen out.old).faults (S.seen out.new).faults result }
     ensures grows { Grows (S.seen out.old).written (S.seen out.new).written }
+    ensures handed { Grows (S.seen out.old).handed (S.seen out.new).handed }
     ensures names { names (P.ears panel.new) ≡ names (P.ears panel.old) }
     ensures place { IfOk result (λ ending. IsEnding ending (length (P.ears panel.new))) }
     ensures traces { IfOk result (λ ending. (stop : Option ℕ) × HeardTrace put_bytes with_frames
@@ -59,13 +59,7 @@ pub fn write_trace<P: Audience, S: Sink>(
     ensures last { IfOk result (λ ending. GrowsTo (S.seen out.old).written (S.seen out.new).written
         (Bytes (last_line (P.ears panel.old) ending))) }
 {
-    let buffer = LineBuf::new(alloc)?;
-    let before = Snapshot::of(&*out);
-    let mut lines = SinkOut {
-        out,
-        buffer,
-        before,
-    };
+    let mut lines = SinkOut::new(alloc, out)?;
     let ending = put_trace(alloc, classes, world, with_frames, panel, &mut lines);
     let SinkOut {
         out,

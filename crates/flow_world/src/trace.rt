@@ -32,8 +32,9 @@ use std::alloc::Global;
 
 #[tactic(auto, using(flow_machine::proofs::Causes::cause_before))]
 /// Runs classes in a world and puts the lines of the trace, from the first to the last, with the frames after each event
-/// that was not spent where they are asked for; or those up to the line that failed. The panel hears the lines of events,
-/// and where one of it says Stop in an event that isn't spent, the trace ends after that event and its frames.
+/// that was not spent where they are asked for; or those up to the line that failed; or, where there is no memory, a first part of
+/// them. The panel hears the lines of events, and where one of it says Stop in an event that isn't spent, the trace ends after that
+/// event and its frames.
 pub fn put_trace<P: Audience, L: LineOut>(
     alloc: Global,
     classes: ClassProgram,
