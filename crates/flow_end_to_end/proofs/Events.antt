@@ -20,11 +20,11 @@ use Rattle.flow_meaning.proofs.InOrder.{no_thing}
 use Rattle.flow_worldfile.specs.Worlds.{order_of}
 use Rattle.flow_worldfile.specs.Directives.{OrderNames}
 use Rattle.flow_world.specs.BreakingEvents.{NoProcess, NoLink, NoDisk, PutFails, PutBreaks, unput, line_put, ActsBreaks, ActsAtBreaks, no_process, not_among, acts_break, RunsBreaks, LossBreaks, not_lost, lost}
-use Rattle.flow_world.specs.BreakingEvents.{OrderedBreaks, NoMemory, TakenBreaks, ArrivalBreaks, ArrivedBreaks, not_on_way, not_taken, ReplyBreaks, AnsweredBreaks, unserved, served as answers, HappenedBreaks}
-use Rattle.flow_world.specs.BreakingEvents.{LineBreaks, PendingBreaks, ComesBreaks, MomentBreaks, too_late, comes_breaks, MomentFails, breaks_off, went_on, EventFails}
-use Rattle.flow_world.specs.Around.{Puts, PutsPart, no_more, put_then, put_fails}
+use Rattle.flow_world.specs.BreakingEvents.{OrderedBreaks, TakenBreaks, ArrivalBreaks, ArrivedBreaks, not_on_way, not_taken, ReplyBreaks, AnsweredBreaks, unserved, served as answers, HappenedBreaks}
+use Rattle.flow_world.specs.BreakingEvents.{LineBreaks, PendingBreaks, ComesBreaks, MomentBreaks, too_late, comes_breaks, MomentFails, breaks_off, went_on}
+use Rattle.flow_world.specs.Around.{PutsPart, no_more, put_then, put_fails}
 use Rattle.flow_world.specs.Answers.{answer_line}
-use Rattle.flow_world.specs.FaultedLines.{Telling, tells as telling}
+use Rattle.flow_world.specs.FaultedLines.{tells as telling}
 use Rattle.flow_world.proofs.Putting.{part_more, part_all}
 use Rattle.flow_machine.specs.Cause.{fault_of}
 use Rattle.flow_machine.specs.declared.host.RunFault.{RunFault}

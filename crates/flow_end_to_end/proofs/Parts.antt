@@ -9,13 +9,12 @@ use Rattle.flow_trace.specs.declared.line.Line.{Line}
 use Rattle.flow_cancel.specs.declared.task.Task.TheVariants as task
 use Rattle.flow_eval.specs.Predefined.{natural}
 use Rattle.flow_numbered.specs.Numbered.{Numbered}
-use Rattle.flow_meaning.specs.Requests.{Request, Drew, Packet}
+use Rattle.flow_meaning.specs.Requests.{Request, Packet}
 use Rattle.flow_meaning.specs.Burst.{Host, Live, live, Burst}
 use Rattle.flow_meaning.specs.Class.{classes}
 use Rattle.flow_meaning.specs.Frame.{Frame}
-use Rattle.flow_meaning.specs.Process.{Proc, Spent}
+use Rattle.flow_meaning.specs.Process.{Proc}
 use Rattle.flow_meaning.specs.Turns.{Starts}
-use Rattle.flow_meaning.proofs.BurstOnce.{burst_once}
 use Rattle.flow_heap_refinement.specs.Counted.{nothing_in_hand}
 use Rattle.flow_progress.specs.Ending.{Reaches}
 use Rattle.flow_steps.specs.declared.call.Call.{Call}
@@ -39,7 +38,6 @@ use Rattle.flow_steps.specs.Evaluating.{program_time}
 use Rattle.flow_meaning.specs.Orderly.{UnlessStopped}
 use Rattle.flow_burst_refinement.specs.Enabled.Tasking.{IsProgram}
 use Rattle.flow_burst_refinement.specs.Bursts.{HostKeepsTime, RepresentsInWorld}
-use Rattle.flow_burst_refinement.proofs.Bursts.Reached.{stopped_rests}
 use Rattle.flow_burst_refinement.proofs.Bursts.Rows.{ServedThen, lives_on, is_spent, served_then, spent_tasks}
 use Rattle.flow_burst_refinement.proofs.Programs.Goes.{branches_of, program_goes}
 use Rattle.flow_end_to_end.specs.Parts as law

@@ -1,32 +1,23 @@
 -- In a run in memory of valid classes no frame that is told is of no class, and each event follows, whatever else a world keeps.
-use Rattle.std.proofs.Common.{◌≡◌, ◌<◌, ◌⊎◌, inl, inr, ℕ, zero, suc, Bool, true, false, List, [], ◌∷◌, ◌++◌, length, map, refl, sym, subst, ap, ◌∙◌, arith, if◌then◌else◌}
+use Rattle.std.proofs.Common.{◌≡◌, ◌<◌, ◌⊎◌, inl, inr, ℕ, zero, suc, Bool, true, false, List, [], ◌∷◌, length, map, refl, sym, subst, ap, ◌∙◌, arith, if◌then◌else◌}
 use Rattle.std.proofs.lemmas.Bool.Decides.{nat_tests}
-use Rattle.std.specs.Prelude.{Result, Ok, IsSome, nat_eq, slice_get, option_map, slice_index_or}
-use Rattle.std.specs.declared.option.Option.{Option}
+use Rattle.std.specs.Prelude.{Result, nat_eq, slice_get, option_map, slice_index_or}
 use Rattle.std.specs.declared.option.Option.TheVariants.{None, Some}
 use Rattle.flow_base.specs.declared.fault.OutFault.{OutFault}
-use Rattle.flow_tree.specs.DeclView.{program_of}
 use Rattle.flow_trace.specs.declared.line.Line.{Line}
-use Rattle.flow_trace.specs.declared.line.Line.TheVariants as line
-use Rattle.flow_worldfile.specs.Worlds.{IsInRange, seen}
-use Rattle.flow_worldfile.specs.declared.world.World0.{World0}
 use Rattle.flow_class.specs.Classes.{ClassTree, RawTree}
 use Rattle.flow_class.specs.View.{raw_of, class_of}
 use Rattle.flow_class.specs.declared.class.Class.{Class}
-use Rattle.flow_class.specs.declared.class.RawClasses.{RawClasses}
-use Rattle.flow_code.specs.declared.program.Code.{Code}
 use Rattle.flow_meaning.specs.Frame.{Frame}
 use Rattle.flow_numbered.specs.Numbered.{Numbered, thing}
 use Rattle.flow_meaning.specs.Orderly.{Rising}
 use Rattle.flow_meaning.specs.Process.{Entry, Proc}
-use Rattle.flow_meaning.specs.Runs.{after, lines_of}
 use Rattle.flow_meaning.specs.Class.{classes}
-use Rattle.flow_meaning.proofs.InOrder.{no_thing}
 use Rattle.flow_meaning.specs.Boundaries.{FramesIn}
 use Rattle.flow_meaning.specs.Deliver.{idle}
 use Rattle.flow_meaning.specs.Views.{Unfinished, Frames, frame_spot, unfinished}
 use Rattle.flow_meaning.specs.World as meaning
-use Rattle.flow_meaning.specs.World.{World, at_start, ready}
+use Rattle.flow_meaning.specs.World.{World, ready}
 use Rattle.flow_meaning.proofs.Posture.{above_none}
 use Rattle.flow_operation_refinement.proofs.Stands.{get_mapped}
 use Rattle.flow_invariants.specs.Unmarked.{AreWhole}
@@ -34,47 +25,19 @@ use Rattle.flow_burst_refinement.specs.Enabled.Tasking.{IsProgram}
 use Rattle.flow_burst_refinement.specs.Invariants.Invariant.{ProcessInvariant}
 use Rattle.flow_burst_refinement.proofs.Invariants.Off as kept
 use Rattle.flow_burst_refinement.proofs.Boundaries.Keeping.{ready_kept}
-use Rattle.flow_machine.specs.declared.host.Burst.TheVariants.{Rested}
 use Rattle.flow_world.specs.Ending.{Seen}
 use Rattle.flow_world_refinement.specs.Order.Showing.{WorldRepresents}
-use Rattle.flow_world_refinement.proofs.Order.Started.{start_shown}
-use Rattle.flow_world.specs.Tracing.{RunsEvents}
-use Rattle.flow_world.specs.BreakingTraces.{SomeNoClass, FramesStuck, FramesStuckIf, FramesFail, EventsFail, event_fails, frames_fail, counted_out, no_memory, head_fails, events_fail, end_fails}
-use Rattle.flow_world.specs.BreakingEvents.{EventFails}
-use Rattle.flow_world.specs.FaultedLines.{Telling, tells}
-use Rattle.flow_world.specs.Around.{PutsPart, no_more, put_then}
-use Rattle.flow_world.specs.Happening.{EventDoes}
-use Rattle.flow_world.specs.Starting.{Starts}
-use Rattle.flow_world.specs.declared.event.Event.TheVariants as event
-use Rattle.flow_world.proofs.Putting.{part_more, part_all, puts_part}
-use Rattle.flow_machine.specs.declared.host.RunFault.{RunFault}
-use Rattle.flow_machine.specs.declared.host.RunFault.TheVariants.{Stuck}
+use Rattle.flow_world.specs.BreakingTraces.{SomeNoClass, FramesStuck, FramesStuckIf}
 use Rattle.flow_world_refinement.specs.Invariants.{WorldInvariant}
 use Rattle.flow_world_refinement.specs.Effects.Quiescence.{Quiescent}
-use Rattle.flow_world_refinement.proofs.Effects.Settling.{settled_first}
 use Rattle.flow_world_refinement.proofs.Events.Whole.{happening}
-use Rattle.flow_end_to_end.specs.Events.{MemoryWorldInvariant, NextInPart}
-use Rattle.flow_end_to_end.proofs.Events.{not_stuck, memory_not_stuck, event_in_part}
-use Rattle.flow_end_to_end.proofs.Upheld.{upheld_starts, upheld_stays}
-use Rattle.flow_world_refinement.specs.Traces.Traced.{EventBegan, EventsFollow, KeepsOn, FramesShown}
-use Rattle.flow_world_refinement.proofs.Traces.Whole.{Went, went}
-use Rattle.flow_world_refinement.proofs.Traces.Codes.{code_stays}
-use Rattle.flow_world_refinement.proofs.Traces.Onwards.{goes_on}
-use Rattle.flow_world_refinement.proofs.Order.Next.{same_end, goes_on as goes_on_now}
-use Rattle.flow_compile_laws.specs.Frames.Framed.{ClassShown, seen_if, Shows, ends, spent, event}
-use Rattle.flow_compile_laws.proofs.Frames.Alike.{shown_of_classes}
-use Rattle.flow_compile_laws.proofs.Traces.{are_carried}
-use Rattle.flow_lowering_laws.proofs.Programs.Whole.{compiles_faithfully}
-use Rattle.flow_lower.specs.Compiled.{compiled}
+use Rattle.flow_end_to_end.specs.Events.{MemoryWorldInvariant}
+use Rattle.flow_world_refinement.specs.Traces.Traced.{EventBegan, EventsFollow}
+use Rattle.flow_compile_laws.specs.Frames.Framed.{event}
 use Rattle.flow_world_refinement.specs.Views.Views.{told_frame}
 use Rattle.flow_world_refinement.specs.Views.Waiting.{WorldWaits}
-use Rattle.flow_world_refinement.proofs.Views.Traced.{Waits, events, keeps_on, frames}
+use Rattle.flow_world_refinement.proofs.Views.Traced.{frames}
 use Rattle.flow_world_refinement.proofs.Views.Told.{world_told}
-use Rattle.flow_world_refinement.proofs.Views.Waiting.{start_waits}
-use Rattle.flow_determinism.proofs.Whole.{compiles_whole}
-use Rattle.flow_class_text_laws.proofs.Compiled.{compiled_few}
-use Rattle.flow_end_to_end.specs.Exact.{HaveFewPlaces, ClassesFailInPart, ProgramFailsInPart}
-use Rattle.flow_end_to_end.proofs.Shown.{code_first, lines_shown, classes_shown}
 
 -- a class that is there by its text is there
 class_there : (cs : List Class) (r : RawTree) (k : ℕ) (c : ClassTree) → map class_of cs ≡ r.classes → slice_get r.classes k ≡ Some c → slice_get cs k ≡ None → ⊥

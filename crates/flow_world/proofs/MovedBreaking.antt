@@ -1,5 +1,5 @@
 -- An event breaks off, too, where what is written is seen as something else, if each put means the same there.
-use Rattle.std.proofs.Common.{◌⊎◌, inl, inr, ℕ, ap}
+use Rattle.std.proofs.Common.{inl, inr, ℕ, ap}
 use Rattle.std.specs.Prelude.{Bool, true, false, List, [], ◌∷◌, Result, Ok, Err}
 use Rattle.std.specs.declared.option.Option.{Option}
 use Rattle.std.specs.declared.option.Option.TheVariants.{None, Some}

@@ -1,7 +1,6 @@
 -- The trace that a panel hears is the same where what is written is seen as something else, if each line that is put is put there
 -- too.
-use Rattle.std.proofs.Common.{Bool, ℕ, ap}
-use Rattle.std.specs.declared.option.Option.{Option}
+use Rattle.std.proofs.Common.{Bool, ap}
 use Rattle.std.specs.Prelude.{Result, Ok, Err}
 use Rattle.flow_base.specs.declared.fault.OutFault.{OutFault}
 use Rattle.flow_trace.specs.declared.line.Line.{Line}

@@ -1,6 +1,6 @@
 -- What a process and its host do is what they do where the host is seen as something else that shows the same, and has written
 -- these lines where the host has.
-use Rattle.std.proofs.Common.{◌≡◌, ◌⊎◌, inl, inr, ℕ, ap, subst}
+use Rattle.std.proofs.Common.{◌≡◌, inl, inr, ℕ, ap, subst}
 use Rattle.std.specs.Prelude.{◌+◌, ◌^◌, ℤ, ◌-ℤ◌, nat_le, Bool, true, false, List, [], ◌∷◌}
 use Rattle.std.specs.declared.option.Option.{Option}
 use Rattle.std.specs.declared.option.Option.TheVariants.{None, Some}
@@ -10,7 +10,7 @@ use Rattle.flow_trace.specs.declared.line.Line.{Line}
 use Rattle.flow_code.specs.declared.program.Code.{Code}
 use Rattle.flow_eval.specs.Predefined.{natural}
 use Rattle.flow_numbered.specs.Numbered.{Numbered}
-use Rattle.flow_meaning.specs.Requests.{DiskCall, Request, Drew, Packet}
+use Rattle.flow_meaning.specs.Requests.{DiskCall, Request, Drew}
 use Rattle.flow_meaning.specs.Burst.{Host}
 use Rattle.flow_meaning.specs.Effects.{between, is_port, judged}
 use Rattle.flow_steps.specs.declared.call.Call.{Call}
@@ -25,7 +25,7 @@ use Rattle.flow_machine.specs.Hosting.{Serves}
 use Rattle.flow_machine.specs.Serving.{Thrown, DrawServed, DelayServed, DiskServed, PortOpened, ListenServed, SendServed, Served, ServedIf, may_send}
 use Rattle.flow_machine.specs.Bursts.{Bursts, rests, runs_out, asks, MainBursts}
 use Rattle.flow_machine.specs.declared.host.RunFault.{RunFault}
-use Rattle.flow_machine.specs.Breaking.{DrawBroke, SendBroke, Unwritten, ServingBroke, ServingBrokeIf, BreaksOff, no_memory, gets_stuck, serving, further}
+use Rattle.flow_machine.specs.Breaking.{DrawBroke, SendBroke, Unwritten, ServingBrokeIf, BreaksOff, no_memory, gets_stuck, serving, further}
 use Rattle.flow_machine.specs.Breaking.{MainBreaksOff, uncalled, main_stuck, untold, called, BringingBreaksOff, unbrought, bringing_stuck, is_brought}
 use Rattle.flow_world.specs.declared.action.EventAction.{EventAction}
 use Rattle.flow_world.specs.declared.action.EventAction.TheVariants.{Boots, Stops, Delivers, Brings}

@@ -25,7 +25,7 @@ use Rattle.flow_world.specs.declared.outside.What.TheVariants as kept
 use Rattle.flow_world.specs.Changes.{Surroundings, with_pending, with_word, next_delay, fate_of, letter, sent_by}
 use Rattle.flow_world.specs.Laws.{fate_lines, with_arrival, packet_sent, packet_lines, disk_asked}
 use Rattle.flow_world.specs.Ports.{PortsRepresent}
-use Rattle.flow_world.specs.Around.{SurroundingsRepresent, Puts, no_line, more_lines, PutsPart, no_more, put_then, put_fails}
+use Rattle.flow_world.specs.Around.{SurroundingsRepresent, Puts, no_line, more_lines, PutsPart, put_then, put_fails}
 use Rattle.flow_world.proofs.Requests.{word_drawn, timer_asked, packet_is_sent, disk_is_asked}
 
 -- the process of the event stays the same

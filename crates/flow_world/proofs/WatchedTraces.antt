@@ -11,7 +11,7 @@ use Rattle.flow_world.specs.declared.ending.Ending.TheVariants.{Idle, Bound, Spe
 use Rattle.flow_world.specs.declared.event.Event.TheVariants.{Ran, Stopped}
 use Rattle.flow_world.specs.declared.event.Event.{Event}
 use Rattle.flow_machine.specs.declared.host.RunFault.{RunFault}
-use Rattle.flow_machine.specs.declared.host.RunFault.TheVariants.{OutOfMemory, Stuck}
+use Rattle.flow_machine.specs.declared.host.RunFault.TheVariants.{OutOfMemory}
 use Rattle.flow_class.specs.declared.class.RawClasses.{RawClasses}
 use Rattle.flow_worldfile.specs.declared.world.World0.{World0}
 use Rattle.flow_world.specs.Starting.{Starts}

@@ -1,5 +1,5 @@
 use Rattle.std.proofs.Common.{rules, map, subst}
-use Rattle.std.specs.Prelude.{Ok, Err, take, slice_get}
+use Rattle.std.specs.Prelude.{Ok, Err, take}
 use Rattle.flow_trace.specs.declared.line.Line.TheVariants as line
 use Rattle.flow_world.specs.Around.{PutsPart, put_then, put_fails}
 use Rattle.flow_world.specs.Tracing.{own_count, callback_line, frame_line, own_lines}

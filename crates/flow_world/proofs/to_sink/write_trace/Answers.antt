@@ -1,4 +1,4 @@
-use Rattle.std.proofs.Common.{rules, ◌≡◌, refl, sym, ap, subst, ◌∙◌}
+use Rattle.std.proofs.Common.{rules, ◌≡◌, sym, ap, subst, ◌∙◌}
 use Rattle.std.specs.Prelude.{Err, IfErr}
 use Rattle.flow_machine.specs.declared.host.RunFault.TheVariants.{OutOfMemory}
 use Rattle.flow_world.specs.BreakingTraces.{TraceFails}

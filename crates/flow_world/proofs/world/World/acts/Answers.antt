@@ -1,4 +1,4 @@
-use Rattle.std.proofs.Common.{rules, ap, inl, inr, ◌≡◌, refl, sym, ◌∙◌, arith}
+use Rattle.std.proofs.Common.{rules, ap, inl, inr, refl, sym, ◌∙◌, arith}
 use Rattle.std.proofs.lemmas.Result.{IfErr-weaker, IfOk-weaker}
 use Rattle.std.specs.Prelude.{slice_get}
 use Rattle.flow_world.specs.Changes.{seen}

@@ -2,7 +2,6 @@ use Rattle.std.proofs.Common.{rules, ◌≡◌, refl, subst}
 use Rattle.std.specs.Prelude.{Ok, slice_get}
 use Rattle.std.proofs.lemmas.Result.{IfErr-weaker}
 use Rattle.flow_trace.specs.declared.line.Line.TheVariants as line
-use Rattle.flow_simnet.specs.Links.{numbered}
 use Rattle.flow_world.specs.Happening.{HeardIn, arrived, with_net}
 use Rattle.std.specs.declared.option.Option.TheVariants.{None}
 use Rattle.flow_world.specs.Representing.{letter_at}
