@@ -1,5 +1,5 @@
 -- Lines that are put one after another.
-use Rattle.std.proofs.Common.{List, [], ◌∷◌, ◌++◌}
+use Rattle.std.proofs.Common.{◌≡◌, List, [], ◌∷◌, ◌++◌, sym, subst}
 use Rattle.std.specs.Prelude.{Result, Ok, Err, IfErr, OnErr}
 use Rattle.flow_base.specs.declared.fault.OutFault.{OutFault}
 use Rattle.flow_trace.specs.declared.line.Line.{Line}
@@ -8,6 +8,9 @@ use Rattle.flow_world.specs.BreakingEvents.{PutFails}
 use Rattle.flow_machine.specs.declared.host.RunFault.{RunFault}
 
 -- what holds where an answer is a fault
+pub err_is : {T E : Type 0} (P : E → Type 0) (r : Result T E) (z : E) → r ≡ Err z → P z → IfErr r P
+err_is P r z is p = subst (λ x. IfErr x P) (sym is) p
+
 pub on_err : {T E : Type 0} (P : Type 0) (r : Result T E) → P → OnErr r P
 on_err P (Ok x) p = tt
 on_err P (Err f) p = p

@@ -1,5 +1,5 @@
 -- A trace that a panel hears, event after event.
-use Rattle.std.proofs.Common.{ℕ, Bool, refl, subst}
+use Rattle.std.proofs.Common.{◌≡◌, ℕ, Bool, refl, subst}
 use Rattle.std.specs.Prelude.{Result, true, false}
 use Rattle.std.specs.declared.option.Option.{Option}
 use Rattle.std.specs.declared.option.Option.TheVariants.{None}

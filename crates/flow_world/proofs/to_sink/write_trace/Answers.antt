@@ -1,5 +1,4 @@
 use Rattle.std.proofs.Common.{rules, ◌≡◌, sym, ap, subst, ◌∙◌}
-use Rattle.std.specs.Prelude.{Err, IfErr}
 use Rattle.flow_machine.specs.declared.host.RunFault.TheVariants.{OutOfMemory}
 use Rattle.flow_world.specs.BreakingTraces.{TraceFails}
 use Rattle.std.proofs.lemmas.Result.{IfErr-weaker, IfOk-weaker}
@@ -9,7 +8,8 @@ use Rattle.flow_world.specs.Watching.{hearing, watching}
 use Rattle.flow_world.specs.WatchedTraces.{HeardTrace, HeardTracePart}
 use Rattle.flow_world.specs.Written.{put_bytes}
 use Rattle.flow_world.proofs.MovedHeard.{heard_trace_by, heard_part_by, trace_fails_by}
-use Rattle.flow_world.proofs.WatchedTraces.{TraceFailsSo, fails_before}
+use Rattle.flow_world.proofs.Putting.{err_is}
+use Rattle.flow_world.proofs.WatchedTraces.{fails_before}
 use Rattle.flow_world.proofs.to_sink.write_trace.Goals as goal
 
 pub returns-clause-traces : goal.returns-clause-traces
@@ -62,10 +62,7 @@ returns-clause-fails g c =
     ))
     c.put_trace-ending.ensures.fails
 
-pub returns-in_err-buffer-clause-fails : goal.returns-in_err-buffer-clause-fails
-returns-in_err-buffer-clause-fails g c =
-    let is : c.from_residual.result ≡ Err OutOfMemory = search rules in
-    let before = (g.S.Sink.seen c.args.out.now).written in
-    let ears = g.P.Audience.ears c.args.panel.now in
-    subst (λ r. IfErr r (λ f. TraceFailsSo put_bytes c.args.with_frames c.args.classes c.args.world before ears f before ears)) (sym is)
-    (fails_before put_bytes c.args.with_frames c.args.classes c.args.world before ears)
+pub returns-in_err-lines-clause-fails : goal.returns-in_err-lines-clause-fails
+returns-in_err-lines-clause-fails g c =
+    err_is _ _ OutOfMemory (search rules)
+    (fails_before put_bytes c.args.with_frames c.args.classes c.args.world (g.S.Sink.seen c.args.out.now).written (g.P.Audience.ears c.args.panel.now))

@@ -1,12 +1,12 @@
-use Rattle.std.proofs.Common.{rules, ◌≡◌, refl, sym, subst, ◌∙◌}
-use Rattle.std.specs.Prelude.{Ok, Err, None, Some, IfErr}
+use Rattle.std.proofs.Common.{rules, refl, subst, ◌∙◌}
+use Rattle.std.specs.Prelude.{Ok, Err, None, Some}
 use Rattle.flow_base.specs.declared.fault.OutFault.TheVariants.{Failed}
 use Rattle.flow_world.specs.FaultedLines.{telling, whole, failed}
 use Rattle.flow_world.specs.Watching.{watching, hearing}
 use Rattle.flow_world.specs.WatchedTraces.{no_head, in_run, no_end}
 use Rattle.flow_machine.specs.declared.host.RunFault.TheVariants.{OutOfMemory}
 use Rattle.flow_world.specs.BreakingTraces.{head_fails, events_fail, no_name, end_fails}
-use Rattle.flow_world.proofs.WatchedTraces.{FailsFrom}
+use Rattle.flow_world.proofs.Putting.{err_is}
 use Rattle.flow_world.specs.Worlds.{world_seen}
 use Rattle.flow_world.proofs.Telling.{whole_line, failed_line, failed_put}
 use Rattle.flow_world.proofs.Watching.{unheard_line, unheard_told, last_unheard, last_same}
@@ -61,11 +61,9 @@ returns-in_err-put-2-clause-part g c = λ fails classes file starts.
 
 pub returns-in_err-put-clause-fails : goal.returns-in_err-put-clause-fails
 returns-in_err-put-clause-fails g c =
-    let is : c.from_residual.result ≡ Err c.in_err-put.field-0.0 = search rules in
     let fails = c.in_err-put.ensures.fails in
     let ears = g.P.Audience.ears c.args.panel.now in
-    subst (λ r. IfErr r (FailsFrom g.L.LineOut.puts c.args.with_frames (world_seen c.args.world.now) c.args.out.now (g.P.Audience.ears c.args.panel.now) c.put.new.out ears)) (sym is)
-    (λ classes file starts. (
+    err_is _ _ c.in_err-put.field-0.0 (search rules) (λ classes file starts. (
       None,
       Some fails.fault,
       head_fails fails.fault fails.is refl
@@ -74,11 +72,9 @@ returns-in_err-put-clause-fails g c =
 
 pub returns-in_err-ending-clause-fails : goal.returns-in_err-ending-clause-fails
 returns-in_err-ending-clause-fails g c =
-    let is : c.from_residual-in_err-ending.result ≡ Err c.in_err-ending.field-0.0 = search rules in
     let t = c.in_err-ending.ensures.fails in
     let ears = g.P.Audience.ears c.args.panel.now in
-    subst (λ r. IfErr r (FailsFrom g.L.LineOut.puts c.args.with_frames (world_seen c.args.world.now) c.args.out.now (g.P.Audience.ears c.args.panel.now) c.put_events.new.out (g.P.Audience.ears c.put_events.new.panel))) (sym is)
-    (λ classes file starts. (
+    err_is _ _ c.in_err-ending.field-0.0 (search rules) (λ classes file starts. (
       t.0,
       t.1,
       events_fail (world_seen c.args.world.now) (watching c.put.new.out ears) starts (unheard_line g.L.LineOut.puts _ _ _ _ _ refl c.in_ok-put.ensures.puts) t.2,
@@ -86,12 +82,10 @@ returns-in_err-ending-clause-fails g c =
 
 pub returns-in_err-line-clause-fails : goal.returns-in_err-line-clause-fails
 returns-in_err-line-clause-fails g c =
-    let is : c.from_residual-in_err-line.result ≡ Err OutOfMemory = search rules in
     let ears = g.P.Audience.ears c.args.panel.now in
     let others = g.P.Audience.ears c.put_events.new.panel in
     let goes = c.in_ok-ending.ensures.goes in
-    subst (λ r. IfErr r (FailsFrom g.L.LineOut.puts c.args.with_frames (world_seen c.args.world.now) c.args.out.now (g.P.Audience.ears c.args.panel.now) c.put_events.new.out others)) (sym is)
-    (λ classes file starts. (
+    err_is _ _ OutOfMemory (search rules) (λ classes file starts. (
       goes.0,
       None,
       no_name c.in_ok-ending.ending (world_seen c.args.world.now) (watching c.put.new.out ears) (hearing c.put_events.new.out others goes.0) refl refl starts
@@ -100,14 +94,12 @@ returns-in_err-line-clause-fails g c =
 
 pub returns-in_err-put-2-clause-fails : goal.returns-in_err-put-2-clause-fails
 returns-in_err-put-2-clause-fails g c =
-    let is : c.from_residual-in_err-put-2.result ≡ Err c.in_err-put-2.field-0.0 = search rules in
     let fails = c.in_err-put-2.ensures.fails in
     let ears = g.P.Audience.ears c.args.panel.now in
     let others = g.P.Audience.ears c.put_events.new.panel in
     let same = c.in_ok-line.ensures ∙ last_same ears others c.in_ok-ending.ending c.put_events.ensures.names in
     let stop = c.in_ok-ending.ensures.goes.0 in
-    subst (λ r. IfErr r (FailsFrom g.L.LineOut.puts c.args.with_frames (world_seen c.args.world.now) c.args.out.now (g.P.Audience.ears c.args.panel.now) c.put-2.new.out others)) (sym is)
-    (λ classes file starts. (
+    err_is _ _ c.in_err-put-2.field-0.0 (search rules) (λ classes file starts. (
       stop,
       Some fails.fault,
       end_fails fails.fault c.in_ok-ending.ending fails.is refl (record {

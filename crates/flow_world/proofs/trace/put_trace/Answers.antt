@@ -1,8 +1,8 @@
-use Rattle.std.proofs.Common.{rules, ◌≡◌, sym, subst}
-use Rattle.std.specs.Prelude.{Err, IfErr}
+use Rattle.std.proofs.Common.{rules}
 use Rattle.std.proofs.lemmas.Result.{IfErr-weaker, IfOk-weaker}
 use Rattle.flow_machine.specs.declared.host.RunFault.TheVariants.{OutOfMemory}
-use Rattle.flow_world.proofs.WatchedTraces.{TraceFailsSo, fails_before}
+use Rattle.flow_world.proofs.Putting.{err_is}
+use Rattle.flow_world.proofs.WatchedTraces.{fails_before}
 use Rattle.flow_world.proofs.trace.put_trace.Goals as goal
 
 pub returns-clause-traces : goal.returns-clause-traces
@@ -17,7 +17,4 @@ returns-clause-fails g c = IfErr-weaker c.put_lines.result _ _ (λ f fails. fail
 
 pub returns-in_err-world-clause-fails : goal.returns-in_err-world-clause-fails
 returns-in_err-world-clause-fails g c =
-    let is : c.from_residual.result ≡ Err OutOfMemory = search rules in
-    let ears = g.P.Audience.ears c.args.panel.now in
-    subst (λ r. IfErr r (λ f. TraceFailsSo g.L.LineOut.puts c.args.with_frames c.args.classes c.args.world c.args.out.now ears f c.args.out.now ears)) (sym is)
-    (fails_before g.L.LineOut.puts c.args.with_frames c.args.classes c.args.world c.args.out.now ears)
+    err_is _ _ OutOfMemory (search rules) (fails_before g.L.LineOut.puts c.args.with_frames c.args.classes c.args.world c.args.out.now (g.P.Audience.ears c.args.panel.now))
