@@ -88,7 +88,8 @@ comma_turns = record {
       );
 }
   where
-    of : (w z : List Marked) (b : ExprTrees) (p : Place) (of : List Marked) → MoreArgsRule 1 of b → AllAreFree b → w ≡ of ++ sign_at sign.CloseRound p ∷ [] → Looks (Some (token.Sign sign.Comma)) (w ++ z)
+    of : (w z : List Marked) (b : ExprTrees) (p : Place) (of : List Marked) → MoreArgsRule 1 of b → AllAreFree b → w ≡ of ++ sign_at sign.CloseRound p ∷ []
+        → Looks (Some (token.Sign sign.Comma)) (w ++ z)
         → Back MoreArgs Any (Behind (token.Sign sign.Comma) (Both WholeRule MoreArgs)) Any (λ x. MoreExprs x.0 x.1) w z b
     of w z b p k end_args h e l = absurd (let q = looks_is (Some (token.Sign sign.Comma)) (sign_at sign.CloseRound p) [] z e l in cc)
     of w z b p k (more_args {t = t} {ts = ts} q next more r s f) h e l = record {

@@ -5,7 +5,8 @@ use Rattle.flow_classread.proofs.TextReads.{rest_init, record_fails, record_read
 use Rattle.flow_classread.proofs.text.rest.Goals as goal
 
 pub items-init : goal.items-init
-items-init c = (omega arith, c.requires.within, rest_init c.args.tokens.now c.args.at c.requires.within c.new-records.result.items c.new-functions.result.items c.new-records.ensures.items c.new-functions.ensures.items)
+items-init c =
+    (omega arith, c.requires.within, rest_init c.args.tokens.now c.args.at c.requires.within c.new-records.result.items c.new-functions.result.items c.new-records.ensures.items c.new-functions.ensures.items)
 
 pub items-preserved-then-is_word : goal.items-preserved-then-is_word
 items-preserved-then-is_word c =
