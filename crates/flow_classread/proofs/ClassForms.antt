@@ -97,7 +97,13 @@ local_turns n o h = record {
     of w z b (local p q r inner k ht e) = record {
       tree = (q, b);
       rule =
-          record { first = said (codes "local") p ∷ number_at n q ∷ []; rest = inner ++ sign_at sign.Semicolon r ∷ []; is = e; front = (p, number_at n q ∷ [], refl, refl); back = (r, inner, ht, refl) };
+          record {
+            first = said (codes "local") p ∷ number_at n q ∷ [];
+            rest = inner ++ sign_at sign.Semicolon r ∷ [];
+            is = e;
+            front = (p, number_at n q ∷ [], refl, refl);
+            back = (r, inner, ht, refl);
+          };
       is = refl;
       follows = tt;
     }
@@ -128,7 +134,8 @@ blocks_turns o = record { back = λ w z b r f l. of w z b r.0 f r.1; forth = λ 
         record { tree = (x, xs); rule = record { first = first; rest = rest; is = e; front = r; back = s }; is = refl; follows = not_before (token.Name (codes "block")) b xs z f }
 
 module _ (t : Tokens) (at : ℕ) (within : at ≤ length t.spots.items) where
-  pub blocks_left : Leaves OF_CLASS_TEXT Blocks (NotBefore (token.Name (codes "block"))) (Both (BlockRule 0) (NumberedRule BlockRule 1)) (λ x. NotFirst (IsWord (codes "block")) x.1) (λ x. x.0 ∷ x.1) t.spots.items at at
+  pub blocks_left : Leaves OF_CLASS_TEXT Blocks (NotBefore (token.Name (codes "block"))) (Both (BlockRule 0) (NumberedRule BlockRule 1)) (λ x. NotFirst (IsWord (codes "block")) x.1) (λ x. x.0 ∷ x.1)
+      t.spots.items at at
   blocks_left = narrow OF_CLASS_TEXT t.spots.items refl (blocks_turns (token_at t.spots.items at)) (nothing OF_CLASS_TEXT t.spots.items Blocks (NotBefore (token.Name (codes "block"))) at within)
 
   pub first_block : Link (BlockRule 0) Any (λ b. NumberedRule BlockRule 1) (λ x. NotFirst (IsWord (codes "block")) x.1)
@@ -300,7 +307,8 @@ class_turns o = record {
       let h = g.back in
       let i = h.back in
       let j = i.back in
-      class_of_blocks x.0.name x.1.0 x.1.1.0 x.1.1.1.0 x.1.1.1.1.0 x.1.1.1.1.1.0 x.1.1.1.1.1.1 r.0 x.0.at b.0 d.0 e.front.0 f.0 j.0 c.first g.first h.first i.first j.1 c.front e.front.1 g.front h.front
+      class_of_blocks x.0.name x.1.0 x.1.1.0 x.1.1.1.0 x.1.1.1.1.0 x.1.1.1.1.1.0 x.1.1.1.1.1.1 r.0 x.0.at b.0 d.0 e.front.0 f.0 j.0 c.first g.first h.first i.first j.1 c.front e.front.1 g.front
+      h.front
       i.front.0 i.front.1 j.2
       (then_same r.3 (one_then a.is a.front (then_same b.3 (part_then c.first c.is (then_same d.3 (one_then e.is e.front.2 (then_same f.3
       (part_then g.first g.is (part_then h.first h.is (part_then i.first i.is j.3))))))))));
@@ -346,7 +354,14 @@ class_turns o = record {
                           is = refl;
                           front = hs;
                           back =
-                              record { first = locals; rest = blocks ++ end; is = refl; front = hl; back = record { first = blocks; rest = end; is = refl; front = (omega arith, hb); back = (k, groups, hg, refl) } };
+                              record {
+                                first = locals;
+                                rest = blocks ++ end;
+                                is = refl;
+                                front = hl;
+                                back = record
+                                    { first = blocks; rest = end; is = refl; front = (omega arith, hb); back = (k, groups, hg, refl) };
+                              };
                         },
                         refl,
                       );

@@ -45,7 +45,8 @@ none_turns = record { back = λ w z b r f l. of w z b r.0 r.1 r.2.0 r.3 l; forth
     of w z b p k no_args e l = record { tree = p; rule = e; is = refl; follows = tt }
     of w z b p k (some_args first more r s f) e l =
         absurd (opens_expr (more ++ (sign_at sign.CloseRound p ∷ z)) r (subst (Looks (Some (token.Sign sign.CloseRound)))
-        (ap (λ y. y ++ z) (e ∙ ap (λ y. y ++ sign_at sign.CloseRound p ∷ []) f) ∙ append_assoc (first ++ more) (sign_at sign.CloseRound p ∷ []) z ∙ append_assoc first more (sign_at sign.CloseRound p ∷ z)) l))
+        (ap (λ y. y ++ z) (e ∙ ap (λ y. y ++ sign_at sign.CloseRound p ∷ []) f) ∙ append_assoc (first ++ more) (sign_at sign.CloseRound p ∷ []) z ∙ append_assoc first more
+        (sign_at sign.CloseRound p ∷ z)) l))
 
 pub first_turns : (o : Option Token) → (o ≡ Some (token.Sign sign.CloseRound) → ⊥) → Turns Args Any (Both WholeRule MoreArgs) Any (λ x. MoreExprs x.0 x.1) o
 first_turns o nope = record {

@@ -178,7 +178,8 @@ close_turns room k = record { back = λ w z b r f l. of w z b r.1.0 r.1.1 r.1.2 
     of w z b p j (next first rest r s f) e l =
         let x = starts_of first (rest ++ (sign_at sign.CloseCurly p ∷ z)) (callback_starts r)
         (subst (Looks (Some (token.Sign sign.CloseCurly)))
-        (ap (λ y. y ++ z) (e ∙ ap (λ y. y ++ sign_at sign.CloseCurly p ∷ []) f) ∙ append_assoc (first ++ rest) (sign_at sign.CloseCurly p ∷ []) z ∙ append_assoc first rest (sign_at sign.CloseCurly p ∷ z)) l) in
+        (ap (λ y. y ++ z) (e ∙ ap (λ y. y ++ sign_at sign.CloseCurly p ∷ []) f) ∙ append_assoc (first ++ rest) (sign_at sign.CloseCurly p ∷ []) z ∙ append_assoc first rest
+        (sign_at sign.CloseCurly p ∷ z)) l) in
         absurd (cc)
       where
         starts_of : (w z : List Marked) → Starts (λ t. t ≡ token.Name (codes "callback")) w → Looks (Some (token.Sign sign.CloseCurly)) (w ++ z)
@@ -301,7 +302,8 @@ group_turns g k o = record { back = λ w z b r f l. record { tree = (r.0, b); ru
 
 some_group : (g k : ℕ) → IsNumber k → Inhabited (GroupPart g k)
 some_group g k h =
-    let y = some_both (Numbered (codes "group") g) (Behind (token.Sign sign.OpenCurly) (Callbacks k)) (some_numbered (codes "group") g) (some_behind (token.Sign sign.OpenCurly) (Callbacks k) (some_callbacks k h)) in
+    let y = some_both (Numbered (codes "group") g) (Behind (token.Sign sign.OpenCurly) (Callbacks k)) (some_numbered (codes "group") g)
+    (some_behind (token.Sign sign.OpenCurly) (Callbacks k) (some_callbacks k h)) in
     record { marked = y.marked; tree = y.tree.1; rule = (y.tree.0, y.rule) }
 
 -- groups one after another
@@ -336,7 +338,8 @@ groups_turns g k h = record {
     of_group w (c ∷ cs) rest q p r s of more lt le ns gs e = more_groups p q r s of more h le ns gs e
 
     of : (w z : List Marked) (b : List (List CallbackTree)) → NotBefore (token.Name (codes "group")) b z → Looks (Some (token.Name (codes "group"))) (w ++ z) → GroupsRule g k w b
-        → Back (GroupsRule g k) (NotBefore (token.Name (codes "group"))) (Then (GroupPart g k) (λ cs. GroupsRule (suc g) (k + length cs))) (λ x. NotBefore (token.Name (codes "group")) x.1) (λ x. x.0 ∷ x.1)
+        → Back (GroupsRule g k) (NotBefore (token.Name (codes "group"))) (Then (GroupPart g k) (λ cs. GroupsRule (suc g) (k + length cs))) (λ x. NotBefore (token.Name (codes "group")) x.1)
+        (λ x. x.0 ∷ x.1)
         w z b
     of w z b f l no_groups = absurd (not_here (token.Name (codes "group")) b z f l)
     of w z b f l (more_groups {c} {cs} {rest} p q r s inner more hg le ns gs e) =
@@ -379,9 +382,11 @@ module _ (t : Tokens) where
         → Leaves OF_CLASS_TEXT (GroupsRule 1 0) (NotBefore (token.Name (codes "group"))) (GroupsRule g2 k2) (NotBefore (token.Name (codes "group"))) (λ ys. map group_of hs ++ ys) t.spots.items from to
     group_reads to g2 k2 hs x e f h q r =
         let n : k + length (map callback_of x.callbacks.items) ≡ k2 = ap (λ m. k + m) (length-map x.callbacks.items callback_of) ∙ sym h in
-        subst (λ i. Leaves OF_CLASS_TEXT (GroupsRule 1 0) (NotBefore (token.Name (codes "group"))) (GroupsRule i k2) (NotBefore (token.Name (codes "group"))) (λ ys. map group_of hs ++ ys) t.spots.items from to)
+        subst (λ i. Leaves OF_CLASS_TEXT (GroupsRule 1 0) (NotBefore (token.Name (codes "group"))) (GroupsRule i k2) (NotBefore (token.Name (codes "group"))) (λ ys. map group_of hs ++ ys)
+        t.spots.items from to)
         (sym f)
-        (subst (λ i. Leaves OF_CLASS_TEXT (GroupsRule 1 0) (NotBefore (token.Name (codes "group"))) (GroupsRule (suc g) i) (NotBefore (token.Name (codes "group"))) (λ ys. map group_of hs ++ ys) t.spots.items from to)
+        (subst (λ i. Leaves OF_CLASS_TEXT (GroupsRule 1 0) (NotBefore (token.Name (codes "group"))) (GroupsRule (suc g) i) (NotBefore (token.Name (codes "group"))) (λ ys. map group_of hs ++ ys)
+        t.spots.items from to)
         n (means OF_CLASS_TEXT t.spots.items (λ ys. map group_of hs ++ ys) (λ ys. push group_of gs x ys ∙ ap (λ z. map group_of z ++ ys) (sym q))
         (then_reads OF_CLASS_TEXT t.spots.items (groups_link g k) (groups_left e) r)))
 

@@ -139,7 +139,8 @@ function_first (function_rule of d) = starts_begin TypeToken of (function_starts
 classes_first : {w : List Marked} {cs : List ClassTree} → ClassesRule w cs → (w ≡ []) ⊎ Starts (λ t. t ≡ token.Name (codes "class")) w
 classes_first no_classes = inl refl
 classes_first (more_classes first rest (class p q r s u v k of slots locals blocks groups ht hp hs hl hb hg e) cs f) =
-    inr (subst (Starts (λ t. t ≡ token.Name (codes "class"))) (sym f) (starts_append (λ t. t ≡ token.Name (codes "class")) first rest (subst (Starts (λ t. t ≡ token.Name (codes "class"))) (sym e) refl)))
+    inr (subst (Starts (λ t. t ≡ token.Name (codes "class"))) (sym f)
+    (starts_append (λ t. t ≡ token.Name (codes "class")) first rest (subst (Starts (λ t. t ≡ token.Name (codes "class"))) (sym e) refl)))
 
 record_marks : {w : List Marked} {r : RecordTree} → RecordRule w r → Marks (Node 1) Record w r
 record_marks (record_rule of d) = (of, d, refl)
@@ -168,12 +169,26 @@ FunctionThings = Both (Marks (Node 1) Function) Things
 record_things : (w : List Marked) (y : RecordTree × TextTree) → RecordThings w y → Things w (with_record y)
 record_things w y r =
     let b = r.back in
-    record { first = r.first ++ b.first; rest = b.rest; is = r.is ∙ ap (λ k. r.first ++ k) b.is ∙ sym (append_assoc r.first b.first b.rest); front = more_records r.first b.first (marks_record r.first y.0 r.front) b.front refl; back = b.back }
+    record {
+      first = r.first ++ b.first;
+      rest = b.rest;
+      is = r.is ∙ ap (λ k. r.first ++ k) b.is ∙ sym (append_assoc r.first b.first b.rest);
+      front = more_records r.first b.first
+          (marks_record r.first y.0 r.front) b.front refl;
+      back = b.back;
+    }
 
 function_things : (w : List Marked) (y : RoutineTree × TextTree) → FunctionThings w y → Things w (with_function y)
 function_things w y r =
     let b = r.back in
-    record { first = r.first ++ b.first; rest = b.rest; is = r.is ∙ ap (λ k. r.first ++ k) b.is ∙ sym (append_assoc r.first b.first b.rest); front = more_functions r.first b.first (marks_function r.first y.0 r.front) b.front refl; back = b.back }
+    record {
+      first = r.first ++ b.first;
+      rest = b.rest;
+      is = r.is ∙ ap (λ k. r.first ++ k) b.is ∙ sym (append_assoc r.first b.first b.rest);
+      front = more_functions r.first b.first
+          (marks_function r.first y.0 r.front) b.front refl;
+      back = b.back;
+    }
 
 -- the ways in which such a text begins
 data Begin (w : List Marked) (b : TextTree) : Type 0 where
@@ -302,7 +317,16 @@ opening_more w rest o = record { one = o.one; two = o.two; three = o.three; more
 
 opening_begin : (w : List Marked) → Opening w → Opening (begin (Node 1) w)
 opening_begin w o =
-    record { one = record { spot = o.one.spot; parts = Node 1 ∷ o.one.parts }; two = o.two; three = o.three; more = o.more; is = ap (begin (Node 1)) o.is; name = o.name; named = o.named; opened = o.opened }
+    record {
+      one = record { spot = o.one.spot; parts = Node 1 ∷ o.one.parts };
+      two = o.two;
+      three = o.three;
+      more = o.more;
+      is = ap (begin (Node 1)) o.is;
+      name = o.name;
+      named = o.named;
+      opened = o.opened;
+    }
 
 abbrev FirstIs : Token → List Marked → Type 0
 FirstIs t w = Starts (λ y. y ≡ t) w
@@ -315,7 +339,16 @@ function_opening m (function_decl at of xs t r e s) h = of_type of xs t r e (sub
   where
     behind : {w : List Marked} (x : Marked) (xs : List Marked) {returns : TypeTree} {f : RoutineTree} → RoutineRule false at returns xs f → w ≡ x ∷ xs → Opening w
     behind x xs (routine p q r close y params body ps b e) g =
-        record { one = x; two = name_at y; three = sign_at sign.OpenRound p; more = params ++ (sign_at sign.CloseRound q ∷ (sign_at sign.OpenCurly r ∷ (body ++ sign_at sign.CloseCurly close ∷ []))); is = g ∙ ap (λ k. x ∷ k) e; name = y.name; named = refl; opened = refl }
+        record {
+          one = x;
+          two = name_at y;
+          three = sign_at sign.OpenRound p;
+          more = params ++ (sign_at sign.CloseRound q ∷ (sign_at sign.OpenCurly r ∷ (body ++ sign_at sign.CloseCurly close ∷ [])));
+          is = g ∙ ap (λ k. x ∷ k) e;
+          name = y.name;
+          named = refl;
+          opened = refl;
+        }
 
     of_type : (of xs : List Marked) {returns : TypeTree} {f : RoutineTree} → TypeRule 1 of returns → RoutineRule false at returns xs f → {w : List Marked} → w ≡ of ++ xs
         → FirstIs (token.Name m) (of ++ xs) → Opening w
@@ -450,11 +483,13 @@ module _ (spots : List Spot) (at : ℕ) (here : token_at spots at ≡ Some (toke
     where
       two : ((m : List ℕ) → token_at spots (suc at) ≡ Some (token.Name m) → ⊥) → Leaves OF_CLASS_TEXT W FW ClassesRule AtEnd (λ cs. g (([], []), cs)) spots from at
       two f =
-          narrow_far spots 2 (class_back 2 (λ n j w z o le s. f o.name (second_is n j w z o le s)) (omega arith)) (λ w cs r. record { first = []; rest = w; is = refl; front = no_heads; back = r }) early_class l
+          narrow_far spots 2 (class_back 2 (λ n j w z o le s. f o.name (second_is n j w z o le s)) (omega arith)) (λ w cs r. record { first = []; rest = w; is = refl; front = no_heads; back = r })
+          early_class l
 
       of : (o : Option Token) → token_at spots (suc at) ≡ o → Leaves OF_CLASS_TEXT W FW ClassesRule AtEnd (λ cs. g (([], []), cs)) spots from at
       of (Some (token.Name m)) e = narrow_far spots 3
-          (class_back 3 (λ n j w z o le s. nope (subst (AsFirst NameToken) (sym e) tt) (third_is n j w z o le s)) (omega arith)) (λ w cs r. record { first = []; rest = w; is = refl; front = no_heads; back = r })
+          (class_back 3 (λ n j w z o le s. nope (subst (AsFirst NameToken) (sym e) tt) (third_is n j w z o le s)) (omega arith))
+          (λ w cs r. record { first = []; rest = w; is = refl; front = no_heads; back = r })
           (early_named m e) l
       of None e = two (λ m f. let g : None ≡ Some (token.Name m) = sym e ∙ f in cc)
       of (Some (token.Number k)) e = two (λ m f. let g : Some (token.Number k) ≡ Some (token.Name m) = sym e ∙ f in cc)
@@ -469,7 +504,8 @@ module _ (spots : List Spot) (at : ℕ) (here : token_at spots at ≡ Some (toke
       let c : Ident = record { name = codes "class"; at = p } in (
         m,
         record { at = p; returns = NamedType (codes "class"); name = x; params = []; body = End; close = nowhere },
-        function_rule (node_name 1 c ∷ name_at x ∷ m) (function_decl p (node_name 1 c ∷ []) (name_at x ∷ m) (named_type c) (routine nowhere nowhere nowhere nowhere x [] [] no_params no_stmts refl) refl refl),
+        function_rule (node_name 1 c ∷ name_at x ∷ m) (function_decl p (node_name 1 c ∷ []) (name_at x ∷ m) (named_type c) (routine nowhere nowhere nowhere nowhere x [] [] no_params no_stmts refl)
+            refl refl),
       )
 
   function_whole : (p : Place) (x : Ident) → (m : List Marked) × (y : RoutineTree × TextTree) × FunctionThings (opens (Node 1 ∷ Node 1 ∷ []) (token.Name (codes "class")) p ∷ name_at x ∷ m) y

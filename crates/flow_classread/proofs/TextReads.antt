@@ -140,7 +140,8 @@ module _ (t : Tokens) (from : ℕ) (within : from ≤ length t.spots.items) wher
     pub rest_done : (length t.spots.items ≤ at) ⊎ BeginsClass t.spots.items at → (cs : List ClassTree) (to : ℕ) → Reads OF_CLASS_TEXT ClassesRule AtEnd t.spots.items at cs to
         → Reads OF_CLASS_TEXT Rest AtEnd t.spots.items from (record { records = map record_of rs; functions = map function_of fs; classes = cs }) to
     rest_done h cs to r = subst (λ z. Reads OF_CLASS_TEXT Rest AtEnd t.spots.items from z to)
-        (ap (λ z. record { records = z; functions = map function_of fs ++ []; classes = cs }) (append-nil (map record_of rs)) ∙ ap (λ z. record { records = map record_of rs; functions = z; classes = cs }) (append-nil (map function_of fs)))
+        (ap (λ z. record { records = z; functions = map function_of fs ++ []; classes = cs }) (append-nil (map record_of rs)) ∙ ap
+        (λ z. record { records = map record_of rs; functions = z; classes = cs }) (append-nil (map function_of fs)))
         (done OF_CLASS_TEXT t.spots.items (classes_left h) r)
 
 -- "classes" "1" and the rest

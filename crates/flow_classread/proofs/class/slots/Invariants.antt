@@ -12,7 +12,8 @@ use Rattle.flow_classread.proofs.class.slots.Given as goal
 
 abbrev pub invariant-items : goal.invariant-items
 invariant-items l =
-    (l.fn.at ≤ l.at) × (l.at ≤ length l.tokens.spots.items) × (l.n ≤ l.at) × Leaves OF_CLASS_TEXT (NumberedRule SlotRule 0) (NotBefore (token.Name (codes "slot"))) (NumberedRule SlotRule l.n) (NotFirst (IsWord (codes "slot"))) (λ ys. map slot_of l.slots.items ++ ys) l.tokens.spots.items l.fn.at l.at
+    (l.fn.at ≤ l.at) × (l.at ≤ length l.tokens.spots.items) × (l.n ≤ l.at) × Leaves OF_CLASS_TEXT (NumberedRule SlotRule 0) (NotBefore (token.Name (codes "slot"))) (NumberedRule SlotRule l.n)
+    (NotFirst (IsWord (codes "slot"))) (λ ys. map slot_of l.slots.items ++ ys) l.tokens.spots.items l.fn.at l.at
 
 abbrev pub decreases-items : goal.decreases-items
 decreases-items l = length l.tokens.spots.items - l.at

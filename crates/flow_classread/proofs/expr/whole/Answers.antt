@@ -7,7 +7,8 @@ returns-in_default-clause-reads c = whole_memory c.args.tokens.now c.args.at c.r
 
 pub returns-in-Some-first_stray-clause-reads : goal.returns-in-Some-first_stray-clause-reads
 returns-in-Some-first_stray-clause-reads c =
-    rw c.refused.ensures (whole_stray c.args.tokens.now c.args.at c.requires.within c.requires.rising c.in-Some.until c.in-Some-first_stray.stray c.in-Some-first_stray.ensures c.expr-read.result c.in-Some.ensures (c.expr-read.ensures.reads OF_CLASS_TEXT))
+    rw c.refused.ensures (whole_stray c.args.tokens.now c.args.at c.requires.within c.requires.rising c.in-Some.until c.in-Some-first_stray.stray c.in-Some-first_stray.ensures c.expr-read.result
+    c.in-Some.ensures (c.expr-read.ensures.reads OF_CLASS_TEXT))
 
 pub returns-in-None-clause-reads : goal.returns-in-None-clause-reads
 returns-in-None-clause-reads c =
