@@ -2,26 +2,30 @@
 
 ghost use Rattle.std.specs.Prelude.{◌≡◌, OnOk};
 ghost use Rattle.std.specs.Io.KnownBytes.{Appends};
-ghost use Rattle.flow_base.specs.Bytes.{AppendsPart};
+ghost use Rattle.flow_base.specs.Bytes.{AppendsPart, Grows};
 ghost use Rattle.flow_base.specs.Faults.{HasCause};
-ghost use Rattle.flow_refusal.specs.Refusal.{refusal_text, world_refusal};
+ghost use Rattle.flow_refusal.specs.Refusal.{refusal_text, class_refusal, world_refusal};
 ghost use Rattle.flow_machine.specs.declared.host.RunFault.TheVariants.{Stuck};
 ghost use Rattle.flow_machine.specs.Cause.{fault_of};
 ghost use Rattle.flow_world.specs.WatchedTraces.{IsEnding};
 ghost use Rattle.flow_world.specs.declared.run_ending.RunEnding.TheVariants.{Own};
-ghost use Rattle.flow_top.specs.Run.{text_of, status_of, world_status, ending_status, fault_status_of, MayRun, MayTell, ReportedTold, ReportedRun, Reported};
+ghost use Rattle.flow_top.specs.Outcomes.{text_of, status_of, world_status, MayRun, MayTell};
+ghost use Rattle.flow_top.specs.Told.{ending_status, run_status, fault_status_of, ReportedTold, ReportedRun, ReportedBench, Reported};
 
-use crate::outcome::{Answered, Outcome, ProgramRun};
+use crate::counting::Counts;
+use crate::outcome::{Answered, BenchRun, Outcome, ProgramRun};
+use crate::summary::summary;
 use flow_base::fault::OutFault;
 use flow_base::output::write_whole;
 use flow_base::sink::Sink;
 use flow_classprint::write_classes;
+use flow_classread::ClassFault;
 use flow_machine::host::RunFault;
-use flow_monitor::Panel;
-use flow_refusal::{refusal_line, refusal_status, world_line};
-use flow_show::show::show_lines;
+use flow_monitor::{Audience, Panel};
+use flow_refusal::{class_line, class_status, refusal_line, refusal_status, world_line};
+use flow_show::show::{show_lines, write_lines};
 use flow_tree::fault::SourceFault;
-use flow_world::{Ending, RunEnding, write_trace};
+use flow_world::{Ending, RunEnding, put_trace, write_trace};
 use flow_worldfile::WorldFault;
 use std::alloc::Global;
 
@@ -34,6 +38,20 @@ fn put_refusal<S: Sink>(alloc: Global, fault: &SourceFault, out: &mut S) -> Resu
     ensures cause { HasCause (S.seen out.old).faults (S.seen out.new).faults result }
 {
     let Ok(line) = refusal_line(alloc, fault) else {
+        return Err(OutFault::OutOfMemory);
+    };
+    write_whole(out, &line)
+}
+
+// Writes the line of a refusal of a class text.
+fn put_class_refusal<S: Sink>(alloc: Global, fault: &ClassFault, out: &mut S) -> Result<(), OutFault>
+    ensures whole { OnOk result (Appends (S.seen out.old).written (S.seen out.new).written
+        (class_refusal fault.now)) }
+    ensures part { AppendsPart (S.seen out.old).written (S.seen out.new).written
+        (class_refusal fault.now) }
+    ensures cause { HasCause (S.seen out.old).faults (S.seen out.new).faults result }
+{
+    let Ok(line) = class_line(alloc, fault) else {
         return Err(OutFault::OutOfMemory);
     };
     write_whole(out, &line)
@@ -65,6 +83,7 @@ fn put<S: Sink>(alloc: Global, outcome: Answered, out: &mut S) -> Result<(), Out
         Answered::ReadFault => write_whole(out, b"read fault\n"),
         Answered::OutOfMemory => Ok(()),
         Answered::Refused(fault) => put_refusal(alloc, &fault, out),
+        Answered::NoClasses(fault) => put_class_refusal(alloc, &fault, out),
         Answered::NoWorld(fault) => put_world_refusal(alloc, fault, out),
         Answered::Passed => write_whole(out, b"ok\n"),
         Answered::Compiled(classes) => write_classes(alloc, classes.raw(), out),
@@ -98,6 +117,7 @@ fn status(outcome: &Answered) -> u8
         Answered::ReadFault => 5,
         Answered::OutOfMemory => 7,
         Answered::Refused(fault) => refusal_status(fault),
+        Answered::NoClasses(fault) => class_status(fault),
         Answered::NoWorld(fault) => world_status(*fault),
     }
 }
@@ -112,8 +132,8 @@ fn fault_status(fault: OutFault) -> u8
     }
 }
 
-// Writes the text of an outcome that is no run and flushes it, and gives the status.
-fn report_told<S: Sink>(alloc: Global, outcome: Answered, out: &mut S) -> u8
+/// Writes the text of an outcome that is no run and flushes it, and gives the status.
+pub fn report_told<S: Sink>(alloc: Global, outcome: Answered, out: &mut S) -> u8
     ensures { ReportedTold outcome (S.seen out.old) (S.seen out.new) result }
 {
     let told = status(&outcome);
@@ -137,7 +157,17 @@ fn ending_status(ending: Ending) -> u8
     }
 }
 
-// The fault of a run that broke off: that of a program's classes never goes astray.
+// The status of a run that monitors heard, by its last line.
+fn run_status(ending: RunEnding) -> u8
+    ensures { result ≡ run_status ending }
+{
+    match ending {
+        RunEnding::Own(own) => ending_status(own),
+        RunEnding::Stopped(_) => 8,
+    }
+}
+
+// The fault of a run that broke off: it never goes astray.
 fn run_fault(fault: RunFault) -> OutFault
     requires { fault ≡ Stuck → ⊥ }
     ensures { fault_of result ≡ fault }
@@ -147,6 +177,27 @@ fn run_fault(fault: RunFault) -> OutFault
         RunFault::OutOfMemory => OutFault::OutOfMemory,
         RunFault::Stuck => unreachable!(),
     }
+}
+
+// Runs classes in the world, writes the lines as they are made and flushes them, and gives the status.
+fn report_run<P: Audience, S: Sink>(alloc: Global, run: ProgramRun, panel: &mut P, out: &mut S) -> u8
+    requires { MayRun run }
+    ensures { ReportedRun run (P.ears panel.old) (S.seen out.old) (S.seen out.new) result }
+{
+    let ProgramRun {
+        meant: _,
+        classes,
+        world,
+        frames,
+    } = run;
+    let ending = match write_trace(alloc, classes, world, frames, panel, out) {
+        Ok(ending) => ending,
+        Err(fault) => return fault_status(run_fault(fault)),
+    };
+    if let Err(fault) = out.flush() {
+        return fault_status(fault);
+    }
+    run_status(ending)
 }
 
 // How a run ends by itself that nobody hears.
@@ -160,36 +211,60 @@ fn own_ending(ending: RunEnding) -> Ending
     }
 }
 
-// Runs the program in the world by its classes, writes the lines as they are made and flushes them, and gives the status.
-fn report_run<S: Sink>(alloc: Global, run: ProgramRun, out: &mut S) -> u8
-    requires { MayRun run }
-    ensures { ReportedRun run (S.seen out.old) (S.seen out.new) result }
+// Runs classes in the world and counts the lines as they are made; none is kept.
+fn count_run(alloc: Global, run: ProgramRun, counts: &mut Counts) -> Result<Ending, NoMemory>
+    requires may { MayRun run }
+    requires none { counts.old ≡ no_counts }
+    ensures { IfOk result (λ ending. IsCounted run ending counts.new) }
 {
     let ProgramRun {
-        program: _,
+        meant: _,
         classes,
         world,
         frames,
     } = run;
     let mut panel = Panel::empty(alloc);
-    let ending = match write_trace(alloc, classes, world, frames, &mut panel, out) {
-        Ok(ending) => own_ending(ending),
-        Err(fault) => return fault_status(run_fault(fault)),
-    };
-    if let Err(fault) = out.flush() {
-        return fault_status(fault);
+    match put_trace(alloc, classes, world, frames, &mut panel, counts) {
+        Ok(ending) => Ok(own_ending(ending)),
+        Err(_) => Err(NoMemory),
     }
-    ending_status(ending)
+}
+
+// Writes a text and flushes it.
+fn write_text<S: Sink>(text: &[u8], out: &mut S) -> Result<(), OutFault>
+{
+    write_lines(out, text)?;
+    out.flush()
+}
+
+// Runs classes in the world, writes the summary and flushes it, and gives the status.
+fn report_bench<S: Sink>(alloc: Global, bench: BenchRun, out: &mut S) -> u8
+    requires { MayRun bench.run }
+    ensures { ReportedBench bench (S.seen out.old) (S.seen out.new) result }
+{
+    let BenchRun { run, clients, seed } = bench;
+    let mut counts = Counts::new();
+    let Ok(ending) = count_run(alloc, run, &mut counts) else {
+        return 7;
+    };
+    let Ok(text) = summary(alloc, clients, seed, counts, ending) else {
+        return 7;
+    };
+    match write_text(&text, out) {
+        Ok(()) => ending_status(ending),
+        Err(fault) => fault_status(fault),
+    }
 }
 
 /// Writes the text of an outcome and flushes it, and gives the status: the outcome's own, or 6 or 7
-/// where the sink failed or there was no memory on the way.
-pub fn report<S: Sink>(alloc: Global, outcome: Outcome, out: &mut S) -> u8
+/// where the sink failed or there was no memory on the way. The panel hears a run.
+pub fn report<P: Audience, S: Sink>(alloc: Global, outcome: Outcome, panel: &mut P, out: &mut S) -> u8
     requires { MayTell outcome }
-    ensures { Reported outcome (S.seen out.old) (S.seen out.new) result }
+    ensures { Reported (P.ears panel.old) outcome (S.seen out.old) (S.seen out.new) result }
 {
     match outcome {
         Outcome::Answered(told) => report_told(alloc, told, out),
-        Outcome::Run(run) => report_run(alloc, run, out),
+        Outcome::Run(run) => report_run(alloc, run, panel, out),
+        Outcome::Bench(bench) => report_bench(alloc, bench, out),
     }
 }
