@@ -20,3 +20,7 @@ pub mod WholeForms
 pub mod WholeReads
 pub mod TextReads
 pub mod Heading
+pub mod RisingTokens
+pub mod Exactly
+pub mod Small
+pub mod Reached

@@ -4,7 +4,9 @@
 pub mod block;
 pub mod class;
 pub mod expr;
+pub mod fault;
 pub mod group;
 pub mod instr;
+pub mod read;
 pub mod text;
 pub mod token;

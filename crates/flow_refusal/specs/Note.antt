@@ -5,9 +5,11 @@ use Rattle.flow_base.specs.declared.place.Place.{Place}
 use Rattle.flow_tree.specs.declared.fault.Rule.TheVariants.{L}
 use Rattle.flow_tree.specs.declared.fault.SourceFault.{SourceFault}
 use Rattle.flow_tree.specs.declared.fault.SourceFault.TheVariants.{Refused, AcrossWait, OutOfMemory}
+use Rattle.flow_classread.specs.declared.fault.ClassFault.{ClassFault}
+use Rattle.flow_classread.specs.declared.fault.ClassFault.TheVariants as class
 use Rattle.flow_worldfile.specs.declared.world.WorldFault.{WorldFault}
 use Rattle.flow_worldfile.specs.declared.world.WorldFault.TheVariants as world
-use Rattle.flow_refusal.specs.Refusal.{place_text, refusal_text, world_refusal}
+use Rattle.flow_refusal.specs.Refusal.{place_text, refusal_text, class_refusal, world_refusal}
 
 -- what stands in a text up to its first line feed, and behind it
 abbrev pub first_feed : List ℕ → ℕ
@@ -64,6 +66,13 @@ program_note words name text (AcrossWait at declared wait) =
     remark name text at words ++ remark name text declared (codes "declared here") ++ remark name text wait (codes "the wait")
 program_note words name text OutOfMemory = []
 
+-- the note on a class text: the line with which none goes on, or words on the whole of it
+abbrev pub class_note : (words name text : List ℕ) → ClassFault → List ℕ
+class_note words name text (class.Form line) = line_remark name text line words
+class_note words name text (class.Invalid rule of) = overall name words
+class_note words name text class.TooLarge = overall name words
+class_note words name text class.OutOfMemory = []
+
 -- the note on a world file: the line that breaks a rule
 abbrev pub world_note : (words name text : List ℕ) → WorldFault → List ℕ
 world_note words name text (world.Form line) = line_remark name text line words
@@ -73,11 +82,13 @@ world_note words name text (world.NoProcess line) = line_remark name text line w
 world_note words name text world.TooLarge = overall name words
 world_note words name text world.OutOfMemory = []
 
--- What may be noted on a line that was answered, where the program has this name and text, and the world that: the places
+-- What may be noted on a line that was answered, where the program or class text has this name and text, and the world that: the places
 -- shown are those that the line tells, and nothing is noted on a line that tells of no fault.
 pub data Notes : (answer : List ℕ) → (name text : List ℕ) → (world world_text : List ℕ) → (note : List ℕ) → Type 0 where
   on_program : {answer name text world world_text note : List ℕ} (words : List ℕ) (fault : SourceFault)
       → answer ≡ refusal_text fault → note ≡ program_note words name text fault → Notes answer name text world world_text note
+  on_class : {answer name text world world_text note : List ℕ} (words : List ℕ) (fault : ClassFault)
+      → answer ≡ class_refusal fault → note ≡ class_note words name text fault → Notes answer name text world world_text note
   on_world : {answer name text world world_text note : List ℕ} (words : List ℕ) (fault : WorldFault)
       → answer ≡ world_refusal fault → note ≡ world_note words world world_text fault → Notes answer name text world world_text note
   on_words : {answer name text world world_text note : List ℕ} → answer ≡ codes "usage\n" → Notes answer name text world world_text note

@@ -1,10 +1,14 @@
--- The line that tells why a program text or a world file is refused, and the status.
+-- The line that tells why a program text, a class text or a world file is refused, and the status.
 use Rattle.std.specs.Prelude.{ℕ, List, [], ◌++◌, ◌==◌, codes, decimal, if◌then◌else◌}
+use Rattle.std.specs.declared.option.Option.{Option}
+use Rattle.std.specs.declared.option.Option.TheVariants.{None, Some}
 use Rattle.flow_base.specs.declared.place.Place.{Place}
 use Rattle.flow_tree.specs.declared.fault.Rule.{Rule}
 use Rattle.flow_tree.specs.declared.fault.Rule.TheVariants.{S, L, K}
 use Rattle.flow_tree.specs.declared.fault.SourceFault.{SourceFault}
 use Rattle.flow_tree.specs.declared.fault.SourceFault.TheVariants.{Refused, AcrossWait, OutOfMemory}
+use Rattle.flow_classread.specs.declared.fault.ClassFault.{ClassFault}
+use Rattle.flow_classread.specs.declared.fault.ClassFault.TheVariants as class
 use Rattle.flow_worldfile.specs.Faults.{fault_text}
 use Rattle.flow_worldfile.specs.declared.world.WorldFault.{WorldFault}
 
@@ -42,3 +46,22 @@ refusal_status OutOfMemory = 7
 -- the line of a refusal of a world file
 abbrev pub world_refusal : WorldFault → List ℕ
 world_refusal fault = codes "refused " ++ (fault_text fault ++ codes "\n")
+
+-- the class that breaks a rule, where it is one
+abbrev pub in_class : Option (List ℕ) → List ℕ
+in_class None = []
+in_class (Some name) = codes " in " ++ name
+
+-- the line of a refusal of a class text; want of memory tells nothing
+abbrev pub class_refusal : ClassFault → List ℕ
+class_refusal (class.Form line) = codes "refused C1 at line " ++ decimal line ++ codes "\n"
+class_refusal (class.Invalid rule name) = codes "refused C2 V" ++ decimal rule ++ in_class name ++ codes "\n"
+class_refusal class.TooLarge = codes "refused L11\n"
+class_refusal class.OutOfMemory = []
+
+-- its status: 10 where the limit on bytes is passed, 9 for another rule, 7 for want of memory
+abbrev pub class_status : ClassFault → ℕ
+class_status (class.Form line) = 9
+class_status (class.Invalid rule name) = 9
+class_status class.TooLarge = 10
+class_status class.OutOfMemory = 7

@@ -32,8 +32,8 @@ fn first_feed(text: &[u8]) -> usize
     }
 }
 
-// The bytes of a text from so many on, or none.
-fn from(text: &[u8], start: usize) -> &[u8]
+/// The bytes of a text from so many on, or none.
+pub fn from(text: &[u8], start: usize) -> &[u8]
     ensures { result.now ≡ drop start text.now }
 {
     if start > text.len() {
@@ -42,8 +42,8 @@ fn from(text: &[u8], start: usize) -> &[u8]
     &text[start..]
 }
 
-// The first so many bytes of a text, or all.
-fn first(text: &[u8], count: usize) -> &[u8]
+/// The first so many bytes of a text, or all.
+pub fn first(text: &[u8], count: usize) -> &[u8]
     ensures { result.now ≡ take count text.now }
 {
     if count > text.len() {

@@ -1,11 +1,15 @@
 // The fault that a line tells.
 
 ghost use Rattle.std.specs.Prelude.{◌≡◌, IfOk, IfSome};
-ghost use Rattle.flow_refusal.specs.Refusal.{refusal_text, world_refusal};
+ghost use Rattle.flow_refusal.specs.Refusal.{refusal_text, class_refusal, world_refusal};
 
+use crate::class::class_line;
+use crate::excerpt::{first, from};
 use crate::line::{refusal_line, world_line};
 use flow_base::memory::NoMemory;
+use flow_base::name::{Name, is_name};
 use flow_base::place::Place;
+use flow_classread::fault::ClassFault;
 use flow_tree::fault::{Rule, SourceFault};
 use flow_worldfile::WorldFault;
 use std::alloc::Global;
@@ -85,6 +89,51 @@ pub fn read_refusal(alloc: Global, line: &[u8]) -> Result<Option<SourceFault>, N
         return Ok(None);
     };
     let again = refusal_line(alloc, &fault)?;
+    if again.as_slice() != line {
+        return Ok(None);
+    }
+    Ok(Some(fault))
+}
+
+// The name behind `refused C2 V4 in `, before the line feed.
+fn class_name(alloc: Global, line: &[u8]) -> Result<Option<Name>, NoMemory> {
+    let rest = from(line, 17);
+    let name = first(rest, rest.len().saturating_sub(1));
+    if !is_name(name) {
+        return Ok(None);
+    }
+    Ok(Some(Name::new(alloc, name)?))
+}
+
+// The rule behind `refused C2 V` that a line may tell, with its class.
+fn invalid_told(alloc: Global, line: &[u8]) -> Result<Option<ClassFault>, NoMemory> {
+    match line.get(12) {
+        None => Ok(None),
+        Some(digit) => Ok(Some(ClassFault::Invalid {
+            rule: digit.saturating_sub(b'0'),
+            class: class_name(alloc, line)?,
+        })),
+    }
+}
+
+// What a line with these numbers may tell of a class text.
+fn class_told(alloc: Global, line: &[u8], numbers: &[u32]) -> Result<Option<ClassFault>, NoMemory> {
+    match numbers {
+        [1, number] => Ok(Some(ClassFault::Form(*number))),
+        [11] => Ok(Some(ClassFault::TooLarge)),
+        _ => invalid_told(alloc, line),
+    }
+}
+
+/// The fault of a class text that a line tells. `None` where it tells none.
+pub fn read_class_refusal(alloc: Global, line: &[u8]) -> Result<Option<ClassFault>, NoMemory>
+    ensures { IfOk result (λ o. IfSome o (λ fault. line.now ≡ class_refusal fault)) }
+{
+    let numbers = numbers(alloc, line)?;
+    let Some(fault) = class_told(alloc, line, &numbers)? else {
+        return Ok(None);
+    };
+    let again = class_line(alloc, &fault)?;
     if again.as_slice() != line {
         return Ok(None);
     }

@@ -2,15 +2,16 @@
 
 ghost use Rattle.std.specs.Prelude.{◌≡◌, ◌++◌, true, codes, decimal, IfOk};
 ghost use Rattle.flow_tree.specs.declared.fault.SourceFault.TheVariants.{Refused, AcrossWait};
-ghost use Rattle.flow_refusal.specs.Refusal.{refusal_text};
-ghost use Rattle.flow_refusal.specs.Note.{said, remark, overall, line_remark, program_note, world_note, Notes};
+ghost use Rattle.flow_refusal.specs.Refusal.{refusal_text, class_refusal};
+ghost use Rattle.flow_refusal.specs.Note.{said, remark, overall, line_remark, program_note, class_note, world_note, Notes};
 
 use crate::excerpt::{line_at, put_excerpt, put_window};
 use crate::line::put_place;
-use crate::reading::{read_refusal, read_world_refusal};
-use crate::words::{ACROSS_WAIT, USAGE, rule_words, world_words};
+use crate::reading::{read_class_refusal, read_refusal, read_world_refusal};
+use crate::words::{ACROSS_WAIT, USAGE, class_words, rule_words, world_words};
 use flow_base::memory::NoMemory;
 use flow_base::place::Place;
+use flow_classread::fault::ClassFault;
 use flow_tree::fault::{Rule, SourceFault};
 use flow_worldfile::WorldFault;
 use itoa::Buffer;
@@ -140,6 +141,25 @@ fn on_program(
     Ok(out)
 }
 
+// The note on a class text.
+fn on_class(
+    alloc: Global,
+    name: &str,
+    text: &[u8],
+    fault: &ClassFault,
+    words: &str,
+) -> Result<Vec<u8>, NoMemory>
+    ensures { IfOk result (λ v. v.items ≡ class_note words.now name.now text.now fault.now) }
+{
+    let mut out = Vec::new(alloc);
+    match fault {
+        ClassFault::Form(line) => put_line_remark(&mut out, name, text, *line, words)?,
+        ClassFault::Invalid { .. } | ClassFault::TooLarge => put_overall(&mut out, name, words)?,
+        ClassFault::OutOfMemory => {}
+    }
+    Ok(out)
+}
+
 // The note on a world file.
 fn on_world(
     alloc: Global,
@@ -233,6 +253,45 @@ fn on_fault(
     }
 }
 
+// The note on a fault of a class text that a line tells, and none where no rule has its number.
+#[tactic(auto, using(crate::proofs::Noting::class_noted, crate::proofs::Noting::nothing_noted))]
+fn on_class_fault(
+    alloc: Global,
+    answer: &[u8],
+    name: &str,
+    text: &[u8],
+    world: &str,
+    world_text: &[u8],
+    fault: &ClassFault,
+) -> Result<Vec<u8>, NoMemory>
+    requires { answer.now ≡ class_refusal fault.now }
+    ensures { IfOk result (λ v. Notes answer.now name.now text.now world.now world_text.now
+        v.items) }
+{
+    match class_words(fault) {
+        Some(words) => on_class(alloc, name, text, fault, words),
+        None => Ok(Vec::new(alloc)),
+    }
+}
+
+// The note on a line that tells a fault of a class text or of the world file, and none on another.
+fn on_other_line(
+    alloc: Global,
+    answer: &[u8],
+    name: &str,
+    text: &[u8],
+    world: &str,
+    world_text: &[u8],
+) -> Result<Vec<u8>, NoMemory>
+    ensures { IfOk result (λ v. Notes answer.now name.now text.now world.now world_text.now
+        v.items) }
+{
+    match read_class_refusal(alloc, answer)? {
+        Some(fault) => on_class_fault(alloc, answer, name, text, world, world_text, &fault),
+        None => on_world_line(alloc, answer, name, text, world, world_text),
+    }
+}
+
 // The note on a line that tells a fault of a file, and none on another.
 fn on_line(
     alloc: Global,
@@ -247,11 +306,11 @@ fn on_line(
 {
     match read_refusal(alloc, answer)? {
         Some(fault) => on_fault(alloc, answer, name, text, world, world_text, &fault),
-        None => on_world_line(alloc, answer, name, text, world, world_text),
+        None => on_other_line(alloc, answer, name, text, world, world_text),
     }
 }
 
-/// The note on a line that was answered, where the program has this name and text and the world that, each as far as it was
+/// The note on a line that was answered, where the program or class text has this name and text and the world that, each as far as it was
 /// read: for a refusal the place that the line tells, what the rule asks in a sentence, and the line of the text with a mark
 /// under the place; for a lost local its declaration and the wait likewise; for `usage` how the commands are called; for
 /// `read fault` the file. On any other line nothing is noted.

@@ -1,5 +1,6 @@
 // What the rules ask, in a sentence each.
 
+use flow_classread::fault::ClassFault;
 use flow_tree::fault::Rule;
 use flow_worldfile::WorldFault;
 
@@ -67,6 +68,39 @@ pub fn rule_words(rule: Rule) -> Option<&'static str> {
 /// What is said where a local is used behind a wait.
 pub const ACROSS_WAIT: &str =
     "U1: a wait since its declaration loses what this local holds; declare it with `state`";
+
+/// What is said where a rule on classes fails.
+fn validity(number: u8) -> Option<&'static str> {
+    let words = match number {
+        1 => "V1: a record or a function breaks one of the rules K1 to K10, K12 and L8",
+        2 =>
+            "V2: a class has a name in force, an unknown type or too few slots, or there is no right `main`",
+        3 => "V3: a slot, local, group or block that is named isn't there",
+        4 => "V4: a `goto` or `test` has to lead to blocks of greater number",
+        5 => "V5: each group has to be chosen by exactly one `choose`",
+        6 =>
+            "V6: a catch part has to name a later block, a local for errors, and distinct locals",
+        7 =>
+            "V7: an expression or what takes its value doesn't fit its type, or an effect its place",
+        8 => "V8: a slot or local may be read while it is empty",
+        _ => return None,
+    };
+    Some(words)
+}
+
+// What is said where no class text begins so, and where one has too many bytes.
+const CLASS_FORM: &str = "C1: no class text goes on so here";
+const CLASS_BYTES: &str = "L11: a class text has at most 16,777,216 bytes";
+
+/// What is said where a rule on a class text fails. `None` where there is no rule of this number.
+pub fn class_words(fault: &ClassFault) -> Option<&'static str> {
+    match fault {
+        ClassFault::Form(_) => Some(CLASS_FORM),
+        ClassFault::Invalid { rule, .. } => validity(*rule),
+        ClassFault::TooLarge => Some(CLASS_BYTES),
+        ClassFault::OutOfMemory => None,
+    }
+}
 
 /// What is said where a rule on a world file fails.
 pub fn world_words(fault: WorldFault) -> &'static str {

@@ -1,0 +1,4 @@
+pub mod Once
+pub mod Written
+pub mod Whole
+pub mod ReadBack
