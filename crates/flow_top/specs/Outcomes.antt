@@ -1,5 +1,5 @@
 -- What a request comes to: the texts of outcomes that are no run, with their status; and what may be run.
-use Rattle.std.specs.Prelude.{◌≡◌, ℕ, List, [], ◌∷◌, ◌++◌, codes, Ok}
+use Rattle.std.specs.Prelude.{◌≡◌, ℕ, Bool, List, [], ◌∷◌, ◌++◌, codes, Ok}
 use Rattle.std.specs.declared.option.Option.TheVariants.{None}
 use Rattle.std.specs.declared.snapshot.Snapshot.{Snapshot}
 use Rattle.flow_base.specs.declared.fault.OutFault.{OutFault}
@@ -12,6 +12,7 @@ use Rattle.flow_tree.specs.declared.fault.Rule.TheVariants.{L}
 use Rattle.flow_tree.specs.DeclView.{program_of}
 use Rattle.flow_tree.specs.Canon.{Canon}
 use Rattle.flow_trace.specs.declared.line.Line.{Line}
+use Rattle.flow_worldfile.specs.declared.world.World0.{World0}
 use Rattle.flow_worldfile.specs.declared.world.WorldFault.{WorldFault}
 use Rattle.flow_worldfile.specs.declared.world.WorldFault.TheVariants as world
 use Rattle.flow_worldfile.specs.Worlds.{IsInRange, seen}
@@ -19,12 +20,17 @@ use Rattle.flow_class.specs.declared.class.RawClasses.{RawClasses}
 use Rattle.flow_class.specs.View.{raw_of}
 use Rattle.flow_classprint.specs.ClassText.{ClassText}
 use Rattle.flow_classread.specs.declared.fault.ClassFault.{ClassFault}
+use Rattle.flow_classread.specs.declared.fault.ClassFault.TheVariants as class
 use Rattle.flow_classread.specs.ClassAnswer.{ClassAnswer}
 use Rattle.flow_front.specs.Verdict.{IsSound}
 use Rattle.flow_lower.specs.Weighing.{first_heavy}
 use Rattle.flow_lower.specs.Compiled.{Has}
 use Rattle.flow_compile_laws.specs.Frames.Framed.{SourceShown, ClassShown}
 use Rattle.flow_refusal.specs.Refusal.{refusal_text, refusal_status, world_refusal, class_refusal, class_status}
+use Rattle.flow_monitor.specs.declared.attach.PanelFault.{PanelFault}
+use Rattle.flow_monitor.specs.declared.attach.PanelFault.TheVariants as panel
+use Rattle.flow_words.specs.declared.asked.WordsFault.{WordsFault}
+use Rattle.flow_words.specs.declared.asked.WordsFault.TheVariants as words
 use Rattle.flow_words.specs.Asked.{Request, run as run_words, exec as exec_words, bench as bench_words}
 use Rattle.flow_top.specs.declared.outcome.Outcome.{Outcome}
 use Rattle.flow_top.specs.declared.outcome.Outcome.TheVariants.{Answered, Run, Bench}
@@ -75,6 +81,23 @@ refusal_outcome_of (source.Refused rule at) = Refused (source.Refused rule at)
 refusal_outcome_of (source.AcrossWait at declared wait) = Refused (source.AcrossWait at declared wait)
 refusal_outcome_of source.OutOfMemory = OutOfMemory
 
+-- what a fault of a class text comes to
+abbrev pub class_outcome_of : ClassFault → told.Answered
+class_outcome_of (class.Form line) = NoClasses (class.Form line)
+class_outcome_of (class.Invalid rule name) = NoClasses (class.Invalid rule name)
+class_outcome_of class.TooLarge = NoClasses class.TooLarge
+class_outcome_of class.OutOfMemory = OutOfMemory
+
+-- what words come to that ask for nothing, and monitors that aren't handed in
+abbrev pub words_outcome_of : WordsFault → told.Answered
+words_outcome_of words.Usage = Usage
+words_outcome_of words.OutOfMemory = OutOfMemory
+
+abbrev pub panel_outcome_of : PanelFault → told.Answered
+panel_outcome_of (panel.NoMonitor k) = Usage
+panel_outcome_of (panel.Twice k) = Usage
+panel_outcome_of panel.OutOfMemory = OutOfMemory
+
 -- what a program with an actor that weighs too much comes to
 abbrev pub heavy_outcome : Place → told.Answered
 heavy_outcome at = Refused (source.Refused (L 9) at)
@@ -114,9 +137,9 @@ MayTell (Run r) = MayRun r
 MayTell (Bench b) = MayRun b.run
 
 -- what is shown of a run: of a program by its text, of classes by themselves
-abbrev pub ShownBy : Meant → ProgramRun → List Line → Type 0
-ShownBy (Text p) r lines = SourceShown r.frames (program_of p.value) (seen r.world) lines
-ShownBy Classes r lines = ClassShown r.frames (raw_of r.classes) (seen r.world) lines
+abbrev pub ShownBy : Meant → (frames : Bool) → RawClasses → World0 → List Line → Type 0
+ShownBy (Text p) frames classes world lines = SourceShown frames (program_of p.value) (seen world) lines
+ShownBy Classes frames classes world lines = ClassShown frames (raw_of classes) (seen world) lines
 
 abbrev pub IsShown : ProgramRun → List Line → Type 0
-IsShown r lines = ShownBy r.meant r lines
+IsShown r lines = ShownBy r.meant r.frames r.classes r.world lines

@@ -1,10 +1,11 @@
 // What the words ask for, and who hears it.
 
-ghost use Rattle.std.specs.Prelude.{◌≡◌, map, string_bytes, Some, None, IfOk, length};
+ghost use Rattle.std.specs.Prelude.{◌≡◌, map, string_bytes, IfOk};
 ghost use Rattle.flow_monitor.specs.Attaching.{attached, want_fault};
-ghost use Rattle.flow_words.specs.Asked.{asked, request_of};
+ghost use Rattle.flow_words.specs.Asked.{request_of};
 ghost use Rattle.flow_top.specs.Requests.{wanted_by, request_by, panel_for};
-ghost use Rattle.flow_top.specs.Steps.{AsksFor, PanelStep};
+ghost use Rattle.flow_top.specs.Outcomes.{words_outcome_of, panel_outcome_of};
+ghost use Rattle.flow_top.specs.Steps.{AsksFor, Attaches};
 
 use crate::outcome::Answered;
 use flow_monitor::{Audience, Monitor, Panel, PanelFault, Want};
@@ -13,7 +14,7 @@ use std::alloc::Global;
 
 // What words come to that aren't read.
 fn words_outcome(fault: WordsFault) -> Answered
-    ensures { result ≡ spec_words_outcome fault }
+    ensures { result ≡ words_outcome_of fault }
 {
     match fault {
         WordsFault::Usage => Answered::Usage,
@@ -23,7 +24,7 @@ fn words_outcome(fault: WordsFault) -> Answered
 
 // What monitors come to that aren't had.
 fn panel_outcome(fault: PanelFault) -> Answered
-    ensures { result ≡ spec_panel_outcome fault }
+    ensures { result ≡ panel_outcome_of fault }
 {
     match fault {
         PanelFault::NoMonitor(_) | PanelFault::Twice(_) => Answered::Usage,

@@ -5,13 +5,15 @@ ghost use Rattle.flow_tree.specs.DeclView.{program_of};
 ghost use Rattle.flow_compile.specs.Right.{IsAccepted};
 ghost use Rattle.flow_worldfile.specs.Reading.{ReadsWorld};
 ghost use Rattle.flow_worldfile.specs.Worlds.{IsInRange, seen};
-ghost use Rattle.flow_words.specs.Asked.{request_of};
-ghost use Rattle.flow_top.specs.Outcomes.{refusal_outcome_of, heavy_outcome};
-ghost use Rattle.flow_top.specs.Steps.{JudgesTo, LowersTo, CompilesTo, FormatsTo, ChecksTo, ListsTo, HasClasses, RunsTo, WorldOf};
+ghost use Rattle.flow_words.specs.Asked.{request_of, RunRequest};
+ghost use Rattle.flow_words.specs.Asked as Request;
+ghost use Rattle.flow_top.specs.Outcomes.{refusal_outcome_of, heavy_outcome, class_outcome_of};
+ghost use Rattle.flow_top.specs.Steps.{JudgesTo, LowersTo, CompilesTo, EndsBy, RunsTo, WorldOf};
 
 use crate::outcome::{Answered, Meant, Runnable};
 use flow_base::place::Place;
-use flow_classread::{ClassFault, read_classes};
+use flow_classread::fault::ClassFault;
+use flow_classread::read::read_classes;
 use flow_compile::{CompileFault, compile, first_heavy, front, read_program};
 use flow_staterule::Sound;
 use flow_tree::fault::{Rule, SourceFault};
@@ -43,7 +45,7 @@ fn too_heavy(at: Place) -> Answered
 
 // What `format` comes to on a text.
 fn format(alloc: Global, text: &[u8]) -> Answered
-    ensures { FormatsTo text.now result }
+    ensures { (p : List ℕ) → EndsBy text.now (Request.format p) result }
 {
     match read_program(alloc, text) {
         Ok(program) => Answered::Formatted(program),
@@ -63,7 +65,7 @@ fn sound_of(alloc: Global, text: &[u8]) -> Result<Sound, Answered>
 
 // What `check` comes to on a text.
 fn check(alloc: Global, text: &[u8]) -> Answered
-    ensures { ChecksTo text.now result }
+    ensures { (p : List ℕ) → EndsBy text.now (Request.check p) result }
 {
     let sound = match sound_of(alloc, text) {
         Ok(sound) => sound,
@@ -106,7 +108,7 @@ fn program(alloc: Global, text: &[u8]) -> Result<Runnable, Answered>
 
 // What `compile` comes to on a text.
 fn compiled(alloc: Global, text: &[u8]) -> Answered
-    ensures { ListsTo text.now result }
+    ensures { (p : List ℕ) → EndsBy text.now (Request.compile p) result }
 {
     match program(alloc, text) {
         Ok(runnable) => Answered::Compiled(runnable.classes),
@@ -128,7 +130,7 @@ fn class_outcome(fault: ClassFault) -> Answered
 
 // The classes of a class text.
 fn class_text(alloc: Global, text: &[u8]) -> Result<Runnable, Answered>
-    ensures { HasClasses text.now result }
+    ensures { (r : RunRequest) → RunsTo text.now (Request.exec r) result }
 {
     match read_classes(alloc, text) {
         Ok(classes) => Ok(Runnable {

@@ -1,6 +1,6 @@
 // What a command line comes to.
 
-use flow_classread::ClassFault;
+use flow_classread::fault::ClassFault;
 use flow_tree::decl::Program;
 use flow_tree::fault::SourceFault;
 use flow_valid::program::ClassProgram;

@@ -19,7 +19,7 @@ use flow_base::fault::OutFault;
 use flow_base::output::write_whole;
 use flow_base::sink::Sink;
 use flow_classprint::write_classes;
-use flow_classread::ClassFault;
+use flow_classread::fault::ClassFault;
 use flow_machine::host::RunFault;
 use flow_monitor::{Audience, Panel};
 use flow_refusal::{class_line, class_status, refusal_line, refusal_status, world_line};

@@ -3,14 +3,14 @@
 ghost use Rattle.std.specs.Prelude.{◌≡◌, option_map};
 ghost use Rattle.flow_words.specs.Asked.{request_of};
 ghost use Rattle.flow_top.specs.Outcomes.{outcome_of};
-ghost use Rattle.flow_top.specs.Sources.{first_source, world_source, source_of};
-ghost use Rattle.flow_top.specs.Steps.{TextRead, FileRead};
+ghost use Rattle.flow_top.specs.Sources.{of_file, first_source, world_source, source_of};
+ghost use Rattle.flow_top.specs.Steps.{TextRead};
 
 use crate::outcome::Answered;
 use flow_base::fault::OutFault;
 use flow_base::files::Files;
 use flow_base::input::read_file;
-use flow_classread::CLASS_BYTES;
+use flow_classread::read::CLASS_BYTES;
 use flow_gen::{gen_program, gen_world};
 use flow_tree::limits::PROGRAM_BYTES;
 use flow_words::Asked;
