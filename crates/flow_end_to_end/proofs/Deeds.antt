@@ -1,5 +1,5 @@
 -- No deed goes astray that a process in memory is ready for.
-use Rattle.std.proofs.Common.{◌≡◌, ℕ, List, [], ◌∷◌, sym, ap, subst}
+use Rattle.std.proofs.Common.{◌≡◌, ℕ, List, [], ◌∷◌, refl, sym, ap, subst}
 use Rattle.std.specs.Prelude.{Result}
 use Rattle.std.specs.declared.option.Option.{Option}
 use Rattle.std.specs.declared.option.Option.TheVariants.{None, Some}
@@ -13,6 +13,7 @@ use Rattle.flow_code.specs.declared.program.Code.{Code}
 use Rattle.flow_trace.specs.declared.line.Line.{Line}
 use Rattle.flow_cancel.specs.declared.task.Task as stack
 use Rattle.flow_cancel.specs.Heap.{HeapTree}
+use Rattle.flow_meaning.specs.Burst.{Live, live, Burst}
 use Rattle.flow_meaning.specs.Class.{classes}
 use Rattle.flow_meaning.specs.Deliver.{begin, boot}
 use Rattle.flow_meaning.specs.Frame.{Frame}
@@ -28,19 +29,22 @@ use Rattle.flow_steps.specs.declared.process.Process.{Process}
 use Rattle.flow_steps.specs.Doing.{begun}
 use Rattle.flow_steps.specs.Holding.{on_heap}
 use Rattle.flow_steps.specs.Delivering.{answered, main_dropped}
+use Rattle.flow_machine.specs.declared.host.RunFault.{RunFault}
 use Rattle.flow_machine.specs.declared.host.RunFault.TheVariants.{Stuck}
 use Rattle.flow_machine.specs.Breaking.{BringingBreaksOff, MainBreaksOff}
 use Rattle.flow_world.specs.declared.action.EventAction.{EventAction}
 use Rattle.flow_world.specs.declared.action.EventAction.TheVariants.{Boots, Stops, Delivers, Brings}
 use Rattle.flow_world.specs.declared.place.Place.{Place}
-use Rattle.flow_world.specs.Around.{Inside, shows, wrote}
+use Rattle.flow_world.specs.Around.{Inside, PutsPart, no_more, shows, wrote, wrote_part}
 use Rattle.flow_world.specs.Changes.{Surroundings}
 use Rattle.flow_world.specs.Happening.{inside}
 use Rattle.flow_world.specs.Ports.{PortsRepresent}
-use Rattle.flow_world.specs.StuckEvents.{ActionStuck, anything}
+use Rattle.flow_world.specs.BreakingEvents.{ActionBreaks}
+use Rattle.flow_world.proofs.Putting.{part_more, puts_part}
 use Rattle.flow_burst_refinement.specs.Invariants.Invariant.{ProcessInvariant}
 use Rattle.flow_burst_refinement.specs.Enabled.Tasking.{IsProgram}
-use Rattle.flow_burst_refinement.specs.Boundaries.Delivering.{IsDelivered}
+use Rattle.flow_burst_refinement.specs.Boundaries.Delivering.{IsDelivered, MayBoot}
+use Rattle.flow_burst_refinement.specs.Programs.Delivering.{HostRepresents}
 use Rattle.flow_burst_refinement.proofs.Boundaries.Bringing.{answer_brings, stop_brings, element_brings}
 use Rattle.flow_world_refinement.specs.Effects.Actions.{done_in, Ready}
 use Rattle.flow_world_refinement.specs.Effects.Quiescence.{Quiescent}
@@ -52,7 +56,9 @@ use Rattle.flow_machine_progress.proofs.Bursts.Bursts.{all_bursts_sure}
 use Rattle.flow_machine_progress.proofs.Bursts.Brought.{answer_well, element_well, brought_well, bringing_well}
 use Rattle.flow_end_to_end.specs.Actions as law
 use Rattle.flow_end_to_end.specs.Actions.{MayHear}
-use Rattle.flow_end_to_end.proofs.Mains.{boot_well}
+use Rattle.flow_end_to_end.proofs.Mains.{boot_well, boot_in_part}
+use Rattle.flow_end_to_end.specs.Parts.{WritesInPart, PartOf}
+use Rattle.flow_end_to_end.proofs.Parts.{delivered_in_part}
 
 module _ {A : Type 0} (puts : A → Line → Result (Unit {0}) OutFault → A → Type 0) (r : RawTree) (code : Code) (program : IsProgram r code)
     (turns : ℕ) (p : ProcId) (x : meaning.Place Frame) (o : Outside) (at : Place) (m : Surroundings) (a : A) where
@@ -71,10 +77,10 @@ module _ {A : Type 0} (puts : A → Line → Result (Unit {0}) OutFault → A �
     }
 
     brings_well : (stuck : Type 0) → (stuck → ⊥) → (n : Process) (b : Inside A) → IsDelivered r m.time n (done_in r turns p.0 d x).proc → NoPromiseStored n.heap
-        → BringingBreaksOff host shows (wrote puts) anything code at.machine.processes stuck n before Stuck b → ⊥
+        → BringingBreaksOff host shows (wrote puts) (wrote_part puts) code at.machine.processes stuck n before Stuck b → ⊥
     brings_well stuck never n b is none off =
-        bringing_well host shows (wrote puts) anything code at.machine.processes r stuck never n before b
-        (brought_well host shows (wrote puts) anything code at.machine.processes r program host_steady (all_bursts_sure host shows (wrote puts) anything code at.machine.processes r) m.time n before b
+        bringing_well host shows (wrote puts) (wrote_part puts) code at.machine.processes r stuck never n before b
+        (brought_well host shows (wrote puts) (wrote_part puts) code at.machine.processes r program host_steady (all_bursts_sure host shows (wrote puts) (wrote_part puts) code at.machine.processes r) m.time n before b
         (done_in r turns p.0 d x).proc o is none ready.kept (record { shown = around; clock = ready.clock; time = ready.outside.time; among = ready.shows.processes_are })) off
 
   -- where a process rests nothing is to be stored
@@ -90,24 +96,35 @@ module _ {A : Type 0} (puts : A → Line → Result (Unit {0}) OutFault → A �
   main_none None h none = none
   main_none (Some k) h none = (tt, none)
 
-  boots_well : Ready r turns p Boots x o at m → (b : Inside A) → MainBreaksOff host shows (wrote puts) anything code at.machine.processes at.machine.me start before Stuck b → ⊥
-  boots_well ready b off =
-      let me = at.machine.me in
-      let booted_by : ℕ → Proc Frame = λ n. boot (classes r) n (on_core (begin turns) x.proc) in
-      let same : booted_by p.0 ≡ (done_in r turns p.0 Boots x).proc = ap (λ h. (booted (classes r) p.0 (with_core x (begin turns)) h).proc) (sym ready.may) in
-      let kept : UnlessStopped (booted_by me.0).core.halted (ProcessInvariant r (booted_by me.0)) =
-      subst (λ n. UnlessStopped (booted_by n).core.halted (ProcessInvariant r (booted_by n))) (sym ready.shows.me)
-      (subst (λ (q : Proc Frame). UnlessStopped q.core.halted (ProcessInvariant r q)) (sym same) ready.kept) in
-      boot_well host shows (wrote puts) anything code at.machine.processes r program host_steady m.time turns me at.machine.process x.proc o before b
-      (record { resting = ready.shows.rests.resting; kept = ready.held; no_main = ready.may; booted = kept }) (rests_none ready.shows.rests)
-      (record {
-        shown = record { outside = ready.outside; active = ready.active; ports = ready.shows.ports };
-        clock = ready.clock;
-        time = ready.outside.time;
-        among = ready.shows.processes_are;
-      }) off
+  abbrev booted_by : ℕ → Proc Frame
+  booted_by n = boot (classes r) n (on_core (begin turns) x.proc)
 
-  gets_stuck_well : (d : EventAction) → Ready r turns p d x o at m → MayHear d x.proc → (b : Inside A) → ActionStuck host shows (wrote puts) anything code d at.machine start before b → ⊥
+  boot_same : Ready r turns p Boots x o at m → booted_by p.0 ≡ (done_in r turns p.0 Boots x).proc
+  boot_same ready = ap (λ h. (booted (classes r) p.0 (with_core x (begin turns)) h).proc) (sym ready.may)
+
+  may_boot : Ready r turns p Boots x o at m → MayBoot r turns at.machine.me at.machine.process x.proc
+  may_boot ready = record {
+    resting = ready.shows.rests.resting;
+    kept = ready.held;
+    no_main = ready.may;
+    booted = subst (λ n. UnlessStopped (booted_by n).core.halted (ProcessInvariant r (booted_by n))) (sym ready.shows.me)
+        (subst (λ (q : Proc Frame). UnlessStopped q.core.halted (ProcessInvariant r q)) (sym (boot_same ready)) ready.kept);
+  }
+
+  boots_around : Ready r turns p Boots x o at m → HostRepresents host shows at.machine.processes m.time before x.proc o
+  boots_around ready = record {
+    shown = record { outside = ready.outside; active = ready.active; ports = ready.shows.ports };
+    clock = ready.clock;
+    time = ready.outside.time;
+    among = ready.shows.processes_are;
+  }
+
+  boots_well : Ready r turns p Boots x o at m → (b : Inside A) → MainBreaksOff host shows (wrote puts) (wrote_part puts) code at.machine.processes at.machine.me start before Stuck b → ⊥
+  boots_well ready b off =
+      boot_well host shows (wrote puts) (wrote_part puts) code at.machine.processes r program host_steady m.time turns at.machine.me at.machine.process x.proc o before b
+      (may_boot ready) (rests_none ready.shows.rests) (boots_around ready) off
+
+  gets_stuck_well : (d : EventAction) → Ready r turns p d x o at m → MayHear d x.proc → (b : Inside A) → ActionBreaks host shows (wrote puts) (wrote_part puts) code d at.machine start before Stuck b → ⊥
   gets_stuck_well Boots ready hear b off = boots_well ready b off
   gets_stuck_well Stops ready hear b off = brings_well Stops ready ⊥ (λ z. z) _ b (stop_brings r at.machine.process x.proc m.time turns ready.shows.rests.resting)
       (main_none start.heap.main start.heap (rests_none ready.shows.rests)) off
@@ -122,5 +139,43 @@ module _ {A : Type 0} (puts : A → Line → Result (Unit {0}) OutFault → A �
       (element_brings r at.machine.process x.proc m.time turns k.0 v rest ready.may.0 ready.may.1)
       (brought_stores kind.PromiseStream k.0 (outcome.Value v) start (rests_none ready.shows.rests)) off
 
-pub deed_well : {A : Type 0} (puts : A → Line → Result (Unit {0}) OutFault → A → Type 0) (r : RawTree) (code : Code) → law.ActionNeverStuck puts r code
-deed_well puts r code program turns p d x o at m a ready hear stuck = gets_stuck_well puts r code program turns p x o at m a d ready hear stuck.left stuck.gets_stuck
+  -- what the process and its world write in part
+  parts : WritesInPart host (wrote puts) (wrote_part puts)
+  parts = record {
+    nothing = λ g ls. no_more;
+    more = λ g h ls ms t. part_more puts g.out h.out ls ms t;
+    after = λ g h k ls ms t u. puts_part puts g.out h.out k.out ls ms t u;
+    draws = λ w. refl;
+  }
+
+  brings_in_part : (d : EventAction) → Ready r turns p d x o at m → (stuck : Type 0) (n : Process) (f : RunFault) (b : Inside A) → IsDelivered r m.time n (done_in r turns p.0 d x).proc
+      → BringingBreaksOff host shows (wrote puts) (wrote_part puts) code at.machine.processes stuck n before f b
+      → (l : Live Outside Frame) → Burst (classes r) host (live (done_in r turns p.0 d x).proc o) l → PartOf (wrote_part puts) [] before b l
+  brings_in_part d ready stuck n f b is off l run =
+      delivered_in_part host shows (wrote puts) (wrote_part puts) code at.machine.processes r program host_steady parts m.time stuck n before b f (done_in r turns p.0 d x).proc o is ready.kept
+      (record { shown = around d ready; clock = ready.clock; time = ready.outside.time; among = ready.shows.processes_are }) off l run
+
+  boots_in_part : Ready r turns p Boots x o at m → (f : RunFault) (b : Inside A) → MainBreaksOff host shows (wrote puts) (wrote_part puts) code at.machine.processes at.machine.me start before f b
+      → (l : Live Outside Frame) → Burst (classes r) host (live (done_in r turns p.0 Boots x).proc o) l → PartOf (wrote_part puts) [] before b l
+  boots_in_part ready f b off l run =
+      boot_in_part host shows (wrote puts) (wrote_part puts) code at.machine.processes r program host_steady parts m.time turns at.machine.me at.machine.process x.proc o before b f
+      (may_boot ready) (boots_around ready) off l
+      (subst (λ n. Burst (classes r) host (live (booted_by n) o) l) (sym ready.shows.me) (subst (λ (q : Proc Frame). Burst (classes r) host (live q o) l) (sym (boot_same ready)) run))
+
+  deed_in_part : (d : EventAction) → Ready r turns p d x o at m → (f : RunFault) (b : Inside A) → ActionBreaks host shows (wrote puts) (wrote_part puts) code d at.machine start before f b
+      → (l : Live Outside Frame) → Burst (classes r) host (live (done_in r turns p.0 d x).proc o) l → PartOf (wrote_part puts) [] before b l
+  deed_in_part Boots ready f b off l run = boots_in_part ready f b off l run
+  deed_in_part Stops ready f b off l run = brings_in_part Stops ready ⊥ _ f b (stop_brings r at.machine.process x.proc m.time turns ready.shows.rests.resting) off l run
+  deed_in_part (Delivers k v) ready f b off l run =
+      brings_in_part (Delivers k v) ready _ _ f b (answer_brings r at.machine.process x.proc m.time turns k.0 v ready.shows.rests.resting ready.may.0 ready.may.1 ready.may.2) off l run
+  deed_in_part (Brings k v) ready f b off l run =
+      brings_in_part (Brings k v) ready _ _ f b (element_brings r at.machine.process x.proc m.time turns k.0 v ready.shows.rests.resting ready.may.0 ready.may.1) off l run
+
+pub deed_fails : {A : Type 0} (puts : A → Line → Result (Unit {0}) OutFault → A → Type 0) (r : RawTree) (code : Code) → law.ActionFailsInPart puts r code
+deed_fails puts r code program turns p d x o at m a f b ready hear t = (
+  λ e. gets_stuck_well puts r code program turns p x o at m a d ready hear t.left
+      (subst (λ z. ActionBreaks host shows (wrote puts) (wrote_part puts) code d at.machine (begun m.time turns at.machine.process) (inside puts p at.ports m a) z t.left) e t.breaks),
+  λ l run.
+      let x = deed_in_part puts r code program turns p x o at m a d ready f t.left t.breaks l run in
+      subst (λ z. PutsPart puts a l.proc.core.lines z) t.out (subst (λ ls. PutsPart puts a ls t.left.out) (sym x.are) x.part),
+)

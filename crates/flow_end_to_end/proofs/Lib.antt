@@ -1,4 +1,6 @@
 pub mod Cut
+pub mod Growing
+pub mod Parts
 pub mod Deeds
 pub mod Disks
 pub mod Events

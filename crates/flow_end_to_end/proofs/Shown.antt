@@ -66,6 +66,12 @@ shown_by e spot with_frames w _ _ (run.event {states = states} {lines = lines} b
     let later = shown_by e spot with_frames (after w b l) states lines rest in
     (lines_of b l ++ (seen_if e spot with_frames (after w b l) ++ later.0), event b l g k n h later.1)
 
+-- something is shown of valid classes
+pub lines_shown : (c : RawClasses) (file : World0) (with_frames : Bool) → AreWhole (raw_of c) → IsInRange (seen file)
+    → (lines : List Line) × Shows (classes (raw_of c)) frame_spot with_frames (at_start (seen file)) lines
+lines_shown c file frames whole range =
+    let trace = (run_exists (raw_of c) whole.valid (seen file) range).is.1 in shown_by (classes (raw_of c)) frame_spot frames (at_start (seen file)) trace.later trace.rest trace.runs
+
 module _ {A : Type 0} (puts : A → Line → Result (Unit {0}) OutFault → A → Type 0) where
   pub classes_shown : ClassesShown puts
   classes_shown c file frames a b e whole few range t =
@@ -87,8 +93,7 @@ module _ {A : Type 0} (puts : A → Line → Result (Unit {0}) OutFault → A �
   pub classes_begun : ClassesBegun puts
   classes_begun c file frames a b whole few range t =
       let r = raw_of c in
-      let trace = (run_exists r whole.valid (seen file) range).is.1 in
-      let all = shown_by (classes r) frame_spot frames (at_start (seen file)) trace.later trace.rest trace.runs in
+      let all = lines_shown c file frames whole range in
       let shown : ClassShown frames r (seen file) (line.Head ∷ all.0) = record { rest = all.0; shows = all.1; with_head = refl } in
       let x = beginning_traced (Quiescent r) (WorldInvariant r) (IsProgram r) puts frames c file a b (line.Head ∷ all.0) (begins c file whole few range)
       (λ m p s. (s.resting.shown.holds.shows, s.resting.sorted)) (λ m k. k.keeps.fits.count)

@@ -1,27 +1,23 @@
--- No run in memory of the classes of a program goes astray.
+-- In a run in memory of valid classes no frame that is told is of no class, and each event follows, whatever else a world keeps.
 use Rattle.std.proofs.Common.{◌≡◌, ◌<◌, ◌⊎◌, inl, inr, ℕ, zero, suc, Bool, true, false, List, [], ◌∷◌, length, map, refl, sym, subst, ap, ◌∙◌, arith, if◌then◌else◌}
 use Rattle.std.proofs.lemmas.Bool.Decides.{nat_tests}
 use Rattle.std.specs.Prelude.{Result, nat_eq, slice_get, option_map, slice_index_or}
-use Rattle.std.specs.declared.option.Option.{Option}
 use Rattle.std.specs.declared.option.Option.TheVariants.{None, Some}
 use Rattle.flow_base.specs.declared.fault.OutFault.{OutFault}
-use Rattle.flow_tree.specs.DeclView.{program_of}
 use Rattle.flow_trace.specs.declared.line.Line.{Line}
-use Rattle.flow_worldfile.specs.Worlds.{seen}
 use Rattle.flow_class.specs.Classes.{ClassTree, RawTree}
 use Rattle.flow_class.specs.View.{raw_of, class_of}
 use Rattle.flow_class.specs.declared.class.Class.{Class}
-use Rattle.flow_code.specs.declared.program.Code.{Code}
 use Rattle.flow_meaning.specs.Frame.{Frame}
 use Rattle.flow_numbered.specs.Numbered.{Numbered, thing}
 use Rattle.flow_meaning.specs.Orderly.{Rising}
 use Rattle.flow_meaning.specs.Process.{Entry, Proc}
-use Rattle.flow_meaning.specs.Runs.{after}
+use Rattle.flow_meaning.specs.Class.{classes}
 use Rattle.flow_meaning.specs.Boundaries.{FramesIn}
 use Rattle.flow_meaning.specs.Deliver.{idle}
 use Rattle.flow_meaning.specs.Views.{Unfinished, Frames, frame_spot, unfinished}
 use Rattle.flow_meaning.specs.World as meaning
-use Rattle.flow_meaning.specs.World.{World, at_start, ready}
+use Rattle.flow_meaning.specs.World.{World, ready}
 use Rattle.flow_meaning.proofs.Posture.{above_none}
 use Rattle.flow_operation_refinement.proofs.Stands.{get_mapped}
 use Rattle.flow_invariants.specs.Unmarked.{AreWhole}
@@ -29,31 +25,19 @@ use Rattle.flow_burst_refinement.specs.Enabled.Tasking.{IsProgram}
 use Rattle.flow_burst_refinement.specs.Invariants.Invariant.{ProcessInvariant}
 use Rattle.flow_burst_refinement.proofs.Invariants.Off as kept
 use Rattle.flow_burst_refinement.proofs.Boundaries.Keeping.{ready_kept}
-use Rattle.flow_machine.specs.declared.host.Burst.TheVariants.{Rested}
 use Rattle.flow_world.specs.Ending.{Seen}
 use Rattle.flow_world_refinement.specs.Order.Showing.{WorldRepresents}
-use Rattle.flow_world_refinement.proofs.Order.Started.{start_shown}
-use Rattle.flow_world.specs.Tracing.{RunsEvents}
-use Rattle.flow_world.specs.StuckTraces.{SomeNoClass, FramesStuck, FramesStuckIf, EventsStuck, event_stuck, frames_stuck}
+use Rattle.flow_world.specs.BreakingTraces.{SomeNoClass, FramesStuck, FramesStuckIf}
 use Rattle.flow_world_refinement.specs.Invariants.{WorldInvariant}
 use Rattle.flow_world_refinement.specs.Effects.Quiescence.{Quiescent}
-use Rattle.flow_world_refinement.proofs.Effects.Settling.{settled_first}
 use Rattle.flow_world_refinement.proofs.Events.Whole.{happening}
 use Rattle.flow_end_to_end.specs.Events.{MemoryWorldInvariant}
-use Rattle.flow_end_to_end.proofs.Events.{event_sure}
-use Rattle.flow_end_to_end.proofs.Upheld.{upheld_starts, upheld_stays}
 use Rattle.flow_world_refinement.specs.Traces.Traced.{EventBegan, EventsFollow}
-use Rattle.flow_world_refinement.proofs.Traces.Whole.{Went, went}
-use Rattle.flow_world_refinement.proofs.Traces.Codes.{code_stays}
+use Rattle.flow_compile_laws.specs.Frames.Framed.{event}
 use Rattle.flow_world_refinement.specs.Views.Views.{told_frame}
 use Rattle.flow_world_refinement.specs.Views.Waiting.{WorldWaits}
-use Rattle.flow_world_refinement.proofs.Views.Traced.{Waits, events, keeps_on, frames}
+use Rattle.flow_world_refinement.proofs.Views.Traced.{frames}
 use Rattle.flow_world_refinement.proofs.Views.Told.{world_told}
-use Rattle.flow_world_refinement.proofs.Views.Waiting.{start_waits}
-use Rattle.flow_determinism.proofs.Whole.{compiles_whole}
-use Rattle.flow_class_text_laws.proofs.Compiled.{compiled_few}
-use Rattle.flow_end_to_end.specs.Exact.{HaveFewPlaces, ClassesNeverStuck, ProgramNeverStuck}
-use Rattle.flow_end_to_end.proofs.Shown.{code_first}
 
 -- a class that is there by its text is there
 class_there : (cs : List Class) (r : RawTree) (k : ℕ) (c : ClassTree) → map class_of cs ≡ r.classes → slice_get r.classes k ≡ Some c → slice_get cs k ≡ None → ⊥
@@ -119,54 +103,19 @@ module _ (r : RawTree) (whole : AreWhole r) where
       by_place (inl (lt, is)) t = process_there w m same k p.0 (subst (λ n. p.0 < n) k.keeps.fits.count lt) (subst (λ fs. SomeNoClass cs (map told_frame fs)) is t)
       by_place (inr none) t = subst (λ fs. SomeNoClass cs (map told_frame fs)) none t
 
+  pub frames_if_there : (frames_asked : Bool) (w : Seen) (m : World Frame) → raw_of w.code.program ≡ r → WorldRepresents (Quiescent r) w m → WorldInvariant r m → WorldWaits m
+      → FramesStuckIf frames_asked w → ⊥
+  frames_if_there true w m text s k waits stuck = frames_there w m (ap (λ (x : RawTree). x.classes) text) s k waits stuck
+  frames_if_there false w m text s k waits stuck = stuck
+
 module _ {A : Type 0} (puts : A → Line → Result (Unit {0}) OutFault → A → Type 0) where
   -- each event follows, whatever else a world keeps
   event_began : (r : RawTree) (m : World Frame) (a b : A) → EventBegan (Quiescent r) (WorldInvariant r) (IsProgram r) puts r m a b
       → EventBegan (Quiescent r) (MemoryWorldInvariant r) (IsProgram r) puts r m a b
   event_began r m a b e = record { begun = e.begun; left = e.left; begins = e.begins; follows = e.follows; lines = e.lines }
 
-  events_follow : (r : RawTree) → EventsFollow (Quiescent r) (MemoryWorldInvariant r) (IsProgram r) puts r
+  pub events_follow : (r : RawTree) → EventsFollow (Quiescent r) (MemoryWorldInvariant r) (IsProgram r) puts r
   unfolding event_began
   events_follow r w v m a b code s k h =
       let e = happening puts r w v m a b code s k.lasting h in
       record { event = event_began r m a b e.event; rests = e.rests; shows = e.shows }
-
-  pub classes_sure : ClassesNeverStuck puts
-  classes_sure c file with_frames a whole few range t = by_end t.events
-    where
-      r : RawTree
-      r = raw_of c
-
-      Keeps : World Frame → Type 0
-      Keeps = Waits (Quiescent r) (MemoryWorldInvariant r) (IsProgram r)
-
-      first : WorldRepresents (Quiescent r) t.first (at_start (seen file))
-      first = start_shown (Quiescent r) c file t.first (settled_first r) t.starts
-
-      Came : Seen → A → Type 0
-      Came v b = Went (Quiescent r) Keeps (IsProgram r) puts r with_frames (at_start (seen file)) t.headed v b
-
-      came : (v : Seen) (b : A) → RunsEvents puts with_frames t.first t.headed v b → Came v b
-      came v b goes =
-          went (Quiescent r) Keeps (IsProgram r) puts r with_frames (events (Quiescent r) (MemoryWorldInvariant r) (IsProgram r) puts r (events_follow r))
-          (keeps_on (Quiescent r) (MemoryWorldInvariant r) (IsProgram r) r (upheld_stays r whole.valid))
-          (frames (Quiescent r) (MemoryWorldInvariant r) (IsProgram r) with_frames r (λ q x s. (s.resting.shown.holds.shows, s.resting.sorted)) (λ m k. k.lasting.keeps.fits.count))
-          t.first v (at_start (seen file)) t.headed b (code_first c file whole few t.first t.starts) (ap raw_of t.starts.program) first
-          (upheld_starts r (seen file) range, start_waits (seen file)) goes
-
-      by_frames : (frames_asked : Bool) (v : Seen) (m : World Frame) → raw_of v.code.program ≡ r → WorldRepresents (Quiescent r) v m → Keeps m → FramesStuckIf frames_asked v → ⊥
-      by_frames true v m text s k stuck = frames_there r whole v m (ap (λ (x : RawTree). x.classes) text) s k.0.lasting k.1 stuck
-      by_frames false v m text s k stuck = stuck
-
-      by_end : EventsStuck puts with_frames t.first t.headed → ⊥
-      by_end (event_stuck {v = v} {b = b} goes stuck) = let x = came v b goes in event_sure puts r v x.last b x.code x.shows x.keeps.0 stuck
-      by_end (frames_stuck {u = u} {v = v} {b = b} {c = d} goes does stuck) =
-          let x = came u b goes in
-          let shown = events_follow r u v x.last b d x.code x.shows x.keeps.0 does in
-          let kept = keeps_on (Quiescent r) (MemoryWorldInvariant r) (IsProgram r) r (upheld_stays r whole.valid) x.last shown.event.begun shown.event.left x.keeps shown.event.begins
-          shown.event.follows shown.rests in
-          by_frames with_frames v (after x.last shown.event.begun shown.event.left) (ap (λ (z : Code). raw_of z.program) (code_stays puts u v b d Rested does) ∙ x.text) shown.shows kept stuck
-
-  pub program_sure : ProgramNeverStuck puts
-  program_sure text program c file with_frames a sound light has range t =
-      classes_sure c file with_frames a (subst AreWhole (sym has) (compiles_whole text program sound)) (subst HaveFewPlaces (sym has) (compiled_few text program sound light)) range t

@@ -1,4 +1,5 @@
--- No event of a world in memory whose processes run a valid program goes astray, by what a world keeps from event to event.
+-- No event of a world in memory whose processes run a valid program is stuck, by what a world keeps from event to event; and one that fails
+-- has put a first part of its lines.
 use Rattle.std.specs.Prelude.{◌≡◌, length, Result}
 use Rattle.std.specs.declared.option.Option.TheVariants.{None, Some}
 use Rattle.flow_base.specs.declared.fault.OutFault.{OutFault}
@@ -9,10 +10,14 @@ use Rattle.flow_meaning.specs.Burst.{Live, Burst}
 use Rattle.flow_meaning.specs.Class.{classes}
 use Rattle.flow_meaning.specs.Frame.{Frame}
 use Rattle.flow_meaning.specs.Outside.{Outside, host}
-use Rattle.flow_meaning.specs.Runs.{before, after}
+use Rattle.flow_meaning.specs.Runs.{before, after, lines_of}
 use Rattle.flow_meaning.specs.World.{World, Begun, next_of, begun_by, at_start}
 use Rattle.flow_world.specs.Ending.{Seen}
-use Rattle.flow_world.specs.StuckEvents.{EventStuck}
+use Rattle.flow_world.specs.Around.{PutsPart}
+use Rattle.flow_world.specs.BreakingEvents.{EventFails}
+use Rattle.flow_world.specs.FaultedLines.{Telling, tells}
+use Rattle.flow_machine.specs.declared.host.RunFault.{RunFault}
+use Rattle.flow_machine.specs.declared.host.RunFault.TheVariants.{Stuck}
 use Rattle.flow_world_refinement.specs.Order.Showing.{WorldRepresents}
 use Rattle.flow_burst_refinement.specs.Enabled.Tasking.{IsProgram}
 use Rattle.flow_world_refinement.specs.Effects.Quiescence.{Quiescent}
@@ -40,8 +45,16 @@ MemoryWorldInvariantStays r =
     → begun_by (classes r) w (next_of w.out) ≡ Some b
     → Burst (classes r) host (before b) l → l.proc.core.halted ≡ None → MemoryWorldInvariant r (after w b l)
 
--- And no event of a world in memory that shows such a one goes astray.
-abbrev pub EventNeverStuck : {A : Type 0} (puts : A → Line → Result (Unit {0}) OutFault → A → Type 0) → RawTree → Type 0
-EventNeverStuck {A} puts r =
-    (w : Seen) (m : World Frame) (a : A) → IsProgram r w.code → WorldRepresents (Quiescent r) w m → MemoryWorldInvariant r m
-    → EventStuck puts w a → ⊥
+-- Of the next event of a world, where it fails in memory, a first part of the lines was put; and it isn't stuck.
+abbrev pub NextInPart : {A : Type 0} (puts : A → Line → Result (Unit {0}) OutFault → A → Type 0) → RawTree → World Frame
+    → A → RunFault → A → Type 0
+NextInPart {A} puts r m a f b =
+    (f ≡ Stuck → ⊥)
+    × ((g : Begun Frame) (l : Live Outside Frame) → begun_by (classes r) m (next_of m.out) ≡ Some g
+    → Burst (classes r) host (before g) l → PutsPart puts a (lines_of g l) b)
+
+-- So it is of a world in memory that shows such a one.
+abbrev pub EventFailsInPart : {A : Type 0} (puts : A → Line → Result (Unit {0}) OutFault → A → Type 0) → RawTree → Type 0
+EventFailsInPart {A} puts r =
+    (w : Seen) (m : World Frame) (a : Telling A) (f : RunFault) (t : Telling A) → IsProgram r w.code
+    → WorldRepresents (Quiescent r) w m → MemoryWorldInvariant r m → EventFails puts w a f t → NextInPart (tells puts) r m a f t

@@ -19,7 +19,6 @@ use Rattle.flow_world.specs.FaultedLines.{tells, whole, failed}
 use Rattle.flow_world.specs.declared.ending.Ending.{Ending}
 use Rattle.flow_world.specs.Ends.{end_line, LastIs}
 use Rattle.flow_world.specs.Tracing.{Traces, Begins, TracesPart}
-use Rattle.flow_world.specs.StuckTraces.{TraceStuck}
 use Rattle.flow_compile_laws.specs.Frames.Framed.{SourceShown, ClassShown}
 
 -- each class has 2^32 places at most
@@ -59,16 +58,3 @@ module _ {A : Type 0} (puts : A → Line → Result (Unit {0}) OutFault → A �
       → IsInRange (seen file) → TracesPart (tells puts) with_frames c file (whole a) (failed b)
       → (lines : List Line) × SourceShown with_frames (program_of program) (seen file) lines
       × Puts (tells puts) (whole a) lines (failed b)
-
-  -- No run of valid classes goes astray.
-  abbrev pub ClassesNeverStuck : Type 0
-  ClassesNeverStuck =
-      (c : RawClasses) (file : World0) (with_frames : Bool) (a : A) → AreWhole (raw_of c) → HaveFewPlaces (raw_of c)
-      → IsInRange (seen file) → TraceStuck puts with_frames c file a → ⊥
-
-  -- nor one of the classes of a text
-  abbrev pub ProgramNeverStuck : Type 0
-  ProgramNeverStuck =
-      (text : List ℕ) (program : Program) (c : RawClasses) (file : World0) (with_frames : Bool) (a : A)
-      → IsSound text program → first_heavy (program_of program).decls ≡ None → Has (program_of program) (raw_of c)
-      → IsInRange (seen file) → TraceStuck puts with_frames c file a → ⊥

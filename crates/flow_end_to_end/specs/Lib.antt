@@ -1,4 +1,5 @@
 pub mod Cut
+pub mod Parts
 pub mod Actions
 pub mod Events
 pub mod Exact

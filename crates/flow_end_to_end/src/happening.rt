@@ -2,17 +2,18 @@
 
 ghost use Rattle.flow_class.specs.Classes.{RawTree};
 ghost use Rattle.flow_invariants.specs.Fitting.Laws.{AreValid};
-ghost use Rattle.flow_end_to_end.specs.Events.{MemoryWorldInvariantStarts, MemoryWorldInvariantStays, EventNeverStuck};
+ghost use Rattle.flow_world.specs.Watching.{hears};
+ghost use Rattle.flow_end_to_end.specs.Events.{MemoryWorldInvariantStarts, MemoryWorldInvariantStays, EventFailsInPart};
 
 use flow_trace::out::LineOut;
 
-/// What a world keeps so that no event goes astray it has before its first event, and after each event.
+/// What a world keeps so that no event is stuck it has before its first event, and after each event.
 pub fn worlds_preserve_memory_invariant()
     ensures starts { (r : RawTree) → MemoryWorldInvariantStarts r }
     ensures stays { (r : RawTree) → AreValid r → MemoryWorldInvariantStays r }
 {}
 
-/// No event goes astray.
-pub fn events_are_never_stuck<L: LineOut>()
-    ensures { (r : RawTree) → EventNeverStuck L.puts r }
+/// An event that a panel hears and that fails isn't stuck, and what it put is a first part of the lines of the event.
+pub fn failed_events_put_first_parts<L: LineOut>()
+    ensures { (r : RawTree) → EventFailsInPart (hears L.puts) r }
 {}

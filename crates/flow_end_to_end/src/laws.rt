@@ -1,8 +1,8 @@
 // Runs of classes and of programs.
 
-ghost use Rattle.flow_world.specs.FaultedLines.{tells};
 ghost use Rattle.flow_end_to_end.specs.Cut.{ClassesCut, ClassesCutInPart, ProgramCut, ProgramCutInPart};
-ghost use Rattle.flow_end_to_end.specs.Exact.{ClassesShown, ClassesNeverStuck, ProgramShown, ProgramInPart, ProgramNeverStuck};
+ghost use Rattle.flow_end_to_end.specs.Cut.{ClassesFailInPart, ProgramFailsInPart, ClassesWrittenInPart, ProgramWrittenInPart};
+ghost use Rattle.flow_end_to_end.specs.Exact.{ClassesShown, ProgramShown, ProgramInPart};
 
 use flow_trace::out::LineOut;
 
@@ -19,12 +19,6 @@ pub fn program_runs_are_exact<L: LineOut>()
     ensures part { ProgramInPart L.puts }
 {}
 
-/// No run in memory of valid classes goes astray, nor of a program's classes, whatever becomes of the lines that it puts.
-pub fn runs_are_never_stuck<L: LineOut>()
-    ensures classes { ClassesNeverStuck (tells L.puts) }
-    ensures programs { ProgramNeverStuck (tells L.puts) }
-{}
-
 /// The lines that a run in memory puts where a panel hears it are what is shown, cut where a monitor says Stop: of valid classes,
 /// and of a program by its text; where a line failed, that was put up to this line.
 pub fn watched_runs_are_cut<L: LineOut>()
@@ -32,4 +26,17 @@ pub fn watched_runs_are_cut<L: LineOut>()
     ensures classes_in_part { ClassesCutInPart L.puts }
     ensures programs { ProgramCut L.puts }
     ensures programs_in_part { ProgramCutInPart L.puts }
+{}
+
+/// A run in memory that a panel hears and that fails isn't stuck. What it put till then is a first part of what is shown, cut where a
+/// monitor says Stop, of valid classes, and of a program by its text: whatever failed, a put or for want of memory.
+pub fn failed_runs_put_first_parts<L: LineOut>()
+    ensures classes { ClassesFailInPart L.puts }
+    ensures programs { ProgramFailsInPart L.puts }
+{}
+
+/// Where its lines are written, a first part of their bytes was.
+pub fn failed_runs_write_first_parts()
+    ensures classes { ClassesWrittenInPart }
+    ensures programs { ProgramWrittenInPart }
 {}

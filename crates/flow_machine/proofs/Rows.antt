@@ -64,7 +64,7 @@ module _ {A W : Type 0} (serves : Host W) (shows : A → Numbered ℕ → W → 
 
   pub asks_break :
       (p q r : Process) (a b c : A) (f : RunFault) → BeforeBreak p a r b → Tasks code r next.Asks q
-      → ServingBrokeIf serves shows wrote broke q.asked b c → (f ≡ Stuck → ServingStuck q.asked)
+      → ServingBrokeIf serves shows wrote broke n q.asked b c → (f ≡ Stuck → ServingStuck q.asked)
       → BreaksOff serves shows wrote broke code n p a f c
   asks_break p q r a b c f h t v s = h f c (serving r q b c f t v s)
 
@@ -79,7 +79,7 @@ module _ {A W : Type 0} (serves : Host W) (shows : A → Numbered ℕ → W → 
 
   pub line_breaks :
       (me : ProcId) (p q : Process) (a b : A) (f : RunFault) → MainCalled code me p q
-      → ServingBrokeIf serves shows wrote broke q.asked a b → (f ≡ Stuck → ServingStuck q.asked)
+      → ServingBrokeIf serves shows wrote broke n q.asked a b → (f ≡ Stuck → ServingStuck q.asked)
       → MainBreaksOff serves shows wrote broke code n me p a f b
   line_breaks me p q a b f m v s = untold q b f m v s
 

@@ -1,5 +1,5 @@
 -- How far a burst came that breaks off, and what was written then.
-use Rattle.std.specs.Prelude.{◌≡◌, ◌⊎◌, ℕ, List, [], ◌∷◌}
+use Rattle.std.specs.Prelude.{◌≡◌, ◌⊎◌, ℕ, Bool, true, false, List, [], ◌∷◌}
 use Rattle.std.specs.declared.option.Option.{Option}
 use Rattle.std.specs.declared.option.Option.TheVariants.{None, Some}
 use Rattle.flow_base.specs.declared.ids.ProcId.{ProcId}
@@ -21,7 +21,7 @@ use Rattle.flow_steps.specs.StuckTasks.{TasksStuck, MainStuck}
 use Rattle.flow_machine.specs.declared.host.RunFault.{RunFault}
 use Rattle.flow_machine.specs.declared.host.RunFault.TheVariants.{OutOfMemory, Stuck}
 use Rattle.flow_machine.specs.Hosting.{Serves, LinesOf}
-use Rattle.flow_machine.specs.Serving.{ServedIf}
+use Rattle.flow_machine.specs.Serving.{ServedIf, may_send}
 
 -- what is given is to be kept as an operand
 abbrev pub IsOperand : Goal → Type 0
@@ -44,29 +44,30 @@ module _ {A W : Type 0} (serves : Host W) (shows : A → Numbered ℕ → W → 
   abbrev pub DrawBroke : A → A → Type 0
   DrawBroke a b = Unwritten a b ⊎ Serves serves shows wrote Drew a b
 
-  abbrev pub SendBroke : (number port : ℕ) → List ℕ → A → A → Type 0
-  SendBroke number port text a b = (b ≡ a) ⊎ LinesOf serves shows broke (Packet number port text) a b
+  abbrev pub SendBroke : (fits : Bool) → (number port : ℕ) → List ℕ → A → A → Type 0
+  SendBroke true number port text a b = (b ≡ a) ⊎ LinesOf serves shows broke (Packet number port text) a b
+  SendBroke false number port text a b = b ≡ a
 
-  abbrev pub ServingBroke : Call → A → A → Type 0
-  ServingBroke (call.Line l) a b = broke a (l ∷ []) b
-  ServingBroke (call.Draw i g lo hi) a b = DrawBroke a b
-  ServingBroke (call.Delay i g ticks) a b = Unwritten a b
-  ServingBroke (call.Listen i g port) a b = Unwritten a b
-  ServingBroke (call.Disk i g request) a b = Unwritten a b
-  ServingBroke (call.SendTo i number port text) a b = SendBroke (natural number) (natural port) text a b
-  ServingBroke (call.Unlisten k) a b = ⊥
+  abbrev pub ServingBroke : (processes : ℕ) → Call → A → A → Type 0
+  ServingBroke n (call.Line l) a b = broke a (l ∷ []) b
+  ServingBroke n (call.Draw i g lo hi) a b = DrawBroke a b
+  ServingBroke n (call.Delay i g ticks) a b = Unwritten a b
+  ServingBroke n (call.Listen i g port) a b = Unwritten a b
+  ServingBroke n (call.Disk i g request) a b = Unwritten a b
+  ServingBroke n (call.SendTo i number port text) a b = SendBroke (may_send n number port) (natural number) (natural port) text a b
+  ServingBroke n (call.Unlisten k) a b = ⊥
 
-  abbrev pub ServingBrokeIf : Option Call → A → A → Type 0
-  ServingBrokeIf None a b = ⊥
-  ServingBrokeIf (Some c) a b = ServingBroke c a b
+  abbrev pub ServingBrokeIf : (processes : ℕ) → Option Call → A → A → Type 0
+  ServingBrokeIf n None a b = ⊥
+  ServingBrokeIf n (Some c) a b = ServingBroke n c a b
 
   module _ (code : Code) (processes : ℕ) where
     -- A burst breaks off, with a fault: in its tasks, for want of memory or because one goes astray; where what a step asked is
-    -- served; or so after that.
+    -- served; or so after that. What steps ask is counted: past 2^64 - 1 times is answered as want of memory.
     pub data BreaksOff : Process → A → RunFault → A → Type 0 where
       no_memory : (p : Process) (a : A) → BreaksOff p a OutOfMemory a
       gets_stuck : (p : Process) (a : A) → TasksStuck code p → BreaksOff p a Stuck a
-      serving : (p q : Process) (a b : A) (f : RunFault) → Tasks code p next.Asks q → ServingBrokeIf q.asked a b
+      serving : (p q : Process) (a b : A) (f : RunFault) → Tasks code p next.Asks q → ServingBrokeIf processes q.asked a b
           → (f ≡ Stuck → ServingStuck q.asked) → BreaksOff p a f b
       further : (p q r : Process) (a b c : A) (f : RunFault) → Tasks code p next.Asks q
           → ServedIf serves shows wrote processes q.asked (unasked q) a r b → BreaksOff r b f c → BreaksOff p a f c
@@ -75,7 +76,7 @@ module _ {A W : Type 0} (serves : Host W) (shows : A → Numbered ℕ → W → 
     pub data MainBreaksOff (me : ProcId) (p : Process) (a : A) : RunFault → A → Type 0 where
       uncalled : MainBreaksOff me p a OutOfMemory a
       main_stuck : MainStuck code me p.heap → MainBreaksOff me p a Stuck a
-      untold : (q : Process) (b : A) (f : RunFault) → MainCalled code me p q → ServingBrokeIf q.asked a b
+      untold : (q : Process) (b : A) (f : RunFault) → MainCalled code me p q → ServingBrokeIf processes q.asked a b
           → (f ≡ Stuck → ServingStuck q.asked) → MainBreaksOff me p a f b
       called : (q r : Process) (b c : A) (f : RunFault) → MainCalled code me p q
           → ServedIf serves shows wrote processes q.asked (unasked q) a r b → BreaksOff r b f c → MainBreaksOff me p a f c

@@ -144,8 +144,8 @@ fn send_to<H: Host>(
     ensures cause { RunCause (H.faults host.old) (H.faults host.new) result }
     ensures kept { H.kept host.new ≡ H.kept host.old }
     ensures broke { OnErr result
-        (SendBroke H.serves H.shows H.wrote H.broke (natural to.0)
-        (natural to.1) text host.old host.new) }
+        (SendBroke H.serves H.shows H.wrote H.broke (may_send processes to.0 to.1)
+        (natural to.0) (natural to.1) text host.old host.new) }
     ensures stuck { IsErrOf result Stuck → ⊥ }
 {
     let (number, port) = to;
@@ -171,7 +171,7 @@ fn ask_other<H: Host>(
     ensures cause { RunCause (H.faults host.old) (H.faults host.new) result }
     ensures kept { H.kept host.new ≡ H.kept host.old }
     ensures broke { OnErr result
-        (ServingBroke H.serves H.shows H.wrote H.broke call host.old host.new) }
+        (ServingBroke H.serves H.shows H.wrote H.broke processes call host.old host.new) }
     ensures stuck { IsErrOf result Stuck → ServingStuck (Some call) }
 {
     match call {
@@ -205,7 +205,8 @@ pub(crate) fn ask<H: Host>(
     ensures cause { RunCause (H.faults host.old) (H.faults host.new) result }
     ensures kept { H.kept host.new ≡ H.kept host.old }
     ensures broke { OnErr result
-        (ServingBrokeIf H.serves H.shows H.wrote H.broke process.old.asked host.old host.new) }
+        (ServingBrokeIf H.serves H.shows H.wrote H.broke processes process.old.asked
+        host.old host.new) }
     ensures stuck { IsErrOf result Stuck → ServingStuck process.old.asked }
 {
     match process.take_asked() {
@@ -215,7 +216,8 @@ pub(crate) fn ask<H: Host>(
 }
 
 #[tactic(auto, using(crate::proofs::Causes::cause_before, crate::proofs::Rows::burst_rests, crate::proofs::Rows::burst_spent, crate::proofs::Rows::burst_asks, crate::proofs::Rows::further_asks, crate::proofs::Rows::tasks_break, crate::proofs::Rows::asks_break, crate::proofs::Rows::numbers_end))]
-/// Steps of a process, of so many, until no task is left, or a turn is needed and none is left.
+/// Steps of a process, of so many, until no task is left, or a turn is needed and none is left. `OutOfMemory` comes where there
+/// is no memory, and where steps ask for something more than 2^64 - 1 times.
 pub(crate) fn burst<H: Host>(
     process: &mut Process,
     processes: u8,

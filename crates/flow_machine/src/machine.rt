@@ -55,8 +55,9 @@ impl Machine {
 
     #[tactic(auto, using(crate::proofs::Causes::cause_before, crate::proofs::Rows::main_bursts, crate::proofs::Rows::main_breaks, crate::proofs::Rows::line_breaks, crate::proofs::Rows::after_main))]
     /// Calls `main` with the process's number, and does all that follows: `Rested` where nothing is left to do, `Spent` where
-    /// a turn is needed and none is left. `Failed` comes only where the host's count of faults rose. `Astray` comes
-    /// where a result of `main` is held already, or where the classes lead to where no valid class comes.
+    /// a turn is needed and none is left. `Failed` comes only where the host's count of faults rose. `OutOfMemory` comes where
+    /// there is no memory, and where the steps of a burst ask for something more than 2^64 - 1 times. `Stuck` comes where a
+    /// result of `main` is held already, or where the classes lead to where no valid class comes.
     pub fn start_main<H: Host>(
         &mut self,
         code: &Code,

@@ -9,7 +9,7 @@ pub mod Numbers
 pub mod MovedHeard
 pub mod MovedHosts
 pub mod MovedEvents
-pub mod MovedStuck
+pub mod MovedBreaking
 pub mod Happenings
 pub mod Putting
 pub mod Telling

@@ -1,23 +1,24 @@
 -- The trace that a panel hears is the same where what is written is seen as something else, if each line that is put is put there
 -- too.
-use Rattle.std.proofs.Common.{Bool, ℕ}
-use Rattle.std.specs.declared.option.Option.{Option}
+use Rattle.std.proofs.Common.{Bool, ap}
 use Rattle.std.specs.Prelude.{Result, Ok, Err}
 use Rattle.flow_base.specs.declared.fault.OutFault.{OutFault}
 use Rattle.flow_trace.specs.declared.line.Line.{Line}
 use Rattle.flow_class.specs.declared.class.RawClasses.{RawClasses}
 use Rattle.flow_machine.specs.declared.host.Burst.TheVariants.{Rested}
+use Rattle.flow_machine.specs.declared.host.RunFault.{RunFault}
 use Rattle.flow_worldfile.specs.declared.world.World0.{World0}
 use Rattle.flow_world.specs.declared.run_ending.RunEnding.{RunEnding}
 use Rattle.flow_world.specs.declared.run_ending.RunEnding.TheVariants.{Own, Stopped}
 use Rattle.flow_world.specs.Ending.{Seen}
 use Rattle.flow_world.specs.FaultedLines.{Telling, tells, whole, failed}
-use Rattle.flow_world.specs.StuckTraces.{TraceStuck}
+use Rattle.flow_world.specs.BreakingTraces.{EventsFail, event_fails, frames_fail, counted_out, TraceFails, no_memory, head_fails, events_fail, no_name, end_fails}
 use Rattle.flow_world.specs.Tracing.{lines_if, last_answer}
 use Rattle.flow_world.specs.Watching.{Hearing, hearing, hears}
 use Rattle.flow_world.specs.WatchedTraces.{last_line, Quietly, HeardToEnd, HeardInPart, in_event, in_frames, HeardTrace, HeardTracePart, no_head, in_run, no_end}
 use Rattle.flow_world.proofs.MovedEvents.{lines_by, happens_by, does_event_by}
-use Rattle.flow_world.proofs.MovedTraces.{seen_of, told_by, goes_by, stuck_by}
+use Rattle.flow_world.proofs.MovedBreaking.{lines_part_by}
+use Rattle.flow_world.proofs.MovedTraces.{seen_of, told_by, told_any, goes_by, event_fails_by}
 
 module _ {A B : Type 0} (f : A → B) (puts : A → Line → Result (Unit {0}) OutFault → A → Type 0) (puts_there : B → Line → Result (Unit {0}) OutFault → B → Type 0)
     (there : (a b : A) (l : Line) (answer : Result (Unit {0}) OutFault) → puts a l answer b → puts_there (f a) l answer (f b)) where
@@ -86,8 +87,23 @@ module _ {A B : Type 0} (f : A → B) (puts : A → Line → Result (Unit {0}) O
     heard_part_by classes file a b (in_run {first = first} {headed = headed} starts head t) = in_run starts (hears_by a headed _ (Ok tt) head) (in_part_by first headed b t)
     heard_part_by classes file a b (no_end {e = e} t) = no_end {e = e} (heard_trace_by classes file a e (failed b) t)
 
-    -- where a part of it would be told as well
-    pub heard_stuck_by : {X : Type 0} (classes : RawClasses) (file : World0) (a : Hearing A) (b : Option ℕ → Hearing A)
-        → (X → (stop : Option ℕ) × HeardTracePart puts frames classes file a (b stop)) → TraceStuck (tells (hears puts)) frames classes file (whole a)
-        → TraceStuck (tells (hears puts_there)) frames classes file (whole (heard_as a))
-    heard_stuck_by classes file a b part t = stuck_by moved (tells (hears puts)) (tells (hears puts_there)) told frames classes file (whole a) t
+    -- a run fails there, too
+    events_fail_by : (w : Seen) (a : Hearing A) (z : RunFault) (t : Telling (Hearing A)) → EventsFail puts frames w a z t → EventsFail puts_there frames w (heard_as a) z (moved t)
+    events_fail_by w a z t (event_fails {v = v} {b = b} quietly x) =
+        event_fails (quietly_by w a v b quietly) (event_fails_by heard_as (hears puts) (hears puts_there) hears_by v (whole b) z t x)
+    events_fail_by w a z t (frames_fail {u = u} {v = v} {b = b} {c = c} quietly happens x) =
+        frames_fail (quietly_by w a u b quietly) (happens_by moved (tells (hears puts)) (tells (hears puts_there)) told u (whole b) Rested v (whole c) happens) (record {
+          part = lines_part_by moved (tells (hears puts)) (tells (hears puts_there)) (told_any heard_as (hears puts) (hears puts_there) hears_by) (whole c) t (lines_if frames v) x.part;
+          stuck = x.stuck;
+        })
+    events_fail_by w a z t (counted_out {v = v} {b = b} quietly is same) = counted_out (quietly_by w a v b quietly) is (ap moved same)
+
+    pub trace_fails_by : (classes : RawClasses) (file : World0) (a : Hearing A) (z : RunFault) (t : Telling (Hearing A)) → TraceFails puts frames classes file a z t
+        → TraceFails puts_there frames classes file (heard_as a) z (moved t)
+    trace_fails_by classes file a z t (no_memory is same) = no_memory is (ap moved same)
+    trace_fails_by classes file a z t (head_fails fault is failed x) = head_fails fault is failed (told (whole a) t _ x)
+    trace_fails_by classes file a z t (events_fail first headed starts head x) =
+        events_fail first (heard_as headed) starts (hears_by a headed _ (Ok tt) head) (events_fail_by first headed z t x)
+    trace_fails_by classes file a z t (no_name e first headed before is same starts head goes) =
+        no_name e first (heard_as headed) (heard_as before) is (ap moved same) starts (hears_by a headed _ (Ok tt) head) (to_end_by e first headed before goes)
+    trace_fails_by classes file a z t (end_fails fault e is failed x) = end_fails fault e is failed (heard_trace_by classes file a e t x)

@@ -1,6 +1,6 @@
 -- What a process and its host do is what they do where the host is seen as something else that shows the same, and has written
 -- these lines where the host has.
-use Rattle.std.proofs.Common.{◌≡◌, ◌⊎◌, inl, inr, ℕ, ap, subst}
+use Rattle.std.proofs.Common.{◌≡◌, inl, inr, ℕ, ap, subst}
 use Rattle.std.specs.Prelude.{◌+◌, ◌^◌, ℤ, ◌-ℤ◌, nat_le, Bool, true, false, List, [], ◌∷◌}
 use Rattle.std.specs.declared.option.Option.{Option}
 use Rattle.std.specs.declared.option.Option.TheVariants.{None, Some}
@@ -10,7 +10,7 @@ use Rattle.flow_trace.specs.declared.line.Line.{Line}
 use Rattle.flow_code.specs.declared.program.Code.{Code}
 use Rattle.flow_eval.specs.Predefined.{natural}
 use Rattle.flow_numbered.specs.Numbered.{Numbered}
-use Rattle.flow_meaning.specs.Requests.{DiskCall, Request, Drew, Packet}
+use Rattle.flow_meaning.specs.Requests.{DiskCall, Request, Drew}
 use Rattle.flow_meaning.specs.Burst.{Host}
 use Rattle.flow_meaning.specs.Effects.{between, is_port, judged}
 use Rattle.flow_steps.specs.declared.call.Call.{Call}
@@ -25,7 +25,7 @@ use Rattle.flow_machine.specs.Hosting.{Serves}
 use Rattle.flow_machine.specs.Serving.{Thrown, DrawServed, DelayServed, DiskServed, PortOpened, ListenServed, SendServed, Served, ServedIf, may_send}
 use Rattle.flow_machine.specs.Bursts.{Bursts, rests, runs_out, asks, MainBursts}
 use Rattle.flow_machine.specs.declared.host.RunFault.{RunFault}
-use Rattle.flow_machine.specs.Breaking.{DrawBroke, SendBroke, Unwritten, ServingBroke, ServingBrokeIf, BreaksOff, no_memory, gets_stuck, serving, further}
+use Rattle.flow_machine.specs.Breaking.{DrawBroke, SendBroke, Unwritten, ServingBrokeIf, BreaksOff, no_memory, gets_stuck, serving, further}
 use Rattle.flow_machine.specs.Breaking.{MainBreaksOff, uncalled, main_stuck, untold, called, BringingBreaksOff, unbrought, bringing_stuck, is_brought}
 use Rattle.flow_world.specs.declared.action.EventAction.{EventAction}
 use Rattle.flow_world.specs.declared.action.EventAction.TheVariants.{Boots, Stops, Delivers, Brings}
@@ -133,26 +133,27 @@ module _ {A B W : Type 0} (f : A → B) (serves : Host W) (shows : B → Numbere
     draw_broke_by a b (inl t) = inl (unwritten_by a b t)
     draw_broke_by a b (inr t) = inr (serves_by Drew a b t)
 
-    send_broke_by : (number port : ℕ) (text : List ℕ) (a b : A)
-        → SendBroke serves shown written written_in_part number port text a b → SendBroke serves shows wrote broke number port text (f a) (f b)
-    send_broke_by number port text a b (inl same) = inl (ap f same)
-    send_broke_by number port text a b (inr t) = inr (λ ps w s. in_part_as_well a b _ (t ps w s))
+    send_broke_by : (fits : Bool) (number port : ℕ) (text : List ℕ) (a b : A)
+        → SendBroke serves shown written written_in_part fits number port text a b → SendBroke serves shows wrote broke fits number port text (f a) (f b)
+    send_broke_by true number port text a b (inl same) = inl (ap f same)
+    send_broke_by true number port text a b (inr t) = inr (λ ps w s. in_part_as_well a b _ (t ps w s))
+    send_broke_by false number port text a b same = ap f same
 
-    serving_broke_by : (c : Option Call) (a b : A) → ServingBrokeIf serves shown written written_in_part c a b → ServingBrokeIf serves shows wrote broke c (f a) (f b)
-    serving_broke_by None a b t = absurd t
-    serving_broke_by (Some (call.Line l)) a b t = in_part_as_well a b (l ∷ []) t
-    serving_broke_by (Some (call.Draw i g lo hi)) a b t = draw_broke_by a b t
-    serving_broke_by (Some (call.Delay i g ticks)) a b t = unwritten_by a b t
-    serving_broke_by (Some (call.Listen i g port)) a b t = unwritten_by a b t
-    serving_broke_by (Some (call.Disk i g request)) a b t = unwritten_by a b t
-    serving_broke_by (Some (call.SendTo i number port text)) a b t = send_broke_by (natural number) (natural port) text a b t
-    serving_broke_by (Some (call.Unlisten k)) a b t = absurd t
+    serving_broke_by : (n : ℕ) (c : Option Call) (a b : A) → ServingBrokeIf serves shown written written_in_part n c a b → ServingBrokeIf serves shows wrote broke n c (f a) (f b)
+    serving_broke_by n None a b t = absurd t
+    serving_broke_by n (Some (call.Line l)) a b t = in_part_as_well a b (l ∷ []) t
+    serving_broke_by n (Some (call.Draw i g lo hi)) a b t = draw_broke_by a b t
+    serving_broke_by n (Some (call.Delay i g ticks)) a b t = unwritten_by a b t
+    serving_broke_by n (Some (call.Listen i g port)) a b t = unwritten_by a b t
+    serving_broke_by n (Some (call.Disk i g request)) a b t = unwritten_by a b t
+    serving_broke_by n (Some (call.SendTo i number port text)) a b t = send_broke_by (may_send n number port) (natural number) (natural port) text a b t
+    serving_broke_by n (Some (call.Unlisten k)) a b t = absurd t
 
     pub breaks_by : (code : Code) (n : ℕ) (p : Process) (a b : A) (fault : RunFault)
         → BreaksOff serves shown written written_in_part code n p a fault b → BreaksOff serves shows wrote broke code n p (f a) fault (f b)
     breaks_by code n p a _ _ (no_memory _ _) = no_memory p (f a)
     breaks_by code n p a _ _ (gets_stuck _ _ t) = gets_stuck p (f a) t
-    breaks_by code n p a b fault (serving _ q _ _ _ t broken stuck) = serving p q (f a) (f b) fault t (serving_broke_by q.asked a b broken) stuck
+    breaks_by code n p a b fault (serving _ q _ _ _ t broken stuck) = serving p q (f a) (f b) fault t (serving_broke_by n q.asked a b broken) stuck
     breaks_by code n p a c fault (further _ q r _ b _ _ t served rest) =
         further p q r (f a) (f b) (f c) fault t (served_if_by n q.asked (unasked q) r a b served) (breaks_by code n r b c fault rest)
 
@@ -160,7 +161,7 @@ module _ {A B W : Type 0} (f : A → B) (serves : Host W) (shows : B → Numbere
         → MainBreaksOff serves shown written written_in_part code n me p a fault b → MainBreaksOff serves shows wrote broke code n me p (f a) fault (f b)
     main_breaks_by code n me p a _ _ uncalled = uncalled
     main_breaks_by code n me p a _ _ (main_stuck t) = main_stuck t
-    main_breaks_by code n me p a b fault (untold q _ _ t broken stuck) = untold q (f b) fault t (serving_broke_by q.asked a b broken) stuck
+    main_breaks_by code n me p a b fault (untold q _ _ t broken stuck) = untold q (f b) fault t (serving_broke_by n q.asked a b broken) stuck
     main_breaks_by code n me p a c fault (called q r b _ _ t served rest) =
         called q r (f b) (f c) fault t (served_if_by n q.asked (unasked q) r a b served) (breaks_by code n r b c fault rest)
 

@@ -1,7 +1,7 @@
 -- The trace of classes in a world is the same where what is written is seen as something else, if each line that is put is put
 -- there too.
-use Rattle.std.proofs.Common.{ap}
-use Rattle.std.specs.Prelude.{Bool, Result, Ok}
+use Rattle.std.proofs.Common.{ℕ, ap}
+use Rattle.std.specs.Prelude.{Bool, Result, Ok, Err}
 use Rattle.std.specs.declared.option.Option.{Option}
 use Rattle.std.specs.declared.option.Option.TheVariants.{None, Some}
 use Rattle.flow_base.specs.declared.fault.OutFault.{OutFault}
@@ -11,11 +11,12 @@ use Rattle.flow_class.specs.declared.class.RawClasses.{RawClasses}
 use Rattle.flow_world.specs.declared.event.Event.TheVariants.{Ran}
 use Rattle.flow_world.specs.Ending.{Seen}
 use Rattle.flow_world.specs.FaultedLines.{Telling, TellsAfter, tells}
-use Rattle.flow_world.proofs.MovedEvents.{lines_by, does_event_by}
-use Rattle.flow_world.proofs.MovedStuck.{event_stuck_by}
+use Rattle.flow_world.proofs.MovedEvents.{lines_by, comes_by, does_event_by}
+use Rattle.flow_world.proofs.MovedBreaking.{moment_breaks_by}
+use Rattle.flow_machine.specs.declared.host.RunFault.{RunFault}
 use Rattle.flow_world.specs.declared.ending.Ending.{Ending}
 use Rattle.flow_world.specs.Tracing.{RunsEvents, no_event, one_more, Traces, Begins, TracesPart, begun, all}
-use Rattle.flow_world.specs.StuckTraces.{EventsStuck, event_stuck, frames_stuck, TraceStuck}
+use Rattle.flow_world.specs.BreakingEvents.{MomentFails, breaks_off, went_on, EventFails}
 
 -- where lines are told, seen as something else
 module _ {A B : Type 0} (f : A → B) (puts : A → Line → Result (Unit {0}) OutFault → A → Type 0) (puts_there : B → Line → Result (Unit {0}) OutFault → B → Type 0)
@@ -74,17 +75,20 @@ module _ {A B : Type 0} (f : A → B) (puts : A → Line → Result (Unit {0}) O
   part_by frames classes file a b (begun t) = begun (begins_by frames classes file a b t)
   part_by frames classes file a b (all {e = e} t) = all (traces_by frames classes file a e b t)
 
-  -- it goes astray there, too
-  events_stuck_by : (frames : Bool) (w : Seen) (a : A) → EventsStuck puts frames w a → EventsStuck puts_there frames w (f a)
-  events_stuck_by frames w a (event_stuck {v = v} {b = b} goes t) = event_stuck (goes_by frames w a v b goes) (event_stuck_by f puts puts_there there v b t)
-  events_stuck_by frames w a (frames_stuck {u = u} {v = v} {b = b} {c = c} goes does t) =
-      frames_stuck (goes_by frames w a u b goes) (does_event_by f puts puts_there there Ran u b v c does) t
+-- an event fails there, too
+module _ {A B : Type 0} (f : A → B) (puts : A → Line → Result (Unit {0}) OutFault → A → Type 0) (puts_there : B → Line → Result (Unit {0}) OutFault → B → Type 0)
+    (there : (a b : A) (l : Line) (answer : Result (Unit {0}) OutFault) → puts a l answer b → puts_there (f a) l answer (f b)) where
+  told : (a b : Telling A) (l : Line) → tells puts a l (Ok tt) b → tells puts_there (seen_of f a) l (Ok tt) (seen_of f b)
+  told a b l t = told_by f puts puts_there there a b l t
 
-  pub stuck_by : (frames : Bool) (classes : RawClasses) (file : World0) (a : A) → TraceStuck puts frames classes file a → TraceStuck puts_there frames classes file (f a)
-  stuck_by frames classes file a t = record {
-    first = t.first;
-    headed = f t.headed;
-    starts = t.starts;
-    head = there a t.headed _ t.head;
-    events = events_stuck_by frames t.first t.headed t.events;
-  }
+  pub told_any : (a b : Telling A) (l : Line) (answer : Result (Unit {0}) OutFault) → tells puts a l answer b → tells puts_there (seen_of f a) l answer (seen_of f b)
+  told_any a b l (Ok tt) t = told a b l t
+  told_any a b l (Err fault) t = absurd t
+
+  moment_fails_by : (time : ℕ) (scripted : Bool) (w : Seen) (a : Telling A) (z : RunFault) (t : Telling A)
+      → MomentFails puts time scripted w a z t → MomentFails puts_there time scripted w (seen_of f a) z (seen_of f t)
+  moment_fails_by time scripted w a z t (breaks_off x) = breaks_off (moment_breaks_by (seen_of f) (tells puts) (tells puts_there) told_any time scripted w a z t x)
+  moment_fails_by time scripted w a z t (went_on fault e v is failed x) = went_on fault e v is failed (comes_by (seen_of f) (tells puts) (tells puts_there) told scripted _ a e v t x)
+
+  pub event_fails_by : (w : Seen) (a : Telling A) (z : RunFault) (t : Telling A) → EventFails puts w a z t → EventFails puts_there w (seen_of f a) z (seen_of f t)
+  event_fails_by w a z t x = record { time = x.time; scripted = x.scripted; comes = x.comes; bound = x.bound; fails = moment_fails_by x.time x.scripted w a z t x.fails }

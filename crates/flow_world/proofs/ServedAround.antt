@@ -1,6 +1,6 @@
 -- What the world around a process does for it, as the definitions say.
 use Rattle.std.proofs.Common.{◌≡◌, ℕ, suc, ◌+◌, ◌<◌, List, [], ◌∷◌, refl, sym, ap, subst, ◌∙◌, arith}
-use Rattle.std.specs.Prelude.{ℤ, Result, Ok, Err, IfOk, OnOk, is_some}
+use Rattle.std.specs.Prelude.{ℤ, Result, Ok, Err, IfOk, OnOk, OnErr, is_some}
 use Rattle.std.specs.Option.{option_map}
 use Rattle.std.specs.declared.option.Option.{Option}
 use Rattle.std.specs.declared.option.Option.TheVariants.{None, Some}
@@ -25,7 +25,7 @@ use Rattle.flow_world.specs.declared.outside.What.TheVariants as kept
 use Rattle.flow_world.specs.Changes.{Surroundings, with_pending, with_word, next_delay, fate_of, letter, sent_by}
 use Rattle.flow_world.specs.Laws.{fate_lines, with_arrival, packet_sent, packet_lines, disk_asked}
 use Rattle.flow_world.specs.Ports.{PortsRepresent}
-use Rattle.flow_world.specs.Around.{SurroundingsRepresent, Puts, no_line, more_lines}
+use Rattle.flow_world.specs.Around.{SurroundingsRepresent, Puts, no_line, more_lines, PutsPart, put_then, put_fails}
 use Rattle.flow_world.proofs.Requests.{word_drawn, timer_asked, packet_is_sent, disk_is_asked}
 
 -- the process of the event stays the same
@@ -50,6 +50,10 @@ module _ {A : Type 0} (puts : A → Line → Result (Unit {0}) OutFault → A �
       → OnOk r (Puts puts o (l ∷ []) o1 × ((ps : Numbered ℕ) (w : Outside) → SurroundingsRepresent me p m ps w → SurroundingsRepresent me p m ps w))
   line_written (Ok done) o o1 l h = (more_lines h no_line, λ ps w s. s)
   line_written (Err e) o o1 l h = tt
+
+  pub line_broke : (r : Result (Unit {0}) OutFault) (o o1 : A) (l : Line) → puts o l r o1 → OnErr r (PutsPart puts o (l ∷ []) o1)
+  line_broke (Ok done) o o1 l h = tt
+  line_broke (Err e) o o1 l h = put_fails h
 
   -- a drawn word
   pub word_served :
@@ -146,6 +150,22 @@ module _ {A : Type 0} (puts : A → Line → Result (Unit {0}) OutFault → A �
     packet_goes (Ok done) o o1 n between number time e g sent b same =
         packet_served o o1 o1 n (At time) number e g sent no_line (same ∙ ap (λ z. with_pending z time (kept.Arrives q number)) b)
     packet_goes (Err x) o o1 n between number time e g sent b same = tt
+
+    -- Where it can't be sent, a first part of its lines is put.
+    abbrev pub SentInPart : A → A → Type 0
+    SentInPart o b = (ps : Numbered ℕ) (w : Outside) → SurroundingsRepresent me p m ps w → PutsPart puts o (serve (Packet q.0 port text) w).0 b
+
+    pub packet_in_part : (o b : A) (number : ℕ) → number ≡ m.net.sent + 1 → PutsPart puts o (Send number q port text ∷ fate_lines (fate_of m me q) number) b → SentInPart o b
+    packet_in_part o b number e t ps w h =
+        let next : suc m.net.sent ≡ number = grind (arith, e) in
+        subst (λ ls. PutsPart puts o ls b) (ap (λ j. Send j q port text ∷ fate_lines (fate_of m me q) j) (sym next) ∙ (packet_shown ps w h).0) t
+
+    pub line_in_part :
+        (r : Result (Unit {0}) OutFault) (o o1 o2 : A) (number : ℕ) (f : Fate) (l : Line) → number ≡ m.net.sent + 1 → f ≡ fate_of m me q → fate_lines f number ≡ l ∷ []
+        → puts o (Send number q port text) (Ok tt) o1 → puts o1 l r o2 → OnErr r (SentInPart o o2)
+    line_in_part (Ok done) o o1 o2 number f l e g is sent lost = tt
+    line_in_part (Err x) o o1 o2 number f l e g is sent lost =
+        packet_in_part o o2 number e (subst (λ ls. PutsPart puts o (Send number q port text ∷ ls) o2) (sym is ∙ ap (λ y. fate_lines y number) g) (put_then sent (put_fails lost)))
 
 -- whether there is a stream
 pub stream_there : (r : Option CellId) (o : Option ℕ) → option_map (λ k. k.0) r ≡ o → is_some r ≡ is_some o

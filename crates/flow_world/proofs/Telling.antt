@@ -1,6 +1,6 @@
 -- Lines that are told by what goes on to its end though a put fails.
 use Rattle.std.proofs.Common.{◌≡◌, List, [], ◌∷◌, refl, sym, ap₂, subst, ◌∙◌, arith}
-use Rattle.std.specs.Prelude.{Result, Ok, Err, IfOk, OnOk, IsErrOf}
+use Rattle.std.specs.Prelude.{Result, Ok, Err, IfOk, IfErr, OnOk, IsErrOf}
 use Rattle.std.specs.declared.option.Option.{Option}
 use Rattle.std.specs.declared.option.Option.TheVariants.{None, Some}
 use Rattle.flow_base.specs.Faults.{Rose}
@@ -8,9 +8,10 @@ use Rattle.flow_base.specs.declared.fault.OutFault.{OutFault}
 use Rattle.flow_base.specs.declared.fault.OutFault.TheVariants as put
 use Rattle.flow_trace.specs.declared.line.Line.{Line}
 use Rattle.flow_machine.specs.declared.host.RunFault.{RunFault}
-use Rattle.flow_machine.specs.declared.host.RunFault.TheVariants.{Failed, OutOfMemory, Stuck}
-use Rattle.flow_machine.specs.Cause.{RunCause}
+use Rattle.flow_machine.specs.declared.host.RunFault.TheVariants.{Failed}
+use Rattle.flow_machine.specs.Cause.{RunCause, fault_of}
 use Rattle.flow_world.specs.Around.{Puts, no_line, more_lines}
+use Rattle.flow_world.specs.BreakingEvents.{PutFails}
 use Rattle.flow_world.specs.FaultedLines.{Telling, TellsAfter, tells, whole, failed, unless_failed}
 
 module _ {A : Type 0} (puts : A → Line → Result (Unit {0}) OutFault → A → Type 0) where
@@ -20,6 +21,17 @@ module _ {A : Type 0} (puts : A → Line → Result (Unit {0}) OutFault → A �
 
   pub failed_line : (a b : A) (l : Line) → puts a l (Err put.Failed) b → tells puts (whole a) l (Ok tt) (failed b)
   failed_line a b l t = (Err put.Failed, t, refl)
+
+  -- a put that failed, by its fault
+  pub failed_put : {T : Type 0} (a b : A) (l : Line) (r : Result T RunFault) → IsErrOf r Failed → IfErr r (λ f. PutFails puts l a f b) → puts a l (Err put.Failed) b
+  failed_put a b l r e t = of_fault (subst (λ z. IfErr z (λ f. PutFails puts l a f b)) e t)
+    where
+      by_fault : (fault : OutFault) → Failed ≡ fault_of fault → puts a l (Err fault) b → puts a l (Err put.Failed) b
+      by_fault put.Failed is t = t
+      by_fault put.OutOfMemory is t = absurd (cc (is))
+
+      of_fault : PutFails puts l a Failed b → puts a l (Err put.Failed) b
+      of_fault x = by_fault x.fault x.is x.put
 
   -- no line is put after that
   pub no_more : (b : A) (ls : List Line) → Puts (tells puts) (failed b) ls (failed b)
@@ -44,13 +56,6 @@ module _ {T : Type 0} where
   put_failed (Ok x) (Some put.Failed) c e = refl
   put_failed (Ok x) (Some put.OutOfMemory) c e = absurd (cc)
   put_failed (Err f) fault c e = absurd (nothing_failed (Err f) c e)
-
-  -- what went astray didn't fail
-  pub got_stuck : (r result : Result T RunFault) (fault : Option OutFault) → result ≡ unless_failed r fault → IsErrOf result Stuck → IsErrOf r Stuck
-  got_stuck (Ok x) result None h e = let a : Ok x ≡ Err Stuck = sym h ∙ e in absurd (cc (a))
-  got_stuck (Ok x) result (Some put.Failed) h e = let a : Err Failed ≡ Err Stuck = sym h ∙ e in absurd (cc (a))
-  got_stuck (Ok x) result (Some put.OutOfMemory) h e = let a : Err OutOfMemory ≡ Err Stuck = sym h ∙ e in absurd (cc (a))
-  got_stuck (Err f) result fault h e = sym h ∙ e
 
   -- what holds where an answer is good
   pub if_ok : (P : Type 0) (r : Result T RunFault) → OnOk r P → IfOk r (λ x. P)
@@ -82,3 +87,13 @@ module _ {T A : Type 0} (Told : T → Telling A → Type 0) where
   pub told_part : (t : Telling A) (b : A) (r result : Result T RunFault) → t.out ≡ b → result ≡ unless_failed r t.fault → RunCause 0 0 r → IfOk r (λ x. Told x t)
       → IsErrOf result Failed → (x : T) × Told x (failed b)
   told_part t b r result same answer c h e = part_by b r t.fault c (at t b r same h) (sym answer ∙ e)
+
+  -- and where it is a fault: what went on broke off, or went on to its end though a put failed
+  pub told_fails : (Broke : RunFault → Telling A → Type 0) (t : Telling A) (r result : Result T RunFault) → result ≡ unless_failed r t.fault → IfErr r (λ f. Broke f t) → IfOk r (λ x. Told x t)
+      → ((f : RunFault) (x : T) (fault : OutFault) → f ≡ fault_of fault → t.fault ≡ Some fault → Told x t → Broke f t) → IfErr result (λ f. Broke f t)
+  told_fails Broke t r result same broke told by_put = subst (λ z. IfErr z (λ f. Broke f t)) (sym same) (by_answer r t.fault refl broke told)
+    where
+      by_answer : (r : Result T RunFault) (fault : Option OutFault) → t.fault ≡ fault → IfErr r (λ f. Broke f t) → IfOk r (λ x. Told x t) → IfErr (unless_failed r fault) (λ f. Broke f t)
+      by_answer (Ok x) None e b h = tt
+      by_answer (Ok x) (Some fault) e b h = by_put (fault_of fault) x fault refl e h
+      by_answer (Err f) fault e b h = b

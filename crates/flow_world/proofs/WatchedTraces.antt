@@ -1,5 +1,5 @@
 -- A trace that a panel hears, event after event.
-use Rattle.std.proofs.Common.{ℕ, Bool, refl, subst}
+use Rattle.std.proofs.Common.{◌≡◌, ℕ, Bool, refl, subst}
 use Rattle.std.specs.Prelude.{Result, true, false}
 use Rattle.std.specs.declared.option.Option.{Option}
 use Rattle.std.specs.declared.option.Option.TheVariants.{None}
@@ -10,15 +10,21 @@ use Rattle.flow_world.specs.declared.ending.Ending.{Ending}
 use Rattle.flow_world.specs.declared.ending.Ending.TheVariants.{Idle, Bound, Spent}
 use Rattle.flow_world.specs.declared.event.Event.TheVariants.{Ran, Stopped}
 use Rattle.flow_world.specs.declared.event.Event.{Event}
-use Rattle.flow_world.specs.Around.{Puts}
+use Rattle.flow_machine.specs.declared.host.RunFault.{RunFault}
+use Rattle.flow_machine.specs.declared.host.RunFault.TheVariants.{OutOfMemory}
+use Rattle.flow_class.specs.declared.class.RawClasses.{RawClasses}
+use Rattle.flow_worldfile.specs.declared.world.World0.{World0}
+use Rattle.flow_world.specs.Starting.{Starts}
+use Rattle.flow_world.specs.Around.{Puts, PutsPart}
 use Rattle.flow_world.specs.Ending.{Seen}
-use Rattle.flow_world.specs.FaultedLines.{Telling, tells, whole, failed}
+use Rattle.flow_world.specs.FaultedLines.{Telling, tells, telling, whole, failed}
 use Rattle.flow_world.specs.Happening.{EventDoes, Breaks}
-use Rattle.flow_world.specs.StuckTraces.{FramesStuckIf, EventsStuck, frames_stuck}
+use Rattle.flow_world.specs.BreakingEvents.{EventFails}
+use Rattle.flow_world.specs.BreakingTraces.{FramesStuckIf, FramesFail, EventsFail, event_fails, frames_fail, counted_out, TraceFails, no_memory}
 use Rattle.flow_world.specs.Tracing.{lines_if, no_event, one_more, last_answer}
 use Rattle.flow_world.specs.Watching.{Hearing, hearing, watching, hears, EventHeard}
 use Rattle.flow_world.specs.WatchedTraces.{Quietly, EndsItself, StopsAfter, HeardInPart, in_event, in_frames}
-use Rattle.flow_world.proofs.Watching.{lines_unheard, unheard_puts, lines_same}
+use Rattle.flow_world.proofs.Watching.{lines_unheard, unheard_puts, unheard_part, lines_same}
 
 -- what an event does, whoever said Stop in it
 abbrev pub HeardSo : {A : Type 0} (puts : A → Line → Result (Unit {0}) OutFault → A → Type 0) → Event → Seen → A → Ears → Seen → A → Ears → Type 0
@@ -101,16 +107,62 @@ module _ {A : Type 0} (puts : A → Line → Result (Unit {0}) OutFault → A �
             (frames_heard left others t.0 (whole c) (failed d) (subst (λ ls. Puts (tells puts) (whole c) ls (failed d)) (lines_same with_frames left) own)),
       )
 
-  -- or it goes astray
+  -- or an event fails, or the frames after one that ran or was stopped
+  abbrev pub FailsSo : Seen → Hearing A → RunFault → A → Ears → Type 0
+  FailsSo w a z c others = (stop : Option ℕ) × (fault : Option OutFault) × EventsFail puts with_frames w a z (telling (hearing c others stop) fault)
+
+  abbrev FramesFailSo : Seen → A → RunFault → A → Type 0
+  FramesFailSo v c z d = (t : Telling A) × (t.out ≡ d) × FramesFail puts with_frames v (whole c) z t
+
+  pub fails_in_event : (w u : Seen) (a : Hearing A) (b c : A) (ears others : Ears) (z : RunFault) → Quietly puts with_frames w a u (watching b ears)
+      → (stop : Option ℕ) × (fault : Option OutFault) × EventFails (hears puts) u (whole (watching b ears)) z (telling (hearing c others stop) fault)
+      → FailsSo w a z c others
+  fails_in_event w u a b c ears others z so_far t = (t.0, t.1, event_fails so_far t.2)
+
+  frames_fail_heard : (v : Seen) (others : Ears) (stop : Option ℕ) (c : A) (z : RunFault) (t : Telling A) → FramesFail puts with_frames v (whole c) z t
+      → FramesFail (hears puts) with_frames v (whole (hearing c others stop)) z (telling (hearing t.out others stop) t.fault)
+  frames_fail_heard v others stop c z t x =
+      record { part = unheard_part puts others stop (lines_if with_frames v) (whole c) t (lines_unheard with_frames v) x.part; stuck = x.stuck }
+
+  pub fails_in_frames : (w u v : Seen) (a : Hearing A) (b c d : A) (ears others : Ears) (z : RunFault) → Quietly puts with_frames w a u (watching b ears)
+      → HeardSo puts Ran u b ears v c others → FramesFailSo v c z d → FailsSo w a z d others
+  fails_in_frames w u v a b c d ears others z so_far t x = (
+    t.0,
+    x.0.fault,
+    subst (λ o. EventsFail puts with_frames w a z (telling (hearing o others t.0) x.0.fault)) x.1
+        (frames_fail so_far t.1.0 (frames_fail_heard v others t.0 c z x.0 x.2)),
+  )
+
   same_stuck : (b : Bool) (w : Seen) → FramesStuckIf b (record w { ended = true }) → FramesStuckIf b w
   same_stuck true w t = t
   same_stuck false w t = t
 
-  pub stuck_in_frames : (w u v : Seen) (a : Hearing A) (b c : A) (ears others : Ears) → Quietly puts with_frames w a u (watching b ears)
-      → HeardSo puts Ran u b ears v c others → FramesStuckIf with_frames v → EventsStuck (tells (hears puts)) with_frames w (whole a)
-  stuck_in_frames w u v a b c ears others so_far t stuck = frames_stuck so_far.goes t.1.0 stuck
+  pub fails_in_last : (k : ℕ) (w u v : Seen) (a : Hearing A) (b c d : A) (ears others : Ears) (z : RunFault) → Quietly puts with_frames w a u (watching b ears)
+      → HeardSo puts (Stopped k) u b ears v c others → FramesFailSo v c z d → FailsSo w a z d others
+  fails_in_last k w u v a b c d ears others z so_far t x =
+      let left = t.1.left in
+      let own = subst (λ s. FramesFail puts with_frames s (whole c) z x.0) t.1.ended x.2 in
+      let here = record {
+        part = subst (λ ls. PutsPart (tells puts) (whole c) ls x.0) (lines_same with_frames left) own.part;
+        stuck = λ e. same_stuck with_frames left (own.stuck e);
+      } in (
+        t.0,
+        x.0.fault,
+        subst (λ o. EventsFail puts with_frames w a z (telling (hearing o others t.0) x.0.fault)) x.1
+            (frames_fail so_far t.1.happens (frames_fail_heard left others t.0 c z x.0 here)),
+      )
 
-  pub stuck_in_last : (k : ℕ) (w u v : Seen) (a : Hearing A) (b c : A) (ears others : Ears) → Quietly puts with_frames w a u (watching b ears)
-      → HeardSo puts (Stopped k) u b ears v c others → FramesStuckIf with_frames v → EventsStuck (tells (hears puts)) with_frames w (whole a)
-  stuck_in_last k w u v a b c ears others so_far t stuck =
-      frames_stuck so_far.goes t.1.happens (same_stuck with_frames t.1.left (subst (FramesStuckIf with_frames) t.1.ended stuck))
+  -- or too many of them ran
+  pub fails_counting : (w u : Seen) (a : Hearing A) (b : A) (ears : Ears) → Quietly puts with_frames w a u (watching b ears) → FailsSo w a OutOfMemory b ears
+  fails_counting w u a b ears so_far = (None, None, counted_out so_far refl refl)
+
+  -- a trace fails
+  abbrev pub TraceFailsSo : RawClasses → World0 → A → Ears → RunFault → A → Ears → Type 0
+  TraceFailsSo classes file a ears z b others =
+      (stop : Option ℕ) × (fault : Option OutFault) × TraceFails puts with_frames classes file (watching a ears) z (telling (hearing b others stop) fault)
+
+  abbrev pub FailsFrom : Seen → A → Ears → A → Ears → RunFault → Type 0
+  FailsFrom first a ears b others z = (classes : RawClasses) (file : World0) → Starts classes file first → TraceFailsSo classes file a ears z b others
+
+  pub fails_before : (classes : RawClasses) (file : World0) (a : A) (ears : Ears) → TraceFailsSo classes file a ears OutOfMemory a ears
+  fails_before classes file a ears = (None, None, no_memory refl refl)

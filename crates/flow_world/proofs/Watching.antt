@@ -22,17 +22,17 @@ use Rattle.flow_world.specs.declared.event.Event.{Event}
 use Rattle.flow_world.specs.declared.event.Event.TheVariants.{Ran, Idle, BoundReached, Spent, Stopped}
 use Rattle.flow_world.specs.declared.run_ending.RunEnding.{RunEnding}
 use Rattle.flow_world.specs.declared.run_ending.RunEnding.TheVariants as run
-use Rattle.flow_world.specs.Around.{Puts, no_line, more_lines}
+use Rattle.flow_machine.specs.declared.host.RunFault.{RunFault}
+use Rattle.flow_world.specs.Around.{Puts, no_line, more_lines, PutsPart, no_more, put_then, put_fails}
 use Rattle.flow_world.specs.Ending.{Seen, MeansEvent}
-use Rattle.flow_world.specs.FaultedLines.{Telling, TellsAfter, tells, whole, failed}
+use Rattle.flow_world.specs.FaultedLines.{Telling, TellsAfter, tells, telling, whole, failed}
 use Rattle.flow_world.specs.Happening.{EventDoes, Breaks}
-use Rattle.flow_world.specs.StuckEvents.{EventStuck}
+use Rattle.flow_world.specs.BreakingEvents.{EventFails}
 use Rattle.flow_world.specs.Tracing.{own_count, callback_line, own_lines, frames_lines, process_lines, lines_if}
 use Rattle.flow_world.specs.Watching.{Hearing, hearing, first_of, hears, EventHeard, IsPlace, answer_heard, world_heard}
 use Rattle.flow_world.specs.WatchedTraces.{last_line}
 use Rattle.flow_world.proofs.MovedEvents.{happens_by, does_event_by}
-use Rattle.flow_world.proofs.MovedStuck.{event_stuck_by}
-use Rattle.flow_world.proofs.MovedTraces.{seen_of, told_by}
+use Rattle.flow_world.proofs.MovedTraces.{seen_of, told_by, event_fails_by}
 
 -- what puts lines so that a panel hears them, seen as where they go and the panel
 module _ {W A : Type 0} (f : W → Hearing A) (puts : A → Line → Result (Unit {0}) OutFault → A → Type 0) (puts_heard : W → Line → Result (Unit {0}) OutFault → W → Type 0)
@@ -49,8 +49,8 @@ module _ {W A : Type 0} (f : W → Hearing A) (puts : A → Line → Result (Uni
     ended = t.ended;
   }
 
-  pub stuck_heard : (w : Seen) (a : W) → EventStuck (tells puts_heard) w (whole a) → EventStuck (tells (hears puts)) w (whole (f a))
-  stuck_heard w a t = event_stuck_by (seen_of f) (tells puts_heard) (tells (hears puts)) (told_by f puts_heard (hears puts) there) w (whole a) t
+  pub fails_heard : (w : Seen) (a : W) (z : RunFault) (t : Telling W) → EventFails puts_heard w (whole a) z t → EventFails (hears puts) w (whole (f a)) z (seen_of f t)
+  fails_heard w a z t x = event_fails_by f puts_heard (hears puts) there w (whole a) z t x
 
 -- a panel that hears no line of these stays as it was
 first_none : (stop : Option ℕ) → first_of stop None ≡ stop
@@ -88,6 +88,11 @@ module _ {A : Type 0} (puts : A → Line → Result (Unit {0}) OutFault → A �
   pub unheard_puts : (ls : List Line) (a b : Telling A) → AllUnheard ls → Puts (tells puts) a ls b → Puts (tells (hears puts)) (around a) ls (around b)
   unheard_puts [] a _ h no_line = no_line
   unheard_puts (l ∷ ls) a b h (more_lines {b = m} t rest) = more_lines (unheard_told a m l h.0 t) (unheard_puts ls m b h.1 rest)
+
+  pub unheard_part : (ls : List Line) (a b : Telling A) → AllUnheard ls → PutsPart (tells puts) a ls b → PutsPart (tells (hears puts)) (around a) ls (around b)
+  unheard_part ls a _ h no_more = no_more
+  unheard_part (l ∷ ls) a b h (put_then {b = m} t rest) = put_then (unheard_told a m l h.0 t) (unheard_part ls m b h.1 rest)
+  unheard_part (l ∷ ls) a b h (put_fails t) = absurd t
 
 -- what holds of each frame and each callback holds of all lines that are told of them
 module _ (Q : Line → Type 0) (of_frame : (p : ProcId) (a : ActorId) (class : List ℕ) (group : ℕ) → Q (line.Frame p a class group))
@@ -202,4 +207,14 @@ module _ {A X : Type 0} (puts : A → Line → Result (Unit {0}) OutFault → A 
     stop,
     subst (λ z. Breaks (tells (hears puts)) w (whole a) v (failed (hearing u (ears z) stop))) pq
         (subst (λ z. Breaks (tells (hears puts)) w (whole a) v (failed (hearing z (ears p) stop))) ou t),
+  )
+
+  pub known_fails : (z : RunFault) (o u : A) (p q : X) (stop : Option ℕ) (fault : Option OutFault) → o ≡ u → p ≡ q
+      → EventFails (hears puts) w (whole a) z (telling (hearing o (ears p) stop) fault)
+      → (s : Option ℕ) × (k : Option OutFault) × EventFails (hears puts) w (whole a) z (telling (hearing u (ears q) s) k)
+  known_fails z o u p q stop fault ou pq t = (
+    stop,
+    fault,
+    subst (λ x. EventFails (hears puts) w (whole a) z (telling (hearing u (ears x) stop) fault)) pq
+        (subst (λ x. EventFails (hears puts) w (whole a) z (telling (hearing x (ears p) stop) fault)) ou t),
   )

@@ -1,5 +1,5 @@
 -- Lines told one after another are their bytes: all of them, or a first part where a put failed.
-use Rattle.std.proofs.Common.{◌≡◌, ℕ, List, [], ◌∷◌, ◌++◌, sym, ap, ◌∙◌, subst}
+use Rattle.std.proofs.Common.{◌≡◌, ℕ, List, [], ◌∷◌, ◌++◌, append-nil, refl, sym, ap, ◌∙◌, subst}
 use Rattle.std.specs.Prelude.{Result, Ok, Err}
 use Rattle.std.specs.declared.option.Option.{Option}
 use Rattle.std.specs.declared.option.Option.TheVariants.{None, Some}
@@ -12,7 +12,7 @@ use Rattle.flow_base.specs.declared.fault.OutFault.{OutFault}
 use Rattle.flow_trace.specs.Bytes.{Bytes}
 use Rattle.flow_trace.specs.Out.{WritesLine}
 use Rattle.flow_trace.specs.declared.line.Line.{Line}
-use Rattle.flow_world.specs.Around.{Puts, no_line, more_lines}
+use Rattle.flow_world.specs.Around.{Puts, no_line, more_lines, PutsPart, no_more, put_then, put_fails}
 use Rattle.flow_world.specs.FaultedLines.{Telling, tells, whole, failed}
 use Rattle.flow_world.proofs.Telling.{stays}
 use Rattle.flow_world.specs.Written.{put_bytes, bytes_of}
@@ -57,3 +57,25 @@ bytes_put a b lines t = bytes_told a (whole b) lines t
 
 pub part_put : (a b : Known) (lines : List Line) → Puts (tells put_bytes) (whole a) lines (failed b) → AppendsPart a b (bytes_of lines)
 part_put a b lines t = bytes_told a (failed b) lines t
+
+-- a first part of lines that are told is all of fewer lines
+pub tells_part : {A : Type 0} (puts : A → Line → Result (Unit {0}) OutFault → A → Type 0) (a b : Telling A) (ls : List Line) → PutsPart (tells puts) a ls b
+    → (part rest : List Line) × (ls ≡ part ++ rest) × Puts (tells puts) a part b
+tells_part puts a _ ls no_more = ([], ls, refl, no_line)
+tells_part puts a b (l ∷ ls) (put_then {b = c} t more) = let x = tells_part puts c b ls more in (l ∷ x.0, x.1, ap (λ ks. l ∷ ks) x.2, more_lines t x.3)
+tells_part puts a b (l ∷ ls) (put_fails t) = absurd t
+
+bytes_both : (ls ms : List Line) → bytes_of (ls ++ ms) ≡ bytes_of ls ++ bytes_of ms
+bytes_both [] ms = refl
+bytes_both (l ∷ ls) ms = ap (λ bytes. Bytes l ++ bytes) (bytes_both ls ms) ∙ sym (append_assoc (Bytes l) (bytes_of ls) (bytes_of ms))
+
+part_told : (fault : Option OutFault) (a b : Known) (bytes : List ℕ) → Told fault a bytes b → AppendsPart a b bytes
+part_told None a b bytes t = (bytes, [], sym (append-nil bytes), t)
+part_told (Some fault) a b bytes t = t
+
+-- so their bytes are written in part
+pub lines_in_part : (a : Known) (t : Telling Known) (lines : List Line) → PutsPart (tells put_bytes) (whole a) lines t → AppendsPart a t.out (bytes_of lines)
+lines_in_part a t lines puts =
+    let x = tells_part put_bytes (whole a) t lines puts in
+    subst (λ ls. AppendsPart a t.out (bytes_of ls)) (sym x.2)
+    (subst (AppendsPart a t.out) (sym (bytes_both x.0 x.1)) (part_before a t.out (bytes_of x.0) (bytes_of x.1) (part_told t.fault a t.out (bytes_of x.0) (bytes_told a t x.0 x.3))))

@@ -1,5 +1,5 @@
 -- What the world around a process in its event shows, and which lines it wrote.
-use Rattle.std.specs.Prelude.{◌≡◌, ℕ, List, [], ◌∷◌, Result, Ok}
+use Rattle.std.specs.Prelude.{◌≡◌, ℕ, List, [], ◌∷◌, Result, Ok, Err}
 use Rattle.flow_base.specs.declared.ids.ProcId.{ProcId}
 use Rattle.flow_base.specs.declared.fault.OutFault.{OutFault}
 use Rattle.flow_trace.specs.declared.line.Line.{Line}
@@ -28,8 +28,17 @@ pub data Puts {A : Type 0} (puts : A → Line → Result (Unit {0}) OutFault →
   no_line : {a : A} → Puts puts a [] a
   more_lines : {a b c : A} {l : Line} {ls : List Line} → puts a l (Ok tt) b → Puts puts b ls c → Puts puts a (l ∷ ls) c
 
+-- a first part of these lines is put, and then the put of the next one may fail
+pub data PutsPart {A : Type 0} (puts : A → Line → Result (Unit {0}) OutFault → A → Type 0) : A → List Line → A → Type 0 where
+  no_more : {a : A} {ls : List Line} → PutsPart puts a ls a
+  put_then : {a b c : A} {l : Line} {ls : List Line} → puts a l (Ok tt) b → PutsPart puts b ls c → PutsPart puts a (l ∷ ls) c
+  put_fails : {a b : A} {l : Line} {ls : List Line} {fault : OutFault} → puts a l (Err fault) b → PutsPart puts a (l ∷ ls) b
+
 abbrev pub shows : {A : Type 0} → Inside A → Numbered ℕ → Outside → Type 0
 shows h ps w = SurroundingsRepresent h.me h.ports h.outside ps w
 
 abbrev pub wrote : {A : Type 0} → (A → Line → Result (Unit {0}) OutFault → A → Type 0) → Inside A → List Line → Inside A → Type 0
 wrote puts g ls h = Puts puts g.out ls h.out
+
+abbrev pub wrote_part : {A : Type 0} → (A → Line → Result (Unit {0}) OutFault → A → Type 0) → Inside A → List Line → Inside A → Type 0
+wrote_part puts g ls h = PutsPart puts g.out ls h.out

@@ -14,6 +14,9 @@ pub record Telling (A : Type 0) : Type 0 where
   pub out : A
   pub fault : Option OutFault
 
+abbrev pub telling : {A : Type 0} → A → (fault : Option OutFault) → Telling A
+telling a fault = record { out = a; fault = fault }
+
 -- no put failed, and one did
 abbrev pub whole : {A : Type 0} → A → Telling A
 whole a = record { out = a; fault = None }

@@ -10,12 +10,12 @@ pub mod Representing
 pub mod Loans
 pub mod Views
 pub mod Starting
-pub mod StuckEvents
 pub mod FaultedLines
+pub mod BreakingEvents
 pub mod Worlds
 pub mod Ends
 pub mod Tracing
 pub mod Written
-pub mod StuckTraces
 pub mod Watching
 pub mod WatchedTraces
+pub mod BreakingTraces

@@ -1,13 +1,12 @@
 // What an event does to its process.
 
-ghost use Rattle.std.specs.Prelude.{◌≡◌, ◌<◌, IfOk, IsErrOf};
+ghost use Rattle.std.specs.Prelude.{◌≡◌, ◌<◌, IfOk, IfErr};
 ghost use Rattle.flow_machine.specs.Cause.{RunCause};
-ghost use Rattle.flow_machine.specs.declared.host.RunFault.TheVariants.{Stuck};
 ghost use Rattle.flow_steps.specs.Doing.{begun};
 ghost use Rattle.flow_world.specs.Changes.{seen};
 ghost use Rattle.flow_world.specs.Actions.{Does, holds_already, up_after};
 ghost use Rattle.flow_world.specs.Happening.{Acts};
-ghost use Rattle.flow_world.specs.StuckEvents.{ActionStuck, ActsStuck};
+ghost use Rattle.flow_world.specs.BreakingEvents.{ActionBreaks, ActsBreaks};
 
 use crate::around::Around;
 use crate::outside::Outside;
@@ -41,8 +40,8 @@ fn does<H: Host>(
     requires { H.processes (H.kept host.old) ≡ machine.old.processes }
     ensures does { IfOk result (λ e. Does H.serves H.shows H.wrote code.now now turns
         deed machine.old host.old e machine.new host.new) }
-    ensures stuck { IsErrOf result Stuck → ActionStuck H.serves H.shows H.wrote H.broke
-        code.now deed machine.old (begun now turns machine.old.process) host.old host.new }
+    ensures breaks { IfErr result (λ f. ActionBreaks H.serves H.shows H.wrote H.broke
+        code.now deed machine.old (begun now turns machine.old.process) host.old f host.new) }
     ensures cause { RunCause (H.faults host.old) (H.faults host.new) result }
     ensures kept { H.kept host.new ≡ H.kept host.old }
 {
@@ -90,8 +89,8 @@ pub fn acts<L: LineOut>(
     requires processes { place.old.machine.processes ≡ outside.old.net.processes }
     ensures acts { IfOk result (λ e. Acts L.puts code.now turns p deed
         place.old (seen outside.old) out.old e place.new (seen outside.new) out.new) }
-    ensures stuck { IsErrOf result Stuck → ActsStuck L.puts
-        code.now turns p deed place.old (seen outside.old) out.old }
+    ensures breaks { IfErr result (λ f. ActsBreaks L.puts
+        code.now turns p deed place.old (seen outside.old) out.old f out.new) }
     ensures cause { RunCause (L.faults out.old) (L.faults out.new) result }
     ensures kept { L.kept out.new ≡ L.kept out.old }
 {

@@ -3,7 +3,7 @@
 ghost use Rattle.std.specs.Prelude.{◌≡◌, ◌<◌, Ok, IfOk, IsErrOf};
 ghost use Rattle.flow_base.specs.declared.fault.OutFault.TheVariants.{Failed};
 ghost use Rattle.flow_meaning.specs.Outside as meaning;
-ghost use Rattle.flow_world.specs.Around.{SurroundingsRepresent, Puts};
+ghost use Rattle.flow_world.specs.Around.{SurroundingsRepresent, Puts, PutsPart};
 ghost use Rattle.flow_world.specs.Changes.{seen};
 ghost use Rattle.flow_world.specs.Loans.{Loans};
 
@@ -64,8 +64,7 @@ impl<'p, 'w, 'l, L: LineOut> Host for Around<'p, 'w, 'l, L> {
 
     ghost wrote = { λ g ls h. Puts L.puts g.out.now ls h.out.now };
 
-    // Want of memory is free: nothing is said of the lines then.
-    ghost broke = { λ _ _ _. Unit {0} };
+    ghost broke = { λ g ls h. PutsPart L.puts g.out.now ls h.out.now };
 
     fn line(&mut self, line: &Line) -> Result<(), OutFault> {
         self.out.put(line)

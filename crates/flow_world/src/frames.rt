@@ -1,14 +1,14 @@
 // The lines of frames.
 
-ghost use Rattle.std.specs.Prelude.{◌≡◌, ◌≤◌, drop, length, map, slice_get, None, IfOk, OnOk, IsErrOf};
+ghost use Rattle.std.specs.Prelude.{◌≡◌, ◌≤◌, true, drop, length, map, slice_get, None, IfOk, IfErr, OnOk, OnErr, IsErrOf};
 ghost use Rattle.flow_machine.specs.Cause.{RunCause};
 ghost use Rattle.flow_machine.specs.declared.host.RunFault.TheVariants.{Failed, Stuck};
-ghost use Rattle.flow_world.specs.Around.{Puts};
-ghost use Rattle.flow_world.specs.FaultedLines.{tells, whole, failed};
+ghost use Rattle.flow_world.specs.Around.{Puts, PutsPart};
+ghost use Rattle.flow_world.specs.FaultedLines.{Telling, tells, whole, failed};
 ghost use Rattle.flow_world.specs.Worlds.{world_seen};
 ghost use Rattle.flow_world.specs.Tracing.{name_of, own_count, callback_line, frames_lines, own_lines};
 ghost use Rattle.flow_world.specs.Tracing.{process_lines, world_lines, lines_if};
-ghost use Rattle.flow_world.specs.StuckTraces.{SomeNoClass, ProcessFramesStuck, FramesStuck, FramesStuckIf};
+ghost use Rattle.flow_world.specs.BreakingTraces.{SomeNoClass, ProcessFramesStuck, FramesStuck, FramesFail};
 
 use crate::World;
 use crate::put::put;
@@ -33,7 +33,8 @@ pub fn put_frames_if<L: LineOut>(
         (whole out.old) (lines_if with_frames (world_seen world.now)) (whole out.new)) }
     ensures part { IsErrOf result Failed → Puts (tells L.puts)
         (whole out.old) (lines_if with_frames (world_seen world.now)) (failed out.new) }
-    ensures stuck { IsErrOf result Stuck → FramesStuckIf with_frames (world_seen world.now) }
+    ensures fails { IfErr result (λ f. (t : Telling L) × (t.out ≡ out.new)
+        × FramesFail L.puts with_frames (world_seen world.now) (whole out.old) f t) }
     ensures cause { RunCause (L.faults out.old) (L.faults out.new) result }
     ensures kept { L.kept out.new ≡ L.kept out.old }
 {
@@ -50,7 +51,8 @@ fn tell_frames<L: LineOut>(alloc: Global, world: &World, out: &mut L) -> Result<
         (whole out.old) (world_lines (world_seen world.now)) (whole out.new)) }
     ensures part { IsErrOf result Failed → Puts (tells L.puts)
         (whole out.old) (world_lines (world_seen world.now)) (failed out.new) }
-    ensures stuck { IsErrOf result Stuck → FramesStuck (world_seen world.now) }
+    ensures fails { IfErr result (λ f. (t : Telling L) × (t.out ≡ out.new)
+        × FramesFail L.puts true (world_seen world.now) (whole out.old) f t) }
     ensures cause { RunCause (L.faults out.old) (L.faults out.new) result }
     ensures kept { L.kept out.new ≡ L.kept out.old }
 {
@@ -75,6 +77,8 @@ fn tell_frames<L: LineOut>(alloc: Global, world: &World, out: &mut L) -> Result<
 /// Puts the frames of the unfinished actors, by process and actor, each with its callbacks by number.
 fn put_frames<L: LineOut>(alloc: Global, world: &World, out: &mut L) -> Result<(), RunFault>
     ensures puts { OnOk result (Puts L.puts out.old (world_lines (world_seen world.now)) out.new) }
+    ensures part { OnErr result (PutsPart L.puts out.old
+        (world_lines (world_seen world.now)) out.new) }
     ensures stuck { IsErrOf result Stuck → FramesStuck (world_seen world.now) }
     ensures cause { RunCause (L.faults out.old) (L.faults out.new) result }
     ensures kept { L.kept out.new ≡ L.kept out.old }
@@ -95,6 +99,8 @@ fn put_process<L: LineOut>(
     out: &mut L,
 ) -> Result<(), RunFault>
     ensures puts { OnOk result (Puts L.puts out.old (process_lines
+        (world_seen world.now) p) out.new) }
+    ensures part { OnErr result (PutsPart L.puts out.old (process_lines
         (world_seen world.now) p) out.new) }
     ensures stuck { IsErrOf result Stuck → ProcessFramesStuck (world_seen world.now) p }
     ensures cause { RunCause (L.faults out.old) (L.faults out.new) result }
@@ -117,6 +123,8 @@ fn put_each<L: LineOut>(
 ) -> Result<(), RunFault>
     ensures puts { let classes = world.now.code.program.classes.items in OnOk result
         (Puts L.puts out.old (frames_lines classes p frames.now callbacks.now) out.new) }
+    ensures part { let classes = world.now.code.program.classes.items in OnErr result
+        (PutsPart L.puts out.old (frames_lines classes p frames.now callbacks.now) out.new) }
     ensures stuck { let classes = world.now.code.program.classes.items in
         IsErrOf result Stuck → SomeNoClass classes frames.now }
     ensures cause { RunCause (L.faults out.old) (L.faults out.new) result }
@@ -141,6 +149,8 @@ fn put_frame<'c, L: LineOut>(
 ) -> Result<&'c [CallbackView], RunFault>
     ensures puts { let classes = world.now.code.program.classes.items in OnOk result
         (Puts L.puts out.old (own_lines classes p frame.now callbacks.now) out.new) }
+    ensures part { let classes = world.now.code.program.classes.items in OnErr result
+        (PutsPart L.puts out.old (own_lines classes p frame.now callbacks.now) out.new) }
     ensures others { IfOk result (λ others.
         others.now ≡ drop (own_count frame.now.actor callbacks.now) callbacks.now) }
     ensures stuck { let classes = world.now.code.program.classes.items in
@@ -191,6 +201,8 @@ fn put_callbacks<L: LineOut>(
 ) -> Result<(), RunFault>
     ensures puts { OnOk result
         (Puts L.puts out.old (map (callback_line p) callbacks.now) out.new) }
+    ensures part { OnErr result
+        (PutsPart L.puts out.old (map (callback_line p) callbacks.now) out.new) }
     ensures never { ¬ IsErrOf result Stuck }
     ensures cause { RunCause (L.faults out.old) (L.faults out.new) result }
     ensures kept { L.kept out.new ≡ L.kept out.old }

@@ -1,12 +1,12 @@
 // Putting lines.
 
-ghost use Rattle.std.specs.Prelude.{◌≡◌, Ok, Err, map, OnOk, IsErrOf};
+ghost use Rattle.std.specs.Prelude.{◌≡◌, Ok, [], ◌∷◌, map, IfErr, OnOk, OnErr, IsErrOf};
 ghost use Rattle.flow_base.specs.Faults.{HasCause};
-ghost use Rattle.flow_base.specs.declared.fault.OutFault.TheVariants.{Failed};
 ghost use Rattle.flow_meaning.specs.World.{kept_line};
 ghost use Rattle.flow_machine.specs.Cause.{RunCause};
 ghost use Rattle.flow_machine.specs.declared.host.RunFault.TheVariants as run;
-ghost use Rattle.flow_world.specs.Around.{Puts};
+ghost use Rattle.flow_world.specs.Around.{Puts, PutsPart};
+ghost use Rattle.flow_world.specs.BreakingEvents.{PutFails};
 
 use flow_base::fault::OutFault;
 use flow_machine::host::RunFault;
@@ -20,7 +20,7 @@ use std::alloc::Global;
 pub fn put<L: LineOut>(out: &mut L, line: Line) -> Result<(), RunFault>
     ensures puts { OnOk result (L.puts out.old line (Ok tt) out.new) }
     ensures never { ¬ IsErrOf result run.Stuck }
-    ensures fails { IsErrOf result run.Failed → L.puts out.old line (Err Failed) out.new }
+    ensures fails { IfErr result (λ f. PutFails L.puts line out.old f out.new) }
     ensures cause { RunCause (L.faults out.old) (L.faults out.new) result }
     ensures kept { L.kept out.new ≡ L.kept out.old }
 {
@@ -44,6 +44,7 @@ pub fn tell<L: LineOut>(out: &mut L, line: Line) -> Result<(), OutFault>
 pub fn put_kept<L: LineOut>(alloc: Global, fates: &[Kept], out: &mut L) -> Result<(), RunFault>
     ensures never { ¬ IsErrOf result run.Stuck }
     ensures puts { OnOk result (Puts L.puts out.old (map kept_line fates.now) out.new) }
+    ensures part { OnErr result (PutsPart L.puts out.old (map kept_line fates.now) out.new) }
     ensures cause { RunCause (L.faults out.old) (L.faults out.new) result }
     ensures kept { L.kept out.new ≡ L.kept out.old }
 {
@@ -56,6 +57,7 @@ pub fn put_kept<L: LineOut>(alloc: Global, fates: &[Kept], out: &mut L) -> Resul
 // Puts the line of a write.
 fn put_one<L: LineOut>(alloc: Global, kept: &Kept, out: &mut L) -> Result<(), RunFault>
     ensures puts { OnOk result (L.puts out.old (kept_line kept.now) (Ok tt) out.new) }
+    ensures part { OnErr result (PutsPart L.puts out.old (kept_line kept.now ∷ []) out.new) }
     ensures never { ¬ IsErrOf result run.Stuck }
     ensures cause { RunCause (L.faults out.old) (L.faults out.new) result }
     ensures kept { L.kept out.new ≡ L.kept out.old }

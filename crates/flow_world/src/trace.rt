@@ -1,19 +1,20 @@
 // The trace of classes in a world.
 
-ghost use Rattle.std.specs.Prelude.{◌≡◌, ℕ, false, length, IfOk, IsErrOf};
+ghost use Rattle.std.specs.Prelude.{◌≡◌, ℕ, false, length, IfOk, IfErr, IsErrOf};
 ghost use Rattle.std.specs.declared.option.Option.{Option};
+ghost use Rattle.flow_base.specs.declared.fault.OutFault.{OutFault as Fault};
 ghost use Rattle.flow_monitor.specs.Ears.{names};
 ghost use Rattle.flow_machine.specs.Cause.{RunCause};
-ghost use Rattle.flow_machine.specs.declared.host.RunFault.TheVariants.{Failed, Stuck};
+ghost use Rattle.flow_machine.specs.declared.host.RunFault.TheVariants.{Failed};
 ghost use Rattle.flow_worldfile.specs.Worlds.{IsInRange, seen};
-ghost use Rattle.flow_world.specs.FaultedLines.{tells, whole};
+ghost use Rattle.flow_world.specs.FaultedLines.{telling, whole};
 ghost use Rattle.flow_class.specs.declared.class.RawClasses.{RawClasses};
 ghost use Rattle.flow_worldfile.specs.declared.world.World0.{World0 as File};
 ghost use Rattle.flow_world.specs.Starting.{Starts};
 ghost use Rattle.flow_world.specs.Worlds.{world_seen};
 ghost use Rattle.flow_world.specs.Ends.{PutLast};
-ghost use Rattle.flow_world.specs.StuckTraces.{EventsStuck, TraceStuck};
-ghost use Rattle.flow_world.specs.Watching.{hearing, watching, hears};
+ghost use Rattle.flow_world.specs.BreakingTraces.{EventsFail, TraceFails};
+ghost use Rattle.flow_world.specs.Watching.{hearing, watching};
 ghost use Rattle.flow_world.specs.WatchedTraces.{IsEnding, last_line, HeardToEnd, HeardInPart, HeardTrace, HeardTracePart};
 
 use crate::ending::Ending;
@@ -31,8 +32,9 @@ use std::alloc::Global;
 
 #[tactic(auto, using(flow_machine::proofs::Causes::cause_before))]
 /// Runs classes in a world and puts the lines of the trace, from the first to the last, with the frames after each event
-/// that was not spent where they are asked for; or those up to the line that failed. The panel hears the lines of events,
-/// and where one of it says Stop in an event that isn't spent, the trace ends after that event and its frames.
+/// that was not spent where they are asked for; or those up to the line that failed; or, where there is no memory, a first part of
+/// them. The panel hears the lines of events, and where one of it says Stop in an event that isn't spent, the trace ends after that
+/// event and its frames.
 pub fn put_trace<P: Audience, L: LineOut>(
     alloc: Global,
     classes: ClassProgram,
@@ -52,8 +54,9 @@ pub fn put_trace<P: Audience, L: LineOut>(
     ensures part { IsErrOf result Failed → (stop : Option ℕ) × HeardTracePart L.puts with_frames
         classes world (watching out.old (P.ears panel.old))
         (hearing out.new (P.ears panel.new) stop) }
-    ensures stuck { IsErrOf result Stuck → TraceStuck (tells (hears L.puts)) with_frames classes world
-        (whole (watching out.old (P.ears panel.old))) }
+    ensures fails { IfErr result (λ f. (stop : Option ℕ) × (fault : Option Fault) × TraceFails L.puts
+        with_frames classes world (watching out.old (P.ears panel.old)) f
+        (telling (hearing out.new (P.ears panel.new) stop) fault)) }
     ensures last { IfOk result (λ ending. PutLast L.puts (last_line (P.ears panel.old) ending) out.new) }
 {
     // What owns a world has few ways out, since all of the world is dropped at each.
@@ -84,9 +87,10 @@ fn put_lines<P: Audience, L: LineOut>(
         → Starts classes file (world_seen world.old) → (stop : Option ℕ) × HeardTracePart L.puts
         with_frames classes file (watching out.old (P.ears panel.old))
         (hearing out.new (P.ears panel.new) stop) }
-    ensures stuck { IsErrOf result Stuck → (classes : RawClasses) (file : File)
-        → Starts classes file (world_seen world.old) → TraceStuck (tells (hears L.puts)) with_frames
-        classes file (whole (watching out.old (P.ears panel.old))) }
+    ensures fails { IfErr result (λ f. (classes : RawClasses) (file : File)
+        → Starts classes file (world_seen world.old) → (stop : Option ℕ) × (fault : Option Fault)
+        × TraceFails L.puts with_frames classes file (watching out.old (P.ears panel.old)) f
+        (telling (hearing out.new (P.ears panel.new) stop) fault)) }
     ensures last { IfOk result (λ ending. PutLast L.puts (last_line (P.ears panel.old) ending) out.new) }
 {
     put(out, Line::Head)?;
@@ -97,7 +101,8 @@ fn put_lines<P: Audience, L: LineOut>(
 }
 
 #[tactic(auto, using(flow_machine::proofs::Causes::cause_before))]
-/// Runs events up to the end of the run, or to one in which a monitor says Stop, or to one a line of which failed.
+/// Runs events up to the end of the run, or to one in which a monitor says Stop, or to one a line of which failed. `OutOfMemory`
+/// comes where there is no memory, and after 2^64 - 1 events, since no more are counted; a world's bound is lower.
 fn put_events<P: Audience, L: LineOut>(
     alloc: Global,
     world: &mut World,
@@ -113,8 +118,9 @@ fn put_events<P: Audience, L: LineOut>(
     ensures part { IsErrOf result Failed → (stop : Option ℕ) × HeardInPart L.puts with_frames
         (world_seen world.old) (watching out.old (P.ears panel.old))
         (hearing out.new (P.ears panel.new) stop) }
-    ensures stuck { IsErrOf result Stuck → EventsStuck (tells (hears L.puts)) with_frames
-        (world_seen world.old) (whole (watching out.old (P.ears panel.old))) }
+    ensures fails { IfErr result (λ f. (stop : Option ℕ) × (fault : Option Fault) × EventsFail L.puts
+        with_frames (world_seen world.old) (watching out.old (P.ears panel.old)) f
+        (telling (hearing out.new (P.ears panel.new) stop) fault)) }
     ensures cause { RunCause (L.faults out.old) (L.faults out.new) result }
     ensures kept { L.kept out.new ≡ L.kept out.old }
     ensures names { names (P.ears panel.new) ≡ names (P.ears panel.old) }

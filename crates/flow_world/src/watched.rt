@@ -1,16 +1,17 @@
 // Lines that monitors hear as they are put, and the next event of a world so heard.
 
-ghost use Rattle.std.specs.Prelude.{◌≡◌, ℕ, ◌<◌, List, false, length, Some, IfOk, IsErrOf};
+ghost use Rattle.std.specs.Prelude.{◌≡◌, ℕ, ◌<◌, List, false, length, Some, IfOk, IfErr, IsErrOf};
 ghost use Rattle.std.specs.declared.option.Option.{Option};
+ghost use Rattle.flow_base.specs.declared.fault.OutFault.{OutFault as Fault};
 ghost use Rattle.std.specs.Borrow.{GName};
 ghost use Rattle.std.proofs.Props.{props};
 ghost use Rattle.flow_monitor.specs.Ears.{names};
 ghost use Rattle.flow_machine.specs.Cause.{RunCause};
-ghost use Rattle.flow_machine.specs.declared.host.RunFault.TheVariants.{Failed, Stuck};
+ghost use Rattle.flow_machine.specs.declared.host.RunFault.TheVariants.{Failed};
 ghost use Rattle.flow_world.specs.Ending.{MeansEvent};
-ghost use Rattle.flow_world.specs.FaultedLines.{tells, whole, failed};
+ghost use Rattle.flow_world.specs.FaultedLines.{tells, telling, whole, failed};
 ghost use Rattle.flow_world.specs.Happening.{Breaks};
-ghost use Rattle.flow_world.specs.StuckEvents.{EventStuck};
+ghost use Rattle.flow_world.specs.BreakingEvents.{EventFails};
 ghost use Rattle.flow_world.specs.Watching.{hearing, watching, first_of, hears, EventHeard, IsPlace, answer_heard, world_heard};
 ghost use Rattle.flow_world.specs.Worlds.{world_seen};
 
@@ -91,7 +92,8 @@ impl World {
     /// the script left it is idle, and else, with as many events run as the bound, the bound is reached; neither puts a line,
     /// and both are answered again. Where a monitor says Stop in an event that isn't spent, the event goes on to its end, and
     /// it is stopped by the first that did. Where a put fails the event goes on to its end, with no line more, and then that
-    /// fault is answered.
+    /// fault is answered. Where there is no memory it breaks off, and a first part of its lines was put; so it is past the last
+    /// time, which is answered as want of memory.
     pub fn event<P: Audience, L: LineOut>(
         &mut self,
         panel: &mut P,
@@ -106,8 +108,9 @@ impl World {
         ensures breaks { IsErrOf result Failed → (stop : Option ℕ) × Breaks (tells (hears L.puts))
             (world_seen self.old) (whole (watching out.old (P.ears panel.old)))
             (world_seen self.new) (failed (hearing out.new (P.ears panel.new) stop)) }
-        ensures stuck { IsErrOf result Stuck → EventStuck (tells (hears L.puts)) (world_seen self.old)
-            (whole (watching out.old (P.ears panel.old))) }
+        ensures fails { IfErr result (λ f. (stop : Option ℕ) × (fault : Option Fault) × EventFails
+            (hears L.puts) (world_seen self.old) (whole (watching out.old (P.ears panel.old))) f
+            (telling (hearing out.new (P.ears panel.new) stop) fault)) }
         ensures cause { RunCause (L.faults out.old) (L.faults out.new) result }
         ensures kept { L.kept out.new ≡ L.kept out.old }
         ensures names { names (P.ears panel.new) ≡ names (P.ears panel.old) }

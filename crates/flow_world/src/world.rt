@@ -1,6 +1,6 @@
 // The world.
 
-ghost use Rattle.std.specs.Prelude.{◌≡◌, ◌⊎◌, ◌+◌, ◌-◌, ◌^◌, ◌<◌, false, true, min, None, slice_get, IfOk, OnOk, IsErrOf};
+ghost use Rattle.std.specs.Prelude.{◌≡◌, ◌+◌, ◌-◌, ◌^◌, ◌<◌, false, true, min, slice_get, IfOk, IfErr, OnOk, IsErrOf};
 ghost use Rattle.flow_worldfile.specs.Worlds.{IsInRange, seen};
 ghost use Rattle.flow_worldfile.specs.declared.world.Act.TheVariants as act;
 ghost use Rattle.flow_simnet.specs.Links.{cut, healed};
@@ -10,12 +10,12 @@ ghost use Rattle.flow_machine.specs.declared.host.RunFault.TheVariants.{Failed, 
 ghost use Rattle.flow_machine.specs.Cause.{RunCause};
 ghost use Rattle.flow_world.specs.Ending.{MeansEvent, WithinEvent, next};
 ghost use Rattle.flow_world.specs.Worlds.{world_seen};
-ghost use Rattle.flow_world.specs.FaultedLines.{tells, whole, failed};
+ghost use Rattle.flow_world.specs.FaultedLines.{Telling, tells, whole, failed};
 ghost use Rattle.flow_world.specs.Happening.{EventDoes, Breaks, Comes, LineComes, EventComes, Ordered, Happened};
 ghost use Rattle.flow_world.specs.Happening.{Killed, Arrived, Taken, Answered, Runs, Fails, HeardIn};
 ghost use Rattle.flow_world.specs.Happening.{Vanishes, HeldAt, ActsAt, begins, with_net};
-ghost use Rattle.flow_world.specs.StuckEvents.{NoProcess, NoDisk, NoLink, ActsAtStuck, EventRunsStuck, OrderedStuck, TakenStuck, ArrivedStuck};
-ghost use Rattle.flow_world.specs.StuckEvents.{AnsweredStuck, HappenedStuck, LineStuck, PendingStuck, ComesStuck, EventStuck};
+ghost use Rattle.flow_world.specs.BreakingEvents.{NoProcess, NoDisk, NoLink, ActsAtBreaks, RunsBreaks, OrderedBreaks, TakenBreaks, ArrivedBreaks};
+ghost use Rattle.flow_world.specs.BreakingEvents.{AnsweredBreaks, HappenedBreaks, LineBreaks, PendingBreaks, MomentBreaks, MomentFails, EventFails};
 ghost use Rattle.flow_world.specs.Starting.{Starts};
 ghost use Rattle.flow_world.specs.Views.{frames_at, callbacks_at, live_in};
 
@@ -125,8 +125,8 @@ impl World {
             (world_seen self.old) (whole out.old) (world_seen self.new) (whole out.new)) }
         ensures breaks { IsErrOf result Failed → Breaks (tells L.puts)
             (world_seen self.old) (whole out.old) (world_seen self.new) (failed out.new) }
-        ensures stuck { IsErrOf result Stuck →
-            EventStuck (tells L.puts) (world_seen self.old) (whole out.old) }
+        ensures fails { IfErr result (λ f. (t : Telling L) × (t.out ≡ out.new)
+            × EventFails L.puts (world_seen self.old) (whole out.old) f t) }
         ensures cause { RunCause (L.faults out.old) (L.faults out.new) result }
         ensures kept { L.kept out.new ≡ L.kept out.old }
     {
@@ -168,8 +168,8 @@ impl World {
         ensures ended { self.new.ended ≡ true }
         ensures bound { self.new.events ≡ self.old.events }
         ensures ran { OnOk result (self.new.ran ≡ self.old.ran + 1) }
-        ensures stuck { IsErrOf result Stuck → ComesStuck (tells L.puts) scripted
-            (begins time (world_seen self.old)) (whole out.old) }
+        ensures fails { IfErr result (λ f. (t : Telling L) × (t.out ≡ out.new)
+            × MomentFails L.puts time scripted (world_seen self.old) (whole out.old) f t) }
         ensures cause { RunCause (L.faults out.old) (L.faults out.new) result }
         ensures kept { L.kept out.new ≡ L.kept out.old }
     {
@@ -227,8 +227,8 @@ impl World {
         ensures ended { self.new.ended ≡ true }
         ensures bound { self.new.events ≡ self.old.events }
         ensures ran { OnOk result (self.new.ran ≡ self.old.ran + 1) }
-        ensures stuck { IsErrOf result Stuck → ComesStuck L.puts scripted
-            (begins time (world_seen self.old)) out.old }
+        ensures breaks { IfErr result (λ f. MomentBreaks L.puts time scripted
+            (world_seen self.old) out.old f out.new) }
         ensures cause { RunCause (L.faults out.old) (L.faults out.new) result }
         ensures kept { L.kept out.new ≡ L.kept out.old }
     {
@@ -250,8 +250,8 @@ impl World {
         ensures comes { IfOk result (λ e. LineComes L.puts self.old.script
             (world_seen self.old) out.old e (world_seen self.new) out.new) }
         ensures within { WithinEvent (world_seen self.old) (world_seen self.new) }
-        ensures stuck { IsErrOf result Stuck → LineStuck L.puts self.old.script
-            (world_seen self.old) out.old }
+        ensures breaks { IfErr result (λ f. LineBreaks L.puts self.old.script
+            (world_seen self.old) out.old f out.new) }
         ensures cause { RunCause (L.faults out.old) (L.faults out.new) result }
         ensures kept { L.kept out.new ≡ L.kept out.old }
     {
@@ -266,8 +266,8 @@ impl World {
         ensures comes { IfOk result (λ e. EventComes L.puts self.old.outside.timers.pending
             (world_seen self.old) out.old e (world_seen self.new) out.new) }
         ensures within { WithinEvent (world_seen self.old) (world_seen self.new) }
-        ensures stuck { IsErrOf result Stuck → PendingStuck L.puts
-            self.old.outside.timers.pending (world_seen self.old) out.old }
+        ensures breaks { IfErr result (λ f. PendingBreaks L.puts
+            self.old.outside.timers.pending (world_seen self.old) out.old f out.new) }
         ensures cause { RunCause (L.faults out.old) (L.faults out.new) result }
         ensures kept { L.kept out.new ≡ L.kept out.old }
     {
@@ -283,8 +283,8 @@ impl World {
         ensures ordered { IfOk result (λ e. Ordered L.puts act
             (world_seen self.old) out.old e (world_seen self.new) out.new) }
         ensures within { WithinEvent (world_seen self.old) (world_seen self.new) }
-        ensures stuck { IsErrOf result Stuck →
-            OrderedStuck L.puts act (world_seen self.old) out.old }
+        ensures breaks { IfErr result (λ f.
+            OrderedBreaks L.puts act (world_seen self.old) out.old f out.new) }
         ensures cause { RunCause (L.faults out.old) (L.faults out.new) result }
         ensures kept { L.kept out.new ≡ L.kept out.old }
     {
@@ -318,8 +318,8 @@ impl World {
         ensures happened { IfOk result (λ e. Happened L.puts what
             (world_seen self.old) out.old e (world_seen self.new) out.new) }
         ensures within { WithinEvent (world_seen self.old) (world_seen self.new) }
-        ensures stuck { IsErrOf result Stuck →
-            HappenedStuck L.puts what (world_seen self.old) out.old }
+        ensures breaks { IfErr result (λ f.
+            HappenedBreaks L.puts what (world_seen self.old) out.old f out.new) }
         ensures cause { RunCause (L.faults out.old) (L.faults out.new) result }
         ensures kept { L.kept out.new ≡ L.kept out.old }
     {
@@ -345,8 +345,8 @@ impl World {
         ensures happens { IfOk result (λ e. Ordered L.puts (act.Boot p)
             (world_seen self.old) out.old e (world_seen self.new) out.new) }
         ensures within { WithinEvent (world_seen self.old) (world_seen self.new) }
-        ensures stuck { IsErrOf result Stuck →
-            OrderedStuck L.puts (act.Boot p) (world_seen self.old) out.old }
+        ensures breaks { IfErr result (λ f.
+            OrderedBreaks L.puts (act.Boot p) (world_seen self.old) out.old f out.new) }
         ensures cause { RunCause (L.faults out.old) (L.faults out.new) result }
         ensures kept { L.kept out.new ≡ L.kept out.old }
     {
@@ -411,8 +411,8 @@ impl World {
         ensures happens { IfOk result (λ e. Killed L.puts p
             (world_seen self.old) out.old e (world_seen self.new) out.new) }
         ensures within { WithinEvent (world_seen self.old) (world_seen self.new) }
-        ensures stuck { IsErrOf result Stuck → NoDisk p (world_seen self.old)
-            ⊎ NoProcess p (world_seen self.old) }
+        ensures breaks { IfErr result (λ f. OrderedBreaks L.puts (act.Kill p)
+            (world_seen self.old) out.old f out.new) }
         ensures cause { RunCause (L.faults out.old) (L.faults out.new) result }
         ensures kept { L.kept out.new ≡ L.kept out.old }
     {
@@ -452,8 +452,8 @@ impl World {
         ensures arrived { IfOk result (λ e. Arrived L.puts p packet
             (world_seen self.old) out.old e (world_seen self.new) out.new) }
         ensures within { WithinEvent (world_seen self.old) (world_seen self.new) }
-        ensures stuck { IsErrOf result Stuck →
-            ArrivedStuck L.puts p packet (world_seen self.old) out.old }
+        ensures breaks { IfErr result (λ f.
+            ArrivedBreaks L.puts p packet (world_seen self.old) out.old f out.new) }
         ensures cause { RunCause (L.faults out.old) (L.faults out.new) result }
         ensures kept { L.kept out.new ≡ L.kept out.old }
     {
@@ -478,8 +478,8 @@ impl World {
         ensures taken { IfOk result (λ e. Taken L.puts heard p packet
             (world_seen self.old) out.old e (world_seen self.new) out.new) }
         ensures within { WithinEvent (world_seen self.old) (world_seen self.new) }
-        ensures stuck { IsErrOf result Stuck →
-            TakenStuck L.puts heard p packet (world_seen self.old) out.old }
+        ensures breaks { IfErr result (λ f.
+            TakenBreaks L.puts heard p packet (world_seen self.old) out.old f out.new) }
         ensures cause { RunCause (L.faults out.old) (L.faults out.new) result }
         ensures kept { L.kept out.new ≡ L.kept out.old }
     {
@@ -515,8 +515,8 @@ impl World {
         ensures happens { IfOk result (λ e. Answered L.puts p cell asked.now
             (world_seen self.old) out.old e (world_seen self.new) out.new) }
         ensures within { WithinEvent (world_seen self.old) (world_seen self.new) }
-        ensures stuck { IsErrOf result Stuck →
-            AnsweredStuck L.puts p cell asked.now (world_seen self.old) out.old }
+        ensures breaks { IfErr result (λ f.
+            AnsweredBreaks L.puts p cell asked.now (world_seen self.old) out.old f out.new) }
         ensures cause { RunCause (L.faults out.old) (L.faults out.new) result }
         ensures kept { L.kept out.new ≡ L.kept out.old }
     {
@@ -539,8 +539,8 @@ impl World {
         ensures happens { IfOk result (λ e. Runs L.puts p deed
             (world_seen self.old) out.old e (world_seen self.new) out.new) }
         ensures within { WithinEvent (world_seen self.old) (world_seen self.new) }
-        ensures stuck { IsErrOf result Stuck →
-            EventRunsStuck L.puts p deed (world_seen self.old) out.old }
+        ensures breaks { IfErr result (λ f.
+            RunsBreaks L.puts p deed (world_seen self.old) out.old f out.new) }
         ensures cause { RunCause (L.faults out.old) (L.faults out.new) result }
         ensures kept { L.kept out.new ≡ L.kept out.old }
     {
@@ -552,7 +552,7 @@ impl World {
 
     /// Whether a process has nothing to do for a deed.
     fn holds_already(&self, p: ProcId, deed: &EventAction) -> Result<bool, RunFault>
-        ensures stuck { IsErrOf result Stuck → slice_get self.now.places.items p.0 ≡ None }
+        ensures stuck { IfErr result (λ f. (f ≡ Stuck) × NoProcess p (world_seen self.now)) }
         ensures cause { ¬ IsErrOf result Failed }
         ensures held { IfOk result (λ held. HeldAt p deed.now self.now.places.items held) }
     {
@@ -572,8 +572,8 @@ impl World {
         ensures acts { IfOk result (λ e. ActsAt L.puts p deed
             (world_seen self.old) out.old e (world_seen self.new) out.new) }
         ensures within { WithinEvent (world_seen self.old) (world_seen self.new) }
-        ensures stuck { IsErrOf result Stuck →
-            ActsAtStuck L.puts p deed (world_seen self.old) out.old }
+        ensures breaks { IfErr result (λ f.
+            ActsAtBreaks L.puts p deed (world_seen self.old) out.old f out.new) }
         ensures cause { RunCause (L.faults out.old) (L.faults out.new) result }
         ensures kept { L.kept out.new ≡ L.kept out.old }
     {

@@ -1,6 +1,6 @@
 -- From a run that a panel heard to what it leaves of what is shown.
 use Rattle.std.proofs.Common.{◌≡◌, ℕ, Bool, true, false, List, [], ◌∷◌, ◌++◌, refl, sym, ap, ◌∙◌, subst, append_assoc}
-use Rattle.std.specs.Prelude.{Result, Ok, Err, nat_le, if◌then◌else◌}
+use Rattle.std.specs.Prelude.{Result, Ok, Err, IsSome, nat_le, if◌then◌else◌}
 use Rattle.std.specs.declared.option.Option.{Option}
 use Rattle.std.specs.declared.option.Option.TheVariants.{None, Some}
 use Rattle.flow_base.specs.declared.fault.OutFault.{OutFault}
@@ -36,39 +36,50 @@ use Rattle.flow_class_text_laws.proofs.Compiled.{compiled_few}
 use Rattle.flow_world.specs.declared.ending.Ending.TheVariants.{Idle, Bound, Spent}
 use Rattle.flow_world.specs.declared.run_ending.RunEnding.{RunEnding}
 use Rattle.flow_world.specs.declared.run_ending.RunEnding.TheVariants.{Own, Stopped}
-use Rattle.flow_world.specs.Around.{Puts, more_lines}
+use Rattle.flow_world.specs.Around.{Puts, more_lines, PutsPart, put_then}
+use Rattle.flow_world.specs.Around.{no_more as no_part}
 use Rattle.flow_world.specs.Ending.{Seen}
 use Rattle.flow_world.specs.Starting.{Starts}
 use Rattle.flow_world.specs.Ends.{LastIs}
-use Rattle.flow_world.specs.FaultedLines.{Telling, tells, whole, failed}
+use Rattle.flow_world.specs.FaultedLines.{Telling, tells, telling, whole, failed}
 use Rattle.flow_world.specs.Happening.{Happens}
+use Rattle.flow_machine.specs.declared.host.RunFault.{RunFault}
+use Rattle.flow_machine.specs.declared.host.RunFault.TheVariants.{Stuck}
+use Rattle.flow_world.specs.BreakingEvents.{EventFails}
+use Rattle.flow_world.specs.BreakingTraces.{EventsFail, event_fails, frames_fail, counted_out, TraceFails, no_memory, head_fails, events_fail, no_name, end_fails}
+use Rattle.flow_world.specs.Written.{put_bytes}
+use Rattle.flow_world.proofs.Writing.{lines_in_part}
+use Rattle.flow_meaning.proofs.InOrder.{no_thing}
 use Rattle.flow_world.specs.Tracing.{lines_if, RunsEvents}
 use Rattle.flow_world.specs.Watching.{Hearing, watching, hears}
 use Rattle.flow_world.specs.WatchedTraces.{last_line, Quietly, StopsAfter, HeardToEnd, HeardInPart, in_event, in_frames, HeardTrace, HeardTracePart, no_head, in_run, no_end}
-use Rattle.flow_world.proofs.Putting.{puts_more, puts_one}
+use Rattle.flow_world.proofs.Putting.{puts_more, puts_one, part_more, part_all, puts_part}
 use Rattle.flow_world.proofs.Telling.{no_more, whole_line}
 use Rattle.flow_world.proofs.MovedEvents.{lines_by}
-use Rattle.flow_world.proofs.MovedTraces.{seen_of, told_by}
+use Rattle.flow_world.proofs.MovedBreaking.{lines_part_by}
+use Rattle.flow_world.proofs.MovedTraces.{seen_of, told_by, told_any}
 use Rattle.flow_world.proofs.Watching.{frames_all}
-use Rattle.flow_world_refinement.specs.Invariants.{WorldInvariant}
 use Rattle.flow_world_refinement.specs.Effects.Quiescence.{Quiescent}
 use Rattle.flow_world_refinement.specs.Order.Showing.{WorldRepresents}
 use Rattle.flow_world_refinement.specs.Traces.Traced.{KeepsOn, FramesShown}
 use Rattle.flow_world_refinement.proofs.Effects.Settling.{settled_first}
-use Rattle.flow_world_refinement.proofs.Events.Whole.{happening, spent_happening}
-use Rattle.flow_world_refinement.proofs.Invariants.Lasting.{lasting_starts, lasting_stays}
-use Rattle.flow_world_refinement.proofs.Order.Next.{same_end}
+use Rattle.flow_world_refinement.proofs.Events.Whole.{spent_happening}
+use Rattle.flow_world_refinement.proofs.Order.Next.{same_end, goes_on as goes_on_now}
 use Rattle.flow_world_refinement.proofs.Order.Started.{start_shown}
 use Rattle.flow_world_refinement.proofs.Traces.Codes.{code_stays}
 use Rattle.flow_world_refinement.proofs.Traces.Onwards.{goes_on}
 use Rattle.flow_world_refinement.proofs.Traces.Whole.{Went, went}
 use Rattle.flow_world_refinement.proofs.Views.Traced.{Waits, events, keeps_on, frames}
 use Rattle.flow_world_refinement.proofs.Views.Waiting.{start_waits}
-use Rattle.flow_end_to_end.specs.Cut.{ClassesCut, ClassesCutInPart, ProgramCut, ProgramCutInPart}
+use Rattle.flow_end_to_end.specs.Cut.{ClassesCut, ClassesCutInPart, ProgramCut, ProgramCutInPart, ClassesFailInPart, ProgramFailsInPart, ClassesWrittenInPart, ProgramWrittenInPart}
 use Rattle.flow_end_to_end.specs.Exact.{HaveFewPlaces}
 use Rattle.flow_end_to_end.proofs.Cut.InnerLines.{AllInner}
 use Rattle.flow_end_to_end.proofs.Cut.EventLines.{EventLines, event_lines, joined}
 use Rattle.flow_end_to_end.proofs.Cut.Cutting.{all_put, closed_at, event_leaves, left_so_far, left_by_stop, left_by_spent}
+use Rattle.flow_end_to_end.specs.Events.{MemoryWorldInvariant, NextInPart}
+use Rattle.flow_end_to_end.proofs.Events.{not_stuck, memory_not_stuck, event_in_part}
+use Rattle.flow_end_to_end.proofs.Sure.{frames_if_there, events_follow}
+use Rattle.flow_end_to_end.proofs.Upheld.{upheld_starts, upheld_stays}
 use Rattle.flow_end_to_end.proofs.Shown.{code_first, shown_by}
 
 -- frames and callbacks stand within an event
@@ -113,6 +124,11 @@ plain : {A : Type 0} (puts : A → Line → Result (Unit {0}) OutFault → A →
 plain puts a b ls t =
     lines_by (seen_of (λ h. h.out)) (tells (hears puts)) (tells puts) (told_by (λ h. h.out) (hears puts) puts (heard_there puts)) a b ls t
 
+plain_part : {A : Type 0} (puts : A → Line → Result (Unit {0}) OutFault → A → Type 0) (a b : Telling (Hearing A)) (ls : List Line) → PutsPart (tells (hears puts)) a ls b
+    → PutsPart (tells puts) (telling a.out.out a.fault) ls (telling b.out.out b.fault)
+plain_part puts a b ls t =
+    lines_part_by (seen_of (λ h. h.out)) (tells (hears puts)) (tells puts) (told_any (λ h. h.out) (hears puts) puts (heard_there puts)) a b ls t
+
 module _ {A : Type 0} (puts : A → Line → Result (Unit {0}) OutFault → A → Type 0) (c : RawClasses) (file : World0) (with_frames : Bool) (a : A) (ears : Ears)
     (fine : AreWhole (raw_of c)) (few : HaveFewPlaces (raw_of c)) (range : IsInRange (seen file)) where
   abbrev r : RawTree
@@ -122,7 +138,7 @@ module _ {A : Type 0} (puts : A → Line → Result (Unit {0}) OutFault → A �
   P = tells (hears puts)
 
   abbrev Keeps : World Frame → Type 0
-  Keeps = Waits (Quiescent r) (WorldInvariant r) (IsProgram r)
+  Keeps = Waits (Quiescent r) (MemoryWorldInvariant r) (IsProgram r)
 
   abbrev Onwards : World Frame → List Line → Type 0
   Onwards = Shows (classes r) frame_spot with_frames
@@ -148,6 +164,12 @@ module _ {A : Type 0} (puts : A → Line → Result (Unit {0}) OutFault → A �
     pub shown : ClassShown with_frames r (seen file) lines
     pub put : Puts P (whole (watching a ears)) (Cut ears lines) b
 
+  -- a first part of what is left was told
+  pub record FirstPart (t : Telling (Hearing A)) : Type 0 where
+    pub lines : List Line
+    pub shown : ClassShown with_frames r (seen file) lines
+    pub part : PutsPart P (whole (watching a ears)) (Cut ears lines) t
+
   module _ (first : Seen) (headed : Hearing A) (starts : Starts c file first) (head : hears puts (watching a ears) line.Head (Ok tt) headed) where
     head_put : P (whole (watching a ears)) line.Head (Ok tt) (whole headed)
     head_put = whole_line (hears puts) (watching a ears) headed line.Head head
@@ -156,16 +178,16 @@ module _ {A : Type 0} (puts : A → Line → Result (Unit {0}) OutFault → A �
     Came v b = Went (Quiescent r) Keeps (IsProgram r) P r with_frames (at_start (seen file)) (whole headed) v b
 
     frames_law : FramesShown (Quiescent r) Keeps (IsProgram r) with_frames r
-    frames_law = frames (Quiescent r) (WorldInvariant r) (IsProgram r) with_frames r (λ q x s. (s.resting.shown.holds.shows, s.resting.sorted)) (λ m k. k.keeps.fits.count)
+    frames_law = frames (Quiescent r) (MemoryWorldInvariant r) (IsProgram r) with_frames r (λ q x s. (s.resting.shown.holds.shows, s.resting.sorted)) (λ m k. k.lasting.keeps.fits.count)
 
     kept_law : KeepsOn (Quiescent r) Keeps (IsProgram r) r
-    kept_law = keeps_on (Quiescent r) (WorldInvariant r) (IsProgram r) r (lasting_stays r fine.valid)
+    kept_law = keeps_on (Quiescent r) (MemoryWorldInvariant r) (IsProgram r) r (upheld_stays r fine.valid)
 
     came : (v : Seen) (b : Telling (Hearing A)) → RunsEvents P with_frames first (whole headed) v b → Came v b
     came v b goes =
-        went (Quiescent r) Keeps (IsProgram r) P r with_frames (events (Quiescent r) (WorldInvariant r) (IsProgram r) P r (happening P r)) kept_law frames_law first v
+        went (Quiescent r) Keeps (IsProgram r) P r with_frames (events (Quiescent r) (MemoryWorldInvariant r) (IsProgram r) P r (events_follow P r)) kept_law frames_law first v
         (at_start (seen file)) (whole headed) b (code_first c file fine few first starts) (ap raw_of starts.program) (start_shown (Quiescent r) c file first (settled_first r) starts)
-        (lasting_starts r (seen file) range, start_waits (seen file)) goes
+        (upheld_starts r (seen file) range, start_waits (seen file)) goes
 
     put_by : (ls : List Line) (h b : Hearing A) → Puts P (whole h) ls (whole b) → Puts (hears puts) h ls b
     put_by ls h b t = all_put (hears puts) ls h b t
@@ -176,12 +198,15 @@ module _ {A : Type 0} (puts : A → Line → Result (Unit {0}) OutFault → A �
       next : World Frame
       put : Puts P before own told
       is_event : EventLines own
+      shows : WorldRepresents (Quiescent r) v next
+      kept : Keeps next
+      text : raw_of v.code.program ≡ r
       on : (rest : List Line) → Onwards next rest → Onwards x (own ++ (lines_if with_frames v ++ rest))
       after_it : (all : List Line) → Onwards x all → (rest : List Line) × (all ≡ own ++ (lines_if with_frames v ++ rest)) × Onwards next rest
 
     ran : (u v : Seen) (h b d : Telling (Hearing A)) (x : Came u b) → Happens P u b Rested v d → Ran u v x.last b d
     ran u v h b d x happens =
-        let ev = happening P r u v x.last b d x.code x.shows x.keeps.0 happens in
+        let ev = events_follow P r u v x.last b d x.code x.shows x.keeps.0 happens in
         let begun = ev.event.begun in
         let left = ev.event.left in
         let next = after x.last begun left in
@@ -194,6 +219,9 @@ module _ {A : Type 0} (puts : A → Line → Result (Unit {0}) OutFault → A �
           next = next;
           put = ev.event.lines;
           is_event = event_lines (classes r) x.last begun left ev.event.begins ev.event.follows;
+          shows = ev.shows;
+          kept = kept;
+          text = text;
           on = λ rest shows.
               subst (λ vs. Onwards x.last (lines_of begun left ++ (vs ++ rest))) (sym views)
               (event begun left ongoing ev.event.begins ev.event.follows ev.rests shows);
@@ -255,7 +283,7 @@ module _ {A : Type 0} (puts : A → Line → Result (Unit {0}) OutFault → A �
     spent_lines : (u v : Seen) (b d : Telling (Hearing A)) (x : Came u b) → Happens P u b SpentBurst v d
         → (own : List Line) × EventLines own × Puts P b own d × Onwards x.last (own ++ line.EndSpent ∷ [])
     spent_lines u v b d x happens =
-        let ev = spent_happening P r u v x.last b d x.code x.shows x.keeps.0 happens in
+        let ev = spent_happening P r u v x.last b d x.code x.shows x.keeps.0.lasting happens in
         let begun = ev.event.begun in
         let left = ev.event.left in (
           lines_of begun left,
@@ -287,24 +315,83 @@ module _ {A : Type 0} (puts : A → Line → Result (Unit {0}) OutFault → A �
         let x = came t.last (whole t.before) t.quietly.goes in
         spent_end b t.last t.left t.before t.quietly x (spent_lines t.last t.left (whole t.before) (whole b) x t.ends)
 
-    -- a line failed among these, which stand within an event
+    -- these lines stand within an event, and are left
+    among : (u : Seen) (before : Hearing A) (own rest left : List Line) → Quietly puts with_frames first headed u before → (x : Came u (whole before))
+        → cut_from None before.ears (own ++ rest) ≡ own ++ left → Cut ears (line.Head ∷ (x.lines ++ (own ++ rest))) ≡ line.Head ∷ (x.lines ++ (own ++ left))
+    among u before own rest left quietly x same =
+        ap (λ ls. line.Head ∷ ls)
+        (left_so_far puts ears x.lines (own ++ rest) headed before head.2 head.1 quietly.quiet (put_by x.lines headed before x.put) ∙ ap (λ ls. x.lines ++ ls) same)
+
+    -- a line failed among these
     failed_among : (u : Seen) (before b : Hearing A) (own rest : List Line) → Quietly puts with_frames first headed u before → EventLines own
         → (x : Came u (whole before)) → Onwards x.last (own ++ rest) → Puts P (whole before) own (failed b) → UpTo (failed b)
     failed_among u before b own rest quietly is x on t = by_left (event_leaves before.ears own rest is)
       where
         by_left : (left : List Line) × (cut_from None before.ears (own ++ rest) ≡ own ++ left) → UpTo (failed b)
-        by_left (left, same) =
-            let cuts : Cut ears (line.Head ∷ (x.lines ++ (own ++ rest))) ≡ line.Head ∷ (x.lines ++ (own ++ left)) =
-            ap (λ ls. line.Head ∷ ls)
-            (left_so_far puts ears x.lines (own ++ rest) headed before head.2 head.1 quietly.quiet (put_by x.lines headed before x.put) ∙ ap (λ ls. x.lines ++ ls) same) in
-            record {
-              lines = line.Head ∷ (x.lines ++ (own ++ rest));
-              shown = shown_from (x.lines ++ (own ++ rest)) (x.goes (own ++ rest) on);
-              put = subst (λ ls. Puts P (whole (watching a ears)) ls (failed b)) (sym cuts)
-                  (more_lines head_put
-                  (puts_more P (whole headed) (whole before) (failed b) x.lines (own ++ left) x.put
-                  (puts_more P (whole before) (failed b) (failed b) own left t (no_more (hears puts) b left))));
-            }
+        by_left (left, same) = record {
+          lines = line.Head ∷ (x.lines ++ (own ++ rest));
+          shown = shown_from (x.lines ++ (own ++ rest)) (x.goes (own ++ rest) on);
+          put = subst (λ ls. Puts P (whole (watching a ears)) ls (failed b)) (sym (among u before own rest left quietly x same))
+              (more_lines head_put
+              (puts_more P (whole headed) (whole before) (failed b) x.lines (own ++ left) x.put
+              (puts_more P (whole before) (failed b) (failed b) own left t (no_more (hears puts) b left))));
+        }
+
+    -- a first part of them was told
+    part_among : (u : Seen) (before : Hearing A) (own rest : List Line) (t : Telling (Hearing A)) → Quietly puts with_frames first headed u before → EventLines own
+        → (x : Came u (whole before)) → Onwards x.last (own ++ rest) → PutsPart P (whole before) own t → FirstPart t
+    part_among u before own rest t quietly is x on part = by_left (event_leaves before.ears own rest is)
+      where
+        by_left : (left : List Line) × (cut_from None before.ears (own ++ rest) ≡ own ++ left) → FirstPart t
+        by_left (left, same) = record {
+          lines = line.Head ∷ (x.lines ++ (own ++ rest));
+          shown = shown_from (x.lines ++ (own ++ rest)) (x.goes (own ++ rest) on);
+          part = subst (λ ls. PutsPart P (whole (watching a ears)) ls t) (sym (among u before own rest left quietly x same))
+              (put_then head_put (puts_part P (whole headed) (whole before) t x.lines (own ++ left) x.put (part_more P (whole before) t own left part)));
+        }
+
+    -- all lines of the events that ran were told
+    told_so_far : (u : Seen) (before : Hearing A) → Quietly puts with_frames first headed u before → Came u (whole before) → FirstPart (whole before)
+    told_so_far u before quietly x =
+        let y = x.onwards whole_run.0 whole_run.1 in
+        let cuts : Cut ears (line.Head ∷ (x.lines ++ y.0)) ≡ line.Head ∷ (x.lines ++ cut_from None before.ears y.0) =
+        ap (λ ls. line.Head ∷ ls) (left_so_far puts ears x.lines y.0 headed before head.2 head.1 quietly.quiet (put_by x.lines headed before x.put)) in
+        record {
+          lines = line.Head ∷ (x.lines ++ y.0);
+          shown = shown_from (x.lines ++ y.0) (x.goes y.0 y.2);
+          part = subst (λ ls. PutsPart P (whole (watching a ears)) ls (whole before)) (sym cuts)
+              (put_then head_put (puts_part P (whole headed) (whole before) (whole before) x.lines (cut_from None before.ears y.0) x.put no_part));
+        }
+
+    -- the event that failed is the next one that is shown
+    next_part : (v : Seen) (b : Hearing A) (f : RunFault) (t : Telling (Hearing A)) (rest : List Line) → Quietly puts with_frames first headed v b → (x : Came v (whole b))
+        → EventFails (hears puts) v (whole b) f t → NextInPart P r x.last (whole b) f t → Onwards x.last rest → FirstPart t
+    next_part v b f t _ quietly x fails next (ends last z) =
+        absurd (no_thing (sym (goes_on_now (Quiescent r) P v v x.last (whole b) (whole b) x.shows (subst IsSome (sym fails.comes) refl) fails.bound) ∙ z))
+    next_part v b f t _ quietly x fails next (spent g l i j o q) =
+        part_among v b (lines_of g l) (line.EndSpent ∷ []) t quietly (event_lines (classes r) x.last g l j o) x (spent g l i j o q) (next.1 g l j o)
+    next_part v b f t _ quietly x fails next (event {lines = rest} g l i j o q more) =
+        part_among v b (lines_of g l) (seen_if (classes r) frame_spot with_frames (after x.last g l) ++ rest) t quietly (event_lines (classes r) x.last g l j o) x
+        (event g l i j o q more) (next.1 g l j o)
+
+    events_part : (f : RunFault) (t : Telling (Hearing A)) → EventsFail puts with_frames first headed f t → (f ≡ Stuck → ⊥) × FirstPart t
+    events_part f t (event_fails {v = v} {b = b} quietly fails) =
+        let x = came v (whole b) quietly.goes in
+        let next = event_in_part (hears puts) r v x.last (whole b) f t x.code x.shows x.keeps.0 fails in
+        let y = x.onwards whole_run.0 whole_run.1 in
+        (next.0, next_part v b f t y.0 quietly x fails next y.2)
+    events_part f t (frames_fail {u = u} {v = v} {b = before} {c = told} quietly happens fails) =
+        let x = came u (whole before) quietly.goes in
+        let e = ran u v (whole headed) (whole before) (whole told) x happens in
+        let vs = lines_if with_frames v in
+        let y = x.onwards whole_run.0 whole_run.1 in
+        let z = e.after_it y.0 y.2 in (
+          λ is. frames_if_there r fine with_frames v e.next e.text e.shows e.kept.0.lasting e.kept.1 (fails.stuck is),
+          part_among u before (e.own ++ vs) z.0 t quietly (joined (classes r) e.own vs e.is_event (views_inner with_frames v)) x
+              (subst (λ ls. Onwards x.last ls) (sym (append_assoc e.own vs z.0)) (e.on z.0 z.2)) (puts_part P (whole before) (whole told) t e.own vs e.put fails.part),
+        )
+    events_part f t (counted_out {v = v} {b = b} quietly is same) =
+        (memory_not_stuck f is, subst FirstPart (sym same) (told_so_far v b quietly (came v (whole b) quietly.goes)))
 
     in_part : (b : Hearing A) → HeardInPart puts with_frames first headed b → UpTo (failed b)
     in_part b (in_event {u = u} {c = before} quietly t) = by_burst t.burst t.left t.happens
@@ -344,6 +431,35 @@ module _ {A : Type 0} (puts : A → Line → Result (Unit {0}) OutFault → A �
       → (up : UpTo b) × LastIs (last_line ears e) (Cut ears up.lines)
   unfolding with_last
   trace_cut e b t = let over = to_end t.first t.headed t.starts t.head e t.before t.goes in (with_last e t.before b over t.ended, (over.front, over.cut))
+
+  pub trace_part : (f : RunFault) (t : Telling (Hearing A)) → TraceFails puts with_frames c file (watching a ears) f t → (f ≡ Stuck → ⊥) × FirstPart t
+  trace_part f t (no_memory is same) = (
+    memory_not_stuck f is,
+    record {
+      lines = line.Head ∷ whole_run.0;
+      shown = shown_from whole_run.0 whole_run.1;
+      part = subst (PutsPart P (whole (watching a ears)) (Cut ears (line.Head ∷ whole_run.0))) (sym same) no_part;
+    },
+  )
+  trace_part f t (head_fails fault is failed x) =
+      (λ stuck. not_stuck fault (sym is ∙ stuck), record { lines = line.Head ∷ whole_run.0; shown = shown_from whole_run.0 whole_run.1; part = put_then x no_part })
+  trace_part f t (events_fail first headed starts head x) = events_part first headed starts head f t x
+  trace_part f t (no_name e first headed before is same starts head goes) =
+      let over = to_end first headed starts head e before goes in
+      let all = part_all P (whole (watching a ears)) (whole before) over.front over.put in (
+        memory_not_stuck f is,
+        record {
+          lines = over.lines;
+          shown = over.shown;
+          part = subst (PutsPart P (whole (watching a ears)) (Cut ears over.lines)) (sym same)
+              (subst (λ ls. PutsPart P (whole (watching a ears)) ls (whole before)) (sym over.cut) (part_more P (whole (watching a ears)) (whole before) over.front (last_line ears e ∷ []) all));
+        },
+      )
+  trace_part f t (end_fails fault e is failed x) =
+      let up = (trace_cut e t x).0 in (
+        λ stuck. not_stuck fault (sym is ∙ stuck),
+        record { lines = up.lines; shown = up.shown; part = part_all P (whole (watching a ears)) t (Cut ears up.lines) up.put },
+      )
 
 module _ {A : Type 0} (puts : A → Line → Result (Unit {0}) OutFault → A → Type 0) where
   part_cut : (c : RawClasses) (file : World0) (with_frames : Bool) (a : A) (ears : Ears) (fine : AreWhole (raw_of c)) (few : HaveFewPlaces (raw_of c)) (range : IsInRange (seen file))
@@ -386,3 +502,29 @@ module _ {A : Type 0} (puts : A → Line → Result (Unit {0}) OutFault → A �
       let by_text = shown_of_classes (program_of program) (compiled (program_of program)) (are_carried program (compiles_faithfully text program sound.typed)) with_frames (seen file) part.0
       (subst (λ (r : RawTree). ClassShown with_frames r (seen file) part.0) has part.1) in
       (part.0, by_text, part.2)
+
+  pub classes_fail : ClassesFailInPart puts
+  classes_fail c file with_frames a ears f b fault fine few range t =
+      let x = trace_part puts c file with_frames a ears fine few range f (telling b fault) t in
+      (x.0, (x.1.lines, x.1.shown, plain_part puts (whole (watching a ears)) (telling b fault) (Cut ears x.1.lines) x.1.part))
+
+  pub program_fails : ProgramFailsInPart puts
+  program_fails text program c file with_frames a ears f b fault sound light has range t =
+      let fine = subst AreWhole (sym has) (compiles_whole text program sound) in
+      let few = subst HaveFewPlaces (sym has) (compiled_few text program sound light) in
+      let x = classes_fail c file with_frames a ears f b fault fine few range t in
+      let lines = x.1.0 in
+      let by_text = shown_of_classes (program_of program) (compiled (program_of program)) (are_carried program (compiles_faithfully text program sound.typed)) with_frames (seen file) lines
+      (subst (λ (r : RawTree). ClassShown with_frames r (seen file) lines) has x.1.1) in
+      (x.0, (lines, by_text, x.1.2))
+
+-- of lines that are written their bytes are
+pub classes_written : ClassesWrittenInPart
+classes_written c file with_frames a ears f b fault fine few range t =
+    let x = classes_fail put_bytes c file with_frames a ears f b fault fine few range t in
+    (x.0, (x.1.0, x.1.1, lines_in_part a (telling b.out fault) (Cut ears x.1.0) x.1.2))
+
+pub program_written : ProgramWrittenInPart
+program_written text program c file with_frames a ears f b fault sound light has range t =
+    let x = program_fails put_bytes text program c file with_frames a ears f b fault sound light has range t in
+    (x.0, (x.1.0, x.1.1, lines_in_part a (telling b.out fault) (Cut ears x.1.0) x.1.2))

@@ -22,7 +22,7 @@ use Rattle.flow_steps.specs.Views.{frame_view, frames_in}
 use Rattle.flow_world.specs.declared.place.Place.{Place}
 use Rattle.flow_world.specs.Views.{frames_at}
 use Rattle.flow_world_refinement.specs.Order.Showing.{PlacesRepresent}
-use Rattle.flow_world.specs.StuckTraces.{SomeNoClass}
+use Rattle.flow_world.specs.BreakingTraces.{SomeNoClass}
 use Rattle.flow_restore_laws.specs.Rest.Boundary.{IsAtRest}
 use Rattle.flow_restore_laws.specs.States.Worlds.{IsTold, AllTold}
 use Rattle.flow_restore_laws.proofs.States.Alike.{no_callback, sleeps}

@@ -33,14 +33,14 @@ use Rattle.flow_world.specs.Ending.{Seen}
 use Rattle.flow_world.specs.Happening.{Happens, EventDoes}
 use Rattle.flow_world.specs.Ports.{PortsRepresent}
 use Rattle.flow_world.specs.Starting.{Starts}
-use Rattle.flow_world.specs.FaultedLines.{tells}
+use Rattle.flow_machine.specs.declared.host.RunFault.TheVariants.{Stuck}
 use Rattle.flow_world.proofs.Putting.{puts_more, puts_one}
 use Rattle.flow_world_refinement.specs.Order.Showing.{PlaceRepresents, PlacesRepresent, WorldRepresents}
 use Rattle.flow_world_refinement.proofs.Order.Next.{same_end}
 use Rattle.flow_world_refinement.proofs.Order.Started.{start_shown}
 use Rattle.flow_world.specs.declared.ending.Ending.{Ending}
 use Rattle.flow_world.specs.declared.ending.Ending.TheVariants.{Idle, Bound, Spent}
-use Rattle.flow_world.specs.StuckTraces.{FramesStuck}
+use Rattle.flow_world.specs.BreakingTraces.{FramesStuck}
 use Rattle.flow_world.specs.Ends.{end_line}
 use Rattle.flow_world.specs.Tracing.{lines_if, last_answer}
 use Rattle.flow_compile_laws.specs.Frames.Framed.{ClassShown, seen_if, Shows, ends, spent, event}
@@ -58,7 +58,7 @@ use Rattle.flow_lowering_laws.proofs.Programs.Whole.{compiles_faithfully}
 use Rattle.flow_determinism.proofs.Whole.{compiles_whole}
 use Rattle.flow_end_to_end.specs.Exact.{HaveFewPlaces}
 use Rattle.flow_end_to_end.specs.Events.{MemoryWorldInvariant}
-use Rattle.flow_end_to_end.proofs.Events.{event_sure}
+use Rattle.flow_end_to_end.proofs.Events.{event_in_part}
 use Rattle.flow_end_to_end.proofs.Shown.{code_first}
 use Rattle.flow_end_to_end.proofs.Upheld.{upheld_starts, upheld_stays}
 use Rattle.flow_restore_laws.specs.Rest.Boundary.{IsAtRest, RestsInRun}
@@ -273,7 +273,7 @@ module _ {A : Type 0} (puts : A → Line → Result (Unit {0}) OutFault → A �
       record {
         rests = (at_rest r whole few (seen file) range x.0 lines x.1 v k.last k.there).1;
         told = told r whole few (seen file) range x.0 lines x.1 v k.last k.there;
-        sure = λ s stuck. event_sure (tells puts) r v k.last s k.there.code k.there.shows k.there.keeps.0 stuck;
+        sure = λ s t fails. (event_in_part puts r v k.last s Stuck t k.there.code k.there.shows k.there.keeps.0 fails).0 refl;
         classed = λ stuck. frames_classed r whole few (seen file) range x.0 lines x.1 v k.last k.there stuck;
       }
 

@@ -22,10 +22,11 @@ use Rattle.flow_world.specs.Around.{Puts}
 use Rattle.flow_world.specs.Ending.{Seen}
 use Rattle.flow_world.specs.Happening.{EventDoes}
 use Rattle.flow_world.specs.Starting.{Starts}
-use Rattle.flow_world.specs.StuckEvents.{EventStuck}
-use Rattle.flow_world.specs.FaultedLines.{Telling, tells}
+use Rattle.flow_machine.specs.declared.host.RunFault.TheVariants.{Stuck}
+use Rattle.flow_world.specs.BreakingEvents.{EventFails}
+use Rattle.flow_world.specs.FaultedLines.{Telling}
 use Rattle.flow_world.specs.declared.ending.Ending.{Ending}
-use Rattle.flow_world.specs.StuckTraces.{FramesStuck}
+use Rattle.flow_world.specs.BreakingTraces.{FramesStuck}
 use Rattle.flow_world.specs.Ends.{end_line, LastIs}
 use Rattle.flow_world.specs.Tracing.{lines_if, last_answer}
 use Rattle.flow_compile_laws.specs.Frames.Framed.{ClassShown, SourceShown}
@@ -78,7 +79,7 @@ module _ {A : Type 0} (puts : A → Line → Result (Unit {0}) OutFault → A �
   pub record OnItsWay (r : RawTree) (w : worlds.World) (v : Seen) : Type 0 where
     pub rests : RestsInRun r w v
     pub told : AllTold v.places
-    pub sure : (s : Telling A) → EventStuck (tells puts) v s → ⊥
+    pub sure : (s t : Telling A) → EventFails puts v s Stuck t → ⊥
     pub classed : FramesStuck v → ⊥
 
   -- So it is at each boundary of such a run of valid classes.

@@ -212,16 +212,27 @@ module _ {A W : Type 0} (serves : Host W) (shows : A → Numbered ℕ → W → 
         by_call (main_waits t is) = waits_goes e x.called x.told k x.between c x.calls t is (follows x.called x.calls) x.line x.bursts
         by_call (main_starts t st) = starts_goes e x.called x.told k x.between c x.calls t st (follows x.called x.calls) x.line x.bursts
 
+    -- the lines of a boot are what the call tells
+    pub main_lines : (n : Process) → MainCalled code me start n → booted.core.lines ≡ memory.told n.asked
+    main_lines n calls = by_match (follows n calls)
+      where
+        by_match : memory.Matches r [] nothing_in_hand n booted → booted.core.lines ≡ memory.told n.asked
+        by_match (memory.shows s) = s.lines
+        by_match (memory.ends s) = s.lines
+
     -- after the call and its line a burst begins, or the event is spent
-    pub main_begins : (n told : Process) (b : A) → MainCalled code me start n → ServedIf serves shows wrote processes n.asked (unasked n) a told b
-        → ((l : Line) × (told ≡ unasked n) × RepresentsInWorld serves shows wrote code processes r (l ∷ []) told b booted w) ⊎ (told.spent ≡ true)
+    abbrev pub MainBegins : Process → Process → A → Type 0
+    MainBegins n told b =
+        ((l : Line) × (told ≡ unasked n) × RepresentsInWorld serves shows wrote code processes r (l ∷ []) told b booted w × wrote a (l ∷ []) b)
+        ⊎ (AreSpent [] told booted × (b ≡ a))
+
+    pub main_begins : (n told : Process) (b : A) → MainCalled code me start n → ServedIf serves shows wrote processes n.asked (unasked n) a told b → MainBegins n told b
     main_begins n told b calls served = by_call calls (follows n calls)
       where
-        by_call : MainCalled code me start n → memory.Matches r [] nothing_in_hand n booted
-            → ((l : Line) × (told ≡ unasked n) × RepresentsInWorld serves shows wrote code processes r (l ∷ []) told b booted w) ⊎ (told.spent ≡ true)
-        by_call (main_waits t is) f = inr (waits_spent n told b t is f served).0.spent
+        by_call : MainCalled code me start n → memory.Matches r [] nothing_in_hand n booted → MainBegins n told b
+        by_call (main_waits t is) f = let x = waits_spent n told b t is f served in inr (x.0, x.2)
         by_call (main_starts t st) (memory.shows s) =
             let l = line.Start st.actor st.starts.of.name in
             let x = line_abroad n told b l calls (start_line n st) s (subst (λ o. ServedIf serves shows wrote processes o (unasked n) a told b) (start_line n st) served) in
-            inl (l, x.1, x.2)
+            inl (l, x.1, x.2, x.0)
         by_call (main_starts t st) (memory.ends s) = absurd (started_unspent n t st s.spent)

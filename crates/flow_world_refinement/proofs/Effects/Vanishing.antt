@@ -29,13 +29,13 @@ settled_gone r m p s =
 
 module _ (p : ProcId) (m lost : Surroundings) (o : Outside) (fates : List Kept) (s : OutsideRepresents m o) (d : DiskLoses p m lost fates) where
   -- what the definitions lose
-  abbrev loss : Losing (List (List ℕ × File))
+  abbrev pub loss : Losing (List (List ℕ × File))
   loss = power_lost (word_at o.file.seed o.file.words) o.drawn (disk_of o p.0).files
 
   disk_is : disk_of o p.0 ≡ d.disk
   disk_is = ap (λ ds. slice_index_or ds p.0 (record { fails = 0; files = [] })) (sym s.disks) ∙ found m.disks p.0 d.disk (record { fails = 0; files = [] }) d.there
 
-  loss_is : loss ≡ losing d.kept lost.draws.used fates
+  pub loss_is : loss ≡ losing d.kept lost.draws.used fates
   loss_is =
       ap (λ e. power_lost (word_at o.file.seed o.file.words) o.drawn e.files) disk_is
       ∙ ap (λ n. power_lost (word_at o.file.seed o.file.words) n d.disk.files) (sym s.drawn)

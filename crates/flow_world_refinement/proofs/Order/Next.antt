@@ -78,7 +78,7 @@ something w o (Some (t, true)) (Script time order left) some h = refl
 something w o (Some (t, false)) (Event x left) some h = refl
 
 module _ (Rests : Process → Proc Frame → Type 0) {A : Type 0} (puts : A → Line → Result (Unit {0}) OutFault → A → Type 0) where
-  goes_on : (w v : Seen) (m : World Frame) (a b : A) → WorldRepresents Rests w m → IsSome (memory.next w) → w.ran < w.bound → ending m.out (next_of m.out) ≡ None
+  pub goes_on : (w v : Seen) (m : World Frame) (a b : A) → WorldRepresents Rests w m → IsSome (memory.next w) → w.ran < w.bound → ending m.out (next_of m.out) ≡ None
   goes_on w v m a b s some within =
       let fewer : nat_le m.out.file.events m.out.ran ≡ false = grind (arith, nat_tests, s.ran, s.bound) in
       something w m.out (memory.next w) (next_of m.out) some (same_next Rests w m s) ∙ ap (λ t. if t then Some line.EndBound else None) fewer

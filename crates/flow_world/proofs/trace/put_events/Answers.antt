@@ -2,8 +2,8 @@ use Rattle.std.proofs.Common.{rules, ◌≡◌, ◌∙◌, refl, subst, arith}
 use Rattle.flow_world.specs.declared.ending.Ending.TheVariants as ending
 use Rattle.flow_world.specs.declared.event.Event.TheVariants.{Ran, Idle, BoundReached, Spent, Stopped}
 use Rattle.flow_world.specs.Worlds.{world_seen}
-use Rattle.flow_world.specs.StuckTraces.{event_stuck}
-use Rattle.flow_world.proofs.WatchedTraces.{HeardSo, quietly_first, quietly_on, ends_itself, stops_after, breaks_in_event, breaks_in_frames, breaks_in_last, stuck_in_frames, stuck_in_last}
+use Rattle.flow_world.proofs.WatchedTraces.{HeardSo, quietly_first, quietly_on, ends_itself, stops_after, breaks_in_event, breaks_in_frames, breaks_in_last, fails_in_event, fails_in_frames, fails_in_last, fails_counting}
+use Rattle.flow_world.proofs.Putting.{err_is}
 use Rattle.flow_world.proofs.trace.put_events.Goals as goal
 
 pub events-init : goal.events-init
@@ -71,19 +71,23 @@ returns-in_err-put_frames_if-in-Stopped-clause-part g c = λ failed.
     (subst (λ e. HeardSo g.L.LineOut.puts e (world_seen c.events.world) c.events.out (g.P.Audience.ears c.events.panel) (world_seen c.event.new.self) c.event.new.out (g.P.Audience.ears c.event.new.panel)) is c.in_ok-event.ensures.does)
     (c.put_frames_if-in-Stopped.ensures.part (search rules))
 
-pub returns-in_err-event-clause-stuck : goal.returns-in_err-event-clause-stuck
-returns-in_err-event-clause-stuck g c = λ stuck. event_stuck c.events.invariant.quietly.goes (c.event.ensures.stuck (search rules))
+pub returns-in_err-event-clause-fails : goal.returns-in_err-event-clause-fails
+returns-in_err-event-clause-fails g c =
+    err_is _ _ c.in_err-event.field-0.0 (search rules) (fails_in_event _ _ _ _ _ _ _ _ _ _ c.events.invariant.quietly c.in_err-event.ensures.fails)
 
-pub returns-in_err-put_frames_if-in-Ran-clause-stuck : goal.returns-in_err-put_frames_if-in-Ran-clause-stuck
-returns-in_err-put_frames_if-in-Ran-clause-stuck g c = λ stuck.
-    let is : c.in_ok-event.field-0 ≡ Ran = search rules in
-    stuck_in_frames _ _ _ _ _ _ _ _ _ _ c.events.invariant.quietly
-    (subst (λ e. HeardSo g.L.LineOut.puts e (world_seen c.events.world) c.events.out (g.P.Audience.ears c.events.panel) (world_seen c.event.new.self) c.event.new.out (g.P.Audience.ears c.event.new.panel)) is c.in_ok-event.ensures.does)
-    (c.put_frames_if.ensures.stuck (search rules))
+pub returns-in_err-put_frames_if-in-Ran-clause-fails : goal.returns-in_err-put_frames_if-in-Ran-clause-fails
+returns-in_err-put_frames_if-in-Ran-clause-fails g c =
+    let ran : c.in_ok-event.field-0 ≡ Ran = search rules in
+    err_is _ _ c.in_err-put_frames_if-in-Ran.field-0.0 (search rules) (fails_in_frames _ _ _ _ _ _ _ _ _ _ _ _ c.events.invariant.quietly
+    (subst (λ e. HeardSo g.L.LineOut.puts e (world_seen c.events.world) c.events.out (g.P.Audience.ears c.events.panel) (world_seen c.event.new.self) c.event.new.out (g.P.Audience.ears c.event.new.panel)) ran c.in_ok-event.ensures.does)
+    c.in_err-put_frames_if-in-Ran.ensures.fails)
 
-pub returns-in_err-put_frames_if-in-Stopped-clause-stuck : goal.returns-in_err-put_frames_if-in-Stopped-clause-stuck
-returns-in_err-put_frames_if-in-Stopped-clause-stuck g c = λ stuck.
-    let is : c.in_ok-event.field-0 ≡ Stopped c.in-Stopped.k = search rules in
-    stuck_in_last _ _ _ _ _ _ _ _ _ _ _ c.events.invariant.quietly
-    (subst (λ e. HeardSo g.L.LineOut.puts e (world_seen c.events.world) c.events.out (g.P.Audience.ears c.events.panel) (world_seen c.event.new.self) c.event.new.out (g.P.Audience.ears c.event.new.panel)) is c.in_ok-event.ensures.does)
-    (c.put_frames_if-in-Stopped.ensures.stuck (search rules))
+pub returns-in_err-put_frames_if-in-Stopped-clause-fails : goal.returns-in_err-put_frames_if-in-Stopped-clause-fails
+returns-in_err-put_frames_if-in-Stopped-clause-fails g c =
+    let ran : c.in_ok-event.field-0 ≡ Stopped c.in-Stopped.k = search rules in
+    err_is _ _ c.in_err-put_frames_if-in-Stopped.field-0.0 (search rules) (fails_in_last _ _ _ _ _ _ _ _ _ _ _ _ _ c.events.invariant.quietly
+    (subst (λ e. HeardSo g.L.LineOut.puts e (world_seen c.events.world) c.events.out (g.P.Audience.ears c.events.panel) (world_seen c.event.new.self) c.event.new.out (g.P.Audience.ears c.event.new.panel)) ran c.in_ok-event.ensures.does)
+    c.in_err-put_frames_if-in-Stopped.ensures.fails)
+
+pub returns-clause-fails : goal.returns-clause-fails
+returns-clause-fails g c = fails_counting _ _ _ _ _ _ _ c.events.invariant.quietly

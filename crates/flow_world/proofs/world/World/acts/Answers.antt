@@ -1,15 +1,15 @@
-use Rattle.std.proofs.Common.{rules, ap, inl, inr, ◌≡◌, sym, ◌∙◌, arith}
-use Rattle.std.proofs.lemmas.Result.{IfOk-weaker}
+use Rattle.std.proofs.Common.{rules, ap, inl, inr, refl, sym, ◌∙◌, arith}
+use Rattle.std.proofs.lemmas.Result.{IfErr-weaker, IfOk-weaker}
 use Rattle.std.specs.Prelude.{slice_get}
 use Rattle.flow_world.specs.Changes.{seen}
-use Rattle.flow_world.specs.StuckEvents.{not_among, acts_stuck}
+use Rattle.flow_world.specs.BreakingEvents.{not_among, acts_break}
 use Rattle.flow_world.proofs.Events.{at_place}
 use Rattle.flow_world.proofs.world.World.acts.Goals.{then-p-count-via-then-p-count, then-p-count-via-else-p-count+then-processes-count}
 use Rattle.flow_world.proofs.world.World.acts.Goals as goal
 
-pub returns-then-p-count-clause-stuck : goal.returns-then-p-count-clause-stuck
-returns-then-p-count-clause-stuck g c = λ stuck.
-    not_among c.in-Some.place.now (ap (slice_get c.args.self.now.places.items) (sym c.from.ensures)
+pub returns-then-p-count-clause-breaks : goal.returns-then-p-count-clause-breaks
+returns-then-p-count-clause-breaks g c =
+    not_among c.in-Some.place.now refl (ap (slice_get c.args.self.now.places.items) (sym c.from.ensures)
     ∙ at_place c.args.self.now.places.items c.from.result c.in-Some.place.now c.in-Some.place.now c.in-Some.ensures.item.3.0 c.in-Some.ensures.value) (elim c.then-p-count.branch [
       | then-p-count-via-then-p-count w ↦ inl (omega (arith, w.if-p-count.true, c.processes-count.ensures))
       | then-p-count-via-else-p-count+then-processes-count w ↦ inr (λ same. w.if-processes-count.true (w.processes.ensures ∙ same ∙ sym c.processes-count.ensures))
@@ -26,7 +26,10 @@ returns-clause-acts g c =
     })
     c.acts.ensures.acts
 
-pub returns-clause-stuck : goal.returns-clause-stuck
-returns-clause-stuck g c = λ stuck. acts_stuck c.in-Some.place.now
+pub returns-clause-breaks : goal.returns-clause-breaks
+returns-clause-breaks g c =
+    IfErr-weaker c.acts.result _ _
+    (λ f t. acts_break c.in-Some.place.now
     (ap (slice_get c.args.self.now.places.items) (sym c.from.ensures)
-    ∙ at_place c.args.self.now.places.items c.from.result c.in-Some.place.now c.in-Some.place.now c.in-Some.ensures.item.3.0 c.in-Some.ensures.value) (c.acts.ensures.stuck stuck)
+    ∙ at_place c.args.self.now.places.items c.from.result c.in-Some.place.now c.in-Some.place.now c.in-Some.ensures.item.3.0 c.in-Some.ensures.value) t)
+    c.acts.ensures.breaks

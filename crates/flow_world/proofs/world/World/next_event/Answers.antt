@@ -4,6 +4,7 @@ use Rattle.flow_world.specs.Happening.{Comes, begins, ends}
 use Rattle.flow_world.specs.FaultedLines.{tells, whole}
 use Rattle.flow_world.specs.Worlds.{world_seen}
 use Rattle.flow_world.proofs.Happenings.{ended_again}
+use Rattle.flow_world.proofs.Putting.{err_is}
 use Rattle.flow_world.proofs.world.World.next_event.Goals as goal
 
 pub returns-in_err-carries_out-clause-breaks : goal.returns-in_err-carries_out-clause-breaks
@@ -52,3 +53,9 @@ returns-in-Rested-clause-does g c =
           (whole c.carries_out.new.out)) is c.in_ok-carries_out.ensures.comes;
       after = refl;
     }
+
+pub returns-in_err-carries_out-clause-fails : goal.returns-in_err-carries_out-clause-fails
+returns-in_err-carries_out-clause-fails g c =
+    let fails = c.in_err-carries_out.ensures.fails in
+    err_is _ _ c.in_err-carries_out.field-0.0 (search rules)
+    (fails.0, fails.1, record { time = c.in-Some.time; scripted = c.in-Some.scripted; comes = search rules; bound = search rules; fails = fails.2 })
