@@ -1,5 +1,5 @@
 -- What was decided, from what was read.
-use Rattle.std.proofs.Common.{◌≡◌, ℕ, List, ◌++◌, ◌×◌, refl, sym, ap, ◌∙◌, subst, Result, Ok, Err, Option, None, Some}
+use Rattle.std.proofs.Common.{◌≡◌, ℕ, List, ◌++◌, refl, sym, ap, ◌∙◌, subst, Result, Ok, Err, Option, None, Some}
 use Rattle.std.specs.declared.snapshot.Snapshot.{Snapshot}
 use Rattle.flow_base.specs.Faults.{next_count}
 use Rattle.flow_base.specs.Seen.{FilesSeen}

@@ -22,7 +22,8 @@ use Rattle.flow_top.specs.declared.outcome.ProgramRun.{ProgramRun}
 use Rattle.flow_top.specs.declared.outcome.BenchRun.{BenchRun}
 use Rattle.flow_top.specs.declared.outcome.Answered as told
 use Rattle.flow_top.specs.Outcomes.{text_of, status_of, IsShown}
-use Rattle.flow_top.specs.Summary.{summary_text}
+use Rattle.flow_top.specs.declared.counting.Counts.{Counts}
+use Rattle.flow_top.specs.Summary.{counts_of, summary_text}
 
 -- the status of a run by its last line: 4 where an event needed more turns than it may take, 8 where a monitor said Stop
 abbrev pub ending_status : Ending → ℕ
@@ -57,14 +58,22 @@ pub data ReportedTold (outcome : told.Answered) (before after : SinkSeen) : ℕ 
   no_memory_told : GoesOutInPart before after (text_of outcome) → ReportedTold outcome before after 7
 
 -- What was told of a run that this panel heard: the bytes of what is shown of it, cut where a monitor says Stop, with the status of its
--- end. Or a first part of them, of which a first part is out, with status 6, where the sink failed, which its count then shows. Or
--- there was no memory, with status 7: what was written before the run stays, and no more is said.
+-- end. Or a first part of them, of which a first part is out, with status 6, where the sink failed, which its count then shows, or 7,
+-- where there was no memory.
 pub data ReportedRun (r : ProgramRun) (ears : Ears) (before after : SinkSeen) : ℕ → Type 0 where
   ended : (ending : RunEnding) (lines : List Line) → IsShown r lines → LastIs (last_line ears ending) (Cut ears lines)
       → GoesOut before after (bytes_of (Cut ears lines)) → ReportedRun r ears before after (run_status ending)
   run_write_fault : (lines : List Line) → IsShown r lines → GoesOutInPart before after (bytes_of (Cut ears lines))
       → Rose before.faults after.faults → ReportedRun r ears before after 6
-  run_no_memory : Grows before.written after.written → Grows after.handed after.written → ReportedRun r ears before after 7
+  run_no_memory : (lines : List Line) → IsShown r lines → GoesOutInPart before after (bytes_of (Cut ears lines))
+      → ReportedRun r ears before after 7
+
+-- The lines that are shown of a run were counted, up to its end.
+pub record IsCounted (r : ProgramRun) (ending : Ending) (counts : Counts) : Type 0 where
+  pub lines : List Line
+  pub shown : IsShown r lines
+  pub last : LastIs (end_line ending) lines
+  pub counts : counts ≡ counts_of lines
 
 -- What was told of a run whose summary is asked for: that of what is shown of it, with the status of its end; or a first part.
 pub data ReportedBench (b : BenchRun) (before after : SinkSeen) : ℕ → Type 0 where

@@ -43,8 +43,13 @@ fn wanted_by<'a>(asked: &'a Asked<'_>) -> &'a [Want]
 }
 
 // The panel of the monitors that are wanted.
-fn attach(alloc: Global, asked: &Asked<'_>, monitors: Vec<Box<dyn Monitor>>) -> Result<Panel, Answered>
-    ensures fault { Attaches (want_fault (map label monitors.items) (wanted_by (request_of asked.now))) result }
+fn attach(
+    alloc: Global,
+    asked: &Asked<'_>,
+    monitors: Vec<Box<dyn Monitor>>,
+) -> Result<Panel, Answered>
+    ensures fault { Attaches (want_fault (map label monitors.items)
+        (wanted_by (request_of asked.now))) result }
     ensures ears { IfOk result (λ p. ⟦<Panel as Audience>⟧.ears p
         ≡ attached (wanted_by (request_of asked.now))
         (map (λ m. record { name = label m; begun = begun m }) monitors.items)) }

@@ -60,7 +60,10 @@ fn is_throw(line: &Line) -> bool
 fn is_print(line: &Line) -> bool
     ensures { result ≡ is_print line.now }
 {
-    matches!(line, Line::PrintInt(..) | Line::PrintBool(..) | Line::PrintText(..))
+    matches!(
+        line,
+        Line::PrintInt(..) | Line::PrintBool(..) | Line::PrintText(..)
+    )
 }
 
 // A count and one more, where there is one.

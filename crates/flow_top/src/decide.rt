@@ -33,11 +33,8 @@ fn run_for(asked: &Asked<'_>, run: ProgramRun) -> Outcome
             clients: *clients,
             seed: *seed,
         }),
-        Asked::Format(_)
-        | Asked::Check(_)
-        | Asked::Compile(_)
-        | Asked::Run(_)
-        | Asked::Exec(_) => Outcome::Run(run),
+        Asked::Format(_) | Asked::Check(_) | Asked::Compile(_) | Asked::Run(_) | Asked::Exec(_) =>
+            Outcome::Run(run),
     }
 }
 

@@ -1,6 +1,6 @@
 // Telling what a command line came to.
 
-ghost use Rattle.std.specs.Prelude.{◌≡◌, OnOk};
+ghost use Rattle.std.specs.Prelude.{◌≡◌, IfOk, OnOk};
 ghost use Rattle.std.specs.Io.KnownBytes.{Appends};
 ghost use Rattle.flow_base.specs.Bytes.{AppendsPart, Grows};
 ghost use Rattle.flow_base.specs.Faults.{HasCause};
@@ -10,12 +10,13 @@ ghost use Rattle.flow_machine.specs.Cause.{fault_of};
 ghost use Rattle.flow_world.specs.WatchedTraces.{IsEnding};
 ghost use Rattle.flow_world.specs.declared.run_ending.RunEnding.TheVariants.{Own};
 ghost use Rattle.flow_top.specs.Outcomes.{text_of, status_of, world_status, MayRun, MayTell};
-ghost use Rattle.flow_top.specs.Told.{ending_status, run_status, fault_status_of, ReportedTold, ReportedRun, ReportedBench, Reported};
+ghost use Rattle.flow_top.specs.Told.{ending_status, run_status, fault_status_of, GoesOut, GoesOutInPart, ReportedTold, ReportedRun, IsCounted, ReportedBench, Reported};
 
 use crate::counting::Counts;
 use crate::outcome::{Answered, BenchRun, Outcome, ProgramRun};
 use crate::summary::summary;
 use flow_base::fault::OutFault;
+use flow_base::memory::NoMemory;
 use flow_base::output::write_whole;
 use flow_base::sink::Sink;
 use flow_classprint::write_classes;
@@ -44,7 +45,11 @@ fn put_refusal<S: Sink>(alloc: Global, fault: &SourceFault, out: &mut S) -> Resu
 }
 
 // Writes the line of a refusal of a class text.
-fn put_class_refusal<S: Sink>(alloc: Global, fault: &ClassFault, out: &mut S) -> Result<(), OutFault>
+fn put_class_refusal<S: Sink>(
+    alloc: Global,
+    fault: &ClassFault,
+    out: &mut S,
+) -> Result<(), OutFault>
     ensures whole { OnOk result (Appends (S.seen out.old).written (S.seen out.new).written
         (class_refusal fault.now)) }
     ensures part { AppendsPart (S.seen out.old).written (S.seen out.new).written
@@ -180,7 +185,12 @@ fn run_fault(fault: RunFault) -> OutFault
 }
 
 // Runs classes in the world, writes the lines as they are made and flushes them, and gives the status.
-fn report_run<P: Audience, S: Sink>(alloc: Global, run: ProgramRun, panel: &mut P, out: &mut S) -> u8
+fn report_run<P: Audience, S: Sink>(
+    alloc: Global,
+    run: ProgramRun,
+    panel: &mut P,
+    out: &mut S,
+) -> u8
     requires { MayRun run }
     ensures { ReportedRun run (P.ears panel.old) (S.seen out.old) (S.seen out.new) result }
 {
@@ -214,7 +224,7 @@ fn own_ending(ending: RunEnding) -> Ending
 // Runs classes in the world and counts the lines as they are made; none is kept.
 fn count_run(alloc: Global, run: ProgramRun, counts: &mut Counts) -> Result<Ending, NoMemory>
     requires may { MayRun run }
-    requires none { counts.old ≡ no_counts }
+    requires none { counts.old ≡ record { events = 0; starts = 0; throws = 0; prints = 0 } }
     ensures { IfOk result (λ ending. IsCounted run ending counts.new) }
 {
     let ProgramRun {
@@ -230,8 +240,11 @@ fn count_run(alloc: Global, run: ProgramRun, counts: &mut Counts) -> Result<Endi
     }
 }
 
-// Writes a text and flushes it.
+// Writes a text, a line by a call, and flushes it.
 fn write_text<S: Sink>(text: &[u8], out: &mut S) -> Result<(), OutFault>
+    ensures whole { OnOk result (GoesOut (S.seen out.old) (S.seen out.new) text.now) }
+    ensures part { GoesOutInPart (S.seen out.old) (S.seen out.new) text.now }
+    ensures cause { HasCause (S.seen out.old).faults (S.seen out.new).faults result }
 {
     write_lines(out, text)?;
     out.flush()
@@ -258,7 +271,12 @@ fn report_bench<S: Sink>(alloc: Global, bench: BenchRun, out: &mut S) -> u8
 
 /// Writes the text of an outcome and flushes it, and gives the status: the outcome's own, or 6 or 7
 /// where the sink failed or there was no memory on the way. The panel hears a run.
-pub fn report<P: Audience, S: Sink>(alloc: Global, outcome: Outcome, panel: &mut P, out: &mut S) -> u8
+pub fn report<P: Audience, S: Sink>(
+    alloc: Global,
+    outcome: Outcome,
+    panel: &mut P,
+    out: &mut S,
+) -> u8
     requires { MayTell outcome }
     ensures { Reported (P.ears panel.old) outcome (S.seen out.old) (S.seen out.new) result }
 {

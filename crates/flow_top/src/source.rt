@@ -64,7 +64,12 @@ fn fault_outcome(fault: OutFault) -> Answered
 }
 
 // The bytes of the file of this name, one past the limit of a text at most, or what the command comes to without them.
-fn bytes_of<F: Files>(alloc: Global, name: &str, most: usize, files: &mut F) -> Result<Vec<u8>, Answered>
+fn bytes_of<F: Files>(
+    alloc: Global,
+    name: &str,
+    most: usize,
+    files: &mut F,
+) -> Result<Vec<u8>, Answered>
     ensures content { (F.seen files.new).content ≡ (F.seen files.old).content }
     ensures read { TextRead (of_file name.now most) (F.seen files.old) (F.seen files.new) result }
 {
@@ -75,7 +80,11 @@ fn bytes_of<F: Files>(alloc: Global, name: &str, most: usize, files: &mut F) -> 
 }
 
 /// The text from a source, of a file one byte past the limit at most, or what the command comes to without it.
-pub fn read_text<F: Files>(alloc: Global, source: Source<'_>, files: &mut F) -> Result<Vec<u8>, Answered>
+pub fn read_text<F: Files>(
+    alloc: Global,
+    source: Source<'_>,
+    files: &mut F,
+) -> Result<Vec<u8>, Answered>
     ensures content { (F.seen files.new).content ≡ (F.seen files.old).content }
     ensures read { TextRead (source_of source) (F.seen files.old) (F.seen files.new) result }
 {

@@ -47,7 +47,13 @@ fn push_counts(text: &mut Vec<u8>, counts: Counts) -> Result<(), NoMemory>
 }
 
 /// The summary of a run that was counted and ended so.
-pub fn summary(alloc: Global, clients: u32, seed: u64, counts: Counts, ending: Ending) -> Result<Vec<u8>, NoMemory>
+pub fn summary(
+    alloc: Global,
+    clients: u32,
+    seed: u64,
+    counts: Counts,
+    ending: Ending,
+) -> Result<Vec<u8>, NoMemory>
     ensures { IfOk result (λ text. text.items ≡ summary_by clients seed counts (end_line ending)) }
 {
     let mut last = LineBuf::new(alloc)?;
