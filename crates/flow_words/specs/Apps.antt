@@ -1,5 +1,5 @@
 -- The arguments that command words take, as clap's own definition reads them.
-use Rattle.std.specs.Prelude.{Bool, true, false, List, Option, Some, None, codes, bytes_eq, option_map, unwrap_or, if◌then◌else◌}
+use Rattle.std.specs.Prelude.{Bool, true, false, List, Option, Some, None, codes, bytes_eq, if◌then◌else◌}
 use Rattle.clap.specs.Words.{App, Rule, Row, Text, new_app, new_rule, with_rule, fault_of, matches_of, first_of}
 use Rattle.clap.specs.Walk.{is_empty}
 use Rattle.clap.specs.Simple.{Shape, on_top}

@@ -1,5 +1,5 @@
 -- What the words of a command line ask for.
-use Rattle.std.specs.Prelude.{◌≡◌, ℕ, Bool, List, [], ◌∷◌, codes, bytes_eq, option_map, option_and_then, if◌then◌else◌, Result, Ok, Err}
+use Rattle.std.specs.Prelude.{◌≡◌, ℕ, Bool, List, [], ◌∷◌, ◌++◌, codes, bytes_eq, option_map, option_and_then, if◌then◌else◌, Result, Ok, Err}
 use Rattle.std.specs.declared.option.Option.{Option}
 use Rattle.std.specs.declared.option.Option.TheVariants.{None, Some}
 use Rattle.clap.specs.Words.{Row, Text}
@@ -98,3 +98,9 @@ abbrev pub Reads : {T U : Type 0} → (U → T) → Option T → Result U WordsF
 Reads seen due (Ok read) = due ≡ Some (seen read)
 Reads seen due (Err Usage) = due ≡ None
 Reads seen due (Err OutOfMemory) = Unit {0}
+
+-- a monitor that is wanted goes behind others; where none is, there is no usage of that form
+abbrev pub AddsWant : Option Want → (before : List Want) → Result (Unit {0}) WordsFault → (after : List Want) → Type 0
+AddsWant want before (Ok done) after = (w : Want) × (want ≡ Some w) × (after ≡ before ++ w ∷ [])
+AddsWant want before (Err Usage) after = want ≡ None
+AddsWant want before (Err OutOfMemory) after = Unit {0}

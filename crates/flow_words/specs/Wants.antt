@@ -1,5 +1,5 @@
 -- Numbers among the words, and the list of the monitors that are wanted.
-use Rattle.std.specs.Prelude.{ℕ, ◌+◌, ◌-◌, ◌^◌, ◌==◌, ◌&&◌, nat_lt, nat_le, List, [], ◌∷◌, length, take, drop, if◌then◌else◌}
+use Rattle.std.specs.Prelude.{ℕ, ◌+◌, ◌-◌, ◌^◌, ◌==◌, ◌&&◌, nat_le, List, [], ◌∷◌, length, take, drop, option_map, option_and_then, if◌then◌else◌}
 use Rattle.std.specs.List.{slice_split, position}
 use Rattle.std.specs.Str.Parse.{digits_value}
 use Rattle.std.specs.declared.option.Option.{Option}
@@ -23,13 +23,13 @@ named name None = None
 named name (Some limit) =
     if is_name_text name && nat_le (length name) 255 then Some (record { name = name; limit = limit }) else None
 
--- `name=n`: the name stands before the first `=`, and its limit behind it
-abbrev pub parted : (item : List ℕ) → Option ℕ → Option Want
-parted item None = None
-parted item (Some place) = named (take place item) (number_of (drop (place + 1) item))
+-- the parts of a text before and behind the first place of a byte
+abbrev pub cut_at : (byte : ℕ) → (text : List ℕ) → Option (List ℕ × List ℕ)
+cut_at byte text = option_map (λ place. (take place text, drop (place + 1) text)) (position (λ b. b == byte) text)
 
+-- `name=n`: the name stands before the first `=`, and its limit behind it
 abbrev pub want_of : (item : List ℕ) → Option Want
-want_of item = parted item (position (λ b. b == 61) item)
+want_of item = option_and_then (λ parts. named parts.0 (number_of parts.1)) (cut_at 61 item)
 
 abbrev pub joined : Option Want → Option (List Want) → Option (List Want)
 joined None more = None

@@ -70,7 +70,8 @@ pub fn run_command<'a>(alloc: Global) -> Result<Command<'a>, AllocError>
 /// What clap reads of the words by a simple command.
 pub fn matches<'a>(command: Command<'a>, words: &'a [String]) -> Result<ArgMatches<'a>, WordsFault>
     requires { is_simple_and_free (app_of command) ≡ true }
-    ensures { Reads (λ m. rows_of (found_of m)) (matched (app_of command.entry) (map string_bytes words.entry.now)) result }
+    ensures { Reads (λ m. rows_of (found_of m))
+        (matched (app_of command.entry) (map string_bytes words.entry.now)) result }
 {
     match command.try_get_matches_from(words) {
         Ok(matches) => Ok(matches),

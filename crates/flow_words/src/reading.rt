@@ -6,7 +6,9 @@ ghost use Rattle.flow_words.specs.Asked.{Reads, asked, request_of, run_request, 
 ghost use Rattle.flow_words.specs.Wants.{listed};
 
 use crate::asked::{Asked, CommandWord, RunWords, WordsFault};
-use crate::matching::{first_text, has_frames, matches, monitor_text, one_text, run_command, second_text, two_texts};
+use crate::matching::{
+    first_text, has_frames, matches, monitor_text, one_text, run_command, second_text, two_texts,
+};
 use crate::number::number_within;
 use crate::wanting::read_wants;
 use clap::ArgMatches;
@@ -114,7 +116,11 @@ fn bench_of<'a>(alloc: Global, words: &'a [String]) -> Result<Asked<'a>, WordsFa
 }
 
 // What a command asks for with the words behind it.
-fn asked_by<'a>(alloc: Global, command: CommandWord, words: &'a [String]) -> Result<Asked<'a>, WordsFault>
+fn asked_by<'a>(
+    alloc: Global,
+    command: CommandWord,
+    words: &'a [String],
+) -> Result<Asked<'a>, WordsFault>
     ensures { Reads request_of (asked_by (Some command) (map string_bytes words.entry.now)) result }
 {
     match command {
