@@ -18,6 +18,7 @@ use Rattle.flow_class.specs.declared.class.RawClasses.{RawClasses}
 use Rattle.flow_class.specs.Classes.{ClassTree, RawTree}
 use Rattle.flow_class.specs.View.{raw_of}
 use Rattle.flow_classprint.specs.ClassGrammar.{TextRule}
+use Rattle.flow_valid.specs.Validity.{IsValid}
 use Rattle.flow_validate.specs.declared.invalid.Invalid.{Invalid}
 use Rattle.flow_validate.specs.declared.invalid.Invalid.TheVariants as judged
 use Rattle.flow_validate.specs.Verdicts.{IsRightRefusal}
@@ -27,6 +28,7 @@ use Rattle.flow_classread.specs.declared.read.TheConstants.{CLASS_BYTES}
 use Rattle.flow_classread.specs.ClassAnswer.{IsClassText, lexical, form, class_name, ClassAnswer}
 use Rattle.flow_classread.specs.Reached.{form_of, TokensAnswer, RawAnswer, class_names, RefusalAnswer}
 use Rattle.flow_classread.proofs.Exactly.{fails_in}
+use Rattle.flow_classread.proofs.Small.{small_frames}
 
 -- a lexical refusal
 pub no_tokens : (bytes : List ℕ) (e : SourceFault) → Lexed bytes (Err e) → TokensAnswer bytes (Err (form_of e))
@@ -66,9 +68,15 @@ name_of raw (Some k) = of raw.classes k
     of (c ∷ cs) zero = refl
     of (c ∷ cs) (suc k) = of cs k
 
+-- classes that keep all rules
+pub accepted : (bytes : List ℕ) (raw : RawTree) (c : RawClasses) → raw_of c ≡ raw → IsClassText bytes raw → IsValid raw → ClassAnswer bytes (Ok c)
+accepted bytes raw c e t v =
+    let u = subst (IsClassText bytes) (sym e) t in
+    (u, subst IsValid (sym e) v, small_frames bytes (raw_of c) u)
+
 -- classes that break a rule
 pub refused : (bytes : List ℕ) (raw : RawTree) (names : List (List ℕ)) (i : Invalid) (e : ClassFault) → names ≡ class_names raw.classes → IsClassText bytes raw
-    → IsRightRefusal raw i → RefusalAnswer names i e → ClassAnswer bytes (Err e)
+    → IsRightRefusal raw i → RefusalAnswer names e i → ClassAnswer bytes (Err e)
 refused bytes raw names (judged.Rule rule number) (fault.Invalid k class) q t b a = record {
   raw = raw;
   text = t;
@@ -76,9 +84,7 @@ refused bytes raw names (judged.Rule rule number) (fault.Invalid k class) q t b 
   breaks = subst (λ x. IsRightRefusal raw (judged.Rule x number)) (sym a.0) b;
   name = a.1 ∙ ap (λ ns. option_and_then (λ n. slice_get ns n) number) q ∙ name_of raw number;
 }
-refused bytes raw names i fault.OutOfMemory q t b a = tt
-refused bytes raw names (judged.Rule rule number) (fault.Form line) q t b a = absurd a
-refused bytes raw names (judged.Rule rule number) fault.TooLarge q t b a = absurd a
-refused bytes raw names judged.OutOfMemory (fault.Form line) q t b a = absurd a
 refused bytes raw names judged.OutOfMemory (fault.Invalid k class) q t b a = absurd a
-refused bytes raw names judged.OutOfMemory fault.TooLarge q t b a = absurd a
+refused bytes raw names i fault.OutOfMemory q t b a = tt
+refused bytes raw names i (fault.Form line) q t b a = absurd a
+refused bytes raw names i fault.TooLarge q t b a = absurd a

@@ -12,7 +12,7 @@ use Rattle.flow_lex.proofs.Bytes.{no_spelling}
 use Rattle.flow_classread.specs.Rising.{AreRising}
 
 -- tokens that stand one behind another, from one byte on, up to another
-Climbs : (from : ℕ) → List Spot → (to : ℕ) → Type 0
+abbrev Climbs : (from : ℕ) → List Spot → (to : ℕ) → Type 0
 Climbs from [] to = from ≤ to
 Climbs from (s ∷ spots) to = (from ≤ s.at.byte) × Climbs (suc s.at.byte) spots to
 
@@ -39,7 +39,7 @@ climbs_far from [] to c = omega (arith, c)
 climbs_far from (s ∷ spots) to c = omega (arith, c.0, climbs_far (suc s.at.byte) spots to c.1)
 
 -- the place of a token, or of the end
-at_place : List Spot → Place → ℕ → Place
+abbrev at_place : List Spot → Place → ℕ → Place
 at_place spots end k = unwrap_or (option_map (λ s. s.at) (slice_get spots k)) end
 
 not_before : (from : ℕ) (spots : List Spot) (end : Place) (k : ℕ) → Climbs from spots end.byte → k ≤ length spots → from ≤ (at_place spots end k).byte

@@ -1,16 +1,18 @@
 -- How great the classes of a class text can be: each thing of one has a token.
 use Rattle.std.proofs.Common.{◌≡◌, ℕ, zero, suc, ◌+◌, ◌^◌, ◌≤◌, ◌<◌, List, [], ◌∷◌, ◌++◌, length, sym, ap, arith, length-append}
-use Rattle.std.specs.Prelude.{slice_get}
+use Rattle.std.specs.Prelude.{codes, slice_get}
 use Rattle.std.specs.declared.option.Option.TheVariants.{Some}
 use Rattle.flow_base.specs.declared.place.Place.{Place}
 use Rattle.flow_tree.specs.declared.limits.TheConstants.{OF_CLASS_TEXT}
+use Rattle.flow_tree.specs.declared.token.Sign.TheVariants as sign
 use Rattle.flow_tree.specs.declared.token.Spot.{Spot}
+use Rattle.flow_tree.specs.Grammar.{sign_at}
 use Rattle.flow_tree.specs.Tree.{TypeTree}
 use Rattle.flow_tree.specs.Decls.{SlotTree}
 use Rattle.flow_tree.specs.GrammarToken.{Marked, spots_of}
 use Rattle.flow_tree.proofs.GrammarLists.{length_spots}
 use Rattle.flow_class.specs.Classes.{ClassTree, RawTree}
-use Rattle.flow_classprint.specs.ClassGrammar.{NumberedRule, none, next, SlotRule, slot, LocalRule, local, ClassRule, class, ClassesRule, no_classes, more_classes, TextRule, text}
+use Rattle.flow_classprint.specs.ClassGrammar.{said, number_at, NumberedRule, none, next, SlotRule, slot, LocalRule, local, ClassRule, class, ClassesRule, no_classes, more_classes, TextRule, text}
 use Rattle.flow_validate.specs.Sizes.{AreFew}
 use Rattle.flow_classread.specs.declared.read.TheConstants.{CLASS_BYTES}
 use Rattle.flow_classread.specs.ClassAnswer.{IsClassText, HaveSmallFrames}
@@ -29,10 +31,12 @@ local_small : (n : ℕ) (w : List Marked) (t : TypeTree) → LocalRule n w t →
 local_small n w t (local p q r of k h e) = omega (arith, ap length e)
 
 class_small : (w : List Marked) (c : ClassTree) → ClassRule w c → length c.slots + length c.locals < length w
-class_small w c (class {ss = ss} {ls = ls} p q r s u v z of slots locals blocks groups t k a b d f e) =
+class_small w c (class {params = params} {ss = ss} {ls = ls} p q r s u v z of slots locals blocks groups t k a b d f e) =
     let x = numbered_small SlotRule slot_small 0 slots ss a in
     let y = numbered_small LocalRule local_small 0 locals ls b in
-    omega (arith, ap length e, x, y, length-append of _, length-append slots _, length-append locals _)
+    let back = blocks ++ (groups ++ sign_at sign.CloseCurly z ∷ []) in
+    let front = said (codes "params") s ∷ number_at params u ∷ sign_at sign.OpenCurly v ∷ (slots ++ (locals ++ back)) in
+    omega (arith, ap length e, x, y, length-append of front, length-append slots (locals ++ back), length-append locals back)
 
 classes_small : (w : List Marked) (cs : List ClassTree) → ClassesRule w cs → length cs ≤ length w
 classes_small w [] no_classes = omega arith

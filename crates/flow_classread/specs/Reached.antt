@@ -1,7 +1,6 @@
 -- How far a class text was read.
-use Rattle.std.specs.Prelude.{◌≡◌, ℕ, List, map, Result, Ok, Err}
+use Rattle.std.specs.Prelude.{◌≡◌, ℕ, List, map, slice_get, Result, Ok, Err}
 use Rattle.std.specs.Option.{option_and_then}
-use Rattle.std.specs.Prelude.{slice_get}
 use Rattle.std.specs.declared.option.Option.{Option}
 use Rattle.flow_base.specs.declared.place.Place.{Place}
 use Rattle.flow_tree.specs.declared.fault.Rule.{Rule}
@@ -50,8 +49,8 @@ abbrev pub class_names : List ClassTree → List (List ℕ)
 class_names cs = map (λ (c : ClassTree). c.name) cs
 
 -- a refusal of classes with these names, where there was memory for the name
-abbrev pub RefusalAnswer : List (List ℕ) → Invalid → ClassFault → Type 0
-RefusalAnswer names (judged.Rule rule number) (fault.Invalid k class) =
+abbrev pub RefusalAnswer : List (List ℕ) → ClassFault → Invalid → Type 0
+RefusalAnswer names fault.OutOfMemory i = Unit {0}
+RefusalAnswer names (fault.Invalid k class) (judged.Rule rule number) =
     (k ≡ rule) × (class ≡ option_and_then (λ n. slice_get names n) number)
-RefusalAnswer names fault fault.OutOfMemory = Unit {0}
 RefusalAnswer names _ _ = ⊥

@@ -23,7 +23,8 @@ use std::alloc::Global;
 // `[ "error" local ]`.
 fn error(tokens: &Tokens, at: usize) -> Result<(Option<u32>, usize), SourceFault>
     requires within { at ≤ length tokens.now.spots.items }
-    ensures reads { Answer OF_CLASS_TEXT ErrorRule (NotBefore (token.Name (codes "error"))) (λ r. r.0) (λ r. r.1) tokens.now at result }
+    ensures reads { Answer OF_CLASS_TEXT ErrorRule (NotBefore (token.Name (codes "error")))
+        (λ r. r.0) (λ r. r.1) tokens.now at result }
     ensures moves { IfOk result (λ r. (at ≤ r.1) × (r.1 ≤ length tokens.now.spots.items)) }
 {
     if !says(tokens, at, b"error") {
@@ -36,7 +37,8 @@ fn error(tokens: &Tokens, at: usize) -> Result<(Option<u32>, usize), SourceFault
 // Locals, or none, and the bracket that closes them.
 fn dropped(alloc: Global, tokens: &Tokens, at: usize) -> Result<(Vec<u32>, usize), SourceFault>
     requires within { at ≤ length tokens.now.spots.items }
-    ensures reads { Answer OF_CLASS_TEXT Dropped Any (λ r. r.0.items) (λ r. r.1) tokens.now at result }
+    ensures reads { Answer OF_CLASS_TEXT Dropped Any (λ r. r.0.items) (λ r. r.1) tokens.now at
+        result }
     ensures moves { IfOk result (λ r. (at < r.1) × (r.1 ≤ length tokens.now.spots.items)) }
 {
     if is_sign(tokens, at, Sign::CloseRound) {
@@ -50,7 +52,8 @@ fn dropped(alloc: Global, tokens: &Tokens, at: usize) -> Result<(Vec<u32>, usize
 // `"catch" number [ "error" local ] "drop" "(" [ locals ] ")"`, behind its word.
 fn catcher(alloc: Global, tokens: &Tokens, at: usize) -> Result<(Catcher, usize), SourceFault>
     requires within { at ≤ length tokens.now.spots.items }
-    ensures reads { Answer OF_CLASS_TEXT CatcherPart Any (λ r. catcher_of r.0) (λ r. r.1) tokens.now at result }
+    ensures reads { Answer OF_CLASS_TEXT CatcherPart Any (λ r. catcher_of r.0) (λ r. r.1) tokens.now
+        at result }
     ensures moves { IfOk result (λ r. (at < r.1) × (r.1 ≤ length tokens.now.spots.items)) }
 {
     let (block, at) = number(tokens, at)?;
@@ -75,7 +78,8 @@ fn caught(
     at: usize,
 ) -> Result<(Option<Catcher>, usize), SourceFault>
     requires within { at ≤ length tokens.now.spots.items }
-    ensures reads { Answer OF_CLASS_TEXT CatchRule (NotBefore (token.Word word.Catch)) (λ r. option_map catcher_of r.0) (λ r. r.1) tokens.now at result }
+    ensures reads { Answer OF_CLASS_TEXT CatchRule (NotBefore (token.Word word.Catch))
+        (λ r. option_map catcher_of r.0) (λ r. r.1) tokens.now at result }
     ensures moves { IfOk result (λ r. (at ≤ r.1) × (r.1 ≤ length tokens.now.spots.items)) }
 {
     if !is_word(tokens, at, Word::Catch) {
@@ -115,7 +119,8 @@ fn instrs(alloc: Global, tokens: &Tokens, at: usize) -> Result<(Vec<Instr>, usiz
 fn body(alloc: Global, tokens: &Tokens, at: usize) -> Result<ReadBody, SourceFault>
     requires within { at ≤ length tokens.now.spots.items }
     requires rising { AreRising tokens.now }
-    ensures reads { Answer OF_CLASS_TEXT BlockBody Any (λ r. (map instr_of r.body.items, last_of r.last)) (λ r. r.to) tokens.now at result }
+    ensures reads { Answer OF_CLASS_TEXT BlockBody Any
+        (λ r. (map instr_of r.body.items, last_of r.last)) (λ r. r.to) tokens.now at result }
     ensures moves { IfOk result (λ r. (at < r.to) × (r.to ≤ length tokens.now.spots.items)) }
 {
     let (body, at) = instrs(alloc, tokens, at)?;
@@ -133,7 +138,8 @@ pub fn block(
 ) -> Result<(Block, usize), SourceFault>
     requires within { at ≤ length tokens.now.spots.items }
     requires rising { AreRising tokens.now }
-    ensures reads { Answer OF_CLASS_TEXT (BlockRule n) Any (λ r. block_of r.0) (λ r. r.1) tokens.now at result }
+    ensures reads { Answer OF_CLASS_TEXT (BlockRule n) Any (λ r. block_of r.0) (λ r. r.1) tokens.now
+        at result }
     ensures moves { IfOk result (λ r. (at < r.1) × (r.1 ≤ length tokens.now.spots.items)) }
 {
     let at = numbered(tokens, at, b"block", n)?;

@@ -26,7 +26,8 @@ use std::alloc::Global;
 // The slot of this number: `"slot" number type name ";"`.
 fn slot(alloc: Global, tokens: &Tokens, at: usize, n: u32) -> Result<(Slot, usize), SourceFault>
     requires within { at ≤ length tokens.now.spots.items }
-    ensures reads { Answer OF_CLASS_TEXT (SlotRule n) Any (λ r. slot_of r.0) (λ r. r.1) tokens.now at result }
+    ensures reads { Answer OF_CLASS_TEXT (SlotRule n) Any (λ r. slot_of r.0) (λ r. r.1) tokens.now
+        at result }
     ensures moves { IfOk result (λ r. (at < r.1) × (r.1 ≤ length tokens.now.spots.items)) }
 {
     let at = numbered(tokens, at, b"slot", n)?;
@@ -45,7 +46,8 @@ fn slot(alloc: Global, tokens: &Tokens, at: usize, n: u32) -> Result<(Slot, usiz
 // The local of this number: `"local" number type ";"`.
 fn local(alloc: Global, tokens: &Tokens, at: usize, n: u32) -> Result<(Ty, usize), SourceFault>
     requires within { at ≤ length tokens.now.spots.items }
-    ensures reads { Answer OF_CLASS_TEXT (LocalRule n) Any (λ r. type_of r.0) (λ r. r.1) tokens.now at result }
+    ensures reads { Answer OF_CLASS_TEXT (LocalRule n) Any (λ r. type_of r.0) (λ r. r.1) tokens.now
+        at result }
     ensures moves { IfOk result (λ r. (at < r.1) × (r.1 ≤ length tokens.now.spots.items)) }
 {
     let at = numbered(tokens, at, b"local", n)?;
@@ -57,7 +59,9 @@ fn local(alloc: Global, tokens: &Tokens, at: usize, n: u32) -> Result<(Ty, usize
 fn slots(alloc: Global, tokens: &Tokens, at: usize) -> Result<(Vec<Slot>, usize), SourceFault>
     requires within { at ≤ length tokens.now.spots.items }
     requires rising { AreRising tokens.now }
-    ensures reads { Answer OF_CLASS_TEXT (NumberedRule SlotRule 0) (NotBefore (token.Name (codes "slot"))) (λ r. map slot_of r.0.items) (λ r. r.1) tokens.now at result }
+    ensures reads { Answer OF_CLASS_TEXT (NumberedRule SlotRule 0)
+        (NotBefore (token.Name (codes "slot"))) (λ r. map slot_of r.0.items) (λ r. r.1) tokens.now
+        at result }
     ensures moves { IfOk result (λ r. (at ≤ r.1) × (r.1 ≤ length tokens.now.spots.items)) }
 {
     let mut slots = Vec::new(alloc);
@@ -75,7 +79,9 @@ fn slots(alloc: Global, tokens: &Tokens, at: usize) -> Result<(Vec<Slot>, usize)
 fn locals(alloc: Global, tokens: &Tokens, at: usize) -> Result<(Vec<Ty>, usize), SourceFault>
     requires within { at ≤ length tokens.now.spots.items }
     requires rising { AreRising tokens.now }
-    ensures reads { Answer OF_CLASS_TEXT (NumberedRule LocalRule 0) (NotBefore (token.Name (codes "local"))) (λ r. map type_of r.0.items) (λ r. r.1) tokens.now at result }
+    ensures reads { Answer OF_CLASS_TEXT (NumberedRule LocalRule 0)
+        (NotBefore (token.Name (codes "local"))) (λ r. map type_of r.0.items) (λ r. r.1) tokens.now
+        at result }
     ensures moves { IfOk result (λ r. (at ≤ r.1) × (r.1 ≤ length tokens.now.spots.items)) }
 {
     let mut locals = Vec::new(alloc);
@@ -94,7 +100,8 @@ fn locals(alloc: Global, tokens: &Tokens, at: usize) -> Result<(Vec<Ty>, usize),
 fn blocks(alloc: Global, tokens: &Tokens, at: usize) -> Result<(Vec<Block>, usize), SourceFault>
     requires within { at ≤ length tokens.now.spots.items }
     requires rising { AreRising tokens.now }
-    ensures reads { Answer OF_CLASS_TEXT Blocks (NotBefore (token.Name (codes "block"))) (λ r. map block_of r.0.items) (λ r. r.1) tokens.now at result }
+    ensures reads { Answer OF_CLASS_TEXT Blocks (NotBefore (token.Name (codes "block")))
+        (λ r. map block_of r.0.items) (λ r. r.1) tokens.now at result }
     ensures moves { IfOk result (λ r. (at < r.1) × (r.1 ≤ length tokens.now.spots.items)) }
 {
     let mut blocks = Vec::new(alloc);
@@ -114,7 +121,8 @@ fn blocks(alloc: Global, tokens: &Tokens, at: usize) -> Result<(Vec<Block>, usiz
 pub fn class(alloc: Global, tokens: &Tokens, at: usize) -> Result<(Class, usize), SourceFault>
     requires within { at ≤ length tokens.now.spots.items }
     requires rising { AreRising tokens.now }
-    ensures reads { Answer OF_CLASS_TEXT ClassRule Any (λ r. class_of r.0) (λ r. r.1) tokens.now at result }
+    ensures reads { Answer OF_CLASS_TEXT ClassRule Any (λ r. class_of r.0) (λ r. r.1) tokens.now at
+        result }
     ensures moves { IfOk result (λ r. (at < r.1) × (r.1 ≤ length tokens.now.spots.items)) }
 {
     let at = said(tokens, at, b"class")?;

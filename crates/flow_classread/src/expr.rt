@@ -147,7 +147,8 @@ pub fn whole(alloc: Global, tokens: &Tokens, at: usize) -> Result<(Expr, usize),
 pub fn ended(alloc: Global, tokens: &Tokens, at: usize) -> Result<(Expr, usize), SourceFault>
     requires within { at ≤ length tokens.now.spots.items }
     requires rising { AreRising tokens.now }
-    ensures reads { Answer OF_CLASS_TEXT Ended Any (λ r. expr_of r.0) (λ r. r.1) tokens.now at result }
+    ensures reads { Answer OF_CLASS_TEXT Ended Any (λ r. expr_of r.0) (λ r. r.1) tokens.now at
+        result }
     ensures moves { IfOk result (λ r. (at < r.1) × (r.1 ≤ length tokens.now.spots.items)) }
 {
     let (value, at) = whole(alloc, tokens, at)?;
@@ -159,7 +160,8 @@ pub fn ended(alloc: Global, tokens: &Tokens, at: usize) -> Result<(Expr, usize),
 pub fn test(alloc: Global, tokens: &Tokens, at: usize) -> Result<(Expr, usize), SourceFault>
     requires within { at ≤ length tokens.now.spots.items }
     requires rising { AreRising tokens.now }
-    ensures reads { Answer OF_CLASS_TEXT Test Any (λ r. expr_of r.0) (λ r. r.1) tokens.now at result }
+    ensures reads { Answer OF_CLASS_TEXT Test Any (λ r. expr_of r.0) (λ r. r.1) tokens.now at
+        result }
     ensures moves { IfOk result (λ r. (at < r.1) × (r.1 ≤ length tokens.now.spots.items)) }
 {
     let at = sign(tokens, at, Sign::OpenRound)?;

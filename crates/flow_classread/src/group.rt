@@ -24,7 +24,8 @@ use std::alloc::Global;
 // `[ "into" place ]`.
 fn into(tokens: &Tokens, at: usize) -> Result<(Option<Slotted>, usize), SourceFault>
     requires within { at ≤ length tokens.now.spots.items }
-    ensures reads { Answer OF_CLASS_TEXT IntoRule (NotBefore (token.Name (codes "into"))) (λ r. r.0) (λ r. r.1) tokens.now at result }
+    ensures reads { Answer OF_CLASS_TEXT IntoRule (NotBefore (token.Name (codes "into"))) (λ r. r.0)
+        (λ r. r.1) tokens.now at result }
     ensures moves { IfOk result (λ r. (at ≤ r.1) × (r.1 ≤ length tokens.now.spots.items)) }
 {
     if !says(tokens, at, b"into") {
@@ -38,7 +39,8 @@ fn into(tokens: &Tokens, at: usize) -> Result<(Option<Slotted>, usize), SourceFa
 fn operand(alloc: Global, tokens: &Tokens, at: usize) -> Result<(bool, Expr, usize), SourceFault>
     requires within { at ≤ length tokens.now.spots.items }
     requires rising { AreRising tokens.now }
-    ensures reads { Answer OF_CLASS_TEXT Operand Any (λ r. (r.0, expr_of r.1)) (λ r. r.2) tokens.now at result }
+    ensures reads { Answer OF_CLASS_TEXT Operand Any (λ r. (r.0, expr_of r.1)) (λ r. r.2) tokens.now
+        at result }
     ensures moves { IfOk result (λ r. (at < r.2) × (r.2 ≤ length tokens.now.spots.items)) }
 {
     if is_word(tokens, at, Word::WaitNext) {
@@ -59,7 +61,8 @@ fn callback(
 ) -> Result<(Callback, usize), SourceFault>
     requires within { at ≤ length tokens.now.spots.items }
     requires rising { AreRising tokens.now }
-    ensures reads { Answer OF_CLASS_TEXT (CallbackRule n) Any (λ r. callback_of r.0) (λ r. r.1) tokens.now at result }
+    ensures reads { Answer OF_CLASS_TEXT (CallbackRule n) Any (λ r. callback_of r.0) (λ r. r.1)
+        tokens.now at result }
     ensures moves { IfOk result (λ r. (at < r.1) × (r.1 ≤ length tokens.now.spots.items)) }
 {
     let at = numbered(tokens, at, b"callback", n)?;
@@ -87,7 +90,8 @@ fn callbacks(
     requires rising { AreRising tokens.now }
     requires before { from ≤ at }
     ensures few { IfOk result (λ r. at + length r.0.items ≤ r.1) }
-    ensures reads { Answer OF_CLASS_TEXT (Callbacks from) Any (λ r. map callback_of r.0.items) (λ r. r.1) tokens.now at result }
+    ensures reads { Answer OF_CLASS_TEXT (Callbacks from) Any (λ r. map callback_of r.0.items)
+        (λ r. r.1) tokens.now at result }
     ensures moves { IfOk result (λ r. (at < r.1) × (r.1 ≤ length tokens.now.spots.items)) }
 {
     let mut callbacks = Vec::new(alloc);

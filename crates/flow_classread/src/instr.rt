@@ -81,7 +81,8 @@ fn callee(alloc: Global, tokens: &Tokens, at: usize) -> Result<(Vec<Ident>, usiz
 /// `local { "," local }`.
 pub fn locals(alloc: Global, tokens: &Tokens, at: usize) -> Result<(Vec<u32>, usize), SourceFault>
     requires within { at ≤ length tokens.now.spots.items }
-    ensures reads { Answer OF_CLASS_TEXT LocalsRule (NotBefore (token.Sign sign.Comma)) (λ r. r.0.items) (λ r. r.1) tokens.now at result }
+    ensures reads { Answer OF_CLASS_TEXT LocalsRule (NotBefore (token.Sign sign.Comma))
+        (λ r. r.0.items) (λ r. r.1) tokens.now at result }
     ensures moves { IfOk result (λ r. (at < r.1) × (r.1 ≤ length tokens.now.spots.items)) }
 {
     let mut locals = Vec::new(alloc);
@@ -103,7 +104,8 @@ fn assignment(
 ) -> Result<(Target, Expr, usize), SourceFault>
     requires within { at ≤ length tokens.now.spots.items }
     requires rising { AreRising tokens.now }
-    ensures reads { Answer OF_CLASS_TEXT Assignment Any (λ r. (r.0.path.items, expr_of r.1)) (λ r. r.2) tokens.now at result }
+    ensures reads { Answer OF_CLASS_TEXT Assignment Any (λ r. (r.0.path.items, expr_of r.1))
+        (λ r. r.2) tokens.now at result }
     ensures moves { IfOk result (λ r. (at < r.2) × (r.2 ≤ length tokens.now.spots.items)) }
 {
     let (path, at) = path(alloc, tokens, at)?;
@@ -116,7 +118,8 @@ fn assignment(
 fn act(alloc: Global, tokens: &Tokens, at: usize) -> Result<(Instr, usize), SourceFault>
     requires within { at ≤ length tokens.now.spots.items }
     requires rising { AreRising tokens.now }
-    ensures reads { Answer OF_CLASS_TEXT ActInstrPart Any (λ r. instr_of r.0) (λ r. r.1) tokens.now at result }
+    ensures reads { Answer OF_CLASS_TEXT ActInstrPart Any (λ r. instr_of r.0) (λ r. r.1) tokens.now
+        at result }
     ensures moves { IfOk result (λ r. (at < r.1) × (r.1 ≤ length tokens.now.spots.items)) }
 {
     let (path, at) = callee(alloc, tokens, at)?;
@@ -129,7 +132,8 @@ fn act(alloc: Global, tokens: &Tokens, at: usize) -> Result<(Instr, usize), Sour
 // `"new" place ";"`, behind its word.
 fn new(tokens: &Tokens, at: usize) -> Result<(Instr, usize), SourceFault>
     requires within { at ≤ length tokens.now.spots.items }
-    ensures reads { Answer OF_CLASS_TEXT NewInstrPart Any (λ r. instr_of r.0) (λ r. r.1) tokens.now at result }
+    ensures reads { Answer OF_CLASS_TEXT NewInstrPart Any (λ r. instr_of r.0) (λ r. r.1) tokens.now
+        at result }
     ensures moves { IfOk result (λ r. (at < r.1) × (r.1 ≤ length tokens.now.spots.items)) }
 {
     let (place, at) = slotted(tokens, at)?;
@@ -140,7 +144,8 @@ fn new(tokens: &Tokens, at: usize) -> Result<(Instr, usize), SourceFault>
 // `"drop" locals ";"`, behind its word.
 fn drop_locals(alloc: Global, tokens: &Tokens, at: usize) -> Result<(Instr, usize), SourceFault>
     requires within { at ≤ length tokens.now.spots.items }
-    ensures reads { Answer OF_CLASS_TEXT DropInstrPart Any (λ r. instr_of r.0) (λ r. r.1) tokens.now at result }
+    ensures reads { Answer OF_CLASS_TEXT DropInstrPart Any (λ r. instr_of r.0) (λ r. r.1) tokens.now
+        at result }
     ensures moves { IfOk result (λ r. (at < r.1) × (r.1 ≤ length tokens.now.spots.items)) }
 {
     let (locals, at) = locals(alloc, tokens, at)?;
@@ -163,7 +168,8 @@ pub fn begins_instr(tokens: &Tokens, at: usize) -> bool
 pub fn instr(alloc: Global, tokens: &Tokens, at: usize) -> Result<(Instr, usize), SourceFault>
     requires within { at ≤ length tokens.now.spots.items }
     requires rising { AreRising tokens.now }
-    ensures reads { Answer OF_CLASS_TEXT InstrRule Any (λ r. instr_of r.0) (λ r. r.1) tokens.now at result }
+    ensures reads { Answer OF_CLASS_TEXT InstrRule Any (λ r. instr_of r.0) (λ r. r.1) tokens.now at
+        result }
     ensures moves { IfOk result (λ r. (at < r.1) × (r.1 ≤ length tokens.now.spots.items)) }
 {
     if says(tokens, at, b"set") {
@@ -191,7 +197,8 @@ pub fn instr(alloc: Global, tokens: &Tokens, at: usize) -> Result<(Instr, usize)
 fn branch(alloc: Global, tokens: &Tokens, at: usize) -> Result<(Last, usize), SourceFault>
     requires within { at ≤ length tokens.now.spots.items }
     requires rising { AreRising tokens.now }
-    ensures reads { Answer OF_CLASS_TEXT BranchPart Any (λ r. last_of r.0) (λ r. r.1) tokens.now at result }
+    ensures reads { Answer OF_CLASS_TEXT BranchPart Any (λ r. last_of r.0) (λ r. r.1) tokens.now at
+        result }
     ensures moves { IfOk result (λ r. (at < r.1) × (r.1 ≤ length tokens.now.spots.items)) }
 {
     let (condition, at) = test(alloc, tokens, at)?;
@@ -206,7 +213,8 @@ fn branch(alloc: Global, tokens: &Tokens, at: usize) -> Result<(Last, usize), So
 pub fn last(alloc: Global, tokens: &Tokens, at: usize) -> Result<(Last, usize), SourceFault>
     requires within { at ≤ length tokens.now.spots.items }
     requires rising { AreRising tokens.now }
-    ensures reads { Answer OF_CLASS_TEXT LastRule Any (λ r. last_of r.0) (λ r. r.1) tokens.now at result }
+    ensures reads { Answer OF_CLASS_TEXT LastRule Any (λ r. last_of r.0) (λ r. r.1) tokens.now at
+        result }
     ensures moves { IfOk result (λ r. (at < r.1) × (r.1 ≤ length tokens.now.spots.items)) }
 {
     if says(tokens, at, b"goto") {

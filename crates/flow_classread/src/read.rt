@@ -84,7 +84,7 @@ fn name_at(alloc: Global, names: &[Name], number: Option<u32>) -> Result<Option<
 
 // A refusal of classes with these names.
 fn invalid(alloc: Global, names: &[Name], fault: Invalid) -> ClassFault
-    ensures { RefusalAnswer names.now fault result }
+    ensures { RefusalAnswer names.now result fault }
 {
     match fault {
         Invalid::OutOfMemory => ClassFault::OutOfMemory,

@@ -26,7 +26,8 @@ fn token_says(token: &Token, word: &[u8]) -> bool
 
 /// Whether this word, which is a name, stands here.
 pub fn says(tokens: &Tokens, at: usize, word: &[u8]) -> bool
-    ensures says { IsTrue result ↔ (token_at tokens.now.spots.items at ≡ Some (token.Name word.now)) }
+    ensures says { IsTrue result ↔ (token_at tokens.now.spots.items at
+        ≡ Some (token.Name word.now)) }
     ensures within { OnTrue result (at < length tokens.now.spots.items) }
 {
     match tokens.spots.get(at) {
@@ -91,7 +92,8 @@ fn token_is_number(token: &Token, n: u32) -> bool
 
 // Whether this number stands here.
 fn is_number(tokens: &Tokens, at: usize, n: u32) -> bool
-    ensures number { IsTrue result ↔ (token_at tokens.now.spots.items at ≡ Some (token.Number (pos n))) }
+    ensures number { IsTrue result ↔ (token_at tokens.now.spots.items at
+        ≡ Some (token.Number (pos n))) }
     ensures within { OnTrue result (at < length tokens.now.spots.items) }
 {
     match tokens.spots.get(at) {
@@ -160,7 +162,8 @@ pub fn place_here(tokens: &Tokens, at: usize) -> Option<Slotted>
 /// A slot or a local, and the number of the token after it; S5 where none is named here.
 pub fn slotted(tokens: &Tokens, at: usize) -> Result<(Slotted, usize), SourceFault>
     requires within { at ≤ length tokens.now.spots.items }
-    ensures reads { Answer OF_CLASS_TEXT SlottedPart Any (λ r. r.0) (λ r. r.1) tokens.now at result }
+    ensures reads { Answer OF_CLASS_TEXT SlottedPart Any (λ r. r.0) (λ r. r.1) tokens.now at
+        result }
     ensures moves { IfOk result (λ r. (r.1 ≡ at + 1) × (r.1 ≤ length tokens.now.spots.items)) }
 {
     match place_here(tokens, at) {
