@@ -86,16 +86,16 @@ module _ {A : Type 0} (puts : A → Line → Result (Unit {0}) OutFault → A �
 -- So where lines are written: a first part of their bytes was.
 abbrev pub ClassesWrittenInPart : Type 0
 ClassesWrittenInPart =
-    (c : RawClasses) (file : World0) (with_frames : Bool) (a : Option (List ℕ)) (ears : Ears) (f : RunFault) (b : Hearing (Option (List ℕ)))
-    (fault : Option OutFault) → AreWhole (raw_of c) → HaveFewPlaces (raw_of c) → IsInRange (seen file)
+    (c : RawClasses) (file : World0) (with_frames : Bool) (a : Option (List ℕ)) (ears : Ears) (f : RunFault)
+    (b : Hearing (Option (List ℕ))) (fault : Option OutFault) → AreWhole (raw_of c) → HaveFewPlaces (raw_of c) → IsInRange (seen file)
     → TraceFails put_bytes with_frames c file (watching a ears) f (telling b fault)
     → (f ≡ Stuck → ⊥)
     × ((lines : List Line) × ClassShown with_frames (raw_of c) (seen file) lines × AppendsPart a b.out (bytes_of (Cut ears lines)))
 
 abbrev pub ProgramWrittenInPart : Type 0
 ProgramWrittenInPart =
-    (text : List ℕ) (program : Program) (c : RawClasses) (file : World0) (with_frames : Bool) (a : Option (List ℕ)) (ears : Ears) (f : RunFault)
-    (b : Hearing (Option (List ℕ))) (fault : Option OutFault) → IsSound text program → first_heavy (program_of program).decls ≡ None
+    (text : List ℕ) (program : Program) (c : RawClasses) (file : World0) (with_frames : Bool) (a : Option (List ℕ)) (ears : Ears)
+    (f : RunFault) (b : Hearing (Option (List ℕ))) (fault : Option OutFault) → IsSound text program → first_heavy (program_of program).decls ≡ None
     → Has (program_of program) (raw_of c) → IsInRange (seen file)
     → TraceFails put_bytes with_frames c file (watching a ears) f (telling b fault)
     → (f ≡ Stuck → ⊥)

@@ -142,7 +142,7 @@ module _ {A : Type 0} (puts : A → Line → Result (Unit {0}) OutFault → A �
   fails_in_last k w u v a b c d ears others z so_far t x =
       let left = t.1.left in
       let own = subst (λ s. FramesFail puts with_frames s (whole c) z x.0) t.1.ended x.2 in
-      let here = record {
+      let here : FramesFail puts with_frames left (whole c) z x.0 = record {
         part = subst (λ ls. PutsPart (tells puts) (whole c) ls x.0) (lines_same with_frames left) own.part;
         stuck = λ e. same_stuck with_frames left (own.stuck e);
       } in (

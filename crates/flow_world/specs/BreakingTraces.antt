@@ -53,9 +53,11 @@ module _ {A : Type 0} (puts : A → Line → Result (Unit {0}) OutFault → A �
   -- After some events in which nobody says Stop the next one fails, or the frames after one that ran; or 2^64 - 1 of them ran, and no more
   -- can be counted, which is answered as want of memory.
   pub data EventsFail (w : Seen) (a : Hearing A) (f : RunFault) (t : Telling (Hearing A)) : Type 0 where
-    event_fails : {v : Seen} {b : Hearing A} → Quietly puts with_frames w a v b → EventFails (hears puts) v (whole b) f t → EventsFail w a f t
-    frames_fail : {u v : Seen} {b c : Hearing A} → Quietly puts with_frames w a u b → Happens (tells (hears puts)) u (whole b) Rested v (whole c)
-        → FramesFail (hears puts) with_frames v (whole c) f t → EventsFail w a f t
+    event_fails : {v : Seen} {b : Hearing A} → Quietly puts with_frames w a v b → EventFails (hears puts) v (whole b) f t
+        → EventsFail w a f t
+    frames_fail : {u v : Seen} {b c : Hearing A} → Quietly puts with_frames w a u b
+        → Happens (tells (hears puts)) u (whole b) Rested v (whole c) → FramesFail (hears puts) with_frames v (whole c) f t
+        → EventsFail w a f t
     counted_out : {v : Seen} {b : Hearing A} → Quietly puts with_frames w a v b → f ≡ OutOfMemory → t ≡ whole b → EventsFail w a f t
 
   -- A run fails: before its first line for want of memory; at that line; after it; before its last line, where there is no memory for the
@@ -66,7 +68,8 @@ module _ {A : Type 0} (puts : A → Line → Result (Unit {0}) OutFault → A �
         → TraceFails classes file a f t
     events_fail : (first : Seen) (headed : Hearing A) → Starts classes file first → hears puts a line.Head (Ok tt) headed
         → EventsFail first headed f t → TraceFails classes file a f t
-    no_name : (e : RunEnding) (first : Seen) (headed before : Hearing A) → f ≡ OutOfMemory → t ≡ whole before → Starts classes file first
-        → hears puts a line.Head (Ok tt) headed → HeardToEnd puts with_frames e first headed before → TraceFails classes file a f t
-    end_fails : (fault : OutFault) (e : RunEnding) → f ≡ fault_of fault → t.fault ≡ Some fault → HeardTrace puts with_frames classes file a e t
+    no_name : (e : RunEnding) (first : Seen) (headed before : Hearing A) → f ≡ OutOfMemory → t ≡ whole before
+        → Starts classes file first → hears puts a line.Head (Ok tt) headed → HeardToEnd puts with_frames e first headed before
         → TraceFails classes file a f t
+    end_fails : (fault : OutFault) (e : RunEnding) → f ≡ fault_of fault → t.fault ≡ Some fault
+        → HeardTrace puts with_frames classes file a e t → TraceFails classes file a f t

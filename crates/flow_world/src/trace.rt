@@ -54,8 +54,8 @@ pub fn put_trace<P: Audience, L: LineOut>(
     ensures part { IsErrOf result Failed → (stop : Option ℕ) × HeardTracePart L.puts with_frames
         classes world (watching out.old (P.ears panel.old))
         (hearing out.new (P.ears panel.new) stop) }
-    ensures fails { IfErr result (λ f. (stop : Option ℕ) × (fault : Option Fault) × TraceFails L.puts
-        with_frames classes world (watching out.old (P.ears panel.old)) f
+    ensures fails { IfErr result (λ f. (stop : Option ℕ) × (fault : Option Fault)
+        × TraceFails L.puts with_frames classes world (watching out.old (P.ears panel.old)) f
         (telling (hearing out.new (P.ears panel.new) stop) fault)) }
     ensures last { IfOk result (λ ending. PutLast L.puts (last_line (P.ears panel.old) ending) out.new) }
 {
@@ -118,8 +118,8 @@ fn put_events<P: Audience, L: LineOut>(
     ensures part { IsErrOf result Failed → (stop : Option ℕ) × HeardInPart L.puts with_frames
         (world_seen world.old) (watching out.old (P.ears panel.old))
         (hearing out.new (P.ears panel.new) stop) }
-    ensures fails { IfErr result (λ f. (stop : Option ℕ) × (fault : Option Fault) × EventsFail L.puts
-        with_frames (world_seen world.old) (watching out.old (P.ears panel.old)) f
+    ensures fails { IfErr result (λ f. (stop : Option ℕ) × (fault : Option Fault)
+        × EventsFail L.puts with_frames (world_seen world.old) (watching out.old (P.ears panel.old)) f
         (telling (hearing out.new (P.ears panel.new) stop) fault)) }
     ensures cause { RunCause (L.faults out.old) (L.faults out.new) result }
     ensures kept { L.kept out.new ≡ L.kept out.old }

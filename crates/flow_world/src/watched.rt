@@ -108,8 +108,9 @@ impl World {
         ensures breaks { IsErrOf result Failed → (stop : Option ℕ) × Breaks (tells (hears L.puts))
             (world_seen self.old) (whole (watching out.old (P.ears panel.old)))
             (world_seen self.new) (failed (hearing out.new (P.ears panel.new) stop)) }
-        ensures fails { IfErr result (λ f. (stop : Option ℕ) × (fault : Option Fault) × EventFails
-            (hears L.puts) (world_seen self.old) (whole (watching out.old (P.ears panel.old))) f
+        ensures fails { IfErr result (λ f. (stop : Option ℕ) × (fault : Option Fault)
+            × EventFails (hears L.puts) (world_seen self.old)
+            (whole (watching out.old (P.ears panel.old))) f
             (telling (hearing out.new (P.ears panel.new) stop) fault)) }
         ensures cause { RunCause (L.faults out.old) (L.faults out.new) result }
         ensures kept { L.kept out.new ≡ L.kept out.old }

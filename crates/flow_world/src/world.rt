@@ -14,8 +14,9 @@ ghost use Rattle.flow_world.specs.FaultedLines.{Telling, tells, whole, failed};
 ghost use Rattle.flow_world.specs.Happening.{EventDoes, Breaks, Comes, LineComes, EventComes, Ordered, Happened};
 ghost use Rattle.flow_world.specs.Happening.{Killed, Arrived, Taken, Answered, Runs, Fails, HeardIn};
 ghost use Rattle.flow_world.specs.Happening.{Vanishes, HeldAt, ActsAt, begins, with_net};
-ghost use Rattle.flow_world.specs.BreakingEvents.{NoProcess, NoDisk, NoLink, ActsAtBreaks, RunsBreaks, OrderedBreaks, TakenBreaks, ArrivedBreaks};
-ghost use Rattle.flow_world.specs.BreakingEvents.{AnsweredBreaks, HappenedBreaks, LineBreaks, PendingBreaks, MomentBreaks, MomentFails, EventFails};
+ghost use Rattle.flow_world.specs.BreakingEvents.{NoProcess, NoDisk, NoLink, ActsAtBreaks, RunsBreaks, OrderedBreaks};
+ghost use Rattle.flow_world.specs.BreakingEvents.{TakenBreaks, ArrivedBreaks, AnsweredBreaks, HappenedBreaks};
+ghost use Rattle.flow_world.specs.BreakingEvents.{LineBreaks, PendingBreaks, MomentBreaks, MomentFails, EventFails};
 ghost use Rattle.flow_world.specs.Starting.{Starts};
 ghost use Rattle.flow_world.specs.Views.{frames_at, callbacks_at, live_in};
 
