@@ -1,5 +1,5 @@
 -- What was decided, from what was read.
-use Rattle.std.proofs.Common.{◌≡◌, ℕ, List, ◌++◌, refl, sym, ap, ◌∙◌, subst, Result, Ok, Err, Option, None, Some}
+use Rattle.std.proofs.Common.{◌≡◌, ℕ, List, ◌++◌, refl, sym, ap, ◌∙◌, subst, Result, Ok, Err, Option, None, Some, Vec, Global}
 use Rattle.std.specs.declared.snapshot.Snapshot.{Snapshot}
 use Rattle.flow_base.specs.Faults.{next_count}
 use Rattle.flow_base.specs.Seen.{FilesSeen}
@@ -19,6 +19,7 @@ use Rattle.flow_front.specs.Verdict.{Reading, AnswersText, IsSound}
 use Rattle.flow_lower.specs.Weighing.{first_heavy}
 use Rattle.flow_lower.specs.Compiled.{Has}
 use Rattle.flow_compile.specs.Right.{IsAccepted}
+use Rattle.flow_worldfile.specs.declared.world.World0.{World0}
 use Rattle.flow_worldfile.specs.Worlds.{IsInRange, seen}
 use Rattle.flow_words.specs.Asked.{Request, RunRequest, format, check, compile, run, exec, bench}
 use Rattle.flow_top.specs.declared.outcome.Outcome.{Outcome}
@@ -31,7 +32,7 @@ use Rattle.flow_top.specs.declared.outcome.Answered as told
 use Rattle.flow_top.specs.declared.outcome.Answered.TheVariants.{OutOfMemory, Compiled, Passed, Formatted}
 use Rattle.flow_top.specs.Requests.{tells_frames}
 use Rattle.flow_top.specs.Sources.{Source, first_source, world_source, FileText, read_for, IsOf, names_of}
-use Rattle.flow_top.specs.Outcomes.{refusal_outcome_of, class_outcome_of, heavy_outcome, IsPassing, IsRunBy, program, class_text, IsMeantBy, run_for, MayRun, MayTell}
+use Rattle.flow_top.specs.Outcomes.{refusal_outcome_of, class_outcome_of, heavy_outcome, IsPassing, IsRunBy, of_program, of_class_text, IsMeantBy, run_for, MayRun, MayTell}
 use Rattle.flow_top.specs.Due.{IsRefusedBy, by_rule, lost_local, heavy, HasProgram, DueBy, unread, formatted, refused, passed, compiled, no_classes, IsRunFor, DueIn, no_world, runs, Due, by_text, in_world}
 use Rattle.flow_top.specs.Decided.{ReadsFiles, AskedSome, first, then_world, Decided, due, read_fault, no_memory}
 use Rattle.flow_top.specs.Steps.{Step, goes, stops, starves, Ends, ends, no_room, HasText, TextRead, is_read, is_unread, starved, JudgesTo, EndsBy, LowersTo, are_classes, is_heavy, no_classes as none_lowered, IsCompiled, CompilesTo, RunsTo, WorldOf, is_world, is_none, no_room_for_it}
@@ -88,20 +89,22 @@ unlowered text s _ j none_lowered = starves
 
 pub is_compiled : (text : List ℕ) (s : Sound) (p : Snapshot Program) (c : RawClasses) → p.value ≡ s.typed.program → JudgesTo text (Ok s)
     → LowersTo (program_of s.typed.program) (Ok c) → CompilesTo text (Ok (record { meant = Text p; classes = c }))
-is_compiled text s p c same j (are_classes c has light) =
+is_compiled text s p c same j (are_classes _ has light) =
     let passing : IsPassing text s.typed.program = record { sound = sound j; light = light } in
     goes _ (record {
-      is_run = program p c (subst (IsPassing text) (sym same) passing) (subst (λ x. Has (program_of x) (raw_of c)) (sym same) has);
+      is_run = of_program p c (subst (IsPassing text) (sym same) passing) (subst (λ x. Has (program_of x) (raw_of c)) (sym same) has);
       is_text = (p, refl);
     })
 
-passing_by : {text : List ℕ} {m : Meant} {c : RawClasses} (p : Snapshot Program) → m ≡ Text p → IsRunBy text m c → IsPassing text p.value × Has (program_of p.value) (raw_of c)
-passing_by p e (program other c passing has) = let same : other ≡ p = cc in subst (λ x. IsPassing _ x.value × Has (program_of x.value) (raw_of _)) same (passing, has)
-passing_by p e (class_text c answer) = absurd (cc)
+passing_by : {text : List ℕ} {m : Meant} {classes : RawClasses} (p : Snapshot Program) → m ≡ Text p → IsRunBy text m classes
+    → IsPassing text p.value × Has (program_of p.value) (raw_of classes)
+passing_by {text = text} p e (of_program other c passing has) =
+    let same : other ≡ p = cc in subst (λ (x : Snapshot Program). IsPassing text x.value × Has (program_of x.value) (raw_of c)) same (passing, has)
+passing_by p e (of_class_text c answer) = absurd (cc)
 
 -- they are listed
 pub is_listed : (text : List ℕ) (x : Runnable) → CompilesTo text (Ok x) → (p : List ℕ) → EndsBy text (compile p) (Compiled x.classes)
-is_listed text x (goes x is) p = let both = passing_by is.is_text.0 is.is_text.1 is.is_run in ends _ (compiled p is.is_text.0.value x.classes both.0 both.1)
+is_listed text x (goes _ is) p = let both = passing_by is.is_text.0 is.is_text.1 is.is_run in ends _ (compiled p is.is_text.0.value x.classes both.0 both.1)
 
 pub unlisted : (text : List ℕ) (o : told.Answered) → CompilesTo text (Err o) → (p : List ℕ) → EndsBy text (compile p) o
 unlisted text o (stops a why) p = ends _ (refused (compile p) a tt why)
@@ -122,7 +125,7 @@ generated_runs text clients seed _ starves = starves
 
 -- a class text
 pub classes_run : (text : List ℕ) (c : RawClasses) → ClassAnswer text (Ok c) → (r : RunRequest) → RunsTo text (exec r) (Ok (record { meant = Classes; classes = c }))
-classes_run text c answer r = goes _ (record { is_run = class_text c answer; is_meant = tt })
+classes_run text c answer r = goes _ (record { is_run = of_class_text c answer; is_meant = tt })
 
 pub classes_refused : (text : List ℕ) (fault : ClassFault) (o : told.Answered) → o ≡ class_outcome_of fault → ClassAnswer text (Err fault) → (r : RunRequest) → RunsTo text (exec r) (Err o)
 classes_refused text (class.Form line) o e answer r = subst (λ x. RunsTo text (exec r) (Err x)) (sym e) (stops _ (no_classes r (class.Form line) answer (λ h. cc)))
@@ -142,6 +145,16 @@ ended text q _ no_room = starves
 pub without_text : (q : Request) (before after : FilesSeen) (o : told.Answered) → TextRead (first_source q) before after (Err o) → Decided (Some q) before after (Answered o)
 without_text q before after _ (is_unread names files one reads counted) = read_fault q names files refl (first names files one) reads counted
 without_text q before after _ (starved names files one reads same) = no_memory q names files refl (first names files one) reads same
+
+-- at an equal source or text
+pub text_at : {s t : Source} {before after : FilesSeen} {r : Result (Vec ℕ Global) told.Answered} → s ≡ t → TextRead s before after r → TextRead t before after r
+text_at {before = b} {after = a} {r = r} same read = subst (λ x. TextRead x b a r) same read
+
+pub run_at : {t u : List ℕ} {q : Request} {r : Result Runnable told.Answered} → t ≡ u → RunsTo t q r → RunsTo u q r
+run_at {q = q} {r = r} same judged = subst (λ x. RunsTo x q r) same judged
+
+pub world_at : {t u : List ℕ} {r : Result World0 told.Answered} → t ≡ u → WorldOf t r → WorldOf u r
+world_at {r = r} same answered = subst (λ x. WorldOf x r) same answered
 
 pub had : {s : Source} {before after : FilesSeen} {v : _} → TextRead s before after (Ok v) → HasText s before after v.items
 had (is_read v has) = has
@@ -169,7 +182,7 @@ has_world (bench clients seed) m h e = cc
 
 module _ (q : Request) (before mid after : FilesSeen) (text : List ℕ) (meant : Meant) (classes : RawClasses) (s : Source) (has : HasText (first_source q) before mid text)
     (is : IsRunFor text q meant classes) (world : world_source q ≡ Some s) (same : mid.content ≡ before.content) where
-  fs : List FileText
+  abbrev fs : List FileText
   fs = read_for (first_source q) text
 
   -- the world's text couldn't be had
@@ -182,7 +195,7 @@ module _ (q : Request) (before mid after : FilesSeen) (text : List ℕ) (meant :
       (reads_then before mid after (names_of fs) names fs files has.reads reads) (unchanged ∙ has.no_fault)
 
   module _ (world_text : List ℕ) (more : HasText s mid after world_text) where
-    gs : List FileText
+    abbrev gs : List FileText
     gs = read_for s world_text
 
     both : ReadsFiles before after (names_of (fs ++ gs)) (fs ++ gs)

@@ -1,7 +1,7 @@
-pub mod Asking
+pub mod Asks
 pub mod Reading
 pub mod Deciding
-pub mod Counting
+pub mod Counted
 pub mod Reporting
 pub mod Missing
 pub mod OneAnswer

@@ -38,7 +38,7 @@ use Rattle.flow_top.specs.declared.outcome.Meant.TheVariants.{Text, Classes}
 use Rattle.flow_top.specs.declared.outcome.Answered as told
 use Rattle.flow_top.specs.declared.outcome.Answered.TheVariants.{Refused, NoClasses, NoWorld, Formatted}
 use Rattle.flow_top.specs.Sources.{Source, of_file, generated, first_source, world_source, FileText, read_for, IsOf, AreTexts}
-use Rattle.flow_top.specs.Outcomes.{heavy_outcome, text_of, status_of, IsPassing, IsRunBy, program, class_text, IsMeantBy, run_for}
+use Rattle.flow_top.specs.Outcomes.{heavy_outcome, text_of, status_of, IsPassing, IsRunBy, of_program, of_class_text, IsMeantBy, run_for}
 use Rattle.flow_top.specs.Due.{IsRefusedBy, by_rule, lost_local, heavy, HasProgram, DueBy, unread, formatted, refused, passed, compiled, no_classes, IsRunFor, DueIn, no_world, runs, Due, usage, by_text, in_world}
 use Rattle.flow_top.specs.OneAnswer.{TellsAll, SameMeant, SameRun, SameOutcome, OneAnswer}
 use Rattle.flow_top.proofs.Missing.{texts_first, texts_behind}
@@ -216,11 +216,11 @@ never_both (bench clients seed) p a b = b
 
 module _ (one_class : OneClassAnswer) (text : List ℕ) (one : OneVerdict text) (q : Request) where
   run_once : {m n : Meant} {c d : RawClasses} → IsRunBy text m c → IsRunBy text n d → IsMeantBy q m → IsMeantBy q n → SameMeant m n × (raw_of c ≡ raw_of d)
-  run_once (program p c passing has) (program r d others k) a b =
+  run_once (of_program p c passing has) (of_program r d others k) a b =
       (one.program p.value r.value passing.sound.typed.read others.sound.typed.read, same_classes text one p.value r.value (raw_of c) (raw_of d) passing others has k)
-  run_once (program p c passing has) (class_text d answer) a b = absurd (never_both q p a b)
-  run_once (class_text c answer) (program p d passing has) a b = absurd (never_both q p b a)
-  run_once (class_text c answer) (class_text d others) a b = (tt, classes_once one_class text c d answer others)
+  run_once (of_program p c passing has) (of_class_text d answer) a b = absurd (never_both q p a b)
+  run_once (of_class_text c answer) (of_program p d passing has) a b = absurd (never_both q p b a)
+  run_once (of_class_text c answer) (of_class_text d others) a b = (tt, classes_once one_class text c d answer others)
 
 same_told : {a b : told.Answered} → a ≡ b → SameOutcome (Answered a) (Answered b)
 same_told e = (ap text_of e, ap status_of e)
@@ -254,8 +254,8 @@ module _ (one_class : OneClassAnswer) (text : List ℕ) (one : OneVerdict text) 
   never_runs : (q : Request) (o : Outcome) (m : Meant) (c : RawClasses) → DueBy text q o → IsRunBy text m c → IsMeantBy q m → ⊥
   never_runs _ _ m c (unread name rule at u) is a = a
   never_runs _ _ m c (formatted name p there) is a = a
-  never_runs _ _ _ _ (refused q a judges why) (program p c passing has) meant = never_passing text one a p.value why passing
-  never_runs _ _ _ _ (refused q a judges why) (class_text c answer) meant = by_request q judges meant
+  never_runs _ _ _ _ (refused q a judges why) (of_program p c passing has) meant = never_passing text one a p.value why passing
+  never_runs _ _ _ _ (refused q a judges why) (of_class_text c answer) meant = by_request q judges meant
     where
       by_request : (q : Request) → HasProgram q → IsMeantBy q Classes → ⊥
       by_request (format name) h k = h
@@ -266,8 +266,8 @@ module _ (one_class : OneClassAnswer) (text : List ℕ) (one : OneVerdict text) 
       by_request (bench clients seed) h k = k
   never_runs _ _ m c (passed name p passing) is a = a
   never_runs _ _ m c (compiled name p d passing has) is a = a
-  never_runs _ _ _ _ (no_classes r fault answer some) (program p c passing has) meant = meant
-  never_runs _ _ _ _ (no_classes r fault answer some) (class_text c others) meant = read_or_refused one_class text fault c answer others some
+  never_runs _ _ _ _ (no_classes r fault answer some) (of_program p c passing has) meant = meant
+  never_runs _ _ _ _ (no_classes r fault answer some) (of_class_text c others) meant = read_or_refused one_class text fault c answer others some
 
 -- What is due by the world's text.
 same_run : (q : Request) (r s : ProgramRun) → SameRun r s → SameOutcome (run_for q r) (run_for q s)

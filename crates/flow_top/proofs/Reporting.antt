@@ -40,10 +40,10 @@ use Rattle.flow_top.specs.declared.outcome.BenchRun.{BenchRun}
 use Rattle.flow_top.specs.declared.outcome.Meant.{Meant}
 use Rattle.flow_top.specs.declared.outcome.Answered.{Answered}
 use Rattle.flow_top.specs.declared.counting.Counts.{Counts}
-use Rattle.flow_top.specs.Outcomes.{text_of, IsRunBy, program, class_text, MayRun, ShownBy, IsShown}
+use Rattle.flow_top.specs.Outcomes.{text_of, IsRunBy, of_program, of_class_text, MayRun, ShownBy, IsShown}
 use Rattle.flow_top.specs.Summary.{counts_of, CountsLine, summary_by, summary_text}
 use Rattle.flow_top.specs.Told.{ending_status, run_status, fault_status_of, GoesOut, GoesOutInPart, ReportedTold, write_fault, no_memory_told, ReportedRun, ended, run_write_fault, run_no_memory, ReportedBench, summed, sum_write_fault, sum_no_memory_told, IsCounted}
-use Rattle.flow_top.proofs.Counting.{put_counts}
+use Rattle.flow_top.proofs.Counted.{put_counts}
 
 pub whole_part : (a b : Option (List ℕ)) (text : List ℕ) → Appends a b text → AppendsPart a b text
 whole_part a b text p = (text, [], sym (append-nil text), p)
@@ -71,10 +71,10 @@ record Left {A : Type 0} (puts : A → Line → Result (Unit {0}) OutFault → A
 
 left : {A : Type 0} (puts : A → Line → Result (Unit {0}) OutFault → A → Type 0) {text : List ℕ} {m : Meant} {c : RawClasses} (frames : Bool) (file : World0) (a : A) (ears : Ears)
     (e : RunEnding) (b : Hearing A) → IsRunBy text m c → IsInRange (seen file) → HeardTrace puts frames c file (watching a ears) e (whole b) → Left puts m frames c file a ears e b.out
-left puts {text = text} frames file a ears e b (program p c passing has) range t =
+left puts {text = text} frames file a ears e b (of_program p c passing has) range t =
     let x = program_cut puts text p.value c file frames a ears e b passing.sound passing.light has range t in
     record { lines = x.0; shown = x.1; put = x.2; last = x.3 }
-left puts {text = text} frames file a ears e b (class_text c answer) range t =
+left puts {text = text} frames file a ears e b (of_class_text c answer) range t =
     let x = classes_cut puts c file frames a ears e b (reads_whole text (raw_of c) answer.0 answer.1) (few (raw_of c) answer.2) range t in
     record { lines = x.0; shown = x.1; put = x.2; last = x.3 }
 
@@ -88,10 +88,10 @@ record Begun (m : Meant) (frames : Bool) (c : RawClasses) (file : World0) (a : O
 begun : {text : List ℕ} {m : Meant} {c : RawClasses} (frames : Bool) (file : World0) (a : Option (List ℕ)) (ears : Ears) (f : RunFault) (b : Hearing (Option (List ℕ)))
     (fault : Option OutFault) → IsRunBy text m c → IsInRange (seen file) → TraceFails put_bytes frames c file (watching a ears) f (telling b fault)
     → Begun m frames c file a ears f b.out
-begun {text = text} frames file a ears f b fault (program p c passing has) range t =
+begun {text = text} frames file a ears f b fault (of_program p c passing has) range t =
     let x = program_written text p.value c file frames a ears f b fault passing.sound passing.light has range t in
     record { unstuck = x.0; lines = x.1.0; shown = x.1.1; part = x.1.2 }
-begun {text = text} frames file a ears f b fault (class_text c answer) range t =
+begun {text = text} frames file a ears f b fault (of_class_text c answer) range t =
     let x = classes_written c file frames a ears f b fault (reads_whole text (raw_of c) answer.0 answer.1) (few (raw_of c) answer.2) range t in
     record { unstuck = x.0; lines = x.1.0; shown = x.1.1; part = x.1.2 }
 

@@ -109,9 +109,9 @@ pub record IsPassing (text : List ℕ) (p : Program) : Type 0 where
 
 -- What a text is of which these classes are run: a program that passes, whose classes they are; or a class text, which has them.
 pub data IsRunBy (text : List ℕ) : Meant → RawClasses → Type 0 where
-  program : (p : Snapshot Program) (classes : RawClasses) → IsPassing text p.value → Has (program_of p.value) (raw_of classes)
+  of_program : (p : Snapshot Program) (classes : RawClasses) → IsPassing text p.value → Has (program_of p.value) (raw_of classes)
       → IsRunBy text (Text p) classes
-  class_text : (classes : RawClasses) → ClassAnswer text (Ok classes) → IsRunBy text Classes classes
+  of_class_text : (classes : RawClasses) → ClassAnswer text (Ok classes) → IsRunBy text Classes classes
 
 -- programs are run for `run` and for `bench`, class texts for `exec`
 abbrev pub IsMeantBy : Request → Meant → Type 0

@@ -111,7 +111,7 @@ fn compiled(alloc: Global, text: &[u8]) -> Answered
     ensures { (p : List ℕ) → EndsBy text.now (Request.compile p) result }
 {
     match program(alloc, text) {
-        Ok(runnable) => Answered::Compiled(runnable.classes),
+        Ok(Runnable { meant: _, classes }) => Answered::Compiled(classes),
         Err(told) => told,
     }
 }
@@ -149,7 +149,8 @@ pub fn judge(alloc: Global, asked: &Asked<'_>, text: &[u8]) -> Result<Runnable, 
         Asked::Format(_) => Err(format(alloc, text)),
         Asked::Check(_) => Err(check(alloc, text)),
         Asked::Compile(_) => Err(compiled(alloc, text)),
-        Asked::Run(_) | Asked::Bench(..) => program(alloc, text),
+        Asked::Run(_) => program(alloc, text),
+        Asked::Bench(..) => program(alloc, text),
         Asked::Exec(_) => class_text(alloc, text),
     }
 }

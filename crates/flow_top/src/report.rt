@@ -26,7 +26,8 @@ use flow_monitor::{Audience, Panel};
 use flow_refusal::{class_line, class_status, refusal_line, refusal_status, world_line};
 use flow_show::show::{show_lines, write_lines};
 use flow_tree::fault::SourceFault;
-use flow_world::{Ending, RunEnding, put_trace, write_trace};
+use flow_world::trace::put_trace;
+use flow_world::{Ending, RunEnding, write_trace};
 use flow_worldfile::WorldFault;
 use std::alloc::Global;
 

@@ -1,15 +1,17 @@
 // Where the texts come from that a request is about.
 
-ghost use Rattle.std.specs.Prelude.{◌≡◌, option_map};
+ghost use Rattle.std.specs.Prelude.{◌≡◌, ℕ, List, IfOk, option_map};
+ghost use Rattle.flow_base.specs.Seen.{FilesSeen};
 ghost use Rattle.flow_words.specs.Asked.{request_of};
 ghost use Rattle.flow_top.specs.Outcomes.{outcome_of};
-ghost use Rattle.flow_top.specs.Sources.{of_file, first_source, world_source, source_of};
+ghost use Rattle.flow_top.specs.Sources.{of_file, generated, first_source, world_source, source_of};
 ghost use Rattle.flow_top.specs.Steps.{TextRead};
 
 use crate::outcome::Answered;
 use flow_base::fault::OutFault;
 use flow_base::files::Files;
 use flow_base::input::read_file;
+use flow_base::memory::NoMemory;
 use flow_classread::read::CLASS_BYTES;
 use flow_gen::{gen_program, gen_world};
 use flow_tree::limits::PROGRAM_BYTES;
@@ -79,6 +81,17 @@ fn bytes_of<F: Files>(
     }
 }
 
+// A text that was generated, if there was memory for it.
+fn generated(text: Result<Vec<u8>, NoMemory>) -> Result<Vec<u8>, Answered>
+    ensures { (own : List ℕ) (files : FilesSeen) → IfOk text (λ v. v.items ≡ own)
+        → TextRead (generated own) files files result }
+{
+    match text {
+        Ok(text) => Ok(text),
+        Err(_) => Err(Answered::OutOfMemory),
+    }
+}
+
 /// The text from a source, of a file one byte past the limit at most, or what the command comes to without it.
 pub fn read_text<F: Files>(
     alloc: Global,
@@ -86,15 +99,11 @@ pub fn read_text<F: Files>(
     files: &mut F,
 ) -> Result<Vec<u8>, Answered>
     ensures content { (F.seen files.new).content ≡ (F.seen files.old).content }
-    ensures read { TextRead (source_of source) (F.seen files.old) (F.seen files.new) result }
+    ensures read { TextRead (source_of source.entry) (F.seen files.old) (F.seen files.new) result }
 {
-    let text = match source {
-        Source::File(name, most) => return bytes_of(alloc, name, most, files),
-        Source::GeneratedProgram(clients) => gen_program(alloc, clients),
-        Source::GeneratedWorld(clients, seed) => gen_world(alloc, clients, seed),
-    };
-    match text {
-        Ok(text) => Ok(text),
-        Err(_) => Err(Answered::OutOfMemory),
+    match source {
+        Source::File(name, most) => bytes_of(alloc, name, most, files),
+        Source::GeneratedProgram(clients) => generated(gen_program(alloc, clients)),
+        Source::GeneratedWorld(clients, seed) => generated(gen_world(alloc, clients, seed)),
     }
 }

@@ -49,6 +49,10 @@ module _ {M : Type 0} (label : M → List ℕ) (begun : M → ℕ → Ear) (ms :
   is_served given q e none =
       ap (option_and_then (served handed)) e ∙ served_by (is_some (want_fault (map (λ (h : Handed). h.name) handed) (wanted_by q))) q (ap is_some (faults_same q ∙ none))
 
+  pub is_heard : (given : List (List ℕ)) (q : Request) → asked given ≡ Some q → want_fault (map label ms) (wanted_by q) ≡ None
+      → attached (wanted_by q) handed ≡ panel_for (request_by given handed) handed
+  is_heard given q e none = sym (ap (λ x. panel_for x handed) (is_served given q e none))
+
   pub not_served : (given : List (List ℕ)) (q : Request) → asked given ≡ Some q → is_some (want_fault (map label ms) (wanted_by q)) ≡ true → request_by given handed ≡ None
   not_served given q e some =
       ap (option_and_then (served handed)) e ∙ unserved_by (is_some (want_fault (map (λ (h : Handed). h.name) handed) (wanted_by q))) q (ap is_some (faults_same q) ∙ some)
