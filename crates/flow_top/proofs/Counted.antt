@@ -11,7 +11,7 @@ use Rattle.flow_world.proofs.Telling.{stays}
 use Rattle.flow_top.specs.declared.counting.Counts.{Counts}
 use Rattle.flow_top.specs.Summary.{is_start, is_throw, is_print, counts_of, one_if, counted, CountsLine}
 
-abbrev none : Counts
+abbrev pub none : Counts
 none = record { events = 0; starts = 0; throws = 0; prints = 0 }
 
 counts : (events starts throws prints : ℕ) → Counts

@@ -27,8 +27,8 @@ no_text content s name most text is missing are =
 
 none_due : (q : Request) (name : List ℕ) (most : ℕ) (content : List ℕ → Content) (o : Outcome) (files : List FileText) → first_source q ≡ of_file name most
     → content name ≡ Missing → Due (Some q) o files → AreTexts content files → ⊥
-none_due q name most content o _ is missing (by_text q text o own why) texts = no_text content (first_source q) name most text is missing texts
-none_due q name most content o _ is missing (in_world q text world_text s o own world its why) texts =
+none_due q name most content o _ is missing (by_text _ text _ own why) texts = no_text content (first_source q) name most text is missing texts
+none_due q name most content o _ is missing (in_world _ text world_text s _ own world its why) texts =
     no_text content (first_source q) name most text is missing (texts_first content (first_source q) text (read_for s world_text) texts)
 
 pub missing_program : MissingProgram
@@ -47,17 +47,18 @@ refused_worldless text _ (heavy p at sound is) = tt
 by_worldless : (text : List ℕ) (q : Request) (o : Outcome) → DueBy text q o → IsWorldless o
 by_worldless text _ _ (unread p rule at why) = tt
 by_worldless text _ _ (formatted p program is) = tt
-by_worldless text q _ (refused q a judges why) = refused_worldless text a why
+by_worldless text _ _ (refused q a judges why) = refused_worldless text a why
 by_worldless text _ _ (passed p program passing) = tt
 by_worldless text _ _ (compiled p program classes passing has) = tt
 by_worldless text _ _ (no_classes r fault answer some) = tt
 
 worldless : (q : Request) (name : List ℕ) (most : ℕ) (content : List ℕ → Content) (o : Outcome) (files : List FileText) → world_source q ≡ Some (of_file name most)
     → content name ≡ Missing → Due (Some q) o files → AreTexts content files → IsWorldless o
-worldless q name most content o _ is missing (by_text q text o own why) texts = by_worldless text q o why
-worldless q name most content o _ is missing (in_world q text world_text s o own world its why) texts =
-    let same : Some s ≡ Some (of_file name most) = sym world ∙ is in
-    absurd (no_text content s name most world_text cc missing (texts_behind content (first_source q) text (read_for s world_text) texts))
+worldless q name most content o _ is missing (by_text _ text _ own why) texts = by_worldless text q o why
+worldless q name most content o _ is missing (in_world _ text world_text s _ own world its why) texts =
+    let some : Some s ≡ Some (of_file name most) = sym world ∙ is in
+    let same : s ≡ of_file name most = cc in
+    absurd (no_text content s name most world_text same missing (texts_behind content (first_source q) text (read_for s world_text) texts))
 
 pub missing_world : MissingWorld
 missing_world q name most before after outcome is missing (due o files why reads texts same) = worldless q name most before.content outcome files is missing why texts

@@ -116,14 +116,14 @@ fault_of line reading.W3 = world.Twice line
 fault_of line reading.W4 = world.NoProcess line
 
 data Refuses (text : List ℕ) : WorldFault → Type 0 where
-  by_rule : (line : ℕ) (rule : reading.Rule) → reading.IsRefused text line rule → Refuses text (fault_of line rule)
+  by_world_rule : (line : ℕ) (rule : reading.Rule) → reading.IsRefused text line rule → Refuses text (fault_of line rule)
   too_large : WORLD_BYTES < length text → Refuses text world.TooLarge
 
 refuses_by : (text : List ℕ) (fault : WorldFault) → reading.ReadsWorld text (Err fault) → fault ≢ world.OutOfMemory → Refuses text fault
-refuses_by text (world.Form line) h some = by_rule line reading.W1 h
-refuses_by text (world.Range line) h some = by_rule line reading.W2 h
-refuses_by text (world.Twice line) h some = by_rule line reading.W3 h
-refuses_by text (world.NoProcess line) h some = by_rule line reading.W4 h
+refuses_by text (world.Form line) h some = by_world_rule line reading.W1 h
+refuses_by text (world.Range line) h some = by_world_rule line reading.W2 h
+refuses_by text (world.Twice line) h some = by_world_rule line reading.W3 h
+refuses_by text (world.NoProcess line) h some = by_world_rule line reading.W4 h
 refuses_by text world.TooLarge h some = too_large h
 refuses_by text world.OutOfMemory h some = absurd (some refl)
 
@@ -137,14 +137,14 @@ rule_of (reading.refused line rule) = rule
 
 module _ (judged_once : OneWorldVerdict) (text : List ℕ) where
   refuses_once : (a b : WorldFault) → Refuses text a → Refuses text b → a ≡ b
-  refuses_once _ _ (by_rule line rule h) (by_rule other second k) =
+  refuses_once _ _ (by_world_rule line rule h) (by_world_rule other second k) =
       let e = judged_once text (reading.refused line rule) (reading.refused other second) h.1 k.1 in ap₂ fault_of (ap line_of e) (ap rule_of e)
-  refuses_once _ _ (by_rule line rule h) (too_large l) = absurd (omega (arith, h.0, l))
-  refuses_once _ _ (too_large l) (by_rule line rule h) = absurd (omega (arith, h.0, l))
+  refuses_once _ _ (by_world_rule line rule h) (too_large l) = absurd (omega (arith, h.0, l))
+  refuses_once _ _ (too_large l) (by_world_rule line rule h) = absurd (omega (arith, h.0, l))
   refuses_once _ _ (too_large l) (too_large k) = refl
 
   never_refused : {A : Type 0} (fault : WorldFault) (w : World0) → Refuses text fault → reading.ReadsWorld text (Ok w) → A
-  never_refused _ w (by_rule line rule h) (small, (ds, judged, is)) =
+  never_refused _ w (by_world_rule line rule h) (small, (ds, judged, is)) =
       let e : reading.refused line rule ≡ reading.accepted ds = judged_once text (reading.refused line rule) (reading.accepted ds) h.1 judged in absurd cc
   never_refused _ w (too_large l) (small, is) = absurd (omega (arith, l, small))
 
@@ -228,26 +228,26 @@ same_told e = (ap text_of e, ap status_of e)
 -- What is due by the first text.
 module _ (one_class : OneClassAnswer) (text : List ℕ) (one : OneVerdict text) where
   by_once : (q : Request) (o p : Outcome) → DueBy text q o → DueBy text q p → SameOutcome o p
-  by_once _ _ _ (unread name rule at u) (unread name other place v) =
+  by_once _ _ _ (unread name rule at u) (unread _ other place v) =
       let e = one.unread rule other at place u v in same_told (ap₂ (λ r x. Refused (source.Refused r x)) e.0 e.1)
-  by_once _ _ _ (unread name rule at u) (formatted name p is) = absurd (one.read_or_unread p rule at is u)
+  by_once _ _ _ (unread name rule at u) (formatted _ p is) = absurd (one.read_or_unread p rule at is u)
   by_once _ _ _ (unread name rule at u) (refused _ a judges why) = absurd judges
-  by_once _ _ _ (formatted name p is) (unread name rule at u) = absurd (one.read_or_unread p rule at is u)
-  by_once _ _ _ (formatted name p is) (formatted name q there) = (ap Canon (one.program p q is there), refl)
+  by_once _ _ _ (formatted name p is) (unread _ rule at u) = absurd (one.read_or_unread p rule at is u)
+  by_once _ _ _ (formatted name p is) (formatted _ q there) = (ap Canon (one.program p q is there), refl)
   by_once _ _ _ (formatted name p is) (refused _ a judges why) = absurd judges
   by_once _ _ _ (refused _ a judges why) (unread name rule at u) = absurd judges
   by_once _ _ _ (refused _ a judges why) (formatted name p is) = absurd judges
-  by_once _ _ _ (refused q a judges why) (refused q b others also) = same_told (refused_once text one a b why also)
+  by_once _ _ _ (refused q a judges why) (refused _ b others also) = same_told (refused_once text one a b why also)
   by_once _ _ _ (refused _ a judges why) (passed name p passing) = absurd (never_passing text one a p why passing)
   by_once _ _ _ (refused _ a judges why) (compiled name p c passing has) = absurd (never_passing text one a p why passing)
   by_once _ _ _ (refused _ a judges why) (no_classes r fault answer some) = absurd judges
   by_once _ _ _ (passed name p passing) (refused _ a judges why) = absurd (never_passing text one a p why passing)
-  by_once _ _ _ (passed name p passing) (passed name q others) = (refl, refl)
+  by_once _ _ _ (passed name p passing) (passed _ q others) = (refl, refl)
   by_once _ _ _ (compiled name p c passing has) (refused _ a judges why) = absurd (never_passing text one a p why passing)
-  by_once _ _ _ (compiled name p c passing has) (compiled name q d others k) =
+  by_once _ _ _ (compiled name p c passing has) (compiled _ q d others k) =
       (ap ClassText (same_classes text one p q (raw_of c) (raw_of d) passing others has k), refl)
   by_once _ _ _ (no_classes r fault answer some) (refused _ a judges why) = absurd judges
-  by_once _ _ _ (no_classes r fault answer some) (no_classes r other others more) =
+  by_once _ _ _ (no_classes r fault answer some) (no_classes _ other others more) =
       same_told (ap NoClasses (class_fault_once one_class text fault other answer others some more))
 
   -- something is due by it alone, or something is run by it
@@ -309,16 +309,16 @@ one_answer one judged_world one_class asks content o p fs gs tells a s b t = by 
 
     by : {asks : Option Request} {o p : Outcome} {fs gs : List FileText} → Due asks o fs → Due asks p gs → AreTexts content fs → AreTexts content gs → Same o p fs gs
     by usage usage s t = (refl, (refl, refl))
-    by (by_text q text o own why) (by_text q other p its also) s t =
+    by (by_text q text o own why) (by_text _ other p its also) s t =
         let e = first_same q text other own its s t in
         (ap (read_for (first_source q)) e, by_once one_class other (one other) q o p (subst (λ x. DueBy x q o) e why) also)
-    by (by_text q text o own why) (in_world q other world_text w p its is from also) s t =
+    by (by_text q text o own why) (in_world _ other world_text w p its is from also) s t =
         let e = first_same q text other own its s (texts_first content (first_source q) other (read_for w world_text) t) in
         absurd (never_in judged_world one_class other world_text (one other) q o p (subst (λ x. DueBy x q o) e why) also)
-    by (in_world q text world_text v o own is from why) (by_text q other p its also) s t =
+    by (in_world q text world_text v o own is from why) (by_text _ other p its also) s t =
         let e = first_same q text other own its (texts_first content (first_source q) text (read_for v world_text) s) t in
         absurd (never_in judged_world one_class text world_text (one text) q p o (subst (λ x. DueBy x q p) (sym e) also) why)
-    by (in_world q text world_text v o own is from why) (in_world q other world_other w p its there comes also) s t =
+    by (in_world q text world_text v o own is from why) (in_world _ other world_other w p its there comes also) s t =
         let e = first_same q text other own its (texts_first content (first_source q) text (read_for v world_text) s)
         (texts_first content (first_source q) other (read_for w world_other) t) in
         let some : Some v ≡ Some w = sym is ∙ there in

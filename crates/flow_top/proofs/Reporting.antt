@@ -43,7 +43,7 @@ use Rattle.flow_top.specs.declared.counting.Counts.{Counts}
 use Rattle.flow_top.specs.Outcomes.{text_of, IsRunBy, of_program, of_class_text, MayRun, ShownBy, IsShown}
 use Rattle.flow_top.specs.Summary.{counts_of, CountsLine, summary_by, summary_text}
 use Rattle.flow_top.specs.Told.{ending_status, run_status, fault_status_of, GoesOut, GoesOutInPart, ReportedTold, write_fault, no_memory_told, ReportedRun, ended, run_write_fault, run_no_memory, ReportedBench, summed, sum_write_fault, sum_no_memory_told, IsCounted}
-use Rattle.flow_top.proofs.Counted.{put_counts}
+use Rattle.flow_top.proofs.Counted.{none, put_counts}
 
 pub whole_part : (a b : Option (List ℕ)) (text : List ℕ) → Appends a b text → AppendsPart a b text
 whole_part a b text p = (text, [], sym (append-nil text), p)
@@ -161,18 +161,19 @@ abbrev pub CountedRun : ProgramRun → Counts → Ears → RunEnding → Counts 
 CountedRun r before ears e after others =
     (stop : Option ℕ) × HeardTrace CountsLine r.frames r.classes r.world (watching before ears) e (whole (hearing after others stop))
 
-pub is_counted : (r : ProgramRun) (after : Counts) (nobody others : Ears) (e : RunEnding) (ending : Ending) → MayRun r → nobody ≡ [] → e ≡ Own ending
-    → CountedRun r (record { events = 0; starts = 0; throws = 0; prints = 0 }) nobody e after others → IsCounted r ending after
-is_counted r after nobody others e ending may none own t =
-    let none_yet : Counts = record { events = 0; starts = 0; throws = 0; prints = 0 } in
-    let heard = subst (λ ears. CountedRun r none_yet ears (Own ending) after others) none (subst (λ x. CountedRun r none_yet nobody x after others) own t) in
-    let x = left CountsLine r.frames r.world none_yet [] (Own ending) (hearing after others heard.0) may.is_run may.in_range heard.1 in
+pub is_counted : (r : ProgramRun) (before after : Counts) (nobody others : Ears) (e : RunEnding) (ending : Ending) → MayRun r → before ≡ none → nobody ≡ []
+    → e ≡ Own ending → CountedRun r before nobody e after others → IsCounted r ending after
+is_counted r before after nobody others e ending may new empty own t =
+    let by_ending = subst (λ x. CountedRun r before nobody x after others) own t in
+    let by_panel = subst (λ ears. CountedRun r before ears (Own ending) after others) empty by_ending in
+    let heard = subst (λ c. CountedRun r c [] (Own ending) after others) new by_panel in
+    let x = left CountsLine r.frames r.world none [] (Own ending) (hearing after others heard.0) may.is_run may.in_range heard.1 in
     let all = nobody_cuts x.lines in
     record {
       lines = x.lines;
       shown = x.shown;
       last = subst (LastIs (end_line ending)) all x.last;
-      counts = put_counts after x.lines (subst (λ ls. Puts (tells CountsLine) (whole none_yet) ls (whole after)) all x.put);
+      are = put_counts after x.lines (subst (λ ls. Puts (tells CountsLine) (whole none) ls (whole after)) all x.put);
     }
 
 -- its summary went out, or a first part of it
@@ -181,7 +182,7 @@ Sum b lines ending = summary_text b.clients b.seed lines (end_line ending)
 
 sum_is : (b : BenchRun) (counts : Counts) (ending : Ending) (text : List ℕ) → (x : IsCounted b.run ending counts) → text ≡ summary_by b.clients b.seed counts (end_line ending)
     → text ≡ Sum b x.lines ending
-sum_is b counts ending text x is = is ∙ ap (λ c. summary_by b.clients b.seed c (end_line ending)) x.counts
+sum_is b counts ending text x is = is ∙ ap (λ c. summary_by b.clients b.seed c (end_line ending)) x.are
 
 pub sum_out : (b : BenchRun) (counts : Counts) (ending : Ending) (text : List ℕ) (before after : SinkSeen) → IsCounted b.run ending counts
     → text ≡ summary_by b.clients b.seed counts (end_line ending) → GoesOut before after text → ReportedBench b before after (ending_status ending)

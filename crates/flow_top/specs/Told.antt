@@ -73,7 +73,7 @@ pub record IsCounted (r : ProgramRun) (ending : Ending) (counts : Counts) : Type
   pub lines : List Line
   pub shown : IsShown r lines
   pub last : LastIs (end_line ending) lines
-  pub counts : counts ≡ counts_of lines
+  pub are : counts ≡ counts_of lines
 
 -- What was told of a run whose summary is asked for: that of what is shown of it, with the status of its end; or a first part.
 pub data ReportedBench (b : BenchRun) (before after : SinkSeen) : ℕ → Type 0 where

@@ -222,11 +222,11 @@ fn own_ending(ending: RunEnding) -> Ending
     }
 }
 
-// Runs classes in the world and counts the lines as they are made; none is kept.
-fn count_run(alloc: Global, run: ProgramRun, counts: &mut Counts) -> Result<Ending, NoMemory>
-    requires may { MayRun run }
-    requires none { counts.old ≡ record { events = 0; starts = 0; throws = 0; prints = 0 } }
-    ensures { IfOk result (λ ending. IsCounted run ending counts.new) }
+// Runs classes in the world and counts the lines as they are made; none is kept. Counting never fails, and a run is never stuck:
+// where it doesn't come to its end, there was no memory.
+fn count_run(alloc: Global, run: ProgramRun) -> Result<(Ending, Counts), NoMemory>
+    requires { MayRun run }
+    ensures { IfOk result (λ x. IsCounted run x.0 x.1) }
 {
     let ProgramRun {
         meant: _,
@@ -234,9 +234,10 @@ fn count_run(alloc: Global, run: ProgramRun, counts: &mut Counts) -> Result<Endi
         world,
         frames,
     } = run;
+    let mut counts = Counts::new();
     let mut panel = Panel::empty(alloc);
-    match put_trace(alloc, classes, world, frames, &mut panel, counts) {
-        Ok(ending) => Ok(own_ending(ending)),
+    match put_trace(alloc, classes, world, frames, &mut panel, &mut counts) {
+        Ok(ending) => Ok((own_ending(ending), counts)),
         Err(_) => Err(NoMemory),
     }
 }
@@ -257,8 +258,7 @@ fn report_bench<S: Sink>(alloc: Global, bench: BenchRun, out: &mut S) -> u8
     ensures { ReportedBench bench (S.seen out.old) (S.seen out.new) result }
 {
     let BenchRun { run, clients, seed } = bench;
-    let mut counts = Counts::new();
-    let Ok(ending) = count_run(alloc, run, &mut counts) else {
+    let Ok((ending, counts)) = count_run(alloc, run) else {
         return 7;
     };
     let Ok(text) = summary(alloc, clients, seed, counts, ending) else {
