@@ -1,6 +1,7 @@
 #!/usr/bin/env python3
 """Processor minutes of the gate by crate, as a table, and its longest chain: bench/gate.py [WORD..], by default of `rt ci --anew`, which proves
-all from nothing. Looks every two seconds at the processes that the gate started; what ends in between is counted up to the last look."""
+all from nothing. Looks every two seconds at the processes that the gate started; what ends in between is counted up to the last look. What the gate
+says goes to out/gate.log."""
 import collections, os, re, subprocess, sys, threading, time
 
 TOP = os.path.dirname(os.path.dirname(os.path.abspath(__file__)))
@@ -63,12 +64,22 @@ def chain(sums):
     return max(map(dearest, rows))
 
 
+def read(lines, last):
+    """Writes what the gate says to its log, and keeps the last line."""
+    os.makedirs(f"{TOP}/out", exist_ok=True)
+    with open(f"{TOP}/out/gate.log", "w") as log:
+        for line in lines:
+            log.write(line)
+            log.flush()
+            last.append(line)
+
+
 def main():
     begun = time.time()
     environment = {"RT_JOBS": str(os.cpu_count()), **os.environ}
     gate = subprocess.Popen(WORDS, cwd=TOP, env=environment, stdin=subprocess.DEVNULL, stdout=subprocess.PIPE, stderr=subprocess.STDOUT, text=True, errors="replace")
     last = collections.deque(maxlen=1)
-    reader = threading.Thread(target=lambda: last.extend(gate.stdout), daemon=True)
+    reader = threading.Thread(target=read, args=(gate.stdout, last), daemon=True)
     reader.start()
     sums = measured(gate)
     reader.join()

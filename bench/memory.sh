@@ -62,11 +62,12 @@ try() {
     calls=$(cat "$work/calls")
     stride=$(((calls - 100) / 100))
     [ "$stride" -ge 1 ] || stride=1
-    number=1 wanting=0 all=0
+    number=1 wanting=0 some=0 all=0
     while [ "$number" -le "$calls" ]; do
         run "$number" "$@"
         if [ "$status" = 7 ] && head -c "$(wc -c <"$work/out")" "$work/whole" | cmp -s - "$work/out"; then
             wanting=$((wanting + 1))
+            if [ -s "$work/out" ]; then some=$((some + 1)); fi
         elif [ "$status" = "$whole" ] && cmp -s "$work/whole" "$work/out"; then
             all=$((all + 1))
         else
@@ -75,7 +76,7 @@ try() {
         fi
         if [ "$number" -lt 100 ]; then number=$((number + 1)); else number=$((number + stride)); fi
     done
-    echo "$name: $calls allocations, $((wanting + all)) refused one at a time: $wanting answered 7 with a first part, $all all of the text"
+    echo "$name: $calls allocations, $((wanting + all)) refused one at a time: $wanting answered 7 with a first part, $some of them not empty; $all all of the text"
 }
 
 for name in second_operand_never_starts stop_cancels_in_order request_server disk_after_power_loss; do

@@ -7,3 +7,4 @@ pub mod Fitting
 pub mod Walks
 pub mod Validity
 pub mod ReadBack
+pub mod Showing

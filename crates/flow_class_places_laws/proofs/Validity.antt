@@ -9,7 +9,7 @@ use Rattle.flow_meaning.specs.Placeless.{placeless_class, placeless_classes}
 use Rattle.flow_valid.specs.declared.rule.ClassRule.{ClassRule}
 use Rattle.flow_valid.specs.Heads.{declarations_kept, broken_head, has_main}
 use Rattle.flow_valid.specs.Validity.{broken_rule, IsSoundClass, BreaksIn, tested, unfilled, declaration, head, main, class}
-use Rattle.flow_class_places_laws.specs.Laws.{SoundnessAside, ValidityAside, BreachesAside}
+use Rattle.flow_class_places_laws.specs.Laws.{SoundnessAside, ValidityAside, BreachesAside, SameHead, HeadsAside}
 use Rattle.flow_class_places_laws.proofs.Parts.{agree, some_alike}
 use Rattle.flow_class_places_laws.proofs.Declarations.{kept_aside, head_aside, main_aside}
 use Rattle.flow_class_places_laws.proofs.Fitting.{rule_aside}
@@ -32,6 +32,18 @@ class_there a b alike i c h =
     some_alike placeless_class (slice_get b.classes i) c
     (sym (slice_get-map placeless_class b.classes i) ∙ ap (λ (r : RawTree). slice_get r.classes i) (sym alike)
     ∙ slice_get-map placeless_class a.classes i ∙ ap (option_map placeless_class) h)
+
+same_head : (c d : ClassTree) → placeless_class d ≡ placeless_class c → SameHead c d
+same_head c d h = record {
+  name = sym (ap (λ (x : ClassTree). x.name) h);
+  returns = sym (ap (λ (x : ClassTree). x.returns) h);
+  params = sym (ap (λ (x : ClassTree). x.params) h);
+  slots = sym (ap (λ (x : ClassTree). x.slots) h);
+  locals = sym (ap (λ (x : ClassTree). x.locals) h);
+}
+
+pub heads_over : HeadsAside
+heads_over a b k c e at = let d = class_there a b e k c at in (d.0, d.1, same_head c d.0 d.2)
 
 -- a and b are equal but for places
 module _ (a b : RawTree) (alike : placeless_classes a ≡ placeless_classes b) where

@@ -1,6 +1,7 @@
--- The rules of classes don't depend on places, and class text is read back as the same, places aside.
-use Rattle.std.specs.Prelude.{◌≡◌, ℕ, List}
+-- The rules of classes don't depend on places, nor do heads of classes, and class text is read back as the same, places aside.
+use Rattle.std.specs.Prelude.{◌≡◌, ℕ, List, slice_get}
 use Rattle.std.specs.declared.option.Option.{Option}
+use Rattle.std.specs.declared.option.Option.TheVariants.{Some}
 use Rattle.flow_base.specs.declared.place.Place.{Place}
 use Rattle.flow_tree.specs.declared.limits.TheConstants.{OF_CLASS_TEXT}
 use Rattle.flow_tree.specs.declared.token.Spot.{Spot}
@@ -26,6 +27,20 @@ abbrev pub SoundnessAside : Type 0
 SoundnessAside =
     (a b : RawTree) (c d : ClassTree) → placeless_classes a ≡ placeless_classes b → placeless_class c ≡ placeless_class d
     → IsSoundClass a c → IsSoundClass b d
+
+-- Two classes have one name and result, the same parameters, and slots and locals of the same types.
+pub record SameHead (c d : ClassTree) : Type 0 where
+  pub name : c.name ≡ d.name
+  pub returns : c.returns ≡ d.returns
+  pub params : c.params ≡ d.params
+  pub slots : c.slots ≡ d.slots
+  pub locals : c.locals ≡ d.locals
+
+-- So have those of one number, of such classes: the class that breaks a rule has the same name, and none has more places.
+abbrev pub HeadsAside : Type 0
+HeadsAside =
+    (a b : RawTree) (k : ℕ) (c : ClassTree) → placeless_classes a ≡ placeless_classes b → slice_get a.classes k ≡ Some c
+    → (d : ClassTree) × (slice_get b.classes k ≡ Some d) × SameHead c d
 
 -- The canonical text of classes has tokens, which are derived as classes equal to them, places aside, within the limits of class
 -- text. The limit on bytes is no part of this.

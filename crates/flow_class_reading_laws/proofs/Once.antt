@@ -1,5 +1,5 @@
 -- A text has one answer at most.
-use Rattle.std.proofs.Common.{◌≡◌, ℕ, zero, suc, ◌≤◌, ◌<◌, List, length, take, drop, Result, Ok, Err, refl, sym, ap, ap₂, ◌∙◌, subst, arith, ◌⊎◌, inl, inr}
+use Rattle.std.proofs.Common.{◌≡◌, ℕ, zero, suc, ◌≤◌, ◌<◌, List, [], ◌∷◌, length, take, drop, Ok, Err, refl, sym, ap, ap₂, ◌∙◌, subst, arith, ◌⊎◌, inl, inr}
 use Rattle.std.proofs.lemmas.List.{take-append-drop}
 use Rattle.std.specs.Prelude.{slice_get, unwrap_or}
 use Rattle.std.specs.Option.{option_map}
@@ -13,18 +13,16 @@ use Rattle.flow_tree.specs.GrammarToken.{Marked, KeepsOf, GoodOf}
 use Rattle.flow_tree.specs.GrammarAnswer.{place_at}
 use Rattle.flow_lex.proofs.Once.{reads_once}
 use Rattle.flow_parse.proofs.Spots.{spots_take}
-use Rattle.flow_class.specs.declared.class.RawClasses.{RawClasses}
 use Rattle.flow_class.specs.Classes.{ClassTree, RawTree}
 use Rattle.flow_class.specs.View.{raw_of}
 use Rattle.flow_classprint.specs.ClassGrammar.{TextRule}
 use Rattle.flow_valid.specs.declared.rule.ClassRule.{ClassRule}
 use Rattle.flow_valid.specs.Filling.{ReadsFilled, ReadsEmpty}
-use Rattle.flow_valid.specs.Validity.{broken_rule, number, IsSoundClass, IsValid, BreaksIn, tested, unfilled, Breaks, declaration, head, main, class}
-use Rattle.flow_classread.specs.declared.fault.ClassFault.{ClassFault}
+use Rattle.flow_valid.specs.Validity.{number, IsSoundClass, IsValid, BreaksIn, tested, unfilled, Breaks, declaration, head, main, class}
 use Rattle.flow_classread.specs.declared.fault.ClassFault.TheVariants.{Form, Invalid, TooLarge, OutOfMemory}
 use Rattle.flow_classread.specs.declared.read.TheConstants.{CLASS_BYTES}
-use Rattle.flow_classread.specs.ClassAnswer.{IsText, BeginsText, begun, whole, FailsIn, IsClassText, IsNoText, lexical, form, BreaksFirst, class_name, ClassAnswer}
-use Rattle.flow_class_reading_laws.specs.Laws.{told, OneAnswer}
+use Rattle.flow_classread.specs.ClassAnswer.{DerivesClasses, BeginsText, begun, whole, FailsIn, IsClassText, IsNoText, lexical, form, BreaksFirst, class_name}
+use Rattle.flow_class_reading_laws.specs.Laws.{OneAnswer}
 
 -- reads are filled or one is of an empty place
 filled_empty : (c : ClassTree) → ReadsFilled c → ReadsEmpty c → ⊥
@@ -114,7 +112,7 @@ module _ (bytes : List ℕ) where
   same_spots s t p q a b = ((reads_once bytes).tokens s t p q a b).0
 
   pub one_raw : (a b : RawTree) → IsClassText bytes a → IsClassText bytes b → a ≡ b
-  one_raw a b t u = u.only a (subst (λ s. IsText s a) (same_spots t.spots u.spots t.end u.end t.lexes u.lexes) t.derives)
+  one_raw a b t u = u.only a (subst (λ s. DerivesClasses s a) (same_spots t.spots u.spots t.end u.end t.lexes u.lexes) t.derives)
 
 first_marked : (n k : ℕ) (xs : List Marked) → KeepsOf OF_CLASS_TEXT n xs → KeepsOf OF_CLASS_TEXT n (take k xs)
 first_marked n zero xs h = tt
@@ -122,7 +120,7 @@ first_marked n (suc k) [] h = tt
 first_marked n (suc k) (x ∷ xs) h = (h.0, first_marked n k xs h.1)
 
 -- up to each of its tokens, and to the end, a class text begins one
-pub text_begins : (t : Tokens) (k : ℕ) (raw : RawTree) → k ≤ length t.spots.items → IsText t.spots.items raw → BeginsText t k
+pub text_begins : (t : Tokens) (k : ℕ) (raw : RawTree) → k ≤ length t.spots.items → DerivesClasses t.spots.items raw → BeginsText t k
 text_begins t k raw h d = elim (last k (length t.spots.items) h) [
   | inl l ↦ begun l (record {
     read = take (suc k) d.marked;
@@ -145,15 +143,15 @@ text_begins t k raw h d = elim (last k (length t.spots.items) h) [
     ]
 
 -- so a text that derives something fails nowhere
-pub no_failure : (bytes : List ℕ) (line : ℕ) (raw : RawTree) (spots : List Spot) (end : _) → Lexes bytes spots end → IsText spots raw → IsNoText bytes line → ⊥
+pub no_failure : (bytes : List ℕ) (line : ℕ) (raw : RawTree) (spots : List Spot) (end : _) → Lexes bytes spots end → DerivesClasses spots raw → IsNoText bytes line → ⊥
 no_failure bytes line raw spots end l d (lexical rule at short f e) = (reads_once bytes).either spots end rule at l f
 no_failure bytes line raw spots end l d (form t short m f) =
-    f.bad (text_begins t f.number raw f.within (subst (λ s. IsText s raw) (same_spots bytes spots t.spots.items end t.end l m) d))
+    f.bad (text_begins t f.number raw f.within (subst (λ s. DerivesClasses s raw) (same_spots bytes spots t.spots.items end t.end l m) d))
 
 -- tokens and their end alone count
 begins_there : (t u : Tokens) → u.spots.items ≡ t.spots.items → (k : ℕ) → BeginsText u k → BeginsText t k
 begins_there t u e k (begun lt g) = begun (subst (λ s. k < length s) e lt) (subst (λ s. GoodOf OF_CLASS_TEXT (TextRule 1) 7 (take (suc k) s)) e g)
-begins_there t u e k (whole raw d) = subst (BeginsText t) (ap length (sym e)) (whole raw (subst (λ s. IsText s raw) e d))
+begins_there t u e k (whole raw d) = subst (BeginsText t) (ap length (sym e)) (whole raw (subst (λ s. DerivesClasses s raw) e d))
 
 place_there : (t u : Tokens) → t.spots.items ≡ u.spots.items → t.end ≡ u.end → (k : ℕ) → place_at t k ≡ place_at u k
 place_there t u e f k = ap₂ (λ s p. unwrap_or (option_map (λ x. x.at) (slice_get s k)) p) e f
@@ -165,7 +163,7 @@ neither_less a b f g = omega (arith, f, g)
 one_failure : (t u : Tokens) (m n : ℕ) → t.spots.items ≡ u.spots.items → t.end ≡ u.end → FailsIn t m → FailsIn u n → m ≡ n
 one_failure t u m n e q f g =
     let same = neither_less f.number g.number (λ lt. f.bad (begins_there t u (sym e) f.number (g.first f.number lt)))
-        (λ lt. g.bad (begins_there u t e g.number (f.first g.number lt))) in
+    (λ lt. g.bad (begins_there u t e g.number (f.first g.number lt))) in
     f.line_is ∙ ap (λ p. p.line) (place_there t u e q f.number ∙ ap (place_at u) same) ∙ sym g.line_is
 
 one_line : (bytes : List ℕ) (m n : ℕ) → IsNoText bytes m → IsNoText bytes n → m ≡ n

@@ -1,10 +1,10 @@
 -- What was written is read back.
-use Rattle.std.proofs.Common.{◌≡◌, ℕ, ◌≤◌, List, length, Result, Ok, Err, sym, ap, ◌∙◌, subst, arith}
+use Rattle.std.proofs.Common.{◌≡◌, ℕ, ◌≤◌, length, Result, Ok, Err, sym, ap, ◌∙◌, subst, arith}
 use Rattle.flow_class.specs.declared.class.RawClasses.{RawClasses}
 use Rattle.flow_class.specs.Classes.{RawTree}
 use Rattle.flow_class.specs.View.{raw_of}
 use Rattle.flow_classprint.specs.ClassText.{ClassText}
-use Rattle.flow_valid.specs.Validity.{IsValid, Breaks}
+use Rattle.flow_valid.specs.Validity.{IsValid}
 use Rattle.flow_meaning.specs.Placeless.{placeless_classes}
 use Rattle.flow_class_places_laws.specs.Laws.{AreReadBack}
 use Rattle.flow_class_places_laws.proofs.Validity.{breach_over}
@@ -12,7 +12,7 @@ use Rattle.flow_class_places_laws.proofs.ReadBack.Texts.{class_text_read_back}
 use Rattle.flow_classread.specs.declared.fault.ClassFault.{ClassFault}
 use Rattle.flow_classread.specs.declared.fault.ClassFault.TheVariants.{Form, Invalid, TooLarge, OutOfMemory}
 use Rattle.flow_classread.specs.declared.read.TheConstants.{CLASS_BYTES}
-use Rattle.flow_classread.specs.ClassAnswer.{IsText, IsClassText, BreaksFirst, ClassAnswer}
+use Rattle.flow_classread.specs.ClassAnswer.{DerivesClasses, IsClassText, BreaksFirst, ClassAnswer}
 use Rattle.flow_class_reading_laws.specs.Laws.{IsReadAs, WrittenIsReadBack}
 use Rattle.flow_class_reading_laws.proofs.Once.{same_spots, no_failure, valid_unbroken}
 
@@ -21,7 +21,7 @@ module _ (raw : RawTree) (b : AreReadBack raw) where
   read_as : (other : RawTree) → IsClassText (ClassText raw) other → placeless_classes other ≡ placeless_classes raw
   read_as other t =
       let e = same_spots (ClassText raw) b.spots t.spots b.end t.end b.lexes t.lexes in
-      ap placeless_classes (sym (t.only b.tree (subst (λ s. IsText s b.tree) e b.derives))) ∙ b.same
+      ap placeless_classes (sym (t.only b.tree (subst (λ s. DerivesClasses s b.tree) e b.derives))) ∙ b.same
 
   unbroken : (rule : ℕ) (at : _) → IsValid raw → BreaksFirst (ClassText raw) rule at → ⊥
   unbroken rule at v f = valid_unbroken raw rule f.number v (breach_over f.raw raw rule f.number (read_as f.raw f.text) f.breaks)

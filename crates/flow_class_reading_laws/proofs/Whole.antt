@@ -1,8 +1,8 @@
 -- What a text derives is written as the laws on runs ask of classes.
-use Rattle.std.proofs.Common.{◌≡◌, ℕ, zero, suc, ◌+◌, ◌^◌, ◌<◌, List, [], ◌∷◌, length, sym, ap, ◌∙◌, subst, arith}
+use Rattle.std.proofs.Common.{◌≡◌, ℕ, zero, suc, List, [], ◌∷◌, subst, arith}
 use Rattle.std.specs.Prelude.{slice_get}
 use Rattle.std.specs.List.{AllByRecursion}
-use Rattle.std.specs.declared.option.Option.TheVariants.{None, Some}
+use Rattle.std.specs.declared.option.Option.TheVariants.{Some}
 use Rattle.flow_tree.specs.declared.ty.Ident.{Ident}
 use Rattle.flow_tree.specs.Tree.{ExprTree}
 use Rattle.flow_tree.specs.Body.{Body, ForStmt, AssignStmt, ModifyStmt, CallStmt}
@@ -10,7 +10,7 @@ use Rattle.flow_tree.specs.Decls.{RecordTree, RoutineTree, FunctionDecl}
 use Rattle.flow_tree.specs.Folds.{EachStmt}
 use Rattle.flow_tree.specs.Formed.{IsPath, IsFormed}
 use Rattle.flow_tree.specs.GrammarToken.{Marked}
-use Rattle.flow_tree.specs.GrammarDecl.{RoutineRule, routine, DeclRule, function_decl}
+use Rattle.flow_tree.specs.GrammarDecl.{routine, DeclRule, function_decl}
 use Rattle.flow_tree.proofs.Folds.{each_follows}
 use Rattle.flow_tree.proofs.Formed.{stmts_formed}
 use Rattle.flow_class.specs.Classes.{InstrTree, LastTree, BlockTree, CallbackTree, ClassTree, RawTree}
@@ -19,9 +19,9 @@ use Rattle.flow_class.specs.Code.{Last, Nothing, fetch_in, fetch_at, fetch}
 use Rattle.flow_classprint.specs.ClassGrammar.{VarPathRule, var_path, CalleeRule, callee, method, AssignRule, assign, InstrRule, set, effect, new, act, drop, InstrsRule, no_instrs, more_instrs, BlockRule, block, NumberedRule, none, next, GroupsRule, no_groups, more_groups, ClassRule, class, ClassesRule, no_classes, more_classes, FunctionRule, function_rule, HeadsRule, no_heads, more_records, more_functions, TextRule, text}
 use Rattle.flow_typing_laws.specs.ControlFlow.Laws.{IsSimpleFor}
 use Rattle.flow_typing_laws.specs.Typing.Paths.{IsNamed}
-use Rattle.flow_progress.specs.Written.{HasPath, IsWritten, AreWritten, HasBody, FunctionsWritten}
-use Rattle.flow_invariants.specs.Unmarked.{HasCallback, GroupsWritten, AreWhole}
-use Rattle.flow_classread.specs.ClassAnswer.{IsClassText, HaveSmallFrames}
+use Rattle.flow_progress.specs.Written.{HasPath, HasBody, FunctionsWritten}
+use Rattle.flow_invariants.specs.Unmarked.{HasCallback}
+use Rattle.flow_classread.specs.ClassAnswer.{HaveSmallFrames}
 use Rattle.flow_classread.proofs.Small.{small_frames}
 use Rattle.flow_class_reading_laws.specs.Laws.{ReadsWhole}
 

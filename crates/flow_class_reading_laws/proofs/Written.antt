@@ -3,12 +3,10 @@ use Rattle.std.proofs.Common.{ℕ, List, [], ◌∷◌, take, sym, subst}
 use Rattle.flow_tree.specs.declared.token.Spot.{Spot}
 use Rattle.flow_tree.specs.Lexing.{ReadsTokens, here, gap, token}
 use Rattle.flow_tree.specs.GrammarToken.{Marked, spots_of}
-use Rattle.flow_class.specs.Classes.{RawTree}
 use Rattle.flow_classprint.specs.ClassGrammar.{IsSpelled, AreSpelled}
-use Rattle.flow_classread.specs.ClassAnswer.{IsClassText}
 use Rattle.flow_class_reading_laws.specs.Laws.{ReadsWritten}
 
-AllSpelled : List Spot → Type 0
+abbrev AllSpelled : List Spot → Type 0
 AllSpelled [] = Unit {0}
 AllSpelled (x ∷ xs) = IsSpelled x.token × AllSpelled xs
 

@@ -2,7 +2,7 @@
 
 ghost use Rattle.std.specs.Prelude.{◌≡◌, map, IfOk, OnOk};
 ghost use Rattle.std.specs.Io.KnownBytes.{Appends};
-ghost use Rattle.flow_base.specs.Bytes.{AppendsPart};
+ghost use Rattle.flow_base.specs.Bytes.{AppendsPart, Grows};
 ghost use Rattle.flow_base.specs.Faults.{HasCause};
 ghost use Rattle.flow_class.specs.View.{block_of, class_of, raw_of};
 ghost use Rattle.flow_classprint.specs.ClassText.{all_text, numbered, block_text, class_front, class_back, class_text, front_text, ClassText};
@@ -61,6 +61,7 @@ fn write_blocks<S: Sink>(alloc: Global, blocks: &[Block], out: &mut S) -> Result
         (numbered block_text 0 (map block_of blocks.now))) }
     ensures part { AppendsPart (S.seen out.old).written (S.seen out.new).written
         (numbered block_text 0 (map block_of blocks.now)) }
+    ensures handed { Grows (S.seen out.old).handed (S.seen out.new).handed }
     ensures cause { HasCause (S.seen out.old).faults (S.seen out.new).faults result }
 {
     let mut number: usize = 0;
@@ -83,6 +84,7 @@ fn write_class<S: Sink>(alloc: Global, class: &Class, out: &mut S) -> Result<(),
         (class_text (class_of class.now))) }
     ensures part { AppendsPart (S.seen out.old).written (S.seen out.new).written
         (class_text (class_of class.now)) }
+    ensures handed { Grows (S.seen out.old).handed (S.seen out.new).handed }
     ensures cause { HasCause (S.seen out.old).faults (S.seen out.new).faults result }
 {
     let Ok(begin) = before_blocks(alloc, class) else {
@@ -103,6 +105,7 @@ fn write_all<S: Sink>(alloc: Global, classes: &[Class], out: &mut S) -> Result<(
         (all_text class_text (map class_of classes.now))) }
     ensures part { AppendsPart (S.seen out.old).written (S.seen out.new).written
         (all_text class_text (map class_of classes.now)) }
+    ensures handed { Grows (S.seen out.old).handed (S.seen out.new).handed }
     ensures cause { HasCause (S.seen out.old).faults (S.seen out.new).faults result }
 {
     for class in classes {
@@ -118,6 +121,7 @@ pub fn write_classes<S: Sink>(alloc: Global, raw: &RawClasses, out: &mut S) -> R
         (ClassText (raw_of raw.now))) }
     ensures part { AppendsPart (S.seen out.old).written (S.seen out.new).written
         (ClassText (raw_of raw.now)) }
+    ensures handed { Grows (S.seen out.old).handed (S.seen out.new).handed }
     ensures cause { HasCause (S.seen out.old).faults (S.seen out.new).faults result }
 {
     let Ok(text) = front(alloc, raw) else {

@@ -1,5 +1,5 @@
 -- Parts that are put together of others, and how they are read.
-use Rattle.std.proofs.Common.{◌≡◌, ℕ, ◌+◌, ◌-◌, List, [], ◌∷◌, ◌++◌, refl, sym, ap, ◌∙◌, subst}
+use Rattle.std.proofs.Common.{◌≡◌, ℕ, ◌+◌, List, [], ◌∷◌, ◌++◌, refl, sym, ap, ◌∙◌, subst}
 use Rattle.std.specs.declared.option.Option.{Option}
 use Rattle.std.specs.declared.option.Option.TheVariants.{Some}
 use Rattle.flow_base.specs.declared.place.Place.{Place}
@@ -18,7 +18,7 @@ use Rattle.flow_tree.specs.Tree.{ExprTree}
 use Rattle.flow_exprs.specs.Kinds.{sign_kind}
 use Rattle.flow_parse.proofs.Failing.{Inhabited}
 use Rattle.flow_parse.proofs.Inhabitants.{some_then, some_opening}
-use Rattle.flow_parse.proofs.Leaves.{Leaves, Link, Turns, free, narrow, then_reads, means, tok_reads, first_fails}
+use Rattle.flow_parse.proofs.Leaves.{Leaves, Link, Turns, free, narrow, then_reads, tok_reads, first_fails}
 use Rattle.flow_classread.specs.Parts.{Behind, Closed, Mapped, Both}
 
 -- some part of each

@@ -1,5 +1,5 @@
 -- From the reading of a class text to what it is, or where it fails.
-use Rattle.std.proofs.Common.{◌≡◌, ℕ, zero, suc, ◌+◌, ◌-◌, ◌≤◌, ◌<◌, List, [], ◌∷◌, ◌++◌, length, take, drop, refl, sym, ap, ◌∙◌, subst, arith, append_assoc}
+use Rattle.std.proofs.Common.{◌≡◌, ℕ, zero, suc, ◌+◌, ◌≤◌, List, [], ◌∷◌, ◌++◌, length, take, drop, refl, sym, ap, ◌∙◌, subst, arith, append_assoc}
 use Rattle.std.proofs.lemmas.List.{append-nil, take-append-drop, drop_all}
 use Rattle.flow_base.specs.declared.place.Place.{Place}
 use Rattle.flow_tree.specs.declared.limits.Limits.{Limits}
@@ -17,7 +17,7 @@ use Rattle.flow_parse.specs.Follow.{AtEnd}
 use Rattle.flow_parse.proofs.Spots.{spots_take}
 use Rattle.flow_parse.proofs.Verdict.{fewer}
 use Rattle.flow_classread.specs.declared.read.TheConstants.{CLASS_BYTES}
-use Rattle.flow_classread.specs.ClassAnswer.{IsText, BeginsText, begun, whole, FailsIn, IsClassText}
+use Rattle.flow_classread.specs.ClassAnswer.{BeginsText, begun, whole, FailsIn, IsClassText}
 
 -- tokens that a part consists of, or begins with, are seen in it
 module _ (limits : Limits) (n : ℕ) where

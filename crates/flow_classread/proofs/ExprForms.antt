@@ -1,5 +1,5 @@
 -- Arguments of calls in class text.
-use Rattle.std.proofs.Common.{◌≡◌, ℕ, ◌+◌, ◌-◌, ◌≤◌, List, [], ◌∷◌, ◌++◌, length, refl, sym, ap, ◌∙◌, subst, append_assoc}
+use Rattle.std.proofs.Common.{◌≡◌, ℕ, ◌+◌, ◌≤◌, List, [], ◌∷◌, ◌++◌, length, refl, sym, ap, ◌∙◌, subst, append_assoc}
 use Rattle.std.specs.declared.option.Option.{Option}
 use Rattle.std.specs.declared.option.Option.TheVariants.{Some}
 use Rattle.flow_base.specs.declared.place.Place.{Place}
@@ -25,7 +25,7 @@ use Rattle.flow_tree.specs.Tree.{ExprTree, ExprTrees, NoExprs, MoreExprs}
 use Rattle.flow_tree.specs.View.{expr_of, exprs_of}
 use Rattle.flow_tree.specs.Grammar.{ExprRule, ArgsRule, no_args, some_args, MoreArgsRule, end_args, more_args}
 use Rattle.flow_parse.specs.Follow.{ExprEnds}
-use Rattle.flow_parse.proofs.Leaves.{nothing, narrow, free, then_reads, first_fails, means}
+use Rattle.flow_parse.proofs.Leaves.{nothing, narrow, then_reads, first_fails, means}
 use Rattle.flow_tree.specs.declared.fault.SourceFault.{SourceFault}
 use Rattle.flow_parse.specs.Failing.{Fails}
 use Rattle.flow_classprint.specs.ClassGrammar.{WholeRule, AllAreFree}

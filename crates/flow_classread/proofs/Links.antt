@@ -1,5 +1,5 @@
 -- What follows each part of a class text, and that there is some of each.
-use Rattle.std.proofs.Common.{◌+◌, List, [], ◌∷◌, ◌++◌, sym, subst, true}
+use Rattle.std.proofs.Common.{List, [], ◌∷◌, ◌++◌, sym, subst, true}
 use Rattle.std.specs.Prelude.{codes}
 use Rattle.flow_base.specs.declared.place.Place.{Place}
 use Rattle.flow_tree.specs.declared.token.Token.{Token}

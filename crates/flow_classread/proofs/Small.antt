@@ -1,15 +1,12 @@
 -- How great the classes of a class text can be: each thing of one has a token.
-use Rattle.std.proofs.Common.{◌≡◌, ℕ, zero, suc, ◌+◌, ◌^◌, ◌≤◌, ◌<◌, List, [], ◌∷◌, ◌++◌, length, sym, ap, arith, length-append}
+use Rattle.std.proofs.Common.{◌≡◌, ℕ, zero, suc, ◌+◌, ◌^◌, ◌≤◌, ◌<◌, List, [], ◌∷◌, ◌++◌, length, ap, arith, length-append}
 use Rattle.std.specs.Prelude.{codes, slice_get}
 use Rattle.std.specs.declared.option.Option.TheVariants.{Some}
-use Rattle.flow_base.specs.declared.place.Place.{Place}
-use Rattle.flow_tree.specs.declared.limits.TheConstants.{OF_CLASS_TEXT}
 use Rattle.flow_tree.specs.declared.token.Sign.TheVariants as sign
-use Rattle.flow_tree.specs.declared.token.Spot.{Spot}
 use Rattle.flow_tree.specs.Grammar.{sign_at}
 use Rattle.flow_tree.specs.Tree.{TypeTree}
 use Rattle.flow_tree.specs.Decls.{SlotTree}
-use Rattle.flow_tree.specs.GrammarToken.{Marked, spots_of}
+use Rattle.flow_tree.specs.GrammarToken.{Marked}
 use Rattle.flow_tree.proofs.GrammarLists.{length_spots}
 use Rattle.flow_class.specs.Classes.{ClassTree, RawTree}
 use Rattle.flow_classprint.specs.ClassGrammar.{said, number_at, NumberedRule, none, next, SlotRule, slot, LocalRule, local, ClassRule, class, ClassesRule, no_classes, more_classes, TextRule, text}

@@ -1,5 +1,5 @@
 -- Whole class texts: records and functions in any order, and then classes.
-use Rattle.std.proofs.Common.{◌≡◌, ℕ, zero, suc, ◌+◌, ◌-◌, ◌≤◌, ◌<◌, false, List, [], ◌∷◌, ◌++◌, length, refl, sym, ap, ◌∙◌, subst, arith, append_assoc, ◌⊎◌, inl, inr}
+use Rattle.std.proofs.Common.{◌≡◌, ℕ, zero, suc, ◌+◌, ◌≤◌, ◌<◌, false, List, [], ◌∷◌, ◌++◌, length, refl, sym, ap, ◌∙◌, subst, arith, append_assoc, ◌⊎◌, inl, inr}
 use Rattle.std.specs.Prelude.{codes, drop}
 use Rattle.std.proofs.lemmas.List.{append-nil}
 use Rattle.std.specs.declared.option.Option.{Option}
@@ -22,7 +22,6 @@ use Rattle.flow_parse.proofs.Looking.{Looks, Back}
 use Rattle.flow_parse.proofs.Begins.{Starts, starts_append}
 use Rattle.flow_parse.proofs.Failing.{Inhabited}
 use Rattle.flow_parse.proofs.Leaves.{Leaves, Turns}
-use Rattle.flow_parse.proofs.Leaves.{nothing}
 use Rattle.flow_classread.proofs.Words.{name_no_word}
 -- nothing stands there, or a token and a part
 use Rattle.flow_tree.specs.Tree.{TypeTree, NamedType}
@@ -37,7 +36,6 @@ use Rattle.flow_parse.specs.Failing.{Sees, Only, Never, Stops}
 use Rattle.flow_parse.specs.Follow.{AtEnd}
 use Rattle.flow_parse.specs.Parts.{Marks, Record, Function}
 use Rattle.flow_parse.proofs.Begins.{type_starts}
-use Rattle.flow_parse.proofs.Leaves.{nothing}
 use Rattle.flow_class.specs.Classes.{ClassTree}
 use Rattle.flow_classprint.specs.ClassGrammar.{said, HeadsRule, no_heads, more_records, more_functions, RecordRule, record_rule, FunctionRule, function_rule, ClassRule, class, ClassesRule, no_classes, more_classes}
 use Rattle.flow_classread.specs.Parts.{Both, Heads}

@@ -5,3 +5,4 @@ pub mod Whole
 pub mod Written
 pub mod Referred
 pub mod Ended
+pub mod Shown

@@ -1,10 +1,11 @@
 -- Sound programs and their classes have one trace in each world in range.
-use Rattle.std.specs.Prelude.{ℕ, List}
+use Rattle.std.specs.Prelude.{ℕ, Bool, List}
 use Rattle.std.specs.List.{AllByRecursion}
 use Rattle.flow_tree.specs.declared.decl.Program.{Program}
 use Rattle.flow_tree.specs.DeclView.{program_of}
 use Rattle.flow_worldfile.specs.Worlds as file
 use Rattle.flow_class.specs.Classes.{RawTree}
+use Rattle.flow_compile_laws.specs.Frames.Framed.{SourceShown, ClassShown}
 use Rattle.flow_lower.specs.Compiled.{compiled}
 use Rattle.flow_front.specs.Verdict.{IsSound}
 use Rattle.flow_meaning.specs.Boundaries.{ReferredIn}
@@ -35,7 +36,17 @@ SourcesRun =
     (text : List ℕ) (program : Program) (w : file.World) → IsSound text program → file.IsInRange w
     → OneTrace (SourceTrace (program_of program) w)
 
--- Each group of them has a callback, so they keep within an event what they have to, and no unfinished actor is
+-- Exactly one list of lines is shown of such a program in such a world, with frames and without, and so of valid classes.
+abbrev pub ClassesShowOne : Type 0
+ClassesShowOne =
+    (r : RawTree) (with_frames : Bool) (w : file.World) → AreValid r → file.IsInRange w → OneTrace (ClassShown with_frames r w)
+
+abbrev pub SourcesShowOne : Type 0
+SourcesShowOne =
+    (text : List ℕ) (program : Program) (with_frames : Bool) (w : file.World) → IsSound text program → file.IsInRange w
+    → OneTrace (SourceShown with_frames (program_of program) w)
+
+-- Each group of a program's classes has a callback, so they keep within an event what they have to, and no unfinished actor is
 -- marked at its end.
 abbrev pub CompilesWhole : Type 0
 CompilesWhole = (text : List ℕ) (program : Program) → IsSound text program → AreWhole (classes_of program)

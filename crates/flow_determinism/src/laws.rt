@@ -1,6 +1,7 @@
 // Laws of the runs of sound programs.
 
 ghost use Rattle.flow_determinism.specs.Laws.{CompilesWritten, ClassesRun, SourcesRun, CompilesWhole, ProgramsKeep, ProgramsRest, SourcesReferred, SourcesEnd};
+ghost use Rattle.flow_determinism.specs.Laws.{ClassesShowOne, SourcesShowOne};
 
 use flow_compile_laws::laws::traces::compile_preserves_traces;
 use flow_invariants::laws::fitting::valid_classes_have_one_trace;
@@ -22,6 +23,16 @@ pub fn accepted_programs_have_one_trace()
     compiled_classes_are_well_formed();
     valid_classes_have_one_trace();
     compile_preserves_traces();
+}
+
+/// In the world of each file in range exactly one list of lines is shown of such a program, with frames and without, and so of all
+/// valid classes.
+pub fn one_list_of_lines_is_shown()
+    ensures classes { ClassesShowOne }
+    ensures sources { SourcesShowOne }
+{
+    accepted_programs_have_one_trace();
+    valid_classes_have_one_trace();
 }
 
 /// Each `choose` of such a program has a branch, so each group of its classes has a callback. So between two steps

@@ -1,5 +1,5 @@
 -- From bytes of events to what a program shows.
-use Rattle.std.proofs.Common.{Bool, List, [], ◌∷◌, ◌++◌, refl, sym, subst, ap}
+use Rattle.std.proofs.Common.{Bool, List, ◌∷◌, ◌++◌, refl, sym, subst, ap}
 use Rattle.std.specs.Prelude.{Result}
 use Rattle.flow_base.specs.declared.fault.OutFault.{OutFault}
 use Rattle.flow_tree.specs.DeclView.{program_of}
@@ -10,13 +10,9 @@ use Rattle.flow_worldfile.specs.declared.world.World0.{World0}
 use Rattle.flow_class.specs.Classes.{RawTree}
 use Rattle.flow_class.specs.View.{raw_of}
 use Rattle.flow_class.specs.declared.class.RawClasses.{RawClasses}
-use Rattle.flow_meaning.specs.Requests.{Spot}
 use Rattle.flow_meaning.specs.Class.{classes}
-use Rattle.flow_meaning.specs.Process.{Engine}
-use Rattle.flow_meaning.specs.Runs as run
-use Rattle.flow_meaning.specs.Runs.{Runs, after, lines_of}
 use Rattle.flow_meaning.specs.Views.{frame_spot}
-use Rattle.flow_meaning.specs.World.{World, at_start}
+use Rattle.flow_meaning.specs.World.{at_start}
 use Rattle.flow_lower.specs.Compiled.{compiled}
 use Rattle.flow_invariants.specs.Unmarked.{AreWhole}
 use Rattle.flow_burst_refinement.specs.Enabled.Tasking.{IsProgram}
@@ -27,7 +23,7 @@ use Rattle.flow_world.proofs.Putting.{puts_more}
 use Rattle.flow_world.proofs.Telling.{no_more}
 use Rattle.flow_world.specs.Tracing.{begun, all}
 use Rattle.flow_invariants.proofs.Fitting.Runs.{run_exists}
-use Rattle.flow_compile_laws.specs.Frames.Framed.{ClassShown, seen_if, Shows, ends, spent, event}
+use Rattle.flow_compile_laws.specs.Frames.Framed.{ClassShown, Shows}
 use Rattle.flow_compile_laws.proofs.Frames.Alike.{shown_of_classes}
 use Rattle.flow_compile_laws.proofs.Traces.{are_carried}
 use Rattle.flow_lowering_laws.proofs.Programs.Whole.{compiles_faithfully}
@@ -38,6 +34,7 @@ use Rattle.flow_world_refinement.proofs.Effects.Settling.{settled_first}
 use Rattle.flow_world_refinement.proofs.Events.Whole.{happening, spent_happening}
 use Rattle.flow_world_refinement.specs.Traces.Traced.{BoundaryBegins}
 use Rattle.flow_world_refinement.proofs.Views.Traced.{frames_traced, beginning_traced}
+pub use Rattle.flow_determinism.proofs.Shown.{shown_by}
 use Rattle.flow_determinism.proofs.Whole.{compiles_whole}
 use Rattle.flow_class_text_laws.proofs.Compiled.{compiled_few}
 use Rattle.flow_end_to_end.specs.Exact.{HaveFewPlaces, ClassesShown, ProgramShown, ClassesBegun, ProgramInPart}
@@ -56,15 +53,6 @@ pub begins : (c : RawClasses) (file : World0) → AreWhole (raw_of c) → HaveFe
 begins c file whole few range =
     let r = raw_of c in
     record { fresh = settled_first r; code = code_first c file whole few; keeps = lasting_starts r (seen file) range; keeps_on = lasting_stays r whole.valid }
-
--- whoever runs shows something: the lines of the run, with what is seen after each event where it is asked for
-pub shown_by : {A : Type 0} (e : Engine A) (spot : A → Spot) (with_frames : Bool) (w : World A) (states : List (World A)) (lines : List Line) → Runs e w states lines
-    → (shown : List Line) × Shows e spot with_frames w shown
-shown_by e spot with_frames w _ _ (run.ends last g) = (last ∷ [], ends last g)
-shown_by e spot with_frames w _ _ (run.spent b l g k n h) = (lines_of b l ++ line.EndSpent ∷ [], spent b l g k n h)
-shown_by e spot with_frames w _ _ (run.event {states = states} {lines = lines} b l g k n h rest) =
-    let later = shown_by e spot with_frames (after w b l) states lines rest in
-    (lines_of b l ++ (seen_if e spot with_frames (after w b l) ++ later.0), event b l g k n h later.1)
 
 -- something is shown of valid classes
 pub lines_shown : (c : RawClasses) (file : World0) (with_frames : Bool) → AreWhole (raw_of c) → IsInRange (seen file)

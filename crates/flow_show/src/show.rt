@@ -2,7 +2,7 @@
 
 ghost use Rattle.std.specs.Prelude.{◌≡◌, ◌<◌, ◌≤◌, length, IfOk, OnOk};
 ghost use Rattle.std.specs.Io.KnownBytes.{Appends};
-ghost use Rattle.flow_base.specs.Bytes.{AppendsPart};
+ghost use Rattle.flow_base.specs.Bytes.{AppendsPart, Grows};
 ghost use Rattle.flow_base.specs.Faults.{HasCause};
 ghost use Rattle.flow_tree.specs.DeclView.{decl_of, program_of};
 ghost use Rattle.flow_tree.specs.Canon.{decl_text, decls_text, Canon};
@@ -34,6 +34,7 @@ pub fn show_lines<S: Sink>(alloc: Global, program: &Program, out: &mut S) -> Res
         (Canon (program_of program.now))) }
     ensures part { AppendsPart (S.seen out.old).written (S.seen out.new).written
         (Canon (program_of program.now)) }
+    ensures handed { Grows (S.seen out.old).handed (S.seen out.new).handed }
     ensures cause { HasCause (S.seen out.old).faults (S.seen out.new).faults result }
 {
     for decl in &program.decls {
@@ -74,6 +75,7 @@ pub fn write_lines<S: Sink>(out: &mut S, text: &[u8]) -> Result<(), OutFault>
     ensures whole { OnOk result (Appends (S.seen out.old).written (S.seen out.new).written
         text.now) }
     ensures part { AppendsPart (S.seen out.old).written (S.seen out.new).written text.now }
+    ensures handed { Grows (S.seen out.old).handed (S.seen out.new).handed }
     ensures cause { HasCause (S.seen out.old).faults (S.seen out.new).faults result }
 {
     let mut rest = text;

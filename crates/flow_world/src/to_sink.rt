@@ -21,10 +21,12 @@ use crate::trace::put_trace;
 use flow_base::sink::Sink;
 use flow_machine::host::RunFault;
 use flow_monitor::Audience;
+use flow_trace::buffer::LineBuf;
 use flow_trace::sink_out::SinkOut;
 use flow_valid::program::ClassProgram;
 use flow_worldfile::World0;
 use std::alloc::Global;
+use std::snapshot::Snapshot;
 
 /// Runs classes in a world and writes the lines of the trace, each as it is made, with the frames after each event that was
 /// not spent where they are asked for: where the run comes to its end, what was written is the bytes of these lines, from the
@@ -59,7 +61,13 @@ pub fn write_trace<P: Audience, S: Sink>(
     ensures last { IfOk result (λ ending. GrowsTo (S.seen out.old).written (S.seen out.new).written
         (Bytes (last_line (P.ears panel.old) ending))) }
 {
-    let mut lines = SinkOut::new(alloc, out)?;
+    let buffer = LineBuf::new(alloc)?;
+    let before = Snapshot::of(&*out);
+    let mut lines = SinkOut {
+        out,
+        buffer,
+        before,
+    };
     let ending = put_trace(alloc, classes, world, with_frames, panel, &mut lines);
     let SinkOut {
         out,

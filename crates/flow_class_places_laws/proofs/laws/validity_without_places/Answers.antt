@@ -1,4 +1,4 @@
-use Rattle.flow_class_places_laws.proofs.Validity.{sound_over, valid_over, breach_over}
+use Rattle.flow_class_places_laws.proofs.Validity.{sound_over, valid_over, breach_over, heads_over}
 use Rattle.flow_class_places_laws.proofs.laws.validity_without_places.Goals as goal
 
 pub returns-clause-valid : goal.returns-clause-valid
@@ -9,3 +9,6 @@ returns-clause-breaks c = breach_over
 
 pub returns-clause-class : goal.returns-clause-class
 returns-clause-class c = sound_over
+
+pub returns-clause-heads : goal.returns-clause-heads
+returns-clause-heads c = heads_over

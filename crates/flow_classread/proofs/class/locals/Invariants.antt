@@ -1,4 +1,4 @@
-use Rattle.std.proofs.Common.{◌-◌, ◌+◌, ◌≤◌, length, map, ◌++◌}
+use Rattle.std.proofs.Common.{◌-◌, ◌≤◌, length, map, ◌++◌}
 use Rattle.flow_tree.specs.declared.limits.TheConstants.{OF_CLASS_TEXT}
 use Rattle.std.specs.Prelude.{codes}
 use Rattle.flow_tree.specs.declared.token.Token.TheVariants as token

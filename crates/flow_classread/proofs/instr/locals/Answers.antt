@@ -1,7 +1,6 @@
-use Rattle.std.proofs.Common.{◌+◌, refl, arith, ap, ◌∙◌, ◌++◌, ◌∷◌, []}
+use Rattle.std.proofs.Common.{refl, arith, ap, ◌∙◌, ◌++◌, ◌∷◌, []}
 use Rattle.std.proofs.lemmas.Result.{err_from_is_err_and}
 use Rattle.flow_tree.specs.declared.limits.TheConstants.{OF_CLASS_TEXT}
-use Rattle.flow_tree.specs.declared.token.Sign.TheVariants as sign
 use Rattle.flow_parse.proofs.Looking.{not_true}
 use Rattle.flow_parse.proofs.Leaves.{first_fails}
 use Rattle.flow_classread.proofs.BlockForms.{locals_link, locals_left, locals_init, locals_step, locals_next_fails, locals_done}

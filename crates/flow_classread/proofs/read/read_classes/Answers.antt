@@ -8,4 +8,4 @@ pub judge-requires-clause-few : goal.judge-requires-clause-few
 judge-requires-clause-few c = few_places c.args.bytes.now (raw_of c.in-Ok.raw) c.in-Ok.ensures
 
 pub judge-requires-clause-many : goal.judge-requires-clause-many
-judge-requires-clause-many c = omega (arith, few_classes c.args.bytes.now (raw_of c.in-Ok.raw) c.in-Ok.ensures, length-map class_of c.in-Ok.raw.classes.items)
+judge-requires-clause-many c = omega (arith, few_classes c.args.bytes.now (raw_of c.in-Ok.raw) c.in-Ok.ensures, length-map c.in-Ok.raw.classes.items class_of)

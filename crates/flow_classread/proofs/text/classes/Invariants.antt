@@ -1,4 +1,4 @@
-use Rattle.std.proofs.Common.{◌-◌, ◌+◌, ◌≤◌, length, map, ◌++◌}
+use Rattle.std.proofs.Common.{◌-◌, ◌≤◌, length, map, ◌++◌}
 use Rattle.flow_tree.specs.declared.limits.TheConstants.{OF_CLASS_TEXT}
 use Rattle.flow_parse.specs.Follow.{AtEnd}
 use Rattle.flow_parse.proofs.Leaves.{Leaves}

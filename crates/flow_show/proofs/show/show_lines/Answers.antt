@@ -1,4 +1,5 @@
 use Rattle.std.proofs.Common.{◌∙◌, ap, arith, get_or, length}
+use Rattle.flow_base.proofs.Growing.{grows_trans}
 use Rattle.flow_show.proofs.Writing.{so_far, decl_written, decl_part}
 use Rattle.flow_show.proofs.show.show_lines.Goals as goal
 
@@ -16,5 +17,6 @@ loop-decl-preserved g c = record {
   written = decl_written _ _ _ c.args.program.now.decls.items c.loop-decl.decl-index c.decl-item.result _ (omega (arith, c.loop-decl-test.true, ap length c.deref-decl-items.ensures.value))
       (c.decl-item.is ∙ ap (λ l. get_or l c.loop-decl.decl-index c.decl-item.result) c.deref-decl-items.ensures.value)
       (c.deref.ensures.value ∙ c.in-Ok.ensures) c.loop-decl.invariant.written c.in_ok-write_lines.ensures.whole;
+  handed = grows_trans _ _ _ c.loop-decl.invariant.handed c.write_lines.ensures.handed;
   kept = omega (arith, c.loop-decl.invariant.kept, c.write_lines.ensures.cause.kept);
 }

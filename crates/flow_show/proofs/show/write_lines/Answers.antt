@@ -1,5 +1,6 @@
 use Rattle.std.proofs.Common.{◌++◌, take, drop, arith}
 use Rattle.std.proofs.KnownBytes.{Appends-trans}
+use Rattle.flow_base.proofs.Growing.{grows_trans}
 use Rattle.flow_show.proofs.Writing.{part_behind, split_at, split_later}
 use Rattle.flow_show.proofs.show.write_lines.Goals as goal
 
@@ -17,5 +18,6 @@ loop-rest-preserved g c =
     let n = c.line_length-count.result in
     record {
       written = (done ++ take n rest, split_later _ done rest n split, Appends-trans _ _ _ _ _ appended c.in_ok-write_whole.ensures.whole);
+      handed = grows_trans _ _ _ c.loop-rest.invariant.handed c.write_whole.ensures.handed;
       kept = omega (arith, c.loop-rest.invariant.kept, c.write_whole.ensures.cause.kept);
     }

@@ -1,4 +1,5 @@
 use Rattle.std.proofs.Common.{rules, ◌≡◌, sym, ap, subst, ◌∙◌}
+use Rattle.std.specs.Prelude.{Err}
 use Rattle.flow_machine.specs.declared.host.RunFault.TheVariants.{OutOfMemory}
 use Rattle.flow_world.specs.BreakingTraces.{TraceFails}
 use Rattle.std.proofs.lemmas.Result.{IfErr-weaker, IfOk-weaker}
@@ -62,7 +63,7 @@ returns-clause-fails g c =
     ))
     c.put_trace-ending.ensures.fails
 
-pub returns-in_err-lines-clause-fails : goal.returns-in_err-lines-clause-fails
-returns-in_err-lines-clause-fails g c =
-    err_is _ _ OutOfMemory (search rules)
-    (fails_before put_bytes c.args.with_frames c.args.classes c.args.world (g.S.Sink.seen c.args.out.now).written (g.P.Audience.ears c.args.panel.now))
+pub returns-in_err-buffer-clause-fails : goal.returns-in_err-buffer-clause-fails
+returns-in_err-buffer-clause-fails g c =
+    let is : c.from_residual.result ≡ Err OutOfMemory = search rules in
+    err_is _ _ _ is (fails_before put_bytes c.args.with_frames c.args.classes c.args.world (g.S.Sink.seen c.args.out.now).written (g.P.Audience.ears c.args.panel.now))

@@ -1,4 +1,5 @@
 use Rattle.std.proofs.Common.{rules, ◌≡◌, ◌∙◌, refl, subst, arith}
+use Rattle.std.specs.Prelude.{Err}
 use Rattle.flow_world.specs.declared.ending.Ending.TheVariants as ending
 use Rattle.flow_world.specs.declared.event.Event.TheVariants.{Ran, Idle, BoundReached, Spent, Stopped}
 use Rattle.flow_world.specs.Worlds.{world_seen}
@@ -73,19 +74,22 @@ returns-in_err-put_frames_if-in-Stopped-clause-part g c = λ failed.
 
 pub returns-in_err-event-clause-fails : goal.returns-in_err-event-clause-fails
 returns-in_err-event-clause-fails g c =
-    err_is _ _ c.in_err-event.field-0.0 (search rules) (fails_in_event _ _ _ _ _ _ _ _ _ _ c.events.invariant.quietly c.in_err-event.ensures.fails)
+    let is : c.from_residual.result ≡ Err c.in_err-event.field-0.0 = search rules in
+    err_is _ _ _ is (fails_in_event _ _ _ _ _ _ _ _ _ _ c.events.invariant.quietly c.in_err-event.ensures.fails)
 
 pub returns-in_err-put_frames_if-in-Ran-clause-fails : goal.returns-in_err-put_frames_if-in-Ran-clause-fails
 returns-in_err-put_frames_if-in-Ran-clause-fails g c =
     let ran : c.in_ok-event.field-0 ≡ Ran = search rules in
-    err_is _ _ c.in_err-put_frames_if-in-Ran.field-0.0 (search rules) (fails_in_frames _ _ _ _ _ _ _ _ _ _ _ _ c.events.invariant.quietly
+    let is : c.from_residual-in_err-put_frames_if-in-Ran.result ≡ Err c.in_err-put_frames_if-in-Ran.field-0.0 = search rules in
+    err_is _ _ _ is (fails_in_frames _ _ _ _ _ _ _ _ _ _ _ _ c.events.invariant.quietly
     (subst (λ e. HeardSo g.L.LineOut.puts e (world_seen c.events.world) c.events.out (g.P.Audience.ears c.events.panel) (world_seen c.event.new.self) c.event.new.out (g.P.Audience.ears c.event.new.panel)) ran c.in_ok-event.ensures.does)
     c.in_err-put_frames_if-in-Ran.ensures.fails)
 
 pub returns-in_err-put_frames_if-in-Stopped-clause-fails : goal.returns-in_err-put_frames_if-in-Stopped-clause-fails
 returns-in_err-put_frames_if-in-Stopped-clause-fails g c =
     let ran : c.in_ok-event.field-0 ≡ Stopped c.in-Stopped.k = search rules in
-    err_is _ _ c.in_err-put_frames_if-in-Stopped.field-0.0 (search rules) (fails_in_last _ _ _ _ _ _ _ _ _ _ _ _ _ c.events.invariant.quietly
+    let is : c.from_residual-in_err-put_frames_if-in-Stopped.result ≡ Err c.in_err-put_frames_if-in-Stopped.field-0.0 = search rules in
+    err_is _ _ _ is (fails_in_last _ _ _ _ _ _ _ _ _ _ _ _ _ c.events.invariant.quietly
     (subst (λ e. HeardSo g.L.LineOut.puts e (world_seen c.events.world) c.events.out (g.P.Audience.ears c.events.panel) (world_seen c.event.new.self) c.event.new.out (g.P.Audience.ears c.event.new.panel)) ran c.in_ok-event.ensures.does)
     c.in_err-put_frames_if-in-Stopped.ensures.fails)
 

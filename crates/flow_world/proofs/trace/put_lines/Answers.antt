@@ -1,4 +1,4 @@
-use Rattle.std.proofs.Common.{rules, refl, subst, ◌∙◌}
+use Rattle.std.proofs.Common.{rules, ◌≡◌, refl, subst, ◌∙◌}
 use Rattle.std.specs.Prelude.{Ok, Err, None, Some}
 use Rattle.flow_base.specs.declared.fault.OutFault.TheVariants.{Failed}
 use Rattle.flow_world.specs.FaultedLines.{telling, whole, failed}
@@ -63,7 +63,8 @@ pub returns-in_err-put-clause-fails : goal.returns-in_err-put-clause-fails
 returns-in_err-put-clause-fails g c =
     let fails = c.in_err-put.ensures.fails in
     let ears = g.P.Audience.ears c.args.panel.now in
-    err_is _ _ c.in_err-put.field-0.0 (search rules) (λ classes file starts. (
+    let is : c.from_residual.result ≡ Err c.in_err-put.field-0.0 = search rules in
+    err_is _ _ _ is (λ classes file starts. (
       None,
       Some fails.fault,
       head_fails fails.fault fails.is refl
@@ -74,7 +75,8 @@ pub returns-in_err-ending-clause-fails : goal.returns-in_err-ending-clause-fails
 returns-in_err-ending-clause-fails g c =
     let t = c.in_err-ending.ensures.fails in
     let ears = g.P.Audience.ears c.args.panel.now in
-    err_is _ _ c.in_err-ending.field-0.0 (search rules) (λ classes file starts. (
+    let is : c.from_residual-in_err-ending.result ≡ Err c.in_err-ending.field-0.0 = search rules in
+    err_is _ _ _ is (λ classes file starts. (
       t.0,
       t.1,
       events_fail (world_seen c.args.world.now) (watching c.put.new.out ears) starts (unheard_line g.L.LineOut.puts _ _ _ _ _ refl c.in_ok-put.ensures.puts) t.2,
@@ -85,7 +87,8 @@ returns-in_err-line-clause-fails g c =
     let ears = g.P.Audience.ears c.args.panel.now in
     let others = g.P.Audience.ears c.put_events.new.panel in
     let goes = c.in_ok-ending.ensures.goes in
-    err_is _ _ OutOfMemory (search rules) (λ classes file starts. (
+    let is : c.from_residual-in_err-line.result ≡ Err OutOfMemory = search rules in
+    err_is _ _ _ is (λ classes file starts. (
       goes.0,
       None,
       no_name c.in_ok-ending.ending (world_seen c.args.world.now) (watching c.put.new.out ears) (hearing c.put_events.new.out others goes.0) refl refl starts
@@ -99,7 +102,8 @@ returns-in_err-put-2-clause-fails g c =
     let others = g.P.Audience.ears c.put_events.new.panel in
     let same = c.in_ok-line.ensures ∙ last_same ears others c.in_ok-ending.ending c.put_events.ensures.names in
     let stop = c.in_ok-ending.ensures.goes.0 in
-    err_is _ _ c.in_err-put-2.field-0.0 (search rules) (λ classes file starts. (
+    let is : c.from_residual-in_err-put-2.result ≡ Err c.in_err-put-2.field-0.0 = search rules in
+    err_is _ _ _ is (λ classes file starts. (
       stop,
       Some fails.fault,
       end_fails fails.fault c.in_ok-ending.ending fails.is refl (record {

@@ -1,4 +1,5 @@
-use Rattle.std.proofs.Common.{rules}
+use Rattle.std.proofs.Common.{rules, ◌≡◌}
+use Rattle.std.specs.Prelude.{Err}
 use Rattle.std.proofs.lemmas.Result.{IfErr-weaker, IfOk-weaker}
 use Rattle.flow_machine.specs.declared.host.RunFault.TheVariants.{OutOfMemory}
 use Rattle.flow_world.proofs.Putting.{err_is}
@@ -17,4 +18,5 @@ returns-clause-fails g c = IfErr-weaker c.put_lines.result _ _ (λ f fails. fail
 
 pub returns-in_err-world-clause-fails : goal.returns-in_err-world-clause-fails
 returns-in_err-world-clause-fails g c =
-    err_is _ _ OutOfMemory (search rules) (fails_before g.L.LineOut.puts c.args.with_frames c.args.classes c.args.world c.args.out.now (g.P.Audience.ears c.args.panel.now))
+    let is : c.from_residual.result ≡ Err OutOfMemory = search rules in
+    err_is _ _ _ is (fails_before g.L.LineOut.puts c.args.with_frames c.args.classes c.args.world c.args.out.now (g.P.Audience.ears c.args.panel.now))

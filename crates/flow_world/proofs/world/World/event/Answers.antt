@@ -1,4 +1,5 @@
-use Rattle.std.proofs.Common.{rules, refl, ap, ◌∙◌}
+use Rattle.std.proofs.Common.{rules, ◌≡◌, refl, ap, ◌∙◌}
+use Rattle.std.specs.Prelude.{Err}
 use Rattle.flow_world.specs.Watching.{hearing}
 use Rattle.flow_world.proofs.Watching.{event_heard, break_heard, fails_heard, answer_does, known_event, known_break, known_fails}
 use Rattle.flow_world.proofs.Putting.{err_is}
@@ -26,11 +27,10 @@ returns-in_err-event-clause-fails g c =
     let kept = c.next_event-event.ensures.kept in
     let panel_name = ap (λ k. k.0) kept in
     let out_name = ap (λ k. k.1) kept in
-    let seen = λ w. hearing w.out.now (g.P.Audience.ears w.panel.now) w.stop in
     let fails = c.in_err-event.ensures.fails in
-    let moved = fails_heard seen g.L.LineOut.puts _ (λ a b l answer t. t) _ _ _ fails.0 fails.2 in
+    let moved = fails_heard (λ w. hearing w.out.now (g.P.Audience.ears w.panel.now) w.stop) g.L.LineOut.puts _ (λ a b l answer t. t) _ _ _ fails.0 fails.2 in
     let last = fails.0.out in
     let out_is = ap (λ w. w.out.now) fails.1 in
     let panel_is = ap (λ w. w.panel.now) fails.1 in
-    err_is _ _ c.in_err-event.field-0.0 (search rules)
-    (known_fails g.L.LineOut.puts g.P.Audience.ears _ _ _ last.out.now _ last.panel.now _ last.stop fails.0.fault (out_is ∙ (search rules)) (panel_is ∙ (search rules)) moved)
+    let is : c.from_residual.result ≡ Err c.in_err-event.field-0.0 = search rules in
+    err_is _ _ _ is (known_fails g.L.LineOut.puts g.P.Audience.ears _ _ _ last.out.now _ last.panel.now _ last.stop fails.0.fault (out_is ∙ (search rules)) (panel_is ∙ (search rules)) moved)

@@ -1,4 +1,5 @@
 use Rattle.std.proofs.Common.{rules, ◌≡◌, refl, subst}
+use Rattle.std.specs.Prelude.{Err}
 use Rattle.flow_machine.specs.declared.host.Burst.TheVariants.{Rested, Spent}
 use Rattle.flow_world.specs.Happening.{Comes, begins, ends}
 use Rattle.flow_world.specs.FaultedLines.{tells, whole}
@@ -57,5 +58,5 @@ returns-in-Rested-clause-does g c =
 pub returns-in_err-carries_out-clause-fails : goal.returns-in_err-carries_out-clause-fails
 returns-in_err-carries_out-clause-fails g c =
     let fails = c.in_err-carries_out.ensures.fails in
-    err_is _ _ c.in_err-carries_out.field-0.0 (search rules)
-    (fails.0, fails.1, record { time = c.in-Some.time; scripted = c.in-Some.scripted; comes = search rules; bound = search rules; fails = fails.2 })
+    let is : c.from_residual.result ≡ Err c.in_err-carries_out.field-0.0 = search rules in
+    err_is _ _ _ is (fails.0, fails.1, record { time = c.in-Some.time; scripted = c.in-Some.scripted; comes = search rules; bound = search rules; fails = fails.2 })
