@@ -37,6 +37,7 @@ fn put_refusal<S: Sink>(alloc: Global, fault: &SourceFault, out: &mut S) -> Resu
         (refusal_text fault.now)) }
     ensures part { AppendsPart (S.seen out.old).written (S.seen out.new).written
         (refusal_text fault.now) }
+    ensures handed { Grows (S.seen out.old).handed (S.seen out.new).handed }
     ensures cause { HasCause (S.seen out.old).faults (S.seen out.new).faults result }
 {
     let Ok(line) = refusal_line(alloc, fault) else {
@@ -55,6 +56,7 @@ fn put_class_refusal<S: Sink>(
         (class_refusal fault.now)) }
     ensures part { AppendsPart (S.seen out.old).written (S.seen out.new).written
         (class_refusal fault.now) }
+    ensures handed { Grows (S.seen out.old).handed (S.seen out.new).handed }
     ensures cause { HasCause (S.seen out.old).faults (S.seen out.new).faults result }
 {
     let Ok(line) = class_line(alloc, fault) else {
@@ -69,6 +71,7 @@ fn put_world_refusal<S: Sink>(alloc: Global, fault: WorldFault, out: &mut S) -> 
         (world_refusal fault)) }
     ensures part { AppendsPart (S.seen out.old).written (S.seen out.new).written
         (world_refusal fault) }
+    ensures handed { Grows (S.seen out.old).handed (S.seen out.new).handed }
     ensures cause { HasCause (S.seen out.old).faults (S.seen out.new).faults result }
 {
     let Ok(line) = world_line(alloc, fault) else {
@@ -82,6 +85,7 @@ fn put<S: Sink>(alloc: Global, outcome: Answered, out: &mut S) -> Result<(), Out
     ensures whole { OnOk result (Appends (S.seen out.old).written (S.seen out.new).written
         (text_of outcome)) }
     ensures part { AppendsPart (S.seen out.old).written (S.seen out.new).written (text_of outcome) }
+    ensures handed { Grows (S.seen out.old).handed (S.seen out.new).handed }
     ensures cause { HasCause (S.seen out.old).faults (S.seen out.new).faults result }
 {
     match outcome {
@@ -140,7 +144,8 @@ fn fault_status(fault: OutFault) -> u8
 
 /// Writes the text of an outcome that is no run and flushes it, and gives the status.
 pub fn report_told<S: Sink>(alloc: Global, outcome: Answered, out: &mut S) -> u8
-    ensures { ReportedTold outcome (S.seen out.old) (S.seen out.new) result }
+    ensures reported { ReportedTold outcome (S.seen out.old) (S.seen out.new) result }
+    ensures handed { Grows (S.seen out.old).handed (S.seen out.new).handed }
 {
     let told = status(&outcome);
     if let Err(fault) = put(alloc, outcome, out) {
@@ -193,7 +198,8 @@ fn report_run<P: Audience, S: Sink>(
     out: &mut S,
 ) -> u8
     requires { MayRun run }
-    ensures { ReportedRun run (P.ears panel.old) (S.seen out.old) (S.seen out.new) result }
+    ensures reported { ReportedRun run (P.ears panel.old) (S.seen out.old) (S.seen out.new) result }
+    ensures handed { Grows (S.seen out.old).handed (S.seen out.new).handed }
 {
     let ProgramRun {
         meant: _,
@@ -246,6 +252,7 @@ fn count_run(alloc: Global, run: ProgramRun) -> Result<(Ending, Counts), NoMemor
 fn write_text<S: Sink>(text: &[u8], out: &mut S) -> Result<(), OutFault>
     ensures whole { OnOk result (GoesOut (S.seen out.old) (S.seen out.new) text.now) }
     ensures part { GoesOutInPart (S.seen out.old) (S.seen out.new) text.now }
+    ensures handed { Grows (S.seen out.old).handed (S.seen out.new).handed }
     ensures cause { HasCause (S.seen out.old).faults (S.seen out.new).faults result }
 {
     write_lines(out, text)?;
@@ -255,7 +262,8 @@ fn write_text<S: Sink>(text: &[u8], out: &mut S) -> Result<(), OutFault>
 // Runs classes in the world, writes the summary and flushes it, and gives the status.
 fn report_bench<S: Sink>(alloc: Global, bench: BenchRun, out: &mut S) -> u8
     requires { MayRun bench.run }
-    ensures { ReportedBench bench (S.seen out.old) (S.seen out.new) result }
+    ensures reported { ReportedBench bench (S.seen out.old) (S.seen out.new) result }
+    ensures handed { Grows (S.seen out.old).handed (S.seen out.new).handed }
 {
     let BenchRun { run, clients, seed } = bench;
     let Ok((ending, counts)) = count_run(alloc, run) else {
@@ -279,7 +287,8 @@ pub fn report<P: Audience, S: Sink>(
     out: &mut S,
 ) -> u8
     requires { MayTell outcome }
-    ensures { Reported (P.ears panel.old) outcome (S.seen out.old) (S.seen out.new) result }
+    ensures reported { Reported (P.ears panel.old) outcome (S.seen out.old) (S.seen out.new) result }
+    ensures handed { Grows (S.seen out.old).handed (S.seen out.new).handed }
 {
     match outcome {
         Outcome::Answered(told) => report_told(alloc, told, out),

@@ -1,6 +1,7 @@
 // The top call.
 
 ghost use Rattle.std.specs.Prelude.{map, string_bytes};
+ghost use Rattle.flow_base.specs.Bytes.{Grows};
 ghost use Rattle.flow_top.specs.Answers.{Answers};
 
 use crate::asking::ask;
@@ -24,10 +25,11 @@ pub fn flow_main<F: Files, S: Sink>(
     out: &mut S,
     monitors: Vec<Box<dyn Monitor>>,
 ) -> u8
-    ensures { let given = map string_bytes words.now in
+    ensures answers { let given = map string_bytes words.now in
         let handed = map (λ m. record { name = label m; begun = begun m }) monitors.items in
         Answers given handed (F.seen files.old) (F.seen files.new) (S.seen out.old)
         (S.seen out.new) result }
+    ensures handed { Grows (S.seen out.old).handed (S.seen out.new).handed }
 {
     match ask(alloc, words, monitors) {
         Ok((asked, mut panel)) => {
