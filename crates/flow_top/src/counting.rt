@@ -1,11 +1,12 @@
 // Lines that are counted and not kept.
 
-ghost use Rattle.std.specs.Prelude.{◌≡◌, ◌+◌, IfOk, IsErrOf};
+ghost use Rattle.std.specs.Prelude.{◌≡◌, ◌+◌, [], IfOk, IsErrOf};
 ghost use Rattle.flow_base.specs.declared.fault.OutFault.TheVariants.{Failed};
 ghost use Rattle.flow_trace.specs.Groups.{is_event};
 ghost use Rattle.flow_top.specs.Summary.{is_start, is_throw, is_print, one_if, CountsLine};
 
 use flow_base::fault::OutFault;
+use flow_monitor::Audience;
 use flow_trace::line::Line;
 use flow_trace::out::LineOut;
 
@@ -99,5 +100,21 @@ impl LineOut for Counts {
 
     fn faults(&self) -> u64 {
         0
+    }
+}
+
+/// No monitor: nobody hears a line.
+#[derive(Clone, Copy, Drop)]
+pub struct Nobody;
+
+impl Audience for Nobody {
+    ghost ears = { λ _. [] };
+
+    fn hear(&mut self, _line: &Line) -> Option<usize> {
+        None
+    }
+
+    fn name(&self, _k: usize) -> &str {
+        unreachable!()
     }
 }
