@@ -1,11 +1,13 @@
 //! flow: one command line over the files of the system and standard output.
 #![tactic(auto)]
 
+mod monitors;
 mod real;
 mod status;
 
+use crate::monitors::shipped;
 use crate::real::{BeginKept, SystemFiles};
-use crate::status::{answer, hand_on_rest, is_noted};
+use crate::status::{NO_MEMORY, answer, hand_on_rest, is_noted};
 use flow_refusal::note;
 use flow_system::gathering::Gathering;
 use flow_system::opened::OpenedFiles;
@@ -40,9 +42,12 @@ fn write_note(rt: &HostRuntime, files: &OpenedFiles<SystemFiles>, begin: &[u8]) 
 
 fn main(rt: HostRuntime) -> ExitCode {
     let alloc = rt.alloc();
+    let Ok(monitors) = shipped(alloc) else {
+        return ExitCode::from(NO_MEMORY);
+    };
     let mut files = OpenedFiles::new(alloc, SystemFiles::new(&rt));
     let mut out = BeginKept::new(alloc, Gathering::new(alloc, io::writer(&rt)));
-    let status = answer(alloc, words(&rt), &mut files, &mut out);
+    let status = answer(alloc, words(&rt), &mut files, &mut out, monitors);
     hand_on_rest(status, &mut out);
     if is_noted(status) {
         write_note(&rt, &files, out.begin());

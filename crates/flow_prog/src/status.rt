@@ -5,10 +5,11 @@ ghost use Rattle.std.specs.IoError.{error_kind};
 ghost use Rattle.std.specs.Io.KnownBytes.{Keeps};
 ghost use Rattle.flow_base.specs.Bytes.{Grows};
 ghost use Rattle.flow_prog.specs.Status.{wordless};
-ghost use Rattle.flow_top.specs.Run.{Answers};
+ghost use Rattle.flow_top.specs.Answers.{Answers};
 
 use flow_base::files::Files;
 use flow_base::sink::Sink;
+use flow_monitor::Monitor;
 use flow_top::flow_main;
 use std::alloc::Global;
 use std::io;
@@ -26,15 +27,16 @@ pub fn answer<F: Files, S: Sink>(
     words: io::Result<Vec<String>>,
     files: &mut F,
     out: &mut S,
+    monitors: Vec<Box<dyn Monitor>>,
 ) -> u8
     ensures words { IfOk words (λ given. Answers (map string_bytes given.items)
-        (F.seen files.old) (F.seen files.new) (S.seen out.old) (S.seen out.new) result) }
+        (map (λ m. record { name = label m; begun = begun m }) monitors.items) (F.seen files.old) (F.seen files.new) (S.seen out.old) (S.seen out.new) result) }
     ensures wordless { IfErr words (λ error. result ≡ wordless (error_kind error)) }
     ensures unread { OnErr words (F.seen files.new ≡ F.seen files.old) }
     ensures unwritten { OnErr words (S.seen out.new ≡ S.seen out.old) }
 {
     match words {
-        Ok(words) => flow_main(alloc, &words, files, out),
+        Ok(words) => flow_main(alloc, &words, files, out, monitors),
         Err(error) => {
             if error.kind() == io::ErrorKind::OutOfMemory {
                 NO_MEMORY
@@ -60,7 +62,7 @@ pub fn hand_on_rest<S: Sink>(status: u8, out: &mut S)
 /// Whether a status says that a text is refused, the words are no command, or a file can't be read.
 pub fn is_noted(status: u8) -> bool {
     match status {
-        1 | 2 | 3 | 5 | 10 => true,
+        1 | 2 | 3 | 5 | 9 | 10 => true,
         _ => false,
     }
 }

@@ -117,9 +117,13 @@ pub fn world_words(fault: WorldFault) -> &'static str {
 
 /// How the commands are called.
 pub const USAGE: &str = "\
-flow check PROGRAM                  judges a program: `ok`, or the first rule that it breaks
-flow compile PROGRAM                writes the classes that a program is compiled to
-flow format PROGRAM                 writes a program in its canonical form
-flow run PROGRAM WORLD [--frames]   runs a program in a world and writes the trace
-A name that begins with `-` is no file name.
+flow check PROGRAM                   judges a program: `ok`, or the first rule that it breaks
+flow compile PROGRAM                 writes the classes that a program is compiled to
+flow format PROGRAM                  writes a program in its canonical form
+flow run PROGRAM WORLD [OPTIONS]     runs a program in a world and writes the trace
+flow exec CLASSES WORLD [OPTIONS]    runs classes that `compile` wrote
+flow bench CLIENTS SEED              runs a generated program and writes how much it did
+Options: `--frames` writes the frames and callbacks after each event; `--monitor NAME=LIMIT,..`
+stops at a monitor's limit: `live`, how many actors live; `errors`, how many errors are thrown;
+`until`, the number of an event. Behind `--` a name may begin with `-`.
 ";

@@ -1,296 +1,238 @@
 -- What was decided, from what was read.
-use Rattle.std.proofs.Common.{◌≡◌, ℕ, ◌+◌, ◌≤◌, List, [], ◌∷◌, ◌++◌, map, length, take, get_or, refl, sym, ap, ap₂, ◌∙◌, subst, arith, rules, true, false, append_assoc, inl, inr, Bool, Ok, Err, Option, None, Some, Vec, Global, length-take}
-use Rattle.std.specs.Prelude.{bytes_eq}
-use Rattle.std.proofs.lemmas.Slice.Eq.{bytes_eq-Decides}
-use Rattle.std.proofs.lemmas.List.{append-nil, map-append}
-use Rattle.flow_tree.specs.declared.limits.TheConstants.{PROGRAM_BYTES}
-use Rattle.flow_base.specs.Asked.{AsksOnce}
-use Rattle.flow_base.specs.Bytes.{AreFirst, AreFirstOf}
-use Rattle.flow_base.specs.Faults.{Counts, next_count}
-use Rattle.flow_base.specs.Seen.{Content, told_bytes, FilesSeen, ReadsFrom, ReadsWithin, opened, unopened}
-use Rattle.flow_base.specs.declared.fault.OutFault.{OutFault}
-use Rattle.flow_base.specs.declared.fault.OutFault.TheVariants as fault
-use Rattle.flow_base.specs.declared.fault.OutFault.TheVariants.{Failed}
+use Rattle.std.proofs.Common.{◌≡◌, ℕ, List, ◌++◌, refl, sym, ap, ◌∙◌, subst, Result, Ok, Err, Option, None, Some, Vec, Global}
+use Rattle.std.specs.declared.snapshot.Snapshot.{Snapshot}
+use Rattle.flow_base.specs.Faults.{next_count}
+use Rattle.flow_base.specs.Seen.{FilesSeen}
 use Rattle.flow_base.specs.declared.place.Place.{Place}
+use Rattle.flow_tree.specs.declared.decl.Program.{Program}
 use Rattle.flow_tree.specs.declared.fault.SourceFault.{SourceFault}
 use Rattle.flow_tree.specs.declared.fault.SourceFault.TheVariants as source
 use Rattle.flow_tree.specs.DeclView.{program_of}
 use Rattle.flow_tree.specs.Decls.{ProgramTree}
 use Rattle.flow_class.specs.declared.class.RawClasses.{RawClasses}
 use Rattle.flow_class.specs.View.{raw_of}
+use Rattle.flow_classread.specs.declared.fault.ClassFault.{ClassFault}
+use Rattle.flow_classread.specs.declared.fault.ClassFault.TheVariants as class
+use Rattle.flow_classread.specs.ClassAnswer.{ClassAnswer}
 use Rattle.flow_staterule.specs.declared.sound.Sound.{Sound}
 use Rattle.flow_front.specs.Verdict.{Reading, AnswersText, IsSound}
 use Rattle.flow_lower.specs.Weighing.{first_heavy}
-use Rattle.flow_compile.specs.Right.{IsAccepted}
 use Rattle.flow_lower.specs.Compiled.{Has}
+use Rattle.flow_compile.specs.Right.{IsAccepted}
+use Rattle.flow_worldfile.specs.declared.world.World0.{World0}
 use Rattle.flow_worldfile.specs.Worlds.{IsInRange, seen}
+use Rattle.flow_words.specs.Asked.{Request, RunRequest, format, check, compile, run, exec, bench}
 use Rattle.flow_top.specs.declared.outcome.Outcome.{Outcome}
-use Rattle.flow_top.specs.declared.outcome.Outcome.TheVariants.{Answered, Run}
+use Rattle.flow_top.specs.declared.outcome.Outcome.TheVariants.{Answered}
 use Rattle.flow_top.specs.declared.outcome.ProgramRun.{ProgramRun}
+use Rattle.flow_top.specs.declared.outcome.Runnable.{Runnable}
+use Rattle.flow_top.specs.declared.outcome.Meant.{Meant}
+use Rattle.flow_top.specs.declared.outcome.Meant.TheVariants.{Text, Classes}
 use Rattle.flow_top.specs.declared.outcome.Answered as told
-use Rattle.flow_top.specs.declared.outcome.Answered.TheVariants.{Compiled, Passed, OutOfMemory}
-use Rattle.flow_top.specs.Words.{AreOn, AreFormat, AreCheck, AreCompile, AreRun, JudgeProgram, NameProgram, of_format, of_judged}
-use Rattle.flow_top.specs.Run.{FileText, file_text, ReadsFiles, IsText, IsPassing, MayRun, Due, unread, refused, lost, heavy, passed, compiled, no_world, run, AskedOne, none_asked, none_opened, one_opened, program, both, Decided, due, read_fault, no_memory, outcome_of, refusal_outcome_of, heavy_outcome}
-use Rattle.flow_top.specs.Steps.{ReadsWell, FileRead, is_read, is_unread, starved, Loaded, is_loaded, is_refused, is_lost, no_text, no_room, ClassesOf, are_classes, is_heavy, no_classes, WorldOf, is_world, is_none, no_room_for_it}
+use Rattle.flow_top.specs.declared.outcome.Answered.TheVariants.{OutOfMemory, Compiled, Passed, Formatted}
+use Rattle.flow_top.specs.Requests.{tells_frames}
+use Rattle.flow_top.specs.Sources.{Source, first_source, world_source, FileText, read_for, IsOf, names_of}
+use Rattle.flow_top.specs.Outcomes.{refusal_outcome_of, class_outcome_of, heavy_outcome, IsPassing, IsRunBy, of_program, of_class_text, IsMeantBy, run_for, MayRun, MayTell}
+use Rattle.flow_top.specs.Due.{IsRefusedBy, by_rule, lost_local, heavy, HasProgram, DueBy, unread, formatted, refused, passed, compiled, no_classes, IsRunFor, DueIn, no_world, runs, Due, by_text, in_world}
+use Rattle.flow_top.specs.Decided.{ReadsFiles, AskedSome, first, then_world, Decided, due, read_fault, no_memory}
+use Rattle.flow_top.specs.Steps.{Step, goes, stops, starves, Ends, ends, no_room, HasText, TextRead, is_read, is_unread, starved, JudgesTo, EndsBy, LowersTo, are_classes, is_heavy, no_classes as none_lowered, IsCompiled, CompilesTo, RunsTo, WorldOf, is_world, is_none, no_room_for_it}
+use Rattle.flow_top.proofs.Reading.{reads_then, texts_both, names_both, asked_had}
 
--- what was read first of a file is short
-short_first : (n : ℕ) (told : Option (List ℕ)) (bytes : List ℕ) → AreFirst n told bytes → length bytes ≤ n
-short_first n None bytes first = first
-short_first n (Some told) bytes first = omega (arith, ap length first, length-take n told)
-
--- a file that was opened and read
-reads_one : (before after : FilesSeen) (name bytes : List ℕ) → length bytes ≤ PROGRAM_BYTES + 1 → ReadsFrom before after name bytes
-    → ReadsFiles before after (name ∷ []) (record { name = name; text = bytes } ∷ [])
-reads_one before after name bytes short from = record {
-  asked = from.asked;
-  opened = ap (map file_text) from.openings ∙ map-append file_text before.openings (record { name = name; read = bytes; left = from.left } ∷ []);
-  within = (short, tt);
-}
-
--- no file was opened
-reads_none : (before after : FilesSeen) (names : List (List ℕ)) → after.asked ≡ before.asked ++ names → after.openings ≡ before.openings
-    → ReadsFiles before after names []
-reads_none before after names asked same = record {
-  asked = asked;
-  opened = ap (map file_text) same ∙ sym (append-nil (map file_text before.openings));
-  within = tt;
-}
-
--- nothing was asked for
-pub untouched : (files : FilesSeen) → ReadsFiles files files [] []
-untouched files = reads_none files files [] (sym (append-nil files.asked)) refl
-
--- a file was read, and then others
-reads_then : (before mid after : FilesSeen) (f : FileText) (names : List (List ℕ)) (files : List FileText) → ReadsFiles before mid (f.name ∷ []) (f ∷ [])
-    → ReadsFiles mid after names files → ReadsFiles before after (f.name ∷ names) (f ∷ files)
-reads_then before mid after f names files first next = record {
-  asked = next.asked ∙ ap (λ l. l ++ names) first.asked ∙ append_assoc before.asked (f.name ∷ []) names;
-  opened = next.opened ∙ ap (λ l. l ++ files) first.opened ∙ append_assoc (map file_text before.openings) (f ∷ []) files;
-  within = (first.within.0, next.within);
-}
-
--- the file was read
-pub read_well : (before after : FilesSeen) (name : List ℕ) (v : Vec ℕ Global) → AreFirstOf (PROGRAM_BYTES + 1) (before.content name) v.items
-    → ReadsFrom before after name v.items → after.faults ≡ before.faults → FileRead name before after (Ok v)
-read_well before after name v first from same = is_read v (record {
-  reads = reads_one before after name v.items (short_first (PROGRAM_BYTES + 1) (told_bytes (before.content name)) v.items first.1) from;
-  is = first;
-  no_fault = same;
-})
-
--- what was asked for and read where the file couldn't be read
-record Tried (name : List ℕ) (before after : FilesSeen) : Type 0 where
-  names : List (List ℕ)
-  files : List FileText
-  one : AskedOne name names files
-  reads : ReadsFiles before after names files
-
-tried : (T : Type 0) (before after : FilesSeen) (name : List ℕ) (fault : OutFault) → AsksOnce {T = T} before.asked after.asked name (Err fault)
-    → ReadsWithin (PROGRAM_BYTES + 1) name before after → Tried name before after
-tried T before after name fault asked (opened bytes short from) = record {
-  names = name ∷ [];
-  files = record { name = name; text = bytes } ∷ [];
-  one = one_opened bytes;
-  reads = reads_one before after name bytes short from;
-}
-tried T before after name Failed asked (unopened same) =
-    record { names = name ∷ []; files = []; one = none_opened; reads = reads_none before after (name ∷ []) asked same }
-tried T before after name fault.OutOfMemory (inl asked) (unopened same) =
-    record { names = []; files = []; one = none_asked; reads = reads_none before after [] (asked ∙ sym (append-nil before.asked)) same }
-tried T before after name fault.OutOfMemory (inr asked) (unopened same) =
-    record { names = name ∷ []; files = []; one = none_opened; reads = reads_none before after (name ∷ []) asked same }
-
--- the file couldn't be read
-pub without_bytes : (T : Type 0) {before after : FilesSeen} {name : List ℕ} {o : told.Answered} (fault : OutFault) → o ≡ outcome_of fault
-    → AsksOnce {T = T} before.asked after.asked name (Err fault) → ReadsWithin (PROGRAM_BYTES + 1) name before after
-    → Counts {T = T} before.faults after.faults (Err fault) → FileRead name before after (Err o)
-without_bytes T {before = b} {after = a} {name = n} Failed o asked within counted =
-    let t = tried T b a n Failed asked within in
-    subst (λ x. FileRead n b a (Err x)) (sym o) (is_unread t.names t.files t.one t.reads counted)
-without_bytes T {before = b} {after = a} {name = n} fault.OutOfMemory o asked within counted =
-    let t = tried T b a n fault.OutOfMemory asked within in
-    subst (λ x. FileRead n b a (Err x)) (sym o) (starved t.names t.files t.one t.reads counted)
-
--- what is known where it was read
-pub well : {before after : FilesSeen} {name : List ℕ} {v : Vec ℕ Global} → FileRead name before after (Ok v)
-    → ReadsWell before after (record { name = name; text = v.items })
-well (is_read v read) = read
-
--- then the program isn't loaded, and it isn't formatted
-pub unloaded : {before after : FilesSeen} {name : List ℕ} {o : told.Answered} → FileRead name before after (Err o) → Loaded name before after (Err o)
-unloaded (is_unread names files one reads counted) = no_text names files one reads counted
-unloaded (starved names files one reads same) = no_room names files one reads same
-
-pub without_file : {words : List (List ℕ)} {before after : FilesSeen} {name : List ℕ} {o : told.Answered}
-    → NameProgram words name → FileRead name before after (Err o) → Decided words before after (Answered o)
-without_file {name = n} named (is_unread names files one reads counted) = read_fault names files (program n names files named one) reads counted
-without_file {name = n} named (starved names files one reads same) = no_memory names files (program n names files named one) reads same
-
--- one file was read, and by its text this is due
-pub due_one : {words : List (List ℕ)} {before after : FilesSeen} (outcome : Outcome) (f : FileText) → Due words outcome (f ∷ []) → ReadsWell before after f
-    → Decided words before after outcome
-due_one outcome f why read = due outcome (f ∷ []) why read.reads (read.is, tt) read.no_fault
-
--- one file was read, and then there was no memory
-starved_then : {words : List (List ℕ)} {before after : FilesSeen} {name : List ℕ} (text : List ℕ) → NameProgram words name
-    → ReadsWell before after (record { name = name; text = text }) → Decided words before after (Answered OutOfMemory)
-starved_then {name = n} text named read =
-    no_memory (n ∷ []) (record { name = n; text = text } ∷ []) (program n (n ∷ []) (record { name = n; text = text } ∷ []) named (one_opened text)) read.reads read.no_fault
+-- A text is judged.
 
 -- the text is no program
-pub unformatted : {words : List (List ℕ)} {before after : FilesSeen} {name : List ℕ} {o : told.Answered} (text : List ℕ) (fault : SourceFault) → o ≡ refusal_outcome_of fault
-    → AreFormat words name → Reading text (Err fault) → ReadsWell before after (record { name = name; text = text }) → Decided words before after (Answered o)
-unformatted {words} {before = b} {after = a} {name = n} text (source.Refused rule at) o are v read =
-    subst (λ x. Decided words b a (Answered x)) (sym o) (due_one _ _ (unread (record { name = n; text = text }) rule at are v) read)
-unformatted text (source.AcrossWait at declared wait) o are v read = absurd v
-unformatted {words} {before = b} {after = a} {name = n} text source.OutOfMemory o are v read =
-    subst (λ x. Decided words b a (Answered x)) (sym o) (starved_then text (of_format are) read)
+pub unformatted : (text : List ℕ) (fault : SourceFault) (o : told.Answered) → o ≡ refusal_outcome_of fault → Reading text (Err fault) → (p : List ℕ) → EndsBy text (format p) o
+unformatted text (source.Refused rule at) o e v p = subst (EndsBy text (format p)) (sym e) (ends _ (unread p rule at v))
+unformatted text (source.AcrossWait at declared wait) o e v p = absurd v
+unformatted text source.OutOfMemory o e v p = subst (EndsBy text (format p)) (sym e) no_room
+
+pub is_formatted : (text : List ℕ) (program : Program) → Reading text (Ok program) → (p : List ℕ) → EndsBy text (format p) (Formatted program)
+is_formatted text program v p = ends _ (formatted p program v)
 
 -- the program doesn't pass
-pub judged : {before after : FilesSeen} {name : List ℕ} {o : told.Answered} (text : List ℕ) (fault : SourceFault) → o ≡ refusal_outcome_of fault
-    → AnswersText text (Err fault) → ReadsWell before after (record { name = name; text = text }) → Loaded name before after (Err o)
-judged {before = b} {after = a} {name = n} text (source.Refused rule at) o v read = subst (λ x. Loaded n b a (Err x)) (sym o) (is_refused text rule at v read)
-judged {before = b} {after = a} {name = n} text (source.AcrossWait at declared wait) o v read =
-    subst (λ x. Loaded n b a (Err x)) (sym o) (is_lost text v.0 (record { at = at; declared = declared; wait = wait }) v.1 read)
-judged {before = b} {after = a} {name = n} text source.OutOfMemory o v read =
-    subst (λ x. Loaded n b a (Err x)) (sym o) (no_room (n ∷ []) (record { name = n; text = text } ∷ []) (one_opened text) read.reads read.no_fault)
+pub unjudged : (text : List ℕ) (fault : SourceFault) (o : told.Answered) → o ≡ refusal_outcome_of fault → AnswersText text (Err fault) → JudgesTo text (Err o)
+unjudged text (source.Refused rule at) o e v = subst (λ x. JudgesTo text (Err x)) (sym e) (stops _ (by_rule rule at v))
+unjudged text (source.AcrossWait at declared wait) o e v =
+    subst (λ x. JudgesTo text (Err x)) (sym e) (stops _ (lost_local v.0 (record { at = at; declared = declared; wait = wait }) v.1))
+unjudged text source.OutOfMemory o e v = subst (λ x. JudgesTo text (Err x)) (sym e) starves
 
--- then the command goes no further
-pub without_program : {o : told.Answered} {words : List (List ℕ)} {before after : FilesSeen} {name : List ℕ}
-    → JudgeProgram words name → Loaded name before after (Err o) → Decided words before after (Answered o)
-without_program {name = n} judges (is_refused text rule at why read) = due_one _ _ (refused (record { name = n; text = text }) rule at judges why) read
-without_program {name = n} judges (is_lost text p l why read) = due_one _ _ (lost (record { name = n; text = text }) p l judges why) read
-without_program {name = n} judges (no_text names files one reads counted) = read_fault names files (program n names files (of_judged judges) one) reads counted
-without_program {name = n} judges (no_room names files one reads same) = no_memory names files (program n names files (of_judged judges) one) reads same
+pub is_judged : (text : List ℕ) (s : Sound) → AnswersText text (Ok s) → JudgesTo text (Ok s)
+is_judged text s v = goes s v
 
--- the program passes
-pub loaded : {before after : FilesSeen} {name : List ℕ} {v : Vec ℕ Global} {s : Sound} → FileRead name before after (Ok v) → AnswersText v.items (Ok s)
-    → Loaded name before after (Ok s)
-loaded {s = s} (is_read v read) verdict = is_loaded s v.items verdict read
+-- what is known of one that does
+pub sound : {text : List ℕ} {s : Sound} → JudgesTo text (Ok s) → IsSound text s.typed.program
+sound (goes s is) = is
 
--- a program that passed the rules is one that the front accepts
-pub accepted : {before after : FilesSeen} {name : List ℕ} {s : Sound} → Loaded name before after (Ok s) → IsAccepted s.typed.program
-accepted (is_loaded s text sound read) = (text, sound)
+pub accepted : {text : List ℕ} {s : Sound} → JudgesTo text (Ok s) → IsAccepted s.typed.program
+accepted {text = t} (goes s is) = (t, is)
 
-pub passes : {words : List (List ℕ)} {before after : FilesSeen} {name : List ℕ} {s : Sound}
-    → AreCheck words name → Loaded name before after (Ok s) → first_heavy (program_of s.typed.program).decls ≡ None → Decided words before after (Answered Passed)
-passes {name = n} are (is_loaded s text sound read) light =
-    due_one _ _ (passed (record { name = n; text = text }) s.typed.program are (record { sound = sound; light = light })) read
+-- it isn't checked
+pub unchecked : (text : List ℕ) (o : told.Answered) → JudgesTo text (Err o) → (p : List ℕ) → EndsBy text (check p) o
+unchecked text o (stops a why) p = ends _ (refused (check p) a tt why)
+unchecked text _ starves p = no_room
 
-pub too_heavy : {words : List (List ℕ)} {before after : FilesSeen} {name : List ℕ} {s : Sound} {o : told.Answered} (at : Place) → o ≡ heavy_outcome at
-    → JudgeProgram words name → Loaded name before after (Ok s) → first_heavy (program_of s.typed.program).decls ≡ Some at → Decided words before after (Answered o)
-too_heavy {words} {before = b} {after = a} {name = n} at e judges (is_loaded s text sound read) is =
-    subst (λ x. Decided words b a (Answered x)) (sym e) (due_one _ _ (heavy (record { name = n; text = text }) s.typed.program at judges sound is) read)
+pub is_checked : (text : List ℕ) (s : Sound) → JudgesTo text (Ok s) → first_heavy (program_of s.typed.program).decls ≡ None → (p : List ℕ) → EndsBy text (check p) Passed
+is_checked text s j light p = ends _ (passed p s.typed.program (record { sound = sound j; light = light }))
 
-pub without_classes : {words : List (List ℕ)} {before after : FilesSeen} {name : List ℕ} {s : Sound} {o : told.Answered}
-    → JudgeProgram words name → Loaded name before after (Ok s) → ClassesOf (program_of s.typed.program) (Err o) → Decided words before after (Answered o)
-without_classes judges l (is_heavy at is) = too_heavy at refl judges l is
-without_classes judges (is_loaded s text sound read) no_classes = starved_then text (of_judged judges) read
+pub is_too_heavy : (text : List ℕ) (s : Sound) (at : Place) (o : told.Answered) → o ≡ heavy_outcome at → JudgesTo text (Ok s)
+    → first_heavy (program_of s.typed.program).decls ≡ Some at → (p : List ℕ) → EndsBy text (check p) o
+is_too_heavy text s at o e j is p = subst (EndsBy text (check p)) (sym e) (ends _ (refused (check p) _ tt (heavy s.typed.program at (sound j) is)))
 
-pub has_classes : {p : ProgramTree} {c : RawClasses} → ClassesOf p (Ok c) → Has p (raw_of c)
-has_classes (are_classes c h light) = h
+-- its classes
+pub uncompiled : (text : List ℕ) (o : told.Answered) → JudgesTo text (Err o) → CompilesTo text (Err o)
+uncompiled text o (stops a why) = stops a why
+uncompiled text _ starves = starves
 
-pub are_light : {p : ProgramTree} {c : RawClasses} → ClassesOf p (Ok c) → first_heavy p.decls ≡ None
-are_light (are_classes c h light) = light
+pub unlowered : (text : List ℕ) (s : Sound) (o : told.Answered) → JudgesTo text (Ok s) → LowersTo (program_of s.typed.program) (Err o) → CompilesTo text (Err o)
+unlowered text s _ j (is_heavy at is) = stops _ (heavy s.typed.program at (sound j) is)
+unlowered text s _ j none_lowered = starves
 
-pub compiles : {words : List (List ℕ)} {before after : FilesSeen} {name : List ℕ} {s : Sound} {c : RawClasses}
-    → AreCompile words name → Loaded name before after (Ok s) → ClassesOf (program_of s.typed.program) (Ok c) → Decided words before after (Answered (Compiled c))
-compiles {name = n} {c = c} are (is_loaded s text sound read) cs =
-    due_one _ _ (compiled (record { name = n; text = text }) s.typed.program c are (record { sound = sound; light = are_light cs }) (has_classes cs)) read
+pub is_compiled : (text : List ℕ) (s : Sound) (p : Snapshot Program) (c : RawClasses) → p.value ≡ s.typed.program → JudgesTo text (Ok s)
+    → LowersTo (program_of s.typed.program) (Ok c) → CompilesTo text (Ok (record { meant = Text p; classes = c }))
+is_compiled text s p c same j (are_classes _ has light) =
+    let passing : IsPassing text s.typed.program = record { sound = sound j; light = light } in
+    goes _ (record {
+      is_run = of_program p c (subst (IsPassing text) (sym same) passing) (subst (λ x. Has (program_of x) (raw_of c)) (sym same) has);
+      is_text = (p, refl);
+    })
 
--- the text of a file is that of its content, which doesn't change
-text_then : (content content' : List ℕ → Content) (f : FileText) → content' ≡ content → IsText content' f → IsText content f
-text_then content content' f same is = subst (λ k. IsText k f) same is
+passing_by : {text : List ℕ} {m : Meant} {classes : RawClasses} (p : Snapshot Program) → m ≡ Text p → IsRunBy text m classes
+    → IsPassing text p.value × Has (program_of p.value) (raw_of classes)
+passing_by {text = text} p e (of_program other c passing has) =
+    let same : other ≡ p = cc in subst (λ (x : Snapshot Program). IsPassing text x.value × Has (program_of x.value) (raw_of c)) same (passing, has)
+passing_by p e (of_class_text c answer) = absurd (cc)
 
--- the world couldn't be read
-pub without_world : {words : List (List ℕ)} {name world : List ℕ} {before mid after : FilesSeen} {s : Sound} {frames : Bool} {o : told.Answered}
-    → AreRun words name world frames → Loaded name before mid (Ok s) → first_heavy (program_of s.typed.program).decls ≡ None
-    → FileRead world mid after (Err o) → Decided words before after (Answered o)
-without_world {name = n} {world = w} {before = b} {mid = m} {after = a} {frames = k} are (is_loaded s text sound read) light (is_unread names files one reads counted) =
-    let f : FileText = record { name = n; text = text } in
-    read_fault (n ∷ names) (f ∷ files) (both f w k s.typed.program names files are read.is (record { sound = sound; light = light }) one)
-    (reads_then b m a f names files read.reads reads) (counted ∙ ap next_count read.no_fault)
-without_world {name = n} {world = w} {before = b} {mid = m} {after = a} {frames = k} are (is_loaded s text sound read) light (starved names files one reads same) =
-    let f : FileText = record { name = n; text = text } in
-    no_memory (n ∷ names) (f ∷ files) (both f w k s.typed.program names files are read.is (record { sound = sound; light = light }) one)
-    (reads_then b m a f names files read.reads reads) (same ∙ read.no_fault)
+-- they are listed
+pub is_listed : (text : List ℕ) (x : Runnable) → CompilesTo text (Ok x) → (p : List ℕ) → EndsBy text (compile p) (Compiled x.classes)
+is_listed text x (goes _ is) p = let both = passing_by is.is_text.0 is.is_text.1 is.is_run in ends _ (compiled p is.is_text.0.value x.classes both.0 both.1)
 
--- the program is run in that world
-pub ran : {words : List (List ℕ)} {name file : List ℕ} {before mid after : FilesSeen} {s : Sound} {v : Vec ℕ Global} (r : ProgramRun) → r.program.value ≡ s.typed.program
-    → AreRun words name file r.frames → Loaded name before mid (Ok s) → ClassesOf (program_of s.typed.program) (Ok r.classes) → mid.content ≡ before.content
-    → FileRead file mid after (Ok v) → WorldOf v.items (Ok r.world) → Decided words before after (Run r)
-ran {name = n} {file = file} {before = b} {mid = m} {after = a} r same are (is_loaded s text sound read) cs content (is_read v world_read) (is_world world answered) =
-    let f : FileText = record { name = n; text = text } in
-    let w : FileText = record { name = file; text = v.items } in
-    let passing : IsPassing text s.typed.program = record { sound = sound; light = are_light cs } in
-    due (Run r) (f ∷ (w ∷ []))
-    (run f w r are (subst (IsPassing text) (sym same) passing) (subst (λ p. Has (program_of p) (raw_of r.classes)) (sym same) (has_classes cs)) answered)
-    (reads_then b m a f (file ∷ []) (w ∷ []) read.reads world_read.reads)
-    (read.is, (text_then b.content m.content w content world_read.is, tt))
-    (world_read.no_fault ∙ read.no_fault)
+pub unlisted : (text : List ℕ) (o : told.Answered) → CompilesTo text (Err o) → (p : List ℕ) → EndsBy text (compile p) o
+unlisted text o (stops a why) p = ends _ (refused (compile p) a tt why)
+unlisted text _ starves p = no_room
+
+-- or run
+pub program_runs : (text : List ℕ) (r : RunRequest) (x : Result Runnable told.Answered) → CompilesTo text x → RunsTo text (run r) x
+program_runs text r _ (goes x is) =
+    goes x (record { is_run = is.is_run; is_meant = subst (IsMeantBy (run r)) (sym is.is_text.1) tt })
+program_runs text r _ (stops a why) = stops a (refused (run r) a tt why)
+program_runs text r _ starves = starves
+
+pub generated_runs : (text : List ℕ) (clients seed : ℕ) (x : Result Runnable told.Answered) → CompilesTo text x → RunsTo text (bench clients seed) x
+generated_runs text clients seed _ (goes x is) =
+    goes x (record { is_run = is.is_run; is_meant = subst (IsMeantBy (bench clients seed)) (sym is.is_text.1) tt })
+generated_runs text clients seed _ (stops a why) = stops a (refused (bench clients seed) a tt why)
+generated_runs text clients seed _ starves = starves
+
+-- a class text
+pub classes_run : (text : List ℕ) (c : RawClasses) → ClassAnswer text (Ok c) → (r : RunRequest) → RunsTo text (exec r) (Ok (record { meant = Classes; classes = c }))
+classes_run text c answer r = goes _ (record { is_run = of_class_text c answer; is_meant = tt })
+
+pub classes_refused : (text : List ℕ) (fault : ClassFault) (o : told.Answered) → o ≡ class_outcome_of fault → ClassAnswer text (Err fault) → (r : RunRequest) → RunsTo text (exec r) (Err o)
+classes_refused text (class.Form line) o e answer r = subst (λ x. RunsTo text (exec r) (Err x)) (sym e) (stops _ (no_classes r (class.Form line) answer (λ h. cc)))
+classes_refused text (class.Invalid rule name) o e answer r =
+    subst (λ x. RunsTo text (exec r) (Err x)) (sym e) (stops _ (no_classes r (class.Invalid rule name) answer (λ h. cc)))
+classes_refused text class.TooLarge o e answer r = subst (λ x. RunsTo text (exec r) (Err x)) (sym e) (stops _ (no_classes r class.TooLarge answer (λ h. cc)))
+classes_refused text class.OutOfMemory o e answer r = subst (λ x. RunsTo text (exec r) (Err x)) (sym e) starves
+
+-- an outcome without a run
+pub ended : (text : List ℕ) (q : Request) (o : told.Answered) → EndsBy text q o → RunsTo text q (Err o)
+ended text q _ (ends a why) = stops a why
+ended text q _ no_room = starves
+
+-- A request is decided.
+
+-- its first text couldn't be had
+pub without_text : (q : Request) (before after : FilesSeen) (o : told.Answered) → TextRead (first_source q) before after (Err o) → Decided (Some q) before after (Answered o)
+without_text q before after _ (is_unread names files one reads counted) = read_fault q names files refl (first names files one) reads counted
+without_text q before after _ (starved names files one reads same) = no_memory q names files refl (first names files one) reads same
+
+-- at an equal source or text
+pub text_at : {s t : Source} {before after : FilesSeen} {r : Result (Vec ℕ Global) told.Answered} → s ≡ t → TextRead s before after r → TextRead t before after r
+text_at {before = b} {after = a} {r = r} same read = subst (λ x. TextRead x b a r) same read
+
+pub run_at : {t u : List ℕ} {q : Request} {r : Result Runnable told.Answered} → t ≡ u → RunsTo t q r → RunsTo u q r
+run_at {q = q} {r = r} same judged = subst (λ x. RunsTo x q r) same judged
+
+pub world_at : {t u : List ℕ} {r : Result World0 told.Answered} → t ≡ u → WorldOf t r → WorldOf u r
+world_at {r = r} same answered = subst (λ x. WorldOf x r) same answered
+
+pub had : {s : Source} {before after : FilesSeen} {v : _} → TextRead s before after (Ok v) → HasText s before after v.items
+had (is_read v has) = has
+
+-- by it nothing is run
+pub stopped : (q : Request) (before after : FilesSeen) (text : List ℕ) (o : told.Answered) → HasText (first_source q) before after text → RunsTo text q (Err o)
+    → Decided (Some q) before after (Answered o)
+stopped q before after text o has (stops a why) =
+    due (Answered a) (read_for (first_source q) text) (by_text q text (Answered a) has.is_of why) has.reads has.are has.no_fault
+stopped q before after text _ has starves =
+    no_memory q (names_of (read_for (first_source q) text)) (read_for (first_source q) text) refl
+    (first (names_of (read_for (first_source q) text)) (read_for (first_source q) text) (asked_had (first_source q) text)) has.reads has.no_fault
+
+pub run_by : {text : List ℕ} {q : Request} {x : Runnable} → RunsTo text q (Ok x) → IsRunFor text q x.meant x.classes
+run_by (goes x is) = is
+
+-- something is run in a world alone
+pub has_world : (q : Request) (m : Meant) → IsMeantBy q m → world_source q ≡ None → ⊥
+has_world (format p) m h e = h
+has_world (check p) m h e = h
+has_world (compile p) m h e = h
+has_world (run r) m h e = cc
+has_world (exec r) m h e = cc
+has_world (bench clients seed) m h e = cc
+
+module _ (q : Request) (before mid after : FilesSeen) (text : List ℕ) (meant : Meant) (classes : RawClasses) (s : Source) (has : HasText (first_source q) before mid text)
+    (is : IsRunFor text q meant classes) (world : world_source q ≡ Some s) (same : mid.content ≡ before.content) where
+  abbrev fs : List FileText
+  fs = read_for (first_source q) text
+
+  -- the world's text couldn't be had
+  pub without_world : (o : told.Answered) → TextRead s mid after (Err o) → Decided (Some q) before after (Answered o)
+  without_world _ (is_unread names files one reads counted) =
+      read_fault q (names_of fs ++ names) (fs ++ files) refl (then_world text meant classes s names files has.is_of has.are is world one)
+      (reads_then before mid after (names_of fs) names fs files has.reads reads) (counted ∙ ap next_count has.no_fault)
+  without_world _ (starved names files one reads unchanged) =
+      no_memory q (names_of fs ++ names) (fs ++ files) refl (then_world text meant classes s names files has.is_of has.are is world one)
+      (reads_then before mid after (names_of fs) names fs files has.reads reads) (unchanged ∙ has.no_fault)
+
+  module _ (world_text : List ℕ) (more : HasText s mid after world_text) where
+    abbrev gs : List FileText
+    gs = read_for s world_text
+
+    both : ReadsFiles before after (names_of (fs ++ gs)) (fs ++ gs)
+    both = subst (λ ns. ReadsFiles before after ns (fs ++ gs)) (names_both fs gs) (reads_then before mid after (names_of fs) (names_of gs) fs gs has.reads more.reads)
+
+    decided : (o : Outcome) → DueIn text world_text q o → Decided (Some q) before after o
+    decided o why =
+        due o (fs ++ gs) (in_world q text world_text s o has.is_of world more.is_of why) both (texts_both before.content mid.content fs gs same has.are more.are) (more.no_fault ∙ has.no_fault)
+
+    -- the world is refused, or there is no memory for it
+    pub no_run : (o : told.Answered) → WorldOf world_text (Err o) → Decided (Some q) before after (Answered o)
+    no_run _ (is_none fault answered refusal) = decided _ (no_world meant classes fault is answered refusal)
+    no_run _ no_room_for_it =
+        no_memory q (names_of fs ++ names_of gs) (fs ++ gs) refl (then_world text meant classes s (names_of gs) gs has.is_of has.are is world (asked_had s world_text))
+        (reads_then before mid after (names_of fs) (names_of gs) fs gs has.reads more.reads) (more.no_fault ∙ has.no_fault)
+
+    -- the classes are run in it
+    pub ran : (r : ProgramRun) (o : Outcome) → r.meant ≡ meant → r.classes ≡ classes → o ≡ run_for q r → WorldOf world_text (Ok r.world) → r.frames ≡ tells_frames q
+        → Decided (Some q) before after o
+    ran r o m c e (is_world w answered) frames =
+        subst (Decided (Some q) before after) (sym e)
+        (decided (run_for q r) (runs r (subst (λ x. IsRunFor text q x r.classes) (sym m) (subst (IsRunFor text q meant) (sym c) is)) answered frames))
 
 -- and that may be done
-pub may_run : {name : List ℕ} {before after : FilesSeen} {s : Sound} (r : ProgramRun) → r.program.value ≡ s.typed.program → Loaded name before after (Ok s)
-    → ClassesOf (program_of s.typed.program) (Ok r.classes) → IsInRange (seen r.world) → MayRun r
-may_run r same (is_loaded s text sound read) cs in_range = record {
-  text = text;
-  sound = subst (IsSound text) (sym same) sound;
-  light = subst (λ p. first_heavy (program_of p).decls ≡ None) (sym same) (are_light cs);
-  has = subst (λ p. Has (program_of p) (raw_of r.classes)) (sym same) (has_classes cs);
-  in_range = in_range;
-}
+may_by : (q : Request) (r : ProgramRun) → MayRun r → MayTell (run_for q r)
+may_by (format p) r may = may
+may_by (check p) r may = may
+may_by (compile p) r may = may
+may_by (run x) r may = may
+may_by (exec x) r may = may
+may_by (bench clients seed) r may = may
 
--- the world is refused, or there is no memory for it
-pub not_ran : {words : List (List ℕ)} {name file : List ℕ} {before mid after : FilesSeen} {s : Sound} {frames : Bool} {c : RawClasses} {v : Vec ℕ Global} {o : told.Answered}
-    → AreRun words name file frames → Loaded name before mid (Ok s) → ClassesOf (program_of s.typed.program) (Ok c) → mid.content ≡ before.content
-    → FileRead file mid after (Ok v) → WorldOf v.items (Err o) → Decided words before after (Answered o)
-not_ran {name = n} {file = file} {before = b} {mid = m} {after = a} {frames = k} are (is_loaded s text sound read) cs content (is_read v world_read) (is_none fault answered refusal) =
-    let f : FileText = record { name = n; text = text } in
-    let w : FileText = record { name = file; text = v.items } in
-    due _ (f ∷ (w ∷ [])) (no_world f w k s.typed.program fault are (record { sound = sound; light = are_light cs }) answered refusal)
-    (reads_then b m a f (file ∷ []) (w ∷ []) read.reads world_read.reads)
-    (read.is, (text_then b.content m.content w content world_read.is, tt))
-    (world_read.no_fault ∙ read.no_fault)
-not_ran {name = n} {file = file} {before = b} {mid = m} {after = a} {frames = k} are (is_loaded s text sound read) cs content (is_read v world_read) no_room_for_it =
-    let f : FileText = record { name = n; text = text } in
-    let w : FileText = record { name = file; text = v.items } in
-    no_memory (n ∷ (file ∷ [])) (f ∷ (w ∷ []))
-    (both f file k s.typed.program (file ∷ []) (w ∷ []) are read.is (record { sound = sound; light = are_light cs }) (one_opened v.items))
-    (reads_then b m a f (file ∷ []) (w ∷ []) read.reads world_read.reads) (world_read.no_fault ∙ read.no_fault)
-
--- two words, and three
-pub two : {X : Type 0} (f : X → List ℕ) (xs : List X) (x y : X) (a b : List ℕ) → length xs ≡ 2 → x ≡ get_or xs 0 x → y ≡ get_or xs 1 y → a ≡ f x → b ≡ f y → map f xs ≡ a ∷ (b ∷ [])
-two f [] x y a b e p q s t = absurd (omega arith)
-two f (k ∷ []) x y a b e p q s t = absurd (omega arith)
-two f (k ∷ l ∷ []) x y a b e p q s t = ap₂ (λ v w. v ∷ w) (sym (s ∙ ap f p)) (ap (λ v. v ∷ []) (sym (t ∙ ap f q)))
-two f (k ∷ l ∷ m ∷ xs) x y a b e p q s t = absurd (omega arith)
-
-pub three : {X : Type 0} (f : X → List ℕ) (xs : List X) (x y z : X) (a b d : List ℕ) → length xs ≡ 3 → x ≡ get_or xs 0 x → y ≡ get_or xs 1 y → z ≡ get_or xs 2 z
-    → a ≡ f x → b ≡ f y → d ≡ f z → map f xs ≡ a ∷ (b ∷ (d ∷ []))
-three f [] x y z a b d e p q r s t u = absurd (omega arith)
-three f (k ∷ []) x y z a b d e p q r s t u = absurd (omega arith)
-three f (k ∷ l ∷ []) x y z a b d e p q r s t u = absurd (omega arith)
-three f (k ∷ l ∷ m ∷ []) x y z a b d e p q r s t u =
-    ap₂ (λ v w. v ∷ w) (sym (s ∙ ap f p)) (ap₂ (λ v w. v ∷ (w ∷ [])) (sym (t ∙ ap f q)) (sym (u ∙ ap f r)))
-three f (k ∷ l ∷ m ∷ n ∷ xs) x y z a b d e p q r s t u = absurd (omega arith)
-
-pub four : {X : Type 0} (f : X → List ℕ) (xs : List X) (x y z w : X) (a b d e : List ℕ) → length xs ≡ 4 → x ≡ get_or xs 0 x → y ≡ get_or xs 1 y → z ≡ get_or xs 2 z → w ≡ get_or xs 3 w
-    → a ≡ f x → b ≡ f y → d ≡ f z → e ≡ f w → map f xs ≡ a ∷ (b ∷ (d ∷ (e ∷ [])))
-four f [] x y z w a b d e l p q r o s t u v = absurd (omega arith)
-four f (k ∷ []) x y z w a b d e l p q r o s t u v = absurd (omega arith)
-four f (k ∷ k2 ∷ []) x y z w a b d e l p q r o s t u v = absurd (omega arith)
-four f (k ∷ k2 ∷ k3 ∷ []) x y z w a b d e l p q r o s t u v = absurd (omega arith)
-four f (k ∷ k2 ∷ k3 ∷ k4 ∷ []) x y z w a b d e l p q r o s t u v =
-    ap₂ (λ m n. m ∷ n) (sym (s ∙ ap f p)) (ap₂ (λ m n. m ∷ n) (sym (t ∙ ap f q)) (ap₂ (λ m n. m ∷ (n ∷ [])) (sym (u ∙ ap f r)) (sym (v ∙ ap f o))))
-four f (k ∷ k2 ∷ k3 ∷ k4 ∷ k5 ∷ xs) x y z w a b d e l p q r o s t u v = absurd (omega arith)
-
-pub bytes_same : (a b : List ℕ) → bytes_eq a b ≡ true → a ≡ b
-bytes_same a b h = search (rules, bytes_eq-Decides a b, h)
-
-bytes_apart : (a b : List ℕ) → bytes_eq a b ≡ false → a ≡ b → ⊥
-bytes_apart a b h e = search (rules, bytes_eq-Decides a b, h, e)
-
--- the first word is another one
-pub another_word : {X : Type 0} (f : X → List ℕ) (xs : List X) (x : X) (command a p : List ℕ) → bytes_eq a command ≡ false → a ≡ f x → x ≡ get_or xs 0 x → AreOn command (map f xs) p → ⊥
-another_word f [] x command a p apart is first on = absurd (cc on.are)
-another_word f (k ∷ ks) x command a p apart is first on = bytes_apart a command apart (is ∙ ap f first ∙ ap (λ l. get_or l 0 []) on.are)
+pub may_run : (q : Request) (text : List ℕ) (meant : Meant) (classes : RawClasses) (r : ProgramRun) (o : Outcome) → r.meant ≡ meant → r.classes ≡ classes → o ≡ run_for q r
+    → IsRunFor text q meant classes → IsInRange (seen r.world) → MayTell o
+may_run q text meant classes r o m c e is in_range =
+    subst MayTell (sym e) (may_by q r (record {
+      text = text;
+      is_run = subst (λ x. IsRunBy text x r.classes) (sym m) (subst (IsRunBy text meant) (sym c) is.is_run);
+      in_range = in_range;
+    }))

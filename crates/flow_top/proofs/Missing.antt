@@ -1,78 +1,67 @@
--- What is decided where a file is missing.
-use Rattle.std.proofs.Common.{◌≡◌, ℕ, Bool, List, [], ◌⊎◌, inl, inr, get_or, refl, sym, ap, ◌∙◌}
+-- Where a file is missing.
+use Rattle.std.proofs.Common.{◌≡◌, ℕ, List, ◌++◌, ◌∷◌, ◌⊎◌, inl, inr, refl, sym, ap, ◌∙◌, subst, Option, Some}
 use Rattle.flow_base.specs.Seen.{Content, Missing, FilesSeen}
+use Rattle.flow_words.specs.Asked.{Request}
 use Rattle.flow_top.specs.declared.outcome.Outcome.{Outcome}
 use Rattle.flow_top.specs.declared.outcome.Outcome.TheVariants.{Answered}
 use Rattle.flow_top.specs.declared.outcome.Answered.TheVariants.{ReadFault, OutOfMemory}
-use Rattle.flow_top.specs.Words.{AreRun, JudgeProgram, of_check, of_compile, of_run, NameProgram, of_format, of_judged}
-use Rattle.flow_top.specs.Run.{FileText, IsText, AreTexts, Due, usage, unread, formatted, refused, lost, heavy, passed, compiled, no_world, run, Decided, due, read_fault, no_memory}
-use Rattle.flow_top.specs.Laws.{IsWorldless}
+use Rattle.flow_top.specs.Sources.{Source, of_file, generated, first_source, world_source, FileText, read_for, AreTexts}
+use Rattle.flow_top.specs.Due.{DueBy, unread, formatted, refused, passed, compiled, no_classes, IsRefusedBy, by_rule, lost_local, heavy, Due, by_text, in_world}
+use Rattle.flow_top.specs.Decided.{Decided, due, read_fault, no_memory, no_memory_at_once}
+use Rattle.flow_top.specs.Laws.{MissingProgram, IsWorldless, MissingWorld}
 
--- the program's name is the second word
-pub judged_is : (words : List (List ℕ)) (name : List ℕ) → JudgeProgram words name → get_or words 1 [] ≡ name
-judged_is words name (of_check are) = ap (λ l. get_or l 1 []) are.are
-judged_is words name (of_compile are) = ap (λ l. get_or l 1 []) are.are
-judged_is words name (of_run world frames are) = ap (λ l. get_or l 1 []) are.are
+-- the texts of files, and of others behind them
+pub texts_first : (content : List ℕ → Content) (s : Source) (text : List ℕ) (gs : List FileText) → AreTexts content (read_for s text ++ gs) → AreTexts content (read_for s text)
+texts_first content (of_file name most) text gs t = (t.0, tt)
+texts_first content (generated own) text gs t = tt
 
-pub named_is : (words : List (List ℕ)) (name : List ℕ) → NameProgram words name → get_or words 1 [] ≡ name
-named_is words name (of_format are) = ap (λ l. get_or l 1 []) are.are
-named_is words name (of_judged judges) = judged_is words name judges
+pub texts_behind : (content : List ℕ → Content) (s : Source) (text : List ℕ) (gs : List FileText) → AreTexts content (read_for s text ++ gs) → AreTexts content gs
+texts_behind content (of_file name most) text gs t = t.1
+texts_behind content (generated own) text gs t = t
 
--- the world's is the third
-pub world_is : (words : List (List ℕ)) (name world : List ℕ) (frames : Bool) → AreRun words name world frames → get_or words 2 [] ≡ world
-world_is words name world frames are = ap (λ l. get_or l 2 []) are.are
+-- nothing is read of a file that is missing
+no_text : (content : List ℕ → Content) (s : Source) (name : List ℕ) (most : ℕ) (text : List ℕ) → s ≡ of_file name most → content name ≡ Missing
+    → AreTexts content (read_for s text) → ⊥
+no_text content s name most text is missing are =
+    let there : AreTexts content (read_for (of_file name most) text) = subst (λ x. AreTexts content (read_for x text)) is are in there.0.0 missing
 
--- a text of a missing file
-no_text : (content : List ℕ → Content) (f : FileText) (name word : List ℕ) → word ≡ f.name → word ≡ name → content name ≡ Missing → IsText content f → ⊥
-no_text content f name word mine its missing is = is.0 (ap content (sym mine ∙ its) ∙ missing)
+none_due : (q : Request) (name : List ℕ) (most : ℕ) (content : List ℕ → Content) (o : Outcome) (files : List FileText) → first_source q ≡ of_file name most
+    → content name ≡ Missing → Due (Some q) o files → AreTexts content files → ⊥
+none_due q name most content o _ is missing (by_text _ text _ own why) texts = no_text content (first_source q) name most text is missing texts
+none_due q name most content o _ is missing (in_world _ text world_text s _ own world its why) texts =
+    no_text content (first_source q) name most text is missing (texts_first content (first_source q) text (read_for s world_text) texts)
 
-none_due : (words : List (List ℕ)) (name : List ℕ) (content : List ℕ → Content) (outcome : Outcome) (files : List FileText) → NameProgram words name
-    → content name ≡ Missing → Due words outcome files → AreTexts content files → ⊥
-none_due words name content outcome files named missing (usage none) texts = none name named
-none_due words name content outcome files named missing (unread f rule at are why) texts =
-    no_text content f name _ (named_is words f.name (of_format are)) (named_is words name named) missing texts.0
-none_due words name content outcome files named missing (formatted f p are is) texts =
-    no_text content f name _ (named_is words f.name (of_format are)) (named_is words name named) missing texts.0
-none_due words name content outcome files named missing (refused f rule at judges why) texts =
-    no_text content f name _ (judged_is words f.name judges) (named_is words name named) missing texts.0
-none_due words name content outcome files named missing (lost f p l judges why) texts =
-    no_text content f name _ (judged_is words f.name judges) (named_is words name named) missing texts.0
-none_due words name content outcome files named missing (heavy f p at judges sound is) texts =
-    no_text content f name _ (judged_is words f.name judges) (named_is words name named) missing texts.0
-none_due words name content outcome files named missing (passed f p are passing) texts =
-    no_text content f name _ (judged_is words f.name (of_check are)) (named_is words name named) missing texts.0
-none_due words name content outcome files named missing (compiled f p classes are passing has) texts =
-    no_text content f name _ (judged_is words f.name (of_compile are)) (named_is words name named) missing texts.0
-none_due words name content outcome files named missing (no_world f w frames p fault are passing answered refusal) texts =
-    no_text content f name _ (judged_is words f.name (of_run w.name frames are)) (named_is words name named) missing texts.0
-none_due words name content outcome files named missing (run f w r are passing has answered) texts =
-    no_text content f name _ (judged_is words f.name (of_run w.name r.frames are)) (named_is words name named) missing texts.0
+pub missing_program : MissingProgram
+missing_program q name most before after outcome is missing (due o files why reads texts same) =
+    absurd (none_due q name most before.content outcome files is missing why texts)
+missing_program q name most before after outcome is missing (read_fault r names files asks some reads counted) = inl refl
+missing_program q name most before after outcome is missing (no_memory r names files asks some reads same) = inr refl
+missing_program q name most before after outcome is missing (no_memory_at_once same) = inr refl
 
-pub missing_program : (words : List (List ℕ)) (name : List ℕ) (before after : FilesSeen) (outcome : Outcome) → NameProgram words name
-    → before.content name ≡ Missing → Decided words before after outcome → (outcome ≡ Answered ReadFault) ⊎ (outcome ≡ Answered OutOfMemory)
-missing_program words name before after outcome named missing (due o files why reads texts same) =
-    absurd (none_due words name before.content outcome files named missing why texts)
-missing_program words name before after outcome named missing (read_fault names files some reads counted) = inl refl
-missing_program words name before after outcome named missing (no_memory names files some reads same) = inr refl
+-- without a world nothing is run
+refused_worldless : (text : List ℕ) (a : _) → IsRefusedBy text a → IsWorldless (Answered a)
+refused_worldless text _ (by_rule rule at why) = tt
+refused_worldless text _ (lost_local p l why) = tt
+refused_worldless text _ (heavy p at sound is) = tt
 
-worldless : (words : List (List ℕ)) (name world : List ℕ) (frames : Bool) (content : List ℕ → Content) (outcome : Outcome) (files : List FileText)
-    → AreRun words name world frames → content world ≡ Missing → Due words outcome files → AreTexts content files → IsWorldless outcome
-worldless words name world frames content outcome files run_words missing (usage none) texts = tt
-worldless words name world frames content outcome files run_words missing (unread f rule at are why) texts = tt
-worldless words name world frames content outcome files run_words missing (formatted f p are is) texts = tt
-worldless words name world frames content outcome files run_words missing (refused f rule at judges why) texts = tt
-worldless words name world frames content outcome files run_words missing (lost f p l judges why) texts = tt
-worldless words name world frames content outcome files run_words missing (heavy f p at judges sound is) texts = tt
-worldless words name world frames content outcome files run_words missing (passed f p are passing) texts = tt
-worldless words name world frames content outcome files run_words missing (compiled f p classes are passing has) texts = tt
-worldless words name world frames content outcome files run_words missing (no_world f w k p fault are passing answered refusal) texts =
-    no_text content w world _ (world_is words f.name w.name k are) (world_is words name world frames run_words) missing texts.1.0
-worldless words name world frames content outcome files run_words missing (run f w r are passing has answered) texts =
-    no_text content w world _ (world_is words f.name w.name r.frames are) (world_is words name world frames run_words) missing texts.1.0
+by_worldless : (text : List ℕ) (q : Request) (o : Outcome) → DueBy text q o → IsWorldless o
+by_worldless text _ _ (unread p rule at why) = tt
+by_worldless text _ _ (formatted p program is) = tt
+by_worldless text _ _ (refused q a judges why) = refused_worldless text a why
+by_worldless text _ _ (passed p program passing) = tt
+by_worldless text _ _ (compiled p program classes passing has) = tt
+by_worldless text _ _ (no_classes r fault answer some) = tt
 
-pub missing_world : (words : List (List ℕ)) (name world : List ℕ) (frames : Bool) (before after : FilesSeen) (outcome : Outcome)
-    → AreRun words name world frames → before.content world ≡ Missing → Decided words before after outcome → IsWorldless outcome
-missing_world words name world frames before after outcome are missing (due o files why reads texts same) =
-    worldless words name world frames before.content outcome files are missing why texts
-missing_world words name world frames before after outcome are missing (read_fault names files some reads counted) = tt
-missing_world words name world frames before after outcome are missing (no_memory names files some reads same) = tt
+worldless : (q : Request) (name : List ℕ) (most : ℕ) (content : List ℕ → Content) (o : Outcome) (files : List FileText) → world_source q ≡ Some (of_file name most)
+    → content name ≡ Missing → Due (Some q) o files → AreTexts content files → IsWorldless o
+worldless q name most content o _ is missing (by_text _ text _ own why) texts = by_worldless text q o why
+worldless q name most content o _ is missing (in_world _ text world_text s _ own world its why) texts =
+    let some : Some s ≡ Some (of_file name most) = sym world ∙ is in
+    let same : s ≡ of_file name most = cc in
+    absurd (no_text content s name most world_text same missing (texts_behind content (first_source q) text (read_for s world_text) texts))
+
+pub missing_world : MissingWorld
+missing_world q name most before after outcome is missing (due o files why reads texts same) = worldless q name most before.content outcome files is missing why texts
+missing_world q name most before after outcome is missing (read_fault r names files asks some reads counted) = tt
+missing_world q name most before after outcome is missing (no_memory r names files asks some reads same) = tt
+missing_world q name most before after outcome is missing (no_memory_at_once same) = tt

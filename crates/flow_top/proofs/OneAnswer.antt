@@ -1,9 +1,8 @@
--- What is due by the words is one outcome, over files that tell.
-use Rattle.std.proofs.Common.{◌≡◌, ◌≢◌, ℕ, Bool, true, false, List, [], ◌∷◌, ◌⊎◌, inl, inr, codes, get_or, length, refl, sym, ap, ap₂, ◌∙◌, subst, arith, ◌+◌, Option, Some, None, Ok, Err, ◌<◌}
+-- What is due by a request is one outcome, over files that tell.
+use Rattle.std.proofs.Common.{◌≡◌, ◌≢◌, ℕ, ◌+◌, ◌<◌, List, [], ◌++◌, length, refl, sym, ap, ap₂, ◌∙◌, subst, arith, Option, Some, None, Result, Ok, Err}
 use Rattle.flow_base.specs.declared.place.Place.{Place}
 use Rattle.flow_base.specs.Bytes.{AreFirstOf}
 use Rattle.flow_base.specs.Seen.{Content, Untold, Missing, Bytes}
-use Rattle.flow_tree.specs.declared.limits.TheConstants.{PROGRAM_BYTES}
 use Rattle.flow_tree.specs.declared.decl.Program.{Program}
 use Rattle.flow_tree.specs.declared.fault.Rule.{Rule}
 use Rattle.flow_tree.specs.declared.fault.SourceFault.TheVariants as source
@@ -21,60 +20,38 @@ use Rattle.flow_class.specs.declared.class.RawClasses.{RawClasses}
 use Rattle.flow_class.specs.Classes.{RawTree}
 use Rattle.flow_class.specs.View.{raw_of}
 use Rattle.flow_classprint.specs.ClassText.{ClassText}
+use Rattle.flow_classread.specs.declared.fault.ClassFault.{ClassFault}
+use Rattle.flow_classread.specs.declared.fault.ClassFault.TheVariants as class
+use Rattle.flow_classread.specs.ClassAnswer.{ClassAnswer}
+use Rattle.flow_class_reading_laws.specs.Laws.{told as class_told, OneAnswer as OneClassAnswer}
 use Rattle.flow_staterule.specs.declared.rule.Lost.{Lost}
 use Rattle.flow_front.specs.Verdict.{IsUnread, IsProgram, IsRefused, IsSound, IsLost}
 use Rattle.flow_front.specs.Laws.{OneVerdict}
 use Rattle.flow_lower.specs.Weighing.{first_heavy}
-use Rattle.flow_lower.specs.Compiled.{Has, compiled}
+use Rattle.flow_lower.specs.Compiled.{Has, compiled as compiled_tree}
+use Rattle.flow_words.specs.Asked.{Request, format, check, compile, run, exec, bench}
 use Rattle.flow_top.specs.declared.outcome.Outcome.{Outcome}
-use Rattle.flow_top.specs.declared.outcome.Outcome.TheVariants.{Answered, Run}
+use Rattle.flow_top.specs.declared.outcome.Outcome.TheVariants.{Answered}
 use Rattle.flow_top.specs.declared.outcome.ProgramRun.{ProgramRun}
+use Rattle.flow_top.specs.declared.outcome.Meant.{Meant}
+use Rattle.flow_top.specs.declared.outcome.Meant.TheVariants.{Text, Classes}
 use Rattle.flow_top.specs.declared.outcome.Answered as told
-use Rattle.flow_top.specs.declared.outcome.Answered.TheVariants.{Usage, Refused, NoWorld, Passed, Compiled, Formatted}
-use Rattle.flow_top.specs.Words.{AreFormat, AreCheck, AreCompile, AreRun, last_words, JudgeProgram, of_check, of_compile, of_run, NameProgram, of_format, of_judged}
-use Rattle.flow_top.specs.Run.{FileText, IsText, AreTexts, IsPassing, heavy_outcome, text_of, status_of, Due, usage, unread, formatted, refused, lost, heavy, passed, compiled as are_compiled, no_world, run}
-use Rattle.flow_top.specs.OneAnswer.{TellsAll, SameOutcome, OneAnswer}
-use Rattle.flow_top.proofs.Missing.{judged_is, named_is, world_is}
+use Rattle.flow_top.specs.declared.outcome.Answered.TheVariants.{Refused, NoClasses, NoWorld, Formatted}
+use Rattle.flow_top.specs.Sources.{Source, of_file, generated, first_source, world_source, FileText, read_for, IsOf, AreTexts}
+use Rattle.flow_top.specs.Outcomes.{heavy_outcome, text_of, status_of, IsPassing, IsRunBy, of_program, of_class_text, IsMeantBy, run_for}
+use Rattle.flow_top.specs.Due.{IsRefusedBy, by_rule, lost_local, heavy, HasProgram, DueBy, unread, formatted, refused, passed, compiled, no_classes, IsRunFor, DueIn, no_world, runs, Due, usage, by_text, in_world}
+use Rattle.flow_top.specs.OneAnswer.{TellsAll, SameMeant, SameRun, SameOutcome, OneAnswer}
+use Rattle.flow_top.proofs.Missing.{texts_first, texts_behind}
 
--- The words: the first is the command, and the last of a run says whether frames are told.
-abbrev command : List (List ℕ) → List ℕ
-command words = get_or words 0 []
+-- The texts of sources over files that tell: one for each.
+same_text : (n : ℕ) (content : Content) (t u : List ℕ) → content ≢ Untold → AreFirstOf n content t → AreFirstOf n content u → t ≡ u
+same_text n Untold t u tells a b = absurd (tells refl)
+same_text n Missing t u tells a b = absurd (a.0 refl)
+same_text n (Bytes bytes) t u tells a b = a.1 ∙ sym b.1
 
-abbrev JudgesBy : List ℕ → Type 0
-JudgesBy word = (word ≡ codes "check") ⊎ ((word ≡ codes "compile") ⊎ (word ≡ codes "run"))
-
-judges_by : (words : List (List ℕ)) (name : List ℕ) → JudgeProgram words name → JudgesBy (command words)
-judges_by words name (of_check are) = inl (ap command are.are)
-judges_by words name (of_compile are) = inr (inl (ap command are.are))
-judges_by words name (of_run world frames are) = inr (inr (ap command are.are))
-
-never_formats : (words : List (List ℕ)) (name other : List ℕ) → AreFormat words name → JudgeProgram words other → ⊥
-never_formats words name other are judges = by (judges_by words other judges)
-  where
-    by : JudgesBy (command words) → ⊥
-    by (inl e) = let w : codes "format" ≡ codes "check" = sym (ap command are.are) ∙ e in cc
-    by (inr (inl e)) = let w : codes "format" ≡ codes "compile" = sym (ap command are.are) ∙ e in cc
-    by (inr (inr e)) = let w : codes "format" ≡ codes "run" = sym (ap command are.are) ∙ e in cc
-
-same_frames : (a b c : List ℕ) (m n : Bool) → a ∷ (b ∷ (c ∷ last_words m)) ≡ a ∷ (b ∷ (c ∷ last_words n)) → m ≡ n
-same_frames a b c true true e = refl
-same_frames a b c false false e = refl
-same_frames a b c true false e = let n : ◌≡◌ {A = ℕ} 4 3 = ap length e in cc
-same_frames a b c false true e = let n : ◌≡◌ {A = ℕ} 3 4 = ap length e in cc
-
--- The texts of files that tell: one for each name.
-same_text : (content : Content) (t u : List ℕ) → content ≢ Untold → AreFirstOf (PROGRAM_BYTES + 1) content t → AreFirstOf (PROGRAM_BYTES + 1) content u → t ≡ u
-same_text Untold t u tells a b = absurd (tells refl)
-same_text Missing t u tells a b = absurd (a.0 refl)
-same_text (Bytes bytes) t u tells a b = a.1 ∙ sym b.1
-
-abbrev file : (name text : List ℕ) → FileText
-file name text = record { name = name; text = text }
-
-same_file : (content : List ℕ → Content) → TellsAll content → (f g : FileText) → f.name ≡ g.name → IsText content f → IsText content g → f ≡ g
-same_file content tells f g e a b =
-    let h = subst (λ x. AreFirstOf (PROGRAM_BYTES + 1) (content x) g.text) (sym e) b in
-    ap₂ file e (same_text (content f.name) f.text g.text (tells f.name) a h)
+same_of : (content : List ℕ → Content) → TellsAll content → (s : Source) (t u : List ℕ) → IsOf s t → IsOf s u → AreTexts content (read_for s t) → AreTexts content (read_for s u) → t ≡ u
+same_of content tells (of_file name most) t u a b x y = same_text (most + 1) (content name) t u (tells name) x.0 y.0
+same_of content tells (generated own) t u a b x y = a ∙ sym b
 
 -- How a text is judged that a command judges.
 data Verdict : Type 0 where
@@ -131,21 +108,6 @@ stopped (loses l) = Some (Refused (source.AcrossWait l.at l.declared l.wait))
 stopped (weighs at) = Some (heavy_outcome at)
 stopped passes = None
 
--- What formatting a text comes to.
-data Formats (text : List ℕ) : Outcome → Type 0 where
-  no_program : (rule : Rule) (at : Place) → IsUnread text rule at → Formats text (Answered (Refused (source.Refused rule at)))
-  program : (p : Program) → IsProgram text p → Formats text (Answered (Formatted p))
-
-same_told : {a b : told.Answered} → a ≡ b → SameOutcome (Answered a) (Answered b)
-same_told e = (ap text_of e, ap status_of e)
-
-formats_once : (text : List ℕ) → OneVerdict text → (o p : Outcome) → Formats text o → Formats text p → SameOutcome o p
-formats_once text one _ _ (no_program rule at u) (no_program other place v) =
-    let e = one.unread rule other at place u v in (ap₂ (λ r q. text_of (Refused (source.Refused r q))) e.0 e.1, ap₂ (λ r q. status_of (Refused (source.Refused r q))) e.0 e.1)
-formats_once text one _ _ (no_program rule at u) (program q j) = absurd (one.read_or_unread q rule at j u)
-formats_once text one _ _ (program p i) (no_program rule at u) = absurd (one.read_or_unread p rule at i u)
-formats_once text one _ _ (program p i) (program q j) = (ap Canon (one.program p q i j), refl)
-
 -- What a world's text is refused for.
 abbrev fault_of : ℕ → reading.Rule → WorldFault
 fault_of line reading.W1 = world.Form line
@@ -154,14 +116,14 @@ fault_of line reading.W3 = world.Twice line
 fault_of line reading.W4 = world.NoProcess line
 
 data Refuses (text : List ℕ) : WorldFault → Type 0 where
-  by_rule : (line : ℕ) (rule : reading.Rule) → reading.IsRefused text line rule → Refuses text (fault_of line rule)
+  by_world_rule : (line : ℕ) (rule : reading.Rule) → reading.IsRefused text line rule → Refuses text (fault_of line rule)
   too_large : WORLD_BYTES < length text → Refuses text world.TooLarge
 
 refuses_by : (text : List ℕ) (fault : WorldFault) → reading.ReadsWorld text (Err fault) → fault ≢ world.OutOfMemory → Refuses text fault
-refuses_by text (world.Form line) h some = by_rule line reading.W1 h
-refuses_by text (world.Range line) h some = by_rule line reading.W2 h
-refuses_by text (world.Twice line) h some = by_rule line reading.W3 h
-refuses_by text (world.NoProcess line) h some = by_rule line reading.W4 h
+refuses_by text (world.Form line) h some = by_world_rule line reading.W1 h
+refuses_by text (world.Range line) h some = by_world_rule line reading.W2 h
+refuses_by text (world.Twice line) h some = by_world_rule line reading.W3 h
+refuses_by text (world.NoProcess line) h some = by_world_rule line reading.W4 h
 refuses_by text world.TooLarge h some = too_large h
 refuses_by text world.OutOfMemory h some = absurd (some refl)
 
@@ -175,14 +137,14 @@ rule_of (reading.refused line rule) = rule
 
 module _ (judged_once : OneWorldVerdict) (text : List ℕ) where
   refuses_once : (a b : WorldFault) → Refuses text a → Refuses text b → a ≡ b
-  refuses_once _ _ (by_rule line rule h) (by_rule other second k) =
+  refuses_once _ _ (by_world_rule line rule h) (by_world_rule other second k) =
       let e = judged_once text (reading.refused line rule) (reading.refused other second) h.1 k.1 in ap₂ fault_of (ap line_of e) (ap rule_of e)
-  refuses_once _ _ (by_rule line rule h) (too_large l) = absurd (omega (arith, h.0, l))
-  refuses_once _ _ (too_large l) (by_rule line rule h) = absurd (omega (arith, h.0, l))
+  refuses_once _ _ (by_world_rule line rule h) (too_large l) = absurd (omega (arith, h.0, l))
+  refuses_once _ _ (too_large l) (by_world_rule line rule h) = absurd (omega (arith, h.0, l))
   refuses_once _ _ (too_large l) (too_large k) = refl
 
   never_refused : {A : Type 0} (fault : WorldFault) (w : World0) → Refuses text fault → reading.ReadsWorld text (Ok w) → A
-  never_refused _ w (by_rule line rule h) (small, (ds, judged, is)) =
+  never_refused _ w (by_world_rule line rule h) (small, (ds, judged, is)) =
       let e : reading.refused line rule ≡ reading.accepted ds = judged_once text (reading.refused line rule) (reading.accepted ds) h.1 judged in absurd cc
   never_refused _ w (too_large l) (small, is) = absurd (omega (arith, l, small))
 
@@ -192,129 +154,178 @@ module _ (judged_once : OneWorldVerdict) (text : List ℕ) where
       let lines_same : ds ≡ es = cc in
       is ∙ ap (λ l. world_of (said l)) lines_same ∙ sym says
 
--- What a command comes to behind its program, which passes.
-data Behind (words : List (List ℕ)) (f : FileText) : Outcome → List FileText → Type 0 where
-  checks : AreCheck words f.name → Behind words f (Answered Passed) []
-  compiles : (p : Program) (classes : RawClasses) → AreCompile words f.name → IsPassing f.text p → Has (program_of p) (raw_of classes)
-      → Behind words f (Answered (Compiled classes)) []
-  no_world_is : (w : FileText) (frames : Bool) (fault : WorldFault) → AreRun words f.name w.name frames → Refuses w.text fault
-      → Behind words f (Answered (NoWorld fault)) (w ∷ [])
-  runs : (w : FileText) (r : ProgramRun) → AreRun words f.name w.name r.frames → IsPassing f.text r.program.value
-      → Has (program_of r.program.value) (raw_of r.classes) → reading.ReadsWorld w.text (Ok r.world) → Behind words f (Run r) (w ∷ [])
+-- Why a program is refused, as its verdict.
+abbrev VerdictOf : told.Answered → Verdict → Type 0
+VerdictOf a v = stopped v ≡ Some a
 
--- the ways of a command
-data Way (words : List (List ℕ)) : Outcome → List FileText → Type 0 where
-  no_command : ((name : List ℕ) → NameProgram words name → ⊥) → Way words (Answered Usage) []
-  formats : (f : FileText) (o : Outcome) → AreFormat words f.name → Formats f.text o → Way words o (f ∷ [])
-  stops : (f : FileText) (v : Verdict) (a : told.Answered) → JudgeProgram words f.name → Judged f.text v → stopped v ≡ Some a → Way words (Answered a) (f ∷ [])
-  goes : (f : FileText) (o : Outcome) (rest : List FileText) → JudgeProgram words f.name → Judged f.text passes → Behind words f o rest → Way words o (f ∷ rest)
+verdict_of : (text : List ℕ) (a : told.Answered) → IsRefusedBy text a → (v : Verdict) × Judged text v × (stopped v ≡ Some a)
+verdict_of text _ (by_rule rule at why) = (refuses rule at, is_refused rule at why, refl)
+verdict_of text _ (lost_local p l why) = (loses l, is_lost l p why, refl)
+verdict_of text _ (heavy p at sound is) = (weighs at, is_heavy at p sound is, refl)
 
-way_of : (words : List (List ℕ)) (o : Outcome) (fs : List FileText) → Due words o fs → Way words o fs
-way_of words _ _ (usage none) = no_command none
-way_of words _ _ (unread f rule at are why) = formats f _ are (no_program rule at why)
-way_of words _ _ (formatted f p are is) = formats f _ are (program p is)
-way_of words _ _ (refused f rule at judges why) = stops f (refuses rule at) _ judges (is_refused rule at why) refl
-way_of words _ _ (lost f p l judges why) = stops f (loses l) _ judges (is_lost l p why) refl
-way_of words _ _ (heavy f p at judges sound is) = stops f (weighs at) _ judges (is_heavy at p sound is) refl
-way_of words _ _ (passed f p are passing) = goes f _ _ (of_check are) (is_passing p passing) (checks are)
-way_of words _ _ (are_compiled f p classes are passing has) = goes f _ _ (of_compile are) (is_passing p passing) (compiles p classes are passing has)
-way_of words _ _ (no_world f w frames p fault are passing answered some) =
-    goes f _ _ (of_run w.name frames are) (is_passing p passing) (no_world_is w frames fault are (refuses_by w.text fault answered some))
-way_of words _ _ (run f w r are passing has answered) =
-    goes f _ _ (of_run w.name r.frames are) (is_passing r.program.value passing) (runs w r are passing has answered)
+refused_once : (text : List ℕ) → OneVerdict text → (a b : told.Answered) → IsRefusedBy text a → IsRefusedBy text b → a ≡ b
+refused_once text one a b x y =
+    let v = verdict_of text a x in
+    let w = verdict_of text b y in
+    let e : Some a ≡ Some b = sym v.2 ∙ (ap stopped (judged_once text one v.1 w.1) ∙ w.2) in cc
 
-check_or_run : {A : Type 0} (words : List (List ℕ)) (name other file : List ℕ) (frames : Bool) → AreCheck words name → AreRun words other file frames → A
-check_or_run words name other file frames a b = let e : codes "check" ≡ codes "run" = sym (ap command a.are) ∙ ap command b.are in absurd cc
+never_passing : (text : List ℕ) → OneVerdict text → (a : told.Answered) (p : Program) → IsRefusedBy text a → IsPassing text p → ⊥
+never_passing text one a p x y =
+    let v = verdict_of text a x in
+    let n : stopped passes ≡ Some a = ap stopped (sym (judged_once text one v.1 (is_passing p y))) ∙ v.2 in cc
 
-compile_or_run : {A : Type 0} (words : List (List ℕ)) (name other file : List ℕ) (frames : Bool) → AreCompile words name → AreRun words other file frames → A
-compile_or_run words name other file frames a b = let e : codes "compile" ≡ codes "run" = sym (ap command a.are) ∙ ap command b.are in absurd cc
+same_classes : (text : List ℕ) → OneVerdict text → (p q : Program) (a b : RawTree) → IsPassing text p → IsPassing text q → Has (program_of p) a → Has (program_of q) b → a ≡ b
+same_classes text one p q a b s t h k = h ∙ ap compiled_tree (one.program p q s.sound.typed.read t.sound.typed.read) ∙ sym k
 
-check_or_compile : {A : Type 0} (words : List (List ℕ)) (name other : List ℕ) → AreCheck words name → AreCompile words other → A
-check_or_compile words name other a b = let e : codes "check" ≡ codes "compile" = sym (ap command a.are) ∙ ap command b.are in absurd cc
+-- A class text has one answer.
+module _ (one : OneClassAnswer) (text : List ℕ) where
+  class_fault_once : (e f : ClassFault) → ClassAnswer text (Err e) → ClassAnswer text (Err f) → e ≢ class.OutOfMemory → f ≢ class.OutOfMemory → e ≡ f
+  class_fault_once e f a b m n =
+      let same = one text (Err e) (Err f) a b (λ h. m (err_same h)) (λ h. n (err_same h)) in err_tree same
+    where
+      err_same : {x y : ClassFault} → ◌≡◌ {A = Result RawClasses ClassFault} (Err x) (Err y) → x ≡ y
+      err_same h = cc
+
+      err_tree : {x y : ClassFault} → ◌≡◌ {A = Result RawTree ClassFault} (Err x) (Err y) → x ≡ y
+      err_tree h = cc
+
+  read_or_refused : (e : ClassFault) (c : RawClasses) → ClassAnswer text (Err e) → ClassAnswer text (Ok c) → e ≢ class.OutOfMemory → ⊥
+  read_or_refused e c a b m =
+      let same = one text (Err e) (Ok c) a b (λ h. m (err_same h)) (λ h. cc) in apart same
+    where
+      err_same : {x y : ClassFault} → ◌≡◌ {A = Result RawClasses ClassFault} (Err x) (Err y) → x ≡ y
+      err_same h = cc
+
+      apart : ◌≡◌ {A = Result RawTree ClassFault} (Err e) (Ok (raw_of c)) → ⊥
+      apart h = cc
+
+  classes_once : (c d : RawClasses) → ClassAnswer text (Ok c) → ClassAnswer text (Ok d) → raw_of c ≡ raw_of d
+  classes_once c d a b = tree_same (one text (Ok c) (Ok d) a b (λ h. cc) (λ h. cc))
+    where
+      tree_same : {x y : RawTree} → ◌≡◌ {A = Result RawTree ClassFault} (Ok x) (Ok y) → x ≡ y
+      tree_same h = cc
+
+-- What is run for a request.
+never_both : (q : Request) (p : _) → IsMeantBy q (Text p) → IsMeantBy q Classes → ⊥
+never_both (format name) p a b = a
+never_both (check name) p a b = a
+never_both (compile name) p a b = a
+never_both (run r) p a b = b
+never_both (exec r) p a b = a
+never_both (bench clients seed) p a b = b
+
+module _ (one_class : OneClassAnswer) (text : List ℕ) (one : OneVerdict text) (q : Request) where
+  run_once : {m n : Meant} {c d : RawClasses} → IsRunBy text m c → IsRunBy text n d → IsMeantBy q m → IsMeantBy q n → SameMeant m n × (raw_of c ≡ raw_of d)
+  run_once (of_program p c passing has) (of_program r d others k) a b =
+      (one.program p.value r.value passing.sound.typed.read others.sound.typed.read, same_classes text one p.value r.value (raw_of c) (raw_of d) passing others has k)
+  run_once (of_program p c passing has) (of_class_text d answer) a b = absurd (never_both q p a b)
+  run_once (of_class_text c answer) (of_program p d passing has) a b = absurd (never_both q p b a)
+  run_once (of_class_text c answer) (of_class_text d others) a b = (tt, classes_once one_class text c d answer others)
+
+same_told : {a b : told.Answered} → a ≡ b → SameOutcome (Answered a) (Answered b)
+same_told e = (ap text_of e, ap status_of e)
+
+-- What is due by the first text.
+module _ (one_class : OneClassAnswer) (text : List ℕ) (one : OneVerdict text) where
+  by_once : (q : Request) (o p : Outcome) → DueBy text q o → DueBy text q p → SameOutcome o p
+  by_once _ _ _ (unread name rule at u) (unread _ other place v) =
+      let e = one.unread rule other at place u v in same_told (ap₂ (λ r x. Refused (source.Refused r x)) e.0 e.1)
+  by_once _ _ _ (unread name rule at u) (formatted _ p is) = absurd (one.read_or_unread p rule at is u)
+  by_once _ _ _ (unread name rule at u) (refused _ a judges why) = absurd judges
+  by_once _ _ _ (formatted name p is) (unread _ rule at u) = absurd (one.read_or_unread p rule at is u)
+  by_once _ _ _ (formatted name p is) (formatted _ q there) = (ap Canon (one.program p q is there), refl)
+  by_once _ _ _ (formatted name p is) (refused _ a judges why) = absurd judges
+  by_once _ _ _ (refused _ a judges why) (unread name rule at u) = absurd judges
+  by_once _ _ _ (refused _ a judges why) (formatted name p is) = absurd judges
+  by_once _ _ _ (refused q a judges why) (refused _ b others also) = same_told (refused_once text one a b why also)
+  by_once _ _ _ (refused _ a judges why) (passed name p passing) = absurd (never_passing text one a p why passing)
+  by_once _ _ _ (refused _ a judges why) (compiled name p c passing has) = absurd (never_passing text one a p why passing)
+  by_once _ _ _ (refused _ a judges why) (no_classes r fault answer some) = absurd judges
+  by_once _ _ _ (passed name p passing) (refused _ a judges why) = absurd (never_passing text one a p why passing)
+  by_once _ _ _ (passed name p passing) (passed _ q others) = (refl, refl)
+  by_once _ _ _ (compiled name p c passing has) (refused _ a judges why) = absurd (never_passing text one a p why passing)
+  by_once _ _ _ (compiled name p c passing has) (compiled _ q d others k) =
+      (ap ClassText (same_classes text one p q (raw_of c) (raw_of d) passing others has k), refl)
+  by_once _ _ _ (no_classes r fault answer some) (refused _ a judges why) = absurd judges
+  by_once _ _ _ (no_classes r fault answer some) (no_classes _ other others more) =
+      same_told (ap NoClasses (class_fault_once one_class text fault other answer others some more))
+
+  -- something is due by it alone, or something is run by it
+  never_runs : (q : Request) (o : Outcome) (m : Meant) (c : RawClasses) → DueBy text q o → IsRunBy text m c → IsMeantBy q m → ⊥
+  never_runs _ _ m c (unread name rule at u) is a = a
+  never_runs _ _ m c (formatted name p there) is a = a
+  never_runs _ _ _ _ (refused q a judges why) (of_program p c passing has) meant = never_passing text one a p.value why passing
+  never_runs _ _ _ _ (refused q a judges why) (of_class_text c answer) meant = by_request q judges meant
+    where
+      by_request : (q : Request) → HasProgram q → IsMeantBy q Classes → ⊥
+      by_request (format name) h k = h
+      by_request (check name) h k = k
+      by_request (compile name) h k = k
+      by_request (run r) h k = k
+      by_request (exec r) h k = h
+      by_request (bench clients seed) h k = k
+  never_runs _ _ m c (passed name p passing) is a = a
+  never_runs _ _ m c (compiled name p d passing has) is a = a
+  never_runs _ _ _ _ (no_classes r fault answer some) (of_program p c passing has) meant = meant
+  never_runs _ _ _ _ (no_classes r fault answer some) (of_class_text c others) meant = read_or_refused one_class text fault c answer others some
+
+-- What is due by the world's text.
+same_run : (q : Request) (r s : ProgramRun) → SameRun r s → SameOutcome (run_for q r) (run_for q s)
+same_run (format name) r s same = same
+same_run (check name) r s same = same
+same_run (compile name) r s same = same
+same_run (run x) r s same = same
+same_run (exec x) r s same = same
+same_run (bench clients seed) r s same = (same, refl, refl)
+
+module _ (judged_world : OneWorldVerdict) (one_class : OneClassAnswer) (text world_text : List ℕ) (one : OneVerdict text) (q : Request) where
+  in_once : (o p : Outcome) → DueIn text world_text q o → DueIn text world_text q p → SameOutcome o p
+  in_once _ _ (no_world m c e is answered some) (no_world n d f there others more) =
+      same_told (ap NoWorld (refuses_once judged_world world_text e f (refuses_by world_text e answered some) (refuses_by world_text f others more)))
+  in_once _ _ (no_world m c e is answered some) (runs r there others frames) = never_refused judged_world world_text e r.world (refuses_by world_text e answered some) others
+  in_once _ _ (runs r is answered frames) (no_world n d f there others more) = never_refused judged_world world_text f r.world (refuses_by world_text f others more) answered
+  in_once _ _ (runs r is answered frames) (runs s there others more) =
+      let both = run_once one_class text one q is.is_run there.is_run is.is_meant there.is_meant in
+      same_run q r s (record {
+        meant = both.0;
+        classes = both.1;
+        world = world_once judged_world world_text (seen r.world) (seen s.world) answered.1 others.1;
+        frames = frames ∙ sym more;
+      })
+
+  never_in : (o p : Outcome) → DueBy text q o → DueIn text world_text q p → ⊥
+  never_in o _ a (no_world m c e is answered some) = never_runs one_class text one q o m c a is.is_run is.is_meant
+  never_in o _ a (runs r is answered frames) = never_runs one_class text one q o r.meant r.classes a is.is_run is.is_meant
 
 abbrev Same : (o p : Outcome) (fs gs : List FileText) → Type 0
 Same o p fs gs = (fs ≡ gs) × SameOutcome o p
 
-module _ (judged_world : OneWorldVerdict) (words : List (List ℕ)) (content : List ℕ → Content) (tells : TellsAll content) (f : FileText) (one : OneVerdict f.text) where
-  -- the two are runs of the same words
-  same_world : (v w : FileText) (m n : Bool) → AreRun words f.name v.name m → AreRun words f.name w.name n → AreTexts content (v ∷ []) → AreTexts content (w ∷ []) → v ≡ w
-  same_world v w m n a b s t =
-      same_file content tells v w (sym (world_is words f.name v.name m a) ∙ world_is words f.name w.name n b) s.0 t.0
-
-  frames_once : (v w : FileText) (m n : Bool) → v ≡ w → AreRun words f.name v.name m → AreRun words f.name w.name n → m ≡ n
-  frames_once v w m n e a b =
-      same_frames (codes "run") f.name w.name m n (ap (λ (x : FileText). codes "run" ∷ (f.name ∷ (x.name ∷ last_words m))) (sym e) ∙ (sym a.are ∙ b.are))
-
-  same_classes : (p q : Program) (a b : RawTree) → IsPassing f.text p → IsPassing f.text q → Has (program_of p) a → Has (program_of q) b → a ≡ b
-  same_classes p q a b s t h k = h ∙ ap compiled (one.program p q s.sound.typed.read t.sound.typed.read) ∙ sym k
-
-  behind_once : (o p : Outcome) (fs gs : List FileText) → Behind words f o fs → Behind words f p gs → AreTexts content fs → AreTexts content gs → Same o p fs gs
-  behind_once _ _ _ _ (checks a) (checks b) s t = (refl, (refl, refl))
-  behind_once _ _ _ _ (checks a) (compiles q d b j k) s t = check_or_compile words f.name f.name a b
-  behind_once _ _ _ _ (checks a) (no_world_is w n e b j) s t = check_or_run words f.name f.name w.name n a b
-  behind_once _ _ _ _ (checks a) (runs w r b j k l) s t = check_or_run words f.name f.name w.name r.frames a b
-  behind_once _ _ _ _ (compiles p c a i h) (checks b) s t = check_or_compile words f.name f.name b a
-  behind_once _ _ _ _ (compiles p c a i h) (compiles q d b j k) s t =
-      (refl, (ap ClassText (same_classes p q (raw_of c) (raw_of d) i j h k), refl))
-  behind_once _ _ _ _ (compiles p c a i h) (no_world_is w n e b j) s t = compile_or_run words f.name f.name w.name n a b
-  behind_once _ _ _ _ (compiles p c a i h) (runs w r b j k l) s t = compile_or_run words f.name f.name w.name r.frames a b
-  behind_once _ _ _ _ (no_world_is v m d a i) (checks b) s t = check_or_run words f.name f.name v.name m b a
-  behind_once _ _ _ _ (no_world_is v m d a i) (compiles q c b j k) s t = compile_or_run words f.name f.name v.name m b a
-  behind_once _ _ _ _ (no_world_is v m d a i) (no_world_is w n e b j) s t =
-      let x = same_world v w m n a b s t in
-      let y = refuses_once judged_world w.text d e (subst (λ (z : FileText). Refuses z.text d) x i) j in
-      (ap (λ z. z ∷ []) x, (ap (λ z. text_of (NoWorld z)) y, ap (λ z. status_of (NoWorld z)) y))
-  behind_once _ _ _ _ (no_world_is v m d a i) (runs w r b j k l) s t =
-      let x = same_world v w m r.frames a b s t in never_refused judged_world w.text d r.world (subst (λ (z : FileText). Refuses z.text d) x i) l
-  behind_once _ _ _ _ (runs v q a i h l) (checks b) s t = check_or_run words f.name f.name v.name q.frames b a
-  behind_once _ _ _ _ (runs v q a i h l) (compiles p c b j k) s t = compile_or_run words f.name f.name v.name q.frames b a
-  behind_once _ _ _ _ (runs v q a i h l) (no_world_is w n e b j) s t =
-      let x = same_world w v n q.frames b a t s in never_refused judged_world v.text e q.world (subst (λ (z : FileText). Refuses z.text e) x j) l
-  behind_once _ _ _ _ (runs v q a i h l) (runs w r b j k m) s t =
-      let x = same_world v w q.frames r.frames a b s t in
-      let y = subst (λ (z : FileText). reading.ReadsWorld z.text (Ok q.world)) x l in (
-        ap (λ z. z ∷ []) x,
-        record {
-          program = one.program q.program.value r.program.value i.sound.typed.read j.sound.typed.read;
-          classes = same_classes q.program.value r.program.value (raw_of q.classes) (raw_of r.classes) i j h k;
-          world = world_once judged_world w.text (seen q.world) (seen r.world) y.1 m.1;
-          frames = frames_once v w q.frames r.frames x a b;
-        },
-      )
-
-pub one_answer : ((text : List ℕ) → OneVerdict text) → OneWorldVerdict → OneAnswer
-one_answer one judged_world words content o p fs gs tells a s b t = by (way_of words o fs a) (way_of words p gs b) s t
+pub one_answer : ((text : List ℕ) → OneVerdict text) → OneWorldVerdict → OneClassAnswer → OneAnswer
+one_answer one judged_world one_class asks content o p fs gs tells a s b t = by a b s t
   where
-    stops_or_goes : (text : List ℕ) (v : Verdict) (x : told.Answered) {A : Type 0} → Judged text v → stopped v ≡ Some x → Judged text passes → A
-    stops_or_goes text v x j e k = let n : stopped passes ≡ Some x = ap stopped (sym (judged_once text (one text) j k)) ∙ e in absurd cc
+    first_same : (q : Request) (t u : List ℕ) → IsOf (first_source q) t → IsOf (first_source q) u → AreTexts content (read_for (first_source q) t)
+        → AreTexts content (read_for (first_source q) u) → t ≡ u
+    first_same q t u = same_of content tells (first_source q) t u
 
-    judged_file : (f g : FileText) → JudgeProgram words f.name → JudgeProgram words g.name → IsText content f → IsText content g → f ≡ g
-    judged_file f g i j a b = same_file content tells f g (sym (judged_is words f.name i) ∙ judged_is words g.name j) a b
-
-    by : {o p : Outcome} {fs gs : List FileText} → Way words o fs → Way words p gs → AreTexts content fs → AreTexts content gs → Same o p fs gs
-    by (no_command none) (no_command other) s t = (refl, (refl, refl))
-    by (no_command none) (formats g q b j) s t = absurd (none g.name (of_format b))
-    by (no_command none) (stops g w y b j k) s t = absurd (none g.name (of_judged b))
-    by (no_command none) (goes g q rest b j k) s t = absurd (none g.name (of_judged b))
-    by (formats f o a i) (no_command none) s t = absurd (none f.name (of_format a))
-    by (formats f o a i) (formats g q b j) s t =
-        let e = same_file content tells f g (sym (named_is words f.name (of_format a)) ∙ named_is words g.name (of_format b)) s.0 t.0 in
-        (ap (λ z. z ∷ []) e, formats_once g.text (one g.text) o q (subst (λ (z : FileText). Formats z.text o) e i) j)
-    by (formats f o a i) (stops g w y b j k) s t = absurd (never_formats words f.name g.name a b)
-    by (formats f o a i) (goes g q rest b j k) s t = absurd (never_formats words f.name g.name a b)
-    by (stops f v x a i h) (no_command none) s t = absurd (none f.name (of_judged a))
-    by (stops f v x a i h) (formats g q b j) s t = absurd (never_formats words g.name f.name b a)
-    by (stops f v x a i h) (stops g w y b j k) s t =
-        let e = judged_file f g a b s.0 t.0 in
-        let n : Some x ≡ Some y = sym h ∙ (ap stopped (judged_once g.text (one g.text) (subst (λ (z : FileText). Judged z.text v) e i) j) ∙ k) in
-        (ap (λ z. z ∷ []) e, same_told cc)
-    by (stops f v x a i h) (goes g q rest b j k) s t =
-        let e = judged_file f g a b s.0 t.0 in stops_or_goes g.text v x (subst (λ (z : FileText). Judged z.text v) e i) h j
-    by (goes f o rest a i h) (no_command none) s t = absurd (none f.name (of_judged a))
-    by (goes f o rest a i h) (formats g q b j) s t = absurd (never_formats words g.name f.name b a)
-    by (goes f o rest a i h) (stops g w y b j k) s t =
-        let e = judged_file f g a b s.0 t.0 in stops_or_goes g.text w y j k (subst (λ (z : FileText). Judged z.text passes) e i)
-    by (goes f o rest a i h) (goes g q more b j k) s t =
-        let e = judged_file f g a b s.0 t.0 in
-        let r = behind_once judged_world words content tells g (one g.text) o q rest more (subst (λ (z : FileText). Behind words z o rest) e h) k s.1 t.1 in
-        (ap₂ (λ z zs. z ∷ zs) e r.0, r.1)
+    by : {asks : Option Request} {o p : Outcome} {fs gs : List FileText} → Due asks o fs → Due asks p gs → AreTexts content fs → AreTexts content gs → Same o p fs gs
+    by usage usage s t = (refl, (refl, refl))
+    by (by_text q text o own why) (by_text _ other p its also) s t =
+        let e = first_same q text other own its s t in
+        (ap (read_for (first_source q)) e, by_once one_class other (one other) q o p (subst (λ x. DueBy x q o) e why) also)
+    by (by_text q text o own why) (in_world _ other world_text w p its is from also) s t =
+        let e = first_same q text other own its s (texts_first content (first_source q) other (read_for w world_text) t) in
+        absurd (never_in judged_world one_class other world_text (one other) q o p (subst (λ x. DueBy x q o) e why) also)
+    by (in_world q text world_text v o own is from why) (by_text _ other p its also) s t =
+        let e = first_same q text other own its (texts_first content (first_source q) text (read_for v world_text) s) t in
+        absurd (never_in judged_world one_class text world_text (one text) q p o (subst (λ x. DueBy x q p) (sym e) also) why)
+    by (in_world q text world_text v o own is from why) (in_world _ other world_other w p its there comes also) s t =
+        let e = first_same q text other own its (texts_first content (first_source q) text (read_for v world_text) s)
+        (texts_first content (first_source q) other (read_for w world_other) t) in
+        let some : Some v ≡ Some w = sym is ∙ there in
+        let same : v ≡ w = cc in
+        let rest = texts_behind content (first_source q) text (read_for v world_text) s in
+        let f = same_of content tells w world_text world_other (subst (λ x. IsOf x world_text) same from) comes
+        (subst (λ x. AreTexts content (read_for x world_text)) same rest) (texts_behind content (first_source q) other (read_for w world_other) t) in (
+          ap₂ (λ x y. x ++ y) (ap (read_for (first_source q)) e) (ap₂ read_for same f),
+          in_once judged_world one_class other world_other (one other) q o p (subst (λ x. DueIn x world_other q o) e (subst (λ x. DueIn text x q o) f why)) also,
+        )

@@ -1,5 +1,11 @@
-pub mod Words
-pub mod Run
+pub mod Requests
+pub mod Sources
+pub mod Outcomes
+pub mod Due
+pub mod Decided
+pub mod Summary
+pub mod Told
+pub mod Answers
 pub mod Steps
 pub mod Laws
 pub mod OneAnswer

@@ -1,11 +1,15 @@
 //! The top call: does over any files and any sink what the words of a command line say.
 #![tactic(auto)]
 
-mod command;
+mod asking;
+mod counting;
 mod decide;
+mod judge;
 pub mod laws;
 mod outcome;
 mod report;
+mod source;
+mod summary;
 mod top;
 
 pub use top::flow_main;

@@ -1,5 +1,6 @@
 // What a command line comes to.
 
+use flow_classread::fault::ClassFault;
 use flow_tree::decl::Program;
 use flow_tree::fault::SourceFault;
 use flow_valid::program::ClassProgram;
@@ -11,24 +12,47 @@ use std::snapshot::Snapshot;
 pub enum Outcome {
     /// Its text, which is known before it is told.
     Answered(Answered),
-    /// A program is run in a world.
+    /// Classes are run in a world, and what is shown of them is told.
     Run(ProgramRun),
+    /// They are run, and a summary is told.
+    Bench(BenchRun),
 }
 
-/// A program that is run in a world: its classes, and whether frames are told after each event. The program itself is read by
-/// clauses alone.
+/// What classes mean that are run: a program, which is read by clauses alone, or themselves.
+#[derive(Drop)]
+pub enum Meant {
+    Text(Snapshot<Program>),
+    Classes,
+}
+
+/// Classes to be run, and what they mean.
+#[derive(Drop)]
+pub struct Runnable {
+    pub meant: Meant,
+    pub classes: ClassProgram,
+}
+
+/// Classes that are run in a world, and whether frames are told after each event.
 #[derive(Drop)]
 pub struct ProgramRun {
-    pub program: Snapshot<Program>,
+    pub meant: Meant,
     pub classes: ClassProgram,
     pub world: World0,
     pub frames: bool,
 }
 
+/// A run whose summary is told, by the number of clients and the seed that it was generated of.
+#[derive(Drop)]
+pub struct BenchRun {
+    pub run: ProgramRun,
+    pub clients: u32,
+    pub seed: u64,
+}
+
 /// What a command line comes to where nothing is run.
 #[derive(Drop)]
 pub enum Answered {
-    /// The words are no command.
+    /// The words ask for nothing that there is.
     Usage,
     /// A file couldn't be read.
     ReadFault,
@@ -36,6 +60,8 @@ pub enum Answered {
     OutOfMemory,
     /// The program text is refused.
     Refused(SourceFault),
+    /// The class text is refused.
+    NoClasses(ClassFault),
     /// The world file is refused.
     NoWorld(WorldFault),
     /// The program passes all rules.

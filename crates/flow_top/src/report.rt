@@ -1,26 +1,32 @@
 // Telling what a command line came to.
 
-ghost use Rattle.std.specs.Prelude.{◌≡◌, OnOk};
+ghost use Rattle.std.specs.Prelude.{◌≡◌, IfOk, OnOk};
 ghost use Rattle.std.specs.Io.KnownBytes.{Appends};
-ghost use Rattle.flow_base.specs.Bytes.{AppendsPart};
+ghost use Rattle.flow_base.specs.Bytes.{AppendsPart, Grows};
 ghost use Rattle.flow_base.specs.Faults.{HasCause};
-ghost use Rattle.flow_refusal.specs.Refusal.{refusal_text, world_refusal};
+ghost use Rattle.flow_refusal.specs.Refusal.{refusal_text, class_refusal, world_refusal};
 ghost use Rattle.flow_machine.specs.declared.host.RunFault.TheVariants.{Stuck};
 ghost use Rattle.flow_machine.specs.Cause.{fault_of};
 ghost use Rattle.flow_world.specs.WatchedTraces.{IsEnding};
 ghost use Rattle.flow_world.specs.declared.run_ending.RunEnding.TheVariants.{Own};
-ghost use Rattle.flow_top.specs.Run.{text_of, status_of, world_status, ending_status, fault_status_of, MayRun, MayTell, ReportedTold, ReportedRun, Reported};
+ghost use Rattle.flow_top.specs.Outcomes.{text_of, status_of, world_status, MayRun, MayTell};
+ghost use Rattle.flow_top.specs.Told.{ending_status, run_status, fault_status_of, GoesOut, GoesOutInPart, ReportedTold, ReportedRun, IsCounted, ReportedBench, Reported};
 
-use crate::outcome::{Answered, Outcome, ProgramRun};
+use crate::counting::{Counts, Nobody};
+use crate::outcome::{Answered, BenchRun, Outcome, ProgramRun};
+use crate::summary::summary;
 use flow_base::fault::OutFault;
+use flow_base::memory::NoMemory;
 use flow_base::output::write_whole;
 use flow_base::sink::Sink;
 use flow_classprint::write_classes;
+use flow_classread::fault::ClassFault;
 use flow_machine::host::RunFault;
-use flow_monitor::Panel;
-use flow_refusal::{refusal_line, refusal_status, world_line};
-use flow_show::show::show_lines;
+use flow_monitor::Audience;
+use flow_refusal::{class_line, class_status, refusal_line, refusal_status, world_line};
+use flow_show::show::{show_lines, write_lines};
 use flow_tree::fault::SourceFault;
+use flow_world::trace::put_trace;
 use flow_world::{Ending, RunEnding, write_trace};
 use flow_worldfile::WorldFault;
 use std::alloc::Global;
@@ -31,9 +37,29 @@ fn put_refusal<S: Sink>(alloc: Global, fault: &SourceFault, out: &mut S) -> Resu
         (refusal_text fault.now)) }
     ensures part { AppendsPart (S.seen out.old).written (S.seen out.new).written
         (refusal_text fault.now) }
+    ensures handed { Grows (S.seen out.old).handed (S.seen out.new).handed }
     ensures cause { HasCause (S.seen out.old).faults (S.seen out.new).faults result }
 {
     let Ok(line) = refusal_line(alloc, fault) else {
+        return Err(OutFault::OutOfMemory);
+    };
+    write_whole(out, &line)
+}
+
+// Writes the line of a refusal of a class text.
+fn put_class_refusal<S: Sink>(
+    alloc: Global,
+    fault: &ClassFault,
+    out: &mut S,
+) -> Result<(), OutFault>
+    ensures whole { OnOk result (Appends (S.seen out.old).written (S.seen out.new).written
+        (class_refusal fault.now)) }
+    ensures part { AppendsPart (S.seen out.old).written (S.seen out.new).written
+        (class_refusal fault.now) }
+    ensures handed { Grows (S.seen out.old).handed (S.seen out.new).handed }
+    ensures cause { HasCause (S.seen out.old).faults (S.seen out.new).faults result }
+{
+    let Ok(line) = class_line(alloc, fault) else {
         return Err(OutFault::OutOfMemory);
     };
     write_whole(out, &line)
@@ -45,6 +71,7 @@ fn put_world_refusal<S: Sink>(alloc: Global, fault: WorldFault, out: &mut S) -> 
         (world_refusal fault)) }
     ensures part { AppendsPart (S.seen out.old).written (S.seen out.new).written
         (world_refusal fault) }
+    ensures handed { Grows (S.seen out.old).handed (S.seen out.new).handed }
     ensures cause { HasCause (S.seen out.old).faults (S.seen out.new).faults result }
 {
     let Ok(line) = world_line(alloc, fault) else {
@@ -58,6 +85,7 @@ fn put<S: Sink>(alloc: Global, outcome: Answered, out: &mut S) -> Result<(), Out
     ensures whole { OnOk result (Appends (S.seen out.old).written (S.seen out.new).written
         (text_of outcome)) }
     ensures part { AppendsPart (S.seen out.old).written (S.seen out.new).written (text_of outcome) }
+    ensures handed { Grows (S.seen out.old).handed (S.seen out.new).handed }
     ensures cause { HasCause (S.seen out.old).faults (S.seen out.new).faults result }
 {
     match outcome {
@@ -65,6 +93,7 @@ fn put<S: Sink>(alloc: Global, outcome: Answered, out: &mut S) -> Result<(), Out
         Answered::ReadFault => write_whole(out, b"read fault\n"),
         Answered::OutOfMemory => Ok(()),
         Answered::Refused(fault) => put_refusal(alloc, &fault, out),
+        Answered::NoClasses(fault) => put_class_refusal(alloc, &fault, out),
         Answered::NoWorld(fault) => put_world_refusal(alloc, fault, out),
         Answered::Passed => write_whole(out, b"ok\n"),
         Answered::Compiled(classes) => write_classes(alloc, classes.raw(), out),
@@ -98,6 +127,7 @@ fn status(outcome: &Answered) -> u8
         Answered::ReadFault => 5,
         Answered::OutOfMemory => 7,
         Answered::Refused(fault) => refusal_status(fault),
+        Answered::NoClasses(fault) => class_status(fault),
         Answered::NoWorld(fault) => world_status(*fault),
     }
 }
@@ -112,9 +142,10 @@ fn fault_status(fault: OutFault) -> u8
     }
 }
 
-// Writes the text of an outcome that is no run and flushes it, and gives the status.
-fn report_told<S: Sink>(alloc: Global, outcome: Answered, out: &mut S) -> u8
-    ensures { ReportedTold outcome (S.seen out.old) (S.seen out.new) result }
+/// Writes the text of an outcome that is no run and flushes it, and gives the status.
+pub fn report_told<S: Sink>(alloc: Global, outcome: Answered, out: &mut S) -> u8
+    ensures reported { ReportedTold outcome (S.seen out.old) (S.seen out.new) result }
+    ensures handed { Grows (S.seen out.old).handed (S.seen out.new).handed }
 {
     let told = status(&outcome);
     if let Err(fault) = put(alloc, outcome, out) {
@@ -137,7 +168,17 @@ fn ending_status(ending: Ending) -> u8
     }
 }
 
-// The fault of a run that broke off: that of a program's classes never goes astray.
+// The status of a run that monitors heard, by its last line.
+fn run_status(ending: RunEnding) -> u8
+    ensures { result ≡ run_status ending }
+{
+    match ending {
+        RunEnding::Own(own) => ending_status(own),
+        RunEnding::Stopped(_) => 8,
+    }
+}
+
+// The fault of a run that broke off: it never goes astray.
 fn run_fault(fault: RunFault) -> OutFault
     requires { fault ≡ Stuck → ⊥ }
     ensures { fault_of result ≡ fault }
@@ -147,6 +188,33 @@ fn run_fault(fault: RunFault) -> OutFault
         RunFault::OutOfMemory => OutFault::OutOfMemory,
         RunFault::Stuck => unreachable!(),
     }
+}
+
+// Runs classes in the world, writes the lines as they are made and flushes them, and gives the status.
+fn report_run<P: Audience, S: Sink>(
+    alloc: Global,
+    run: ProgramRun,
+    panel: &mut P,
+    out: &mut S,
+) -> u8
+    requires { MayRun run }
+    ensures reported { ReportedRun run (P.ears panel.old) (S.seen out.old) (S.seen out.new) result }
+    ensures handed { Grows (S.seen out.old).handed (S.seen out.new).handed }
+{
+    let ProgramRun {
+        meant: _,
+        classes,
+        world,
+        frames,
+    } = run;
+    let ending = match write_trace(alloc, classes, world, frames, panel, out) {
+        Ok(ending) => ending,
+        Err(fault) => return fault_status(run_fault(fault)),
+    };
+    if let Err(fault) = out.flush() {
+        return fault_status(fault);
+    }
+    run_status(ending)
 }
 
 // How a run ends by itself that nobody hears.
@@ -160,36 +228,70 @@ fn own_ending(ending: RunEnding) -> Ending
     }
 }
 
-// Runs the program in the world by its classes, writes the lines as they are made and flushes them, and gives the status.
-fn report_run<S: Sink>(alloc: Global, run: ProgramRun, out: &mut S) -> u8
+// Runs classes in the world and counts the lines as they are made; none is kept. Counting never fails, and a run is never stuck:
+// where it doesn't come to its end, there was no memory.
+fn count_run(alloc: Global, run: ProgramRun) -> Result<(Ending, Counts), NoMemory>
     requires { MayRun run }
-    ensures { ReportedRun run (S.seen out.old) (S.seen out.new) result }
+    ensures { IfOk result (λ x. IsCounted run x.0 x.1) }
 {
     let ProgramRun {
-        program: _,
+        meant: _,
         classes,
         world,
         frames,
     } = run;
-    let mut panel = Panel::empty(alloc);
-    let ending = match write_trace(alloc, classes, world, frames, &mut panel, out) {
-        Ok(ending) => own_ending(ending),
-        Err(fault) => return fault_status(run_fault(fault)),
-    };
-    if let Err(fault) = out.flush() {
-        return fault_status(fault);
+    let mut counts = Counts::new();
+    match put_trace(alloc, classes, world, frames, &mut Nobody, &mut counts) {
+        Ok(ending) => Ok((own_ending(ending), counts)),
+        Err(_) => Err(NoMemory),
     }
-    ending_status(ending)
+}
+
+// Writes a text, a line by a call, and flushes it.
+fn write_text<S: Sink>(text: &[u8], out: &mut S) -> Result<(), OutFault>
+    ensures whole { OnOk result (GoesOut (S.seen out.old) (S.seen out.new) text.now) }
+    ensures part { GoesOutInPart (S.seen out.old) (S.seen out.new) text.now }
+    ensures handed { Grows (S.seen out.old).handed (S.seen out.new).handed }
+    ensures cause { HasCause (S.seen out.old).faults (S.seen out.new).faults result }
+{
+    write_lines(out, text)?;
+    out.flush()
+}
+
+// Runs classes in the world, writes the summary and flushes it, and gives the status.
+fn report_bench<S: Sink>(alloc: Global, bench: BenchRun, out: &mut S) -> u8
+    requires { MayRun bench.run }
+    ensures reported { ReportedBench bench (S.seen out.old) (S.seen out.new) result }
+    ensures handed { Grows (S.seen out.old).handed (S.seen out.new).handed }
+{
+    let BenchRun { run, clients, seed } = bench;
+    let Ok((ending, counts)) = count_run(alloc, run) else {
+        return 7;
+    };
+    let Ok(text) = summary(alloc, clients, seed, counts, ending) else {
+        return 7;
+    };
+    match write_text(&text, out) {
+        Ok(()) => ending_status(ending),
+        Err(fault) => fault_status(fault),
+    }
 }
 
 /// Writes the text of an outcome and flushes it, and gives the status: the outcome's own, or 6 or 7
-/// where the sink failed or there was no memory on the way.
-pub fn report<S: Sink>(alloc: Global, outcome: Outcome, out: &mut S) -> u8
+/// where the sink failed or there was no memory on the way. The panel hears a run.
+pub fn report<P: Audience, S: Sink>(
+    alloc: Global,
+    outcome: Outcome,
+    panel: &mut P,
+    out: &mut S,
+) -> u8
     requires { MayTell outcome }
-    ensures { Reported outcome (S.seen out.old) (S.seen out.new) result }
+    ensures reported { Reported (P.ears panel.old) outcome (S.seen out.old) (S.seen out.new) result }
+    ensures handed { Grows (S.seen out.old).handed (S.seen out.new).handed }
 {
     match outcome {
         Outcome::Answered(told) => report_told(alloc, told, out),
-        Outcome::Run(run) => report_run(alloc, run, out),
+        Outcome::Run(run) => report_run(alloc, run, panel, out),
+        Outcome::Bench(bench) => report_bench(alloc, bench, out),
     }
 }

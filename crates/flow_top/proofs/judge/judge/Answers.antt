@@ -1,0 +1,26 @@
+use Rattle.std.proofs.Common.{Err, subst, sym}
+use Rattle.flow_words.specs.Asked.{request_of}
+use Rattle.flow_top.specs.Steps.{RunsTo}
+use Rattle.flow_top.proofs.Deciding.{ended, program_runs, generated_runs}
+use Rattle.flow_top.proofs.judge.judge.Goals as goal
+
+pub returns-in-Format : goal.returns-in-Format
+returns-in-Format c =
+    subst (λ a. RunsTo c.args.text.now (request_of a) (Err c.format.result)) (sym c.in-Format.is) (ended c.args.text.now _ c.format.result (c.format.ensures _))
+
+pub returns-in-Check : goal.returns-in-Check
+returns-in-Check c =
+    subst (λ a. RunsTo c.args.text.now (request_of a) (Err c.check.result)) (sym c.in-Check.is) (ended c.args.text.now _ c.check.result (c.check.ensures _))
+
+pub returns-in-Compile : goal.returns-in-Compile
+returns-in-Compile c =
+    subst (λ a. RunsTo c.args.text.now (request_of a) (Err c.compiled.result)) (sym c.in-Compile.is) (ended c.args.text.now _ c.compiled.result (c.compiled.ensures _))
+
+pub returns-in-Run : goal.returns-in-Run
+returns-in-Run c =
+    subst (λ a. RunsTo c.args.text.now (request_of a) c.program.result) (sym c.in-Run.is) (program_runs c.args.text.now _ c.program.result c.program.ensures)
+
+pub returns-in-Bench : goal.returns-in-Bench
+returns-in-Bench c =
+    subst (λ a. RunsTo c.args.text.now (request_of a) c.program-in-Bench.result) (sym c.in-Bench.is)
+    (generated_runs c.args.text.now _ _ c.program-in-Bench.result c.program-in-Bench.ensures)

@@ -1,0 +1,84 @@
+// What the words ask for, and who hears it.
+
+ghost use Rattle.std.specs.Prelude.{◌≡◌, map, string_bytes, IfOk};
+ghost use Rattle.flow_monitor.specs.Attaching.{attached, want_fault};
+ghost use Rattle.flow_words.specs.Asked.{request_of};
+ghost use Rattle.flow_top.specs.Requests.{wanted_by, request_by, panel_for};
+ghost use Rattle.flow_top.specs.Outcomes.{words_outcome_of, panel_outcome_of};
+ghost use Rattle.flow_top.specs.Steps.{AsksFor, Attaches};
+
+use crate::outcome::Answered;
+use flow_monitor::{Audience, Monitor, Panel, PanelFault, Want};
+use flow_words::{Asked, WordsFault, read_words};
+use std::alloc::Global;
+
+// What words come to that aren't read.
+fn words_outcome(fault: WordsFault) -> Answered
+    ensures { result ≡ words_outcome_of fault }
+{
+    match fault {
+        WordsFault::Usage => Answered::Usage,
+        WordsFault::OutOfMemory => Answered::OutOfMemory,
+    }
+}
+
+// What monitors come to that aren't had.
+fn panel_outcome(fault: PanelFault) -> Answered
+    ensures { result ≡ panel_outcome_of fault }
+{
+    match fault {
+        PanelFault::NoMonitor(_) | PanelFault::Twice(_) => Answered::Usage,
+        PanelFault::OutOfMemory => Answered::OutOfMemory,
+    }
+}
+
+// The monitors that are wanted.
+fn wanted_by<'a>(asked: &'a Asked<'_>) -> &'a [Want]
+    ensures { result.now ≡ wanted_by (request_of asked.now) }
+{
+    match asked {
+        Asked::Run(run) | Asked::Exec(run) => &run.wanted,
+        Asked::Format(_) | Asked::Check(_) | Asked::Compile(_) | Asked::Bench(..) => &[],
+    }
+}
+
+// The panel of the monitors that are wanted.
+fn attach(
+    alloc: Global,
+    asked: &Asked<'_>,
+    monitors: Vec<Box<dyn Monitor>>,
+) -> Result<Panel, Answered>
+    ensures fault { Attaches (want_fault (map label monitors.items)
+        (wanted_by (request_of asked.now))) result }
+    ensures ears { IfOk result (λ p. ⟦<Panel as Audience>⟧.ears p
+        ≡ attached (wanted_by (request_of asked.now))
+        (map (λ m. record { name = label m; begun = begun m }) monitors.items)) }
+{
+    match Panel::attach(alloc, monitors, wanted_by(asked)) {
+        Ok(panel) => Ok(panel),
+        Err(fault) => Err(panel_outcome(fault)),
+    }
+}
+
+/// What the words ask for, and the panel that hears it; or what the command line comes to without it. Monitors that aren't
+/// wanted are dropped.
+pub fn ask<'a>(
+    alloc: Global,
+    words: &'a [String],
+    monitors: Vec<Box<dyn Monitor>>,
+) -> Result<(Asked<'a>, Panel), Answered>
+    ensures asked { let handed = map (λ m. record { name = label m; begun = begun m }) monitors.items in
+        AsksFor (request_by (map string_bytes words.entry.now) handed) result }
+    ensures ears { let handed = map (λ m. record { name = label m; begun = begun m }) monitors.items in
+        IfOk result (λ a. ⟦<Panel as Audience>⟧.ears a.1
+        ≡ panel_for (request_by (map string_bytes words.entry.now) handed) handed) }
+{
+    let asked = match read_words(alloc, words) {
+        Ok(asked) => asked,
+        Err(fault) => return Err(words_outcome(fault)),
+    };
+    match attach(alloc, &asked, monitors) {
+        Ok(panel) => Ok((asked, panel)),
+        Err(told) => Err(told),
+    }
+}

@@ -1,0 +1,3 @@
+pub mod Apps
+pub mod Wants
+pub mod Asked

@@ -1,0 +1,77 @@
+// What words ask for.
+
+ghost use Rattle.std.specs.Prelude.{◌≡◌};
+ghost use Rattle.flow_words.specs.declared.asked.WordsFault.TheVariants.{OutOfMemory};
+
+use flow_base::memory::NoMemory;
+use flow_monitor::Want;
+use std::alloc::{AllocError, AllocFailed};
+
+/// A word that is a command.
+#[derive(Clone, Copy)]
+pub enum CommandWord {
+    Format,
+    Check,
+    Compile,
+    Run,
+    Exec,
+    Bench,
+}
+
+/// What a command line asks for.
+#[derive(Drop)]
+pub enum Asked<'a> {
+    /// The canonical text of the program of a file.
+    Format(&'a str),
+    /// Whether the program of a file passes all rules.
+    Check(&'a str),
+    /// The classes of the program of a file.
+    Compile(&'a str),
+    /// A run of the program of a file.
+    Run(RunWords<'a>),
+    /// A run of the class text of a file.
+    Exec(RunWords<'a>),
+    /// The summary of a run of the program with so many clients, 1 to 10,000, in the world of this seed.
+    Bench(u32, u64),
+}
+
+/// A run that is asked for: the files of what is run and of its world, whether frames are told after each event, and the
+/// monitors that are wanted, with their limits.
+#[derive(Drop)]
+pub struct RunWords<'a> {
+    pub what: &'a str,
+    pub world: &'a str,
+    pub frames: bool,
+    pub wanted: Vec<Want>,
+}
+
+/// Why words can't be read: they ask for nothing that there is, or there was no memory.
+#[derive(Clone, Copy, PartialEq, Eq)]
+pub enum WordsFault {
+    Usage,
+    OutOfMemory,
+}
+
+impl From<NoMemory> for WordsFault {
+    ghost from_gives = { λ _ fault. fault ≡ OutOfMemory };
+
+    fn from(_error: NoMemory) -> WordsFault {
+        WordsFault::OutOfMemory
+    }
+}
+
+impl From<AllocError> for WordsFault {
+    ghost from_gives = { λ _ fault. fault ≡ OutOfMemory };
+
+    fn from(_error: AllocError) -> WordsFault {
+        WordsFault::OutOfMemory
+    }
+}
+
+impl<T: Drop> From<AllocFailed<T>> for WordsFault {
+    ghost from_gives = { λ _ fault. fault ≡ OutOfMemory };
+
+    fn from(_error: AllocFailed<T>) -> WordsFault {
+        WordsFault::OutOfMemory
+    }
+}
