@@ -3,6 +3,7 @@
 
 pub mod attach;
 pub mod errors;
+pub mod handed;
 pub mod heard;
 pub mod live;
 pub mod monitor;
@@ -12,6 +13,7 @@ pub mod until;
 
 pub use attach::{PanelFault, Want};
 pub use errors::Errors;
+pub use handed::{HandedIn, Monitors};
 pub use live::Live;
 pub use monitor::{Heard, Monitor};
 pub use panel::{Audience, Panel};

@@ -1,13 +1,13 @@
 //! flow: one command line over the files of the system and standard output.
 #![tactic(auto)]
 
-mod monitors;
 mod real;
 mod status;
 
-use crate::monitors::shipped;
 use crate::real::{BeginKept, SystemFiles};
 use crate::status::{NO_MEMORY, answer, hand_on_rest, is_noted};
+use flow_base::memory::NoMemory;
+use flow_monitor::{Errors, HandedIn, Live, Monitor, Until};
 use flow_refusal::note;
 use flow_system::gathering::Gathering;
 use flow_system::opened::OpenedFiles;
@@ -40,17 +40,27 @@ fn write_note(rt: &HostRuntime, files: &OpenedFiles<SystemFiles>, begin: &[u8]) 
     }
 }
 
-fn main(rt: HostRuntime) -> ExitCode {
+// Does what the words say, with the shipped monitors at hand, and gives the status.
+fn run(rt: &HostRuntime) -> Result<u8, NoMemory> {
     let alloc = rt.alloc();
-    let Ok(monitors) = shipped(alloc) else {
-        return ExitCode::from(NO_MEMORY);
-    };
-    let mut files = OpenedFiles::new(alloc, SystemFiles::new(&rt));
-    let mut out = BeginKept::new(alloc, Gathering::new(alloc, io::writer(&rt)));
-    let status = answer(alloc, words(&rt), &mut files, &mut out, monitors);
+    let mut monitors: Vec<Box<dyn Monitor>> = Vec::new(alloc);
+    monitors.push(Box::new(alloc, Live::new())?)?;
+    monitors.push(Box::new(alloc, Errors::new())?)?;
+    monitors.push(Box::new(alloc, Until::new())?)?;
+    let monitors = HandedIn::new(alloc, monitors);
+    let mut files = OpenedFiles::new(alloc, SystemFiles::new(rt));
+    let mut out = BeginKept::new(alloc, Gathering::new(alloc, io::writer(rt)));
+    let status = answer(alloc, words(rt), &mut files, &mut out, monitors);
     hand_on_rest(status, &mut out);
     if is_noted(status) {
-        write_note(&rt, &files, out.begin());
+        write_note(rt, &files, out.begin());
     }
-    ExitCode::from(status)
+    Ok(status)
+}
+
+fn main(rt: HostRuntime) -> ExitCode {
+    match run(&rt) {
+        Ok(status) => ExitCode::from(status),
+        Err(_) => ExitCode::from(NO_MEMORY),
+    }
 }

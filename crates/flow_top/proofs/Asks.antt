@@ -20,15 +20,6 @@ use Rattle.flow_top.specs.Decided.{Decided, due, no_memory_at_once}
 use Rattle.flow_top.specs.Steps.{NotAsked, NotAttached}
 use Rattle.flow_top.proofs.Reading.{untouched}
 
--- a monitor as it is handed in
-pub handed_as : {M : Type 0} → (M → List ℕ) → (M → ℕ → Ear) → M → Handed
-handed_as label begun m = record { name = label m; begun = begun m }
-
-names_same : {M : Type 0} (label : M → List ℕ) (begun : M → ℕ → Ear) (ms : List M)
-    → map (λ (h : Handed). h.name) (map (λ m. record { name = label m; begun = begun m }) ms) ≡ map label ms
-names_same label begun [] = refl
-names_same label begun (m ∷ ms) = ap (λ ns. label m ∷ ns) (names_same label begun ms)
-
 -- whether a request is served
 served_by : (b : Bool) (q : Request) → b ≡ false → (if b then None else Some q) ≡ Some q
 served_by true q e = absurd (cc)
@@ -38,26 +29,20 @@ unserved_by : (b : Bool) (q : Request) → b ≡ true → (if b then None else S
 unserved_by true q e = refl
 unserved_by false q e = absurd (cc)
 
-module _ {M : Type 0} (label : M → List ℕ) (begun : M → ℕ → Ear) (ms : List M) where
-  abbrev handed : List Handed
-  handed = map (λ m. record { name = label m; begun = begun m }) ms
-
-  faults_same : (q : Request) → want_fault (map (λ (h : Handed). h.name) handed) (wanted_by q) ≡ want_fault (map label ms) (wanted_by q)
-  faults_same q = ap (λ ns. want_fault ns (wanted_by q)) (names_same label begun ms)
-
-  pub is_served : (given : List (List ℕ)) (q : Request) → asked given ≡ Some q → want_fault (map label ms) (wanted_by q) ≡ None → request_by given handed ≡ Some q
+module _ (handed : List Handed) where
+  pub is_served : (given : List (List ℕ)) (q : Request) → asked given ≡ Some q → want_fault (map (λ (h : Handed). h.name) handed) (wanted_by q) ≡ None → request_by given handed ≡ Some q
   is_served given q e none =
-      ap (option_and_then (served handed)) e ∙ served_by (is_some (want_fault (map (λ (h : Handed). h.name) handed) (wanted_by q))) q (ap is_some (faults_same q ∙ none))
+      ap (option_and_then (served handed)) e ∙ served_by (is_some (want_fault (map (λ (h : Handed). h.name) handed) (wanted_by q))) q (ap is_some none)
 
-  pub is_heard : (given : List (List ℕ)) (q : Request) → asked given ≡ Some q → want_fault (map label ms) (wanted_by q) ≡ None
+  pub is_heard : (given : List (List ℕ)) (q : Request) → asked given ≡ Some q → want_fault (map (λ (h : Handed). h.name) handed) (wanted_by q) ≡ None
       → attached (wanted_by q) handed ≡ panel_for (request_by given handed) handed
   is_heard given q e none = sym (ap (λ x. panel_for x handed) (is_served given q e none))
 
-  pub not_served : (given : List (List ℕ)) (q : Request) → asked given ≡ Some q → is_some (want_fault (map label ms) (wanted_by q)) ≡ true → request_by given handed ≡ None
+  pub not_served : (given : List (List ℕ)) (q : Request) → asked given ≡ Some q → is_some (want_fault (map (λ (h : Handed). h.name) handed) (wanted_by q)) ≡ true → request_by given handed ≡ None
   not_served given q e some =
-      ap (option_and_then (served handed)) e ∙ unserved_by (is_some (want_fault (map (λ (h : Handed). h.name) handed) (wanted_by q))) q (ap is_some (faults_same q) ∙ some)
+      ap (option_and_then (served handed)) e ∙ unserved_by (is_some (want_fault (map (λ (h : Handed). h.name) handed) (wanted_by q))) q some
 
-  pub unheard : (given : List (List ℕ)) (q : Request) (a : told.Answered) → asked given ≡ Some q → NotAttached (want_fault (map label ms) (wanted_by q)) a
+  pub unheard : (given : List (List ℕ)) (q : Request) (a : told.Answered) → asked given ≡ Some q → NotAttached (want_fault (map (λ (h : Handed). h.name) handed) (wanted_by q)) a
       → NotAsked (request_by given handed) a
   unheard given q Usage e h = not_served given q e h
   unheard given q ReadFault e h = absurd h

@@ -1,14 +1,14 @@
 // What the words ask for, and who hears it.
 
 ghost use Rattle.std.specs.Prelude.{◌≡◌, map, string_bytes, IfOk};
-ghost use Rattle.flow_monitor.specs.Attaching.{attached, want_fault};
+ghost use Rattle.flow_monitor.specs.Attaching.{Handed, attached, want_fault};
 ghost use Rattle.flow_words.specs.Asked.{request_of};
 ghost use Rattle.flow_top.specs.Requests.{wanted_by, request_by, panel_for};
 ghost use Rattle.flow_top.specs.Outcomes.{words_outcome_of, panel_outcome_of};
 ghost use Rattle.flow_top.specs.Steps.{AsksFor, Attaches};
 
 use crate::outcome::Answered;
-use flow_monitor::{Audience, Monitor, Panel, PanelFault, Want};
+use flow_monitor::{Monitors, PanelFault, Want};
 use flow_words::{Asked, WordsFault, read_words};
 use std::alloc::Global;
 
@@ -43,18 +43,13 @@ fn wanted_by<'a>(asked: &'a Asked<'_>) -> &'a [Want]
 }
 
 // The panel of the monitors that are wanted.
-fn attach(
-    alloc: Global,
-    asked: &Asked<'_>,
-    monitors: Vec<Box<dyn Monitor>>,
-) -> Result<Panel, Answered>
-    ensures fault { Attaches (want_fault (map label monitors.items)
+fn attach<M: Monitors>(alloc: Global, asked: &Asked<'_>, monitors: M) -> Result<M, Answered>
+    ensures fault { Attaches (want_fault (map (λ (h : Handed). h.name) (M.handed monitors))
         (wanted_by (request_of asked.now))) result }
-    ensures ears { IfOk result (λ p. ⟦<Panel as Audience>⟧.ears p
-        ≡ attached (wanted_by (request_of asked.now))
-        (map (λ m. record { name = label m; begun = begun m }) monitors.items)) }
+    ensures ears { IfOk result (λ p. M.ears p
+        ≡ attached (wanted_by (request_of asked.now)) (M.handed monitors)) }
 {
-    match Panel::attach(alloc, monitors, wanted_by(asked)) {
+    match monitors.attach(alloc, wanted_by(asked)) {
         Ok(panel) => Ok(panel),
         Err(fault) => Err(panel_outcome(fault)),
     }
@@ -62,16 +57,16 @@ fn attach(
 
 /// What the words ask for, and the panel that hears it; or what the command line comes to without it. Monitors that aren't
 /// wanted are dropped.
-pub fn ask<'a>(
+pub fn ask<'a, M: Monitors>(
     alloc: Global,
     words: &'a [String],
-    monitors: Vec<Box<dyn Monitor>>,
-) -> Result<(Asked<'a>, Panel), Answered>
-    ensures asked { let handed = map (λ m. record { name = label m; begun = begun m }) monitors.items in
-        AsksFor (request_by (map string_bytes words.entry.now) handed) result }
-    ensures ears { let handed = map (λ m. record { name = label m; begun = begun m }) monitors.items in
-        IfOk result (λ a. ⟦<Panel as Audience>⟧.ears a.1
-        ≡ panel_for (request_by (map string_bytes words.entry.now) handed) handed) }
+    monitors: M,
+) -> Result<(Asked<'a>, M), Answered>
+    ensures asked { AsksFor (request_by (map string_bytes words.entry.now) (M.handed monitors))
+        result }
+    ensures ears { IfOk result (λ a. M.ears a.1
+        ≡ panel_for (request_by (map string_bytes words.entry.now) (M.handed monitors))
+        (M.handed monitors)) }
 {
     let asked = match read_words(alloc, words) {
         Ok(asked) => asked,

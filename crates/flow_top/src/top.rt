@@ -9,7 +9,7 @@ use crate::decide::decide;
 use crate::report::{report, report_told};
 use flow_base::files::Files;
 use flow_base::sink::Sink;
-use flow_monitor::Monitor;
+use flow_monitor::Monitors;
 use std::alloc::Global;
 
 /// Does what the words of the command line say, without the program's name: reads files by their
@@ -18,16 +18,15 @@ use std::alloc::Global;
 /// file W and writes what is shown of it by its text: the trace, and with `--frames` the frames and callbacks after each event, up
 /// to where a monitor says Stop that is handed in and named by `--monitor`. `exec C W` does so with the classes of the class text
 /// C, and `bench N SEED` writes the summary of a generated run.
-pub fn flow_main<F: Files, S: Sink>(
+pub fn flow_main<F: Files, S: Sink, M: Monitors>(
     alloc: Global,
     words: &[String],
     files: &mut F,
     out: &mut S,
-    monitors: Vec<Box<dyn Monitor>>,
+    monitors: M,
 ) -> u8
     ensures answers { let given = map string_bytes words.now in
-        let handed = map (λ m. record { name = label m; begun = begun m }) monitors.items in
-        Answers given handed (F.seen files.old) (F.seen files.new) (S.seen out.old)
+        Answers given (M.handed monitors) (F.seen files.old) (F.seen files.new) (S.seen out.old)
         (S.seen out.new) result }
     ensures handed { Grows (S.seen out.old).handed (S.seen out.new).handed }
 {

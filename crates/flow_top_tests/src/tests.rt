@@ -3,7 +3,7 @@
 
 use flow_base::mem_files::MemFiles;
 use flow_base::mem_sink::MemSink;
-use flow_monitor::Monitor;
+use flow_monitor::HandedIn;
 use flow_top::flow_main;
 use std::alloc::{AllocError, Global};
 
@@ -47,7 +47,7 @@ fn breaks_off_in(
     let mut files = two_files(alloc, program, world, Vec::new(alloc))?;
     let mut out = MemSink::new(alloc, vec![in alloc; failing]?);
     let words = words(alloc, texts)?;
-    let monitors: Vec<Box<dyn Monitor>> = Vec::new(alloc);
+    let monitors = HandedIn::new(alloc, Vec::new(alloc));
     let told = flow_main(alloc, &words, &mut files, &mut out, monitors);
     Ok(told == 6 && out.bytes() == text)
 }
@@ -74,7 +74,15 @@ fn failing_sink(rt: HostRuntime) -> Result<(), AllocError> {
     assert!(rt; breaks_off(alloc, &["format", "p"], HELLO, 3, lines)?);
     assert!(rt; breaks_off(alloc, &["format", "p"], b"#", 1, b"")?);
     assert!(rt; breaks_off(alloc, &["format", "p"], b"#", 2, b"refused S1 at 1:1\n")?);
-    assert!(rt; breaks_off(alloc, &["exec", "p", "w"], b"#", 2, b"refused C1 at line 1\n")?);
+    assert!(rt;
+        breaks_off(
+            alloc,
+            &["exec", "p", "w"],
+            b"#",
+            2,
+            b"refused C1 at line 1\n"
+        )?
+    );
     let summed = b"bench 1 7\nevents 12\n";
     assert!(rt; breaks_off(alloc, &["bench", "1", "7"], b"", 3, summed)?);
     Ok(())
@@ -124,7 +132,7 @@ fn tells_a_read_fault(alloc: Global, texts: &[&str]) -> Result<bool, AllocError>
     let mut files = two_files(alloc, HELLO, b"", vec![in alloc; 1]?)?;
     let mut out = MemSink::new(alloc, Vec::new(alloc));
     let words = words(alloc, texts)?;
-    let monitors: Vec<Box<dyn Monitor>> = Vec::new(alloc);
+    let monitors = HandedIn::new(alloc, Vec::new(alloc));
     let told = flow_main(alloc, &words, &mut files, &mut out, monitors);
     Ok(told == 5 && out.bytes() == b"read fault\n".as_slice())
 }
