@@ -1,6 +1,6 @@
 // The monitor live.
 
-ghost use Rattle.std.specs.Prelude.{◌≡◌, codes, get_or, set};
+ghost use Rattle.std.specs.Prelude.{◌≡◌, ℕ, List, false, codes, get_or, set};
 ghost use Rattle.std.specs.List.{sum};
 ghost use Rattle.flow_monitor.specs.Shipped.{live_of, live_first, live_ear, counts_after, one_more, one_less};
 
@@ -15,8 +15,10 @@ use flow_trace::line::Line;
 #[derive(Drop)]
 pub struct Live {
     counts: [u64; 256],
+    total: u128,
     process: ProcId,
     limit: u64,
+    ghost whole: { total ≡ sum counts },
 }
 
 impl Live {
@@ -26,6 +28,7 @@ impl Live {
     {
         Live {
             counts: [0; 256],
+            total: 0,
             process: ProcId(0),
             limit: 0,
         }
@@ -58,6 +61,16 @@ fn count(counts: &mut [u64; 256], process: ProcId, line: &Line)
     }
 }
 
+// Whether a line changes them.
+fn changes(line: &Line) -> bool
+    ensures { result ≡ false → (p : ℕ) (counts : List ℕ) → counts_after line.now p counts ≡ counts }
+{
+    matches!(
+        line,
+        Line::Start(..) | Line::Finish(_) | Line::Fail(..) | Line::Kill(..)
+    )
+}
+
 // How many there are together.
 fn total(counts: &[u64; 256]) -> u128
     ensures { result ≡ sum counts.now }
@@ -86,8 +99,11 @@ impl Monitor for Live {
     }
 
     fn line(&mut self, line: &Line) -> Heard {
-        count(&mut self.counts, self.process, line);
+        if changes(line) {
+            count(&mut self.counts, self.process, line);
+            self.total = total(&self.counts);
+        }
         self.process = process_after(self.process, line);
-        stop_above(u128::from(self.limit), total(&self.counts))
+        stop_above(u128::from(self.limit), self.total)
     }
 }
