@@ -1,0 +1,116 @@
+-- Where all texts pass and no call fails, what is due is told whole, or there was no memory.
+use Rattle.std.proofs.Common.{◌≡◌, ℕ, ◌≤◌, false, List, [], ◌∷◌, ◌++◌, length, codes, ◌⊎◌, inl, inr, Some, subst}
+use Rattle.flow_gen.specs.Generator.{program_text, generated_world}
+use Rattle.flow_tree.specs.declared.limits.TheConstants.{PROGRAM_BYTES}
+use Rattle.flow_tree.specs.Canon.{Canon}
+use Rattle.flow_tree.specs.declared.decl.Program.{Program}
+use Rattle.flow_tree.specs.DeclView.{program_of}
+use Rattle.flow_worldfile.specs.declared.TheConstants.{WORLD_BYTES}
+use Rattle.flow_worldfile.specs.Worlds.{World, seen}
+use Rattle.flow_worldfile.specs.Reading.{IsFileOf}
+use Rattle.flow_worldfile.specs.Laws.{OneVerdict as OneWorldVerdict}
+use Rattle.flow_front.specs.Verdict.{IsProgram}
+use Rattle.flow_front.specs.Laws.{OneVerdict}
+use Rattle.flow_compile_laws.specs.Frames.Framed.{SourceShown}
+use Rattle.flow_words.specs.Asked.{format, check, bench}
+use Rattle.flow_top.specs.declared.outcome.Outcome.TheVariants.{Bench}
+use Rattle.flow_top.specs.declared.outcome.Answered.TheVariants.{Passed, Formatted}
+use Rattle.flow_top.specs.declared.outcome.ProgramRun.{ProgramRun}
+use Rattle.flow_top.specs.Sources.{Source, generated, IsOf}
+use Rattle.flow_top.specs.Outcomes.{IsPassing}
+use Rattle.flow_top.specs.Due.{DueBy, IsRunFor}
+use Rattle.flow_headline.specs.Calls.{Call, AsksFor, HasFile, IsFault, read_fault, write_fault, no_memory}
+use Rattle.flow_headline.specs.Laws.{Compiles, RunTells, ExecTells}
+use Rattle.flow_headline.specs.Complete.{NoFault, formats, checks, compiles, runs, execs, benches, TellsText, TellsSummary, Complete}
+use Rattle.flow_headline.proofs.Deciding.{IsTold, IsSummed, DueFor, first, behind, text_is, told_of, bench_of, comes}
+use Rattle.flow_headline.proofs.Judging.{format_due, check_due, bench_due, bench_shows}
+use Rattle.flow_headline.proofs.Telling.{due_in}
+
+-- without a fault of files or sink there was no memory
+only_memory : (c : Call) → NoFault c → IsFault c → c.status ≡ 7
+only_memory c n (read_fault s f) = absurd (n.files f)
+only_memory c n (write_fault s f) = absurd (n.sink f)
+only_memory c n (no_memory s) = s
+
+unfailing : {A : Type 0} (c : Call) → NoFault c → A ⊎ IsFault c → A ⊎ (c.status ≡ 7)
+unfailing c n (inl x) = inl x
+unfailing c n (inr x) = inr (only_memory c n x)
+
+format_done : (c : Call) (name text : List ℕ) (p : Program) → OneVerdict text → AsksFor c (format name) → HasFile c name text → IsProgram text p
+    → TellsText c (Canon (program_of p)) ⊎ IsFault c
+format_done c name text p one asks file is = by (comes c (format name) asks)
+  where
+    told_by : (q : Program) → program_of q ≡ program_of p → IsTold (Formatted q) c.sink c.sink' c.status ⊎ IsFault c → TellsText c (Canon (program_of p)) ⊎ IsFault c
+    told_by q same (inl x) = subst (λ t. TellsText c (Canon t) ⊎ IsFault c) same (inl (x.out, x.status))
+    told_by q same (inr x) = inr x
+
+    by : DueFor c.files.content (format name) c.answers.outcome ⊎ IsFault c → TellsText c (Canon (program_of p)) ⊎ IsFault c
+    by (inr x) = inr x
+    by (inl (behind t u s of from also a b d)) = absurd cc
+    by (inl (first t of a d)) =
+        let same = text_is (c.files.content name) PROGRAM_BYTES t text file is.has.short a.0 in
+        let x = format_due text one p is name c.answers.outcome (subst (λ z. DueBy z (format name) c.answers.outcome) same d) in
+        told_by x.0 x.2 (told_of c (Formatted x.0) x.1)
+
+check_done : (c : Call) (name text : List ℕ) (p : Program) → OneVerdict text → AsksFor c (check name) → HasFile c name text → IsPassing text p
+    → TellsText c (codes "ok" ++ 10 ∷ []) ⊎ IsFault c
+check_done c name text p one asks file pass = by (comes c (check name) asks)
+  where
+    told_by : IsTold Passed c.sink c.sink' c.status ⊎ IsFault c → TellsText c (codes "ok" ++ 10 ∷ []) ⊎ IsFault c
+    told_by (inl x) = inl (x.out, x.status)
+    told_by (inr x) = inr x
+
+    by : DueFor c.files.content (check name) c.answers.outcome ⊎ IsFault c → TellsText c (codes "ok" ++ 10 ∷ []) ⊎ IsFault c
+    by (inr x) = inr x
+    by (inl (behind t u s of from also a b d)) = absurd cc
+    by (inl (first t of a d)) =
+        let same = text_is (c.files.content name) PROGRAM_BYTES t text file pass.sound.typed.read.has.short a.0 in
+        told_by (told_of c Passed (check_due text one p pass name c.answers.outcome (subst (λ z. DueBy z (check name) c.answers.outcome) same d)))
+
+-- the text of a generated source
+own_text : (own : List ℕ) (s : Source) (text : List ℕ) → Some (generated own) ≡ Some s → IsOf s text → text ≡ own
+own_text own s text e h = subst (λ z. IsOf z text) (same e) h
+  where
+    same : {x y : Source} → Some x ≡ Some y → y ≡ x
+    same k = cc
+
+module _ (c : Call) (clients seed : ℕ) (p : Program) (w : World) (one : OneVerdict (program_text clients)) (once : OneWorldVerdict) (asks : AsksFor c (bench clients seed))
+    (pass : IsPassing (program_text clients) p) (short : length (generated_world seed) ≤ WORLD_BYTES) (is : IsFileOf (generated_world seed) w) where
+  abbrev Summed : Type 0
+  Summed = TellsSummary c clients seed (SourceShown false (program_of p) w) ⊎ IsFault c
+
+  bench_tells : (m : ProgramRun) → c.answers.outcome ≡ Bench (record { run = m; clients = clients; seed = seed }) → m.frames ≡ false → seen m.world ≡ w
+      → IsRunFor (program_text clients) (bench clients seed) m.meant m.classes → Summed
+  bench_tells m e frames at run = by (bench_of c (record { run = m; clients = clients; seed = seed }) e)
+    where
+      by : IsSummed (record { run = m; clients = clients; seed = seed }) c.sink c.sink' c.status ⊎ IsFault c → Summed
+      by (inr x) = inr x
+      by (inl x) =
+          let shown = bench_shows (program_text clients) one p pass clients seed m.meant m.classes run.is_run run.is_meant m.frames m.world x.lines x.shown in
+          inl (record {
+            lines = x.lines;
+            is = subst (λ z. SourceShown false (program_of p) z x.lines) at (subst (λ z. SourceShown z (program_of p) (seen m.world) x.lines) frames shown);
+            ending = x.ending;
+            last = x.last;
+            out = x.out;
+            status = x.status;
+          })
+
+  bench_done : Summed
+  bench_done = by (comes c (bench clients seed) asks)
+    where
+      by : DueFor c.files.content (bench clients seed) c.answers.outcome ⊎ IsFault c → Summed
+      by (inr x) = inr x
+      by (inl (first t of a d)) = bench_due (program_text clients) one p pass clients seed c.answers.outcome (subst (λ z. DueBy z (bench clients seed) c.answers.outcome) of d)
+      by (inl (behind t u s of from also a b d)) =
+          due_in once (bench clients seed) w (generated_world seed) short is t u c.answers.outcome (own_text (generated_world seed) s u from also) d
+          (λ m run e at frames. bench_tells m e frames at (subst (λ z. IsRunFor z (bench clients seed) m.meant m.classes) of run))
+
+pub complete : ((text : List ℕ) → OneVerdict text) → OneWorldVerdict → Compiles → RunTells → ExecTells → Complete
+complete one once compiles_law run_law exec_law c _ (formats name text p file is) asks n = unfailing c n (format_done c name text p (one text) asks file is)
+complete one once compiles_law run_law exec_law c _ (checks name text p file pass) asks n = unfailing c n (check_done c name text p (one text) asks file pass)
+complete one once compiles_law run_law exec_law c _ (compiles name text p file pass) asks n = unfailing c n (compiles_law c name text p asks file pass)
+complete one once compiles_law run_law exec_law c _ (runs r text p w file pass world) asks n = unfailing c n (run_law c r text p w asks file pass world)
+complete one once compiles_law run_law exec_law c _ (execs r text classes w file read world) asks n = unfailing c n (exec_law c r text classes w asks file read world)
+complete one once compiles_law run_law exec_law c _ (benches clients seed p w pass short is) asks n =
+    unfailing c n (bench_done c clients seed p w (one (program_text clients)) once asks pass short is)

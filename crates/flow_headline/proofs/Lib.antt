@@ -1,0 +1,5 @@
+pub mod Reading
+pub mod Deciding
+pub mod Judging
+pub mod Telling
+pub mod Complete

@@ -1,0 +1,5 @@
+use Rattle.flow_headline.proofs.Complete.{complete}
+use Rattle.flow_headline.proofs.laws.complete.Goals as goal
+
+pub returns : goal.returns
+returns c = complete c.one_verdict.ensures c.one_verdict-2.ensures c.compiles.ensures c.exec_is_run.ensures.run c.exec_is_run.ensures.classes

@@ -1,0 +1,71 @@
+-- Which answers there are where all texts pass and no call fails.
+use Rattle.std.specs.Prelude.{◌≡◌, ◌⊎◌, ◌≤◌, ℕ, false, List, [], ◌∷◌, ◌++◌, codes, length, Ok}
+use Rattle.flow_base.specs.Faults.{Rose, next_count}
+use Rattle.flow_gen.specs.Generator.{program_text, generated_world}
+use Rattle.flow_tree.specs.Canon.{Canon}
+use Rattle.flow_tree.specs.declared.decl.Program.{Program}
+use Rattle.flow_tree.specs.DeclView.{program_of}
+use Rattle.flow_trace.specs.declared.line.Line.{Line}
+use Rattle.flow_worldfile.specs.declared.TheConstants.{WORLD_BYTES}
+use Rattle.flow_worldfile.specs.Worlds.{World}
+use Rattle.flow_worldfile.specs.Reading.{IsFileOf}
+use Rattle.flow_class.specs.declared.class.RawClasses.{RawClasses}
+use Rattle.flow_class.specs.View.{raw_of}
+use Rattle.flow_classread.specs.ClassAnswer.{ClassAnswer}
+use Rattle.flow_front.specs.Verdict.{IsProgram}
+use Rattle.flow_compile_laws.specs.Frames.Framed.{SourceShown, ClassShown}
+use Rattle.flow_words.specs.Asked.{Request, RunRequest, format, check, compile, run, exec, bench}
+use Rattle.flow_world.specs.declared.ending.Ending.{Ending}
+use Rattle.flow_world.specs.Ends.{end_line, LastIs}
+use Rattle.flow_top.specs.Outcomes.{IsPassing}
+use Rattle.flow_top.specs.Summary.{summary_text}
+use Rattle.flow_top.specs.Told.{GoesOut, ending_status}
+use Rattle.flow_headline.specs.Calls.{Call, AsksFor, HasFile, HasWorld, TellsLines, ears_of}
+use Rattle.flow_headline.specs.Laws.{TellsClasses}
+
+-- no call of the files failed and none of the sink, as their counts show
+pub record NoFault (c : Call) : Type 0 where
+  pub files : c.files'.faults ≡ next_count c.files.faults → ⊥
+  pub sink : Rose c.sink.faults c.sink'.faults → ⊥
+
+-- The texts that a request is about pass their rules and limits.
+pub data TextsPass (c : Call) : Request → Type 0 where
+  formats : (name text : List ℕ) (p : Program) → HasFile c name text → IsProgram text p → TextsPass c (format name)
+  checks : (name text : List ℕ) (p : Program) → HasFile c name text → IsPassing text p → TextsPass c (check name)
+  compiles : (name text : List ℕ) (p : Program) → HasFile c name text → IsPassing text p → TextsPass c (compile name)
+  runs : (r : RunRequest) (text : List ℕ) (p : Program) (w : World) → HasFile c r.what text → IsPassing text p → HasWorld c r.world w
+      → TextsPass c (run r)
+  execs : (r : RunRequest) (text : List ℕ) (classes : RawClasses) (w : World) → HasFile c r.what text → ClassAnswer text (Ok classes)
+      → HasWorld c r.world w → TextsPass c (exec r)
+  benches : (clients seed : ℕ) (p : Program) (w : World) → IsPassing (program_text clients) p → length (generated_world seed) ≤ WORLD_BYTES
+      → IsFileOf (generated_world seed) w → TextsPass c (bench clients seed)
+
+-- the lines that are told
+abbrev pub TellsAll : Call → Request → (shown : List Line → Type 0) → Type 0
+TellsAll c q shown = (lines : List Line) × shown lines × TellsLines c (ears_of c q) lines
+
+-- The summary of the lines that are shown of a program was written and handed on, with the status of the end.
+pub record TellsSummary (c : Call) (clients seed : ℕ) (shown : List Line → Type 0) : Type 0 where
+  pub lines : List Line
+  pub is : shown lines
+  pub ending : Ending
+  pub last : LastIs (end_line ending) lines
+  pub out : GoesOut c.sink c.sink' (summary_text clients seed lines (end_line ending))
+  pub status : c.status ≡ ending_status ending
+
+-- a whole text was written and handed on, with status 0
+abbrev pub TellsText : Call → List ℕ → Type 0
+TellsText c text = GoesOut c.sink c.sink' text × (c.status ≡ 0)
+
+-- what is due then was told whole
+abbrev pub IsDone : (c : Call) (q : Request) → TextsPass c q → Type 0
+IsDone c _ (formats name text p file is) = TellsText c (Canon (program_of p))
+IsDone c _ (checks name text p file pass) = TellsText c (codes "ok" ++ 10 ∷ [])
+IsDone c _ (compiles name text p file pass) = TellsClasses c (program_of p)
+IsDone c _ (runs r text p w file pass world) = TellsAll c (run r) (SourceShown r.frames (program_of p) w)
+IsDone c _ (execs r text classes w file read world) = TellsAll c (exec r) (ClassShown r.frames (raw_of classes) w)
+IsDone c _ (benches clients seed p w pass short is) = TellsSummary c clients seed (SourceShown false (program_of p) w)
+
+-- Or there was no memory, with status 7.
+abbrev pub Complete : Type 0
+Complete = (c : Call) (q : Request) (texts : TextsPass c q) → AsksFor c q → NoFault c → IsDone c q texts ⊎ (c.status ≡ 7)

@@ -1,0 +1,4 @@
+pub mod ReadBack
+pub mod Calls
+pub mod Laws
+pub mod Complete
