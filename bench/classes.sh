@@ -2,7 +2,8 @@
 # Times the reading and judging of class text, best of five runs each, with the peak of memory: what 1 MiB of mixed program text is compiled
 # to; some 16 MB of such text, and half of it; and 16 MiB of single signs, which are refused. Each class text has a `main` that ends at
 # once, so that `exec` of it takes no time for the run.
-# Usage: bench/classes.sh [COMMAND], after `./flow build`; COMMAND runs in its place.
+# Usage: bench/classes.sh [COMMAND], after `./flow build`; COMMAND runs in its place. bench/classes.sh --mixed writes the program text of the
+# first of these.
 set -e
 top=$(cd "$(dirname "$0")/.." && pwd)
 command=${1:-$top/crates/flow_prog/out/flow_prog}
@@ -23,6 +24,8 @@ mixed() {
         print "ACTOR Future<Void> main(int p) {\n    return Void();\n}"
     }'
 }
+
+[ "$1" != --mixed ] || { mixed 0; exit; }
 
 # The class texts of so many parts as one: the records and functions first, and `main` of the first part alone.
 joined() {

@@ -3,7 +3,7 @@
 # without a refusal. Of each command the first 100 allocations are refused one by one, and of those after them one in so many that 100 more
 # are tried at least, where there are as many. It prints how often memory was wanting and how often all was out, and fails where it was
 # neither. Usage: bench/memory.sh [COMMAND], after `./flow build`; COMMAND, a program that takes its memory from `malloc` and `realloc` of a
-# shared C library, runs in its place. A command that isn't known is passed over.
+# shared C library, runs in its place.
 set -e
 top=$(cd "$(dirname "$0")/.." && pwd)
 command=${1:-$top/crates/flow_prog/out/flow_prog}
@@ -53,10 +53,6 @@ try() {
     name=$1
     shift
     run 0 "$@"
-    if [ "$status" = 2 ]; then
-        echo "$name: not a command yet"
-        return
-    fi
     whole=$status
     mv "$work/out" "$work/whole"
     calls=$(cat "$work/calls")
@@ -86,4 +82,6 @@ first=$top/examples/second_operand_never_starts
 try "compile second_operand_never_starts" compile "$first.flow"
 "$command" compile "$first.flow" >"$work/classes"
 try "exec of these classes" exec "$work/classes" "$first.world"
+try "run with monitors" run "$top/examples/stop_cancels_in_order.flow" "$top/examples/stop_cancels_in_order.world" --monitor live=3,errors=1
+try "bench" bench 3 42
 exit $wrong

@@ -6,7 +6,6 @@ ghost use Rattle.flow_trace.specs.Groups.{is_event};
 ghost use Rattle.flow_top.specs.Summary.{is_start, is_throw, is_print, one_if, CountsLine};
 
 use flow_base::fault::OutFault;
-use flow_monitor::Audience;
 use flow_trace::line::Line;
 use flow_trace::out::LineOut;
 
@@ -100,21 +99,5 @@ impl LineOut for Counts {
 
     fn faults(&self) -> u64 {
         0
-    }
-}
-
-/// No monitor: nobody hears a line.
-#[derive(Clone, Copy, Drop)]
-pub struct Nobody;
-
-impl Audience for Nobody {
-    ghost ears = { λ _. [] };
-
-    fn hear(&mut self, _line: &Line) -> Option<usize> {
-        None
-    }
-
-    fn name(&self, _k: usize) -> &str {
-        unreachable!()
     }
 }

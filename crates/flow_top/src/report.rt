@@ -12,7 +12,7 @@ ghost use Rattle.flow_world.specs.declared.run_ending.RunEnding.TheVariants.{Own
 ghost use Rattle.flow_top.specs.Outcomes.{text_of, status_of, world_status, MayRun, MayTell};
 ghost use Rattle.flow_top.specs.Told.{ending_status, run_status, fault_status_of, GoesOut, GoesOutInPart, ReportedTold, ReportedRun, IsCounted, ReportedBench, Reported};
 
-use crate::counting::{Counts, Nobody};
+use crate::counting::Counts;
 use crate::outcome::{Answered, BenchRun, Outcome, ProgramRun};
 use crate::summary::summary;
 use flow_base::fault::OutFault;
@@ -22,7 +22,7 @@ use flow_base::sink::Sink;
 use flow_classprint::write_classes;
 use flow_classread::fault::ClassFault;
 use flow_machine::host::RunFault;
-use flow_monitor::Audience;
+use flow_monitor::{Audience, Panel};
 use flow_refusal::{class_line, class_status, refusal_line, refusal_status, world_line};
 use flow_show::show::{show_lines, write_lines};
 use flow_tree::fault::SourceFault;
@@ -240,8 +240,9 @@ fn count_run(alloc: Global, run: ProgramRun) -> Result<(Ending, Counts), NoMemor
         world,
         frames,
     } = run;
+    let mut nobody = Panel::empty(alloc);
     let mut counts = Counts::new();
-    match put_trace(alloc, classes, world, frames, &mut Nobody, &mut counts) {
+    match put_trace(alloc, classes, world, frames, &mut nobody, &mut counts) {
         Ok(ending) => Ok((own_ending(ending), counts)),
         Err(_) => Err(NoMemory),
     }
