@@ -6,6 +6,10 @@ use Rattle.flow_class.specs.View.{raw_of}
 use Rattle.flow_classprint.specs.ClassText.{ClassText}
 use Rattle.flow_valid.specs.Validity.{IsValid}
 use Rattle.flow_meaning.specs.Placeless.{placeless_classes}
+use Rattle.flow_tree.specs.DeclView.{program_of}
+use Rattle.flow_lower.specs.Compiled.{compiled}
+use Rattle.flow_validity_laws.proofs.Filled.{all_valid}
+use Rattle.flow_class_text_laws.proofs.Compiled.{class_text_exists}
 use Rattle.flow_class_places_laws.specs.Laws.{AreReadBack}
 use Rattle.flow_class_places_laws.proofs.Validity.{breach_over}
 use Rattle.flow_class_places_laws.proofs.ReadBack.Texts.{class_text_read_back}
@@ -13,7 +17,8 @@ use Rattle.flow_classread.specs.declared.fault.ClassFault.{ClassFault}
 use Rattle.flow_classread.specs.declared.fault.ClassFault.TheVariants.{Form, Invalid, TooLarge, OutOfMemory}
 use Rattle.flow_classread.specs.declared.read.TheConstants.{CLASS_BYTES}
 use Rattle.flow_classread.specs.ClassAnswer.{DerivesClasses, IsClassText, BreaksFirst, ClassAnswer}
-use Rattle.flow_class_reading_laws.specs.Laws.{IsReadAs, WrittenIsReadBack}
+use Rattle.flow_class_reading_laws.specs.Laws.{IsReadAs, WrittenIsReadBack, CompiledIsReadBack, ReadIsReadBack}
+use Rattle.flow_class_reading_laws.proofs.Written.{reads_written}
 use Rattle.flow_class_reading_laws.proofs.Once.{same_spots, no_failure, valid_unbroken}
 
 module _ (raw : RawTree) (b : AreReadBack raw) where
@@ -35,3 +40,10 @@ module _ (raw : RawTree) (b : AreReadBack raw) where
 
 pub written_is_read_back : WrittenIsReadBack
 written_is_read_back raw answer written v short a = reads_back raw (class_text_read_back raw written) answer v short a
+
+pub compiled_is_read_back : CompiledIsReadBack
+compiled_is_read_back text program answer sound light short a =
+    written_is_read_back (compiled (program_of program)) answer (class_text_exists text program sound light) (all_valid text program sound) short a
+
+pub read_is_read_back : ReadIsReadBack
+read_is_read_back bytes raw answer t v short a = written_is_read_back raw answer (reads_written bytes raw t) v short a

@@ -1,5 +1,10 @@
 -- What holds of class text that is read.
 use Rattle.std.specs.Prelude.{◌≡◌, ℕ, ◌≤◌, List, length, Result, Ok, Err}
+use Rattle.flow_tree.specs.declared.decl.Program.{Program}
+use Rattle.flow_tree.specs.DeclView.{program_of}
+use Rattle.flow_front.specs.Verdict.{IsSound}
+use Rattle.flow_lower.specs.Compiled.{compiled}
+use Rattle.flow_class_text_laws.specs.Laws.{AreLight}
 use Rattle.flow_class.specs.declared.class.RawClasses.{RawClasses}
 use Rattle.flow_class.specs.Classes.{RawTree}
 use Rattle.flow_class.specs.View.{raw_of}
@@ -43,3 +48,16 @@ abbrev pub WrittenIsReadBack : Type 0
 WrittenIsReadBack =
     (raw : RawTree) (answer : Result RawClasses ClassFault) → IsWritten raw → IsValid raw → length (ClassText raw) ≤ CLASS_BYTES
     → ClassAnswer (ClassText raw) answer → IsReadAs raw answer
+
+-- So are the classes of a text that the front accepts, in which no actor weighs too much;
+abbrev pub CompiledIsReadBack : Type 0
+CompiledIsReadBack =
+    (text : List ℕ) (program : Program) (answer : Result RawClasses ClassFault) → IsSound text program → AreLight program
+    → length (ClassText (compiled (program_of program))) ≤ CLASS_BYTES
+    → ClassAnswer (ClassText (compiled (program_of program))) answer → IsReadAs (compiled (program_of program)) answer
+
+-- and those that were read.
+abbrev pub ReadIsReadBack : Type 0
+ReadIsReadBack =
+    (bytes : List ℕ) (raw : RawTree) (answer : Result RawClasses ClassFault) → IsClassText bytes raw → IsValid raw
+    → length (ClassText raw) ≤ CLASS_BYTES → ClassAnswer (ClassText raw) answer → IsReadAs raw answer

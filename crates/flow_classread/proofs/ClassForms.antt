@@ -96,7 +96,14 @@ local_turns n o h = record {
     of : (w z : List Marked) (b : TypeTree) → LocalRule n w b → Back (LocalRule n) Any (LocalShape n) Any (λ x. x.1) w z b
     of w z b (local p q r inner k ht e) = record {
       tree = (q, b);
-      rule = record { first = said (codes "local") p ∷ number_at n q ∷ []; rest = inner ++ sign_at sign.Semicolon r ∷ []; is = e; front = (p, number_at n q ∷ [], refl, refl); back = (r, inner, ht, refl) };
+      rule =
+          record {
+            first = said (codes "local") p ∷ number_at n q ∷ [];
+            rest = inner ++ sign_at sign.Semicolon r ∷ [];
+            is = e;
+            front = (p, number_at n q ∷ [], refl, refl);
+            back = (r, inner, ht, refl);
+          };
       is = refl;
       follows = tt;
     }
@@ -116,16 +123,19 @@ some_blocks =
 blocks_link : Link (BlockRule 0) Any (λ b. NumberedRule BlockRule 1) (λ x. NotFirst (IsWord (codes "block")) x.1)
 blocks_link = free (λ b. record { marked = []; tree = []; rule = none })
 
-blocks_turns : (o : Option Token) → Turns Blocks (NotBefore (token.Name (codes "block"))) (Both (BlockRule 0) (NumberedRule BlockRule 1)) (λ x. NotFirst (IsWord (codes "block")) x.1) (λ x. x.0 ∷ x.1) o
+blocks_turns : (o : Option Token)
+    → Turns Blocks (NotBefore (token.Name (codes "block"))) (Both (BlockRule 0) (NumberedRule BlockRule 1)) (λ x. NotFirst (IsWord (codes "block")) x.1) (λ x. x.0 ∷ x.1) o
 blocks_turns o = record { back = λ w z b r f l. of w z b r.0 f r.1; forth = λ w x r. (omega arith, next r.first r.rest r.front r.back r.is) }
   where
     of : (w z : List Marked) (b : List BlockTree) → 0 < length b → NotBefore (token.Name (codes "block")) b z → NumberedRule BlockRule 0 w b
         → Back Blocks (NotBefore (token.Name (codes "block"))) (Both (BlockRule 0) (NumberedRule BlockRule 1)) (λ x. NotFirst (IsWord (codes "block")) x.1) (λ x. x.0 ∷ x.1) w z b
     of w z b h f none = absurd (omega (arith, h))
-    of w z b h f (next {x = x} {xs = xs} first rest r s e) = record { tree = (x, xs); rule = record { first = first; rest = rest; is = e; front = r; back = s }; is = refl; follows = not_before (token.Name (codes "block")) b xs z f }
+    of w z b h f (next {x = x} {xs = xs} first rest r s e) =
+        record { tree = (x, xs); rule = record { first = first; rest = rest; is = e; front = r; back = s }; is = refl; follows = not_before (token.Name (codes "block")) b xs z f }
 
 module _ (t : Tokens) (at : ℕ) (within : at ≤ length t.spots.items) where
-  pub blocks_left : Leaves OF_CLASS_TEXT Blocks (NotBefore (token.Name (codes "block"))) (Both (BlockRule 0) (NumberedRule BlockRule 1)) (λ x. NotFirst (IsWord (codes "block")) x.1) (λ x. x.0 ∷ x.1) t.spots.items at at
+  pub blocks_left : Leaves OF_CLASS_TEXT Blocks (NotBefore (token.Name (codes "block"))) (Both (BlockRule 0) (NumberedRule BlockRule 1)) (λ x. NotFirst (IsWord (codes "block")) x.1) (λ x. x.0 ∷ x.1)
+      t.spots.items at at
   blocks_left = narrow OF_CLASS_TEXT t.spots.items refl (blocks_turns (token_at t.spots.items at)) (nothing OF_CLASS_TEXT t.spots.items Blocks (NotBefore (token.Name (codes "block"))) at within)
 
   pub first_block : Link (BlockRule 0) Any (λ b. NumberedRule BlockRule 1) (λ x. NotFirst (IsWord (codes "block")) x.1)
@@ -133,7 +143,8 @@ module _ (t : Tokens) (at : ℕ) (within : at ≤ length t.spots.items) where
 
   pub blocks_init : (to n : ℕ) (bs : List Block) (b : Block) → n ≡ 1 → bs ≡ b ∷ [] → Reads OF_CLASS_TEXT (BlockRule 0) Any t.spots.items at (block_of b) to
       → Leaves OF_CLASS_TEXT Blocks (NotBefore (token.Name (codes "block"))) (NumberedRule BlockRule n) (NotFirst (IsWord (codes "block"))) (λ ys. map block_of bs ++ ys) t.spots.items at to
-  blocks_init to n bs b e q r = subst (λ i. Leaves OF_CLASS_TEXT Blocks (NotBefore (token.Name (codes "block"))) (NumberedRule BlockRule i) (NotFirst (IsWord (codes "block"))) (λ ys. map block_of bs ++ ys) t.spots.items at to)
+  blocks_init to n bs b e q r =
+      subst (λ i. Leaves OF_CLASS_TEXT Blocks (NotBefore (token.Name (codes "block"))) (NumberedRule BlockRule i) (NotFirst (IsWord (codes "block"))) (λ ys. map block_of bs ++ ys) t.spots.items at to)
       (sym e) (means OF_CLASS_TEXT t.spots.items (λ ys. map block_of bs ++ ys) (λ ys. ap (λ z. map block_of z ++ ys) (sym q)) (then_reads OF_CLASS_TEXT t.spots.items blocks_link blocks_left r))
 
   -- a list whose items all begin with one word
@@ -211,7 +222,8 @@ class_params_link = free (λ n. some_behind (token.Sign sign.OpenCurly) ClassBod
 after_blocks : (b : List (List CallbackTree)) (v : List Marked) → GroupsEnd v b → Starts (λ t. (t ≡ token.Name (codes "group")) ⊎ (t ≡ token.Sign sign.CloseCurly)) v
 after_blocks b v r = of b r.0 r.1 r.2 r.3
   where
-    of : (b : List (List CallbackTree)) (p : Place) (inner : List Marked) → GroupsRule 1 0 inner b → v ≡ inner ++ sign_at sign.CloseCurly p ∷ [] → Starts (λ t. (t ≡ token.Name (codes "group")) ⊎ (t ≡ token.Sign sign.CloseCurly)) v
+    of : (b : List (List CallbackTree)) (p : Place) (inner : List Marked) → GroupsRule 1 0 inner b → v ≡ inner ++ sign_at sign.CloseCurly p ∷ []
+        → Starts (λ t. (t ≡ token.Name (codes "group")) ⊎ (t ≡ token.Sign sign.CloseCurly)) v
     of b p k no_groups e = subst (Starts (λ t. (t ≡ token.Name (codes "group")) ⊎ (t ≡ token.Sign sign.CloseCurly))) (sym e) (inr refl)
     of b p k (more_groups q r s u inner more hg le ns gs f) e =
         subst (Starts (λ t. (t ≡ token.Name (codes "group")) ⊎ (t ≡ token.Sign sign.CloseCurly))) (sym (e ∙ ap (λ y. y ++ sign_at sign.CloseCurly p ∷ []) f)) (inl refl)
@@ -295,7 +307,8 @@ class_turns o = record {
       let h = g.back in
       let i = h.back in
       let j = i.back in
-      class_of_blocks x.0.name x.1.0 x.1.1.0 x.1.1.1.0 x.1.1.1.1.0 x.1.1.1.1.1.0 x.1.1.1.1.1.1 r.0 x.0.at b.0 d.0 e.front.0 f.0 j.0 c.first g.first h.first i.first j.1 c.front e.front.1 g.front h.front
+      class_of_blocks x.0.name x.1.0 x.1.1.0 x.1.1.1.0 x.1.1.1.1.0 x.1.1.1.1.1.0 x.1.1.1.1.1.1 r.0 x.0.at b.0 d.0 e.front.0 f.0 j.0 c.first g.first h.first i.first j.1 c.front e.front.1 g.front
+      h.front
       i.front.0 i.front.1 j.2
       (then_same r.3 (one_then a.is a.front (then_same b.3 (part_then c.first c.is (then_same d.3 (one_then e.is e.front.2 (then_same f.3
       (part_then g.first g.is (part_then h.first h.is (part_then i.first i.is j.3))))))))));
@@ -340,7 +353,15 @@ class_turns o = record {
                           rest = locals ++ (blocks ++ end);
                           is = refl;
                           front = hs;
-                          back = record { first = locals; rest = blocks ++ end; is = refl; front = hl; back = record { first = blocks; rest = end; is = refl; front = (omega arith, hb); back = (k, groups, hg, refl) } };
+                          back =
+                              record {
+                                first = locals;
+                                rest = blocks ++ end;
+                                is = refl;
+                                front = hl;
+                                back = record
+                                    { first = blocks; rest = end; is = refl; front = (omega arith, hb); back = (k, groups, hg, refl) };
+                              };
                         },
                         refl,
                       );

@@ -109,7 +109,13 @@ module _ (t : Tokens) where
     spots = t.spots.items;
     end = t.end;
     lexes = l;
-    derives = record { marked = r.marked; rule = r.rule; is = sym (r.is ∙ ap (λ z. spots_of r.marked ++ z) (drop_all (length t.spots.items) t.spots.items (omega arith)) ∙ append-nil (spots_of r.marked)); keeps = r.keeps };
+    derives =
+        record {
+          marked = r.marked;
+          rule = r.rule;
+          is = sym (r.is ∙ ap (λ z. spots_of r.marked ++ z) (drop_all (length t.spots.items) t.spots.items (omega arith)) ∙ append-nil (spots_of r.marked));
+          keeps = r.keeps;
+        };
     only = λ other d. (r.only 7 (suc (length t.spots.items)) d.marked [] other d.rule refl (omega arith)
         (subst (Sees OF_CLASS_TEXT 7 (suc (length t.spots.items)) t.spots.items) (sym (append-nil d.marked))
         (subst (λ ts. Sees OF_CLASS_TEXT 7 (suc (length t.spots.items)) ts d.marked) d.is (sees_all OF_CLASS_TEXT 7 (suc (length t.spots.items)) d.marked d.keeps)))).0;

@@ -45,7 +45,8 @@ none_turns = record { back = λ w z b r f l. of w z b r.0 r.1 r.2.0 r.3 l; forth
     of w z b p k no_args e l = record { tree = p; rule = e; is = refl; follows = tt }
     of w z b p k (some_args first more r s f) e l =
         absurd (opens_expr (more ++ (sign_at sign.CloseRound p ∷ z)) r (subst (Looks (Some (token.Sign sign.CloseRound)))
-        (ap (λ y. y ++ z) (e ∙ ap (λ y. y ++ sign_at sign.CloseRound p ∷ []) f) ∙ append_assoc (first ++ more) (sign_at sign.CloseRound p ∷ []) z ∙ append_assoc first more (sign_at sign.CloseRound p ∷ z)) l))
+        (ap (λ y. y ++ z) (e ∙ ap (λ y. y ++ sign_at sign.CloseRound p ∷ []) f) ∙ append_assoc (first ++ more) (sign_at sign.CloseRound p ∷ []) z ∙ append_assoc first more
+        (sign_at sign.CloseRound p ∷ z)) l))
 
 pub first_turns : (o : Option Token) → (o ≡ Some (token.Sign sign.CloseRound) → ⊥) → Turns Args Any (Both WholeRule MoreArgs) Any (λ x. MoreExprs x.0 x.1) o
 first_turns o nope = record {
@@ -88,7 +89,8 @@ comma_turns = record {
       );
 }
   where
-    of : (w z : List Marked) (b : ExprTrees) (p : Place) (of : List Marked) → MoreArgsRule 1 of b → AllAreFree b → w ≡ of ++ sign_at sign.CloseRound p ∷ [] → Looks (Some (token.Sign sign.Comma)) (w ++ z)
+    of : (w z : List Marked) (b : ExprTrees) (p : Place) (of : List Marked) → MoreArgsRule 1 of b → AllAreFree b → w ≡ of ++ sign_at sign.CloseRound p ∷ []
+        → Looks (Some (token.Sign sign.Comma)) (w ++ z)
         → Back MoreArgs Any (Behind (token.Sign sign.Comma) (Both WholeRule MoreArgs)) Any (λ x. MoreExprs x.0 x.1) w z b
     of w z b p k end_args h e l = absurd (let q = looks_is (Some (token.Sign sign.Comma)) (sign_at sign.CloseRound p) [] z e l in cc)
     of w z b p k (more_args {t = t} {ts = ts} q next more r s f) h e l = record {

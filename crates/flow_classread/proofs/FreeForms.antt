@@ -247,8 +247,17 @@ mutual
   expr_free {d = d} (method p q r g of args t a e) f b v h =
       let tail = sign_at sign.Dot p ∷ name_at g ∷ in_round q args r [] in
       subst (λ k. FreeMarks b (k ++ v)) (sym e) (subst (FreeMarks b) (sym (append_assoc (begin (Node d) of) tail v))
-      (begin_free b (Node d) of (tail ++ v) (expr_free t f.0 b (tail ++ v)
-      ((λ y. absurd (no_true y)), ((λ y. inl refl), ((λ y. absurd (no_true y)), subst (FreeMarks false) (sym (round args v r)) (args_free a f.1 (sign_at sign.CloseRound r ∷ v) ((λ x. absurd (no_true x)), h))))))))
+      (begin_free b (Node d) of (tail ++ v) (expr_free t f.0 b (tail ++ v) (
+        (λ y. absurd (no_true y)),
+        (
+          (λ y. inl refl),
+          (
+            (λ y. absurd (no_true y)),
+            subst (FreeMarks false) (sym (round args v r))
+                (args_free a f.1 (sign_at sign.CloseRound r ∷ v) ((λ x. absurd (no_true x)), h)),
+          ),
+        ),
+      ))))
   expr_free (negation p of le r e) f b v h = subst (λ k. FreeMarks b (k ++ v)) (sym e) ((λ x. absurd (no_true x)), expr_free r f false v h)
   expr_free (minus p of le r e) f b v h = subst (λ k. FreeMarks b (k ++ v)) (sym e) ((λ x. absurd (no_true x)), expr_free r f false v h)
   expr_free {d = d} (binary op p left right le a c e) f b v h =

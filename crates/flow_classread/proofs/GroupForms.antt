@@ -64,7 +64,8 @@ waits true = token.Word word.WaitNext
 waits false = token.Word word.Wait
 
 operand_of : {w : List Marked} {next : Bool} {e : ExprTree} → OperandRule 0 w next e → AreFree e → Behind (waits next) Test w e
-operand_of (wait p q r of h e) f = (p, sign_at sign.OpenRound q ∷ (of ++ sign_at sign.CloseRound r ∷ []), (q, of ++ sign_at sign.CloseRound r ∷ [], (r, of, record { rule = h; free = f }, refl), refl), e)
+operand_of (wait p q r of h e) f =
+    (p, sign_at sign.OpenRound q ∷ (of ++ sign_at sign.CloseRound r ∷ []), (q, of ++ sign_at sign.CloseRound r ∷ [], (r, of, record { rule = h; free = f }, refl), refl), e)
 operand_of (wait_next p q r of h e) f =
     (p, sign_at sign.OpenRound q ∷ (of ++ sign_at sign.CloseRound r ∷ []), (q, of ++ sign_at sign.CloseRound r ∷ [], (r, of, record { rule = h; free = f }, refl), refl), e)
 
@@ -177,10 +178,12 @@ close_turns room k = record { back = λ w z b r f l. of w z b r.1.0 r.1.1 r.1.2 
     of w z b p j (next first rest r s f) e l =
         let x = starts_of first (rest ++ (sign_at sign.CloseCurly p ∷ z)) (callback_starts r)
         (subst (Looks (Some (token.Sign sign.CloseCurly)))
-        (ap (λ y. y ++ z) (e ∙ ap (λ y. y ++ sign_at sign.CloseCurly p ∷ []) f) ∙ append_assoc (first ++ rest) (sign_at sign.CloseCurly p ∷ []) z ∙ append_assoc first rest (sign_at sign.CloseCurly p ∷ z)) l) in
+        (ap (λ y. y ++ z) (e ∙ ap (λ y. y ++ sign_at sign.CloseCurly p ∷ []) f) ∙ append_assoc (first ++ rest) (sign_at sign.CloseCurly p ∷ []) z ∙ append_assoc first rest
+        (sign_at sign.CloseCurly p ∷ z)) l) in
         absurd (cc)
       where
-        starts_of : (w z : List Marked) → Starts (λ t. t ≡ token.Name (codes "callback")) w → Looks (Some (token.Sign sign.CloseCurly)) (w ++ z) → token.Name (codes "callback") ≡ token.Sign sign.CloseCurly
+        starts_of : (w z : List Marked) → Starts (λ t. t ≡ token.Name (codes "callback")) w → Looks (Some (token.Sign sign.CloseCurly)) (w ++ z)
+            → token.Name (codes "callback") ≡ token.Sign sign.CloseCurly
         starts_of [] z h l = absurd h
         starts_of (y ∷ w) z h l = sym h ∙ l
 
@@ -209,10 +212,12 @@ callbacks_of room k w x r =
     let m = r.back.1 in
     (omega (arith, r.back.0), (m.0, r.first ++ m.1, next r.first m.1 r.front m.2 refl, r.is ∙ ap (λ y. r.first ++ y) m.3 ∙ sym (append_assoc r.first m.1 (sign_at sign.CloseCurly m.0 ∷ []))))
 
-more_turns : (room k : ℕ) (o : Option Token) → (o ≡ Some (token.Sign sign.CloseCurly) → ⊥) → Turns (MoreCallbacks (suc room) k) Any (Both (CallbackRule k) (MoreCallbacks room (suc k))) Any (λ x. x.0 ∷ x.1) o
+more_turns : (room k : ℕ) (o : Option Token) → (o ≡ Some (token.Sign sign.CloseCurly) → ⊥)
+    → Turns (MoreCallbacks (suc room) k) Any (Both (CallbackRule k) (MoreCallbacks room (suc k))) Any (λ x. x.0 ∷ x.1) o
 more_turns room k o nope = record { back = λ w z b r f l. of w z b r l; forth = λ w x r. callbacks_of room k w x r }
   where
-    of : (w z : List Marked) (b : List CallbackTree) → MoreCallbacks (suc room) k w b → Looks o (w ++ z) → Back (MoreCallbacks (suc room) k) Any (Both (CallbackRule k) (MoreCallbacks room (suc k))) Any (λ x. x.0 ∷ x.1) w z b
+    of : (w z : List Marked) (b : List CallbackTree) → MoreCallbacks (suc room) k w b → Looks o (w ++ z)
+        → Back (MoreCallbacks (suc room) k) Any (Both (CallbackRule k) (MoreCallbacks room (suc k))) Any (λ x. x.0 ∷ x.1) w z b
     of w z b r l =
         let x = next_of (suc room) k o nope w z b r l in
         let y = x.2 in
@@ -226,7 +231,8 @@ more_turns room k o nope = record { back = λ w z b r f l. of w z b r l; forth =
 pub first_turns : (k : ℕ) (o : Option Token) → Turns (Callbacks k) Any (Both (CallbackRule k) (MoreCallbacks 63 (suc k))) Any (λ x. x.0 ∷ x.1) o
 first_turns k o = record { back = λ w z b r f l. of w z b r.0 r.1; forth = λ w x r. (omega arith, callbacks_of 63 k w x r) }
   where
-    of : (w z : List Marked) (b : List CallbackTree) → 0 < length b → MoreCallbacks BRANCHES k w b → Back (Callbacks k) Any (Both (CallbackRule k) (MoreCallbacks 63 (suc k))) Any (λ x. x.0 ∷ x.1) w z b
+    of : (w z : List Marked) (b : List CallbackTree) → 0 < length b → MoreCallbacks BRANCHES k w b
+        → Back (Callbacks k) Any (Both (CallbackRule k) (MoreCallbacks 63 (suc k))) Any (λ x. x.0 ∷ x.1) w z b
     of w z [] h r = absurd (omega (arith, h))
     of w z (c ∷ cs) h (le, (p, j, next {x = x} {xs = xs} first rest r s f, e)) = record {
       tree = (c, cs);
@@ -250,7 +256,8 @@ module _ (t : Tokens) (k : ℕ) where
   pub callbacks_left : (at : ℕ) → at ≤ length t.spots.items → Leaves OF_CLASS_TEXT (Callbacks k) Any (Both (CallbackRule k) (MoreCallbacks 63 (suc k))) Any (λ x. x.0 ∷ x.1) t.spots.items at at
   callbacks_left at h = narrow OF_CLASS_TEXT t.spots.items refl (first_turns k (token_at t.spots.items at)) (nothing OF_CLASS_TEXT t.spots.items (Callbacks k) Any at h)
 
-  pub callbacks_init : (at to room n : ℕ) (cs : List Callback) (c : Callback) → at ≤ length t.spots.items → room ≡ 63 → n ≡ suc k → cs ≡ c ∷ [] → Reads OF_CLASS_TEXT (CallbackRule k) Any t.spots.items at (callback_of c) to
+  pub callbacks_init : (at to room n : ℕ) (cs : List Callback) (c : Callback) → at ≤ length t.spots.items → room ≡ 63 → n ≡ suc k → cs ≡ c ∷ []
+      → Reads OF_CLASS_TEXT (CallbackRule k) Any t.spots.items at (callback_of c) to
       → Leaves OF_CLASS_TEXT (Callbacks k) Any (MoreCallbacks room n) Any (λ ys. map callback_of cs ++ ys) t.spots.items at to
   callbacks_init at to room n cs c h e f q r =
       subst (λ m. Leaves OF_CLASS_TEXT (Callbacks k) Any (MoreCallbacks m n) Any (λ ys. map callback_of cs ++ ys) t.spots.items at to) (sym e)
@@ -269,7 +276,8 @@ module _ (t : Tokens) (k : ℕ) where
     callback_fails some h nope e a = first_fails OF_CLASS_TEXT t (callbacks_link some n) (more_left some h nope) e a
 
     pub callback_reads : (some m to : ℕ) (ds : List Callback) (c : Callback) → room ≡ suc some → m ≡ suc n → (token_at t.spots.items at ≡ Some (token.Sign sign.CloseCurly) → ⊥) → ds ≡ cs ++ c ∷ []
-        → Reads OF_CLASS_TEXT (CallbackRule n) Any t.spots.items at (callback_of c) to → Leaves OF_CLASS_TEXT (Callbacks k) Any (MoreCallbacks some m) Any (λ ys. map callback_of ds ++ ys) t.spots.items from to
+        → Reads OF_CLASS_TEXT (CallbackRule n) Any t.spots.items at (callback_of c) to
+        → Leaves OF_CLASS_TEXT (Callbacks k) Any (MoreCallbacks some m) Any (λ ys. map callback_of ds ++ ys) t.spots.items from to
     callback_reads some m to ds c e f nope q r =
         subst (λ i. Leaves OF_CLASS_TEXT (Callbacks k) Any (MoreCallbacks some i) Any (λ ys. map callback_of ds ++ ys) t.spots.items from to) (sym f)
         (means OF_CLASS_TEXT t.spots.items (λ ys. map callback_of ds ++ ys) (λ ys. push callback_of cs c ys ∙ ap (λ z. map callback_of z ++ ys) (sym q))
@@ -294,7 +302,8 @@ group_turns g k o = record { back = λ w z b r f l. record { tree = (r.0, b); ru
 
 some_group : (g k : ℕ) → IsNumber k → Inhabited (GroupPart g k)
 some_group g k h =
-    let y = some_both (Numbered (codes "group") g) (Behind (token.Sign sign.OpenCurly) (Callbacks k)) (some_numbered (codes "group") g) (some_behind (token.Sign sign.OpenCurly) (Callbacks k) (some_callbacks k h)) in
+    let y = some_both (Numbered (codes "group") g) (Behind (token.Sign sign.OpenCurly) (Callbacks k)) (some_numbered (codes "group") g)
+    (some_behind (token.Sign sign.OpenCurly) (Callbacks k) (some_callbacks k h)) in
     record { marked = y.marked; tree = y.tree.1; rule = (y.tree.0, y.rule) }
 
 -- groups one after another
@@ -321,14 +330,16 @@ groups_turns g k h = record {
       (ap (λ y. y ++ r.rest) (then_same a.back.3 c.1.1.3) ∙ ap (λ y. sign_at sign.OpenCurly a.back.0 ∷ y) (append_assoc c.1.1.1 (sign_at sign.CloseCurly c.1.1.0 ∷ []) r.rest)));
 }
   where
-    of_group : (w : List Marked) (cs : List CallbackTree) (rest : List (List CallbackTree)) (q p r s : Place) (of more : List Marked) → 0 < length cs → length cs ≤ BRANCHES → NumberedRule CallbackRule k of cs
+    of_group : (w : List Marked) (cs : List CallbackTree) (rest : List (List CallbackTree)) (q p r s : Place) (of more : List Marked) → 0 < length cs → length cs ≤ BRANCHES
+        → NumberedRule CallbackRule k of cs
         → GroupsRule (suc g) (k + length cs) more rest
         → w ≡ said (codes "group") p ∷ number_at g q ∷ sign_at sign.OpenCurly r ∷ (of ++ (sign_at sign.CloseCurly s ∷ more)) → GroupsRule g k w (cs ∷ rest)
     of_group w [] rest q p r s of more lt le ns gs e = absurd (omega (arith, lt))
     of_group w (c ∷ cs) rest q p r s of more lt le ns gs e = more_groups p q r s of more h le ns gs e
 
     of : (w z : List Marked) (b : List (List CallbackTree)) → NotBefore (token.Name (codes "group")) b z → Looks (Some (token.Name (codes "group"))) (w ++ z) → GroupsRule g k w b
-        → Back (GroupsRule g k) (NotBefore (token.Name (codes "group"))) (Then (GroupPart g k) (λ cs. GroupsRule (suc g) (k + length cs))) (λ x. NotBefore (token.Name (codes "group")) x.1) (λ x. x.0 ∷ x.1)
+        → Back (GroupsRule g k) (NotBefore (token.Name (codes "group"))) (Then (GroupPart g k) (λ cs. GroupsRule (suc g) (k + length cs))) (λ x. NotBefore (token.Name (codes "group")) x.1)
+        (λ x. x.0 ∷ x.1)
         w z b
     of w z b f l no_groups = absurd (not_here (token.Name (codes "group")) b z f l)
     of w z b f l (more_groups {c} {cs} {rest} p q r s inner more hg le ns gs e) =
@@ -371,15 +382,18 @@ module _ (t : Tokens) where
         → Leaves OF_CLASS_TEXT (GroupsRule 1 0) (NotBefore (token.Name (codes "group"))) (GroupsRule g2 k2) (NotBefore (token.Name (codes "group"))) (λ ys. map group_of hs ++ ys) t.spots.items from to
     group_reads to g2 k2 hs x e f h q r =
         let n : k + length (map callback_of x.callbacks.items) ≡ k2 = ap (λ m. k + m) (length-map x.callbacks.items callback_of) ∙ sym h in
-        subst (λ i. Leaves OF_CLASS_TEXT (GroupsRule 1 0) (NotBefore (token.Name (codes "group"))) (GroupsRule i k2) (NotBefore (token.Name (codes "group"))) (λ ys. map group_of hs ++ ys) t.spots.items from to)
+        subst (λ i. Leaves OF_CLASS_TEXT (GroupsRule 1 0) (NotBefore (token.Name (codes "group"))) (GroupsRule i k2) (NotBefore (token.Name (codes "group"))) (λ ys. map group_of hs ++ ys)
+        t.spots.items from to)
         (sym f)
-        (subst (λ i. Leaves OF_CLASS_TEXT (GroupsRule 1 0) (NotBefore (token.Name (codes "group"))) (GroupsRule (suc g) i) (NotBefore (token.Name (codes "group"))) (λ ys. map group_of hs ++ ys) t.spots.items from to)
+        (subst (λ i. Leaves OF_CLASS_TEXT (GroupsRule 1 0) (NotBefore (token.Name (codes "group"))) (GroupsRule (suc g) i) (NotBefore (token.Name (codes "group"))) (λ ys. map group_of hs ++ ys)
+        t.spots.items from to)
         n (means OF_CLASS_TEXT t.spots.items (λ ys. map group_of hs ++ ys) (λ ys. push group_of gs x ys ∙ ap (λ z. map group_of z ++ ys) (sym q))
         (then_reads OF_CLASS_TEXT t.spots.items (groups_link g k) (groups_left e) r)))
 
     pub groups_done : (token_at t.spots.items at ≡ Some (token.Name (codes "group")) → ⊥)
         → Reads OF_CLASS_TEXT (GroupsRule 1 0) (NotBefore (token.Name (codes "group"))) t.spots.items from (map group_of gs) at
-    groups_done nope = subst (λ z. Reads OF_CLASS_TEXT (GroupsRule 1 0) (NotBefore (token.Name (codes "group"))) t.spots.items from z at) (append-nil (map group_of gs)) (done OF_CLASS_TEXT t.spots.items l
+    groups_done nope =
+        subst (λ z. Reads OF_CLASS_TEXT (GroupsRule 1 0) (NotBefore (token.Name (codes "group"))) t.spots.items from z at) (append-nil (map group_of gs)) (done OF_CLASS_TEXT t.spots.items l
         (empty OF_CLASS_TEXT t.spots.items (GroupsRule g k) (NotBefore (token.Name (codes "group"))) at [] (token_at t.spots.items at) l.within refl no_groups
         (λ w z b r f h. of w z b r h)))
       where

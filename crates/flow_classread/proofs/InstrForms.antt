@@ -367,7 +367,8 @@ starts_looks_is [] z o s l = absurd s
 starts_looks_is (y ∷ w) z None s l = absurd l
 starts_looks_is (y ∷ w) z (Some t) s l = ap Some (sym l ∙ s)
 
-pub drop_else : (o : Option Token) → (o ≡ Some (token.Name (codes "set")) → ⊥) → (o ≡ Some (token.Name (codes "do")) → ⊥) → (o ≡ Some (token.Name (codes "new")) → ⊥) → (o ≡ Some (token.Name (codes "act")) → ⊥)
+pub drop_else : (o : Option Token) → (o ≡ Some (token.Name (codes "set")) → ⊥) → (o ≡ Some (token.Name (codes "do")) → ⊥) → (o ≡ Some (token.Name (codes "new")) → ⊥)
+    → (o ≡ Some (token.Name (codes "act")) → ⊥)
     → Turns InstrRule Any (Behind (token.Name (codes "drop")) DropInstrPart) Any (λ x. x) o
 drop_else o a b c d = record {
   back = λ w z i r f l. back_of z (drop_of o r (starts_looks_is w z o (instr_first r) l) a b c d (instr_kind r) refl);

@@ -161,8 +161,11 @@ mutual
       let b = begun (Node d) of a.left a.front in
       let c = step [] (token.Sign sign.Dot) p (name_at x ∷ []) a.right (λ x. x) a.back in
       let n = step_name [] x [] c.0 c.2 in
-      let s = renamed r b.of b.alike in
-      (FieldExpr s.0 n.0, field p n.0 b.of s.1 (a.is ∙ ap (λ z. z ++ a.right) b.is ∙ ap (λ z. begin (Node d) b.of ++ z) (c.1 ∙ ap (λ z. sign_at sign.Dot p ∷ z) (n.2 ∙ ap (λ z. name_at n.0 ∷ z) (none_left n.1 n.3)))))
+      let s = renamed r b.of b.alike in (
+        FieldExpr s.0 n.0,
+        field p n.0 b.of s.1 (a.is ∙ ap (λ z. z ++ a.right) b.is ∙ ap (λ z. begin (Node d) b.of ++ z)
+            (c.1 ∙ ap (λ z. sign_at sign.Dot p ∷ z) (n.2 ∙ ap (λ z. name_at n.0 ∷ z) (none_left n.1 n.3)))),
+      )
   renamed {d = d} (method p q r f of args t u e) w h =
       let a = parted (begin (Node d) of) (sign_at sign.Dot p ∷ name_at f ∷ in_round q args r []) w (subst (λ z. Alike z w) e h) in
       let b = begun (Node d) of a.left a.front in
@@ -174,7 +177,8 @@ mutual
       let v = renamed_args u g.of g.alike in (
         MethodExpr s.0 n.0 v.0,
         method p q r n.0 b.of g.of s.1 v.1
-            (a.is ∙ ap (λ z. z ++ a.right) b.is ∙ ap (λ z. begin (Node d) b.of ++ z) (c.1 ∙ ap (λ z. sign_at sign.Dot p ∷ z) (n.2 ∙ ap (λ z. name_at n.0 ∷ z) (o.1 ∙ ap (λ z. sign_at sign.OpenRound q ∷ z) g.is)))),
+            (a.is ∙ ap (λ z. z ++ a.right) b.is ∙ ap (λ z. begin (Node d) b.of ++ z)
+            (c.1 ∙ ap (λ z. sign_at sign.Dot p ∷ z) (n.2 ∙ ap (λ z. name_at n.0 ∷ z) (o.1 ∙ ap (λ z. sign_at sign.OpenRound q ∷ z) g.is)))),
       )
   renamed {d = d} (negation p of le r e) w h =
       let a = step (Node d ∷ []) (token.Sign sign.Not) p of w (λ x. x) (subst (λ z. Alike z w) e h) in

@@ -19,7 +19,8 @@ pub record Dotted (spots : List Spot) (from at : ℕ) (b : Bool) : Type 0 where
 pub dotted_first : (spots : List Spot) (from : ℕ) → Dotted spots from from false
 dotted_first spots from = record { dot = λ e. absurd (cc); none = λ e j h f g. omega (arith, f, h) }
 
-pub dotted_next : (spots : List Spot) (from at to : ℕ) (b : Bool) → from ≤ at → to ≡ suc at → (b ≡ true → token_at spots at ≡ Some (token.Sign sign.Dot)) → (token_at spots at ≡ Some (token.Sign sign.Dot) → b ≡ true)
+pub dotted_next : (spots : List Spot) (from at to : ℕ) (b : Bool) → from ≤ at → to ≡ suc at → (b ≡ true → token_at spots at ≡ Some (token.Sign sign.Dot))
+    → (token_at spots at ≡ Some (token.Sign sign.Dot) → b ≡ true)
     → Dotted spots from to b
 dotted_next spots from at to b h e f g = record {
   dot = λ x. (at, h, e, f x);
@@ -56,7 +57,8 @@ stray_within spots from k s = elim_or (below k (length spots))
     elim_or (inr l) = let e : is_far None ≡ true = ap is_far (sym (none_at spots k l)) ∙ s.lone.far in absurd (cc)
 
 -- none before a place where the tokens come to it
-pub none_before : (t : Tokens) (from at until : ℕ) → AreRising t → NoStrays t.spots.items from at → at ≤ length t.spots.items → (at < length t.spots.items → until ≤ (place_at t at).byte) → (k : ℕ) → from ≤ k
+pub none_before : (t : Tokens) (from at until : ℕ) → AreRising t → NoStrays t.spots.items from at → at ≤ length t.spots.items → (at < length t.spots.items → until ≤ (place_at t at).byte) → (k : ℕ)
+    → from ≤ k
     → (place_at t k).byte < until → IsStray t.spots.items from k → ⊥
 none_before t from at until rising clear h stop k le lt s =
     of (three k at)

@@ -139,7 +139,8 @@ function_first (function_rule of d) = starts_begin TypeToken of (function_starts
 classes_first : {w : List Marked} {cs : List ClassTree} → ClassesRule w cs → (w ≡ []) ⊎ Starts (λ t. t ≡ token.Name (codes "class")) w
 classes_first no_classes = inl refl
 classes_first (more_classes first rest (class p q r s u v k of slots locals blocks groups ht hp hs hl hb hg e) cs f) =
-    inr (subst (Starts (λ t. t ≡ token.Name (codes "class"))) (sym f) (starts_append (λ t. t ≡ token.Name (codes "class")) first rest (subst (Starts (λ t. t ≡ token.Name (codes "class"))) (sym e) refl)))
+    inr (subst (Starts (λ t. t ≡ token.Name (codes "class"))) (sym f)
+    (starts_append (λ t. t ≡ token.Name (codes "class")) first rest (subst (Starts (λ t. t ≡ token.Name (codes "class"))) (sym e) refl)))
 
 record_marks : {w : List Marked} {r : RecordTree} → RecordRule w r → Marks (Node 1) Record w r
 record_marks (record_rule of d) = (of, d, refl)
@@ -168,12 +169,26 @@ FunctionThings = Both (Marks (Node 1) Function) Things
 record_things : (w : List Marked) (y : RecordTree × TextTree) → RecordThings w y → Things w (with_record y)
 record_things w y r =
     let b = r.back in
-    record { first = r.first ++ b.first; rest = b.rest; is = r.is ∙ ap (λ k. r.first ++ k) b.is ∙ sym (append_assoc r.first b.first b.rest); front = more_records r.first b.first (marks_record r.first y.0 r.front) b.front refl; back = b.back }
+    record {
+      first = r.first ++ b.first;
+      rest = b.rest;
+      is = r.is ∙ ap (λ k. r.first ++ k) b.is ∙ sym (append_assoc r.first b.first b.rest);
+      front = more_records r.first b.first
+          (marks_record r.first y.0 r.front) b.front refl;
+      back = b.back;
+    }
 
 function_things : (w : List Marked) (y : RoutineTree × TextTree) → FunctionThings w y → Things w (with_function y)
 function_things w y r =
     let b = r.back in
-    record { first = r.first ++ b.first; rest = b.rest; is = r.is ∙ ap (λ k. r.first ++ k) b.is ∙ sym (append_assoc r.first b.first b.rest); front = more_functions r.first b.first (marks_function r.first y.0 r.front) b.front refl; back = b.back }
+    record {
+      first = r.first ++ b.first;
+      rest = b.rest;
+      is = r.is ∙ ap (λ k. r.first ++ k) b.is ∙ sym (append_assoc r.first b.first b.rest);
+      front = more_functions r.first b.first
+          (marks_function r.first y.0 r.front) b.front refl;
+      back = b.back;
+    }
 
 -- the ways in which such a text begins
 data Begin (w : List Marked) (b : TextTree) : Type 0 where
@@ -238,7 +253,8 @@ struct_turns = record { back = λ w z b r f l. of w z b f l (begins w b r); fort
           absurd (some_no_word (codes "class") word.Struct (sym (k.1 ∙ ap Some k.2)))
     ]
 
-pub plain_turns : (o : Option Token) (t : Token) → o ≡ Some t → (o ≡ Some (token.Word word.Struct) → ⊥) → (o ≡ Some (token.Name (codes "class")) → ⊥) → Turns Things AtEnd FunctionThings AtEnd with_function o
+pub plain_turns : (o : Option Token) (t : Token) → o ≡ Some t → (o ≡ Some (token.Word word.Struct) → ⊥) → (o ≡ Some (token.Name (codes "class")) → ⊥)
+    → Turns Things AtEnd FunctionThings AtEnd with_function o
 plain_turns o t some struct plain = record { back = λ w z b r f l. of w z b f l (begins w b r); forth = λ w y r. function_things w y r }
   where
     of : (w z : List Marked) (b : TextTree) → AtEnd b z → Looks o (w ++ z) → Begin w b → Back Things AtEnd FunctionThings AtEnd with_function w z b
@@ -300,7 +316,17 @@ opening_more : (w rest : List Marked) → Opening w → Opening (w ++ rest)
 opening_more w rest o = record { one = o.one; two = o.two; three = o.three; more = o.more ++ rest; is = ap (λ k. k ++ rest) o.is; name = o.name; named = o.named; opened = o.opened }
 
 opening_begin : (w : List Marked) → Opening w → Opening (begin (Node 1) w)
-opening_begin w o = record { one = record { spot = o.one.spot; parts = Node 1 ∷ o.one.parts }; two = o.two; three = o.three; more = o.more; is = ap (begin (Node 1)) o.is; name = o.name; named = o.named; opened = o.opened }
+opening_begin w o =
+    record {
+      one = record { spot = o.one.spot; parts = Node 1 ∷ o.one.parts };
+      two = o.two;
+      three = o.three;
+      more = o.more;
+      is = ap (begin (Node 1)) o.is;
+      name = o.name;
+      named = o.named;
+      opened = o.opened;
+    }
 
 abbrev FirstIs : Token → List Marked → Type 0
 FirstIs t w = Starts (λ y. y ≡ t) w
@@ -313,9 +339,19 @@ function_opening m (function_decl at of xs t r e s) h = of_type of xs t r e (sub
   where
     behind : {w : List Marked} (x : Marked) (xs : List Marked) {returns : TypeTree} {f : RoutineTree} → RoutineRule false at returns xs f → w ≡ x ∷ xs → Opening w
     behind x xs (routine p q r close y params body ps b e) g =
-        record { one = x; two = name_at y; three = sign_at sign.OpenRound p; more = params ++ (sign_at sign.CloseRound q ∷ (sign_at sign.OpenCurly r ∷ (body ++ sign_at sign.CloseCurly close ∷ []))); is = g ∙ ap (λ k. x ∷ k) e; name = y.name; named = refl; opened = refl }
+        record {
+          one = x;
+          two = name_at y;
+          three = sign_at sign.OpenRound p;
+          more = params ++ (sign_at sign.CloseRound q ∷ (sign_at sign.OpenCurly r ∷ (body ++ sign_at sign.CloseCurly close ∷ [])));
+          is = g ∙ ap (λ k. x ∷ k) e;
+          name = y.name;
+          named = refl;
+          opened = refl;
+        }
 
-    of_type : (of xs : List Marked) {returns : TypeTree} {f : RoutineTree} → TypeRule 1 of returns → RoutineRule false at returns xs f → {w : List Marked} → w ≡ of ++ xs → FirstIs (token.Name m) (of ++ xs) → Opening w
+    of_type : (of xs : List Marked) {returns : TypeTree} {f : RoutineTree} → TypeRule 1 of returns → RoutineRule false at returns xs f → {w : List Marked} → w ≡ of ++ xs
+        → FirstIs (token.Name m) (of ++ xs) → Opening w
     of_type of xs (named_type x) r e h = behind (node_name 1 x) xs r e
     of_type of xs (int_type p) r e h = absurd (word_no_name word.Int m h)
     of_type of xs (bool_type p) r e h = absurd (word_no_name word.Bool m h)
@@ -341,13 +377,15 @@ module _ (spots : List Spot) (at : ℕ) (here : token_at spots at ≡ Some (toke
   second_is : (n j : ℕ) (w z : List Marked) → (o : Opening w) → 2 ≤ j → Sees OF_CLASS_TEXT n j (drop at spots) (w ++ z) → token_at spots (suc at) ≡ Some (token.Name o.name)
   second_is n j w z o h s =
       let e : at + 1 ≡ suc at = omega arith in
-      ap (token_at spots) (sym e) ∙ sym (token_drop spots at 1) ∙ seen_second n j (drop at spots) o.one o.two (o.three ∷ (o.more ++ z)) h (subst (λ k. Sees OF_CLASS_TEXT n j (drop at spots) (k ++ z)) o.is s)
+      ap (token_at spots) (sym e) ∙ sym (token_drop spots at 1)
+      ∙ seen_second n j (drop at spots) o.one o.two (o.three ∷ (o.more ++ z)) h (subst (λ k. Sees OF_CLASS_TEXT n j (drop at spots) (k ++ z)) o.is s)
       ∙ ap Some o.named
 
   third_is : (n j : ℕ) (w z : List Marked) → (o : Opening w) → 3 ≤ j → Sees OF_CLASS_TEXT n j (drop at spots) (w ++ z) → token_at spots (suc (suc at)) ≡ Some (token.Sign sign.OpenRound)
   third_is n j w z o h s =
       let e : at + 2 ≡ suc (suc at) = omega arith in
-      ap (token_at spots) (sym e) ∙ sym (token_drop spots at 2) ∙ seen_third n j (drop at spots) o.one o.two o.three (o.more ++ z) h (subst (λ k. Sees OF_CLASS_TEXT n j (drop at spots) (k ++ z)) o.is s)
+      ap (token_at spots) (sym e) ∙ sym (token_drop spots at 2)
+      ∙ seen_third n j (drop at spots) o.one o.two o.three (o.more ++ z) h (subst (λ k. Sees OF_CLASS_TEXT n j (drop at spots) (k ++ z)) o.is s)
       ∙ ap Some o.opened
 
   things_opening : (n j : ℕ) (w z : List Marked) (y : RoutineTree × TextTree) → 1 ≤ j → FunctionThings w y → Sees OF_CLASS_TEXT n j (drop at spots) (w ++ z) → Opening w
@@ -357,7 +395,8 @@ module _ (spots : List Spot) (at : ℕ) (here : token_at spots at ≡ Some (toke
       let o = opening_more r.first r.rest (subst Opening (sym m.2) (opening_begin m.0 (function_opening (codes "class") m.1 starts))) in
       subst Opening (sym r.is) o
     where
-      of : (xs : List Marked) → Function xs y.0 → (first rest : List Marked) → first ≡ begin (Node 1) xs → w ≡ first ++ rest → Sees OF_CLASS_TEXT n j (drop at spots) (w ++ z) → FirstIs (token.Name (codes "class")) xs
+      of : (xs : List Marked) → Function xs y.0 → (first rest : List Marked) → first ≡ begin (Node 1) xs → w ≡ first ++ rest → Sees OF_CLASS_TEXT n j (drop at spots) (w ++ z)
+          → FirstIs (token.Name (codes "class")) xs
       of [] f first rest e g s = absurd (function_starts f)
       of (x ∷ xs) f first rest e g s =
           here_first n j (record { spot = x.spot; parts = Node 1 ∷ x.parts }) ((xs ++ rest) ++ z) h (subst (λ k. Sees OF_CLASS_TEXT n j (drop at spots) (k ++ z)) (g ∙ ap (λ k. k ++ rest) e) s)
@@ -443,11 +482,14 @@ module _ (spots : List Spot) (at : ℕ) (here : token_at spots at ≡ Some (toke
   class_far {W = W} {FW = FW} {g = g} {from = from} nope l = of (token_at spots (suc at)) refl
     where
       two : ((m : List ℕ) → token_at spots (suc at) ≡ Some (token.Name m) → ⊥) → Leaves OF_CLASS_TEXT W FW ClassesRule AtEnd (λ cs. g (([], []), cs)) spots from at
-      two f = narrow_far spots 2 (class_back 2 (λ n j w z o le s. f o.name (second_is n j w z o le s)) (omega arith)) (λ w cs r. record { first = []; rest = w; is = refl; front = no_heads; back = r }) early_class l
+      two f =
+          narrow_far spots 2 (class_back 2 (λ n j w z o le s. f o.name (second_is n j w z o le s)) (omega arith)) (λ w cs r. record { first = []; rest = w; is = refl; front = no_heads; back = r })
+          early_class l
 
       of : (o : Option Token) → token_at spots (suc at) ≡ o → Leaves OF_CLASS_TEXT W FW ClassesRule AtEnd (λ cs. g (([], []), cs)) spots from at
       of (Some (token.Name m)) e = narrow_far spots 3
-          (class_back 3 (λ n j w z o le s. nope (subst (AsFirst NameToken) (sym e) tt) (third_is n j w z o le s)) (omega arith)) (λ w cs r. record { first = []; rest = w; is = refl; front = no_heads; back = r })
+          (class_back 3 (λ n j w z o le s. nope (subst (AsFirst NameToken) (sym e) tt) (third_is n j w z o le s)) (omega arith))
+          (λ w cs r. record { first = []; rest = w; is = refl; front = no_heads; back = r })
           (early_named m e) l
       of None e = two (λ m f. let g : None ≡ Some (token.Name m) = sym e ∙ f in cc)
       of (Some (token.Number k)) e = two (λ m f. let g : Some (token.Number k) ≡ Some (token.Name m) = sym e ∙ f in cc)
@@ -462,7 +504,8 @@ module _ (spots : List Spot) (at : ℕ) (here : token_at spots at ≡ Some (toke
       let c : Ident = record { name = codes "class"; at = p } in (
         m,
         record { at = p; returns = NamedType (codes "class"); name = x; params = []; body = End; close = nowhere },
-        function_rule (node_name 1 c ∷ name_at x ∷ m) (function_decl p (node_name 1 c ∷ []) (name_at x ∷ m) (named_type c) (routine nowhere nowhere nowhere nowhere x [] [] no_params no_stmts refl) refl refl),
+        function_rule (node_name 1 c ∷ name_at x ∷ m) (function_decl p (node_name 1 c ∷ []) (name_at x ∷ m) (named_type c) (routine nowhere nowhere nowhere nowhere x [] [] no_params no_stmts refl)
+            refl refl),
       )
 
   function_whole : (p : Place) (x : Ident) → (m : List Marked) × (y : RoutineTree × TextTree) × FunctionThings (opens (Node 1 ∷ Node 1 ∷ []) (token.Name (codes "class")) p ∷ name_at x ∷ m) y
@@ -524,7 +567,8 @@ module _ (spots : List Spot) (at : ℕ) (here : token_at spots at ≡ Some (toke
           let e : at + 2 ≡ suc (suc at) = omega arith in
           some_no_sign (codes "returns") sign.OpenRound (sym (sym o ∙ ap (token_at spots) (sym e) ∙ sym (token_drop spots at 2) ∙ k))
 
-      back : (n j : ℕ) (w z : List Marked) (b : TextTree) → Things w b → AtEnd b z → 3 ≤ j → Sees OF_CLASS_TEXT n j (drop at spots) (w ++ z) → Back Things AtEnd FunctionThings AtEnd with_function w z b
+      back : (n j : ℕ) (w z : List Marked) (b : TextTree) → Things w b → AtEnd b z → 3 ≤ j → Sees OF_CLASS_TEXT n j (drop at spots) (w ++ z)
+          → Back Things AtEnd FunctionThings AtEnd with_function w z b
       back n j w z b r f le s = of (begins w b r)
         where
           of : Begin w b → Back Things AtEnd FunctionThings AtEnd with_function w z b

@@ -99,7 +99,8 @@ module _ (t : Tokens) (from : ℕ) (within : from ≤ length t.spots.items) wher
     pub record_fails : token_at t.spots.items at ≡ Some (token.Word word.Struct) → (e : SourceFault) → Fails OF_CLASS_TEXT Record Any t at e → Fails OF_CLASS_TEXT Rest AtEnd t from e
     record_fails h e a = first_fails OF_CLASS_TEXT t record_link (record_left h) e (marks_fails OF_CLASS_TEXT Record Any (Node 1) t at (λ m le k. omega arith) e a)
 
-    pub record_reads : (to : ℕ) (ss : List RecordDecl) (r : RecordDecl) → token_at t.spots.items at ≡ Some (token.Word word.Struct) → ss ≡ rs ++ r ∷ [] → Reads OF_CLASS_TEXT Record Any t.spots.items at (record_of r) to
+    pub record_reads : (to : ℕ) (ss : List RecordDecl) (r : RecordDecl) → token_at t.spots.items at ≡ Some (token.Word word.Struct) → ss ≡ rs ++ r ∷ []
+        → Reads OF_CLASS_TEXT Record Any t.spots.items at (record_of r) to
         → Leaves OF_CLASS_TEXT Rest AtEnd Things AtEnd (rest_before ss fs) t.spots.items from to
     record_reads to ss r e q a = means OF_CLASS_TEXT t.spots.items (rest_before ss fs)
         (λ x. ap (λ z. record { records = z; functions = map function_of fs ++ x.0.1; classes = x.1 }) (push record_of rs r x.0.0 ∙ ap (λ z. map record_of z ++ x.0.0) (sym q)))
@@ -122,7 +123,8 @@ module _ (t : Tokens) (from : ℕ) (within : from ≤ length t.spots.items) wher
         → Fails OF_CLASS_TEXT Function Any t at e → Fails OF_CLASS_TEXT Rest AtEnd t from e
     function_fails h nope struct e a = first_fails OF_CLASS_TEXT t function_link (function_left h nope struct) e (marks_fails OF_CLASS_TEXT Function Any (Node 1) t at (λ m le k. omega arith) e a)
 
-    pub function_reads : (to : ℕ) (gs : List FunctionDecl) (f : FunctionDecl) → at < length t.spots.items → BeginsNoClass t.spots.items at → (token_at t.spots.items at ≡ Some (token.Word word.Struct) → ⊥)
+    pub function_reads : (to : ℕ) (gs : List FunctionDecl) (f : FunctionDecl) → at < length t.spots.items → BeginsNoClass t.spots.items at
+        → (token_at t.spots.items at ≡ Some (token.Word word.Struct) → ⊥)
         → gs ≡ fs ++ f ∷ [] → Reads OF_CLASS_TEXT Function Any t.spots.items at (function_of f) to → Leaves OF_CLASS_TEXT Rest AtEnd Things AtEnd (rest_before rs gs) t.spots.items from to
     function_reads to gs f h nope struct q a = means OF_CLASS_TEXT t.spots.items (rest_before rs gs)
         (λ x. ap (λ z. record { records = map record_of rs ++ x.0.0; functions = z; classes = x.1 }) (push function_of fs f x.0.1 ∙ ap (λ z. map function_of z ++ x.0.1) (sym q)))
@@ -138,7 +140,8 @@ module _ (t : Tokens) (from : ℕ) (within : from ≤ length t.spots.items) wher
     pub rest_done : (length t.spots.items ≤ at) ⊎ BeginsClass t.spots.items at → (cs : List ClassTree) (to : ℕ) → Reads OF_CLASS_TEXT ClassesRule AtEnd t.spots.items at cs to
         → Reads OF_CLASS_TEXT Rest AtEnd t.spots.items from (record { records = map record_of rs; functions = map function_of fs; classes = cs }) to
     rest_done h cs to r = subst (λ z. Reads OF_CLASS_TEXT Rest AtEnd t.spots.items from z to)
-        (ap (λ z. record { records = z; functions = map function_of fs ++ []; classes = cs }) (append-nil (map record_of rs)) ∙ ap (λ z. record { records = map record_of rs; functions = z; classes = cs }) (append-nil (map function_of fs)))
+        (ap (λ z. record { records = z; functions = map function_of fs ++ []; classes = cs }) (append-nil (map record_of rs)) ∙ ap
+        (λ z. record { records = map record_of rs; functions = z; classes = cs }) (append-nil (map function_of fs)))
         (done OF_CLASS_TEXT t.spots.items (classes_left h) r)
 
 -- "classes" "1" and the rest

@@ -364,13 +364,15 @@ module _ (t : Tokens) (from : ℕ) (within : from ≤ length t.spots.items) wher
 
     -- an expression without a stray is a whole one
     pub free_of : NoStrays t.spots.items from to → WholeRule r.marked a
-    free_of clear = elim (free_or_last t.spots.items from (to - from) from false (omega (arith, r.after, r.within)) (omega arith) (dotted_first t.spots.items from) (λ j h l. clear j h (omega (arith, l, r.after)))) [
-      | inl f ↦ record { rule = r.rule; free = (free_expr r.rule [] (λ x. x) (free_marks false r.marked [] (subst (FreeSpots false) read_front f))).0 }
-      | inr l ↦ elim (opens_or (token_at t.spots.items (suc l.at))) [
-        | inr f ↦ absurd (clear l.at l.after (omega (arith, l.at_is, r.after)) (l.stray f))
-        | inl o ↦ absurd (called l o)
-      ]
-    ]
+    free_of clear =
+        elim (free_or_last t.spots.items from (to - from) from false (omega (arith, r.after, r.within)) (omega arith) (dotted_first t.spots.items from)
+        (λ j h l. clear j h (omega (arith, l, r.after)))) [
+          | inl f ↦ record { rule = r.rule; free = (free_expr r.rule [] (λ x. x) (free_marks false r.marked [] (subst (FreeSpots false) read_front f))).0 }
+          | inr l ↦ elim (opens_or (token_at t.spots.items (suc l.at))) [
+            | inr f ↦ absurd (clear l.at l.after (omega (arith, l.at_is, r.after)) (l.stray f))
+            | inl o ↦ absurd (called l o)
+          ]
+        ]
 
     pub whole_reads : NoStrays t.spots.items from to → Reads OF_CLASS_TEXT WholeRule ExprEnds t.spots.items from a to
     whole_reads clear = record {
@@ -384,9 +386,11 @@ module _ (t : Tokens) (from : ℕ) (within : from ≤ length t.spots.items) wher
     }
 
     -- or a stray stops it
-    pub stray_read : (i : ℕ) → from + i < to → IsStray t.spots.items from (from + i) → NoStrays t.spots.items from (from + i) → Stops OF_CLASS_TEXT WholeRule ExprEnds 2 (drop from t.spots.items) (suc i)
+    pub stray_read : (i : ℕ) → from + i < to → IsStray t.spots.items from (from + i) → NoStrays t.spots.items from (from + i)
+        → Stops OF_CLASS_TEXT WholeRule ExprEnds 2 (drop from t.spots.items) (suc i)
     stray_read i lt s clear = stray_stops i (omega (arith, lt, r.within)) s clear
-        (subst (GoodOf OF_CLASS_TEXT (ExprRule 0 1) 7) (take_take (suc i) (to - from) (drop from t.spots.items) (omega (arith, lt))) (shrink 7 (suc i) (take (to - from) (drop from t.spots.items)) read_good))
+        (subst (GoodOf OF_CLASS_TEXT (ExprRule 0 1) 7) (take_take (suc i) (to - from) (drop from t.spots.items) (omega (arith, lt)))
+        (shrink 7 (suc i) (take (to - from) (drop from t.spots.items)) read_good))
 
   pub stray_failed : (n k i : ℕ) → Stops OF_CLASS_TEXT (ExprRule 0 1) ExprEnds n (drop from t.spots.items) k → i < k → IsStray t.spots.items from (from + i) → NoStrays t.spots.items from (from + i)
       → Stops OF_CLASS_TEXT WholeRule ExprEnds 2 (drop from t.spots.items) (suc i)

@@ -1,5 +1,7 @@
 // Tests of flow_trace.
 
+use flow_base::fault::OutFault;
+use flow_base::mem_sink::MemSink;
 use flow_base::memory::NoMemory;
 use flow_base::name::Name;
 use flow_trace::buffer::{LineBuf, print_line};
@@ -8,6 +10,7 @@ use flow_trace::line::Line;
 use flow_trace::out::{LineOut, LineVec};
 use flow_trace::quote::quote;
 use flow_trace::read::read_line;
+use flow_trace::sink_out::SinkOut;
 use flow_trace::unquote::unquote;
 use std::alloc::Global;
 
@@ -171,6 +174,32 @@ fn prints_ends(alloc: Global) -> Result<bool, NoMemory> {
 #[test]
 fn prints_what_was_made(rt: HostRuntime) -> Result<(), NoMemory> {
     assert!(rt; prints_ends(rt.alloc())?);
+    Ok(())
+}
+
+// Puts two lines to a sink whose second call fails: the first is there, and the second isn't.
+fn puts_one_of_two(alloc: Global, out: &mut MemSink) -> Result<bool, NoMemory> {
+    let mut lines = SinkOut::new(alloc, out)?;
+    let first = lines.put(&Line::Head);
+    let second = lines.put(&Line::EndIdle);
+    let faults = lines.faults();
+    let SinkOut {
+        out: _,
+        buffer: _,
+        before: _,
+    } = lines;
+    Ok(first.is_ok() && second == Err(OutFault::Failed) && faults == 1)
+}
+
+fn one_of_two_went_out(alloc: Global) -> Result<bool, NoMemory> {
+    let mut out = MemSink::new(alloc, vec![in alloc; 2]?);
+    let put = puts_one_of_two(alloc, &mut out)?;
+    Ok(put && out.bytes() == b"trace 1\n".as_slice())
+}
+
+#[test]
+fn lines_go_to_a_sink(rt: HostRuntime) -> Result<(), NoMemory> {
+    assert!(rt; one_of_two_went_out(rt.alloc())?);
     Ok(())
 }
 

@@ -78,8 +78,7 @@ fn validity(number: u8) -> Option<&'static str> {
         3 => "V3: a slot, local, group or block that is named isn't there",
         4 => "V4: a `goto` or `test` has to lead to blocks of greater number",
         5 => "V5: each group has to be chosen by exactly one `choose`",
-        6 =>
-            "V6: a catch part has to name a later block, a local for errors, and distinct locals",
+        6 => "V6: a catch part has to name a later block, a local for errors, and distinct locals",
         7 =>
             "V7: an expression or what takes its value doesn't fit its type, or an effect its place",
         8 => "V8: a slot or local may be read while it is empty",
@@ -90,6 +89,7 @@ fn validity(number: u8) -> Option<&'static str> {
 
 // What is said where no class text begins so, and where one has too many bytes.
 const CLASS_FORM: &str = "C1: no class text goes on so here";
+
 const CLASS_BYTES: &str = "L11: a class text has at most 16,777,216 bytes";
 
 /// What is said where a rule on a class text fails. `None` where there is no rule of this number.

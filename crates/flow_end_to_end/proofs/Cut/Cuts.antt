@@ -364,13 +364,13 @@ module _ {A : Type 0} (puts : A → Line → Result (Unit {0}) OutFault → A �
         }
 
     -- the event that failed is the next one that is shown
-    next_part : (v : Seen) (b : Hearing A) (f : RunFault) (t : Telling (Hearing A)) (rest : List Line) → Quietly puts with_frames first headed v b → (x : Came v (whole b))
-        → EventFails (hears puts) v (whole b) f t → NextInPart P r x.last (whole b) f t → Onwards x.last rest → FirstPart t
-    next_part v b f t _ quietly x fails next (ends last z) =
+    next_part : (v : Seen) (b : Hearing A) (f : RunFault) (t : Telling (Hearing A)) → Quietly puts with_frames first headed v b → (x : Came v (whole b))
+        → EventFails (hears puts) v (whole b) f t → NextInPart P r x.last (whole b) f t → (rest : List Line) → Onwards x.last rest → FirstPart t
+    next_part v b f t quietly x fails next _ (ends last z) =
         absurd (no_thing (sym (goes_on_now (Quiescent r) P v v x.last (whole b) (whole b) x.shows (subst IsSome (sym fails.comes) refl) fails.bound) ∙ z))
-    next_part v b f t _ quietly x fails next (spent g l i j o q) =
+    next_part v b f t quietly x fails next _ (spent g l i j o q) =
         part_among v b (lines_of g l) (line.EndSpent ∷ []) t quietly (event_lines (classes r) x.last g l j o) x (spent g l i j o q) (next.1 g l j o)
-    next_part v b f t _ quietly x fails next (event {lines = rest} g l i j o q more) =
+    next_part v b f t quietly x fails next _ (event {lines = rest} g l i j o q more) =
         part_among v b (lines_of g l) (seen_if (classes r) frame_spot with_frames (after x.last g l) ++ rest) t quietly (event_lines (classes r) x.last g l j o) x
         (event g l i j o q more) (next.1 g l j o)
 
@@ -379,7 +379,7 @@ module _ {A : Type 0} (puts : A → Line → Result (Unit {0}) OutFault → A �
         let x = came v (whole b) quietly.goes in
         let next = event_in_part (hears puts) r v x.last (whole b) f t x.code x.shows x.keeps.0 fails in
         let y = x.onwards whole_run.0 whole_run.1 in
-        (next.0, next_part v b f t y.0 quietly x fails next y.2)
+        (next.0, next_part v b f t quietly x fails next y.0 y.2)
     events_part f t (frames_fail {u = u} {v = v} {b = before} {c = told} quietly happens fails) =
         let x = came u (whole before) quietly.goes in
         let e = ran u v (whole headed) (whole before) (whole told) x happens in

@@ -26,12 +26,14 @@ returns-in_err-last-clause-reads c =
 pub returns-in_err-to-clause-reads : goal.returns-in_err-to-clause-reads
 returns-in_err-to-clause-reads c =
     let t = c.args.tokens.now in
-    let l = closed_reads t (token.Sign sign.CloseCurly) Any (any_token (token.Sign sign.CloseCurly)) (then_reads OF_CLASS_TEXT t.spots.items body_link (nothing OF_CLASS_TEXT t.spots.items BlockBody Any c.args.at c.requires.within) c.in_ok-body.ensures.reads) c.in_ok-last.ensures.reads in
+    let l = closed_reads t (token.Sign sign.CloseCurly) Any (any_token (token.Sign sign.CloseCurly))
+    (then_reads OF_CLASS_TEXT t.spots.items body_link (nothing OF_CLASS_TEXT t.spots.items BlockBody Any c.args.at c.requires.within) c.in_ok-body.ensures.reads) c.in_ok-last.ensures.reads in
     let p = err_from_is_err_and c.from_residual-in_err-to.result c.from_residual-in_err-to.ensures.1 in
     rw (p.1, p.2) (fails OF_CLASS_TEXT t l _ (c.in_err-to.ensures.reads OF_CLASS_TEXT))
 
 pub returns-clause-reads : goal.returns-clause-reads
 returns-clause-reads c =
     let t = c.args.tokens.now in
-    let l = closed_reads t (token.Sign sign.CloseCurly) Any (any_token (token.Sign sign.CloseCurly)) (then_reads OF_CLASS_TEXT t.spots.items body_link (nothing OF_CLASS_TEXT t.spots.items BlockBody Any c.args.at c.requires.within) c.in_ok-body.ensures.reads) c.in_ok-last.ensures.reads in
+    let l = closed_reads t (token.Sign sign.CloseCurly) Any (any_token (token.Sign sign.CloseCurly))
+    (then_reads OF_CLASS_TEXT t.spots.items body_link (nothing OF_CLASS_TEXT t.spots.items BlockBody Any c.args.at c.requires.within) c.in_ok-body.ensures.reads) c.in_ok-last.ensures.reads in
     done OF_CLASS_TEXT t.spots.items l (c.in_ok-to.ensures.reads OF_CLASS_TEXT)

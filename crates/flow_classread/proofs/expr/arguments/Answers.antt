@@ -15,7 +15,8 @@ pub returns-then-is_sign-clause-reads : goal.returns-then-is_sign-clause-reads
 returns-then-is_sign-clause-reads c =
     let t = c.args.tokens.now in
     let e = c.if-is_sign.ensures.sign.0 refl in
-    subst (λ z. Reads OF_CLASS_TEXT Args Any t.spots.items c.args.at (exprs_of z) (c.args.at + 1)) (sym c.new-args.ensures.items) (become OF_CLASS_TEXT t.spots.items e none_turns (tok_reads OF_CLASS_TEXT t c.args.at (token.Sign sign.CloseRound) e))
+    subst (λ z. Reads OF_CLASS_TEXT Args Any t.spots.items c.args.at (exprs_of z) (c.args.at + 1)) (sym c.new-args.ensures.items)
+    (become OF_CLASS_TEXT t.spots.items e none_turns (tok_reads OF_CLASS_TEXT t c.args.at (token.Sign sign.CloseRound) e))
 
 pub returns-in_err-first-clause-reads : goal.returns-in_err-first-clause-reads
 returns-in_err-first-clause-reads c =
@@ -27,14 +28,19 @@ returns-in_err-first-clause-reads c =
 pub items-init : goal.items-init
 items-init c =
     let t = c.args.tokens.now in
-    let q = c.in_ok-push.ensures.items ∙ ap (λ z. z ++ c.in_ok-first.first ∷ []) c.new-args.ensures.items in
-    (c.in_ok-first.ensures.moves.0, c.in_ok-first.ensures.moves.1, args_init t c.args.at c.in_ok-first.to c.push.new.self.items c.in_ok-first.first c.requires.within (λ e. not_true (c.if-is_sign.ensures.sign.1 e)) q c.in_ok-first.ensures.reads)
+    let q = c.in_ok-push.ensures.items ∙ ap (λ z. z ++ c.in_ok-first.first ∷ []) c.new-args.ensures.items in (
+      c.in_ok-first.ensures.moves.0,
+      c.in_ok-first.ensures.moves.1,
+      args_init t c.args.at c.in_ok-first.to c.push.new.self.items c.in_ok-first.first c.requires.within
+          (λ e. not_true (c.if-is_sign.ensures.sign.1 e)) q c.in_ok-first.ensures.reads,
+    )
 
 pub items-preserved : goal.items-preserved
 items-preserved c =
     let t = c.args.tokens.now in
     let i = c.items.invariant in
-    let l = next_reads t c.args.at c.items.at c.items.args.items i.2 c.in_ok-next.to c.push-in-items.new.self.items c.in_ok-next.next (c.items-test.ensures.sign.0 refl) c.in_ok-push-2.ensures.items c.in_ok-next.ensures.reads in
+    let l = next_reads t c.args.at c.items.at c.items.args.items i.2 c.in_ok-next.to c.push-in-items.new.self.items c.in_ok-next.next (c.items-test.ensures.sign.0 refl) c.in_ok-push-2.ensures.items
+    c.in_ok-next.ensures.reads in
     (omega (arith, i.0, c.in_ok-next.ensures.moves.0), c.in_ok-next.ensures.moves.1, l)
 
 pub returns-in_err-next-clause-reads : goal.returns-in_err-next-clause-reads

@@ -13,26 +13,35 @@ use Rattle.flow_classread.proofs.group.group.Goals as goal
 pub returns-in_err-at-clause-reads : goal.returns-in_err-at-clause-reads
 returns-in_err-at-clause-reads c =
     let t = c.args.tokens.now in
-    let l = narrow OF_CLASS_TEXT t.spots.items refl (group_turns c.args.number c.args.first (token_at t.spots.items c.args.at)) (nothing OF_CLASS_TEXT t.spots.items (GroupPart c.args.number c.args.first) Any c.args.at c.requires.within) in
+    let l = narrow OF_CLASS_TEXT t.spots.items refl (group_turns c.args.number c.args.first (token_at t.spots.items c.args.at))
+    (nothing OF_CLASS_TEXT t.spots.items (GroupPart c.args.number c.args.first) Any c.args.at c.requires.within) in
     let p = err_from_is_err_and c.from_residual.result c.from_residual.ensures.1 in
     rw (p.1, p.2) (first_fails OF_CLASS_TEXT t (group_number_link c.args.number c.args.first c.ranges.first.fits) l _ c.in_err-at.ensures.reads)
 
 pub returns-in_err-at-2-clause-reads : goal.returns-in_err-at-2-clause-reads
 returns-in_err-at-2-clause-reads c =
     let t = c.args.tokens.now in
-    let l = then_reads OF_CLASS_TEXT t.spots.items (group_number_link c.args.number c.args.first c.ranges.first.fits) (narrow OF_CLASS_TEXT t.spots.items refl (group_turns c.args.number c.args.first (token_at t.spots.items c.args.at)) (nothing OF_CLASS_TEXT t.spots.items (GroupPart c.args.number c.args.first) Any c.args.at c.requires.within)) c.in_ok-at.ensures.reads in
+    let l = then_reads OF_CLASS_TEXT t.spots.items (group_number_link c.args.number c.args.first c.ranges.first.fits)
+    (narrow OF_CLASS_TEXT t.spots.items refl (group_turns c.args.number c.args.first (token_at t.spots.items c.args.at))
+    (nothing OF_CLASS_TEXT t.spots.items (GroupPart c.args.number c.args.first) Any c.args.at c.requires.within)) c.in_ok-at.ensures.reads in
     let p = err_from_is_err_and c.from_residual-in_err-at-2.result c.from_residual-in_err-at-2.ensures.1 in
     rw (p.1, p.2) (behind_fails t (token.Sign sign.OpenCurly) (some_callbacks c.args.first c.ranges.first.fits) l _ (c.in_err-at-2.ensures.reads OF_CLASS_TEXT))
 
 pub returns-in_err-callbacks-clause-reads : goal.returns-in_err-callbacks-clause-reads
 returns-in_err-callbacks-clause-reads c =
     let t = c.args.tokens.now in
-    let l = behind_reads t (token.Sign sign.OpenCurly) (some_callbacks c.args.first c.ranges.first.fits) (then_reads OF_CLASS_TEXT t.spots.items (group_number_link c.args.number c.args.first c.ranges.first.fits) (narrow OF_CLASS_TEXT t.spots.items refl (group_turns c.args.number c.args.first (token_at t.spots.items c.args.at)) (nothing OF_CLASS_TEXT t.spots.items (GroupPart c.args.number c.args.first) Any c.args.at c.requires.within)) c.in_ok-at.ensures.reads) (c.in_ok-at-2.ensures.reads OF_CLASS_TEXT) in
+    let l = behind_reads t (token.Sign sign.OpenCurly) (some_callbacks c.args.first c.ranges.first.fits)
+    (then_reads OF_CLASS_TEXT t.spots.items (group_number_link c.args.number c.args.first c.ranges.first.fits)
+    (narrow OF_CLASS_TEXT t.spots.items refl (group_turns c.args.number c.args.first (token_at t.spots.items c.args.at))
+    (nothing OF_CLASS_TEXT t.spots.items (GroupPart c.args.number c.args.first) Any c.args.at c.requires.within)) c.in_ok-at.ensures.reads) (c.in_ok-at-2.ensures.reads OF_CLASS_TEXT) in
     let p = err_from_is_err_and c.from_residual-in_err-callbacks.result c.from_residual-in_err-callbacks.ensures.1 in
     rw (p.1, p.2) (fails OF_CLASS_TEXT t l _ c.in_err-callbacks.ensures.reads)
 
 pub returns-clause-reads : goal.returns-clause-reads
 returns-clause-reads c =
     let t = c.args.tokens.now in
-    let l = behind_reads t (token.Sign sign.OpenCurly) (some_callbacks c.args.first c.ranges.first.fits) (then_reads OF_CLASS_TEXT t.spots.items (group_number_link c.args.number c.args.first c.ranges.first.fits) (narrow OF_CLASS_TEXT t.spots.items refl (group_turns c.args.number c.args.first (token_at t.spots.items c.args.at)) (nothing OF_CLASS_TEXT t.spots.items (GroupPart c.args.number c.args.first) Any c.args.at c.requires.within)) c.in_ok-at.ensures.reads) (c.in_ok-at-2.ensures.reads OF_CLASS_TEXT) in
+    let l = behind_reads t (token.Sign sign.OpenCurly) (some_callbacks c.args.first c.ranges.first.fits)
+    (then_reads OF_CLASS_TEXT t.spots.items (group_number_link c.args.number c.args.first c.ranges.first.fits)
+    (narrow OF_CLASS_TEXT t.spots.items refl (group_turns c.args.number c.args.first (token_at t.spots.items c.args.at))
+    (nothing OF_CLASS_TEXT t.spots.items (GroupPart c.args.number c.args.first) Any c.args.at c.requires.within)) c.in_ok-at.ensures.reads) (c.in_ok-at-2.ensures.reads OF_CLASS_TEXT) in
     done OF_CLASS_TEXT t.spots.items l c.in_ok-callbacks.ensures.reads

@@ -30,14 +30,16 @@ returns-then-is_word-clause-reads c =
 pub returns-in_err-at-clause-reads : goal.returns-in_err-at-clause-reads
 returns-in_err-at-clause-reads c =
     let t = c.args.tokens.now in
-    let l = narrow OF_CLASS_TEXT t.spots.items refl (wait_turns (token_at t.spots.items c.args.at) (λ e. not_true (c.if-is_word.ensures.word.1 e))) (nothing OF_CLASS_TEXT t.spots.items Operand Any c.args.at c.requires.within) in
+    let l = narrow OF_CLASS_TEXT t.spots.items refl (wait_turns (token_at t.spots.items c.args.at) (λ e. not_true (c.if-is_word.ensures.word.1 e)))
+    (nothing OF_CLASS_TEXT t.spots.items Operand Any c.args.at c.requires.within) in
     let p = err_from_is_err_and c.from_residual-in_err-at.result c.from_residual-in_err-at.ensures.1 in
     rw (p.1, p.2) (behind_fails t (token.Word word.Wait) some_test l _ (c.in_err-at.ensures.reads OF_CLASS_TEXT))
 
 pub returns-in_err-of-2-clause-reads : goal.returns-in_err-of-2-clause-reads
 returns-in_err-of-2-clause-reads c =
     let t = c.args.tokens.now in
-    let l = narrow OF_CLASS_TEXT t.spots.items refl (wait_turns (token_at t.spots.items c.args.at) (λ e. not_true (c.if-is_word.ensures.word.1 e))) (nothing OF_CLASS_TEXT t.spots.items Operand Any c.args.at c.requires.within) in
+    let l = narrow OF_CLASS_TEXT t.spots.items refl (wait_turns (token_at t.spots.items c.args.at) (λ e. not_true (c.if-is_word.ensures.word.1 e)))
+    (nothing OF_CLASS_TEXT t.spots.items Operand Any c.args.at c.requires.within) in
     let m = behind_reads t (token.Word word.Wait) some_test l (c.in_ok-at.ensures.reads OF_CLASS_TEXT) in
     let p = err_from_is_err_and c.from_residual-in_err-of-2.result c.from_residual-in_err-of-2.ensures.1 in
     rw (p.1, p.2) (fails OF_CLASS_TEXT t m _ c.in_err-of-2.ensures.reads)
@@ -45,6 +47,7 @@ returns-in_err-of-2-clause-reads c =
 pub returns-clause-reads : goal.returns-clause-reads
 returns-clause-reads c =
     let t = c.args.tokens.now in
-    let l = narrow OF_CLASS_TEXT t.spots.items refl (wait_turns (token_at t.spots.items c.args.at) (λ e. not_true (c.if-is_word.ensures.word.1 e))) (nothing OF_CLASS_TEXT t.spots.items Operand Any c.args.at c.requires.within) in
+    let l = narrow OF_CLASS_TEXT t.spots.items refl (wait_turns (token_at t.spots.items c.args.at) (λ e. not_true (c.if-is_word.ensures.word.1 e)))
+    (nothing OF_CLASS_TEXT t.spots.items Operand Any c.args.at c.requires.within) in
     let m = behind_reads t (token.Word word.Wait) some_test l (c.in_ok-at.ensures.reads OF_CLASS_TEXT) in
     done OF_CLASS_TEXT t.spots.items m c.in_ok-of-2.ensures.reads

@@ -27,19 +27,27 @@ returns-in_err-at-clause-reads c =
 pub returns-in_err-args-clause-reads : goal.returns-in_err-args-clause-reads
 returns-in_err-args-clause-reads c =
     let t = c.args.tokens.now in
-    let l = behind_reads t (token.Sign sign.OpenRound) some_closed_args (then_reads OF_CLASS_TEXT t.spots.items callee_link (as_left act_tree Act t (nothing OF_CLASS_TEXT t.spots.items ActInstrPart Any c.args.at c.requires.within)) c.in_ok-path.ensures.reads) (c.in_ok-at.ensures.reads OF_CLASS_TEXT) in
+    let l = behind_reads t (token.Sign sign.OpenRound) some_closed_args
+    (then_reads OF_CLASS_TEXT t.spots.items callee_link (as_left act_tree Act t (nothing OF_CLASS_TEXT t.spots.items ActInstrPart Any c.args.at c.requires.within)) c.in_ok-path.ensures.reads)
+    (c.in_ok-at.ensures.reads OF_CLASS_TEXT) in
     let p = err_from_is_err_and c.from_residual-in_err-args.result c.from_residual-in_err-args.ensures.1 in
     rw (p.1, p.2) (closed_fails t (token.Sign sign.Semicolon) Any (any_token (token.Sign sign.Semicolon)) l _ c.in_err-args.ensures.reads)
 
 pub returns-in_err-to-clause-reads : goal.returns-in_err-to-clause-reads
 returns-in_err-to-clause-reads c =
     let t = c.args.tokens.now in
-    let l = closed_reads t (token.Sign sign.Semicolon) Any (any_token (token.Sign sign.Semicolon)) (behind_reads t (token.Sign sign.OpenRound) some_closed_args (then_reads OF_CLASS_TEXT t.spots.items callee_link (as_left act_tree Act t (nothing OF_CLASS_TEXT t.spots.items ActInstrPart Any c.args.at c.requires.within)) c.in_ok-path.ensures.reads) (c.in_ok-at.ensures.reads OF_CLASS_TEXT)) c.in_ok-args.ensures.reads in
+    let l = closed_reads t (token.Sign sign.Semicolon) Any (any_token (token.Sign sign.Semicolon))
+    (behind_reads t (token.Sign sign.OpenRound) some_closed_args (then_reads OF_CLASS_TEXT t.spots.items callee_link
+    (as_left act_tree Act t (nothing OF_CLASS_TEXT t.spots.items ActInstrPart Any c.args.at c.requires.within)) c.in_ok-path.ensures.reads) (c.in_ok-at.ensures.reads OF_CLASS_TEXT))
+    c.in_ok-args.ensures.reads in
     let p = err_from_is_err_and c.from_residual-in_err-to.result c.from_residual-in_err-to.ensures.1 in
     rw (p.1, p.2) (fails OF_CLASS_TEXT t l _ (c.in_err-to.ensures.reads OF_CLASS_TEXT))
 
 pub returns-clause-reads : goal.returns-clause-reads
 returns-clause-reads c =
     let t = c.args.tokens.now in
-    let l = closed_reads t (token.Sign sign.Semicolon) Any (any_token (token.Sign sign.Semicolon)) (behind_reads t (token.Sign sign.OpenRound) some_closed_args (then_reads OF_CLASS_TEXT t.spots.items callee_link (as_left act_tree Act t (nothing OF_CLASS_TEXT t.spots.items ActInstrPart Any c.args.at c.requires.within)) c.in_ok-path.ensures.reads) (c.in_ok-at.ensures.reads OF_CLASS_TEXT)) c.in_ok-args.ensures.reads in
+    let l = closed_reads t (token.Sign sign.Semicolon) Any (any_token (token.Sign sign.Semicolon))
+    (behind_reads t (token.Sign sign.OpenRound) some_closed_args (then_reads OF_CLASS_TEXT t.spots.items callee_link
+    (as_left act_tree Act t (nothing OF_CLASS_TEXT t.spots.items ActInstrPart Any c.args.at c.requires.within)) c.in_ok-path.ensures.reads) (c.in_ok-at.ensures.reads OF_CLASS_TEXT))
+    c.in_ok-args.ensures.reads in
     done OF_CLASS_TEXT t.spots.items l (c.in_ok-to.ensures.reads OF_CLASS_TEXT)

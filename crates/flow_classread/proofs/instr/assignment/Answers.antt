@@ -26,12 +26,14 @@ returns-in_err-at-clause-reads c =
 pub returns-in_err-value-clause-reads : goal.returns-in_err-value-clause-reads
 returns-in_err-value-clause-reads c =
     let t = c.args.tokens.now in
-    let l = behind_reads t (token.Sign sign.Assign) some_ended (then_reads OF_CLASS_TEXT t.spots.items path_link (nothing OF_CLASS_TEXT t.spots.items Assignment Any c.args.at c.requires.within) c.in_ok-path.ensures.reads) (c.in_ok-at.ensures.reads OF_CLASS_TEXT) in
+    let l = behind_reads t (token.Sign sign.Assign) some_ended (then_reads OF_CLASS_TEXT t.spots.items path_link (nothing OF_CLASS_TEXT t.spots.items Assignment Any c.args.at c.requires.within)
+    c.in_ok-path.ensures.reads) (c.in_ok-at.ensures.reads OF_CLASS_TEXT) in
     let p = err_from_is_err_and c.from_residual-in_err-value.result c.from_residual-in_err-value.ensures.1 in
     rw (p.1, p.2) (fails OF_CLASS_TEXT t l _ c.in_err-value.ensures.reads)
 
 pub returns-clause-reads : goal.returns-clause-reads
 returns-clause-reads c =
     let t = c.args.tokens.now in
-    let l = behind_reads t (token.Sign sign.Assign) some_ended (then_reads OF_CLASS_TEXT t.spots.items path_link (nothing OF_CLASS_TEXT t.spots.items Assignment Any c.args.at c.requires.within) c.in_ok-path.ensures.reads) (c.in_ok-at.ensures.reads OF_CLASS_TEXT) in
+    let l = behind_reads t (token.Sign sign.Assign) some_ended (then_reads OF_CLASS_TEXT t.spots.items path_link (nothing OF_CLASS_TEXT t.spots.items Assignment Any c.args.at c.requires.within)
+    c.in_ok-path.ensures.reads) (c.in_ok-at.ensures.reads OF_CLASS_TEXT) in
     done OF_CLASS_TEXT t.spots.items l c.in_ok-value.ensures.reads

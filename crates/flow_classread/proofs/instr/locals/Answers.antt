@@ -9,14 +9,19 @@ use Rattle.flow_classread.proofs.instr.locals.Goals as goal
 pub items-init : goal.items-init
 items-init c =
     let t = c.args.tokens.now in
-    let q = c.in_ok-push.ensures.items ∙ ap (λ z. z ++ c.in_ok-first.first ∷ []) c.new-locals.ensures.items in
-    (omega (arith, c.in_ok-first.ensures.moves.0), c.in_ok-first.ensures.moves.1, locals_init t c.args.at c.requires.within c.in_ok-first.at c.push.new.self.items c.in_ok-first.first q c.in_ok-first.ensures.reads)
+    let q = c.in_ok-push.ensures.items ∙ ap (λ z. z ++ c.in_ok-first.first ∷ []) c.new-locals.ensures.items in (
+      omega (arith, c.in_ok-first.ensures.moves.0),
+      c.in_ok-first.ensures.moves.1,
+      locals_init t c.args.at c.requires.within c.in_ok-first.at c.push.new.self.items c.in_ok-first.first q
+          c.in_ok-first.ensures.reads,
+    )
 
 pub items-preserved : goal.items-preserved
 items-preserved c =
     let t = c.args.tokens.now in
     let i = c.items.invariant in
-    let l = locals_step t c.args.at c.items.at c.items.locals.items i.2 c.in_ok-next.to c.push-in-items.new.self.items c.in_ok-next.next (c.items-test.ensures.sign.0 refl) c.in_ok-push-2.ensures.items c.in_ok-next.ensures.reads in
+    let l = locals_step t c.args.at c.items.at c.items.locals.items i.2 c.in_ok-next.to c.push-in-items.new.self.items c.in_ok-next.next (c.items-test.ensures.sign.0 refl) c.in_ok-push-2.ensures.items
+    c.in_ok-next.ensures.reads in
     (omega (arith, i.0, c.in_ok-next.ensures.moves.0), c.in_ok-next.ensures.moves.1, l)
 
 pub returns-in_err-first-clause-reads : goal.returns-in_err-first-clause-reads

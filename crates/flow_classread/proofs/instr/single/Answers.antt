@@ -19,4 +19,5 @@ pub returns-clause-reads : goal.returns-clause-reads
 returns-clause-reads c =
     let t = c.args.tokens.now in
     let l = as_left single_tree Named t (nothing OF_CLASS_TEXT t.spots.items SinglePart Any c.args.at c.requires.within) in
-    subst (λ z. Reads OF_CLASS_TEXT SinglePart Any t.spots.items c.args.at z c.in_ok-first.to) (sym (c.in_ok-push.ensures.items ∙ ap (λ z. z ++ c.in_ok-first.first ∷ []) c.new-path.ensures.items)) (done OF_CLASS_TEXT t.spots.items l (c.in_ok-first.ensures.reads OF_CLASS_TEXT))
+    subst (λ z. Reads OF_CLASS_TEXT SinglePart Any t.spots.items c.args.at z c.in_ok-first.to) (sym (c.in_ok-push.ensures.items ∙ ap (λ z. z ++ c.in_ok-first.first ∷ []) c.new-path.ensures.items))
+    (done OF_CLASS_TEXT t.spots.items l (c.in_ok-first.ensures.reads OF_CLASS_TEXT))

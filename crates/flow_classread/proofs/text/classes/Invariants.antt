@@ -9,7 +9,9 @@ use Rattle.flow_classread.proofs.TextReads.{All}
 use Rattle.flow_classread.proofs.text.classes.Given as goal
 
 abbrev pub invariant-items : goal.invariant-items
-invariant-items l = (l.fn.at ≤ l.at) × (l.at ≤ length l.tokens.spots.items) × Leaves OF_CLASS_TEXT ClassesRule AtEnd ClassesRule (NotFirst All) (λ ys. map class_of l.classes.items ++ ys) l.tokens.spots.items l.fn.at l.at
+invariant-items l =
+    (l.fn.at ≤ l.at) × (l.at ≤ length l.tokens.spots.items) × Leaves OF_CLASS_TEXT ClassesRule AtEnd ClassesRule (NotFirst All) (λ ys. map class_of l.classes.items ++ ys) l.tokens.spots.items l.fn.at
+    l.at
 
 abbrev pub decreases-items : goal.decreases-items
 decreases-items l = length l.tokens.spots.items - l.at

@@ -5,7 +5,12 @@ use Rattle.flow_classread.proofs.TextReads.{rest_init, record_fails, record_read
 use Rattle.flow_classread.proofs.text.rest.Goals as goal
 
 pub items-init : goal.items-init
-items-init c = (omega arith, c.requires.within, rest_init c.args.tokens.now c.args.at c.requires.within c.new-records.result.items c.new-functions.result.items c.new-records.ensures.items c.new-functions.ensures.items)
+items-init c = (
+  omega arith,
+  c.requires.within,
+  rest_init c.args.tokens.now c.args.at c.requires.within c.new-records.result.items c.new-functions.result.items c.new-records.ensures.items
+      c.new-functions.ensures.items,
+)
 
 pub items-preserved-then-is_word : goal.items-preserved-then-is_word
 items-preserved-then-is_word c =
@@ -28,7 +33,10 @@ pub returns-in_err-next : goal.returns-in_err-next
 returns-in_err-next c =
     let t = c.args.tokens.now in
     let p = err_from_is_err_and c.from_residual.result c.from_residual.ensures.1 in
-    rw (p.1, p.2) (record { reads = record_fails t c.args.at c.requires.within c.items.at c.items.records.items c.items.functions.items c.items.invariant.2 (c.if-is_word.ensures.word.0 refl) _ c.in_err-next.ensures.reads })
+    rw (p.1, p.2) (record {
+      reads = record_fails t c.args.at c.requires.within c.items.at c.items.records.items c.items.functions.items c.items.invariant.2 (c.if-is_word.ensures.word.0 refl) _
+          c.in_err-next.ensures.reads;
+    })
 
 pub returns-in_err-next-2 : goal.returns-in_err-next-2
 returns-in_err-next-2 c =
@@ -44,7 +52,10 @@ pub returns-in_err-classes : goal.returns-in_err-classes
 returns-in_err-classes c =
     let t = c.args.tokens.now in
     let p = err_from_is_err_and c.from_residual-in_err-classes.result c.from_residual-in_err-classes.ensures.1 in
-    rw (p.1, p.2) (record { reads = rest_fails t c.args.at c.requires.within c.items.at c.items.records.items c.items.functions.items c.items.invariant.2 c.items-test.ensures _ c.in_err-classes.ensures.reads })
+    rw (p.1, p.2) (record {
+      reads = rest_fails t c.args.at c.requires.within c.items.at c.items.records.items c.items.functions.items c.items.invariant.2 c.items-test.ensures _
+          c.in_err-classes.ensures.reads;
+    })
 
 pub returns : goal.returns
 returns c =

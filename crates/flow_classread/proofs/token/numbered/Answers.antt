@@ -22,12 +22,15 @@ returns-in_err-at-clause-reads c =
 pub returns-in_err-to-clause-reads : goal.returns-in_err-to-clause-reads
 returns-in_err-to-clause-reads c =
     let t = c.args.tokens.now in
-    let l = behind_reads t (token.Name c.args.word.now) (some_opening [] (token.Number (pos c.args.n))) (nothing OF_CLASS_TEXT t.spots.items (Numbered c.args.word.now c.args.n) Any c.args.at c.requires.within) c.in_ok-at.ensures.reads in
+    let l = behind_reads t (token.Name c.args.word.now) (some_opening [] (token.Number (pos c.args.n)))
+    (nothing OF_CLASS_TEXT t.spots.items (Numbered c.args.word.now c.args.n) Any c.args.at c.requires.within) c.in_ok-at.ensures.reads in
     let p = err_from_is_err_and c.from_residual-in_err-to.result c.from_residual-in_err-to.ensures.1 in
     rw (p.1, p.2) (fails OF_CLASS_TEXT t l _ c.in_err-to.ensures.reads)
 
 pub returns-clause-reads : goal.returns-clause-reads
 returns-clause-reads c =
     let t = c.args.tokens.now in
-    let l = behind_reads t (token.Name c.args.word.now) (some_opening [] (token.Number (pos c.args.n))) (nothing OF_CLASS_TEXT t.spots.items (Numbered c.args.word.now c.args.n) Any c.args.at c.requires.within) c.in_ok-at.ensures.reads in
-    subst (λ k. Reads OF_CLASS_TEXT (Numbered c.args.word.now c.args.n) Any t.spots.items c.args.at (place_at t k) c.in_ok-to.to) c.in_ok-at.ensures.moves.0 (done OF_CLASS_TEXT t.spots.items l c.in_ok-to.ensures.reads)
+    let l = behind_reads t (token.Name c.args.word.now) (some_opening [] (token.Number (pos c.args.n)))
+    (nothing OF_CLASS_TEXT t.spots.items (Numbered c.args.word.now c.args.n) Any c.args.at c.requires.within) c.in_ok-at.ensures.reads in
+    subst (λ k. Reads OF_CLASS_TEXT (Numbered c.args.word.now c.args.n) Any t.spots.items c.args.at (place_at t k) c.in_ok-to.to) c.in_ok-at.ensures.moves.0
+    (done OF_CLASS_TEXT t.spots.items l c.in_ok-to.ensures.reads)

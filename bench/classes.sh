@@ -1,0 +1,54 @@
+#!/bin/sh
+# Times the reading and judging of class text, best of five runs each, with the peak of memory: what 1 MiB of mixed program text is compiled
+# to; some 16 MB of such text, and half of it; and 16 MiB of single signs, which are refused. Each class text has a `main` that ends at
+# once, so that `exec` of it takes no time for the run.
+# Usage: bench/classes.sh [COMMAND], after `./flow build`; COMMAND runs in its place.
+set -e
+top=$(cd "$(dirname "$0")/.." && pwd)
+command=${1:-$top/crates/flow_prog/out/flow_prog}
+work=$(mktemp -d)
+trap 'rm -r "$work"' EXIT
+
+# Mixed program text of some 200,000 tokens, with names of its own.
+mixed() {
+    awk -v part="$1" 'BEGIN {
+        for (i = part * 1015; i < (part + 1) * 1015; i++) {
+            printf "struct Order%d { int number; Promise<int> reply; };\n", i
+            printf "int cost%d(int n, bool twice) { int sum = 0; for (int k = 0; k < n; k++) { if (k %% 2 == 0 || twice) sum += k * (k + 1); else sum -= 1; } return sum; }\n", i
+            printf "ACTOR Future<int> ask%d(PromiseStream<Order%d> to, int n) {\n    state int sum = cost%d(n, n > 3);\n", i, i, i
+            printf "    Promise<int> reply;\n    to.send(Order%d(sum, reply));\n", i
+            print "    try { int got = wait(reply.getFuture()); sum += got; } catch (Error& e) { trace(e.code()); }"
+            print "    choose { when (wait(delay(n))) { sum++; } when (wait(Never())) { throw end_of_stream(); } }\n    return sum;\n}"
+        }
+        print "ACTOR Future<Void> main(int p) {\n    return Void();\n}"
+    }'
+}
+
+# The class texts of so many parts as one: the records and functions first, and `main` of the first part alone.
+joined() {
+    echo "classes 1"
+    for part in $(seq 0 $(($1 - 1))); do
+        sed -n '2,/^class /p' "$work/$part.classes" | sed '$d'
+    done
+    for part in $(seq 0 $(($1 - 1))); do
+        sed -n '/^class /,$p' "$work/$part.classes" | awk -v part="$part" '/^class main / && part > 0 { exit } { print }'
+    done
+}
+
+for part in 0 1 2 3 4 5 6 7 8 9 10 11 12; do
+    mixed $part >"$work/program.flow"
+    "$command" compile "$work/program.flow" >"$work/$part.classes"
+done
+joined 1 >"$work/mixed.classes"
+joined 6 >"$work/half.classes"
+joined 12 >"$work/large.classes"
+awk 'BEGIN { for (i = 0; i < 16384; i++) { for (k = 0; k < 1023; k++) printf ";"; print "" } }' >"$work/signs.classes"
+: >"$work/empty.world"
+
+for text in mixed half large signs; do
+    best=$(for _ in 1 2 3 4 5; do
+        /usr/bin/env time -f %U "$command" exec "$work/$text.classes" "$work/empty.world" 2>&1 >/dev/null | tail -n 1
+    done | sort -n | head -n 1)
+    peak=$(/usr/bin/env time -f %M "$command" exec "$work/$text.classes" "$work/empty.world" 2>&1 >/dev/null | tail -n 1)
+    echo "$text: $(wc -c <"$work/$text.classes") bytes, $best s, $peak KB"
+done
