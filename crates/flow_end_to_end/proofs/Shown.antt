@@ -43,7 +43,7 @@ use Rattle.flow_end_to_end.specs.Exact.{HaveFewPlaces, ClassesShown, ProgramShow
 pub code_first : (c : RawClasses) (file : World0) → AreWhole (raw_of c) → HaveFewPlaces (raw_of c) → (w : Seen) → Starts c file w → IsProgram (raw_of c) w.code
 code_first c file whole few w s = record {
   whole = whole;
-  coded = record { program = ap raw_of s.program; coded = s.coded };
+  coded = record { program = ap raw_of s.code.program; coded = s.code.coded };
   few = few;
 }
 

@@ -14,3 +14,5 @@ mod running;
 mod traces;
 #[cfg(test)]
 mod watched;
+#[cfg(test)]
+mod worlds;

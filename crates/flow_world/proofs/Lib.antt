@@ -20,3 +20,4 @@ pub mod Parts
 pub mod WatchedTraces
 pub mod Watching
 pub mod Writing
+pub mod Skips

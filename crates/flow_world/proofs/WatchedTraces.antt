@@ -1,6 +1,6 @@
 -- A trace that a panel hears, event after event.
 use Rattle.std.proofs.Common.{◌≡◌, ℕ, Bool, refl, subst}
-use Rattle.std.specs.Prelude.{Result, true, false}
+use Rattle.std.specs.Prelude.{Result, Ok, true, false}
 use Rattle.std.specs.declared.option.Option.{Option}
 use Rattle.std.specs.declared.option.Option.TheVariants.{None}
 use Rattle.flow_base.specs.declared.fault.OutFault.{OutFault}
@@ -20,11 +20,13 @@ use Rattle.flow_world.specs.Ending.{Seen}
 use Rattle.flow_world.specs.FaultedLines.{Telling, tells, telling, whole, failed}
 use Rattle.flow_world.specs.Happening.{EventDoes, Breaks}
 use Rattle.flow_world.specs.BreakingEvents.{EventFails}
-use Rattle.flow_world.specs.BreakingTraces.{FramesStuckIf, FramesFail, EventsFail, event_fails, frames_fail, counted_out, TraceFails, no_memory}
+use Rattle.flow_world.specs.BreakingTraces.{FramesStuckIf, FramesFail, EventsFail, event_fails, frames_fail, counted_out, RestFails, in_events, unnamed, at_last, TraceFails, no_memory, events_fail, no_name, end_fails}
 use Rattle.flow_world.specs.Tracing.{lines_if, no_event, one_more, last_answer}
 use Rattle.flow_world.specs.Watching.{Hearing, hearing, watching, hears, EventHeard}
-use Rattle.flow_world.specs.WatchedTraces.{Quietly, EndsItself, StopsAfter, HeardInPart, in_event, in_frames}
-use Rattle.flow_world.proofs.Watching.{lines_unheard, unheard_puts, unheard_part, lines_same}
+use Rattle.flow_world.specs.WatchedTraces.{Quietly, EndsItself, StopsAfter, HeardInPart, in_event, in_frames, HeardRest, HeardRestPart, in_rest, no_last, HeardTrace, HeardTracePart, in_run, no_end}
+use Rattle.flow_world.specs.declared.run_ending.RunEnding.{RunEnding}
+use Rattle.flow_trace.specs.declared.line.Line.TheVariants as line
+use Rattle.flow_world.proofs.Watching.{lines_unheard, unheard_line, unheard_puts, unheard_part, lines_same}
 
 -- what an event does, whoever said Stop in it
 abbrev pub HeardSo : {A : Type 0} (puts : A → Line → Result (Unit {0}) OutFault → A → Type 0) → Event → Seen → A → Ears → Seen → A → Ears → Type 0
@@ -166,3 +168,30 @@ module _ {A : Type 0} (puts : A → Line → Result (Unit {0}) OutFault → A �
 
   pub fails_before : (classes : RawClasses) (file : World0) (a : A) (ears : Ears) → TraceFailsSo classes file a ears OutOfMemory a ears
   fails_before classes file a ears = (None, None, no_memory refl refl)
+
+  -- a trace is its first line and what is put after it
+  module _ (classes : RawClasses) (file : World0) (first : Seen) (a h : A) (ears : Ears) (starts : Starts classes file first) (head : puts a line.Head (Ok tt) h) where
+    headed : hears puts (watching a ears) line.Head (Ok tt) (watching h ears)
+    headed = unheard_line puts ears None a h line.Head refl head
+
+    pub rest_traced : (e : RunEnding) (b : Telling (Hearing A)) → HeardRest puts with_frames first (watching h ears) e b
+        → HeardTrace puts with_frames classes file (watching a ears) e b
+    rest_traced e b t = record {
+      first = first;
+      headed = watching h ears;
+      before = t.before;
+      starts = starts;
+      head = headed;
+      goes = t.goes;
+      ended = t.ended;
+    }
+
+    pub rest_in_part : (b : Hearing A) → HeardRestPart puts with_frames first (watching h ears) b → HeardTracePart puts with_frames classes file (watching a ears) b
+    rest_in_part b (in_rest t) = in_run starts headed t
+    rest_in_part b (no_last {e} t) = no_end {e = e} (rest_traced e (failed b) t)
+
+    pub rest_failed : (z : RunFault) (t : Telling (Hearing A)) → RestFails puts with_frames first (watching h ears) z t
+        → TraceFails puts with_frames classes file (watching a ears) z t
+    rest_failed z t (in_events x) = events_fail first (watching h ears) starts headed x
+    rest_failed z t (unnamed e before m is goes) = no_name e first (watching h ears) before m is starts headed goes
+    rest_failed z t (at_last fault e is failed x) = end_fails fault e is failed (rest_traced e t x)

@@ -172,7 +172,7 @@ module _ {A : Type 0} (puts : A → Line → Result (Unit {0}) OutFault → A �
 pub answer_means : (w : Seen) (e : Event) (stop : Option ℕ) (v u : Seen) → u ≡ world_heard e stop v → MeansEvent w (Ok e) v → MeansEvent w (Ok (answer_heard e stop)) u
 answer_means w Ran None v u e t = subst (MeansEvent w (Ok Ran)) (sym e) t
 answer_means w Ran (Some k) v u e t =
-    subst (MeansEvent w (Ok (Stopped k))) (sym e) (record { may = t.0.may; ran = t.0.ran; bound = t.0.bound }, refl)
+    subst (MeansEvent w (Ok (Stopped k))) (sym e) (record { may = t.0.may; ran = t.0.ran; bound = t.0.bound; file = t.0.file }, refl)
 answer_means w Idle stop v u e t = subst (MeansEvent w (Ok Idle)) (sym e) t
 answer_means w BoundReached stop v u e t = subst (MeansEvent w (Ok BoundReached)) (sym e) t
 answer_means w Spent stop v u e t = subst (MeansEvent w (Ok Spent)) (sym e) t

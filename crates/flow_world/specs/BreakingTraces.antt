@@ -24,7 +24,7 @@ use Rattle.flow_world.specs.BreakingEvents.{EventFails}
 use Rattle.flow_world.specs.Views.{frames_at}
 use Rattle.flow_world.specs.Tracing.{lines_if}
 use Rattle.flow_world.specs.Watching.{Hearing, hears}
-use Rattle.flow_world.specs.WatchedTraces.{Quietly, HeardToEnd, HeardTrace}
+use Rattle.flow_world.specs.WatchedTraces.{Quietly, HeardToEnd, HeardRest, HeardTrace}
 
 -- one of these frames is of no class
 abbrev pub SomeNoClass : List Class → List FrameView → Type 0
@@ -59,6 +59,15 @@ module _ {A : Type 0} (puts : A → Line → Result (Unit {0}) OutFault → A �
         → Happens (tells (hears puts)) u (whole b) Rested v (whole c) → FramesFail (hears puts) with_frames v (whole c) f t
         → EventsFail w a f t
     counted_out : {v : Seen} {b : Hearing A} → Quietly puts with_frames w a v b → f ≡ OutOfMemory → t ≡ whole b → EventsFail w a f t
+
+  -- What is put of a world from where it is fails: in its events; before the last line, where there is no memory for the name of who
+  -- stopped it; or at that line.
+  pub data RestFails (w : Seen) (a : Hearing A) (f : RunFault) (t : Telling (Hearing A)) : Type 0 where
+    in_events : EventsFail w a f t → RestFails w a f t
+    unnamed : (e : RunEnding) (before : Hearing A) → f ≡ OutOfMemory → t ≡ whole before → HeardToEnd puts with_frames e w a before
+        → RestFails w a f t
+    at_last : (fault : OutFault) (e : RunEnding) → f ≡ fault_of fault → t.fault ≡ Some fault → HeardRest puts with_frames w a e t
+        → RestFails w a f t
 
   -- A run fails: before its first line for want of memory; at that line; after it; before its last line, where there is no memory for the
   -- name of who stopped it; or at that line.

@@ -4,6 +4,7 @@ use Rattle.std.specs.declared.option.Option.{Option}
 use Rattle.std.specs.declared.option.Option.TheVariants.{None, Some}
 use Rattle.flow_worldfile.specs.declared.world.Act.{Act}
 use Rattle.flow_worldfile.specs.declared.world.At.{At}
+use Rattle.flow_worldfile.specs.declared.world.World0.{World0}
 use Rattle.flow_code.specs.declared.program.Code.{Code}
 use Rattle.flow_timers.specs.Pending.{next_event}
 use Rattle.flow_machine.specs.declared.host.RunFault.{RunFault}
@@ -36,7 +37,7 @@ next_of (Some line) (Some event) = if nat_le line event.0 then Some (line, true)
 
 -- A world in memory: its classes, its processes by number, what is outside of them, the lines of the script that are left,
 -- in the order in which they come, how many events have run, how many may, and how many turns one may take; and whether the
--- world has ended, so that no event may follow.
+-- world has ended, so that no event may follow; and the file that it was started from, with its script in the order of the file.
 pub record Seen : Type 0 where
   pub code : Code
   pub places : List Place
@@ -46,27 +47,30 @@ pub record Seen : Type 0 where
   pub bound : ℕ
   pub turns : ℕ
   pub ended : Bool
+  pub file : World0
 
 -- what comes next in it
 abbrev pub next : Seen → Option (ℕ × Bool)
 next w = next_of (script_time w.script) (next_event w.outside.timers.pending)
 
--- what is within an event leaves how many have run, how many may, and whether the world has ended
+-- what is within an event leaves how many have run, how many may, whether the world has ended, and its file
 pub record WithinEvent (before after : Seen) : Type 0 where
   pub ran : after.ran ≡ before.ran
   pub bound : after.bound ≡ before.bound
   pub ended : after.ended ≡ before.ended
+  pub file : after.file ≡ before.file
 
 -- something comes next, and fewer events than the bound have run
 pub record MayRun (before : Seen) : Type 0 where
   pub comes : IsSome (next before)
   pub within : before.ran < before.bound
 
--- one more event has run
+-- one more event has run, in the world of the same file
 pub record OneMore (before after : Seen) : Type 0 where
   pub may : MayRun before
   pub ran : after.ran ≡ before.ran + 1
   pub bound : after.bound ≡ before.bound
+  pub file : after.file ≡ before.file
 
 -- What a call for the next event means: nothing comes, or the bound is reached, and the world is as before; or the event
 -- ran. After one that was spent, stopped or broke off none may follow.

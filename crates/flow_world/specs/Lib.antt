@@ -19,3 +19,4 @@ pub mod Written
 pub mod Watching
 pub mod WatchedTraces
 pub mod BreakingTraces
+pub mod Skipping

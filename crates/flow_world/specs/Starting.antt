@@ -9,6 +9,7 @@ use Rattle.flow_worldfile.specs.declared.world.World0.{World0}
 use Rattle.flow_class.specs.declared.class.RawClasses.{RawClasses}
 use Rattle.flow_class.specs.View.{raw_of}
 use Rattle.flow_code.specs.Coded.{IsCoded}
+use Rattle.flow_code.specs.declared.program.Code.{Code}
 use Rattle.flow_timers.specs.Pending.{Pending, Queue}
 use Rattle.flow_simnet.specs.Links.{open_links}
 use Rattle.flow_steps.specs.Doing.{never_ran}
@@ -56,15 +57,20 @@ pub record ScriptInOrder (written : List At) (lines : List At) : Type 0 where
   pub sorted : IsSortedByKey (λ line. line.time) nat_cmp lines
   pub stable : IsStableByKey (λ line. line.time) nat_cmp written lines
 
+-- these classes as they are run
+pub record IsCodeOf (classes : RawClasses) (code : Code) : Type 0 where
+  pub program : code.program ≡ classes
+  pub coded : IsCoded (raw_of classes) code.fields code.classes.items code.main
+
 -- the world that a file describes, with these classes and their code, before its first event
-pub record Starts (classes : RawClasses) (file : World0) (w : Seen) : Type 0 where
-  pub program : w.code.program ≡ classes
-  pub coded : IsCoded (raw_of classes) w.code.fields w.code.classes.items w.code.main
-  pub count : length w.places ≡ file.processes
-  pub places : AreFresh file.processes 0 w.places
-  pub outside : w.outside ≡ outside_at_start file
-  pub script : ScriptInOrder file.script.items w.script
+pub record Starts (classes : RawClasses) (from : World0) (w : Seen) : Type 0 where
+  pub code : IsCodeOf classes w.code
+  pub count : length w.places ≡ from.processes
+  pub places : AreFresh from.processes 0 w.places
+  pub outside : w.outside ≡ outside_at_start from
+  pub script : ScriptInOrder from.script.items w.script
   pub ran : w.ran ≡ 0
-  pub bound : w.bound ≡ file.events
-  pub turns : w.turns ≡ file.turns
+  pub bound : w.bound ≡ from.events
+  pub turns : w.turns ≡ from.turns
   pub ended : w.ended ≡ false
+  pub file : w.file ≡ from

@@ -65,6 +65,17 @@ module _ {A : Type 0} (puts : A → Line → Result (Unit {0}) OutFault → A �
     in_frames : {u v : Seen} {c d : Hearing A} → Quietly w a u c → Happens (tells (hears puts)) u (whole c) Rested v (whole d)
         → Puts (tells (hears puts)) (whole d) (lines_if with_frames v) (failed b) → HeardInPart w a b
 
+  -- what is put of a world from where it is, up to the last line, which may have failed
+  pub record HeardRest (w : Seen) (a : Hearing A) (e : RunEnding) (b : Telling (Hearing A)) : Type 0 where
+    pub before : Hearing A
+    pub goes : HeardToEnd e w a before
+    pub ended : tells (hears puts) (whole before) (last_line a.ears e) (Ok tt) b
+
+  -- a put failed there: one in an event or in the frames after it, or the last
+  pub data HeardRestPart (w : Seen) (a b : Hearing A) : Type 0 where
+    in_rest : HeardInPart w a b → HeardRestPart w a b
+    no_last : {e : RunEnding} → HeardRest w a e (failed b) → HeardRestPart w a b
+
   -- the trace, from its first line to its last, which may have failed
   pub record HeardTrace (classes : RawClasses) (file : World0) (a : Hearing A) (e : RunEnding) (b : Telling (Hearing A)) : Type 0 where
     pub first : Seen

@@ -10,7 +10,8 @@ world_seen w = record {
   outside = seen w.outside;
   script = w.script;
   ran = w.ran;
-  bound = w.events;
-  turns = w.turns;
+  bound = w.file.events;
+  turns = w.file.turns;
   ended = w.ended;
+  file = w.file;
 }

@@ -16,6 +16,8 @@ mod ports;
 pub mod put;
 mod run_ending;
 mod script;
+pub mod silence;
+mod skipping;
 mod starting;
 pub mod teller;
 mod to_sink;

@@ -1,16 +1,22 @@
 // What stands in a world before its first event.
 
 ghost use Rattle.std.specs.Prelude.{◌≡◌, ◌<◌, ◌≤◌, [], length, replicate, IfOk};
-ghost use Rattle.flow_world.specs.Starting.{AreFresh, boots};
+ghost use Rattle.flow_worldfile.specs.Worlds.{IsInRange, seen as file_seen};
+ghost use Rattle.flow_world.specs.Changes.{seen};
+ghost use Rattle.flow_world.specs.Starting.{AreFresh, ScriptInOrder, boots, outside_at_start};
 
-use crate::outside::What;
+use crate::outside::{Outside, What};
 use crate::place::Place;
 use crate::ports::Ports;
+use crate::script::Script;
 use flow_base::ids::ProcId;
 use flow_base::memory::NoMemory;
+use flow_draw::Draws;
 use flow_machine::machine::Machine;
 use flow_simdisk::Disk;
+use flow_simnet::Net;
 use flow_timers::Timers;
+use flow_worldfile::World0;
 use std::alloc::Global;
 
 // So many processes that never ran, up to 64.
@@ -53,8 +59,8 @@ fn first_boots(alloc: Global, processes: u8) -> Result<Timers<What>, NoMemory>
     Ok(timers)
 }
 
-/// A boot of each of so many processes, up to 64, their disks, and the processes, which never ran.
-pub fn first_parts(
+// A boot of each of so many processes, up to 64, their disks, and the processes, which never ran.
+fn first_parts(
     alloc: Global,
     processes: u8,
 ) -> Result<(Timers<What>, Vec<Disk>, Vec<Place>), NoMemory>
@@ -69,4 +75,28 @@ pub fn first_parts(
     let disks = fresh_disks(alloc, processes)?;
     let places = fresh_places(alloc, processes)?;
     Ok((timers, disks, places))
+}
+
+/// What stands in the world of a file before its first event: its processes, what is outside of them, and its script.
+pub fn first_state(alloc: Global, file: &World0) -> Result<(Vec<Place>, Outside, Script), NoMemory>
+    requires { IsInRange (file_seen file.now) }
+    ensures count { IfOk result (λ r. length r.0.items ≡ file.now.processes) }
+    ensures places { IfOk result (λ r. AreFresh file.now.processes 0 r.0.items) }
+    ensures outside { IfOk result (λ r. seen r.1 ≡ outside_at_start file.now) }
+    ensures script { IfOk result (λ r. ScriptInOrder file.now.script.items r.2) }
+{
+    let script = Script::new(Vec::from_slice(alloc, &file.script)?)?;
+    let words = Vec::from_slice(alloc, &file.words)?;
+    let net = Net::new(alloc, file.processes, file.latency, file.loss)?;
+    let (timers, disks, places) = first_parts(alloc, file.processes)?;
+    let outside = Outside {
+        alloc,
+        time: 0,
+        timers,
+        net,
+        disks,
+        draws: Draws::new(file.seed, words),
+        disk_delay: file.diskdelay,
+    };
+    Ok((places, outside, script))
 }

@@ -13,9 +13,10 @@ ghost use Rattle.flow_worldfile.specs.declared.world.World0.{World0 as File};
 ghost use Rattle.flow_world.specs.Starting.{Starts};
 ghost use Rattle.flow_world.specs.Worlds.{world_seen};
 ghost use Rattle.flow_world.specs.Ends.{PutLast};
-ghost use Rattle.flow_world.specs.BreakingTraces.{EventsFail, TraceFails};
+ghost use Rattle.flow_world.specs.BreakingTraces.{EventsFail, RestFails, TraceFails};
 ghost use Rattle.flow_world.specs.Watching.{hearing, watching};
-ghost use Rattle.flow_world.specs.WatchedTraces.{IsEnding, last_line, HeardToEnd, HeardInPart, HeardTrace, HeardTracePart};
+ghost use Rattle.flow_world.specs.WatchedTraces.{IsEnding, last_line, HeardToEnd, HeardInPart, HeardRest, HeardRestPart};
+ghost use Rattle.flow_world.specs.WatchedTraces.{HeardTrace, HeardTracePart};
 
 use crate::ending::Ending;
 use crate::frames::put_frames_if;
@@ -94,6 +95,37 @@ fn put_lines<P: Audience, L: LineOut>(
     ensures last { IfOk result (λ ending. PutLast L.puts (last_line (P.ears panel.old) ending) out.new) }
 {
     put(out, Line::Head)?;
+    put_rest(alloc, world, with_frames, panel, out)
+}
+
+#[tactic(auto, using(flow_machine::proofs::Causes::cause_before))]
+/// Runs a world from where it is to its end and puts the lines of it, with the frames after each event that was not spent where they
+/// are asked for, and the last line; or those up to the line that failed; or, where there is no memory, a first part of them. The
+/// panel hears the lines of events, and where one of it says Stop in an event that isn't spent, that event and its frames are the
+/// last.
+pub fn put_rest<P: Audience, L: LineOut>(
+    alloc: Global,
+    world: &mut World,
+    with_frames: bool,
+    panel: &mut P,
+    out: &mut L,
+) -> Result<RunEnding, RunFault>
+    requires { world.old.ended ≡ false }
+    ensures cause { RunCause (L.faults out.old) (L.faults out.new) result }
+    ensures kept { L.kept out.new ≡ L.kept out.old }
+    ensures names { names (P.ears panel.new) ≡ names (P.ears panel.old) }
+    ensures place { IfOk result (λ ending. IsEnding ending (length (P.ears panel.new))) }
+    ensures rests { IfOk result (λ ending. (stop : Option ℕ) × HeardRest L.puts with_frames
+        (world_seen world.old) (watching out.old (P.ears panel.old)) ending
+        (whole (hearing out.new (P.ears panel.new) stop))) }
+    ensures part { IsErrOf result Failed → (stop : Option ℕ) × HeardRestPart L.puts with_frames
+        (world_seen world.old) (watching out.old (P.ears panel.old))
+        (hearing out.new (P.ears panel.new) stop) }
+    ensures fails { IfErr result (λ f. (stop : Option ℕ) × (fault : Option Fault)
+        × RestFails L.puts with_frames (world_seen world.old) (watching out.old (P.ears panel.old)) f
+        (telling (hearing out.new (P.ears panel.new) stop) fault)) }
+    ensures last { IfOk result (λ ending. PutLast L.puts (last_line (P.ears panel.old) ending) out.new) }
+{
     let ending = put_events(alloc, world, with_frames, panel, out)?;
     let line = ending.line(alloc, panel)?;
     put(out, line)?;

@@ -1,6 +1,6 @@
 // The world.
 
-ghost use Rattle.std.specs.Prelude.{◌≡◌, ◌+◌, ◌-◌, ◌^◌, ◌<◌, false, true, min, slice_get, IfOk, IfErr, OnOk, IsErrOf};
+ghost use Rattle.std.specs.Prelude.{◌≡◌, ◌+◌, ◌-◌, ◌^◌, ◌<◌, ◌≤◌, false, true, min, slice_get, map, IfOk, IfErr, OnOk, OnErr, IsErrOf};
 ghost use Rattle.flow_worldfile.specs.Worlds.{IsInRange, seen};
 ghost use Rattle.flow_worldfile.specs.declared.world.Act.TheVariants as act;
 ghost use Rattle.flow_simnet.specs.Links.{cut, healed};
@@ -17,8 +17,10 @@ ghost use Rattle.flow_world.specs.Happening.{Vanishes, HeldAt, ActsAt, begins, w
 ghost use Rattle.flow_world.specs.BreakingEvents.{NoProcess, NoDisk, NoLink, ActsAtBreaks, RunsBreaks, OrderedBreaks};
 ghost use Rattle.flow_world.specs.BreakingEvents.{TakenBreaks, ArrivedBreaks, AnsweredBreaks, HappenedBreaks};
 ghost use Rattle.flow_world.specs.BreakingEvents.{LineBreaks, PendingBreaks, MomentBreaks, MomentFails, EventFails};
-ghost use Rattle.flow_world.specs.Starting.{Starts};
-ghost use Rattle.flow_world.specs.Views.{frames_at, callbacks_at, live_in};
+ghost use Rattle.flow_class.specs.declared.class.RawClasses.{RawClasses};
+ghost use Rattle.flow_world.specs.Starting.{IsCodeOf, Starts};
+ghost use Rattle.flow_heapstate.specs.State.{actor_kept};
+ghost use Rattle.flow_world.specs.Views.{frames_at, callbacks_at, NumbersRiseAt, actors_at, live_in};
 
 use crate::action::{EventAction, acts, holds_already};
 use crate::answers::{disk_line, disk_outcome, packet_value};
@@ -28,15 +30,15 @@ use crate::outside::{LAST_TIME, Outside, What};
 use crate::place::Place;
 use crate::put::{put, put_kept};
 use crate::script::Script;
-use crate::starting::first_parts;
+use crate::starting::first_state;
 use crate::teller::{Teller, unless_failed};
 use flow_base::ids::{CellId, ProcId};
 use flow_base::memory::NoMemory;
 use flow_code::program::Code;
-use flow_draw::Draws;
+use flow_heapstate::state::ActorState;
 use flow_machine::host::{Burst, RunFault};
 use flow_machine::views::{CallbackView, FrameView};
-use flow_simnet::{Net, Packet};
+use flow_simnet::Packet;
 use flow_trace::line::Line;
 use flow_trace::out::LineOut;
 use flow_valid::program::ClassProgram;
@@ -45,7 +47,8 @@ use flow_worldfile::{Act, World0};
 use std::alloc::Global;
 use std::snapshot::Snapshot;
 
-/// A world: its classes, its processes and what is outside of them, and how far its run has come.
+/// A world: its classes, its processes and what is outside of them, how far its run has come, and the file that describes it
+/// before its first event.
 #[derive(Drop)]
 pub struct World {
     alloc: Global,
@@ -54,9 +57,17 @@ pub struct World {
     outside: Outside,
     script: Script,
     ran: u32,
-    events: u32,
-    turns: u32,
     ended: bool,
+    file: World0,
+}
+
+// Whether fewer events than the bound have run, so that one more is counted.
+fn may_run(ran: u32, bound: u32) -> bool
+    ensures more { result ≡ true → ran < bound }
+    ensures counted { result ≡ true → ran + 1 < 2 ^ 32 }
+    ensures reached { result ≡ false → bound ≤ ran }
+{
+    ran < bound
 }
 
 impl World {
@@ -65,23 +76,11 @@ impl World {
         requires { IsInRange (seen world) }
         ensures starts { IfOk result (λ w. Starts classes world (world_seen w)) }
         ensures ran { IfOk result (λ w. w.ran ≡ 0) }
-        ensures bound { IfOk result (λ w. w.events ≡ world.events) }
         ensures ended { IfOk result (λ w. w.ended ≡ false) }
     {
-        // Each way out drops what was made before it, so that the small parts come together and last.
+        // Each way out drops what was made before it, so that the parts come together and last.
         let code = Code::new(alloc, classes)?;
-        let script = Script::new(world.script)?;
-        let net = Net::new(alloc, world.processes, world.latency, world.loss)?;
-        let (timers, disks, places) = first_parts(alloc, world.processes)?;
-        let outside = Outside {
-            alloc,
-            time: 0,
-            timers,
-            net,
-            disks,
-            draws: Draws::new(world.seed, world.words),
-            disk_delay: world.diskdelay,
-        };
+        let (places, outside, script) = first_state(alloc, &world)?;
         Ok(World {
             alloc,
             code,
@@ -89,10 +88,42 @@ impl World {
             outside,
             script,
             ran: 0,
-            events: world.events,
-            turns: world.turns,
             ended: false,
+            file: world,
         })
+    }
+
+    /// The same classes in another world, before its first event. Their names aren't resolved again. Unchanged on an error.
+    pub fn start_again(&mut self, file: World0) -> Result<(), NoMemory>
+        requires { IsInRange (seen file) }
+        ensures starts { OnOk result ((c : RawClasses) → IsCodeOf c (world_seen self.old).code
+            → Starts c file (world_seen self.new)) }
+        ensures code { self.new.code ≡ self.old.code }
+        ensures ended { OnOk result (self.new.ended ≡ false) }
+        ensures unchanged { OnErr result (world_seen self.new ≡ world_seen self.old) }
+    {
+        let (places, outside, script) = first_state(self.alloc, &file)?;
+        self.places = places;
+        self.outside = outside;
+        self.script = script;
+        self.ran = 0;
+        self.ended = false;
+        self.file = file;
+        Ok(())
+    }
+
+    /// The file that describes it before its first event, with its script in the order of the file.
+    pub fn file(&self) -> &World0
+        ensures { result.now ≡ self.now.file }
+    {
+        &self.file
+    }
+
+    /// How many events have run, and the time in ticks.
+    pub fn at(&self) -> (u32, u64)
+        ensures { result ≡ (self.now.ran, self.now.outside.time) }
+    {
+        (self.ran, self.outside.time)
     }
 
     /// The classes that run in it.
@@ -134,7 +165,7 @@ impl World {
         let Some((time, scripted)) = self.next_time() else {
             return Ok(Event::Idle);
         };
-        if self.ran >= self.events {
+        if !may_run(self.ran, self.file.events) {
             return Ok(Event::BoundReached);
         }
         match self.carries_out(time, scripted, out)? {
@@ -160,14 +191,14 @@ impl World {
         scripted: bool,
         out: &mut L,
     ) -> Result<Burst, RunFault>
-        requires { self.old.ran < self.old.events }
+        requires { self.old.ran + 1 < 2 ^ 32 }
         ensures comes { IfOk result (λ e. Comes (tells L.puts) scripted (begins time
             (world_seen self.old)) (whole out.old) e (world_seen self.new) (whole out.new)) }
         ensures breaks { IsErrOf result Failed → (e : Ended)
             × Comes (tells L.puts) scripted (begins time
             (world_seen self.old)) (whole out.old) e (world_seen self.new) (failed out.new) }
         ensures ended { self.new.ended ≡ true }
-        ensures bound { self.new.events ≡ self.old.events }
+        ensures file { self.new.file ≡ self.old.file }
         ensures ran { OnOk result (self.new.ran ≡ self.old.ran + 1) }
         ensures fails { IfErr result (λ f. (t : Telling L) × (t.out ≡ out.new)
             × MomentFails L.puts time scripted (world_seen self.old) (whole out.old) f t) }
@@ -222,11 +253,11 @@ impl World {
         scripted: bool,
         out: &mut L,
     ) -> Result<Burst, RunFault>
-        requires { self.old.ran < self.old.events }
+        requires { self.old.ran + 1 < 2 ^ 32 }
         ensures comes { IfOk result (λ e. Comes L.puts scripted
             (begins time (world_seen self.old)) out.old e (world_seen self.new) out.new) }
         ensures ended { self.new.ended ≡ true }
-        ensures bound { self.new.events ≡ self.old.events }
+        ensures file { self.new.file ≡ self.old.file }
         ensures ran { OnOk result (self.new.ran ≡ self.old.ran + 1) }
         ensures breaks { IfErr result (λ f. MomentBreaks L.puts time scripted
             (world_seen self.old) out.old f out.new) }
@@ -586,7 +617,7 @@ impl World {
             return Err(RunFault::Stuck);
         }
         let outside = &mut self.outside;
-        acts(p, deed, place, outside, &self.code, self.turns, out)
+        acts(p, deed, place, outside, &self.code, self.file.turns, out)
     }
 
     /// The frames of the unfinished actors of a process, by rising number. Empty where there is no such process.
@@ -608,6 +639,17 @@ impl World {
     {
         match self.places.get(usize::from(p.0)) {
             Some(place) => place.machine.callbacks(),
+            None => Ok(Vec::new(self.alloc)),
+        }
+    }
+
+    /// The unfinished actors of a process as they stand between events, by rising number. Empty where there is no such process.
+    pub fn frame_states(&self, p: ProcId) -> Result<Vec<ActorState>, NoMemory>
+        ensures { IfOk result (λ states. let place = slice_get self.now.places.items p.0 in
+            NumbersRiseAt place → map actor_kept states.items ≡ actors_at place) }
+    {
+        match self.places.get(usize::from(p.0)) {
+            Some(place) => Ok(place.machine.state()?.actors),
             None => Ok(Vec::new(self.alloc)),
         }
     }

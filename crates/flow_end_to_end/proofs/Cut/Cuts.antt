@@ -186,7 +186,7 @@ module _ {A : Type 0} (puts : A → Line → Result (Unit {0}) OutFault → A �
     came : (v : Seen) (b : Telling (Hearing A)) → RunsEvents P with_frames first (whole headed) v b → Came v b
     came v b goes =
         went (Quiescent r) Keeps (IsProgram r) P r with_frames (events (Quiescent r) (MemoryWorldInvariant r) (IsProgram r) P r (events_follow P r)) kept_law frames_law first v
-        (at_start (seen file)) (whole headed) b (code_first c file fine few first starts) (ap raw_of starts.program) (start_shown (Quiescent r) c file first (settled_first r) starts)
+        (at_start (seen file)) (whole headed) b (code_first c file fine few first starts) (ap raw_of starts.code.program) (start_shown (Quiescent r) c file first (settled_first r) starts)
         (upheld_starts r (seen file) range, start_waits (seen file)) goes
 
     put_by : (ls : List Line) (h b : Hearing A) → Puts P (whole h) ls (whole b) → Puts (hears puts) h ls b

@@ -257,7 +257,7 @@ module _ (c : RawClasses) (file : World0) (whole : AreWhole (raw_of c)) (few : H
   start : Here (raw_of c) whole few (seen file) range states trace run first (at_start (seen file))
   start = record {
     code = code_first c file whole (few_places (raw_of c) few) first starts;
-    text = ap raw_of starts.program;
+    text = ap raw_of starts.code.program;
     shows = start_shown (Quiescent (raw_of c)) c file first (settled_first (raw_of c)) starts;
     keeps = (upheld_starts (raw_of c) (seen file) range, start_waits (seen file));
     on = record { rest = run.later; lines = run.rest; runs = run.runs; left = run.from_start };

@@ -126,7 +126,7 @@ trace_follows Rests Keeps IsCode {A} puts with_frames c file a b e begins seen_l
     let r = raw_of c in
     let first = start_shown Rests c file t.first begins.fresh t.starts in
     let so_far = went Rests Keeps IsCode puts r with_frames events begins.keeps_on seen_law t.first t.goes.last (at_start (seen file)) t.headed t.goes.before (begins.code t.first t.starts)
-    (ap raw_of t.starts.program) first begins.keeps t.goes.goes in
+    (ap raw_of t.starts.code.program) first begins.keeps t.goes.goes in
     let over = ended Rests Keeps IsCode puts r with_frames spent_law t.goes.last t.left so_far.last t.goes.before t.before e so_far.code so_far.shows so_far.keeps t.goes.ends in
     let rest = so_far.lines ++ (over.own ++ end_line e ∷ []) in
     let put_rest : Puts puts t.headed rest b =
@@ -146,6 +146,6 @@ beginning_follows Rests Keeps IsCode {A} puts with_frames c file a b lines begin
     let r = raw_of c in
     let first = start_shown Rests c file t.first begins.fresh t.starts in
     let so_far = went Rests Keeps IsCode puts r with_frames events begins.keeps_on seen_law t.first t.last (at_start (seen file)) t.headed b (begins.code t.first t.starts)
-    (ap raw_of t.starts.program) first begins.keeps t.goes in
+    (ap raw_of t.starts.code.program) first begins.keeps t.goes in
     let x = so_far.onwards shown.rest shown.shows in
     (line.Head ∷ so_far.lines, x.0, shown.with_head ∙ ap (λ ls. line.Head ∷ ls) x.1, more_lines t.head so_far.put)

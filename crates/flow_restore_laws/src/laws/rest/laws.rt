@@ -1,5 +1,7 @@
 // Laws of worlds in memory between events.
 
+ghost use Rattle.flow_world.specs.FaultedLines.{tells};
+ghost use Rattle.flow_world.specs.Skipping.{unkept};
 ghost use Rattle.flow_restore_laws.specs.Rest.Boundary.{ClassesRest, ProgramsRest};
 ghost use Rattle.flow_restore_laws.specs.Rest.Counted.{ClassesCount, ProgramsCount};
 
@@ -11,6 +13,12 @@ use flow_trace::out::LineOut;
 pub fn boundaries_rest<L: LineOut>()
     ensures classes { ClassesRest L.puts }
     ensures programs { ProgramsRest L.puts }
+{}
+
+/// So it is after events that ran without a line, as `World::run_events` runs them.
+pub fn skipped_events_rest()
+    ensures classes { ClassesRest (tells unkept) }
+    ensures programs { ProgramsRest (tells unkept) }
 {}
 
 /// Between events the count of live actors of a world in memory that runs valid classes is the number of unfinished actors of the
