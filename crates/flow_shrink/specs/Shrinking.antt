@@ -1,0 +1,64 @@
+-- Worlds whose run a monitor stops, and such a world of whose script no line can go.
+use Rattle.std.specs.Prelude.{◌≡◌, ◌≤◌, ◌<◌, ◌+◌, ◌*◌, ℕ, Bool, true, false, ◌||◌, List, [], ◌∷◌, length}
+use Rattle.std.specs.List.{remove}
+use Rattle.std.specs.declared.option.Option.{Option}
+use Rattle.std.specs.declared.option.Option.TheVariants.{Some}
+use Rattle.flow_trace.specs.declared.line.Line.{Line}
+use Rattle.flow_monitor.specs.Ears.{Ear, ear_hears, says_stop}
+use Rattle.flow_worldfile.specs.Worlds.{World, IsInRange, seen}
+use Rattle.flow_shrink.specs.declared.shrinking.Shrunk.{Shrunk}
+use Rattle.flow_shrink.specs.declared.shrinking.Shrunk.TheVariants.{Least, NotStopped}
+
+-- whether a monitor, while it hears, says Stop at one of these lines
+abbrev pub stops_among : Option Ear → List Line → Bool
+stops_among ear [] = false
+stops_among ear (l ∷ ls) = says_stop l ear || stops_among (ear_hears l ear) ls
+
+-- it says Stop in an event that isn't spent, where these are the lines of such events
+abbrev pub Stops : (lines_are : List Line → Type 0) → Ear → Type 0
+Stops lines_are ear = (lines : List Line) × lines_are lines × (stops_among (Some ear) lines ≡ true)
+
+-- a world without the line of its script at a place
+abbrev pub without : ℕ → World → World
+without k w = record w { script = remove w.script k }
+
+-- some items of others, in their order
+pub data Among {X : Type 0} : List X → List X → Type 0 where
+  none : Among [] []
+  goes : {x : X} {xs ys : List X} → Among xs ys → Among xs (x ∷ ys)
+  stays : {x : X} {xs ys : List X} → Among xs ys → Among (x ∷ xs) (x ∷ ys)
+
+-- A world as the first one but for its script, which has some of its lines, that stops; and without any one of these it doesn't.
+pub record IsLeast (IsStopped : World → Type 0) (first least : World) : Type 0 where
+  pub same : least ≡ record first { script = least.script }
+  pub fewer : Among least.script first.script
+  pub stops : IsStopped least
+  pub each : (k : ℕ) → k < length least.script → IsStopped (without k least) → ⊥
+
+-- What trying to take a line out of a world comes to: it goes where the world stops without it, and else the world stays.
+pub data Tried (IsStopped : World → Type 0) (k : ℕ) (old new : World) : Type 0 where
+  went : new ≡ without k old → IsStopped new → Tried IsStopped k old new
+  needed : new ≡ old → (IsStopped (without k old) → ⊥) → Tried IsStopped k old new
+
+-- Some lines of a world went, and it still stops. Where none did, each line from a place on was found to be needed.
+pub record TriedFrom (IsStopped : World → Type 0) (k : ℕ) (first now : World) : Type 0 where
+  pub same : now ≡ record first { script = now.script }
+  pub fewer : Among now.script first.script
+  pub stops : IsStopped now
+  pub left : k ≤ length now.script
+  pub needed : length now.script ≡ length first.script
+      → (now ≡ first) × ((j : ℕ) → k ≤ j → j < length first.script → IsStopped (without j first) → ⊥)
+
+-- what shrinking a world comes to
+abbrev pub Shrinks : (IsStopped : World → Type 0) → (first : World) → Shrunk → Type 0
+Shrinks IsStopped first (Least w) = IsLeast IsStopped first (seen w)
+Shrinks IsStopped first NotStopped = IsStopped first → ⊥
+
+-- how often a world of so many lines is run at most
+abbrev pub most_runs : ℕ → ℕ
+most_runs n = 1 + n * n
+
+-- a world that it comes to is in range
+abbrev pub KeepsRange : Shrunk → Type 0
+KeepsRange (Least w) = IsInRange (seen w)
+KeepsRange NotStopped = Unit {0}

@@ -1,0 +1,8 @@
+//! A world whose run a monitor stops is made smaller, as far as it goes.
+#![tactic(auto)]
+
+pub mod runner;
+pub mod shrinking;
+
+pub use runner::Runner;
+pub use shrinking::{Shrunk, shrink};

@@ -1,0 +1,141 @@
+// Shrinking the script of a world.
+
+ghost use Rattle.std.specs.Prelude.{◌≡◌, ◌≤◌, ◌<◌, ◌+◌, ◌*◌, length, Decides, IfOk, OnOk};
+ghost use Rattle.flow_base.specs.Faults.{next_count};
+ghost use Rattle.flow_worldfile.specs.Worlds.{IsInRange, seen};
+ghost use Rattle.flow_shrink.specs.Shrinking.{Stops, Tried, TriedFrom, IsLeast, Shrinks, KeepsRange, most_runs};
+
+use crate::runner::Runner;
+use flow_base::memory::NoMemory;
+use flow_monitor::Monitor;
+use flow_worldfile::World0;
+
+/// What shrinking comes to: a world that is still stopped, and isn't without any one line of its script; or the world
+/// wasn't stopped at first.
+#[derive(Drop)]
+pub enum Shrunk {
+    Least(World0),
+    NotStopped,
+}
+
+// Runs a world where the monitor hears it from its begin.
+fn is_stopped<R: Runner>(
+    runner: &mut R,
+    world: &World0,
+    mut monitor: Box<dyn Monitor>,
+    limit: u64,
+) -> Result<(bool, Box<dyn Monitor>), NoMemory>
+    requires { IsInRange (seen world.now) }
+    ensures stopped { IfOk result (λ r. Decides r.0
+        (Stops (R.means (R.kept runner.old) (seen world.now)) (begun monitor limit))) }
+    ensures begun { IfOk result (λ r. begun r.1 ≡ begun monitor) }
+    ensures counted { R.count runner.new ≡ next_count (R.count runner.old) }
+    ensures kept { R.kept runner.new ≡ R.kept runner.old }
+{
+    monitor.begin(limit);
+    runner.run(world, monitor)
+}
+
+// Takes a line out of the script, if the world is still stopped without it.
+fn take_out<R: Runner>(
+    runner: &mut R,
+    world: &mut World0,
+    place: usize,
+    monitor: Box<dyn Monitor>,
+    limit: u64,
+) -> Result<Box<dyn Monitor>, NoMemory>
+    requires range { IsInRange (seen world.old) }
+    requires within { place < length (seen world.old).script }
+    ensures tried { IfOk result (λ m. Tried
+        (λ w. Stops (R.means (R.kept runner.old) w) (begun monitor limit)) place (seen world.old) (seen world.new)) }
+    ensures range { IfOk result (λ m. IsInRange (seen world.new)) }
+    ensures begun { IfOk result (λ m. begun m ≡ begun monitor) }
+    ensures counted { R.count runner.new ≡ next_count (R.count runner.old) }
+    ensures kept { R.kept runner.new ≡ R.kept runner.old }
+{
+    let line = world.script.remove(place);
+    let (stopped, monitor) = is_stopped(runner, world, monitor, limit)?;
+    if stopped {
+        return Ok(monitor);
+    }
+    world.script.insert(place, line)?;
+    Ok(monitor)
+}
+
+// Tries each line of the script, from the last to the first.
+fn take_each<R: Runner>(
+    runner: &mut R,
+    world: &mut World0,
+    monitor: Box<dyn Monitor>,
+    limit: u64,
+) -> Result<Box<dyn Monitor>, NoMemory>
+    requires range { IsInRange (seen world.old) }
+    requires stops { Stops (R.means (R.kept runner.old) (seen world.old)) (begun monitor limit) }
+    ensures tried { IfOk result (λ m. TriedFrom
+        (λ w. Stops (R.means (R.kept runner.old) w) (begun monitor limit)) 0 (seen world.old) (seen world.new)) }
+    ensures range { IfOk result (λ m. IsInRange (seen world.new)) }
+    ensures begun { IfOk result (λ m. begun m ≡ begun monitor) }
+    ensures counted { R.count runner.new ≤ R.count runner.old + length (seen world.old).script }
+    ensures kept { R.kept runner.new ≡ R.kept runner.old }
+{
+    let mut monitor = monitor;
+    let mut place = world.script.len();
+    while place > 0 {
+        place -= 1;
+        monitor = take_out(runner, world, place, monitor, limit)?;
+    }
+    Ok(monitor)
+}
+
+// Tries each line again and again, until none goes.
+fn take_all<R: Runner>(
+    runner: &mut R,
+    world: &mut World0,
+    monitor: Box<dyn Monitor>,
+    limit: u64,
+) -> Result<(), NoMemory>
+    requires range { IsInRange (seen world.old) }
+    requires stops { Stops (R.means (R.kept runner.old) (seen world.old)) (begun monitor limit) }
+    ensures least { OnOk result (IsLeast
+        (λ w. Stops (R.means (R.kept runner.old) w) (begun monitor limit)) (seen world.old) (seen world.new)) }
+    ensures range { OnOk result (IsInRange (seen world.new)) }
+    ensures counted { let n = length (seen world.old).script in
+        R.count runner.new ≤ R.count runner.old + n * n }
+    ensures kept { R.kept runner.new ≡ R.kept runner.old }
+{
+    let mut monitor = monitor;
+    for _pass in 0..world.script.len() {
+        let before = world.script.len();
+        monitor = take_each(runner, world, monitor, limit)?;
+        if world.script.len() == before {
+            return Ok(());
+        }
+    }
+    Ok(())
+}
+
+/// The world with a script of which no line can go: the monitor still says Stop in an event that isn't spent, and without
+/// any one line it doesn't. `NotStopped` where it doesn't in the world as it is. The monitor begins with the limit before
+/// each run, and is dropped at the end; a script of n lines takes 1 + n * n runs at most.
+pub fn shrink<R: Runner>(
+    world: World0,
+    monitor: Box<dyn Monitor>,
+    limit: u64,
+    runner: &mut R,
+) -> Result<Shrunk, NoMemory>
+    requires { IsInRange (seen world) }
+    ensures shrinks { IfOk result (Shrinks
+        (λ w. Stops (R.means (R.kept runner.old) w) (begun monitor limit)) (seen world)) }
+    ensures range { IfOk result KeepsRange }
+    ensures counted { R.count runner.new ≤ R.count runner.old
+        + most_runs (length (seen world).script) }
+    ensures kept { R.kept runner.new ≡ R.kept runner.old }
+{
+    let mut world = world;
+    let (stopped, monitor) = is_stopped(runner, &world, monitor, limit)?;
+    if !stopped {
+        return Ok(Shrunk::NotStopped);
+    }
+    take_all(runner, &mut world, monitor, limit)?;
+    Ok(Shrunk::Least(world))
+}
