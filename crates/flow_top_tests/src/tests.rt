@@ -8,7 +8,7 @@ use flow_top::flow_main;
 use std::alloc::{AllocError, Global};
 
 // The two files `p` and `w` with these bytes, of which the listed calls fail.
-fn two_files(
+pub(crate) fn two_files(
     alloc: Global,
     program: &[u8],
     world: &[u8],
@@ -22,7 +22,7 @@ fn two_files(
     Ok(MemFiles::new(alloc, files, failing))
 }
 
-fn words(alloc: Global, texts: &[&str]) -> Result<Vec<String>, AllocError> {
+pub(crate) fn words(alloc: Global, texts: &[&str]) -> Result<Vec<String>, AllocError> {
     let mut words = Vec::new(alloc);
     for text in texts {
         words.push(text.to_string(alloc)?)?;
