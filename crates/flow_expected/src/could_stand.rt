@@ -5,12 +5,12 @@ ghost use Rattle.flow_tree.specs.GrammarToken.{Good};
 ghost use Rattle.flow_tree.specs.GrammarDecl.{ProgramRule};
 ghost use Rattle.flow_tree.specs.GrammarAnswer.{place_at};
 ghost use Rattle.flow_tree.specs.declared.limits.TheConstants.{TOKENS};
-ghost use Rattle.flow_expected.specs.declared.kind.TheConstants.{KINDS};
 ghost use Rattle.flow_expected.specs.Expected.{IsReached, Decides, CouldStand, Picks};
 
-use crate::kind::{KINDS, Kind};
+use crate::kind::Kind;
 use flow_base::memory::NoMemory;
 use flow_base::place::Place;
+use flow_exprs::token::place;
 use flow_parse::parse::parse;
 use flow_tree::fault::{Rule, SourceFault};
 use flow_tree::token::{Spot, Tokens};
@@ -59,28 +59,30 @@ fn other_than(at: Place) -> Place
     Place { byte, ..at }
 }
 
-/// The kinds of which a token could stand in place of the one of this number, counted from 0, or at
-/// the end: with it, behind the tokens before it, some program begins. The tokens are those of a text
-/// that is refused at no token before.
-pub fn expected(alloc: Global, tokens: Tokens, number: usize) -> Result<Vec<Kind>, NoMemory>
+/// Those of these kinds of which a token could stand in place of the one of this number, counted from
+/// 0, or at the end: with it, behind the tokens before it, some program begins. The tokens are those
+/// of a text that is refused at no token before.
+pub fn expected(
+    alloc: Global,
+    tokens: Tokens,
+    number: usize,
+    kinds: &[Kind],
+) -> Result<Vec<Kind>, NoMemory>
     requires within { number ≤ length tokens.spots.items }
     requires few { number < TOKENS }
     requires reached { IsReached tokens number }
-    ensures { IfOk result (λ kinds. Picks (CouldStand tokens number) KINDS kinds.items) }
+    ensures { IfOk result (λ found. Picks (CouldStand tokens number) kinds.now found.items) }
 {
+    let at = place(&tokens, number);
     let mut tokens = tokens;
-    let at = match tokens.spots.get(number) {
-        Some(spot) => spot.at,
-        None => tokens.end,
-    };
     tokens.spots.truncate(number);
     tokens.end = other_than(at);
     let mut found = Vec::new(alloc);
-    for kind in KINDS {
+    for kind in kinds {
         let token = kind.token(alloc)?;
         tokens.spots.push(Spot { token, at })?;
         if begins_one(alloc, &tokens, number)? {
-            found.push(kind)?;
+            found.push(*kind)?;
         }
         tokens.spots.truncate(number);
     }

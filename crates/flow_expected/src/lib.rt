@@ -5,4 +5,4 @@ pub mod could_stand;
 pub mod kind;
 
 pub use could_stand::expected;
-pub use kind::Kind;
+pub use kind::{KINDS, Kind};
