@@ -1,8 +1,8 @@
 //! Which tokens could stand where a text is refused.
 #![tactic(auto)]
 
-pub mod could_stand;
+pub mod candidates;
 pub mod kind;
 
-pub use could_stand::expected;
+pub use candidates::{Expected, at_refusal, could_stand};
 pub use kind::{KINDS, Kind};

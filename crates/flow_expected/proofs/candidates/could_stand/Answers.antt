@@ -9,7 +9,7 @@ use Rattle.flow_expected.specs.declared.kind.Kind.{Kind}
 use Rattle.flow_expected.specs.declared.kind.Kind.TheVariants.{Name}
 use Rattle.flow_expected.specs.Expected.{spelled, Decides, Picks, none, CouldStand}
 use Rattle.flow_expected.proofs.Placed.{counts_one_more, still_reached, place_last, stands, picks_more, passes_more, without_last}
-use Rattle.flow_expected.proofs.could_stand.expected.Goals as goal
+use Rattle.flow_expected.proofs.candidates.could_stand.Goals as goal
 
 pub loop-kind-init : goal.loop-kind-init
 loop-kind-init c = record {

@@ -8,7 +8,7 @@ use Rattle.flow_tree.specs.declared.fault.SourceFault.TheVariants.{Refused}
 use Rattle.flow_parse.specs.ParseAnswer.{ParseAnswer}
 use Rattle.flow_expected.specs.Expected.{Decides}
 use Rattle.flow_expected.proofs.Reached.{program_begins, limit_begins, refused_decides, place_there}
-use Rattle.flow_expected.proofs.could_stand.begins_one.Goals as goal
+use Rattle.flow_expected.proofs.candidates.begins_one.Goals as goal
 
 pub returns : goal.returns
 returns c = elim c.match-parse.branch [

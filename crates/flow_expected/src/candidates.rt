@@ -1,6 +1,6 @@
 // What could stand at a place.
 
-ghost use Rattle.std.specs.Prelude.{◌≡◌, ◌≢◌, ◌+◌, ◌<◌, ◌≤◌, length, take, IfOk};
+ghost use Rattle.std.specs.Prelude.{◌≡◌, ◌≢◌, ◌+◌, ◌<◌, ◌≤◌, length, take, ℕ, IfOk, IfSome};
 ghost use Rattle.flow_tree.specs.GrammarToken.{Good};
 ghost use Rattle.flow_tree.specs.GrammarDecl.{ProgramRule};
 ghost use Rattle.flow_tree.specs.GrammarAnswer.{place_at};
@@ -13,6 +13,7 @@ use flow_base::place::Place;
 use flow_exprs::token::place;
 use flow_parse::parse::parse;
 use flow_tree::fault::{Rule, SourceFault};
+use flow_tree::limits::TOKENS;
 use flow_tree::token::{Spot, Tokens};
 use std::alloc::Global;
 
@@ -62,7 +63,7 @@ fn other_than(at: Place) -> Place
 /// Those of these kinds of which a token could stand in place of the one of this number, counted from
 /// 0, or at the end: with it, behind the tokens before it, some program begins. The tokens are those
 /// of a text that is refused at no token before.
-pub fn expected(
+pub fn could_stand(
     alloc: Global,
     tokens: Tokens,
     number: usize,
@@ -87,4 +88,55 @@ pub fn expected(
         tokens.spots.truncate(number);
     }
     Ok(found)
+}
+
+/// A place at which a text is refused by S5, and what could stand there.
+#[derive(Drop)]
+pub struct Expected {
+    /// The number of the token that stands there, counted from 0; that of the end is the count of tokens.
+    pub number: usize,
+    pub kinds: Vec<Kind>,
+}
+
+/// Where these tokens are refused by S5, and those of these kinds of which a token could stand there;
+/// none where they aren't refused so, or where they are 200,000 and fail at their end.
+pub fn at_refusal(
+    alloc: Global,
+    tokens: Tokens,
+    kinds: &[Kind],
+) -> Result<Option<Expected>, NoMemory>
+    ensures { IfOk result (λ found. IfSome found (λ e.
+        IsReached tokens e.number × Picks (CouldStand tokens e.number) kinds.now e.kinds.items)) }
+{
+    match parse(alloc, &tokens) {
+        Err(SourceFault::Refused {
+            rule: Rule::S(_),
+            at,
+        }) => {
+            let number = first_at(&tokens, at);
+            if number >= TOKENS {
+                return Ok(None);
+            }
+            let kinds = could_stand(alloc, tokens, number, kinds)?;
+            Ok(Some(Expected { number, kinds }))
+        }
+        Err(SourceFault::OutOfMemory) => Err(NoMemory),
+        _ => Ok(None),
+    }
+}
+
+// The number of the first token at this place, or the count of them where none is.
+fn first_at(tokens: &Tokens, at: Place) -> usize
+    ensures within { result ≤ length tokens.now.spots.items }
+    ensures first { (j : ℕ) → j < result → place_at tokens.now j ≢ at }
+    ensures there { result < length tokens.now.spots.items → place_at tokens.now result ≡ at }
+{
+    let mut number = 0;
+    while number < tokens.spots.len() {
+        if is_same(place(tokens, number), at) {
+            return number;
+        }
+        number += 1;
+    }
+    number
 }

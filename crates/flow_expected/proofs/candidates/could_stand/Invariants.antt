@@ -1,7 +1,7 @@
 use Rattle.std.proofs.Common.{◌≡◌, ◌≢◌, take}
 use Rattle.flow_tree.specs.GrammarAnswer.{place_at}
 use Rattle.flow_expected.specs.Expected.{CouldStand, Picks}
-use Rattle.flow_expected.proofs.could_stand.expected.Given as goal
+use Rattle.flow_expected.proofs.candidates.could_stand.Given as goal
 
 abbrev pub invariant-loop-kind : goal.invariant-loop-kind
 invariant-loop-kind l = record {
