@@ -98,3 +98,24 @@ module _ (t : Tokens) (last : ℕ) (one_more : length t.spots.items ≡ last + 1
           → Decides (not same) (Good (ProgramRule t.end) 2 t.spots.items)
       refused_decides true n at h d = last_never at h.1 d
       refused_decides false n at h d = later_begins at h.1 d
+
+-- the first token at the place of a refusal is reached, and the refusal stands there
+module _ (t : Tokens) (at : Place) (f : FailsBy 2 t at) (number : ℕ) (within : number ≤ length t.spots.items)
+    (first : (j : ℕ) → j < number → place_at t j ≢ at) where
+  up_to : number ≤ f.number
+  up_to = elim (nat_order number f.number) [
+    | inl l ↦ omega (arith, l)
+    | inr (inl e) ↦ omega (arith, e)
+    | inr (inr l) ↦ absurd (first f.number l (sym f.place))
+  ]
+
+  pub reached_first : IsReached t number
+  reached_first j l = f.first j (omega (arith, up_to))
+
+  pub refused_there : (number < length t.spots.items → place_at t number ≡ at) → FailsBy 2 t (place_at t number)
+  refused_there there = subst (FailsBy 2 t) (same (nat_order number (length t.spots.items))) f
+    where
+      same : (number < length t.spots.items) ⊎ ((number ≡ length t.spots.items) ⊎ (length t.spots.items < number)) → at ≡ place_at t number
+      same (inl l) = sym (there l)
+      same (inr (inl e)) = f.place ∙ ap (place_at t) (omega (arith, e, up_to, f.within))
+      same (inr (inr l)) = absurd (omega (arith, l))

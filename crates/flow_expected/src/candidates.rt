@@ -5,6 +5,7 @@ ghost use Rattle.flow_tree.specs.GrammarToken.{Good};
 ghost use Rattle.flow_tree.specs.GrammarDecl.{ProgramRule};
 ghost use Rattle.flow_tree.specs.GrammarAnswer.{place_at};
 ghost use Rattle.flow_tree.specs.declared.limits.TheConstants.{TOKENS};
+ghost use Rattle.flow_parse.specs.ParseAnswer.{FailsAtAll};
 ghost use Rattle.flow_expected.specs.Expected.{IsReached, Decides, CouldStand, Picks};
 
 use crate::kind::Kind;
@@ -100,13 +101,17 @@ pub struct Expected {
 
 /// Where these tokens are refused by S5, and those of these kinds of which a token could stand there;
 /// none where they aren't refused so, or where they are 200,000 and fail at their end.
+#[tactic(auto, using(crate::proofs::Reached::reached_first, crate::proofs::Reached::refused_there))]
 pub fn at_refusal(
     alloc: Global,
     tokens: Tokens,
     kinds: &[Kind],
 ) -> Result<Option<Expected>, NoMemory>
-    ensures { IfOk result (λ found. IfSome found (λ e.
-        IsReached tokens e.number × Picks (CouldStand tokens e.number) kinds.now e.kinds.items)) }
+    ensures kinds { IfOk result (λ found. IfSome found (λ e.
+        Picks (CouldStand tokens e.number) kinds.now e.kinds.items)) }
+    ensures reached { IfOk result (λ found. IfSome found (λ e. IsReached tokens e.number)) }
+    ensures refused { IfOk result (λ found. IfSome found (λ e.
+        FailsAtAll tokens (place_at tokens e.number))) }
 {
     match parse(alloc, &tokens) {
         Err(SourceFault::Refused {
