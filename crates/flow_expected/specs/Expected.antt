@@ -1,5 +1,5 @@
 -- What could stand at a place of a text.
-use Rattle.std.specs.Prelude.{◌≡◌, ℕ, ◌<◌, Bool, true, false, List, [], ◌∷◌, ◌++◌, take, codes, pos}
+use Rattle.std.specs.Prelude.{◌≡◌, ℕ, ◌<◌, Bool, true, false, List, [], ◌∷◌, ◌++◌, take, slice_get, Some, codes, pos}
 use Rattle.flow_tree.specs.declared.token.Token.{Token}
 use Rattle.flow_tree.specs.declared.token.Token.TheVariants as token
 use Rattle.flow_tree.specs.declared.token.Tokens.{Tokens}
@@ -25,6 +25,10 @@ CouldStand t k kind = Good (ProgramRule t.end) 2 (take k t.spots.items ++ record
 -- no token before the one of this number is refused
 abbrev pub IsReached : Tokens → ℕ → Type 0
 IsReached t k = (j : ℕ) → j < k → GoodTo t 7 j
+
+-- each kind is among these
+abbrev pub AreAll : List Kind → Type 0
+AreAll kinds = (k : Kind) → (i : ℕ) × (slice_get kinds i ≡ Some k)
 
 -- an answer says whether something holds
 abbrev pub Decides : Bool → Type 0 → Type 0

@@ -29,18 +29,24 @@ fn begins_one(alloc: Global, tokens: &Tokens, last: usize) -> Result<bool, NoMem
 {
     match parse(alloc, tokens) {
         Ok(_) => Ok(true),
-        Err(SourceFault::Refused {
-            rule: Rule::S(_),
-            at,
-        }) => Ok(!is_same(at, tokens.spots[last].at)),
-        Err(SourceFault::Refused {
-            rule: Rule::L(_),
-            at: _,
-        }) => Ok(true),
-        Err(SourceFault::Refused {
-            rule: Rule::K(_),
-            at: _,
-        }) => Ok(true),
+        Err(
+            SourceFault::Refused {
+                rule: Rule::S(_),
+                at,
+            },
+        ) => Ok(!is_same(at, tokens.spots[last].at)),
+        Err(
+            SourceFault::Refused {
+                rule: Rule::L(_),
+                at: _,
+            },
+        ) => Ok(true),
+        Err(
+            SourceFault::Refused {
+                rule: Rule::K(_),
+                at: _,
+            },
+        ) => Ok(true),
         Err(SourceFault::AcrossWait { .. }) => Ok(true),
         Err(SourceFault::OutOfMemory) => Err(NoMemory),
     }
@@ -114,10 +120,12 @@ pub fn at_refusal(
         FailsAtAll tokens (place_at tokens e.number))) }
 {
     match parse(alloc, &tokens) {
-        Err(SourceFault::Refused {
-            rule: Rule::S(_),
-            at,
-        }) => {
+        Err(
+            SourceFault::Refused {
+                rule: Rule::S(_),
+                at,
+            },
+        ) => {
             let number = first_at(&tokens, at);
             if number >= TOKENS {
                 return Ok(None);

@@ -3,6 +3,7 @@
 
 pub mod candidates;
 pub mod kind;
+pub mod laws;
 
 pub use candidates::{Expected, at_refusal, could_stand};
 pub use kind::{KINDS, Kind};

@@ -17,10 +17,10 @@ returns c = elim c.match-parse.branch [
       let told = subst (λ e. ParseAnswer t (Err e)) (r.field-0-is ∙ ap (λ x. Refused x r.at) r.field-0-0-is) r.ensures in
       let here = sym (place_there t c.args.last w.index.result.now (omega (arith, one)) w.index.ensures) in
       subst P (sym w.result-is) (refused_decides t c.args.last one c.requires.reached c.requires.apart w.is_same.result r.field-0-0-0 r.at told
-        (subst (λ x. Decides w.is_same.result (r.at ≡ x)) here w.is_same.ensures))
+      (subst (λ x. Decides w.is_same.result (r.at ≡ x)) here w.is_same.ensures))
   | goal.in-Err-Refused-L-default w ↦ let r = w.in-Err-Refused-L-default in
       subst P (sym w.result-is) (limit_begins t c.args.last one c.requires.reached r.field-0-0-0 r.field-0-1 (omega (arith, one, c.requires.few))
-        (subst (λ e. ParseAnswer t (Err e)) (r.field-0-is ∙ ap (λ x. Refused x r.field-0-1) r.field-0-0-is) r.ensures))
+      (subst (λ e. ParseAnswer t (Err e)) (r.field-0-is ∙ ap (λ x. Refused x r.field-0-1) r.field-0-0-is) r.ensures))
   | goal.in-Err-Refused-K-default w ↦ let r = w.in-Err-Refused-K-default in
       absurd (subst (λ e. ParseAnswer t (Err e)) (r.field-0-is ∙ ap (λ x. Refused x r.field-0-1) r.field-0-0-is) r.ensures)
   | goal.in-Err-AcrossWait w ↦ let r = w.in-Err-AcrossWait in absurd (subst (λ e. ParseAnswer t (Err e)) r.field-0-is r.ensures)

@@ -23,21 +23,21 @@ loop-kind-init c = record {
 pub begins_one-requires-clause-one_more : goal.begins_one-requires-clause-one_more
 begins_one-requires-clause-one_more c =
     counts_one_more c.args.tokens (record { spots = c.push.new.self; end = c.loop-kind.tokens.end }) c.args.number
-      (record { token = c.in_ok-token.token; at = c.place-at.result }) c.requires.within
-      (c.in_ok-push.ensures.items ∙ ap (λ l. l ++ record { token = c.in_ok-token.token; at = c.place-at.result } ∷ []) c.loop-kind.invariant.spots)
+    (record { token = c.in_ok-token.token; at = c.place-at.result }) c.requires.within
+    (c.in_ok-push.ensures.items ∙ ap (λ l. l ++ record { token = c.in_ok-token.token; at = c.place-at.result } ∷ []) c.loop-kind.invariant.spots)
 
 pub begins_one-requires-clause-reached : goal.begins_one-requires-clause-reached
 begins_one-requires-clause-reached c =
     still_reached c.args.tokens (record { spots = c.push.new.self; end = c.loop-kind.tokens.end }) c.args.number
-      (record { token = c.in_ok-token.token; at = c.place-at.result }) c.requires.within
-      (c.in_ok-push.ensures.items ∙ ap (λ l. l ++ record { token = c.in_ok-token.token; at = c.place-at.result } ∷ []) c.loop-kind.invariant.spots)
-      c.requires.reached
+    (record { token = c.in_ok-token.token; at = c.place-at.result }) c.requires.within
+    (c.in_ok-push.ensures.items ∙ ap (λ l. l ++ record { token = c.in_ok-token.token; at = c.place-at.result } ∷ []) c.loop-kind.invariant.spots)
+    c.requires.reached
 
 pub begins_one-requires-clause-apart : goal.begins_one-requires-clause-apart
 begins_one-requires-clause-apart c = λ e. c.loop-kind.invariant.apart (sym e ∙
     place_last c.args.tokens (record { spots = c.push.new.self; end = c.loop-kind.tokens.end }) c.args.number
-      (record { token = c.in_ok-token.token; at = c.place-at.result }) c.requires.within
-      (c.in_ok-push.ensures.items ∙ ap (λ l. l ++ record { token = c.in_ok-token.token; at = c.place-at.result } ∷ []) c.loop-kind.invariant.spots))
+    (record { token = c.in_ok-token.token; at = c.place-at.result }) c.requires.within
+    (c.in_ok-push.ensures.items ∙ ap (λ l. l ++ record { token = c.in_ok-token.token; at = c.place-at.result } ∷ []) c.loop-kind.invariant.spots))
 
 pub loop-kind-preserved : goal.loop-kind-preserved
 loop-kind-preserved c = record {
