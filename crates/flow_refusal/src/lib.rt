@@ -3,6 +3,7 @@
 
 mod class;
 mod excerpt;
+mod expecting;
 mod line;
 mod reading;
 mod telling;

@@ -6,6 +6,7 @@ ghost use Rattle.flow_refusal.specs.Refusal.{refusal_text, class_refusal};
 ghost use Rattle.flow_refusal.specs.Note.{said, remark, overall, line_remark, program_note, class_note, world_note, Notes};
 
 use crate::excerpt::{line_at, put_excerpt, put_window};
+use crate::expecting::expected_words;
 use crate::line::put_place;
 use crate::reading::{read_class_refusal, read_refusal, read_world_refusal};
 use crate::words::{ACROSS_WAIT, USAGE, class_words, rule_words, world_words};
@@ -247,9 +248,12 @@ fn on_fault(
     ensures { IfOk result (λ v. Notes answer.now name.now text.now world.now world_text.now
         v.items) }
 {
-    match fault_words(fault) {
-        Some(words) => on_program(alloc, name, text, fault, words),
-        None => Ok(Vec::new(alloc)),
+    let Some(words) = fault_words(fault) else {
+        return Ok(Vec::new(alloc));
+    };
+    match expected_words(alloc, text, fault)? {
+        Some(expected) => on_program(alloc, name, text, fault, &expected),
+        None => on_program(alloc, name, text, fault, words),
     }
 }
 
