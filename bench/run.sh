@@ -3,66 +3,16 @@
 # packets, with no monitor and with all three, which never stop it; a loop of 1,000,000 passes in an actor; a cascade of 10,000 nested
 # starts, and of 10,000 drops at their end; 100,000 events of one timer each; `bench` of the clients, whose lines are only counted; `exec` of
 # 1.2 MB of classes, most of which are only read and judged; and starting with no words, with words that are no command and with a file
-# that is missing. Usage: bench/run.sh [COMMAND], after `./flow build`; COMMAND runs in its place.
+# that is missing. Usage: bench/run.sh [COMMAND [NAME=OTHER..]], after `./flow build`; COMMAND runs in its place. Each OTHER is a command with
+# its words, such as the same clients by other means; it is run in the same rounds, and its least time printed under its name.
 set -e
 top=$(cd "$(dirname "$0")/.." && pwd)
 command=${1:-$top/crates/flow_prog/out/flow_prog}
+[ $# -eq 0 ] || shift
 work=$(mktemp -d)
 trap 'rm -r "$work"' EXIT
 
-cat >"$work/clients.flow" <<'TEXT'
-struct Ask {
-    int n;
-    Promise<int> reply;
-};
-ACTOR Future<Void> server(FutureStream<Ask> asks, int most) {
-    state int served = 0;
-    while (served < most) {
-        Ask a = waitNext(asks);
-        served++;
-        if (a.n % 7 != 0) {
-            a.reply.send(a.n * 2);
-        }
-    }
-    return Void();
-}
-ACTOR Future<int> client(PromiseStream<Ask> to, int n) {
-    int d = randomInt(0, 100);
-    wait(delay(d));
-    Promise<int> r;
-    to.send(Ask(n, r));
-    int got = wait(r.getFuture());
-    return got;
-}
-ACTOR Future<int> fan(PromiseStream<Ask> to, int n) {
-    if (n == 0) {
-        return 0;
-    }
-    state Future<int> c = client(to, n);
-    state Future<int> rest = fan(to, n - 1);
-    state int total = 0;
-    try {
-        int v = wait(c);
-        total = v;
-    } catch (Error& e) {
-        total = 0;
-    }
-    int w = wait(rest);
-    return total + w;
-}
-ACTOR Future<Void> main(int p) {
-    state FutureStream<Packet> in = listen(7);
-    state PromiseStream<Ask> asks;
-    state Future<Void> s = server(asks.getFuture(), 10000);
-    int sum = wait(fan(asks, 10000));
-    trace(sum);
-    sendTo((p + 1) % 4, 7, to_string(sum));
-    Packet k = waitNext(in);
-    trace(k.text);
-    return Void();
-}
-TEXT
-printf 'seed 42\nprocesses 4\nevents 1000000\nturns 1000000\nlatency 1 2\ndiskdelay 1 2\nloss 0\n' >"$work/clients.world"
+"$top/bench/clients.sh" 10000 "$work/clients"
 
 cat >"$work/loop.flow" <<'TEXT'
 ACTOR Future<Void> main(int p) {
@@ -114,8 +64,15 @@ done
 once() {
     name=$1
     shift
+    other "$name" "$command" "$@"
+}
+
+# other NAME COMMAND WORDS..: the same of any command
+other() {
+    name=$1
+    shift
     start=$(date +%s%N)
-    /usr/bin/env time -f '%M' -o "$work/peak" "$command" "$@" >"$work/out" 2>/dev/null || true
+    /usr/bin/env time -f '%M' -o "$work/peak" "$@" >"$work/out" 2>/dev/null || true
     took=$((($(date +%s%N) - start) / 100000))
     if [ ! -f "$work/$name.best" ] || [ "$took" -lt "$(cat "$work/$name.best")" ]; then echo "$took" >"$work/$name.best"; fi
     echo "$(tail -n 1 "$work/peak") KB, $(wc -l <"$work/out") lines, last: $(tail -n 1 "$work/out")" >"$work/$name.told"
@@ -131,7 +88,12 @@ for _ in 1 2 3 4 5 6 7 8 9; do
     once nothing
     once usage run one two --monitor live=1,live=2
     once missing run "$work/none" "$work/none"
+    for named; do
+        # shellcheck disable=SC2086
+        other "${named%%=*}" ${named#*=}
+    done
 done
-for name in clients monitored loop starts events bench exec nothing usage missing; do
+for named in clients monitored loop starts events bench exec nothing usage missing "$@"; do
+    name=${named%%=*}
     awk -v name="$name" -v told="$(cat "$work/$name.told")" '{ printf "%s: %.1f ms, %s\n", name, $1 / 10, told }' "$work/$name.best"
 done
