@@ -91,9 +91,9 @@ FAMILIES = {
     'locals of a function, 1,000 passes': family(
         100, lambda n: main('int x = f(1000);', f'int f(int n) {{\n{locals_(n)}while (v{n - 1} < n) {{\nv{n - 1} = v{n - 1} + 1;\n}}\nreturn 0;\n}}\n'),
         None, lambda n: main('int x = f(0);', f'int f(int n) {{\n{locals_(n)}while (v{n - 1} < n) {{\nv{n - 1} = v{n - 1} + 1;\n}}\nreturn 0;\n}}\n')),
-    'places, 1,000 waits': family(
-        20, lambda n: main(''.join(f'state int v{k} = 0;\n' for k in range(n)) + loop(1000, 'wait(delay(1));')),
-        None, lambda n: main(''.join(f'state int v{k} = 0;\n' for k in range(n)) + loop(0, 'wait(delay(1));'))),
+    'places that were filled, 1,000 waits': family(
+        100, lambda n: main(f'if (p == 0) {{\n{locals_(n)}}}\n' + loop(1000, 'wait(delay(1));')),
+        None, lambda n: main(f'if (p == 0) {{\n{locals_(n)}}}\n' + loop(0, 'wait(delay(1));'))),
     'timers, one after another': family(1000, lambda n: main(loop(n, 'wait(delay(1));'))),
     'timers of many moments': family(1000, lambda n: main('wait(delay(0));\nstate Future<Void> l = late(%d);\nwait(delay(1000000));' % n, starts(n, 'delay(n)'))),
     'timers of one moment': family(1000, lambda n: main('wait(delay(0));\nstate Future<Void> l = late(%d);\nwait(delay(1000000));' % n, starts(n, 'delay(5)'))),
