@@ -11,6 +11,8 @@ mod lines;
 #[cfg(test)]
 mod running;
 #[cfg(test)]
+mod saved;
+#[cfg(test)]
 mod traces;
 #[cfg(test)]
 mod watched;

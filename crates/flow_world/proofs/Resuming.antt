@@ -1,0 +1,51 @@
+-- What a world is made of that goes on from a state, made one by one.
+use Rattle.std.proofs.Common.{◌≡◌, ℕ, zero, suc, ◌+◌, List, [], ◌∷◌, ◌++◌, length, map, refl, sym, ap, ap₂, ◌∙◌, subst, arith}
+use Rattle.std.specs.List.{All, AllByRecursion}
+use Rattle.std.specs.declared.option.Option.TheVariants.{None}
+use Rattle.std.proofs.lemmas.List.Elements.{All-from_recursion}
+use Rattle.flow_base.specs.declared.ids.CellId.{CellId}
+use Rattle.flow_simdisk.specs.declared.state.FileState.{FileState}
+use Rattle.flow_simdisk.specs.Disk.{File}
+use Rattle.flow_simdisk.specs.Stored.{CanRestore, files_in}
+use Rattle.flow_numbered.specs.Numbered.{thing}
+use Rattle.flow_meaning.specs.Dropping.{port_of}
+use Rattle.flow_meaning.proofs.Posture.{other_number}
+use Rattle.flow_saved.specs.CanResume.{PortsOnce, IsStored}
+use Rattle.flow_saved.specs.Saved.{SavedProcess}
+use Rattle.flow_world.specs.declared.place.Place.{Place}
+use Rattle.flow_world.specs.Resuming.{PlaceMade, PlacesMade}
+use Rattle.flow_world.specs.Saving.{numbers_of}
+
+-- what holds of all holds of one among them
+among : {A : Type 0} (P : A → Type 0) (xs : List A) (x : A) (ys : List A) → AllByRecursion P (xs ++ x ∷ ys) → P x
+among P [] x ys h = h.0
+among P (y ∷ xs) x ys h = among P xs x ys h.1
+
+-- a port and a stream that come once aren't among those before
+pub port_apart : (xs : List (ℕ × CellId)) (x : ℕ × CellId) (ys : List (ℕ × CellId)) → PortsOnce (xs ++ x ∷ ys) → thing (numbers_of xs) x.0 ≡ None
+port_apart [] x ys h = refl
+port_apart (y ∷ xs) x ys h =
+    ap (λ t. if t then _ else thing (numbers_of xs) x.0) (other_number y.0 x.0 (among _ xs x ys h.0).0) ∙ port_apart xs x ys h.1
+
+pub stream_apart : (xs : List (ℕ × CellId)) (x : ℕ × CellId) (ys : List (ℕ × CellId)) → PortsOnce (xs ++ x ∷ ys) → port_of x.1.0 (numbers_of xs) ≡ None
+stream_apart [] x ys h = refl
+stream_apart (y ∷ xs) x ys h =
+    ap (λ t. if t then _ else port_of x.1.0 (numbers_of xs)) (other_number y.1.0 x.1.0 (among _ xs x ys h.0).1) ∙ stream_apart xs x ys h.1
+
+-- files that can be stored can be made again
+files_stored : (ss : List FileState) → AllByRecursion (λ f. IsStored f.1) (files_in ss) → AllByRecursion CanRestore ss
+files_stored [] h = tt
+files_stored (s ∷ ss) h = (record { durable_fits = h.0.durable_fits; writes_fit = h.0.writes_fit; there = h.0.there }, files_stored ss h.1)
+
+pub can_restore : (ss : List FileState) → AllByRecursion (λ f. IsStored f.1) (files_in ss) → All CanRestore ss
+can_restore ss h = All-from_recursion CanRestore ss (files_stored ss h)
+
+-- one more process
+pub place_more : (n k : ℕ) (ss : List SavedProcess) (ats : List Place) (s : SavedProcess) (at : Place) → PlacesMade n k ss ats → PlaceMade n (k + length ss) s at
+    → PlacesMade n k (ss ++ s ∷ []) (ats ++ at ∷ [])
+place_more n k [] [] s at h one = let e : k + 0 ≡ k = omega arith in (subst (λ m. PlaceMade n m s at) e one, tt)
+place_more n k [] (x ∷ ats) s at h one = absurd h
+place_more n k (y ∷ ss) [] s at h one = absurd h
+place_more n k (y ∷ ss) (x ∷ ats) s at h one =
+    let e : k + length (y ∷ ss) ≡ suc k + length ss = omega arith in
+    (h.0, place_more n (suc k) ss ats s at h.1 (subst (λ m. PlaceMade n m s at) e one))
