@@ -9,7 +9,7 @@ use Rattle.flow_simdisk.specs.declared.TheConstants.{FILE_BYTES}
 use Rattle.flow_simdisk.specs.Disk.{File}
 use Rattle.flow_simdisk.specs.Stored.{FitsFile, IsThere}
 use Rattle.flow_simnet.specs.Links.{AreBelow}
-use Rattle.flow_machine.specs.Requests.{IsAllowed}
+use Rattle.flow_saved.specs.Requests.{IsAllowed}
 use Rattle.flow_saved.specs.declared.state.What.{What}
 use Rattle.flow_saved.specs.declared.state.What.TheVariants.{Boot, Timer, Arrival, Ask}
 use Rattle.flow_saved.specs.Saved.{SavedProcess, Saved}
