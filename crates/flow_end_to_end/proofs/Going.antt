@@ -1,5 +1,5 @@
 -- A world in memory from which events may go on.
-use Rattle.std.proofs.Common.{◌≡◌, ap}
+use Rattle.std.proofs.Common.{ap}
 use Rattle.flow_class.specs.View.{raw_of}
 use Rattle.flow_class.specs.declared.class.RawClasses.{RawClasses}
 use Rattle.flow_worldfile.specs.Worlds.{IsInRange, seen}

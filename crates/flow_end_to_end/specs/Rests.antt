@@ -1,5 +1,5 @@
 -- What is put of a world in memory from where it is: wherever it comes from, if it represents a world of the definitions.
-use Rattle.std.specs.Prelude.{◌≡◌, ℕ, List, Bool, Result}
+use Rattle.std.specs.Prelude.{◌≡◌, List, Bool, Result}
 use Rattle.std.specs.declared.option.Option.{Option}
 use Rattle.flow_base.specs.declared.fault.OutFault.{OutFault}
 use Rattle.flow_trace.specs.declared.line.Line.{Line}

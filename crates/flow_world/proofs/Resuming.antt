@@ -1,11 +1,10 @@
 -- What a world is made of that goes on from a state, made one by one.
-use Rattle.std.proofs.Common.{◌≡◌, ℕ, zero, suc, ◌+◌, List, [], ◌∷◌, ◌++◌, length, map, refl, sym, ap, ap₂, ◌∙◌, subst, arith}
+use Rattle.std.proofs.Common.{◌≡◌, ℕ, suc, ◌+◌, List, [], ◌∷◌, ◌++◌, length, refl, ap, ◌∙◌, subst, arith}
 use Rattle.std.specs.List.{All, AllByRecursion}
 use Rattle.std.specs.declared.option.Option.TheVariants.{None}
 use Rattle.std.proofs.lemmas.List.Elements.{All-from_recursion}
 use Rattle.flow_base.specs.declared.ids.CellId.{CellId}
 use Rattle.flow_simdisk.specs.declared.state.FileState.{FileState}
-use Rattle.flow_simdisk.specs.Disk.{File}
 use Rattle.flow_simdisk.specs.Stored.{CanRestore, files_in}
 use Rattle.flow_numbered.specs.Numbered.{thing}
 use Rattle.flow_meaning.specs.Dropping.{port_of}

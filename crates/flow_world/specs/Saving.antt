@@ -1,6 +1,5 @@
 -- What a world between events tells of itself.
 use Rattle.std.specs.Prelude.{◌≡◌, ◌-◌, ℕ, List, [], ◌∷◌, map, length, slice_get}
-use Rattle.std.specs.declared.option.Option.{Option}
 use Rattle.std.specs.declared.option.Option.TheVariants.{Some}
 use Rattle.flow_base.specs.declared.ids.CellId.{CellId}
 use Rattle.flow_worldfile.specs.Worlds.{seen}
@@ -16,7 +15,6 @@ use Rattle.flow_saved.specs.Saved.{SavedProcess, Saved}
 use Rattle.flow_world.specs.declared.outside.What.{What}
 use Rattle.flow_world.specs.declared.outside.What.TheVariants.{Boots, Rings, Arrives, Answers}
 use Rattle.flow_world.specs.declared.place.Place.{Place}
-use Rattle.flow_world.specs.declared.ports.Ports.{Ports}
 use Rattle.flow_world.specs.Changes.{Surroundings}
 use Rattle.flow_world.specs.Ending.{Seen}
 
@@ -27,11 +25,15 @@ pub record IsOnWay (on_way : List Packet) (to number : ℕ) (p : Packet) : Type 
   pub place : ℕ
   pub there : slice_get on_way place ≡ Some p
 
+abbrev pub PacketTold : List Packet → (to number : ℕ) → saved.What → Type 0
+PacketTold on_way to number (Arrival packet) = IsOnWay on_way to number packet
+PacketTold on_way to number _ = ⊥
+
 -- What happens when a pending event comes: a packet on its way stands with its event.
 abbrev pub WhatTold : List Packet → What → saved.What → Type 0
 WhatTold on_way (Boots p) x = x ≡ Boot p
 WhatTold on_way (Rings p cell) x = x ≡ Timer p cell
-WhatTold on_way (Arrives p number) x = (packet : Packet) × IsOnWay on_way p.0 number packet × (x ≡ Arrival packet)
+WhatTold on_way (Arrives p number) x = PacketTold on_way p.0 number x
 WhatTold on_way (Answers p cell asked) x = x ≡ Ask p cell asked
 
 pub record EventTold (on_way : List Packet) (e : Pending What) (x : PendingEvent) : Type 0 where

@@ -2,7 +2,7 @@
 
 ghost use Rattle.std.specs.Prelude.{◌≡◌, ◌<◌, ◌≤◌, ◌++◌, length, map, IfOk, OnOk};
 ghost use Rattle.std.specs.List.{AllByRecursion, flat_map};
-ghost use Rattle.flow_saved.specs.Saved.{disk_saved, process_saved, saved_of};
+ghost use Rattle.flow_saved.specs.Saved.{process_saved, saved_of};
 ghost use Rattle.flow_saved.specs.CanResume.{CanCome, CanRun, CanResume};
 ghost use Rattle.flow_timers.specs.Moments.{event_of};
 ghost use Rattle.flow_world.specs.Changes.{seen};
@@ -76,7 +76,7 @@ fn process_made(
     requires few { processes ≤ 64 }
     requires can { CanRun (process_saved state) }
     ensures place { IfOk result (λ r. PlaceMade processes me.0 (process_saved state) r.0) }
-    ensures disk { IfOk result (λ r. r.1 ≡ disk_made (disk_saved state.disk)) }
+    ensures disk { IfOk result (λ r. r.1 ≡ disk_made (process_saved state).disk) }
 {
     let ProcState {
         up,
@@ -102,7 +102,7 @@ fn processes_made(
     ensures places { IfOk result (λ r.
         PlacesMade processes 0 (map process_saved states.items) r.0.items) }
     ensures disks { IfOk result (λ r.
-        r.1.items ≡ map (λ s. disk_made (disk_saved s.disk)) states.items) }
+        r.1.items ≡ map (λ p. disk_made p.disk) (map process_saved states.items)) }
 {
     let mut places = Vec::new(alloc);
     let mut disks = Vec::new(alloc);

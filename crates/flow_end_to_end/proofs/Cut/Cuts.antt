@@ -51,7 +51,7 @@ use Rattle.flow_world.proofs.Writing.{lines_in_part}
 use Rattle.flow_meaning.proofs.InOrder.{no_thing}
 use Rattle.flow_world.specs.Tracing.{lines_if, RunsEvents}
 use Rattle.flow_world.specs.Watching.{Hearing, watching, hears}
-use Rattle.flow_world.specs.WatchedTraces.{last_line, Quietly, StopsAfter, HeardToEnd, HeardInPart, in_event, in_frames, HeardTrace, HeardRest, HeardRestPart, in_rest, no_last, HeardTracePart, no_head, in_run, no_end}
+use Rattle.flow_world.specs.WatchedTraces.{last_line, Quietly, StopsAfter, HeardToEnd, HeardInPart, in_event, in_frames, HeardTrace, HeardRestPart, in_rest, no_last, HeardTracePart, no_head, in_run, no_end}
 use Rattle.flow_world.proofs.Putting.{puts_more, puts_one, part_more, part_all, puts_part}
 use Rattle.flow_world.proofs.Telling.{no_more, whole_line}
 use Rattle.flow_world.proofs.MovedEvents.{lines_by}

@@ -1,6 +1,6 @@
 use Rattle.std.proofs.Common.{◌≡◌, ◌++◌, ◌+◌, length, map}
 use Rattle.std.specs.List.{AllByRecursion}
-use Rattle.flow_saved.specs.Saved.{disk_saved, process_saved}
+use Rattle.flow_saved.specs.Saved.{process_saved}
 use Rattle.flow_saved.specs.CanResume.{CanRun}
 use Rattle.flow_world.specs.Resuming.{disk_made, PlacesMade}
 use Rattle.flow_world.proofs.resuming.processes_made.Given as goal
@@ -12,5 +12,5 @@ invariant-loop-state l = record {
   done : length l.yielded ≡ l.number;
   can : AllByRecursion CanRun (map process_saved l.state-iterator.rest.items);
   places : PlacesMade l.processes 0 (map process_saved l.yielded) l.places.items;
-  disks : l.disks.items ≡ map (λ s. disk_made (disk_saved s.disk)) l.yielded;
+  disks : l.disks.items ≡ map (λ p. disk_made p.disk) (map process_saved l.yielded);
 }
