@@ -78,8 +78,8 @@ impl Ports {
         ensures { IfOk result (λ p. PortsRepresent p (numbers_of listed.now)) }
     {
         let mut ports = Ports::new(alloc);
-        for (port, cell) in listed {
-            ports.listen(*port, *cell)?;
+        for entry in listed {
+            ports.listen(entry.0, entry.1)?;
         }
         Ok(ports)
     }

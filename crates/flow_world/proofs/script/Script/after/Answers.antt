@@ -4,7 +4,7 @@ use Rattle.flow_world.proofs.script.Script.after.Goals as goal
 
 pub returns : goal.returns
 returns c = record {
-  lines = c.sort_by_key.new.self;
+  lines = c.sort_by_key.new.self.items;
   in_order = record {
     same = c.sort_by_key.ensures.permutation;
     sorted = c.in_ok-sort_by_key.ensures.sorted (λ line. line.time) (answers_always _ _ _ (λ f a r q k. search rules));

@@ -1,12 +1,13 @@
 -- What a world is made of that goes on from a state, made one by one.
-use Rattle.std.proofs.Common.{◌≡◌, ℕ, suc, ◌+◌, List, [], ◌∷◌, ◌++◌, length, refl, ap, ◌∙◌, subst, arith}
+use Rattle.std.proofs.Common.{◌≡◌, ◌<◌, ℕ, suc, ◌+◌, List, [], ◌∷◌, ◌++◌, length, take, drop, get_or, if◌then◌else◌, refl, sym, ap, ◌∙◌, subst, arith}
 use Rattle.std.specs.List.{All, AllByRecursion}
 use Rattle.std.specs.declared.option.Option.TheVariants.{None}
+use Rattle.std.proofs.lemmas.List.{drop_more, take_more, take-append-drop, map_push}
 use Rattle.std.proofs.lemmas.List.Elements.{All-from_recursion}
 use Rattle.flow_base.specs.declared.ids.CellId.{CellId}
 use Rattle.flow_simdisk.specs.declared.state.FileState.{FileState}
 use Rattle.flow_simdisk.specs.Stored.{CanRestore, files_in}
-use Rattle.flow_numbered.specs.Numbered.{thing}
+use Rattle.flow_numbered.specs.Numbered.{thing, added}
 use Rattle.flow_meaning.specs.Dropping.{port_of}
 use Rattle.flow_meaning.proofs.Posture.{other_number}
 use Rattle.flow_saved.specs.CanResume.{PortsOnce, IsStored}
@@ -21,15 +22,28 @@ among P [] x ys h = h.0
 among P (y ∷ xs) x ys h = among P xs x ys h.1
 
 -- a port and a stream that come once aren't among those before
-pub port_apart : (xs : List (ℕ × CellId)) (x : ℕ × CellId) (ys : List (ℕ × CellId)) → PortsOnce (xs ++ x ∷ ys) → thing (numbers_of xs) x.0 ≡ None
+port_apart : (xs : List (ℕ × CellId)) (x : ℕ × CellId) (ys : List (ℕ × CellId)) → PortsOnce (xs ++ x ∷ ys) → thing (numbers_of xs) x.0 ≡ None
 port_apart [] x ys h = refl
 port_apart (y ∷ xs) x ys h =
     ap (λ t. if t then _ else thing (numbers_of xs) x.0) (other_number y.0 x.0 (among _ xs x ys h.0).0) ∙ port_apart xs x ys h.1
 
-pub stream_apart : (xs : List (ℕ × CellId)) (x : ℕ × CellId) (ys : List (ℕ × CellId)) → PortsOnce (xs ++ x ∷ ys) → port_of x.1.0 (numbers_of xs) ≡ None
+stream_apart : (xs : List (ℕ × CellId)) (x : ℕ × CellId) (ys : List (ℕ × CellId)) → PortsOnce (xs ++ x ∷ ys) → port_of x.1.0 (numbers_of xs) ≡ None
 stream_apart [] x ys h = refl
 stream_apart (y ∷ xs) x ys h =
     ap (λ t. if t then _ else port_of x.1.0 (numbers_of xs)) (other_number y.1.0 x.1.0 (among _ xs x ys h.0).1) ∙ stream_apart xs x ys h.1
+
+-- one more port that is listened at, of those that come once
+pub port_more :
+    (P : List (ℕ × ℕ) → Type 0) (xs : List (ℕ × CellId)) (i : ℕ) (x : ℕ × CellId) → i < length xs → x ≡ get_or xs i x → PortsOnce xs
+    → (thing (numbers_of (take i xs)) x.0 ≡ None → port_of x.1.0 (numbers_of (take i xs)) ≡ None → P (added (numbers_of (take i xs)) x.0 x.1.0))
+    → P (numbers_of (take (i + 1) xs))
+port_more P xs i x lt is once h =
+    let left : drop i xs ≡ x ∷ drop (i + 1) xs = drop_more xs i x lt ∙ ap (λ z. z ∷ drop (i + 1) xs) (sym is) in
+    let parts : take i xs ++ x ∷ drop (i + 1) xs ≡ xs = ap (λ ys. take i xs ++ ys) (sym left) ∙ take-append-drop i xs in
+    let apart = subst PortsOnce (sym parts) once in
+    let more : take (i + 1) xs ≡ take i xs ++ x ∷ [] = take_more xs i x lt ∙ ap (λ z. take i xs ++ z ∷ []) (sym is) in
+    subst P (sym (ap numbers_of more ∙ map_push (λ z. (z.0, z.1.0)) (take i xs) x))
+    (h (port_apart (take i xs) x (drop (i + 1) xs) apart) (stream_apart (take i xs) x (drop (i + 1) xs) apart))
 
 -- files that can be stored can be made again
 files_stored : (ss : List FileState) → AllByRecursion (λ f. IsStored f.1) (files_in ss) → AllByRecursion CanRestore ss
