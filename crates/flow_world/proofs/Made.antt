@@ -1,7 +1,7 @@
 -- What a world is made of that goes on from a state, made one by one.
 use Rattle.std.proofs.Common.{◌≡◌, ◌<◌, ℕ, suc, ◌+◌, List, [], ◌∷◌, ◌++◌, length, take, drop, get_or, if◌then◌else◌, refl, sym, ap, ◌∙◌, subst, arith}
 use Rattle.std.specs.List.{All, AllByRecursion}
-use Rattle.std.specs.declared.option.Option.TheVariants.{None}
+use Rattle.std.specs.declared.option.Option.TheVariants.{None, Some}
 use Rattle.std.proofs.lemmas.List.{drop_more, take_more, take-append-drop, map_push}
 use Rattle.std.proofs.lemmas.List.Elements.{All-from_recursion}
 use Rattle.flow_base.specs.declared.ids.CellId.{CellId}
@@ -25,24 +25,24 @@ among P (y ∷ xs) x ys h = among P xs x ys h.1
 port_apart : (xs : List (ℕ × CellId)) (x : ℕ × CellId) (ys : List (ℕ × CellId)) → PortsOnce (xs ++ x ∷ ys) → thing (numbers_of xs) x.0 ≡ None
 port_apart [] x ys h = refl
 port_apart (y ∷ xs) x ys h =
-    ap (λ t. if t then _ else thing (numbers_of xs) x.0) (other_number y.0 x.0 (among _ xs x ys h.0).0) ∙ port_apart xs x ys h.1
+    ap (λ t. if t then Some y.1.0 else thing (numbers_of xs) x.0) (other_number y.0 x.0 (among _ xs x ys h.0).0) ∙ port_apart xs x ys h.1
 
 stream_apart : (xs : List (ℕ × CellId)) (x : ℕ × CellId) (ys : List (ℕ × CellId)) → PortsOnce (xs ++ x ∷ ys) → port_of x.1.0 (numbers_of xs) ≡ None
 stream_apart [] x ys h = refl
 stream_apart (y ∷ xs) x ys h =
-    ap (λ t. if t then _ else port_of x.1.0 (numbers_of xs)) (other_number y.1.0 x.1.0 (among _ xs x ys h.0).1) ∙ stream_apart xs x ys h.1
+    ap (λ t. if t then Some y.0 else port_of x.1.0 (numbers_of xs)) (other_number y.1.0 x.1.0 (among _ xs x ys h.0).1) ∙ stream_apart xs x ys h.1
 
 -- one more port that is listened at, of those that come once
 pub port_more :
-    (P : List (ℕ × ℕ) → Type 0) (xs : List (ℕ × CellId)) (i : ℕ) (x : ℕ × CellId) → i < length xs → x ≡ get_or xs i x → PortsOnce xs
-    → (thing (numbers_of (take i xs)) x.0 ≡ None → port_of x.1.0 (numbers_of (take i xs)) ≡ None → P (added (numbers_of (take i xs)) x.0 x.1.0))
+    (P : List (ℕ × ℕ) → Type 0) (xs : List (ℕ × CellId)) (i : ℕ) (d : ℕ × CellId) → i < length xs → PortsOnce xs
+    → (thing (numbers_of (take i xs)) (get_or xs i d).0 ≡ None → port_of (get_or xs i d).1.0 (numbers_of (take i xs)) ≡ None
+    → P (added (numbers_of (take i xs)) (get_or xs i d).0 (get_or xs i d).1.0))
     → P (numbers_of (take (i + 1) xs))
-port_more P xs i x lt is once h =
-    let left : drop i xs ≡ x ∷ drop (i + 1) xs = drop_more xs i x lt ∙ ap (λ z. z ∷ drop (i + 1) xs) (sym is) in
-    let parts : take i xs ++ x ∷ drop (i + 1) xs ≡ xs = ap (λ ys. take i xs ++ ys) (sym left) ∙ take-append-drop i xs in
+port_more P xs i d lt once h =
+    let x : ℕ × CellId = get_or xs i d in
+    let parts : take i xs ++ x ∷ drop (i + 1) xs ≡ xs = ap (λ ys. take i xs ++ ys) (sym (drop_more xs i d lt)) ∙ take-append-drop i xs in
     let apart = subst PortsOnce (sym parts) once in
-    let more : take (i + 1) xs ≡ take i xs ++ x ∷ [] = take_more xs i x lt ∙ ap (λ z. take i xs ++ z ∷ []) (sym is) in
-    subst P (sym (ap numbers_of more ∙ map_push (λ z. (z.0, z.1.0)) (take i xs) x))
+    subst P (sym (ap numbers_of (take_more xs i d lt) ∙ map_push (λ z. (z.0, z.1.0)) (take i xs) x))
     (h (port_apart (take i xs) x (drop (i + 1) xs) apart) (stream_apart (take i xs) x (drop (i + 1) xs) apart))
 
 -- files that can be stored can be made again

@@ -8,5 +8,5 @@ pub loop-entry-preserved : goal.loop-entry-preserved
 loop-entry-preserved c =
     let listed = c.args.listed.now in
     let i = c.loop-entry.entry-index in
-    port_more (PortsRepresent c.listen.new.self) listed i c.entry-item.result c.loop-entry-test.true c.entry-item.is c.requires
+    port_more (PortsRepresent c.listen.new.self) listed i _ c.loop-entry-test.true c.requires
     (c.in_ok-listen.ensures (numbers_of (take i listed)) c.loop-entry.invariant)
