@@ -9,8 +9,8 @@ use flow_saved::{PendingEvent, ProcState, What, WorldState};
 use flow_simdisk::FileState;
 use flow_simnet::Packet;
 use flow_trace::out::LineVec;
-use flow_world::trace::put_rest;
 use flow_world::World;
+use flow_world::trace::put_rest;
 use std::alloc::Global;
 use std::test::Fail;
 

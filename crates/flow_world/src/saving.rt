@@ -82,11 +82,7 @@ fn packet_on_way(
 }
 
 /// What happens at a pending event.
-fn what_told(
-    alloc: Global,
-    on_way: &[Packet],
-    what: &outside::What,
-) -> Result<What, NoMemory>
+fn what_told(alloc: Global, on_way: &[Packet], what: &outside::What) -> Result<What, NoMemory>
     ensures { IfOk result (λ x. WhatTold on_way.now what.now x) }
 {
     Ok(match what {

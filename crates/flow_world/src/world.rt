@@ -134,7 +134,14 @@ impl World {
         let Ok(done) = u32::try_from(done) else {
             return Err(NoMemory);
         };
-        world_told(self.alloc, &self.file, self.ran, done, &self.places, &self.outside)
+        world_told(
+            self.alloc,
+            &self.file,
+            self.ran,
+            done,
+            &self.places,
+            &self.outside,
+        )
     }
 
     /// The same classes in another world, before its first event. Their names aren't resolved again. Unchanged on an error.
