@@ -1,6 +1,6 @@
 // Whether a world can be made of a state, for tests that make one of what another told.
 
-ghost use Rattle.std.specs.Prelude.{◌≡◌, true, length, map, IfOk, OnOk};
+ghost use Rattle.std.specs.Prelude.{◌≡◌, ◌<◌, ◌≤◌, ◌^◌, true, length, map, IfOk, OnOk};
 ghost use Rattle.std.specs.List.{All, AllByRecursion};
 ghost use Rattle.flow_worldfile.specs.Worlds.{IsInRange, seen};
 ghost use Rattle.flow_heapstate.specs.State.{parts_kept};
@@ -42,7 +42,11 @@ fn is_sound_heap(alloc: Global, heap: &HeapState) -> Result<(), Fail>
 fn ports_once(ports: &[(u16, CellId)]) -> Result<(), Fail>
     ensures { OnOk result (PortsOnce ports.now) }
 {
-    holds(ports.len() < 2)
+    match ports {
+        [] => Ok(()),
+        [_] => Ok(()),
+        _ => Err(Fail::from("more than a port")),
+    }
 }
 
 fn writes_fit(writes: &[(u32, Text)]) -> Result<(), Fail>
