@@ -1,7 +1,7 @@
 // Whether a world can be made of a state, for tests that make one of what another told.
 
 ghost use Rattle.std.specs.Prelude.{◌≡◌, ◌<◌, ◌≤◌, ◌^◌, true, length, map, IfOk, OnOk};
-ghost use Rattle.std.specs.List.{All, AllByRecursion};
+ghost use Rattle.std.specs.List.{AllByRecursion};
 ghost use Rattle.flow_worldfile.specs.Worlds.{IsInRange, seen};
 ghost use Rattle.flow_heapstate.specs.State.{parts_kept};
 ghost use Rattle.flow_heapstate.specs.Sound.{SoundHeap};
@@ -38,28 +38,32 @@ fn is_sound_heap(alloc: Global, heap: &HeapState) -> Result<(), Fail>
     holds(sound)
 }
 
+#[tactic(auto, using(crate::proofs::Once::few_once))]
 // One port at most.
 fn ports_once(ports: &[(u16, CellId)]) -> Result<(), Fail>
     ensures { OnOk result (PortsOnce ports.now) }
 {
-    match ports {
-        [] => Ok(()),
-        [_] => Ok(()),
-        _ => Err(Fail::from("more than a port")),
-    }
+    holds(ports.len() < 2)
+}
+
+fn write_fits(offset: u32, text: &Text) -> Result<(), Fail>
+    ensures { OnOk result (FitsFile (record { offset = offset; text = text.now })) }
+{
+    let length = text.bytes().len();
+    holds(length > 0)?;
+    holds(offset as usize + length <= FILE_BYTES)
 }
 
 fn writes_fit(writes: &[(u32, Text)]) -> Result<(), Fail>
-    ensures { OnOk result (All FitsFile (map write_in writes.now)) }
+    ensures { OnOk result (AllByRecursion FitsFile (map write_in writes.now)) }
 {
-    for (offset, text) in writes {
-        let length = text.bytes().len();
-        holds(length > 0)?;
-        holds(*offset as usize + length <= FILE_BYTES)?;
+    for write in writes {
+        write_fits(write.0, &write.1)?;
     }
     Ok(())
 }
 
+#[tactic(auto, using(crate::proofs::Once::all_fit))]
 fn files_stored(files: &[FileState]) -> Result<(), Fail>
     ensures { OnOk result (AllByRecursion (λ f. IsStored f.1) (files_in files.now)) }
 {
