@@ -1,5 +1,6 @@
 pub mod Cut
 pub mod Growing
+pub mod Going
 pub mod Parts
 pub mod Deeds
 pub mod Disks

@@ -3,3 +3,4 @@ pub mod Parts
 pub mod Actions
 pub mod Events
 pub mod Exact
+pub mod Rests

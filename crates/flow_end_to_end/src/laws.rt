@@ -3,6 +3,7 @@
 ghost use Rattle.flow_end_to_end.specs.Cut.{ClassesCut, ClassesCutInPart, ProgramCut, ProgramCutInPart};
 ghost use Rattle.flow_end_to_end.specs.Cut.{ClassesFailInPart, ProgramFailsInPart, ClassesWrittenInPart, ProgramWrittenInPart};
 ghost use Rattle.flow_end_to_end.specs.Exact.{ClassesShown, ProgramShown, ProgramInPart};
+ghost use Rattle.flow_end_to_end.specs.Rests.{RestsCut, RestsCutInPart, RestsFailInPart};
 
 use flow_trace::out::LineOut;
 
@@ -39,4 +40,13 @@ pub fn failed_runs_put_first_parts<L: LineOut>()
 pub fn failed_runs_write_first_parts()
     ensures classes { ClassesWrittenInPart }
     ensures programs { ProgramWrittenInPart }
+{}
+
+/// What is put of a world in memory from where it is, wherever it comes from, is what is shown from the world of the definitions that it
+/// represents on, cut where a monitor says Stop; where a line failed, that was put up to this line; and what fails isn't stuck and has
+/// put a first part of it.
+pub fn rests_are_cut<L: LineOut>()
+    ensures whole { RestsCut L.puts }
+    ensures in_part { RestsCutInPart L.puts }
+    ensures fails { RestsFailInPart L.puts }
 {}

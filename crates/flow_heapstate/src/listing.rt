@@ -39,8 +39,8 @@ fn streams(alloc: Global, heap: &Heap) -> Result<Vec<StreamState>, NoMemory>
     Ok(listed)
 }
 
-// The actors of a heap, by rising number.
-fn actors(alloc: Global, heap: &Heap) -> Result<Vec<ActorState>, NoMemory>
+/// The unfinished actors of a heap, by rising number.
+pub fn actors(alloc: Global, heap: &Heap) -> Result<Vec<ActorState>, NoMemory>
     ensures { IfOk result (λ v. IsRising 0 heap.now.frames.things heap.now.frames.greatest
         → map actor_kept v.items ≡ map (actor_part heap.now.actors.things) heap.now.frames.things) }
 {

@@ -6,7 +6,8 @@ ghost use Rattle.flow_trace.specs.declared.line.Line.{Line};
 ghost use Rattle.flow_numbered.specs.Numbered.{Numbered, thing};
 ghost use Rattle.flow_meaning.specs.Requests.{Timer, Packet, Disks};
 ghost use Rattle.flow_meaning.specs.Burst as meaning;
-ghost use Rattle.flow_machine.specs.Requests.{IsAllowed, call_of};
+ghost use Rattle.flow_saved.specs.Requests.{IsAllowed};
+ghost use Rattle.flow_machine.specs.Requests.{call_of};
 ghost use Rattle.flow_machine.specs.Hosting.{Serves, Draws, Writes, LinesOf, Listens, Unlistens};
 
 use flow_base::fault::OutFault;

@@ -6,7 +6,8 @@ ghost use Rattle.std.specs.Option.{option_map};
 ghost use Rattle.flow_eval.specs.Predefined.{natural};
 ghost use Rattle.flow_simdisk.specs.Asks.{ReadCall, WriteCall, SyncCall, SizeCall};
 ghost use Rattle.flow_meaning.specs.Effects.{between, is_file, is_port, judged};
-ghost use Rattle.flow_machine.specs.Requests.{IsAllowed, IsRange, call_of, asked_of};
+ghost use Rattle.flow_saved.specs.Requests.{IsAllowed};
+ghost use Rattle.flow_machine.specs.Requests.{IsRange, call_of, asked_of};
 
 use flow_base::ids::ProcId;
 use flow_base::text::Text;

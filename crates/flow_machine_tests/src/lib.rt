@@ -9,7 +9,13 @@ mod heap_again;
 #[cfg(test)]
 mod lines;
 #[cfg(test)]
+mod resumable;
+#[cfg(test)]
 mod running;
+#[cfg(test)]
+mod saved;
+#[cfg(test)]
+mod speed;
 #[cfg(test)]
 mod traces;
 #[cfg(test)]

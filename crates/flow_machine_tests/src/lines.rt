@@ -109,7 +109,7 @@ pub(crate) fn code(alloc: Global, text: &[u8]) -> Result<Code, Fail> {
 }
 
 // Lines as text.
-fn text(alloc: Global, lines: &[Line]) -> Result<Vec<u8>, Fail> {
+pub(crate) fn text(alloc: Global, lines: &[Line]) -> Result<Vec<u8>, Fail> {
     let mut line_text = LineBuf::new(alloc)?;
     let mut text = Vec::new(alloc);
     for line in lines {

@@ -28,8 +28,8 @@ const KILLED: &[u8] = b"at 1 kill 0\nat 0 stop 0\n";
 const KILLED_LINES: &[u8] =
     b"event 1 0 stop 0\nevent 2 0 boot 0\nstart 1 main\nwait 1 1\nevent 3 1 kill 0\nend idle\n";
 
-// The world of a text.
-fn file(alloc: Global, text: &[u8]) -> Result<World0, Fail>
+/// The world of a text.
+pub(crate) fn file(alloc: Global, text: &[u8]) -> Result<World0, Fail>
     ensures { IfOk result (λ w. IsInRange (seen w)) }
 {
     match read_world(alloc, text) {
@@ -65,8 +65,8 @@ fn starts_again(alloc: Global, world: &mut World) -> Result<bool, Fail> {
     again_is(alloc, world, b"", FIRST)
 }
 
-// Runs so many events, and gives how the run ended.
-fn skipped(world: &mut World, most: u32) -> Result<Option<Ending>, Fail> {
+/// Runs so many events, and gives how the run ended.
+pub(crate) fn skipped(world: &mut World, most: u32) -> Result<Option<Ending>, Fail> {
     if world.ended() {
         return Err(Fail::from("the world has ended"));
     }

@@ -21,3 +21,5 @@ pub mod WatchedTraces
 pub mod Watching
 pub mod Writing
 pub mod Skips
+pub mod Told
+pub mod Made

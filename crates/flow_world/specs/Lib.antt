@@ -20,3 +20,5 @@ pub mod Watching
 pub mod WatchedTraces
 pub mod BreakingTraces
 pub mod Skipping
+pub mod Saving
+pub mod Resuming

@@ -1,7 +1,7 @@
 // Requests to a disk that wait for their event.
 
 ghost use Rattle.std.specs.Prelude.{◌≡◌};
-ghost use Rattle.flow_machine.specs.Requests.{IsAllowed};
+ghost use Rattle.flow_saved.specs.Requests.{IsAllowed};
 
 use flow_simdisk::DiskAsk;
 use std::marker::Model;
@@ -14,7 +14,7 @@ pub struct Asked {
 
 impl Model for Asked {
     ghost use Rattle.flow_simdisk.specs.declared.ask.DiskAsk.{DiskAsk};
-    ghost use Rattle.flow_machine.specs.Requests.{IsAllowed};
+    ghost use Rattle.flow_saved.specs.Requests.{IsAllowed};
 
     ghost Value = { DiskAsk };
 

@@ -1,11 +1,13 @@
 // The ports of a process.
 
-ghost use Rattle.std.specs.Prelude.{◌≡◌, ℕ, List, [], OnOk, None};
+ghost use Rattle.std.specs.Prelude.{◌≡◌, ℕ, List, [], OnOk, IfOk, None};
 ghost use Rattle.std.specs.Option.{option_map};
 ghost use Rattle.flow_numbered.specs.Numbered.{Numbered, thing, added};
 ghost use Rattle.flow_meaning.specs.Dropping.{port_of};
 ghost use Rattle.flow_machine.specs.Hosting.{unheard};
+ghost use Rattle.flow_saved.specs.CanResume.{PortsOnce};
 ghost use Rattle.flow_world.specs.Ports.{PortsRepresent};
+ghost use Rattle.flow_world.specs.Saving.{numbers_of};
 
 use flow_base::ids::CellId;
 use flow_base::memory::NoMemory;
@@ -68,5 +70,28 @@ impl Ports {
     {
         self.streams.clear();
         self.ports.clear();
+    }
+
+    /// These ports are listened at, each at its stream.
+    pub fn of(alloc: Global, listed: &[(u16, CellId)]) -> Result<Ports, NoMemory>
+        requires { PortsOnce listed.now }
+        ensures { IfOk result (λ p. PortsRepresent p (numbers_of listed.now)) }
+    {
+        let mut ports = Ports::new(alloc);
+        for entry in listed {
+            ports.listen(entry.0, entry.1)?;
+        }
+        Ok(ports)
+    }
+
+    /// The ports with their streams, by rising port.
+    pub fn listed(&self, alloc: Global) -> Result<Vec<(u16, CellId)>, NoMemory>
+        ensures { IfOk result (λ list. numbers_of list.items ≡ self.now.streams.entries) }
+    {
+        let mut list = Vec::new(alloc);
+        for (port, cell) in self.streams.iter() {
+            list.push((*port, CellId(*cell)))?;
+        }
+        Ok(list)
     }
 }

@@ -1,7 +1,8 @@
 // The script of a world.
 
-ghost use Rattle.std.specs.Prelude.{◌≡◌, IfOk};
+ghost use Rattle.std.specs.Prelude.{◌≡◌, IfOk, length};
 ghost use Rattle.flow_world.specs.Ending.{script_time, first_act, lines_after};
+ghost use Rattle.flow_world.specs.Resuming.{ScriptLeft};
 ghost use Rattle.flow_world.specs.Starting.{ScriptInOrder};
 
 use flow_base::memory::NoMemory;
@@ -33,6 +34,25 @@ impl Script {
         let mut lines = lines;
         lines.sort_by_key(|line| line.time)?;
         Ok(Script { lines, done: 0 })
+    }
+
+    /// These lines, in the order of the file, of which so many are done, in the order in which they come.
+    pub fn after(lines: Vec<At>, done: u32) -> Result<Script, NoMemory>
+        ensures { IfOk result (λ s. ScriptLeft lines.items done s) }
+    {
+        let mut lines = lines;
+        lines.sort_by_key(|line| line.time)?;
+        Ok(Script {
+            lines,
+            done: done as usize,
+        })
+    }
+
+    /// How many lines are left.
+    pub fn left(&self) -> usize
+        ensures { result ≡ length self.now }
+    {
+        self.lines.len().saturating_sub(self.done)
     }
 
     /// The time of the next line, where one is left.

@@ -20,6 +20,10 @@ ghost use Rattle.flow_world.specs.BreakingEvents.{LineBreaks, PendingBreaks, Mom
 ghost use Rattle.flow_class.specs.declared.class.RawClasses.{RawClasses};
 ghost use Rattle.flow_world.specs.Starting.{IsCodeOf, Starts};
 ghost use Rattle.flow_heapstate.specs.State.{actor_kept};
+ghost use Rattle.flow_saved.specs.Saved.{saved_of};
+ghost use Rattle.flow_saved.specs.CanResume.{CanResume, HasGivenFew};
+ghost use Rattle.flow_world.specs.Resuming.{MadeFrom};
+ghost use Rattle.flow_world.specs.Saving.{SavedAs};
 ghost use Rattle.flow_world.specs.Views.{frames_at, callbacks_at, NumbersRiseAt, actors_at, live_in};
 
 use crate::action::{EventAction, acts, holds_already};
@@ -29,6 +33,8 @@ use crate::event::Event;
 use crate::outside::{LAST_TIME, Outside, What};
 use crate::place::Place;
 use crate::put::{put, put_kept};
+use crate::resuming::world_made;
+use crate::saving::world_told;
 use crate::script::Script;
 use crate::starting::first_state;
 use crate::teller::{Teller, unless_failed};
@@ -38,6 +44,7 @@ use flow_code::program::Code;
 use flow_heapstate::state::ActorState;
 use flow_machine::host::{Burst, RunFault};
 use flow_machine::views::{CallbackView, FrameView};
+use flow_saved::WorldState;
 use flow_simnet::Packet;
 use flow_trace::line::Line;
 use flow_trace::out::LineOut;
@@ -91,6 +98,50 @@ impl World {
             ended: false,
             file: world,
         })
+    }
+
+    /// The world of a state with these classes, between events: it goes on as the one of which the state was told.
+    pub fn resume(
+        alloc: Global,
+        classes: ClassProgram,
+        state: WorldState,
+    ) -> Result<World, NoMemory>
+        requires { CanResume (saved_of state) }
+        ensures { IfOk result (λ w. MadeFrom classes (saved_of state) (world_seen w)) }
+    {
+        let code = Code::new(alloc, classes)?;
+        let ran = state.events;
+        let (file, places, outside, script) = world_made(alloc, state)?;
+        Ok(World {
+            alloc,
+            code,
+            places,
+            outside,
+            script,
+            ran,
+            ended: false,
+            file,
+        })
+    }
+
+    /// All that it has to keep from one event to the next, of which `resume` makes it again. `NoMemory` comes for want of memory, and
+    /// where more than 2^62 cells or actors of a process, pending events or packets were numbered, or words drawn.
+    pub fn state(&self) -> Result<WorldState, NoMemory>
+        ensures told { IfOk result (λ s. SavedAs (world_seen self.now) (saved_of s)) }
+        ensures few { IfOk result (λ s. HasGivenFew (saved_of s)) }
+    {
+        let done = self.file.script.len().saturating_sub(self.script.left());
+        let Ok(done) = u32::try_from(done) else {
+            return Err(NoMemory);
+        };
+        world_told(
+            self.alloc,
+            &self.file,
+            self.ran,
+            done,
+            &self.places,
+            &self.outside,
+        )
     }
 
     /// The same classes in another world, before its first event. Their names aren't resolved again. Unchanged on an error.
@@ -649,7 +700,7 @@ impl World {
             NumbersRiseAt place → map actor_kept states.items ≡ actors_at place) }
     {
         match self.places.get(usize::from(p.0)) {
-            Some(place) => Ok(place.machine.state()?.actors),
+            Some(place) => place.machine.actor_states(),
             None => Ok(Vec::new(self.alloc)),
         }
     }

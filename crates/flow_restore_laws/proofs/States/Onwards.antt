@@ -1,8 +1,9 @@
 -- A run in memory goes on alike where processes are made again between its events.
-use Rattle.std.proofs.Common.{◌≡◌, ℕ, suc, Bool, List, [], ◌∷◌, ◌++◌, refl, sym, ap, ◌∙◌, subst, arith}
-use Rattle.std.specs.Prelude.{Result, slice_get}
+use Rattle.std.proofs.Common.{◌≡◌, ℕ, suc, Bool, false, List, [], ◌∷◌, ◌++◌, refl, sym, ap, ◌∙◌, subst, arith}
+use Rattle.std.specs.Prelude.{Result, Ok, slice_get}
 use Rattle.std.proofs.lemmas.List.{append_assoc}
-use Rattle.std.specs.declared.option.Option.TheVariants.{Some}
+use Rattle.std.specs.declared.option.Option.{Option}
+use Rattle.std.specs.declared.option.Option.TheVariants.{None, Some}
 use Rattle.flow_base.specs.declared.ids.ProcId.{ProcId}
 use Rattle.flow_base.specs.declared.fault.OutFault.{OutFault}
 use Rattle.flow_tree.specs.DeclView.{program_of}
@@ -28,9 +29,12 @@ use Rattle.flow_invariants.proofs.Fitting.Runs.{run_exists}
 use Rattle.flow_lower.specs.Compiled.{compiled}
 use Rattle.flow_machine.specs.declared.host.Burst.TheVariants.{Rested}
 use Rattle.flow_world.specs.declared.place.Place.{Place}
-use Rattle.flow_world.specs.Around.{Puts, no_line}
+use Rattle.flow_world.specs.declared.silence.Silence.{Silence}
+use Rattle.flow_world.specs.Around.{Puts, no_line, more_lines}
 use Rattle.flow_world.specs.Ending.{Seen}
+use Rattle.flow_world.specs.FaultedLines.{Telling, tells, telling, TellsAfter}
 use Rattle.flow_world.specs.Happening.{Happens, EventDoes}
+use Rattle.flow_world.specs.Skipping.{unkept}
 use Rattle.flow_world.specs.Ports.{PortsRepresent}
 use Rattle.flow_world.specs.Starting.{Starts}
 use Rattle.flow_machine.specs.declared.host.RunFault.TheVariants.{Stuck}
@@ -59,6 +63,8 @@ use Rattle.flow_determinism.proofs.Whole.{compiles_whole}
 use Rattle.flow_end_to_end.specs.Exact.{HaveFewPlaces}
 use Rattle.flow_end_to_end.specs.Events.{MemoryWorldInvariant}
 use Rattle.flow_end_to_end.proofs.Events.{event_in_part}
+use Rattle.flow_end_to_end.specs.Rests.{GoesOn}
+use Rattle.flow_end_to_end.proofs.Cut.Cuts.{rests_cut}
 use Rattle.flow_end_to_end.proofs.Shown.{code_first}
 use Rattle.flow_end_to_end.proofs.Upheld.{upheld_starts, upheld_stays}
 use Rattle.flow_restore_laws.specs.Rest.Boundary.{IsAtRest, RestsInRun}
@@ -67,6 +73,7 @@ use Rattle.flow_restore_laws.proofs.Rest.Rests.{world_rests}
 use Rattle.flow_restore_laws.specs.States.Heaps.{HaveFewerPlaces}
 use Rattle.flow_restore_laws.specs.States.Worlds.{IsTold, AllTold}
 use Rattle.flow_restore_laws.specs.States.Resumed.{PlaceAgain, as_it_was, made_from, PlacesAgain, WorldAgain, Resumes, no_event, one_more, again, ResumesTo, ClassesRestAlike, ClassesGoOn, ProgramsRestAlike, ProgramsGoOn}
+use Rattle.flow_restore_laws.specs.States.Skipped.{GoesOnInRun, ClassesGoOnward, ProgramsGoOnward, ClassesSkip, ProgramsSkip}
 use Rattle.flow_restore_laws.proofs.States.Few.{compiled_fewer}
 use Rattle.flow_restore_laws.proofs.States.Alike.{processes_restored}
 use Rattle.flow_restore_laws.proofs.States.Worlds.{world_told}
@@ -141,6 +148,28 @@ module _ (r : RawTree) (whole : AreWhole r) (few : HaveFewerPlaces r) (f : file.
   frames_classed : (v : Seen) (m : World Frame) → Here v m → FramesStuck v → ⊥
   frames_classed v m h stuck =
       places_classed r v.code.program.classes.items (ap (λ (x : RawTree). x.classes) h.text) m.out.file.processes 0 v.places m.places (at_rest v m h).0.places (told v m h) stuck.0.0 stuck.1
+
+  -- events may go on from there
+  going : (v : Seen) (m : World Frame) → Here v m → GoesOn r v m
+  going v m h = record {
+    code = h.code;
+    text = h.text;
+    shows = h.shows;
+    keeps = h.keeps.0;
+    waits = h.keeps.1;
+    states = h.on.rest;
+    lines = h.on.lines;
+    runs = h.on.runs;
+  }
+
+  going_in_run : (v : Seen) (m : World Frame) → Here v m → GoesOnInRun r f v
+  going_in_run v m h = record {
+    states = states;
+    run = (trace, run);
+    state = m;
+    after_as_many = ap (slice_get states) h.shows.ran ∙ first_left states m.out.ran m h.on.rest h.on.left;
+    goes = going v m h;
+  }
 
   -- where processes are made again, the world is there still
   here_again : (v w : Seen) (m : World Frame) → Here v m → WorldAgain v w → Here w m
@@ -277,6 +306,19 @@ module _ {A : Type 0} (puts : A → Line → Result (Unit {0}) OutFault → A �
         classed = λ stuck. frames_classed r whole few (seen file) range x.0 lines x.1 v k.last k.there stuck;
       }
 
+  pub classes_go_onward : ClassesGoOnward puts
+  classes_go_onward c file with_frames first v a b whole few range starts goes =
+      let r = raw_of c in
+      let x = (run_exists r whole.valid (seen file) range).is in
+      let lines = (run_exists r whole.valid (seen file) range).lines in
+      let k = came r whole few (seen file) range x.0 lines x.1 puts with_frames first v (at_start (seen file)) a b (start c file whole few range first starts x.0 lines x.1) goes in
+      going_in_run r whole few (seen file) range x.0 lines x.1 v k.last k.there
+
+  pub programs_go_onward : ProgramsGoOnward puts
+  programs_go_onward text program c file with_frames first v a b sound light has range starts goes =
+      classes_go_onward c file with_frames first v a b (subst AreWhole (sym has) (compiles_whole text program sound))
+      (subst HaveFewerPlaces (sym has) (compiled_fewer text program sound)) range starts goes
+
   pub classes_go_on : ClassesGoOn puts
   classes_go_on c file with_frames first v a b y z e whole few range starts goes rest =
       let r = raw_of c in
@@ -299,3 +341,37 @@ module _ {A : Type 0} (puts : A → Line → Result (Unit {0}) OutFault → A �
       let by_text = shown_of_classes (program_of program) (compiled (program_of program)) (are_carried program (compiles_faithfully text program sound.typed)) with_frames (seen file) lines
       (subst (λ (r : RawTree). ClassShown with_frames r (seen file) lines) has x.2) in
       (x.0, x.1, by_text, x.3, x.4, x.5)
+
+-- a line that nobody keeps may be put as often as it likes, so that frames may follow events where none were asked for
+unkept_by : (fault : Option OutFault) (o : Silence) (l : Line) → TellsAfter unkept fault o l (telling o fault)
+unkept_by None o l = (Ok tt, refl, refl)
+unkept_by (Some fault) o l = (refl, refl)
+
+unkept_all : (ls : List Line) (c : Telling Silence) → Puts (tells unkept) c ls c
+unkept_all [] c = no_line
+unkept_all (l ∷ ls) c = more_lines (unkept_by c.fault c.out l) (unkept_all ls c)
+
+framed : (with_frames : Bool) (w v : Seen) (a b : Telling Silence) → Resumes (tells unkept) false w a v b → Resumes (tells unkept) with_frames w a v b
+framed with_frames w _ a _ no_event = no_event
+framed with_frames w v a d (one_more {u = u} {b = b} {c = c} goes does no_line) = one_more (framed with_frames w u a b goes) does (unkept_all (lines_if with_frames v) c)
+framed with_frames w v a b (again {u = u} goes t) = again (framed with_frames w u a b goes) t
+
+module _ {A : Type 0} (puts : A → Line → Result (Unit {0}) OutFault → A → Type 0) where
+  pub classes_skip : ClassesSkip puts
+  classes_skip c file with_frames first v before after a ears e b whole few range starts goes rest =
+      let r = raw_of c in
+      let x = (run_exists r whole.valid (seen file) range).is in
+      let lines = (run_exists r whole.valid (seen file) range).lines in
+      let k = came r whole few (seen file) range x.0 lines x.1 (tells unkept) with_frames first v (at_start (seen file)) before after (start c file whole few range first starts x.0 lines x.1)
+      (framed with_frames first v before after goes) in
+      let l = rests_cut puts r v k.last with_frames a ears e b (going r whole few (seen file) range x.0 lines x.1 v k.last k.there) rest in
+      (k.lines, l.0, record { rest = k.lines ++ l.0; shows = k.goes l.0 l.1; with_head = refl }, l.2, l.3)
+
+  pub programs_skip : ProgramsSkip puts
+  programs_skip text program c file with_frames first v before after a ears e b sound light has range starts goes rest =
+      let x = classes_skip c file with_frames first v before after a ears e b (subst AreWhole (sym has) (compiles_whole text program sound))
+      (subst HaveFewerPlaces (sym has) (compiled_fewer text program sound)) range starts goes rest in
+      let lines = line.Head ∷ (x.0 ++ x.1) in
+      let by_text = shown_of_classes (program_of program) (compiled (program_of program)) (are_carried program (compiles_faithfully text program sound.typed)) with_frames (seen file) lines
+      (subst (λ (r : RawTree). ClassShown with_frames r (seen file) lines) has x.2) in
+      (x.0, x.1, by_text, x.3, x.4)

@@ -4,3 +4,4 @@ pub mod heaps;
 pub mod laws;
 pub mod restored;
 pub mod resumed;
+pub mod skipped;

@@ -1,0 +1,3 @@
+pub mod Saved
+pub mod Requests
+pub mod CanResume
