@@ -31,7 +31,13 @@ fn answer(
     let mut files = two_files(alloc, command.first, command.second, reads)?;
     let mut out = MemSink::new(alloc, writes);
     let words = words(alloc, command.words)?;
-    let status = flow_main(alloc, &words, &mut files, &mut out, HandedIn::new(alloc, Vec::new(alloc)));
+    let status = flow_main(
+        alloc,
+        &words,
+        &mut files,
+        &mut out,
+        HandedIn::new(alloc, Vec::new(alloc)),
+    );
     Ok((status, out.bytes().to_vec(alloc)?))
 }
 
@@ -119,7 +125,13 @@ fn is_told_byte_by_byte(
         bytes: Vec::new(alloc),
     };
     let words = words(alloc, command.words)?;
-    let status = flow_main(alloc, &words, &mut files, &mut out, HandedIn::new(alloc, Vec::new(alloc)));
+    let status = flow_main(
+        alloc,
+        &words,
+        &mut files,
+        &mut out,
+        HandedIn::new(alloc, Vec::new(alloc)),
+    );
     Ok(status == 0 && out.bytes.as_slice() == text)
 }
 

@@ -72,8 +72,22 @@ fn a_word_of_a_mebibyte(rt: HostRuntime) -> Result<(), AllocError> {
     let alloc = rt.alloc();
     let long = repeated(alloc, "0123456789abcdef", 65_536)?;
     assert!(rt; is_answered_with(alloc, &["check"], long.as_str().to_string(alloc)?, NO_FILE)?);
-    assert!(rt; is_answered_with(alloc, &["run", "p"], long.as_str().to_string(alloc)?, NO_FILE)?);
-    assert!(rt; is_answered_with(alloc, &["bench", "1"], long.as_str().to_string(alloc)?, USAGE)?);
+    assert!(rt;
+        is_answered_with(
+            alloc,
+            &["run", "p"],
+            long.as_str().to_string(alloc)?,
+            NO_FILE
+        )?
+    );
+    assert!(rt;
+        is_answered_with(
+            alloc,
+            &["bench", "1"],
+            long.as_str().to_string(alloc)?,
+            USAGE
+        )?
+    );
     assert!(rt; is_answered_with(alloc, &[], long, USAGE)?);
     Ok(())
 }
