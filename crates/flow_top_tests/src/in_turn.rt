@@ -1,8 +1,6 @@
 // Each call of the files and of the sink that a command makes, failing in turn, alone and with the one behind it; and files and a sink of
 // one byte a call.
 
-ghost use Rattle.std.specs.Prelude.{None};
-
 use crate::slow::{OneByteIn, OneByteOut};
 use crate::tests::{two_files, words};
 use flow_base::mem_sink::MemSink;
@@ -92,24 +90,41 @@ fn line_length(text: &[u8]) -> usize {
     }
 }
 
-// Whether each call of the sink, failing in turn, leaves the lines before it: one call a line, and one more behind the last, which flushes.
-fn each_write_is_told(alloc: Global, command: Command<'_>) -> Result<bool, AllocError> {
-    let (status, text) = answer(alloc, command, Vec::new(alloc), Vec::new(alloc))?;
-    let mut gone = 0usize;
-    let mut call = 1u64;
-    while gone < text.len() {
-        if !writes_fail(alloc, command, call, &text[..gone])? {
-            return Ok(false);
-        }
-        gone += line_length(&text[gone..]);
-        call = call.saturating_add(1);
-    }
-    if !writes_fail(alloc, command, call, &text)? {
-        return Ok(false);
-    }
+// Whether the call of the sink behind the last line, which flushes, is told where it fails, and no other is made.
+fn last_write_is_told(
+    alloc: Global,
+    command: Command<'_>,
+    call: u64,
+    text: &[u8],
+) -> Result<bool, AllocError> {
     let behind = vec![in alloc; call.saturating_add(1)]?;
     let whole = answer(alloc, command, Vec::new(alloc), behind)?;
-    Ok(status == 0 && is(&whole, 0, &text))
+    Ok(writes_fail(alloc, command, call, text)? && is(&whole, 0, text))
+}
+
+// Whether each call of the sink, failing in turn, leaves the lines before it: one call a line of this text, and one more.
+fn each_line_is_a_write(
+    alloc: Global,
+    command: Command<'_>,
+    text: &[u8],
+) -> Result<bool, AllocError> {
+    let mut gone = 0usize;
+    for call in 1..1_000_000u64 {
+        if gone >= text.len() {
+            return last_write_is_told(alloc, command, call, text);
+        }
+        if !writes_fail(alloc, command, call, text.get(..gone).unwrap_or(&[]))? {
+            return Ok(false);
+        }
+        gone = gone.saturating_add(line_length(text.get(gone..).unwrap_or(&[])));
+    }
+    Ok(false)
+}
+
+// The same of the text that a command writes where no call fails.
+fn each_write_is_told(alloc: Global, command: Command<'_>) -> Result<bool, AllocError> {
+    let (status, text) = answer(alloc, command, Vec::new(alloc), Vec::new(alloc))?;
+    Ok(each_line_is_a_write(alloc, command, &text)? && status == 0)
 }
 
 // Whether a command is answered so by files and a sink of one byte a call.

@@ -1,5 +1,7 @@
 // A sink that takes one byte a call, and files that give one.
 
+ghost use Rattle.std.specs.Prelude.{None};
+
 use flow_base::fault::OutFault;
 use flow_base::files::Files;
 use flow_base::ids::FileNo;
