@@ -1,5 +1,5 @@
 -- Where all texts pass and no call fails, what is due is told whole, or there was no memory.
-use Rattle.std.proofs.Common.{◌≡◌, ℕ, ◌≤◌, false, List, [], ◌∷◌, ◌++◌, length, codes, ◌⊎◌, inl, inr, Some, subst}
+use Rattle.std.proofs.Common.{◌≡◌, ℕ, ◌+◌, ◌≤◌, Bool, true, false, true≢false, refl, sym, ap, ◌∙◌, List, [], ◌∷◌, ◌++◌, length, codes, ◌⊎◌, inl, inr, Some, subst}
 use Rattle.flow_gen.specs.Generator.{program_text, generated_world}
 use Rattle.flow_tree.specs.declared.limits.TheConstants.{PROGRAM_BYTES}
 use Rattle.flow_tree.specs.Canon.{Canon}
@@ -12,19 +12,30 @@ use Rattle.flow_worldfile.specs.Laws.{OneVerdict as OneWorldVerdict}
 use Rattle.flow_front.specs.Verdict.{IsProgram}
 use Rattle.flow_front.specs.Laws.{OneVerdict}
 use Rattle.flow_compile_laws.specs.Frames.Framed.{SourceShown}
-use Rattle.flow_words.specs.Asked.{format, check, bench}
-use Rattle.flow_top.specs.declared.outcome.Outcome.TheVariants.{Bench}
-use Rattle.flow_top.specs.declared.outcome.Answered.TheVariants.{Passed, Formatted}
+use Rattle.flow_words.specs.Asked.{Request, format, check, bench, shrink}
+use Rattle.flow_top.specs.declared.outcome.Outcome.TheVariants.{Answered, Bench, Shrink}
+use Rattle.flow_top.specs.declared.outcome.Answered.TheVariants.{Passed, Formatted, LongScript}
 use Rattle.flow_top.specs.declared.outcome.ProgramRun.{ProgramRun}
 use Rattle.flow_top.specs.Sources.{Source, generated, IsOf}
-use Rattle.flow_top.specs.Outcomes.{IsPassing}
+use Rattle.std.specs.Prelude.{nat_le, if◌then◌else◌}
+use Rattle.flow_base.specs.Bytes.{AreFirstOf}
+use Rattle.flow_monitor.specs.declared.attach.Want.{Want}
+use Rattle.flow_shrink.specs.declared.shrinking.TheConstants.{SCRIPT_LINES}
+use Rattle.flow_shrink.specs.declared.shrinking.Shrunk.{Shrunk}
+use Rattle.flow_shrink.specs.declared.shrinking.Shrunk.TheVariants.{Least, NotStopped}
+use Rattle.flow_shrink.specs.Shrinking as shrinking
+use Rattle.flow_shrink.proofs.Removing.{script_length}
+use Rattle.flow_top.specs.Requests.{request_by, panel_for}
+use Rattle.flow_top.specs.Told.{GoesOut}
+use Rattle.flow_top.specs.Shrunk.{shrunk_text, shrunk_status}
+use Rattle.flow_top.specs.Outcomes.{IsPassing, run_for}
 use Rattle.flow_top.specs.Due.{DueBy, IsRunFor}
-use Rattle.flow_headline.specs.Calls.{Call, AsksFor, HasFile, IsFault, read_fault, write_fault, no_memory}
+use Rattle.flow_headline.specs.Calls.{Call, AsksFor, HasFile, HasWorld, ears_of, IsFault, read_fault, write_fault, no_memory}
 use Rattle.flow_headline.specs.Laws.{Compiles, RunTells, ExecTells}
-use Rattle.flow_headline.specs.Complete.{NoFault, formats, checks, compiles, runs, execs, benches, TellsText, TellsSummary, Complete}
-use Rattle.flow_headline.proofs.Deciding.{IsTold, IsSummed, DueFor, first, behind, text_is, told_of, bench_of, comes}
-use Rattle.flow_headline.proofs.Judging.{format_due, check_due, bench_due, bench_shows}
-use Rattle.flow_headline.proofs.Telling.{due_in}
+use Rattle.flow_headline.specs.Complete.{NoFault, formats, checks, compiles, runs, execs, benches, shrinks, ProgramStops, TellsShrunk, least, not_stopped, TellsText, TellsSummary, Complete}
+use Rattle.flow_headline.proofs.Deciding.{IsTold, IsSummed, IsShrunk, DueFor, first, behind, text_is, told_of, bench_of, shrunk_of, comes}
+use Rattle.flow_headline.proofs.Judging.{format_due, check_due, bench_due, bench_shows, shrink_due, shrink_shows}
+use Rattle.flow_headline.proofs.Telling.{due_in, first_of}
 
 -- without a fault of files or sink there was no memory
 only_memory : (c : Call) → NoFault c → IsFault c → c.status ≡ 7
@@ -106,6 +117,59 @@ module _ (c : Call) (clients seed : ℕ) (p : Program) (w : World) (one : OneVer
           due_in once (bench clients seed) w (generated_world seed) short is t u c.answers.outcome (own_text (generated_world seed) s u from also) d
           (λ m run e at frames. bench_tells m e frames at (subst (λ z. IsRunFor z (bench clients seed) m.meant m.classes) of run))
 
+-- a script with few enough lines
+few_lines : (b : Bool) (m : ProgramRun) → b ≡ true → (if b then Shrink m else Answered LongScript) ≡ Shrink m
+few_lines true m e = refl
+few_lines false m e = absurd (true≢false (sym e))
+
+few : (n k : ℕ) → n ≤ k → nat_le n k ≡ true
+few n k le = grind arith
+
+module _ (c : Call) (program world : List ℕ) (want : Want) (text : List ℕ) (p : Program) (w : World) (one : OneVerdict text) (once : OneWorldVerdict)
+    (asks : AsksFor c (shrink program world want)) (file : HasFile c program text) (pass : IsPassing text p) (there : HasWorld c world w) (short : length w.script ≤ SCRIPT_LINES) where
+  abbrev q : Request
+  q = shrink program world want
+
+  abbrev Shrinks : Type 0
+  Shrinks = TellsShrunk c (program_of p) (ears_of c q) w ⊎ IsFault c
+
+  told_shrunk : (x : Shrunk) → shrinking.Shrinks (ProgramStops (program_of p) (ears_of c q)) w x → GoesOut c.sink c.sink' (shrunk_text x) → c.status ≡ shrunk_status x
+      → TellsShrunk c (program_of p) (ears_of c q) w
+  told_shrunk (Least v) h out status = least (seen v) h out status
+  told_shrunk NotStopped h out status = not_stopped h out status
+
+  shrink_tells : (m : ProgramRun) → c.answers.outcome ≡ Shrink m → seen m.world ≡ w → IsRunFor text q m.meant m.classes → Shrinks
+  shrink_tells m e at run = by (shrunk_of c m e)
+    where
+      by : IsShrunk m (panel_for (request_by c.words c.handed) c.handed) c.sink c.sink' c.status ⊎ IsFault c → Shrinks
+      by (inr x) = inr x
+      by (inl x) =
+          let ears = ap (λ z. panel_for z c.handed) asks in
+          let shown = shrink_shows text one p pass program world want m.meant m.classes run.is_run run.is_meant _ (seen m.world) x.came_to x.shrinks in
+          let here = subst (λ v. shrinking.Shrinks (ProgramStops (program_of p) (ears_of c q)) v x.came_to) at
+          (subst (λ z. shrinking.Shrinks (ProgramStops (program_of p) z) (seen m.world) x.came_to) ears shown) in
+          inl (told_shrunk x.came_to here x.out x.status)
+
+  shrink_runs : (m : ProgramRun) → c.answers.outcome ≡ run_for q m → seen m.world ≡ w → IsRunFor text q m.meant m.classes → Shrinks
+  shrink_runs m e at run =
+      let long : m.world.script.len ≡ length w.script = sym (script_length m.world) ∙ ap (λ (v : World). length v.script) at in
+      let le : m.world.script.len ≤ SCRIPT_LINES = subst (λ n. n ≤ SCRIPT_LINES) (sym long) short in
+      shrink_tells m (e ∙ few_lines (nat_le m.world.script.len SCRIPT_LINES) m (few m.world.script.len SCRIPT_LINES le)) at run
+
+  shrink_done : Shrinks
+  shrink_done = by (comes c q asks)
+    where
+      is_text : (t : List ℕ) → AreFirstOf (PROGRAM_BYTES + 1) (c.files.content program) t → t ≡ text
+      is_text t a = text_is (c.files.content program) PROGRAM_BYTES t text file pass.sound.typed.read.has.short a
+
+      by : DueFor c.files.content q c.answers.outcome ⊎ IsFault c → Shrinks
+      by (inr x) = inr x
+      by (inl (first t of a d)) = shrink_due text one p pass program world want c.answers.outcome (subst (λ z. DueBy z q c.answers.outcome) (is_text t a.0) d)
+      by (inl (behind t u s of from also a b d)) =
+          due_in once q w there.text there.short there.is t u c.answers.outcome
+          (text_is (c.files.content world) WORLD_BYTES u there.text there.file there.short (first_of c.files.content world WORLD_BYTES s u from b)) d
+          (λ m run e at frames. shrink_runs m e at (subst (λ z. IsRunFor z q m.meant m.classes) (is_text t a.0) run))
+
 pub complete : ((text : List ℕ) → OneVerdict text) → OneWorldVerdict → Compiles → RunTells → ExecTells → Complete
 complete one once compiles_law run_law exec_law c _ (formats name text p file is) asks n = unfailing c n (format_done c name text p (one text) asks file is)
 complete one once compiles_law run_law exec_law c _ (checks name text p file pass) asks n = unfailing c n (check_done c name text p (one text) asks file pass)
@@ -114,3 +178,5 @@ complete one once compiles_law run_law exec_law c _ (runs r text p w file pass w
 complete one once compiles_law run_law exec_law c _ (execs r text classes w file read world) asks n = unfailing c n (exec_law c r text classes w asks file read world)
 complete one once compiles_law run_law exec_law c _ (benches clients seed p w pass short is) asks n =
     unfailing c n (bench_done c clients seed p w (one (program_text clients)) once asks pass short is)
+complete one once compiles_law run_law exec_law c _ (shrinks program world want text p w file pass there short) asks n =
+    unfailing c n (shrink_done c program world want text p w (one text) once asks file pass there short)

@@ -14,7 +14,7 @@ use Rattle.flow_world.specs.Ends.{end_line, LastIs}
 use Rattle.flow_world.specs.WatchedTraces.{last_line}
 use Rattle.flow_world.specs.Written.{bytes_of}
 use Rattle.flow_top.specs.declared.outcome.Outcome.{Outcome}
-use Rattle.flow_top.specs.declared.outcome.Outcome.TheVariants.{Answered, Run, Bench}
+use Rattle.flow_top.specs.declared.outcome.Outcome.TheVariants.{Answered, Run, Bench, Shrink}
 use Rattle.flow_top.specs.declared.outcome.ProgramRun.{ProgramRun}
 use Rattle.flow_top.specs.declared.outcome.BenchRun.{BenchRun}
 use Rattle.flow_top.specs.declared.outcome.Answered as told
@@ -23,7 +23,11 @@ use Rattle.flow_top.specs.Sources.{Source, first_source, world_source, FileText,
 use Rattle.flow_top.specs.Outcomes.{text_of, status_of, IsShown}
 use Rattle.flow_top.specs.Due.{DueBy, DueIn, Due, usage, by_text, in_world}
 use Rattle.flow_top.specs.Decided.{Decided, due, read_fault, no_memory, no_memory_at_once}
-use Rattle.flow_top.specs.Told.{GoesOut, ReportedTold, whole, write_fault, no_memory_told, ReportedRun, ended, run_write_fault, run_no_memory, ReportedBench, summed, sum_write_fault, sum_no_memory_told, sum_no_memory, Reported, run_status, ending_status}
+use Rattle.flow_top.specs.Told.{GoesOut, ReportedTold, whole, write_fault, no_memory_told, ReportedRun, ended, run_write_fault, run_no_memory, ReportedBench, summed, sum_write_fault, sum_no_memory_told, sum_no_memory, ReportedShrink, shrunk, shrink_write_fault, shrink_no_memory_told, shrink_no_memory, Reported, run_status, ending_status}
+use Rattle.flow_worldfile.specs.Worlds.{seen}
+use Rattle.flow_shrink.specs.declared.shrinking.Shrunk.{Shrunk}
+use Rattle.flow_shrink.specs.Shrinking.{Shrinks}
+use Rattle.flow_top.specs.Shrunk.{IsStopped, shrunk_text, shrunk_status}
 use Rattle.flow_top.specs.Summary.{summary_text}
 use Rattle.flow_top.specs.Requests.{request_by, panel_for}
 use Rattle.flow_headline.specs.Calls as call
@@ -69,6 +73,19 @@ bench_whole b before after _ (summed ending lines shown last out) = inl (record 
 bench_whole b before after _ (sum_write_fault ending lines shown last part rose) = inr (inl (refl, rose))
 bench_whole b before after _ (sum_no_memory_told ending lines shown last part) = inr (inr refl)
 bench_whole b before after _ (sum_no_memory same) = inr (inr refl)
+
+pub record IsShrunk (r : ProgramRun) (ears : Ears) (before after : SinkSeen) (given : ℕ) : Type 0 where
+  pub came_to : Shrunk
+  pub shrinks : Shrinks (IsStopped r ears) (seen r.world) came_to
+  pub out : GoesOut before after (shrunk_text came_to)
+  pub status : given ≡ shrunk_status came_to
+
+shrink_whole : (r : ProgramRun) (ears : Ears) (before after : SinkSeen) (status : ℕ) → ReportedShrink r ears before after status
+    → IsShrunk r ears before after status ⊎ SinkFault before after status
+shrink_whole r ears before after _ (shrunk x h out) = inl (record { came_to = x; shrinks = h; out = out; status = refl })
+shrink_whole r ears before after _ (shrink_write_fault x h part rose) = inr (inl (refl, rose))
+shrink_whole r ears before after _ (shrink_no_memory_told x h part) = inr (inr refl)
+shrink_whole r ears before after _ (shrink_no_memory same) = inr (inr refl)
 
 -- what was decided
 data Decision (asked : Option Request) (before after : FilesSeen) (o : Outcome) : Type 0 where
@@ -143,6 +160,16 @@ module _ (c : Call) where
   bench_of b e = by (bench_whole b c.sink c.sink' c.status (subst (λ o. Reported (panel_for (request_by c.words c.handed) c.handed) o c.sink c.sink' c.status) e c.answers.reported))
     where
       by : IsSummed b c.sink c.sink' c.status ⊎ SinkFault c.sink c.sink' c.status → IsSummed b c.sink c.sink' c.status ⊎ IsFault c
+      by (inl x) = inl x
+      by (inr x) = inr (sink_fault x)
+
+  pub shrunk_of : (r : ProgramRun) → c.answers.outcome ≡ Shrink r → IsShrunk r (panel_for (request_by c.words c.handed) c.handed) c.sink c.sink' c.status ⊎ IsFault c
+  shrunk_of r e =
+      by (shrink_whole r (panel_for (request_by c.words c.handed) c.handed) c.sink c.sink' c.status
+      (subst (λ o. Reported (panel_for (request_by c.words c.handed) c.handed) o c.sink c.sink' c.status) e c.answers.reported))
+    where
+      by : IsShrunk r (panel_for (request_by c.words c.handed) c.handed) c.sink c.sink' c.status ⊎ SinkFault c.sink c.sink' c.status
+          → IsShrunk r (panel_for (request_by c.words c.handed) c.handed) c.sink c.sink' c.status ⊎ IsFault c
       by (inl x) = inl x
       by (inr x) = inr (sink_fault x)
 

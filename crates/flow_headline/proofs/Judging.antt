@@ -21,7 +21,7 @@ use Rattle.flow_front.specs.Laws.{OneVerdict}
 use Rattle.flow_lower.specs.Weighing.{first_heavy}
 use Rattle.flow_lower.specs.Compiled.{Has}
 use Rattle.flow_compile_laws.specs.Frames.Framed.{SourceShown, ClassShown}
-use Rattle.flow_words.specs.Asked.{RunRequest, format, check, compile, run, exec, bench}
+use Rattle.flow_words.specs.Asked.{RunRequest, format, check, compile, run, exec, bench, shrink}
 use Rattle.flow_top.specs.declared.outcome.Outcome.{Outcome}
 use Rattle.flow_top.specs.declared.outcome.Outcome.TheVariants.{Answered}
 use Rattle.flow_top.specs.declared.outcome.Answered as told
@@ -29,6 +29,12 @@ use Rattle.flow_top.specs.declared.outcome.Answered.TheVariants.{Passed, Compile
 use Rattle.flow_top.specs.declared.outcome.Meant.{Meant}
 use Rattle.flow_top.specs.Outcomes.{IsPassing, IsRunBy, of_program, of_class_text, IsMeantBy, ShownBy}
 use Rattle.flow_top.specs.Due.{IsRefusedBy, by_rule, lost_local, heavy, DueBy, unread, formatted, refused, passed, compiled, no_classes}
+use Rattle.flow_monitor.specs.declared.attach.Want.{Want}
+use Rattle.flow_monitor.specs.Ears.{Ears}
+use Rattle.flow_shrink.specs.declared.shrinking.Shrunk.{Shrunk}
+use Rattle.flow_shrink.specs.Shrinking.{Shrinks}
+use Rattle.flow_top.specs.Shrunk.{IsStoppedBy}
+use Rattle.flow_headline.specs.Complete.{ProgramStops}
 use Rattle.flow_headline.specs.ReadBack.{IsReadAsProgram}
 
 -- a text that passes
@@ -52,6 +58,15 @@ module _ (text : List ℕ) (one : OneVerdict text) (p : Program) (pass : IsPassi
 
   pub bench_due : {A : Type 0} (clients seed : ℕ) (o : Outcome) → DueBy text (bench clients seed) o → A
   bench_due clients seed _ (refused q a has r) = unrefused a r
+
+  pub shrink_due : {A : Type 0} (program world : List ℕ) (want : Want) (o : Outcome) → DueBy text (shrink program world want) o → A
+  shrink_due program world want _ (refused q a has r) = unrefused a r
+
+  -- what the program is stopped in is what the run of its classes is stopped in
+  pub shrink_shows : (program world : List ℕ) (want : Want) (meant : Meant) (classes : RawClasses) → IsRunBy text meant classes → IsMeantBy (shrink program world want) meant
+      → (ears : Ears) (w : World) (x : Shrunk) → Shrinks (IsStoppedBy meant classes ears) w x → Shrinks (ProgramStops (program_of p) ears) w x
+  shrink_shows program world want _ _ (of_program q classes other has) m ears w x s = subst (λ t. Shrinks (ProgramStops t ears) w x) (same_program q.value other) s
+  shrink_shows program world want _ _ (of_class_text classes a) m ears w x s = absurd m
 
   pub run_due : {A : Type 0} (r : RunRequest) (o : Outcome) → DueBy text (run r) o → A
   run_due r _ (refused q a has b) = unrefused a b

@@ -81,7 +81,7 @@ module _ (c : Call) (name text : List ℕ) (p : Program) (one : OneVerdict text)
           by_classes x.0 x.1 x.2
 
 -- the text of a file from which a source is
-first_of : (content : List ℕ → Content) (name : List ℕ) (most : ℕ) (s : Source) (text : List ℕ) → Some (of_file name most) ≡ Some s → AreTexts content (read_for s text)
+pub first_of : (content : List ℕ → Content) (name : List ℕ) (most : ℕ) (s : Source) (text : List ℕ) → Some (of_file name most) ≡ Some s → AreTexts content (read_for s text)
     → AreFirstOf (most + 1) (content name) text
 first_of content name most s text e h = (subst (λ z. AreTexts content (read_for z text)) (same e) h).0
   where

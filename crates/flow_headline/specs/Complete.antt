@@ -7,17 +7,23 @@ use Rattle.flow_tree.specs.declared.decl.Program.{Program}
 use Rattle.flow_tree.specs.DeclView.{program_of}
 use Rattle.flow_trace.specs.declared.line.Line.{Line}
 use Rattle.flow_worldfile.specs.declared.TheConstants.{WORLD_BYTES}
-use Rattle.flow_worldfile.specs.Worlds.{World}
+use Rattle.flow_worldfile.specs.Worlds.{World, world_text}
 use Rattle.flow_worldfile.specs.Reading.{IsFileOf}
 use Rattle.flow_class.specs.declared.class.RawClasses.{RawClasses}
 use Rattle.flow_class.specs.View.{raw_of}
 use Rattle.flow_classread.specs.ClassAnswer.{ClassAnswer}
 use Rattle.flow_front.specs.Verdict.{IsProgram}
 use Rattle.flow_compile_laws.specs.Frames.Framed.{SourceShown, ClassShown}
-use Rattle.flow_words.specs.Asked.{Request, RunRequest, format, check, compile, run, exec, bench}
+use Rattle.flow_tree.specs.Decls.{ProgramTree}
+use Rattle.flow_monitor.specs.declared.attach.Want.{Want}
+use Rattle.flow_monitor.specs.Ears.{Ears}
+use Rattle.flow_shrink.specs.declared.shrinking.TheConstants.{SCRIPT_LINES}
+use Rattle.flow_shrink.specs.Shrinking.{IsLeast}
+use Rattle.flow_words.specs.Asked.{Request, RunRequest, format, check, compile, run, exec, bench, shrink}
 use Rattle.flow_world.specs.declared.ending.Ending.{Ending}
 use Rattle.flow_world.specs.Ends.{end_line, LastIs}
 use Rattle.flow_top.specs.Outcomes.{IsPassing}
+use Rattle.flow_top.specs.Shrunk.{IsCut}
 use Rattle.flow_top.specs.Summary.{summary_text}
 use Rattle.flow_top.specs.Told.{GoesOut, ending_status}
 use Rattle.flow_headline.specs.Calls.{Call, AsksFor, HasFile, HasWorld, TellsLines, ears_of}
@@ -39,6 +45,8 @@ pub data TextsPass (c : Call) : Request → Type 0 where
       → HasWorld c r.world w → TextsPass c (exec r)
   benches : (clients seed : ℕ) (p : Program) (w : World) → IsPassing (program_text clients) p → length (generated_world seed) ≤ WORLD_BYTES
       → IsFileOf (generated_world seed) w → TextsPass c (bench clients seed)
+  shrinks : (program world : List ℕ) (want : Want) (text : List ℕ) (p : Program) (w : World) → HasFile c program text → IsPassing text p
+      → HasWorld c world w → length w.script ≤ SCRIPT_LINES → TextsPass c (shrink program world want)
 
 -- the lines that are told
 abbrev pub TellsAll : Call → Request → (shown : List Line → Type 0) → Type 0
@@ -53,6 +61,17 @@ pub record TellsSummary (c : Call) (clients seed : ℕ) (shown : List Line → T
   pub out : GoesOut c.sink c.sink' (summary_text clients seed lines (end_line ending))
   pub status : c.status ≡ ending_status ending
 
+-- in a world the trace of a program, by its text and cut by the first monitor of a panel, ends with its `end stop`
+abbrev pub ProgramStops : ProgramTree → Ears → World → Type 0
+ProgramStops p ears w = (lines : List Line) × SourceShown false p w lines × IsCut ears lines
+
+-- The world file was written and handed on of a world as this one but for its script, which has some of its lines, so that a program is
+-- stopped in it, and isn't without any one of these, with status 0; or that it isn't stopped in this one, with status 13.
+pub data TellsShrunk (c : Call) (p : ProgramTree) (ears : Ears) (w : World) : Type 0 where
+  least : (v : World) → IsLeast (ProgramStops p ears) w v → GoesOut c.sink c.sink' (world_text v) → c.status ≡ 0 → TellsShrunk c p ears w
+  not_stopped : (ProgramStops p ears w → ⊥) → GoesOut c.sink c.sink' (codes "not stopped" ++ 10 ∷ []) → c.status ≡ 13
+      → TellsShrunk c p ears w
+
 -- a whole text was written and handed on, with status 0
 abbrev pub TellsText : Call → List ℕ → Type 0
 TellsText c text = GoesOut c.sink c.sink' text × (c.status ≡ 0)
@@ -65,6 +84,8 @@ IsDone c _ (compiles name text p file pass) = TellsClasses c (program_of p)
 IsDone c _ (runs r text p w file pass world) = TellsAll c (run r) (SourceShown r.frames (program_of p) w)
 IsDone c _ (execs r text classes w file read world) = TellsAll c (exec r) (ClassShown r.frames (raw_of classes) w)
 IsDone c _ (benches clients seed p w pass short is) = TellsSummary c clients seed (SourceShown false (program_of p) w)
+IsDone c _ (shrinks program world want text p w file pass there short) =
+    TellsShrunk c (program_of p) (ears_of c (shrink program world want)) w
 
 -- Or there was no memory, with status 7.
 abbrev pub Complete : Type 0

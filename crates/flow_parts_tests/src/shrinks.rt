@@ -2,7 +2,7 @@
 
 ghost use Rattle.std.specs.Prelude.{◌≡◌, ◌&&◌, ◌||◌, ◌==◌, ℕ, List, [], ◌∷◌, Bool, not, map, Some, if◌then◌else◌};
 ghost use Rattle.std.specs.List.{list_any};
-ghost use Rattle.flow_trace.specs.declared.line.Line.TheVariants.{Throw};
+ghost use Rattle.flow_trace.specs.declared.line.Line.TheVariants.{Throw, EndIdle};
 ghost use Rattle.flow_monitor.specs.Ears.{says_stop};
 ghost use Rattle.flow_worldfile.specs.declared.directive.Order.{Order};
 ghost use Rattle.flow_worldfile.specs.Worlds.{timed};
@@ -63,7 +63,8 @@ impl Runner for Trial {
         && (list_any (λ x. x.0 == t.second) script || not (list_any (λ x. x.0 == t.third) script)) };
 
     ghost means = { λ throws w lines. lines
-        ≡ (if throws w.script then Throw (record { 0 = 1 }) (record { 0 = 7 }) ∷ [] else []) };
+        ≡ (if throws w.script then Throw (record { 0 = 1 }) (record { 0 = 7 }) ∷ EndIdle ∷ []
+        else EndIdle ∷ []) };
 
     ghost count = { λ t. t.runs };
 

@@ -7,10 +7,11 @@ mod status;
 use crate::real::{BeginKept, SystemFiles};
 use crate::status::{NO_MEMORY, answer, hand_on_rest, is_noted};
 use flow_base::memory::NoMemory;
-use flow_monitor::{Errors, HandedIn, Live, Monitor, Until};
-use flow_refusal::note;
+use flow_monitor::{Errors, Live, Monitor, Until};
+use flow_refusal::{left_note, note};
 use flow_system::gathering::Gathering;
 use flow_system::opened::OpenedFiles;
+use flow_worldfile::read_world;
 use std::io::Write;
 use std::process::ExitCode;
 use std::{env, io};
@@ -40,6 +41,27 @@ fn write_note(rt: &HostRuntime, files: &OpenedFiles<SystemFiles>, begin: &[u8]) 
     }
 }
 
+// Whether the words are those of `shrink`.
+fn is_shrink(words: &io::Result<Vec<String>>) -> bool {
+    match words {
+        Ok(words) => match words.first() {
+            Some(word) => word.as_str() == "shrink",
+            None => false,
+        },
+        Err(_) => false,
+    }
+}
+
+// Writes how many lines of the script of a world file are left to standard error. Where that fails, nothing is said.
+fn write_left(rt: &HostRuntime, world: &[u8], left: usize) {
+    let Ok(world) = read_world(rt.alloc(), world) else {
+        return;
+    };
+    if let Ok(text) = left_note(rt.alloc(), left, world.script.len()) {
+        let _ = rt.stderr().write_all(&text);
+    }
+}
+
 // Does what the words say, with the shipped monitors at hand, and gives the status.
 fn run(rt: &HostRuntime) -> Result<u8, NoMemory> {
     let alloc = rt.alloc();
@@ -47,13 +69,17 @@ fn run(rt: &HostRuntime) -> Result<u8, NoMemory> {
     monitors.push(Box::new(alloc, Live::new())?)?;
     monitors.push(Box::new(alloc, Errors::new())?)?;
     monitors.push(Box::new(alloc, Until::new())?)?;
-    let monitors = HandedIn::new(alloc, monitors);
     let mut files = OpenedFiles::new(alloc, SystemFiles::new(rt));
     let mut out = BeginKept::new(alloc, Gathering::new(alloc, io::writer(rt)));
-    let status = answer(alloc, words(rt), &mut files, &mut out, monitors);
+    let words = words(rt);
+    let shrinks = is_shrink(&words);
+    let status = answer(alloc, words, &mut files, &mut out, monitors);
     hand_on_rest(status, &mut out);
     if is_noted(status) {
         write_note(rt, &files, out.begin());
+    }
+    if shrinks && status == 0 {
+        write_left(rt, files.text(1), out.script());
     }
     Ok(status)
 }

@@ -36,11 +36,12 @@ impl<'a> Opener for SystemFiles<'a> {
 /// How many bytes at the begin of a text are kept: more than a refusal has.
 const BEGIN: usize = 256;
 
-/// A sink that keeps how its text begins.
+/// A sink that keeps how its text begins, and counts the pieces of it that are lines of a script.
 #[derive(Drop)]
 pub struct BeginKept<S> {
     out: S,
     begin: Vec<u8>,
+    script: usize,
 }
 
 impl<S: Sink> BeginKept<S> {
@@ -51,6 +52,7 @@ impl<S: Sink> BeginKept<S> {
         BeginKept {
             out,
             begin: Vec::new(alloc),
+            script: 0,
         }
     }
 
@@ -59,10 +61,18 @@ impl<S: Sink> BeginKept<S> {
         &self.begin
     }
 
+    /// How many pieces were lines of a script.
+    pub fn script(&self) -> usize {
+        self.script
+    }
+
     // Keeps a piece, where it belongs to the begin of the text.
     fn keep(&mut self, piece: &[u8])
         ensures { self.new.out ≡ self.old.out }
     {
+        if piece.starts_with(b"at ") {
+            self.script = self.script.saturating_add(1);
+        }
         if self.begin.len() < BEGIN && piece.len() < BEGIN {
             let _ = self.begin.extend_from_slice(piece);
         }

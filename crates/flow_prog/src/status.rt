@@ -9,7 +9,7 @@ ghost use Rattle.flow_top.specs.Answers.{Answers};
 
 use flow_base::files::Files;
 use flow_base::sink::Sink;
-use flow_monitor::Monitors;
+use flow_monitor::Monitor;
 use flow_top::flow_main;
 use std::alloc::Global;
 use std::io;
@@ -22,14 +22,15 @@ pub const NO_WORDS: u8 = 14;
 
 /// Does what the words say and gives the status. Where the words can't be had, nothing is read or
 /// written.
-pub fn answer<F: Files, S: Sink, M: Monitors>(
+pub fn answer<F: Files, S: Sink>(
     alloc: Global,
     words: io::Result<Vec<String>>,
     files: &mut F,
     out: &mut S,
-    monitors: M,
+    monitors: Vec<Box<dyn Monitor>>,
 ) -> u8
-    ensures words { IfOk words (λ given. Answers (map string_bytes given.items) (M.handed monitors)
+    ensures words { IfOk words (λ given. Answers (map string_bytes given.items)
+        (map (λ m. record { name = label m; begun = begun m }) monitors.items)
         (F.seen files.old) (F.seen files.new) (S.seen out.old) (S.seen out.new) result) }
     ensures handed { Grows (S.seen out.old).handed (S.seen out.new).handed }
     ensures wordless { IfErr words (λ error. result ≡ wordless (error_kind error)) }

@@ -3,8 +3,8 @@ use Rattle.std.proofs.Common.{◌≡◌, ℕ, List, [], codes}
 use Rattle.flow_tree.specs.declared.fault.SourceFault.{SourceFault}
 use Rattle.flow_classread.specs.declared.fault.ClassFault.{ClassFault}
 use Rattle.flow_worldfile.specs.declared.world.WorldFault.{WorldFault}
-use Rattle.flow_refusal.specs.Refusal.{refusal_text, class_refusal, world_refusal}
-use Rattle.flow_refusal.specs.Note.{program_note, class_note, world_note, Notes, on_program, on_class, on_world, on_words, on_file, none}
+use Rattle.flow_refusal.specs.Refusal.{refusal_text, class_refusal, world_refusal, script_refusal}
+use Rattle.flow_refusal.specs.Note.{program_note, class_note, world_note, Notes, on_program, on_class, on_world, on_words, on_file, on_script, none, overall}
 
 pub program_noted : {answer name text world world_text v : List ℕ} (words : List ℕ) (fault : SourceFault) → answer ≡ refusal_text fault
     → v ≡ program_note words name text fault → Notes answer name text world world_text v
@@ -23,6 +23,10 @@ usage_noted is = on_words is
 
 pub file_noted : {answer name text world world_text v : List ℕ} → answer ≡ codes "read fault\n" → Notes answer name text world world_text v
 file_noted is = on_file is
+
+pub script_noted : {answer name text world world_text v : List ℕ} → answer ≡ script_refusal → (words : List ℕ) × (v ≡ overall world words)
+    → Notes answer name text world world_text v
+script_noted is told = on_script is told
 
 pub nothing_noted : {answer name text world world_text v : List ℕ} → v ≡ [] → Notes answer name text world world_text v
 nothing_noted is = none is

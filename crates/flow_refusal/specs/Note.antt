@@ -9,7 +9,7 @@ use Rattle.flow_classread.specs.declared.fault.ClassFault.{ClassFault}
 use Rattle.flow_classread.specs.declared.fault.ClassFault.TheVariants as class
 use Rattle.flow_worldfile.specs.declared.world.WorldFault.{WorldFault}
 use Rattle.flow_worldfile.specs.declared.world.WorldFault.TheVariants as world
-use Rattle.flow_refusal.specs.Refusal.{place_text, refusal_text, class_refusal, world_refusal}
+use Rattle.flow_refusal.specs.Refusal.{place_text, refusal_text, class_refusal, world_refusal, script_refusal}
 
 -- what stands in a text up to its first line feed, and behind it
 abbrev pub first_feed : List ℕ → ℕ
@@ -57,6 +57,10 @@ overall name words = name ++ said words
 abbrev pub line_remark : (name text : List ℕ) → (line : ℕ) → (words : List ℕ) → List ℕ
 line_remark name text line words = name ++ codes ":" ++ decimal line ++ said words ++ window (line_at text line) 0 ++ codes "\n"
 
+-- how many of the lines of a script are left
+abbrev pub left_note : (left all : ℕ) → List ℕ
+left_note left all = decimal left ++ codes " of " ++ decimal all ++ (if left == 1 then codes " lines is left\n" else codes " lines are left\n")
+
 -- The note on a program: the place where a rule fails; or the use of a local that is lost, its declaration and the wait.
 -- The limit on the bytes of a text has no place.
 abbrev pub program_note : (words name text : List ℕ) → SourceFault → List ℕ
@@ -93,4 +97,6 @@ pub data Notes : (answer : List ℕ) → (name text : List ℕ) → (world world
       → answer ≡ world_refusal fault → note ≡ world_note words world world_text fault → Notes answer name text world world_text note
   on_words : {answer name text world world_text note : List ℕ} → answer ≡ codes "usage\n" → Notes answer name text world world_text note
   on_file : {answer name text world world_text note : List ℕ} → answer ≡ codes "read fault\n" → Notes answer name text world world_text note
+  on_script : {answer name text world world_text note : List ℕ} → answer ≡ script_refusal
+      → (words : List ℕ) × (note ≡ overall world words) → Notes answer name text world world_text note
   none : {answer name text world world_text note : List ℕ} → note ≡ [] → Notes answer name text world world_text note

@@ -65,3 +65,7 @@ class_status (class.Form line) = 9
 class_status (class.Invalid rule name) = 9
 class_status class.TooLarge = 10
 class_status class.OutOfMemory = 7
+
+-- the line where a script has too many lines to be made smaller
+abbrev pub script_refusal : List ℕ
+script_refusal = codes "refused L13\n"

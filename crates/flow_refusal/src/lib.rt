@@ -11,4 +11,4 @@ mod words;
 
 pub use class::{class_line, class_status};
 pub use line::{refusal_line, refusal_status, world_line};
-pub use telling::note;
+pub use telling::{left_note, note};

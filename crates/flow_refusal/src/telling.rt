@@ -1,15 +1,15 @@
 // The note on what was answered.
 
-ghost use Rattle.std.specs.Prelude.{◌≡◌, ◌++◌, true, codes, decimal, IfOk};
+ghost use Rattle.std.specs.Prelude.{◌≡◌, ◌++◌, ℕ, List, true, codes, decimal, IfOk};
 ghost use Rattle.flow_tree.specs.declared.fault.SourceFault.TheVariants.{Refused, AcrossWait};
 ghost use Rattle.flow_refusal.specs.Refusal.{refusal_text, class_refusal};
-ghost use Rattle.flow_refusal.specs.Note.{said, remark, overall, line_remark, program_note, class_note, world_note, Notes};
+ghost use Rattle.flow_refusal.specs.Note.{said, remark, overall, line_remark, left_note, program_note, class_note, world_note, Notes};
 
 use crate::excerpt::{line_at, put_excerpt, put_window};
 use crate::expecting::expected_words;
 use crate::line::put_place;
 use crate::reading::{read_class_refusal, read_refusal, read_world_refusal};
-use crate::words::{ACROSS_WAIT, USAGE, class_words, rule_words, world_words};
+use crate::words::{ACROSS_WAIT, SCRIPT_WORDS, USAGE, class_words, rule_words, world_words};
 use flow_base::memory::NoMemory;
 use flow_base::place::Place;
 use flow_classread::fault::ClassFault;
@@ -314,11 +314,36 @@ fn on_line(
     }
 }
 
+// The note on a script that has too many lines.
+fn on_script(alloc: Global, world: &str, words: &str) -> Result<Vec<u8>, NoMemory>
+    ensures { IfOk result (λ v. (words : List ℕ) × (v.items ≡ overall world.now words)) }
+{
+    let mut out = Vec::new(alloc);
+    put_overall(&mut out, world, words)?;
+    Ok(out)
+}
+
+/// The note on a world that was made smaller: how many of the lines of its script are left.
+pub fn left_note(alloc: Global, left: usize, all: usize) -> Result<Vec<u8>, NoMemory>
+    ensures { IfOk result (λ v. v.items ≡ left_note left all) }
+{
+    let mut out = Vec::new(alloc);
+    out.extend_from_slice(Buffer::new().format(left).as_bytes())?;
+    out.extend_from_slice(b" of ")?;
+    out.extend_from_slice(Buffer::new().format(all).as_bytes())?;
+    if left == 1 {
+        out.extend_from_slice(b" lines is left\n")?;
+    } else {
+        out.extend_from_slice(b" lines are left\n")?;
+    }
+    Ok(out)
+}
+
 /// The note on a line that was answered, where the program or class text has this name and text and the world that, each as far as it was
 /// read: for a refusal the place that the line tells, what the rule asks in a sentence, and the line of the text with a mark
 /// under the place; for a lost local its declaration and the wait likewise; for `usage` how the commands are called; for
-/// `read fault` the file. On any other line nothing is noted.
-#[tactic(auto, using(crate::proofs::Noting::usage_noted, crate::proofs::Noting::file_noted))]
+/// `read fault` the file; for a script with too many lines the world. On any other line nothing is noted.
+#[tactic(auto, using(crate::proofs::Noting::usage_noted, crate::proofs::Noting::file_noted, crate::proofs::Noting::script_noted))]
 pub fn note(
     alloc: Global,
     answer: &[u8],
@@ -336,6 +361,10 @@ pub fn note(
     }
     if is_line(answer, b"read fault\n") {
         let out = on_read_fault(alloc, name, world)?;
+        return Ok(out);
+    }
+    if is_line(answer, b"refused L13\n") {
+        let out = on_script(alloc, world, SCRIPT_WORDS)?;
         return Ok(out);
     }
     on_line(alloc, answer, name, text, world, world_text)

@@ -115,6 +115,9 @@ pub fn world_words(fault: WorldFault) -> &'static str {
     }
 }
 
+/// What is said where a script has too many lines to be made smaller.
+pub const SCRIPT_WORDS: &str = "L13: a script that is cut down has at most 200 lines";
+
 /// How the commands are called.
 pub const USAGE: &str = "\
 flow check PROGRAM                   judges a program: `ok`, or the first rule that it breaks
@@ -123,6 +126,7 @@ flow format PROGRAM                  writes a program in its canonical form
 flow run PROGRAM WORLD [OPTIONS]     runs a program in a world and writes the trace
 flow exec CLASSES WORLD [OPTIONS]    runs classes that `compile` wrote
 flow bench CLIENTS SEED              runs a generated program and writes how much it did
+flow shrink PROGRAM WORLD [OPTIONS]  cuts a world's script down to what stops `--monitor NAME=LIMIT`
 Options: `--frames` writes the frames and callbacks after each event; `--monitor NAME=LIMIT,..`
 stops at a monitor's limit: `live`, how many actors live; `errors`, how many errors are thrown;
 `until`, the number of an event. Behind `--` a name may begin with `-`.

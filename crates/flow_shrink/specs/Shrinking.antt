@@ -1,22 +1,55 @@
 -- Worlds whose run a monitor stops, and such a world of whose script no line can go.
-use Rattle.std.specs.Prelude.{◌≡◌, ◌≤◌, ◌<◌, ◌+◌, ◌*◌, ℕ, Bool, true, false, ◌||◌, List, [], ◌∷◌, length}
+use Rattle.std.specs.Prelude.{◌≡◌, ◌≤◌, ◌<◌, ◌+◌, ◌*◌, ℕ, Bool, true, false, not, if◌then◌else◌, List, [], ◌∷◌, length}
 use Rattle.std.specs.List.{remove}
-use Rattle.std.specs.declared.option.Option.{Option}
 use Rattle.std.specs.declared.option.Option.TheVariants.{Some}
 use Rattle.flow_trace.specs.declared.line.Line.{Line}
-use Rattle.flow_monitor.specs.Ears.{Ear, ear_hears, says_stop}
+use Rattle.flow_trace.specs.declared.line.Line.TheVariants.{EndSpent}
+use Rattle.flow_monitor.specs.declared.monitor.Heard.{Heard}
+use Rattle.flow_monitor.specs.declared.monitor.Heard.TheVariants.{Go, Done, Stop}
+use Rattle.flow_monitor.specs.Ears.{Ear, ear_after}
+use Rattle.flow_monitor.specs.Cut.{is_boundary}
+use Rattle.flow_monitor.specs.Heard.{is_heard}
 use Rattle.flow_worldfile.specs.Worlds.{World, IsInRange, seen}
 use Rattle.flow_shrink.specs.declared.shrinking.Shrunk.{Shrunk}
 use Rattle.flow_shrink.specs.declared.shrinking.Shrunk.TheVariants.{Least, NotStopped}
 
--- whether a monitor, while it hears, says Stop at one of these lines
-abbrev pub stops_among : Option Ear → List Line → Bool
-stops_among ear [] = false
-stops_among ear (l ∷ ls) = says_stop l ear || stops_among (ear_hears l ear) ls
+-- How a monitor stands to the run that it hears: it hears on; it has heard enough; it said Stop in the event in progress; or that event
+-- is over, and was spent, or the run is stopped.
+pub data Hearing : Type 0 where
+  hears : Ear → Hearing
+  deaf : Hearing
+  said : Hearing
+  over : (stopped : Bool) → Hearing
 
--- it says Stop in an event that isn't spent, where these are the lines of such events
+-- by what it said at a line
+abbrev pub by_said : Heard → Ear → Hearing
+by_said Go ear = hears ear
+by_said Done ear = deaf
+by_said Stop ear = said
+
+-- whether a line is the last one of a run whose last event was spent
+abbrev pub is_spent : Line → Bool
+is_spent EndSpent = true
+is_spent _ = false
+
+-- after one line more of the trace
+abbrev pub after_line : Line → Hearing → Hearing
+after_line l (hears ear) = if is_heard l then by_said (ear [] l) (ear_after l ear) else hears ear
+after_line l deaf = deaf
+after_line l said = if is_boundary l then over (not (is_spent l)) else said
+after_line l (over stopped) = over stopped
+
+abbrev pub after_lines : List Line → Hearing → Hearing
+after_lines [] h = h
+after_lines (l ∷ ls) h = after_lines ls (after_line l h)
+
+abbrev pub is_stopped : Hearing → Bool
+is_stopped (over stopped) = stopped
+is_stopped _ = false
+
+-- a trace in which a monitor says Stop, in an event that isn't spent
 abbrev pub Stops : (lines_are : List Line → Type 0) → Ear → Type 0
-Stops lines_are ear = (lines : List Line) × lines_are lines × (stops_among (Some ear) lines ≡ true)
+Stops lines_are ear = (lines : List Line) × lines_are lines × (is_stopped (after_lines lines (hears ear)) ≡ true)
 
 -- a world without the line of its script at a place
 abbrev pub without : ℕ → World → World

@@ -5,4 +5,4 @@ pub mod runner;
 pub mod shrinking;
 
 pub use runner::Runner;
-pub use shrinking::{Shrunk, shrink};
+pub use shrinking::{SCRIPT_LINES, Shrunk, shrink};

@@ -1,6 +1,6 @@
 // What runs worlds again and again.
 
-ghost use Rattle.std.specs.Prelude.{◌≡◌, ℕ, List, Decides, IfOk};
+ghost use Rattle.std.specs.Prelude.{◌≡◌, ℕ, List, Decides, IfOk, OnOk};
 ghost use Rattle.flow_base.specs.Faults.{next_count};
 ghost use Rattle.flow_trace.specs.declared.line.Line.{Line};
 ghost use Rattle.flow_worldfile.specs.Worlds.{World, IsInRange, seen};
@@ -12,12 +12,15 @@ use flow_worldfile::World0;
 
 /// What runs worlds, one after another, where a monitor hears each.
 pub trait Runner {
-    /// What no run changes, as the program that is run.
+    /// What no run changes, unless there is no memory, as the program that is run.
     ghost Kept: { Type 0 } = { Unit {0} };
 
     ghost kept: { Self → Self.Kept };
 
-    /// The lines of the events of a world that aren't spent, in order.
+    /// What has to be so that its runs mean that, and stays so.
+    ghost ready: { Self → Type 0 } = { λ r. Unit {0} };
+
+    /// The lines of the trace of a world, in order, to the last.
     ghost means: { Self.Kept → World → List Line → Type 0 };
 
     /// How many runs there were. At 2^64 - 1 the count stands still.
@@ -30,12 +33,14 @@ pub trait Runner {
         world: &World0,
         monitor: Box<dyn Monitor>,
     ) -> Result<(bool, Box<dyn Monitor>), NoMemory>
-        requires { IsInRange (seen world.now) }
+        requires range { IsInRange (seen world.now) }
+        requires ready { ready self.old }
         ensures stopped { IfOk result (λ r. Decides r.0
             (Stops (Self.means (Self.kept self.old) (seen world.now)) (ear monitor))) }
         ensures begun { IfOk result (λ r. begun r.1 ≡ begun monitor) }
+        ensures ready { OnOk result (ready self.new) }
         ensures counted { count self.new ≡ next_count (count self.old) }
-        ensures kept { Self.kept self.new ≡ Self.kept self.old };
+        ensures kept { OnOk result (Self.kept self.new ≡ Self.kept self.old) };
 
     /// How many runs there were.
     fn runs(&self) -> u64

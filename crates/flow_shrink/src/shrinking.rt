@@ -10,6 +10,9 @@ use flow_base::memory::NoMemory;
 use flow_monitor::Monitor;
 use flow_worldfile::World0;
 
+/// The most lines that a script may have that is made smaller: so many are run some 200 times, and 40,001 times at most.
+pub const SCRIPT_LINES: usize = 200;
+
 /// What shrinking comes to: a world that is still stopped, and isn't without any one line of its script; or the world
 /// wasn't stopped at first.
 #[derive(Drop)]
@@ -25,12 +28,14 @@ fn is_stopped<R: Runner>(
     mut monitor: Box<dyn Monitor>,
     limit: u64,
 ) -> Result<(bool, Box<dyn Monitor>), NoMemory>
-    requires { IsInRange (seen world.now) }
+    requires range { IsInRange (seen world.now) }
+    requires ready { R.ready runner.old }
     ensures stopped { IfOk result (λ r. Decides r.0
         (Stops (R.means (R.kept runner.old) (seen world.now)) (begun monitor limit))) }
     ensures begun { IfOk result (λ r. begun r.1 ≡ begun monitor) }
     ensures counted { R.count runner.new ≡ next_count (R.count runner.old) }
-    ensures kept { R.kept runner.new ≡ R.kept runner.old }
+    ensures ready { OnOk result (R.ready runner.new) }
+    ensures kept { OnOk result (R.kept runner.new ≡ R.kept runner.old) }
 {
     monitor.begin(limit);
     runner.run(world, monitor)
@@ -45,13 +50,15 @@ fn take_out<R: Runner>(
     limit: u64,
 ) -> Result<Box<dyn Monitor>, NoMemory>
     requires range { IsInRange (seen world.old) }
+    requires ready { R.ready runner.old }
     requires within { place < length (seen world.old).script }
     ensures tried { IfOk result (λ m. Tried
         (λ w. Stops (R.means (R.kept runner.old) w) (begun monitor limit)) place (seen world.old) (seen world.new)) }
     ensures range { IfOk result (λ m. IsInRange (seen world.new)) }
     ensures begun { IfOk result (λ m. begun m ≡ begun monitor) }
     ensures counted { R.count runner.new ≡ next_count (R.count runner.old) }
-    ensures kept { R.kept runner.new ≡ R.kept runner.old }
+    ensures ready { OnOk result (R.ready runner.new) }
+    ensures kept { OnOk result (R.kept runner.new ≡ R.kept runner.old) }
 {
     let line = world.script.remove(place);
     let (stopped, monitor) = is_stopped(runner, world, monitor, limit)?;
@@ -70,13 +77,15 @@ fn take_each<R: Runner>(
     limit: u64,
 ) -> Result<Box<dyn Monitor>, NoMemory>
     requires range { IsInRange (seen world.old) }
+    requires ready { R.ready runner.old }
     requires stops { Stops (R.means (R.kept runner.old) (seen world.old)) (begun monitor limit) }
     ensures tried { IfOk result (λ m. TriedFrom
         (λ w. Stops (R.means (R.kept runner.old) w) (begun monitor limit)) 0 (seen world.old) (seen world.new)) }
     ensures range { IfOk result (λ m. IsInRange (seen world.new)) }
     ensures begun { IfOk result (λ m. begun m ≡ begun monitor) }
     ensures counted { R.count runner.new ≤ R.count runner.old + length (seen world.old).script }
-    ensures kept { R.kept runner.new ≡ R.kept runner.old }
+    ensures ready { OnOk result (R.ready runner.new) }
+    ensures kept { OnOk result (R.kept runner.new ≡ R.kept runner.old) }
 {
     let mut monitor = monitor;
     let mut place = world.script.len();
@@ -95,13 +104,15 @@ fn take_all<R: Runner>(
     limit: u64,
 ) -> Result<(), NoMemory>
     requires range { IsInRange (seen world.old) }
+    requires ready { R.ready runner.old }
     requires stops { Stops (R.means (R.kept runner.old) (seen world.old)) (begun monitor limit) }
     ensures least { OnOk result (IsLeast
         (λ w. Stops (R.means (R.kept runner.old) w) (begun monitor limit)) (seen world.old) (seen world.new)) }
     ensures range { OnOk result (IsInRange (seen world.new)) }
     ensures counted { let n = length (seen world.old).script in
         R.count runner.new ≤ R.count runner.old + n * n }
-    ensures kept { R.kept runner.new ≡ R.kept runner.old }
+    ensures ready { OnOk result (R.ready runner.new) }
+    ensures kept { OnOk result (R.kept runner.new ≡ R.kept runner.old) }
 {
     let mut monitor = monitor;
     for _pass in 0..world.script.len() {
@@ -123,13 +134,15 @@ pub fn shrink<R: Runner>(
     limit: u64,
     runner: &mut R,
 ) -> Result<Shrunk, NoMemory>
-    requires { IsInRange (seen world) }
+    requires range { IsInRange (seen world) }
+    requires ready { R.ready runner.old }
     ensures shrinks { IfOk result (Shrinks
         (λ w. Stops (R.means (R.kept runner.old) w) (begun monitor limit)) (seen world)) }
     ensures range { IfOk result KeepsRange }
     ensures counted { R.count runner.new ≤ R.count runner.old
         + most_runs (length (seen world).script) }
-    ensures kept { R.kept runner.new ≡ R.kept runner.old }
+    ensures ready { OnOk result (R.ready runner.new) }
+    ensures kept { OnOk result (R.kept runner.new ≡ R.kept runner.old) }
 {
     let mut world = world;
     let (stopped, monitor) = is_stopped(runner, &world, monitor, limit)?;

@@ -1,5 +1,5 @@
 -- Lines that were counted.
-use Rattle.std.proofs.Common.{◌≡◌, ℕ, ◌+◌, Bool, true, false, List, [], ◌∷◌, refl, ap, ap₂, ◌∙◌, subst, arith, Ok, Err, Option, Some, None, Result}
+use Rattle.std.proofs.Common.{◌≡◌, ℕ, ◌+◌, Bool, true, false, List, [], ◌∷◌, refl, ap, ap₂, ◌∙◌, subst, arith, Ok, Err, Some, None, Result}
 use Rattle.std.specs.Prelude.{count_by}
 use mathlib.Core.Bool.{cond}
 use Rattle.std.proofs.lemmas.List.Sums.{sum_by-cons}

@@ -1,6 +1,9 @@
 -- What was decided, from what was read.
-use Rattle.std.proofs.Common.{◌≡◌, ℕ, List, ◌++◌, refl, sym, ap, ◌∙◌, subst, Result, Ok, Err, Option, None, Some, Vec, Global}
+use Rattle.std.proofs.Common.{◌≡◌, ℕ, Bool, true, false, List, [], ◌∷◌, ◌++◌, refl, sym, ap, ◌∙◌, subst, Result, Ok, Err, None, Some, Vec, Global}
 use Rattle.std.specs.declared.snapshot.Snapshot.{Snapshot}
+use Rattle.std.specs.Prelude.{nat_le, if◌then◌else◌}
+use Rattle.flow_shrink.specs.declared.shrinking.TheConstants.{SCRIPT_LINES}
+use Rattle.flow_monitor.specs.declared.attach.Want.{Want}
 use Rattle.flow_base.specs.Faults.{next_count}
 use Rattle.flow_base.specs.Seen.{FilesSeen}
 use Rattle.flow_base.specs.declared.place.Place.{Place}
@@ -8,7 +11,6 @@ use Rattle.flow_tree.specs.declared.decl.Program.{Program}
 use Rattle.flow_tree.specs.declared.fault.SourceFault.{SourceFault}
 use Rattle.flow_tree.specs.declared.fault.SourceFault.TheVariants as source
 use Rattle.flow_tree.specs.DeclView.{program_of}
-use Rattle.flow_tree.specs.Decls.{ProgramTree}
 use Rattle.flow_class.specs.declared.class.RawClasses.{RawClasses}
 use Rattle.flow_class.specs.View.{raw_of}
 use Rattle.flow_classread.specs.declared.fault.ClassFault.{ClassFault}
@@ -21,21 +23,21 @@ use Rattle.flow_lower.specs.Compiled.{Has}
 use Rattle.flow_compile.specs.Right.{IsAccepted}
 use Rattle.flow_worldfile.specs.declared.world.World0.{World0}
 use Rattle.flow_worldfile.specs.Worlds.{IsInRange, seen}
-use Rattle.flow_words.specs.Asked.{Request, RunRequest, format, check, compile, run, exec, bench}
+use Rattle.flow_words.specs.Asked.{Request, RunRequest, format, check, compile, run, exec, bench, shrink}
 use Rattle.flow_top.specs.declared.outcome.Outcome.{Outcome}
-use Rattle.flow_top.specs.declared.outcome.Outcome.TheVariants.{Answered}
+use Rattle.flow_top.specs.declared.outcome.Outcome.TheVariants.{Answered, Shrink}
 use Rattle.flow_top.specs.declared.outcome.ProgramRun.{ProgramRun}
 use Rattle.flow_top.specs.declared.outcome.Runnable.{Runnable}
 use Rattle.flow_top.specs.declared.outcome.Meant.{Meant}
 use Rattle.flow_top.specs.declared.outcome.Meant.TheVariants.{Text, Classes}
 use Rattle.flow_top.specs.declared.outcome.Answered as told
-use Rattle.flow_top.specs.declared.outcome.Answered.TheVariants.{OutOfMemory, Compiled, Passed, Formatted}
-use Rattle.flow_top.specs.Requests.{tells_frames}
-use Rattle.flow_top.specs.Sources.{Source, first_source, world_source, FileText, read_for, IsOf, names_of}
-use Rattle.flow_top.specs.Outcomes.{refusal_outcome_of, class_outcome_of, heavy_outcome, IsPassing, IsRunBy, of_program, of_class_text, IsMeantBy, run_for, MayRun, MayTell}
-use Rattle.flow_top.specs.Due.{IsRefusedBy, by_rule, lost_local, heavy, HasProgram, DueBy, unread, formatted, refused, passed, compiled, no_classes, IsRunFor, DueIn, no_world, runs, Due, by_text, in_world}
-use Rattle.flow_top.specs.Decided.{ReadsFiles, AskedSome, first, then_world, Decided, due, read_fault, no_memory}
-use Rattle.flow_top.specs.Steps.{Step, goes, stops, starves, Ends, ends, no_room, HasText, TextRead, is_read, is_unread, starved, JudgesTo, EndsBy, LowersTo, are_classes, is_heavy, no_classes as none_lowered, IsCompiled, CompilesTo, RunsTo, WorldOf, is_world, is_none, no_room_for_it}
+use Rattle.flow_top.specs.declared.outcome.Answered.TheVariants.{LongScript, Compiled, Passed, Formatted}
+use Rattle.flow_top.specs.Requests.{wanted_by, wanted_alone, tells_frames}
+use Rattle.flow_top.specs.Sources.{Source, first_source, world_source, FileText, read_for, names_of}
+use Rattle.flow_top.specs.Outcomes.{refusal_outcome_of, class_outcome_of, heavy_outcome, IsPassing, IsRunBy, of_program, of_class_text, IsMeantBy, IsText, IsOnce, IsAgain, IsFor, run_for, MayRun, MayTell}
+use Rattle.flow_top.specs.Due.{by_rule, lost_local, heavy, HasProgram, unread, formatted, refused, passed, compiled, no_classes, IsRunFor, DueIn, no_world, runs, by_text, in_world}
+use Rattle.flow_top.specs.Decided.{ReadsFiles, first, then_world, Decided, due, read_fault, no_memory}
+use Rattle.flow_top.specs.Steps.{goes, stops, starves, ends, no_room, HasText, TextRead, is_read, is_unread, starved, JudgesTo, EndsBy, LowersTo, are_classes, is_heavy, no_classes as none_lowered, CompilesTo, RunsTo, WorldOf, is_world, is_none, no_room_for_it}
 use Rattle.flow_top.proofs.Reading.{reads_then, texts_both, names_both, asked_had}
 
 -- A text is judged.
@@ -111,17 +113,11 @@ unlisted text o (stops a why) p = ends _ (refused (compile p) a tt why)
 unlisted text _ starves p = no_room
 
 -- or run
-pub program_runs : (text : List ℕ) (r : RunRequest) (x : Result Runnable told.Answered) → CompilesTo text x → RunsTo text (run r) x
-program_runs text r _ (goes x is) =
-    goes x (record { is_run = is.is_run; is_meant = subst (IsMeantBy (run r)) (sym is.is_text.1) tt })
-program_runs text r _ (stops a why) = stops a (refused (run r) a tt why)
-program_runs text r _ starves = starves
-
-pub generated_runs : (text : List ℕ) (clients seed : ℕ) (x : Result Runnable told.Answered) → CompilesTo text x → RunsTo text (bench clients seed) x
-generated_runs text clients seed _ (goes x is) =
-    goes x (record { is_run = is.is_run; is_meant = subst (IsMeantBy (bench clients seed)) (sym is.is_text.1) tt })
-generated_runs text clients seed _ (stops a why) = stops a (refused (bench clients seed) a tt why)
-generated_runs text clients seed _ starves = starves
+pub program_runs : (text : List ℕ) (q : Request) (x : Result Runnable told.Answered) → HasProgram q → ((p : Snapshot Program) → IsMeantBy q (Text p)) → CompilesTo text x
+    → RunsTo text q x
+program_runs text q _ has meant (goes x is) = goes x (record { is_run = is.is_run; is_meant = subst (IsMeantBy q) (sym is.is_text.1) (meant is.is_text.0) })
+program_runs text q _ has meant (stops a why) = stops a (refused q a has why)
+program_runs text q _ has meant starves = starves
 
 -- a class text
 pub classes_run : (text : List ℕ) (c : RawClasses) → ClassAnswer text (Ok c) → (r : RunRequest) → RunsTo text (exec r) (Ok (record { meant = Classes; classes = c }))
@@ -179,6 +175,7 @@ has_world (compile p) m h e = h
 has_world (run r) m h e = cc
 has_world (exec r) m h e = cc
 has_world (bench clients seed) m h e = cc
+has_world (shrink program world want) m h e = cc
 
 module _ (q : Request) (before mid after : FilesSeen) (text : List ℕ) (meant : Meant) (classes : RawClasses) (s : Source) (has : HasText (first_source q) before mid text)
     (is : IsRunFor text q meant classes) (world : world_source q ≡ Some s) (same : mid.content ≡ before.content) where
@@ -220,19 +217,86 @@ module _ (q : Request) (before mid after : FilesSeen) (text : List ℕ) (meant :
         (decided (run_for q r) (runs r (subst (λ x. IsRunFor text q x r.classes) (sym m) (subst (IsRunFor text q meant) (sym c) is)) answered frames))
 
 -- and that may be done
-may_by : (q : Request) (r : ProgramRun) → MayRun r → MayTell (run_for q r)
-may_by (format p) r may = may
-may_by (check p) r may = may
-may_by (compile p) r may = may
-may_by (run x) r may = may
-may_by (exec x) r may = may
-may_by (bench clients seed) r may = may
+text_by : (program world : List ℕ) (want : Want) (m : Meant) → IsMeantBy (shrink program world want) m → IsText m
+text_by program world want (Text p) h = tt
+text_by program world want Classes h = h
+
+shrink_may : (b : Bool) (r : ProgramRun) → MayRun r → IsText r.meant → MayTell (if b then Shrink r else Answered LongScript)
+shrink_may true r may is = (may, is)
+shrink_may false r may is = tt
+
+may_by : (q : Request) (r : ProgramRun) → MayRun r → IsMeantBy q r.meant → MayTell (run_for q r)
+may_by (format p) r may is = may
+may_by (check p) r may is = may
+may_by (compile p) r may is = may
+may_by (run x) r may is = may
+may_by (exec x) r may is = may
+may_by (bench clients seed) r may is = may
+may_by (shrink program world want) r may is = shrink_may (nat_le r.world.script.len SCRIPT_LINES) r may (text_by program world want r.meant is)
 
 pub may_run : (q : Request) (text : List ℕ) (meant : Meant) (classes : RawClasses) (r : ProgramRun) (o : Outcome) → r.meant ≡ meant → r.classes ≡ classes → o ≡ run_for q r
     → IsRunFor text q meant classes → IsInRange (seen r.world) → MayTell o
 may_run q text meant classes r o m c e is in_range =
-    subst MayTell (sym e) (may_by q r (record {
+    let may : MayRun r = record {
       text = text;
       is_run = subst (λ x. IsRunBy text x r.classes) (sym m) (subst (IsRunBy text meant) (sym c) is.is_run);
       in_range = in_range;
-    }))
+    } in
+    subst MayTell (sym e) (may_by q r may (subst (IsMeantBy q) (sym m) is.is_meant))
+
+-- it is run once, or again and again, as the request has it
+pub told_for : (q : Request) (a : told.Answered) → IsFor q (Answered a)
+told_for (format p) a = tt
+told_for (check p) a = tt
+told_for (compile p) a = tt
+told_for (run x) a = tt
+told_for (exec x) a = tt
+told_for (bench clients seed) a = tt
+told_for (shrink program world want) a = tt
+
+again : (b : Bool) (r : ProgramRun) → IsAgain (if b then Shrink r else Answered LongScript)
+again true r = tt
+again false r = tt
+
+ran_for : (q : Request) (r : ProgramRun) → IsFor q (run_for q r)
+ran_for (format p) r = tt
+ran_for (check p) r = tt
+ran_for (compile p) r = tt
+ran_for (run x) r = tt
+ran_for (exec x) r = tt
+ran_for (bench clients seed) r = tt
+ran_for (shrink program world want) r = again (nat_le r.world.script.len SCRIPT_LINES) r
+
+pub is_run_for : (q : Request) (r : ProgramRun) (o : Outcome) → o ≡ run_for q r → IsFor q o
+is_run_for q r o e = subst (IsFor q) (sym e) (ran_for q r)
+
+pub once : (q : Request) (o : Outcome) → wanted_alone q ≡ None → IsFor q o → IsOnce o
+once (format p) o e h = h
+once (check p) o e h = h
+once (compile p) o e h = h
+once (run x) o e h = h
+once (exec x) o e h = h
+once (bench clients seed) o e h = h
+once (shrink program world want) o e h = absurd (cc)
+
+pub many : (q : Request) (want : Want) (o : Outcome) → wanted_alone q ≡ Some want → IsFor q o → IsAgain o
+many (format p) want o e h = absurd (cc)
+many (check p) want o e h = absurd (cc)
+many (compile p) want o e h = absurd (cc)
+many (run x) want o e h = absurd (cc)
+many (exec x) want o e h = absurd (cc)
+many (bench clients seed) want o e h = absurd (cc)
+many (shrink program world w) want o e h = h
+
+-- and then one monitor is wanted
+pub wants_one : (q : Request) (want : Want) → wanted_alone q ≡ Some want → wanted_by q ≡ want ∷ []
+wants_one (format p) want e = absurd (cc)
+wants_one (check p) want e = absurd (cc)
+wants_one (compile p) want e = absurd (cc)
+wants_one (run x) want e = absurd (cc)
+wants_one (exec x) want e = absurd (cc)
+wants_one (bench clients seed) want e = absurd (cc)
+wants_one (shrink program world w) want e = ap (λ x. x ∷ []) (same e)
+  where
+    same : {x y : Want} → Some x ≡ Some y → x ≡ y
+    same h = cc

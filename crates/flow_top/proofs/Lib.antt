@@ -1,7 +1,10 @@
 pub mod Asks
+pub mod Picking
 pub mod Reading
 pub mod Deciding
 pub mod Counted
+pub mod Stopping
+pub mod Staging
 pub mod Reporting
 pub mod Missing
 pub mod OneAnswer

@@ -1,13 +1,12 @@
 -- Where a file is missing.
-use Rattle.std.proofs.Common.{◌≡◌, ℕ, List, ◌++◌, ◌∷◌, ◌⊎◌, inl, inr, refl, sym, ap, ◌∙◌, subst, Option, Some}
-use Rattle.flow_base.specs.Seen.{Content, Missing, FilesSeen}
+use Rattle.std.proofs.Common.{◌≡◌, ℕ, List, ◌++◌, inl, inr, refl, sym, ◌∙◌, subst, Some}
+use Rattle.flow_base.specs.Seen.{Content, Missing}
 use Rattle.flow_words.specs.Asked.{Request}
 use Rattle.flow_top.specs.declared.outcome.Outcome.{Outcome}
 use Rattle.flow_top.specs.declared.outcome.Outcome.TheVariants.{Answered}
-use Rattle.flow_top.specs.declared.outcome.Answered.TheVariants.{ReadFault, OutOfMemory}
 use Rattle.flow_top.specs.Sources.{Source, of_file, generated, first_source, world_source, FileText, read_for, AreTexts}
 use Rattle.flow_top.specs.Due.{DueBy, unread, formatted, refused, passed, compiled, no_classes, IsRefusedBy, by_rule, lost_local, heavy, Due, by_text, in_world}
-use Rattle.flow_top.specs.Decided.{Decided, due, read_fault, no_memory, no_memory_at_once}
+use Rattle.flow_top.specs.Decided.{due, read_fault, no_memory, no_memory_at_once}
 use Rattle.flow_top.specs.Laws.{MissingProgram, IsWorldless, MissingWorld}
 
 -- the texts of files, and of others behind them

@@ -1,5 +1,5 @@
 -- What is due by a request is one outcome, over files that tell.
-use Rattle.std.proofs.Common.{◌≡◌, ◌≢◌, ℕ, ◌+◌, ◌<◌, List, [], ◌++◌, length, refl, sym, ap, ap₂, ◌∙◌, subst, arith, Option, Some, None, Result, Ok, Err}
+use Rattle.std.proofs.Common.{◌≡◌, ◌≢◌, ℕ, Bool, true, false, true≢false, ◌+◌, ◌<◌, List, ◌++◌, length, refl, sym, ap, ap₂, ◌∙◌, subst, arith, Option, Some, None, Result, Ok, Err}
 use Rattle.flow_base.specs.declared.place.Place.{Place}
 use Rattle.flow_base.specs.Bytes.{AreFirstOf}
 use Rattle.flow_base.specs.Seen.{Content, Untold, Missing, Bytes}
@@ -23,24 +23,27 @@ use Rattle.flow_classprint.specs.ClassText.{ClassText}
 use Rattle.flow_classread.specs.declared.fault.ClassFault.{ClassFault}
 use Rattle.flow_classread.specs.declared.fault.ClassFault.TheVariants as class
 use Rattle.flow_classread.specs.ClassAnswer.{ClassAnswer}
-use Rattle.flow_class_reading_laws.specs.Laws.{told as class_told, OneAnswer as OneClassAnswer}
+use Rattle.flow_class_reading_laws.specs.Laws.{OneAnswer as OneClassAnswer}
 use Rattle.flow_staterule.specs.declared.rule.Lost.{Lost}
-use Rattle.flow_front.specs.Verdict.{IsUnread, IsProgram, IsRefused, IsSound, IsLost}
+use Rattle.flow_front.specs.Verdict.{IsRefused, IsSound, IsLost}
 use Rattle.flow_front.specs.Laws.{OneVerdict}
 use Rattle.flow_lower.specs.Weighing.{first_heavy}
 use Rattle.flow_lower.specs.Compiled.{Has, compiled as compiled_tree}
-use Rattle.flow_words.specs.Asked.{Request, format, check, compile, run, exec, bench}
+use Rattle.flow_words.specs.Asked.{Request, format, check, compile, run, exec, bench, shrink}
 use Rattle.flow_top.specs.declared.outcome.Outcome.{Outcome}
-use Rattle.flow_top.specs.declared.outcome.Outcome.TheVariants.{Answered}
+use Rattle.flow_top.specs.declared.outcome.Outcome.TheVariants.{Answered, Shrink}
 use Rattle.flow_top.specs.declared.outcome.ProgramRun.{ProgramRun}
 use Rattle.flow_top.specs.declared.outcome.Meant.{Meant}
 use Rattle.flow_top.specs.declared.outcome.Meant.TheVariants.{Text, Classes}
 use Rattle.flow_top.specs.declared.outcome.Answered as told
-use Rattle.flow_top.specs.declared.outcome.Answered.TheVariants.{Refused, NoClasses, NoWorld, Formatted}
-use Rattle.flow_top.specs.Sources.{Source, of_file, generated, first_source, world_source, FileText, read_for, IsOf, AreTexts}
+use Rattle.flow_top.specs.declared.outcome.Answered.TheVariants.{Refused, NoClasses, NoWorld, LongScript}
+use Rattle.flow_top.specs.Sources.{Source, of_file, generated, first_source, FileText, read_for, IsOf, AreTexts}
 use Rattle.flow_top.specs.Outcomes.{heavy_outcome, text_of, status_of, IsPassing, IsRunBy, of_program, of_class_text, IsMeantBy, run_for}
-use Rattle.flow_top.specs.Due.{IsRefusedBy, by_rule, lost_local, heavy, HasProgram, DueBy, unread, formatted, refused, passed, compiled, no_classes, IsRunFor, DueIn, no_world, runs, Due, usage, by_text, in_world}
+use Rattle.flow_top.specs.Due.{IsRefusedBy, by_rule, lost_local, heavy, HasProgram, DueBy, unread, formatted, refused, passed, compiled, no_classes, DueIn, no_world, runs, Due, usage, by_text, in_world}
 use Rattle.flow_top.specs.OneAnswer.{TellsAll, SameMeant, SameRun, SameOutcome, OneAnswer}
+use Rattle.std.specs.Prelude.{nat_le, if◌then◌else◌}
+use Rattle.flow_shrink.specs.declared.shrinking.TheConstants.{SCRIPT_LINES}
+use Rattle.flow_shrink.proofs.Removing.{script_length}
 use Rattle.flow_top.proofs.Missing.{texts_first, texts_behind}
 
 -- The texts of sources over files that tell: one for each.
@@ -213,6 +216,7 @@ never_both (compile name) p a b = a
 never_both (run r) p a b = b
 never_both (exec r) p a b = a
 never_both (bench clients seed) p a b = b
+never_both (shrink program world want) p a b = b
 
 module _ (one_class : OneClassAnswer) (text : List ℕ) (one : OneVerdict text) (q : Request) where
   run_once : {m n : Meant} {c d : RawClasses} → IsRunBy text m c → IsRunBy text n d → IsMeantBy q m → IsMeantBy q n → SameMeant m n × (raw_of c ≡ raw_of d)
@@ -264,12 +268,20 @@ module _ (one_class : OneClassAnswer) (text : List ℕ) (one : OneVerdict text) 
       by_request (run r) h k = k
       by_request (exec r) h k = h
       by_request (bench clients seed) h k = k
+      by_request (shrink program world want) h k = k
   never_runs _ _ m c (passed name p passing) is a = a
   never_runs _ _ m c (compiled name p d passing has) is a = a
   never_runs _ _ _ _ (no_classes r fault answer some) (of_program p c passing has) meant = meant
   never_runs _ _ _ _ (no_classes r fault answer some) (of_class_text c others) meant = read_or_refused one_class text fault c answer others some
 
 -- What is due by the world's text.
+same_shrink : (r s : ProgramRun) (b c : Bool) → b ≡ c → SameRun r s
+    → SameOutcome (if b then Shrink r else Answered LongScript) (if c then Shrink s else Answered LongScript)
+same_shrink r s true true e same = same
+same_shrink r s true false e same = absurd (true≢false e)
+same_shrink r s false true e same = absurd (true≢false (sym e))
+same_shrink r s false false e same = (refl, refl)
+
 same_run : (q : Request) (r s : ProgramRun) → SameRun r s → SameOutcome (run_for q r) (run_for q s)
 same_run (format name) r s same = same
 same_run (check name) r s same = same
@@ -277,6 +289,9 @@ same_run (compile name) r s same = same
 same_run (run x) r s same = same
 same_run (exec x) r s same = same
 same_run (bench clients seed) r s same = (same, refl, refl)
+same_run (shrink program world want) r s same =
+    let long : r.world.script.len ≡ s.world.script.len = sym (script_length r.world) ∙ ap (λ (w : World). length w.script) same.world ∙ script_length s.world in
+    same_shrink r s _ _ (ap (λ n. nat_le n SCRIPT_LINES) long) same
 
 module _ (judged_world : OneWorldVerdict) (one_class : OneClassAnswer) (text world_text : List ℕ) (one : OneVerdict text) (q : Request) where
   in_once : (o p : Outcome) → DueIn text world_text q o → DueIn text world_text q p → SameOutcome o p

@@ -11,9 +11,9 @@ use Rattle.flow_base.specs.declared.fault.OutFault.TheVariants.{Failed}
 use Rattle.flow_top.specs.declared.outcome.Answered as told
 use Rattle.flow_top.specs.declared.outcome.Answered.TheVariants.{OutOfMemory}
 use Rattle.flow_top.specs.Outcomes.{outcome_of}
-use Rattle.flow_top.specs.Sources.{Source, of_file, generated, FileText, read_for, IsOf, names_of, AllWithin, IsText, AreTexts}
+use Rattle.flow_top.specs.Sources.{Source, of_file, generated, FileText, read_for, names_of, AllWithin, AreTexts}
 use Rattle.flow_top.specs.Decided.{read_by, bytes_by, ReadsFiles, AskedFor, none_asked, none_opened, one_opened}
-use Rattle.flow_top.specs.Steps.{HasText, TextRead, is_read, is_unread, starved}
+use Rattle.flow_top.specs.Steps.{TextRead, is_read, is_unread, starved}
 
 abbrev file : (name : List ℕ) (most : ℕ) (text : List ℕ) → FileText
 file name most text = record { name = name; most = most; text = text }

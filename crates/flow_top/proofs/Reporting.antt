@@ -1,5 +1,5 @@
 -- What was told, from what was written.
-use Rattle.std.proofs.Common.{◌≡◌, ℕ, ◌≤◌, ◌<◌, ◌^◌, ◌+◌, Bool, List, [], ◌++◌, length, refl, sym, ap, ◌∙◌, subst, arith, Option, Result}
+use Rattle.std.proofs.Common.{◌≡◌, ℕ, ◌≤◌, Bool, false, List, [], length, refl, sym, ap, ◌∙◌, subst, arith, Option, Result}
 use Rattle.std.specs.Io.KnownBytes.{Appends, Keeps}
 use Rattle.std.proofs.KnownBytes.{Appends-kept}
 use Rattle.std.proofs.lemmas.List.{append-nil}
@@ -15,11 +15,10 @@ use Rattle.flow_class.specs.View.{raw_of}
 use Rattle.flow_classread.specs.ClassAnswer.{HaveSmallFrames}
 use Rattle.flow_class_reading_laws.proofs.Whole.{reads_whole}
 use Rattle.flow_worldfile.specs.declared.world.World0.{World0}
-use Rattle.flow_worldfile.specs.Worlds.{IsInRange, seen}
+use Rattle.flow_worldfile.specs.Worlds.{World, IsInRange, seen}
 use Rattle.flow_monitor.specs.Cut.{Cut}
-use Rattle.flow_monitor.specs.Ears.{Ears, names}
+use Rattle.flow_monitor.specs.Ears.{Ear, Ears, names}
 use Rattle.flow_monitor.proofs.Naming.{many_stay, nobody_cuts}
-use Rattle.flow_machine.specs.Cause.{fault_of}
 use Rattle.flow_machine.specs.declared.host.RunFault.{RunFault}
 use Rattle.flow_machine.specs.declared.host.RunFault.TheVariants.{Stuck}
 use Rattle.flow_world.specs.Around.{Puts}
@@ -40,9 +39,20 @@ use Rattle.flow_top.specs.declared.outcome.BenchRun.{BenchRun}
 use Rattle.flow_top.specs.declared.outcome.Meant.{Meant}
 use Rattle.flow_top.specs.declared.outcome.Answered.{Answered}
 use Rattle.flow_top.specs.declared.counting.Counts.{Counts}
-use Rattle.flow_top.specs.Outcomes.{text_of, IsRunBy, of_program, of_class_text, MayRun, ShownBy, IsShown}
-use Rattle.flow_top.specs.Summary.{counts_of, CountsLine, summary_by, summary_text}
-use Rattle.flow_top.specs.Told.{ending_status, run_status, fault_status_of, GoesOut, GoesOutInPart, ReportedTold, write_fault, no_memory_told, ReportedRun, ended, run_write_fault, run_no_memory, ReportedBench, summed, sum_write_fault, sum_no_memory_told, IsCounted}
+use Rattle.flow_top.specs.Outcomes.{text_of, IsRunBy, of_program, of_class_text, MayRun, IsText, ShownIn, ShownBy}
+use Rattle.flow_top.specs.Summary.{CountsLine, summary_by, summary_text}
+use Rattle.flow_top.specs.Told.{ending_status, run_status, fault_status_of, GoesOut, GoesOutInPart, ReportedTold, write_fault, no_memory_told, ReportedRun, ended, run_write_fault, run_no_memory, ReportedBench, summed, sum_write_fault, sum_no_memory_told, IsCounted, ReportedShrink, shrink_write_fault, shrink_no_memory_told}
+use Rattle.flow_trace.specs.declared.line.Line.TheVariants as line
+use Rattle.flow_shrink.specs.declared.shrinking.Shrunk.{Shrunk}
+use Rattle.flow_shrink.specs.declared.shrinking.Shrunk.TheVariants.{Least, NotStopped}
+use Rattle.flow_shrink.specs.Shrinking.{Stops, Shrinks, without}
+use Rattle.flow_world.specs.Ending.{Seen}
+use Rattle.flow_world.specs.Starting.{IsCodeOf, Starts}
+use Rattle.flow_top.specs.Staging.{IsReady}
+use Rattle.flow_top.specs.Requests.{alone}
+use Rattle.flow_top.specs.Shrunk.{IsStopped, shrunk_text}
+use Rattle.flow_top.proofs.Stopping.{stops_are_cut, cuts_are_stops}
+use Rattle.flow_top.proofs.Staging.{own_end}
 use Rattle.flow_top.proofs.Counted.{none, put_counts}
 
 pub whole_part : (a b : Option (List ℕ)) (text : List ℕ) → Appends a b text → AppendsPart a b text
@@ -196,3 +206,40 @@ sum_in_part b counts ending text before after Failed x is out rose =
     sum_write_fault ending x.lines x.shown x.last (subst (GoesOutInPart before after) (sum_is b counts ending text x is) out) (rose refl)
 sum_in_part b counts ending text before after OutOfMemory x is out rose =
     sum_no_memory_told ending x.lines x.shown x.last (subst (GoesOutInPart before after) (sum_is b counts ending text x is) out)
+
+-- A world that was made smaller.
+shrinks_alike : (S T : World → Type 0) → ((w : World) → S w → T w) → ((w : World) → T w → S w) → (first : World) (x : Shrunk) → Shrinks S first x → Shrinks T first x
+shrinks_alike S T on back first (Least w) h = record {
+  same = h.same;
+  fewer = h.fewer;
+  stops = on (seen w) h.stops;
+  each = λ k lt stops. h.each k lt (back (without k (seen w)) stops);
+}
+shrinks_alike S T on back first NotStopped h = λ stops. h (back first stops)
+
+-- by what the monitor says it is stopped as its cut trace tells
+pub is_shrunk : (r : ProgramRun) (name : List ℕ) (ear : Ear) (x : Shrunk) → IsText r.meant
+    → Shrinks (λ w. Stops (ShownIn r.meant false r.classes w) ear) (seen r.world) x → Shrinks (IsStopped r (alone name ear)) (seen r.world) x
+is_shrunk r name ear x is =
+    shrinks_alike (λ w. Stops (ShownIn r.meant false r.classes w) ear) (IsStopped r (alone name ear))
+    (λ w s. (s.0, s.1, stops_are_cut name ear s.0 s.2))
+    (λ w s. (s.0, s.1, cuts_are_stops name ear line.Head s.0 (own_end r.meant r.classes w s.0 is s.1) s.2)) (seen r.world) x
+
+pub shrunk_by : (r : ProgramRun) (name : List ℕ) (ear : Ear) (program : RawClasses) (x : Shrunk) → program ≡ r.classes → IsText r.meant
+    → Shrinks (λ w. Stops (ShownIn r.meant false program w) ear) (seen r.world) x → Shrinks (IsStopped r (alone name ear)) (seen r.world) x
+shrunk_by r name ear program x same is h =
+    is_shrunk r name ear x is (subst (λ c. Shrinks (λ w. Stops (ShownIn r.meant false c w) ear) (seen r.world) x) same h)
+
+-- the classes of a run that begin again
+pub ready_by : (r : ProgramRun) (file : World0) (w : Seen) → MayRun r → IsText r.meant → Starts r.classes file w → IsReady r.meant w.code
+ready_by r file w may is starts = record {
+  text = may.text;
+  is_run = subst (IsRunBy may.text r.meant) (sym starts.code.program) may.is_run;
+  is_text = is;
+  is_code = subst (λ c. IsCodeOf c w.code) (sym starts.code.program) starts.code;
+}
+
+pub shrunk_in_part : (r : ProgramRun) (ears : Ears) (x : Shrunk) (before after : SinkSeen) (fault : OutFault) → Shrinks (IsStopped r ears) (seen r.world) x
+    → GoesOutInPart before after (shrunk_text x) → (fault ≡ Failed → Rose before.faults after.faults) → ReportedShrink r ears before after (fault_status_of fault)
+shrunk_in_part r ears x before after Failed h out rose = shrink_write_fault x h out (rose refl)
+shrunk_in_part r ears x before after OutOfMemory h out rose = shrink_no_memory_told x h out

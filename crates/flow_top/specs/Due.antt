@@ -19,7 +19,7 @@ use Rattle.flow_staterule.specs.declared.rule.Lost.{Lost}
 use Rattle.flow_front.specs.Verdict.{IsUnread, IsRefused, IsProgram, IsSound, IsLost}
 use Rattle.flow_lower.specs.Weighing.{first_heavy}
 use Rattle.flow_lower.specs.Compiled.{Has}
-use Rattle.flow_words.specs.Asked.{Request, RunRequest, format, check, compile, run, exec, bench}
+use Rattle.flow_words.specs.Asked.{Request, RunRequest, format, check, compile, run, exec}
 use Rattle.flow_top.specs.declared.outcome.Outcome.{Outcome}
 use Rattle.flow_top.specs.declared.outcome.Outcome.TheVariants.{Answered}
 use Rattle.flow_top.specs.declared.outcome.ProgramRun.{ProgramRun}

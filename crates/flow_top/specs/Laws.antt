@@ -4,8 +4,8 @@ use Rattle.std.specs.declared.option.Option.TheVariants.{Some}
 use Rattle.flow_base.specs.Seen.{Missing, FilesSeen}
 use Rattle.flow_words.specs.Asked.{Request}
 use Rattle.flow_top.specs.declared.outcome.Outcome.{Outcome}
-use Rattle.flow_top.specs.declared.outcome.Outcome.TheVariants.{Answered, Run, Bench}
-use Rattle.flow_top.specs.declared.outcome.Answered.TheVariants.{ReadFault, OutOfMemory, NoWorld}
+use Rattle.flow_top.specs.declared.outcome.Outcome.TheVariants.{Answered, Run, Bench, Shrink}
+use Rattle.flow_top.specs.declared.outcome.Answered.TheVariants.{ReadFault, OutOfMemory, NoWorld, LongScript}
 use Rattle.flow_top.specs.Sources.{of_file, first_source, world_source}
 use Rattle.flow_top.specs.Decided.{Decided}
 
@@ -19,7 +19,9 @@ MissingProgram =
 abbrev pub IsWorldless : Outcome → Type 0
 IsWorldless (Run r) = ⊥
 IsWorldless (Bench b) = ⊥
+IsWorldless (Shrink r) = ⊥
 IsWorldless (Answered (NoWorld fault)) = ⊥
+IsWorldless (Answered LongScript) = ⊥
 IsWorldless (Answered outcome) = Unit {0}
 
 -- where the world's file is missing, nothing is run, and no world is refused

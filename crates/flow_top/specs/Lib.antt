@@ -4,6 +4,8 @@ pub mod Outcomes
 pub mod Due
 pub mod Decided
 pub mod Summary
+pub mod Shrunk
+pub mod Staging
 pub mod Told
 pub mod Answers
 pub mod Steps

@@ -7,7 +7,7 @@ use Rattle.flow_class.specs.View.{raw_of}
 use Rattle.flow_worldfile.specs.Worlds.{seen}
 use Rattle.flow_words.specs.Asked.{Request}
 use Rattle.flow_top.specs.declared.outcome.Outcome.{Outcome}
-use Rattle.flow_top.specs.declared.outcome.Outcome.TheVariants.{Answered, Run, Bench}
+use Rattle.flow_top.specs.declared.outcome.Outcome.TheVariants.{Answered, Run, Bench, Shrink}
 use Rattle.flow_top.specs.declared.outcome.ProgramRun.{ProgramRun}
 use Rattle.flow_top.specs.declared.outcome.Meant.{Meant}
 use Rattle.flow_top.specs.declared.outcome.Meant.TheVariants.{Text, Classes}
@@ -36,6 +36,7 @@ pub record SameRun (r s : ProgramRun) : Type 0 where
 abbrev pub SameOutcome : Outcome → Outcome → Type 0
 SameOutcome (Answered a) (Answered b) = (text_of a ≡ text_of b) × (status_of a ≡ status_of b)
 SameOutcome (Run r) (Run s) = SameRun r s
+SameOutcome (Shrink r) (Shrink s) = SameRun r s
 SameOutcome (Bench a) (Bench b) = SameRun a.run b.run × (a.clients ≡ b.clients) × (a.seed ≡ b.seed)
 SameOutcome _ _ = ⊥
 

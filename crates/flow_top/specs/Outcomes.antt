@@ -1,5 +1,5 @@
 -- What a request comes to: the texts of outcomes that are no run, with their status; and what may be run.
-use Rattle.std.specs.Prelude.{◌≡◌, ℕ, Bool, List, [], ◌∷◌, ◌++◌, codes, Ok}
+use Rattle.std.specs.Prelude.{◌≡◌, ℕ, Bool, List, [], ◌∷◌, ◌++◌, codes, nat_le, if◌then◌else◌, Ok}
 use Rattle.std.specs.declared.option.Option.TheVariants.{None}
 use Rattle.std.specs.declared.snapshot.Snapshot.{Snapshot}
 use Rattle.flow_base.specs.declared.fault.OutFault.{OutFault}
@@ -15,7 +15,7 @@ use Rattle.flow_trace.specs.declared.line.Line.{Line}
 use Rattle.flow_worldfile.specs.declared.world.World0.{World0}
 use Rattle.flow_worldfile.specs.declared.world.WorldFault.{WorldFault}
 use Rattle.flow_worldfile.specs.declared.world.WorldFault.TheVariants as world
-use Rattle.flow_worldfile.specs.Worlds.{IsInRange, seen}
+use Rattle.flow_worldfile.specs.Worlds.{World, IsInRange, seen}
 use Rattle.flow_class.specs.declared.class.RawClasses.{RawClasses}
 use Rattle.flow_class.specs.View.{raw_of}
 use Rattle.flow_classprint.specs.ClassText.{ClassText}
@@ -25,20 +25,21 @@ use Rattle.flow_classread.specs.ClassAnswer.{ClassAnswer}
 use Rattle.flow_front.specs.Verdict.{IsSound}
 use Rattle.flow_lower.specs.Weighing.{first_heavy}
 use Rattle.flow_lower.specs.Compiled.{Has}
+use Rattle.flow_shrink.specs.declared.shrinking.TheConstants.{SCRIPT_LINES}
 use Rattle.flow_compile_laws.specs.Frames.Framed.{SourceShown, ClassShown}
-use Rattle.flow_refusal.specs.Refusal.{refusal_text, refusal_status, world_refusal, class_refusal, class_status}
+use Rattle.flow_refusal.specs.Refusal.{refusal_text, refusal_status, world_refusal, class_refusal, class_status, script_refusal}
 use Rattle.flow_monitor.specs.declared.attach.PanelFault.{PanelFault}
 use Rattle.flow_monitor.specs.declared.attach.PanelFault.TheVariants as panel
 use Rattle.flow_words.specs.declared.asked.WordsFault.{WordsFault}
 use Rattle.flow_words.specs.declared.asked.WordsFault.TheVariants as words
-use Rattle.flow_words.specs.Asked.{Request, run as run_words, exec as exec_words, bench as bench_words}
+use Rattle.flow_words.specs.Asked.{Request, run as run_words, exec as exec_words, bench as bench_words, shrink as shrink_words}
 use Rattle.flow_top.specs.declared.outcome.Outcome.{Outcome}
-use Rattle.flow_top.specs.declared.outcome.Outcome.TheVariants.{Answered, Run, Bench}
+use Rattle.flow_top.specs.declared.outcome.Outcome.TheVariants.{Answered, Run, Bench, Shrink}
 use Rattle.flow_top.specs.declared.outcome.ProgramRun.{ProgramRun}
 use Rattle.flow_top.specs.declared.outcome.Meant.{Meant}
 use Rattle.flow_top.specs.declared.outcome.Meant.TheVariants.{Text, Classes}
 use Rattle.flow_top.specs.declared.outcome.Answered as told
-use Rattle.flow_top.specs.declared.outcome.Answered.TheVariants.{Usage, ReadFault, OutOfMemory, Refused, NoClasses, NoWorld, Passed, Compiled, Formatted}
+use Rattle.flow_top.specs.declared.outcome.Answered.TheVariants.{Usage, ReadFault, OutOfMemory, Refused, NoClasses, NoWorld, LongScript, Passed, Compiled, Formatted}
 
 -- what is written for an outcome that is no run
 abbrev pub text_of : told.Answered → List ℕ
@@ -48,6 +49,7 @@ text_of OutOfMemory = []
 text_of (Refused fault) = refusal_text fault
 text_of (NoClasses fault) = class_refusal fault
 text_of (NoWorld fault) = world_refusal fault
+text_of LongScript = script_refusal
 text_of Passed = codes "ok" ++ 10 ∷ []
 text_of (Compiled classes) = ClassText (raw_of classes)
 text_of (Formatted program) = Canon (program_of program)
@@ -66,6 +68,7 @@ status_of OutOfMemory = 7
 status_of (Refused fault) = refusal_status fault
 status_of (NoClasses fault) = class_status fault
 status_of (NoWorld fault) = world_status fault
+status_of LongScript = 10
 status_of Passed = 0
 status_of (Compiled classes) = 0
 status_of (Formatted program) = 0
@@ -113,16 +116,23 @@ pub data IsRunBy (text : List ℕ) : Meant → RawClasses → Type 0 where
       → IsRunBy text (Text p) classes
   of_class_text : (classes : RawClasses) → ClassAnswer text (Ok classes) → IsRunBy text Classes classes
 
--- programs are run for `run` and for `bench`, class texts for `exec`
+-- programs are run for `run`, `bench` and `shrink`, class texts for `exec`
 abbrev pub IsMeantBy : Request → Meant → Type 0
 IsMeantBy (run_words r) (Text p) = Unit {0}
 IsMeantBy (bench_words clients seed) (Text p) = Unit {0}
+IsMeantBy (shrink_words program world want) (Text p) = Unit {0}
 IsMeantBy (exec_words r) Classes = Unit {0}
 IsMeantBy _ _ = ⊥
 
--- the outcome where classes are run for a request: what is shown of them is written, or for `bench` its summary
+-- a world is made smaller whose script has few enough lines
+abbrev pub shrink_for : ProgramRun → Outcome
+shrink_for r = if nat_le r.world.script.len SCRIPT_LINES then Shrink r else Answered LongScript
+
+-- the outcome where classes are run for a request: what is shown of them is written, or for `bench` its summary, or for `shrink` a world
+-- that was made smaller
 abbrev pub run_for : Request → ProgramRun → Outcome
 run_for (bench_words clients seed) r = Bench (record { run = r; clients = clients; seed = seed })
+run_for (shrink_words program world want) r = shrink_for r
 run_for _ r = Run r
 
 -- a run that may be made: of the classes of some text, in a world in range
@@ -131,15 +141,39 @@ pub record MayRun (r : ProgramRun) : Type 0 where
   pub is_run : IsRunBy text r.meant r.classes
   pub in_range : IsInRange (seen r.world)
 
+-- a program is run
+abbrev pub IsText : Meant → Type 0
+IsText (Text p) = Unit {0}
+IsText Classes = ⊥
+
 abbrev pub MayTell : Outcome → Type 0
 MayTell (Answered outcome) = Unit {0}
 MayTell (Run r) = MayRun r
 MayTell (Bench b) = MayRun b.run
+MayTell (Shrink r) = MayRun r × IsText r.meant
 
--- what is shown of a run: of a program by its text, of classes by themselves
+-- classes are run once at most, or again and again if they are run
+abbrev pub IsOnce : Outcome → Type 0
+IsOnce (Shrink r) = ⊥
+IsOnce _ = Unit {0}
+
+abbrev pub IsAgain : Outcome → Type 0
+IsAgain (Run r) = ⊥
+IsAgain (Bench b) = ⊥
+IsAgain _ = Unit {0}
+
+-- as a request has it
+abbrev pub IsFor : Request → Outcome → Type 0
+IsFor (shrink_words program world want) o = IsAgain o
+IsFor _ o = IsOnce o
+
+-- what is shown of a run in a world: of a program by its text, of classes by themselves
+abbrev pub ShownIn : Meant → (frames : Bool) → RawClasses → World → List Line → Type 0
+ShownIn (Text p) frames classes world lines = SourceShown frames (program_of p.value) world lines
+ShownIn Classes frames classes world lines = ClassShown frames (raw_of classes) world lines
+
 abbrev pub ShownBy : Meant → (frames : Bool) → RawClasses → World0 → List Line → Type 0
-ShownBy (Text p) frames classes world lines = SourceShown frames (program_of p.value) (seen world) lines
-ShownBy Classes frames classes world lines = ClassShown frames (raw_of classes) (seen world) lines
+ShownBy meant frames classes world lines = ShownIn meant frames classes (seen world) lines
 
 abbrev pub IsShown : ProgramRun → List Line → Type 0
 IsShown r lines = ShownBy r.meant r.frames r.classes r.world lines

@@ -7,8 +7,6 @@ use Rattle.std.specs.declared.alloc.Global.{Global}
 use Rattle.flow_base.specs.Faults.{next_count}
 use Rattle.flow_base.specs.Seen.{FilesSeen}
 use Rattle.flow_base.specs.declared.place.Place.{Place}
-use Rattle.flow_tree.specs.declared.decl.Program.{Program}
-use Rattle.flow_tree.specs.DeclView.{program_of}
 use Rattle.flow_tree.specs.Decls.{ProgramTree}
 use Rattle.flow_class.specs.declared.class.RawClasses.{RawClasses}
 use Rattle.flow_class.specs.View.{raw_of}
@@ -29,7 +27,7 @@ use Rattle.flow_top.specs.declared.outcome.Outcome.TheVariants.{Answered}
 use Rattle.flow_top.specs.declared.outcome.Runnable.{Runnable}
 use Rattle.flow_top.specs.declared.outcome.Meant.TheVariants.{Text}
 use Rattle.flow_top.specs.Sources.{Source, IsOf, read_for, names_of, AreTexts}
-use Rattle.flow_top.specs.Outcomes.{IsRunBy, IsPassing, heavy_outcome}
+use Rattle.flow_top.specs.Outcomes.{IsRunBy, heavy_outcome}
 use Rattle.flow_top.specs.Due.{IsRefusedBy, DueBy, IsRunFor}
 use Rattle.flow_top.specs.Decided.{ReadsFiles, AskedFor}
 
@@ -50,8 +48,8 @@ NotAsked asked Usage = asked ≡ None
 NotAsked asked OutOfMemory = Unit {0}
 NotAsked asked _ = ⊥
 
-abbrev pub AsksFor : {P : Type 0} → Option Request → Result (Asked × P) told.Answered → Type 0
-AsksFor asked (Ok a) = asked ≡ Some (request_of a.0)
+abbrev pub AsksFor : Option Request → Result Asked told.Answered → Type 0
+AsksFor asked (Ok a) = asked ≡ Some (request_of a)
 AsksFor asked (Err a) = NotAsked asked a
 
 -- a panel is had exactly where no item fails that is wanted, but for want of memory

@@ -1,5 +1,5 @@
 -- What is told of an outcome, and with which status.
-use Rattle.std.specs.Prelude.{◌≡◌, ℕ, List, ◌∷◌}
+use Rattle.std.specs.Prelude.{◌≡◌, ℕ, List}
 use Rattle.std.specs.Io.KnownBytes.{Appends}
 use Rattle.flow_base.specs.Bytes.{AppendsPart, Grows}
 use Rattle.flow_base.specs.Faults.{Rose}
@@ -17,12 +17,16 @@ use Rattle.flow_world.specs.Ends.{end_line, LastIs}
 use Rattle.flow_world.specs.WatchedTraces.{last_line}
 use Rattle.flow_world.specs.Written.{bytes_of}
 use Rattle.flow_top.specs.declared.outcome.Outcome.{Outcome}
-use Rattle.flow_top.specs.declared.outcome.Outcome.TheVariants.{Answered, Run, Bench}
+use Rattle.flow_top.specs.declared.outcome.Outcome.TheVariants.{Answered, Run, Bench, Shrink}
 use Rattle.flow_top.specs.declared.outcome.ProgramRun.{ProgramRun}
 use Rattle.flow_top.specs.declared.outcome.BenchRun.{BenchRun}
 use Rattle.flow_top.specs.declared.outcome.Answered as told
 use Rattle.flow_top.specs.Outcomes.{text_of, status_of, IsShown}
 use Rattle.flow_top.specs.declared.counting.Counts.{Counts}
+use Rattle.flow_worldfile.specs.Worlds.{seen}
+use Rattle.flow_shrink.specs.declared.shrinking.Shrunk.{Shrunk}
+use Rattle.flow_shrink.specs.Shrinking.{Shrinks}
+use Rattle.flow_top.specs.Shrunk.{IsStopped, shrunk_text, shrunk_status}
 use Rattle.flow_top.specs.Summary.{counts_of, summary_text}
 
 -- the status of a run by its last line: 4 where an event needed more turns than it may take, 8 where a monitor said Stop
@@ -87,7 +91,19 @@ pub data ReportedBench (b : BenchRun) (before after : SinkSeen) : ℕ → Type 0
   -- there was no memory before any of it was written
   sum_no_memory : after ≡ before → ReportedBench b before after 7
 
+-- What was told of a world that is to be made smaller: the text of what that came to, with its status; or a first part of it.
+pub data ReportedShrink (r : ProgramRun) (ears : Ears) (before after : SinkSeen) : ℕ → Type 0 where
+  shrunk : (x : Shrunk) → Shrinks (IsStopped r ears) (seen r.world) x → GoesOut before after (shrunk_text x)
+      → ReportedShrink r ears before after (shrunk_status x)
+  shrink_write_fault : (x : Shrunk) → Shrinks (IsStopped r ears) (seen r.world) x → GoesOutInPart before after (shrunk_text x)
+      → Rose before.faults after.faults → ReportedShrink r ears before after 6
+  shrink_no_memory_told : (x : Shrunk) → Shrinks (IsStopped r ears) (seen r.world) x → GoesOutInPart before after (shrunk_text x)
+      → ReportedShrink r ears before after 7
+  -- there was no memory before any of it was written
+  shrink_no_memory : after ≡ before → ReportedShrink r ears before after 7
+
 abbrev pub Reported : Ears → Outcome → SinkSeen → SinkSeen → ℕ → Type 0
 Reported ears (Answered outcome) before after status = ReportedTold outcome before after status
 Reported ears (Run r) before after status = ReportedRun r ears before after status
 Reported ears (Bench b) before after status = ReportedBench b before after status
+Reported ears (Shrink r) before after status = ReportedShrink r ears before after status

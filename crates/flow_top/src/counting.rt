@@ -33,8 +33,8 @@ impl Counts {
     }
 }
 
-// Whether a line is an event's.
-fn is_event(line: &Line) -> bool
+/// Whether a line is an event's.
+pub fn is_event(line: &Line) -> bool
     ensures { result ≡ is_event line.now }
 {
     match line {

@@ -3,13 +3,14 @@
 ghost use Rattle.std.specs.Prelude.{◌≡◌, Some};
 ghost use Rattle.flow_words.specs.Asked.{request_of};
 ghost use Rattle.flow_top.specs.Requests.{tells_frames};
-ghost use Rattle.flow_top.specs.Outcomes.{MayTell, run_for};
+ghost use Rattle.flow_top.specs.Outcomes.{MayTell, IsFor, run_for, shrink_for};
 ghost use Rattle.flow_top.specs.Decided.{Decided};
 
 use crate::judge::{judge, world_of};
-use crate::outcome::{BenchRun, Outcome, ProgramRun};
+use crate::outcome::{Answered, BenchRun, Outcome, ProgramRun};
 use crate::source::{first_source, read_text, world_source};
 use flow_base::files::Files;
+use flow_shrink::SCRIPT_LINES;
 use flow_words::Asked;
 use std::alloc::Global;
 
@@ -19,7 +20,22 @@ fn tells_frames(asked: &Asked<'_>) -> bool
 {
     match asked {
         Asked::Run(run) | Asked::Exec(run) => run.frames,
-        Asked::Format(_) | Asked::Check(_) | Asked::Compile(_) | Asked::Bench(..) => false,
+        Asked::Format(_)
+        | Asked::Check(_)
+        | Asked::Compile(_)
+        | Asked::Bench(..)
+        | Asked::Shrink(_) => false,
+    }
+}
+
+// The outcome where classes are run, the world being made smaller, if its script has few enough lines.
+fn shrink_for(run: ProgramRun) -> Outcome
+    ensures { result ≡ shrink_for run }
+{
+    if run.world.script.len() <= SCRIPT_LINES {
+        Outcome::Shrink(run)
+    } else {
+        Outcome::Answered(Answered::LongScript)
     }
 }
 
@@ -35,12 +51,14 @@ fn run_for(asked: &Asked<'_>, run: ProgramRun) -> Outcome
         }),
         Asked::Format(_) | Asked::Check(_) | Asked::Compile(_) | Asked::Run(_) | Asked::Exec(_) =>
             Outcome::Run(run),
+        Asked::Shrink(_) => shrink_for(run),
     }
 }
 
 /// What a request comes to. The world is read only where the text that it begins with passes its rules.
 pub fn decide<F: Files>(alloc: Global, asked: &Asked<'_>, files: &mut F) -> Outcome
     ensures may_tell { MayTell result }
+    ensures fits { IsFor (request_of asked.now) result }
     ensures decided { Decided (Some (request_of asked.now)) (F.seen files.old) (F.seen files.new)
         result }
 {

@@ -151,6 +151,7 @@ pub fn judge(alloc: Global, asked: &Asked<'_>, text: &[u8]) -> Result<Runnable, 
         Asked::Compile(_) => Err(compiled(alloc, text)),
         Asked::Run(_) => program(alloc, text),
         Asked::Bench(..) => program(alloc, text),
+        Asked::Shrink(_) => program(alloc, text),
         Asked::Exec(_) => class_text(alloc, text),
     }
 }

@@ -9,6 +9,7 @@ pub mod laws;
 mod outcome;
 mod report;
 mod source;
+mod stage;
 mod summary;
 mod top;
 

@@ -16,6 +16,8 @@ pub enum Outcome {
     Run(ProgramRun),
     /// They are run, and a summary is told.
     Bench(BenchRun),
+    /// They are run again and again, in the world and in smaller ones, and the smallest that a monitor stops is told.
+    Shrink(ProgramRun),
 }
 
 /// What classes mean that are run: a program, which is read by clauses alone, or themselves.
@@ -64,6 +66,8 @@ pub enum Answered {
     NoClasses(ClassFault),
     /// The world file is refused.
     NoWorld(WorldFault),
+    /// The script of the world has too many lines to be made smaller.
+    LongScript,
     /// The program passes all rules.
     Passed,
     /// The classes of the program are written.

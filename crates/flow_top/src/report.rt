@@ -9,11 +9,16 @@ ghost use Rattle.flow_machine.specs.declared.host.RunFault.TheVariants.{Stuck};
 ghost use Rattle.flow_machine.specs.Cause.{fault_of};
 ghost use Rattle.flow_world.specs.WatchedTraces.{IsEnding};
 ghost use Rattle.flow_world.specs.declared.run_ending.RunEnding.TheVariants.{Own};
-ghost use Rattle.flow_top.specs.Outcomes.{text_of, status_of, world_status, MayRun, MayTell};
-ghost use Rattle.flow_top.specs.Told.{ending_status, run_status, fault_status_of, GoesOut, GoesOutInPart, ReportedTold, ReportedRun, IsCounted, ReportedBench, Reported};
+ghost use Rattle.flow_top.specs.Outcomes.{text_of, status_of, world_status, MayRun, MayTell, IsText, IsOnce, IsAgain};
+ghost use Rattle.flow_top.specs.Told.{ending_status, run_status, fault_status_of, GoesOut, GoesOutInPart, ReportedTold, ReportedRun, IsCounted, ReportedBench, ReportedShrink, Reported};
+ghost use Rattle.flow_top.specs.Requests.{alone};
+ghost use Rattle.flow_top.specs.Shrunk.{IsStopped, shrunk_text, shrunk_status};
+ghost use Rattle.flow_shrink.specs.Shrinking.{Shrinks};
+ghost use Rattle.flow_worldfile.specs.Worlds.{seen};
 
 use crate::counting::Counts;
 use crate::outcome::{Answered, BenchRun, Outcome, ProgramRun};
+use crate::stage::{Stage, copied};
 use crate::summary::summary;
 use flow_base::fault::OutFault;
 use flow_base::memory::NoMemory;
@@ -22,13 +27,14 @@ use flow_base::sink::Sink;
 use flow_classprint::write_classes;
 use flow_classread::fault::ClassFault;
 use flow_machine::host::RunFault;
-use flow_monitor::{Audience, Panel};
+use flow_monitor::{Audience, Monitor, Panel};
 use flow_refusal::{class_line, class_status, refusal_line, refusal_status, world_line};
 use flow_show::show::{show_lines, write_lines};
+use flow_shrink::{Shrunk, shrink};
 use flow_tree::fault::SourceFault;
 use flow_world::trace::put_trace;
-use flow_world::{Ending, RunEnding, write_trace};
-use flow_worldfile::WorldFault;
+use flow_world::{Ending, RunEnding, World, write_trace};
+use flow_worldfile::{WorldFault, print_world};
 use std::alloc::Global;
 
 // Writes the line of a refusal.
@@ -95,6 +101,7 @@ fn put<S: Sink>(alloc: Global, outcome: Answered, out: &mut S) -> Result<(), Out
         Answered::Refused(fault) => put_refusal(alloc, &fault, out),
         Answered::NoClasses(fault) => put_class_refusal(alloc, &fault, out),
         Answered::NoWorld(fault) => put_world_refusal(alloc, fault, out),
+        Answered::LongScript => write_whole(out, b"refused L13\n"),
         Answered::Passed => write_whole(out, b"ok\n"),
         Answered::Compiled(classes) => write_classes(alloc, classes.raw(), out),
         Answered::Formatted(program) => show_lines(alloc, &program, out),
@@ -129,6 +136,7 @@ fn status(outcome: &Answered) -> u8
         Answered::Refused(fault) => refusal_status(fault),
         Answered::NoClasses(fault) => class_status(fault),
         Answered::NoWorld(fault) => world_status(*fault),
+        Answered::LongScript => 10,
     }
 }
 
@@ -278,6 +286,100 @@ fn report_bench<S: Sink>(alloc: Global, bench: BenchRun, out: &mut S) -> u8
     }
 }
 
+// Runs a program again and again, in the world and in smaller ones, where the monitor hears each run from its begin.
+fn shrink_run(
+    alloc: Global,
+    run: ProgramRun,
+    monitor: Box<dyn Monitor>,
+    limit: u64,
+) -> Result<Shrunk, NoMemory>
+    requires { MayRun run × IsText run.meant }
+    ensures { IfOk result (Shrinks (IsStopped run (alone (label monitor) (begun monitor limit)))
+        (seen run.world)) }
+{
+    let ProgramRun {
+        meant,
+        classes,
+        world,
+        frames: _,
+    } = run;
+    let first = copied(alloc, &world)?;
+    let mut stage = Stage {
+        alloc,
+        meant,
+        world: World::start(alloc, classes, first)?,
+        runs: 0,
+    };
+    shrink(world, monitor, limit, &mut stage)
+}
+
+// The text of what making a world smaller came to.
+fn shrunk_text(alloc: Global, shrunk: &Shrunk) -> Result<Vec<u8>, NoMemory>
+    ensures { IfOk result (λ text. text.items ≡ shrunk_text shrunk.now) }
+{
+    match shrunk {
+        Shrunk::Least(world) => print_world(alloc, world),
+        Shrunk::NotStopped => Ok(b"not stopped\n".to_vec(alloc)?),
+    }
+}
+
+// Its status.
+fn shrunk_status(shrunk: &Shrunk) -> u8
+    ensures { result ≡ shrunk_status shrunk.now }
+{
+    match shrunk {
+        Shrunk::Least(_) => 0,
+        Shrunk::NotStopped => 13,
+    }
+}
+
+// Makes the world of a run smaller, writes what that comes to and flushes it, and gives the status.
+fn report_shrink<S: Sink>(
+    alloc: Global,
+    run: ProgramRun,
+    monitor: Box<dyn Monitor>,
+    limit: u64,
+    out: &mut S,
+) -> u8
+    requires { MayRun run × IsText run.meant }
+    ensures reported { ReportedShrink run (alone (label monitor) (begun monitor limit)) (S.seen out.old)
+        (S.seen out.new) result }
+    ensures handed { Grows (S.seen out.old).handed (S.seen out.new).handed }
+{
+    let Ok(shrunk) = shrink_run(alloc, run, monitor, limit) else {
+        return 7;
+    };
+    let Ok(text) = shrunk_text(alloc, &shrunk) else {
+        return 7;
+    };
+    match write_text(&text, out) {
+        Ok(()) => shrunk_status(&shrunk),
+        Err(fault) => fault_status(fault),
+    }
+}
+
+/// Writes the text of an outcome that runs no classes, or runs them again and again, and flushes it, and gives the status. The
+/// monitor hears each run from its begin.
+pub fn report_again<S: Sink>(
+    alloc: Global,
+    outcome: Outcome,
+    monitor: Box<dyn Monitor>,
+    limit: u64,
+    out: &mut S,
+) -> u8
+    requires may { MayTell outcome }
+    requires again { IsAgain outcome }
+    ensures reported { Reported (alone (label monitor) (begun monitor limit)) outcome (S.seen out.old)
+        (S.seen out.new) result }
+    ensures handed { Grows (S.seen out.old).handed (S.seen out.new).handed }
+{
+    match outcome {
+        Outcome::Answered(told) => report_told(alloc, told, out),
+        Outcome::Shrink(run) => report_shrink(alloc, run, monitor, limit, out),
+        Outcome::Run(_) | Outcome::Bench(_) => unreachable!(),
+    }
+}
+
 /// Writes the text of an outcome and flushes it, and gives the status: the outcome's own, or 6 or 7
 /// where the sink failed or there was no memory on the way. The panel hears a run.
 pub fn report<P: Audience, S: Sink>(
@@ -286,13 +388,16 @@ pub fn report<P: Audience, S: Sink>(
     panel: &mut P,
     out: &mut S,
 ) -> u8
-    requires { MayTell outcome }
-    ensures reported { Reported (P.ears panel.old) outcome (S.seen out.old) (S.seen out.new) result }
+    requires may { MayTell outcome }
+    requires once { IsOnce outcome }
+    ensures reported { Reported (P.ears panel.old) outcome (S.seen out.old) (S.seen out.new)
+        result }
     ensures handed { Grows (S.seen out.old).handed (S.seen out.new).handed }
 {
     match outcome {
         Outcome::Answered(told) => report_told(alloc, told, out),
         Outcome::Run(run) => report_run(alloc, run, panel, out),
         Outcome::Bench(bench) => report_bench(alloc, bench, out),
+        Outcome::Shrink(_) => unreachable!(),
     }
 }

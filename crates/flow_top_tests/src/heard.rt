@@ -5,7 +5,7 @@ ghost use Rattle.flow_monitor.specs.declared.monitor.Heard.TheVariants.{Go};
 
 use crate::tests::{two_files, words};
 use flow_base::mem_sink::MemSink;
-use flow_monitor::{HandedIn, Heard, Monitor};
+use flow_monitor::{Heard, Monitor};
 use flow_top::flow_main;
 use flow_trace::line::Line;
 use std::alloc::{AllocError, Global};
@@ -77,7 +77,6 @@ fn broken_off(alloc: Global, counting: Counting) -> Result<u8, AllocError> {
     let mut files = two_files(alloc, REQUESTS, b"", Vec::new(alloc))?;
     let mut out = MemSink::new(alloc, vec![in alloc; 4]?);
     let words = words(alloc, &["run", "p", "w", "--monitor", "counting=0"])?;
-    let monitors = HandedIn::new(alloc, monitors);
     Ok(flow_main(alloc, &words, &mut files, &mut out, monitors))
 }
 

@@ -4,7 +4,7 @@
 use crate::slow::{OneByteIn, OneByteOut};
 use crate::tests::{two_files, words};
 use flow_base::mem_sink::MemSink;
-use flow_monitor::HandedIn;
+use flow_monitor::Monitor;
 use flow_top::flow_main;
 use std::alloc::{AllocError, Global};
 
@@ -29,13 +29,8 @@ fn answer(
     let mut files = two_files(alloc, command.first, command.second, reads)?;
     let mut out = MemSink::new(alloc, writes);
     let words = words(alloc, command.words)?;
-    let status = flow_main(
-        alloc,
-        &words,
-        &mut files,
-        &mut out,
-        HandedIn::new(alloc, Vec::new(alloc)),
-    );
+    let monitors: Vec<Box<dyn Monitor>> = Vec::new(alloc);
+    let status = flow_main(alloc, &words, &mut files, &mut out, monitors);
     Ok((status, out.bytes().to_vec(alloc)?))
 }
 
@@ -140,13 +135,8 @@ fn is_told_byte_by_byte(
         bytes: Vec::new(alloc),
     };
     let words = words(alloc, command.words)?;
-    let status = flow_main(
-        alloc,
-        &words,
-        &mut files,
-        &mut out,
-        HandedIn::new(alloc, Vec::new(alloc)),
-    );
+    let monitors: Vec<Box<dyn Monitor>> = Vec::new(alloc);
+    let status = flow_main(alloc, &words, &mut files, &mut out, monitors);
     Ok(status == 0 && out.bytes.as_slice() == text)
 }
 

@@ -2,7 +2,7 @@
 
 use flow_base::mem_files::MemFiles;
 use flow_base::mem_sink::MemSink;
-use flow_monitor::HandedIn;
+use flow_monitor::Monitor;
 use flow_top::flow_main;
 use std::alloc::{AllocError, Global};
 
@@ -15,7 +15,7 @@ fn is_answered(
 ) -> Result<bool, AllocError> {
     let mut files = MemFiles::new(alloc, Vec::new(alloc), Vec::new(alloc));
     let mut out = MemSink::new(alloc, Vec::new(alloc));
-    let monitors = HandedIn::new(alloc, Vec::new(alloc));
+    let monitors: Vec<Box<dyn Monitor>> = Vec::new(alloc);
     let told = flow_main(alloc, words, &mut files, &mut out, monitors);
     Ok(told == status && out.bytes() == text)
 }

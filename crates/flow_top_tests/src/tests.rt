@@ -3,7 +3,7 @@
 
 use flow_base::mem_files::MemFiles;
 use flow_base::mem_sink::MemSink;
-use flow_monitor::HandedIn;
+use flow_monitor::{Errors, Monitor};
 use flow_top::flow_main;
 use std::alloc::{AllocError, Global};
 
@@ -47,7 +47,7 @@ fn breaks_off_in(
     let mut files = two_files(alloc, program, world, Vec::new(alloc))?;
     let mut out = MemSink::new(alloc, vec![in alloc; failing]?);
     let words = words(alloc, texts)?;
-    let monitors = HandedIn::new(alloc, Vec::new(alloc));
+    let monitors: Vec<Box<dyn Monitor>> = Vec::new(alloc);
     let told = flow_main(alloc, &words, &mut files, &mut out, monitors);
     Ok(told == 6 && out.bytes() == text)
 }
@@ -132,7 +132,7 @@ fn tells_a_read_fault(alloc: Global, texts: &[&str]) -> Result<bool, AllocError>
     let mut files = two_files(alloc, HELLO, b"", vec![in alloc; 1]?)?;
     let mut out = MemSink::new(alloc, Vec::new(alloc));
     let words = words(alloc, texts)?;
-    let monitors = HandedIn::new(alloc, Vec::new(alloc));
+    let monitors: Vec<Box<dyn Monitor>> = Vec::new(alloc);
     let told = flow_main(alloc, &words, &mut files, &mut out, monitors);
     Ok(told == 5 && out.bytes() == b"read fault\n".as_slice())
 }
@@ -143,5 +143,47 @@ fn failing_files(rt: HostRuntime) -> Result<(), AllocError> {
     assert!(rt; tells_a_read_fault(alloc, &["run", "p", "w"])?);
     assert!(rt; tells_a_read_fault(alloc, &["format", "p"])?);
     assert!(rt; tells_a_read_fault(alloc, &["exec", "p", "w"])?);
+    Ok(())
+}
+
+// What `shrink` is answered where a world stops a program that throws at once, and what is written then.
+fn shrunk(
+    alloc: Global,
+    files_fail: Vec<u64>,
+    sink_fails: Vec<u64>,
+    text: &[u8],
+) -> Result<u8, AllocError> {
+    let mut monitors: Vec<Box<dyn Monitor>> = Vec::new(alloc);
+    monitors.push(Box::new(alloc, Errors::new())?)?;
+    let world = b"at 1 cut 0 0\nat 2 heal 0 0\n";
+    let mut files = two_files(alloc, THROWS, world, files_fail)?;
+    let mut out = MemSink::new(alloc, sink_fails);
+    let words = words(alloc, &["shrink", "p", "w", "--monitor", "errors=0"])?;
+    let status = flow_main(alloc, &words, &mut files, &mut out, monitors);
+    Ok(if out.bytes() == text { status } else { 255 })
+}
+
+const THROWS: &[u8] = b"ACTOR Future<Void> main(int p) { throw timed_out(); }";
+
+#[test]
+fn shrinking_with_faults(rt: HostRuntime) -> Result<(), AllocError> {
+    let alloc = rt.alloc();
+    let none: Vec<u64> = Vec::new(alloc);
+    let whole =
+        b"seed 0\nprocesses 1\nevents 1000\nturns 100000\nlatency 1 2\ndiskdelay 1 2\nloss 0\n";
+    assert_eq!(rt; shrunk(alloc, none, Vec::new(alloc), whole)?, 0);
+    assert_eq!(rt;
+        shrunk(alloc, vec![in alloc; 1]?, Vec::new(alloc), b"read fault\n")?,
+        5
+    );
+    assert_eq!(rt;
+        shrunk(
+            alloc,
+            Vec::new(alloc),
+            vec![in alloc; 3]?,
+            b"seed 0\nprocesses 1\n"
+        )?,
+        6
+    );
     Ok(())
 }

@@ -37,6 +37,10 @@ two_texts_app = with_rule one_text_app (required_text (codes "second"))
 abbrev pub run_app : App
 run_app = with_rule (with_rule two_texts_app (flag (codes "frames"))) (option_text (codes "monitor"))
 
+-- two texts and `--monitor LIST`
+abbrev pub shrink_app : App
+shrink_app = with_rule two_texts_app (option_text (codes "monitor"))
+
 -- what clap reads of the words, where its definition finds no fault in them
 abbrev pub matched : App → (words : List Text) → Option (List Row)
 matched app words = if is_empty (fault_of app words) then Some (matches_of app words) else None

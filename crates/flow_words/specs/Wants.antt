@@ -44,6 +44,12 @@ each_want (item ∷ items) = joined (want_of item) (each_want items)
 abbrev pub wants_of : (list : List ℕ) → Option (List Want)
 wants_of list = each_want (slice_split (λ b. b == 44) list)
 
+-- the one monitor of a list of one
+abbrev pub sole : List Want → Option Want
+sole [] = None
+sole (want ∷ []) = Some want
+sole (want ∷ second ∷ more) = None
+
 -- no monitor is wanted where there is no list
 abbrev pub listed : Option (List ℕ) → Option (List Want)
 listed None = Some []

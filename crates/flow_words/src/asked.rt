@@ -16,6 +16,7 @@ pub enum CommandWord {
     Run,
     Exec,
     Bench,
+    Shrink,
 }
 
 /// What a command line asks for.
@@ -33,6 +34,8 @@ pub enum Asked<'a> {
     Exec(RunWords<'a>),
     /// The summary of a run of the program with so many clients, 1 to 10,000, in the world of this seed.
     Bench(u32, u64),
+    /// The world of a file with as little of its script as a monitor still stops the program of a file at.
+    Shrink(ShrinkWords<'a>),
 }
 
 /// A run that is asked for: the files of what is run and of its world, whether frames are told after each event, and the
@@ -43,6 +46,14 @@ pub struct RunWords<'a> {
     pub world: &'a str,
     pub frames: bool,
     pub wanted: Vec<Want>,
+}
+
+/// A world that is to be made smaller: the files of the program and of the world, and the monitor, with its limit.
+#[derive(Drop)]
+pub struct ShrinkWords<'a> {
+    pub program: &'a str,
+    pub world: &'a str,
+    pub want: Want,
 }
 
 /// Why words can't be read: they ask for nothing that there is, or there was no memory.

@@ -3,7 +3,7 @@
 ghost use Rattle.std.specs.Prelude.{◌≡◌, ◌⊎◌, [], true, false, codes, map, IfOk, string_bytes, option_map};
 ghost use Rattle.clap.specs.Words.{app_of, rule_of, found_of, rows_of, is_simple_and_free, with_rule, first_of};
 ghost use Rattle.flow_words.specs.Apps as spec;
-ghost use Rattle.flow_words.specs.Apps.{one_text_app, two_texts_app, run_app, matched, first_text, second_text, monitor_text, has_frames, is_true};
+ghost use Rattle.flow_words.specs.Apps.{one_text_app, two_texts_app, run_app, shrink_app, matched, first_text, second_text, monitor_text, has_frames, is_true};
 ghost use Rattle.flow_words.specs.Asked.{Reads};
 
 use crate::asked::WordsFault;
@@ -65,6 +65,13 @@ pub fn run_command<'a>(alloc: Global) -> Result<Command<'a>, AllocError>
 {
     let framed = two_texts(alloc)?.arg(flag(alloc, "frames"))?;
     framed.arg(option_text(alloc, "monitor"))
+}
+
+/// A command with two texts and `--monitor LIST`.
+pub fn shrink_command<'a>(alloc: Global) -> Result<Command<'a>, AllocError>
+    ensures { IfOk result (λ c. app_of c ≡ shrink_app) }
+{
+    two_texts(alloc)?.arg(option_text(alloc, "monitor"))
 }
 
 /// What clap reads of the words by a simple command.

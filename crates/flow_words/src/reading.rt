@@ -2,12 +2,13 @@
 
 ghost use Rattle.std.specs.Prelude.{◌≡◌, map, string_bytes, option_map, Some};
 ghost use Rattle.clap.specs.Words.{found_of, rows_of};
-ghost use Rattle.flow_words.specs.Asked.{Reads, asked, request_of, run_request, command_of, program_of, run_of, run_by, bench_of, bench_by, asked_by};
-ghost use Rattle.flow_words.specs.Wants.{listed};
+ghost use Rattle.flow_words.specs.Asked.{Reads, asked, request_of, run_request, command_of, program_of, run_of, run_by, bench_of, bench_by, shrink_of, shrink_by, asked_by};
+ghost use Rattle.flow_words.specs.Wants.{listed, sole};
 
-use crate::asked::{Asked, CommandWord, RunWords, WordsFault};
+use crate::asked::{Asked, CommandWord, RunWords, ShrinkWords, WordsFault};
 use crate::matching::{
-    first_text, has_frames, matches, monitor_text, one_text, run_command, second_text, two_texts,
+    first_text, has_frames, matches, monitor_text, one_text, run_command, second_text,
+    shrink_command, two_texts,
 };
 use crate::number::number_within;
 use crate::wanting::read_wants;
@@ -36,6 +37,9 @@ fn command_of(word: &str) -> Option<CommandWord>
     }
     if word == "bench" {
         return Some(CommandWord::Bench);
+    }
+    if word == "shrink" {
+        return Some(CommandWord::Shrink);
     }
     None
 }
@@ -115,6 +119,48 @@ fn bench_of<'a>(alloc: Global, words: &'a [String]) -> Result<Asked<'a>, WordsFa
     bench_by(&found)
 }
 
+// The one monitor of a list of one.
+fn sole(wanted: Vec<Want>) -> Result<Want, WordsFault>
+    ensures { Reads (λ want. want) (sole wanted.items) result }
+{
+    let mut wanted = wanted;
+    let Some(want) = wanted.pop() else {
+        return Err(WordsFault::Usage);
+    };
+    if wanted.is_empty() {
+        Ok(want)
+    } else {
+        Err(WordsFault::Usage)
+    }
+}
+
+// The world and the monitor that the matches ask for.
+fn shrink_by<'a>(alloc: Global, found: &ArgMatches<'a>) -> Result<Asked<'a>, WordsFault>
+    ensures { Reads request_of (shrink_by (rows_of (found_of found.now))) result }
+{
+    let Some(program) = first_text(found) else {
+        return Err(WordsFault::Usage);
+    };
+    let Some(world) = second_text(found) else {
+        return Err(WordsFault::Usage);
+    };
+    let wanted = listed(alloc, monitor_text(found))?;
+    let want = sole(wanted)?;
+    Ok(Asked::Shrink(ShrinkWords {
+        program,
+        world,
+        want,
+    }))
+}
+
+// The words are a program's file, a world's and a monitor.
+fn shrink_of<'a>(alloc: Global, words: &'a [String]) -> Result<Asked<'a>, WordsFault>
+    ensures { Reads request_of (shrink_of (map string_bytes words.entry.now)) result }
+{
+    let found = matches(shrink_command(alloc)?, words)?;
+    shrink_by(alloc, &found)
+}
+
 // What a command asks for with the words behind it.
 fn asked_by<'a>(
     alloc: Global,
@@ -130,6 +176,7 @@ fn asked_by<'a>(
         CommandWord::Run => Ok(Asked::Run(run_of(alloc, words)?)),
         CommandWord::Exec => Ok(Asked::Exec(run_of(alloc, words)?)),
         CommandWord::Bench => bench_of(alloc, words),
+        CommandWord::Shrink => shrink_of(alloc, words),
     }
 }
 

@@ -6,7 +6,7 @@ use Rattle.flow_shrink.proofs.Passing.{no_pass, one_pass, last_pass, none_left, 
 use Rattle.flow_shrink.proofs.shrinking.take_all.Goals as goal
 
 pub loop-pass-init : goal.loop-pass-init
-loop-pass-init g c = (no_pass _ (seen c.args.world.now) c.requires.stops, c.requires.range, refl, omega arith, refl)
+loop-pass-init g c = (no_pass _ (seen c.args.world.now) c.requires.stops, c.requires.range, refl, omega arith, refl, c.requires.ready)
 
 pub returns-then-len-before-clause-least : goal.returns-then-len-before-clause-least
 returns-then-len-before-clause-least g c =
@@ -35,7 +35,8 @@ loop-pass-preserved g c =
       c.in_ok-monitor.ensures.range,
       c.in_ok-monitor.ensures.begun ∙ was.2,
       one_more _ _ _ c.loop-pass._pass _ _ was.3 c.take_each.ensures.counted few,
-      c.take_each.ensures.kept ∙ was.4,
+      c.in_ok-monitor.ensures.kept ∙ was.4,
+      c.in_ok-monitor.ensures.ready,
     )
 
 pub returns-clause-least : goal.returns-clause-least

@@ -13,3 +13,4 @@ invariant-loop-pass g l =
     ≡ (goal.Monitor-dyn g (l.fn.monitor.vtable, l.fn.monitor.value)).begun l.fn.monitor.value)
     × (g.R.Runner.count l.runner ≤ g.R.Runner.count l.fn.runner + l._pass * length (seen l.fn.world).script)
     × (g.R.Runner.kept l.runner ≡ g.R.Runner.kept l.fn.runner)
+    × g.R.Runner.ready l.runner

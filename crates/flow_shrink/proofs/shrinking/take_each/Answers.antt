@@ -8,7 +8,7 @@ use Rattle.flow_shrink.proofs.shrinking.take_each.Goals as goal
 pub loop-place-init : goal.loop-place-init
 loop-place-init g c =
     let all : c.len-place.result ≡ length (seen c.args.world.now).script = c.len-place.ensures ∙ sym (script_length c.args.world.now) in
-    (none_tried _ (seen c.args.world.now) c.len-place.result all c.requires.stops, c.requires.range, refl, omega (arith, all), refl)
+    (none_tried _ (seen c.args.world.now) c.len-place.result all c.requires.stops, c.requires.range, refl, omega (arith, all), refl, c.requires.ready)
 
 pub loop-place-preserved : goal.loop-place-preserved
 loop-place-preserved g c =
@@ -21,7 +21,8 @@ loop-place-preserved g c =
       c.in_ok-monitor.ensures.range,
       c.in_ok-monitor.ensures.begun ∙ was.2,
       (let rose = rises (g.R.Runner.count c.loop-place.runner) in omega (arith, c.take_out.ensures.counted, rose, was.3, place)),
-      c.take_out.ensures.kept ∙ was.4,
+      c.in_ok-monitor.ensures.kept ∙ was.4,
+      c.in_ok-monitor.ensures.ready,
     )
 
 pub returns-clause-tried : goal.returns-clause-tried

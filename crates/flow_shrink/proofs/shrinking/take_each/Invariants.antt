@@ -12,6 +12,7 @@ invariant-loop-place g l =
     ≡ (goal.Monitor-dyn g (l.fn.monitor.vtable, l.fn.monitor.value)).begun l.fn.monitor.value)
     × (g.R.Runner.count l.runner + l.place ≤ g.R.Runner.count l.fn.runner + length (seen l.fn.world).script)
     × (g.R.Runner.kept l.runner ≡ g.R.Runner.kept l.fn.runner)
+    × g.R.Runner.ready l.runner
 
 abbrev pub decreases-loop-place : goal.decreases-loop-place
 decreases-loop-place g l = l.place

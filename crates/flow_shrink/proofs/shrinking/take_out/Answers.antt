@@ -5,8 +5,8 @@ use Rattle.flow_shrink.proofs.Removing.{range_taken, taken, put_back}
 use Rattle.flow_shrink.proofs.Passing.{not_both}
 use Rattle.flow_shrink.proofs.shrinking.take_out.Goals as goal
 
-pub is_stopped-requires : goal.is_stopped-requires
-is_stopped-requires g c =
+pub is_stopped-requires-clause-range : goal.is_stopped-requires-clause-range
+is_stopped-requires-clause-range g c =
     range_taken c.args.world.now c.remove-line.new.self c.args.place c.remove-line.ensures.items c.requires.within c.requires.range
 
 pub returns-then-stopped-clause-tried : goal.returns-then-stopped-clause-tried

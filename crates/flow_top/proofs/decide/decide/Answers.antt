@@ -1,7 +1,7 @@
 use Rattle.std.proofs.Common.{sym, refl}
 use Rattle.flow_words.specs.Asked.{request_of}
 use Rattle.flow_top.specs.Sources.{source_of}
-use Rattle.flow_top.proofs.Deciding.{without_text, text_at, run_at, world_at, had, stopped, run_by, without_world, no_run, ran, may_run}
+use Rattle.flow_top.proofs.Deciding.{without_text, text_at, run_at, world_at, had, stopped, run_by, without_world, no_run, ran, may_run, told_for, is_run_for}
 use Rattle.flow_top.proofs.decide.decide.Goals as goal
 
 pub returns-in-Err-clause-decided : goal.returns-in-Err-clause-decided
@@ -33,3 +33,18 @@ returns-clause-decided g c =
     no_run (request_of c.args.asked.now) _ _ _ c.in-Ok.text.items _ _ (source_of c.in-Some.source) (had (text_at c.first_source.ensures c.in-Ok.ensures.read))
     (run_by (run_at c.deref.ensures.value c.in-Ok-judge.ensures)) (sym c.in-Some.ensures) c.read_text.ensures.content c.in-Ok-read_text.text.items
     (had c.in-Ok-read_text.ensures.read) c.in-Err-world_of.told (world_at c.deref-2.ensures.value c.in-Err-world_of.ensures.answered)
+
+pub returns-in-Err-clause-fits : goal.returns-in-Err-clause-fits
+returns-in-Err-clause-fits g c = told_for (request_of c.args.asked.now) c.in-Err.told
+
+pub returns-in-Err-judge-clause-fits : goal.returns-in-Err-judge-clause-fits
+returns-in-Err-judge-clause-fits g c = told_for (request_of c.args.asked.now) c.in-Err-judge.told
+
+pub returns-in-Err-read_text-clause-fits : goal.returns-in-Err-read_text-clause-fits
+returns-in-Err-read_text-clause-fits g c = told_for (request_of c.args.asked.now) c.in-Err-read_text.told
+
+pub returns-in-Ok-world_of-clause-fits : goal.returns-in-Ok-world_of-clause-fits
+returns-in-Ok-world_of-clause-fits g c = is_run_for (request_of c.args.asked.now) _ c.run_for.result c.run_for.ensures
+
+pub returns-clause-fits : goal.returns-clause-fits
+returns-clause-fits g c = told_for (request_of c.args.asked.now) c.in-Err-world_of.told

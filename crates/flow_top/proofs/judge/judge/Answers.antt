@@ -1,7 +1,7 @@
 use Rattle.std.proofs.Common.{Err, subst, sym}
 use Rattle.flow_words.specs.Asked.{request_of}
 use Rattle.flow_top.specs.Steps.{RunsTo}
-use Rattle.flow_top.proofs.Deciding.{ended, program_runs, generated_runs}
+use Rattle.flow_top.proofs.Deciding.{ended, program_runs}
 use Rattle.flow_top.proofs.judge.judge.Goals as goal
 
 pub returns-in-Format : goal.returns-in-Format
@@ -18,9 +18,15 @@ returns-in-Compile c =
 
 pub returns-in-Run : goal.returns-in-Run
 returns-in-Run c =
-    subst (λ a. RunsTo c.args.text.now (request_of a) c.program.result) (sym c.in-Run.is) (program_runs c.args.text.now _ c.program.result c.program.ensures)
+    subst (λ a. RunsTo c.args.text.now (request_of a) c.program.result) (sym c.in-Run.is)
+    (program_runs c.args.text.now _ c.program.result tt (λ p. tt) c.program.ensures)
 
 pub returns-in-Bench : goal.returns-in-Bench
 returns-in-Bench c =
     subst (λ a. RunsTo c.args.text.now (request_of a) c.program-in-Bench.result) (sym c.in-Bench.is)
-    (generated_runs c.args.text.now _ _ c.program-in-Bench.result c.program-in-Bench.ensures)
+    (program_runs c.args.text.now _ c.program-in-Bench.result tt (λ p. tt) c.program-in-Bench.ensures)
+
+pub returns-in-Shrink : goal.returns-in-Shrink
+returns-in-Shrink c =
+    subst (λ a. RunsTo c.args.text.now (request_of a) c.program-in-Shrink.result) (sym c.in-Shrink.is)
+    (program_runs c.args.text.now _ c.program-in-Shrink.result tt (λ p. tt) c.program-in-Shrink.ensures)
