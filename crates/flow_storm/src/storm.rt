@@ -83,12 +83,7 @@ pub fn has_room(world: &World0, storm: Storm) -> bool
 
 /// Gives a world this seed, and puts the faults of its storm behind the script. With one fault more the script only grows at
 /// its end.
-pub fn add_storm(
-    alloc: Global,
-    world: &mut World0,
-    seed: u64,
-    storm: Storm,
-) -> Result<(), NoMemory>
+pub fn add_storm(alloc: Global, world: &mut World0, seed: u64, storm: Storm) -> Result<(), NoMemory>
     requires range { IsInRange (seen world.old) }
     requires horizon { storm.horizon ≤ 1000000000 }
     requires room { length world.old.script.items + 2 * storm.faults ≤ most_orders }

@@ -36,7 +36,11 @@ fn fault_of(kind: u32, processes: u8) -> Fault
         return Fault::Crash;
     }
     if kind < 6 {
-        return if processes == 1 { Fault::Crash } else { Fault::CutOff };
+        return if processes == 1 {
+            Fault::Crash
+        } else {
+            Fault::CutOff
+        };
     }
     if kind == 6 {
         return Fault::Stop;
