@@ -1,0 +1,9 @@
+use Rattle.std.proofs.Common.{◌≡◌, ◌≤◌, ◌*◌, ◌-◌, ◌^◌, take}
+use Rattle.std.specs.List.{sum}
+use Rattle.flow_lab_monitors.proofs.counts.total.Given as goal
+
+abbrev pub invariant-loop-count : goal.invariant-loop-count
+invariant-loop-count l = record {
+  is : l.total ≡ sum (take l.count-index l.counts);
+  bound : l.total ≤ (2 ^ 64 - 1) * l.count-index;
+}
