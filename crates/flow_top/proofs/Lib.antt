@@ -4,6 +4,7 @@ pub mod Reading
 pub mod Deciding
 pub mod Counted
 pub mod Stopping
+pub mod Silence
 pub mod Staging
 pub mod Reporting
 pub mod Missing

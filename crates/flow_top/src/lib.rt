@@ -3,10 +3,10 @@
 
 mod asking;
 mod counting;
+mod deaf;
 mod decide;
 mod judge;
 pub mod laws;
-mod nobody;
 mod outcome;
 mod report;
 mod source;

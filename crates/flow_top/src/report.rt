@@ -17,7 +17,6 @@ ghost use Rattle.flow_shrink.specs.Shrinking.{Shrinks};
 ghost use Rattle.flow_worldfile.specs.Worlds.{seen};
 
 use crate::counting::Counts;
-use crate::nobody::Nobody;
 use crate::outcome::{Answered, BenchRun, Outcome, ProgramRun};
 use crate::stage::Stage;
 use crate::summary::summary;
@@ -28,7 +27,7 @@ use flow_base::sink::Sink;
 use flow_classprint::write_classes;
 use flow_classread::fault::ClassFault;
 use flow_machine::host::RunFault;
-use flow_monitor::{Audience, Monitor};
+use flow_monitor::{Audience, Monitor, Panel};
 use flow_refusal::{class_line, class_status, refusal_line, refusal_status, world_line};
 use flow_show::show::{show_lines, write_lines};
 use flow_shrink::{Shrunk, copied, shrink};
@@ -249,7 +248,7 @@ fn count_run(alloc: Global, run: ProgramRun) -> Result<(Ending, Counts), NoMemor
         world,
         frames,
     } = run;
-    let mut nobody = Nobody;
+    let mut nobody = Panel::empty(alloc);
     let mut counts = Counts::new();
     match put_trace(alloc, classes, world, frames, &mut nobody, &mut counts) {
         Ok(ending) => Ok((own_ending(ending), counts)),

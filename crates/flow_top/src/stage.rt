@@ -14,7 +14,7 @@ ghost use Rattle.flow_top.specs.Outcomes.{ShownIn};
 ghost use Rattle.flow_top.specs.Staging.{standing, HearsLine, HeardEvents, HeardRun, IsReady};
 
 use crate::counting::is_event;
-use crate::nobody::Nobody;
+use crate::deaf::Deaf;
 use crate::outcome::Meant;
 use flow_base::fault::OutFault;
 use flow_base::memory::NoMemory;
@@ -197,7 +197,7 @@ fn hear_run(
         monitor,
         progress: Progress::Hears,
     };
-    let mut nobody = Nobody;
+    let mut nobody = Deaf::Nobody;
     match hear_all(world, &mut nobody, &mut lines) {
         Ok(()) => Ok((lines.is_stopped(), lines.monitor)),
         Err(_) => Err(NoMemory),
