@@ -123,12 +123,12 @@ module _ (p : ProgramTree) (r : RawTree) (h : AreCarried p r) (differ : AreDisti
       let x = found all a.rest state.0 (s.1 m.class t.actor t.there k.code) (group ∙ state.1) in
       let waits : slice_get (places_of_waits p.decls) m.class ≡ Some all = slice_get-map waits_in (actors_in p.decls) m.class ∙ ap (option_map waits_in) t.there in
       let wait : wait_of (slice_get (places_of_waits p.decls) m.class) m.state ≡ Some x.at =
-        ap₂ wait_of waits (sym group) ∙ x.wait in
+      ap₂ wait_of waits (sym group) ∙ x.wait in
       let part = actor_part notes (i, m) in
       let names = name_same m.class t.actor f.code t.there t.same ∙ ap (source p).label (sym class) in
       let cells = ap (map cell_held) k.callbacks ∙ cells_same (wait_spot f).first e.operands in
       let variables = ap (variables_told f.code.slots) k.places ∙ variables_same f.code.slots f.mem.slots f.mem.locals k.slots
-        ∙ ap (λ vs. filled_variables vs.states) (sym s.0.vars) in
+      ∙ ap (λ vs. filled_variables vs.states) (sym s.0.vars) in
       ap₂ (λ c o. if_told (told_by process part c o)) k.code wait
       ∙ one f.code.name ((source p).label e.class) m.state (actor_spot a).group x.at (map cell_held m.callbacks) (map cell_of e.operands)
       (variables_told f.code.slots (map place_of m.places)) (filled_variables a.vars.states) names (sym group) cells variables

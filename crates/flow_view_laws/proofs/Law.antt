@@ -58,7 +58,7 @@ module _ {A : Type 0} (puts : A → Line → Result (Unit {0}) OutFault → A �
       let beside = state_beside R v.ran other.0 x.states x.state other.2 x.after_as_many in
       let out = beside.2.0 in
       let told = world_told t r (carry text program sound) (differ text program sound) (simple text program sound) x.state.out.file.processes v.places x.state beside.0
-        (subst (λ z. Rattle.flow_world_refinement.specs.Order.Showing.PlacesRepresent (Rattle.flow_restore_laws.specs.Rest.Boundary.IsAtRest z) x.state.out.file.processes 0 v.places x.state.places) has x.shows.places) beside.2 in
+      (subst (λ z. Rattle.flow_world_refinement.specs.Order.Showing.PlacesRepresent (Rattle.flow_restore_laws.specs.Rest.Boundary.IsAtRest z) x.state.out.file.processes 0 v.places x.state.places) has x.shows.places) beside.2 in
       record {
         states = other.0;
         lines = x.run.0;

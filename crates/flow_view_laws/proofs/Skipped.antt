@@ -160,7 +160,7 @@ module _ (text : List ℕ) (program : Program) (c : RawClasses) (file : World0) 
       let ran : u.ran ≡ many = omega (arith, s.counted, starts.ran) in
       let over = ended u v _ _ _ e s.runs does x in
       subst (λ z. (Rattle.flow_view_laws.specs.Skipped.SkippedRise None z)
-          × IsView t (seen file) most (world_view (places_of_waits t.decls) z) 0) (sym same)
+      × IsView t (seen file) most (world_view (places_of_waits t.decls) z) 0) (sym same)
       ((counted u _ _ s.runs, x.rise), view_at u x (runs_them u _ _ s.runs) most (λ z. other (one_last (end_line e) line.EndSpent x.lines over.1 z.1)) (omega (arith, over.0, ran, few)))
 
 not_spent_idle : line.EndIdle ≡ line.EndSpent → ⊥
