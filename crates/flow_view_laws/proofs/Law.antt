@@ -1,6 +1,6 @@
 -- Event after event memory tells the view of the state of the text.
-use Rattle.std.proofs.Common.{◌≡◌, Bool, List, refl, sym, ap, subst, ◌∙◌}
-use Rattle.std.specs.Prelude.{slice_get, Result}
+use Rattle.std.proofs.Common.{List, sym, ap, subst, ◌∙◌}
+use Rattle.std.specs.Prelude.{Result}
 use Rattle.flow_base.specs.declared.fault.OutFault.{OutFault}
 use Rattle.flow_tree.specs.declared.decl.Program.{Program}
 use Rattle.flow_tree.specs.DeclView.{program_of}
@@ -19,15 +19,11 @@ use Rattle.flow_determinism.proofs.Whole.{compiles_whole}
 use Rattle.flow_meaning.specs.Class.{classes}
 use Rattle.flow_meaning.specs.Runs.{IsRun}
 use Rattle.flow_meaning.specs.Source.{source}
-use Rattle.flow_meaning.specs.World.{World}
-use Rattle.flow_meaning.specs.Frame.{Frame}
 use Rattle.flow_meaning.proofs.LiftRuns.{traces_return}
 use Rattle.flow_restore_laws.proofs.Rest.Worlds.{programs_rest}
 use Rattle.flow_debug.specs.Told.{places_of_waits}
-use Rattle.flow_debug.specs.SourceView.{SourceView}
-use Rattle.flow_world.specs.Ending.{Seen}
 use Rattle.flow_view_laws.specs.Told.{places_told}
-use Rattle.flow_view_laws.specs.Viewed.{IsViewed, ProgramsViewed}
+use Rattle.flow_view_laws.specs.Viewed.{ProgramsViewed}
 use Rattle.flow_view_laws.proofs.Tied.{Stands, tied}
 use Rattle.flow_view_laws.proofs.Names.{AreDistinct, valid_distinct}
 use Rattle.flow_view_laws.proofs.Worlds.{world_told, all_rise, state_beside}
