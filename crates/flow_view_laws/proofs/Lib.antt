@@ -1,0 +1,4 @@
+mod Parts
+mod Within
+mod Codes
+mod Standing

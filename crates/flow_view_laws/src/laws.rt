@@ -1,0 +1,1 @@
+// What is told of actors between events.
