@@ -93,7 +93,7 @@ fn left(alloc: Global, trial: &mut Trial, limit: u64, text: &[u8]) -> Result<Vec
     let Ok(world) = read_world(alloc, text) else {
         return Err(Fail::from("no world"));
     };
-    match shrink(world, monitor, limit, trial)? {
+    match shrink(alloc, world, monitor, limit, trial)? {
         Shrunk::Least(world) => Ok(print_world(alloc, &world)?),
         Shrunk::NotStopped => Ok(Vec::new(alloc)),
     }

@@ -1,34 +1,23 @@
 -- Lists without an item, and worlds without a line.
-use Rattle.std.proofs.Common.{◌≡◌, ℕ, zero, suc, ◌+◌, ◌-◌, ◌^◌, ◌<◌, ◌≤◌, Bool, true, false, nat_lt, List, [], ◌∷◌, map, length, get_or, insert, remove, if◌then◌else◌, refl, sym, ap, ◌∙◌, arith, subst}
+use Rattle.std.proofs.Common.{◌≡◌, ℕ, zero, suc, ◌+◌, ◌-◌, ◌^◌, ◌<◌, ◌≤◌, Bool, true, false, nat_lt, List, [], ◌∷◌, map, length, remove, if◌then◌else◌, refl, sym, ap, ◌∙◌, arith, subst}
 use Rattle.std.specs.List.{AllByRecursion}
 use Rattle.std.specs.declared.vec.Vec.{Vec}
 use Rattle.std.specs.declared.alloc.Global.{Global}
 use Rattle.std.proofs.lemmas.List.{length-map}
+use Rattle.std.proofs.lemmas.List.Edits.{length-remove}
 use Rattle.flow_base.specs.Faults.{next_count}
 use Rattle.flow_worldfile.specs.declared.world.World0.{World0}
 use Rattle.flow_worldfile.specs.declared.world.At.{At}
 use Rattle.flow_worldfile.specs.Directives.{InRange, Names}
 use Rattle.flow_worldfile.specs.Worlds.{World, IsInRange, seen, timed, at_line}
-use Rattle.flow_shrink.specs.Shrinking.{without, Among, none, goes, stays}
+use Rattle.flow_shrink.specs.Shrinking.{without, Among, none, goes, stays, IsLeast}
+use Rattle.flow_shrink.specs.Editing.{line_goes, Leads, itself, edits, IsLeastBy}
 
 pub map_remove : {X Y : Type 0} (f : X → Y) (xs : List X) (k : ℕ) → map f (remove xs k) ≡ remove (map f xs) k
 map_remove f [] zero = refl
 map_remove f [] (suc k) = refl
 map_remove f (x ∷ xs) zero = refl
 map_remove f (x ∷ xs) (suc k) = ap (λ l. f x ∷ l) (map_remove f xs k)
-
-pub insert_removed : {X : Type 0} (xs : List X) (k : ℕ) (x : X) → k < length xs → x ≡ get_or xs k x → insert (remove xs k) k x ≡ xs
-insert_removed [] k x lt is = absurd (omega arith)
-insert_removed (y ∷ ys) zero x lt is = ap (λ z. z ∷ ys) is
-insert_removed (y ∷ ys) (suc k) x lt is = ap (λ l. y ∷ l) (insert_removed ys k x (omega arith) is)
-
-pub length_remove : {X : Type 0} (xs : List X) (k : ℕ) → k < length xs → length (remove xs k) + 1 ≡ length xs
-length_remove [] k lt = absurd (omega arith)
-length_remove (x ∷ xs) zero lt = omega arith
-length_remove (x ∷ xs) (suc k) lt =
-    let less = length_remove xs k (omega arith) in
-    let same : length (remove (x ∷ xs) (suc k)) ≡ suc (length (remove xs k)) = refl in
-    omega (arith, less, same)
 
 all_remove : {X : Type 0} (P : X → Type 0) (xs : List X) (k : ℕ) → AllByRecursion P xs → AllByRecursion P (remove xs k)
 all_remove P [] zero h = tt
@@ -60,7 +49,7 @@ among_short (stays h) = let le = among_short h in omega (arith, le)
 -- a world in range stays so without a line
 pub in_range_without : (w : World) (k : ℕ) → k < length w.script → IsInRange w → IsInRange (without k w)
 in_range_without w k lt r =
-    let less = length_remove w.script k lt in
+    let less = length-remove w.script k lt in
     record {
       seed = r.seed;
       words = r.words;
@@ -75,23 +64,19 @@ in_range_without w k lt r =
       script_short = omega (arith, less, r.script_short);
     }
 
--- a world from whose script a line was taken, and one to which it was given back
-pub taken : (w : World0) (v : Vec At Global) (k : ℕ) → v.items ≡ remove w.script.items k → seen (record w { script = v }) ≡ without k (seen w)
-taken w v k is = ap (λ s. record (seen w) { script = s }) (ap (map timed) is ∙ map_remove timed w.script.items k)
+-- a copy of a world from whose script a line was taken
+pub taken : (w : World) (copy : World0) (v : Vec At Global) (k : ℕ) → seen copy ≡ w → v.items ≡ remove copy.script.items k
+    → seen (record copy { script = v }) ≡ without k w
+taken w copy v k same is =
+    ap (λ s. record (seen copy) { script = s }) (ap (map timed) is ∙ map_remove timed copy.script.items k) ∙ ap (without k) same
 
-pub range_taken : (w : World0) (v : Vec At Global) (k : ℕ) → v.items ≡ remove w.script.items k → k < length (seen w).script → IsInRange (seen w)
-    → IsInRange (seen (record w { script = v }))
-range_taken w v k is lt r = subst IsInRange (sym (taken w v k is)) (in_range_without (seen w) k lt r)
+pub range_taken : (w : World) (copy : World0) (v : Vec At Global) (k : ℕ) → seen copy ≡ w → v.items ≡ remove copy.script.items k → k < length w.script
+    → IsInRange w → IsInRange (seen (record copy { script = v }))
+range_taken w copy v k same is lt r = subst IsInRange (sym (taken w copy v k same is)) (in_range_without w k lt r)
 
 -- how long the script is, as the code reads it
 pub script_length : (w : World0) → length (seen w).script ≡ w.script.len
 script_length w = length-map w.script.items timed ∙ sym w.script.ok.0
-
-pub put_back : (w : World0) (v : Vec At Global) (k : ℕ) (x : At) → k < length (seen w).script → x ≡ get_or w.script.items k x
-    → v.items ≡ insert (remove w.script.items k) k x → seen (record w { script = v }) ≡ seen w
-put_back w v k x lt was is =
-    let lt' : k < length w.script.items = omega (arith, lt, length-map w.script.items timed) in
-    ap (λ s. record (seen w) { script = map timed s }) (is ∙ insert_removed w.script.items k x lt' was)
 
 -- a count rises by one at most
 rises_by : (n : ℕ) (b : Bool) → (if b then n + 1 else n) ≤ n + 1
@@ -100,3 +85,20 @@ rises_by n false = omega arith
 
 pub rises : (n : ℕ) → next_count n ≤ n + 1
 rises n = rises_by n (nat_lt n (2 ^ 64 - 1))
+
+kept_by : (n : ℕ) (b : Bool) → n ≤ (if b then n + 1 else n)
+kept_by n true = omega arith
+kept_by n false = omega arith
+
+pub never_falls : (n : ℕ) → n ≤ next_count n
+never_falls n = kept_by n (nat_lt n (2 ^ 64 - 1))
+
+-- lines that went leave a script with some of its lines, and nothing else changes
+pub lines_went : (first now : World) → Leads line_goes first now → (now ≡ record first { script = now.script }) × Among now.script first.script
+lines_went first _ itself = (refl, among_itself first.script)
+lines_went first _ (edits {w} k within led) =
+    let was = lines_went first w led in (ap (without k) was.0, among_then (among_remove w.script k) was.1)
+
+pub least_lines : (S : World → Type 0) (first least : World) → IsLeastBy line_goes S first least → IsLeast S first least
+least_lines S first least l =
+    let went = lines_went first least l.leads in record { same = went.0; fewer = went.1; stops = l.stops; each = l.each }

@@ -68,20 +68,6 @@ pub record IsLeast (IsStopped : World → Type 0) (first least : World) : Type 0
   pub stops : IsStopped least
   pub each : (k : ℕ) → k < length least.script → IsStopped (without k least) → ⊥
 
--- What trying to take a line out of a world comes to: it goes where the world stops without it, and else the world stays.
-pub data Tried (IsStopped : World → Type 0) (k : ℕ) (old new : World) : Type 0 where
-  went : new ≡ without k old → IsStopped new → Tried IsStopped k old new
-  needed : new ≡ old → (IsStopped (without k old) → ⊥) → Tried IsStopped k old new
-
--- Some lines of a world went, and it still stops. Where none did, each line from a place on was found to be needed.
-pub record TriedFrom (IsStopped : World → Type 0) (k : ℕ) (first now : World) : Type 0 where
-  pub same : now ≡ record first { script = now.script }
-  pub fewer : Among now.script first.script
-  pub stops : IsStopped now
-  pub left : k ≤ length now.script
-  pub needed : length now.script ≡ length first.script
-      → (now ≡ first) × ((j : ℕ) → k ≤ j → j < length first.script → IsStopped (without j first) → ⊥)
-
 -- what shrinking a world comes to
 abbrev pub Shrinks : (IsStopped : World → Type 0) → (first : World) → Shrunk → Type 0
 Shrinks IsStopped first (Least w) = IsLeast IsStopped first (seen w)

@@ -18,7 +18,7 @@ ghost use Rattle.flow_worldfile.specs.Worlds.{seen};
 
 use crate::counting::Counts;
 use crate::outcome::{Answered, BenchRun, Outcome, ProgramRun};
-use crate::stage::{Stage, copied};
+use crate::stage::Stage;
 use crate::summary::summary;
 use flow_base::fault::OutFault;
 use flow_base::memory::NoMemory;
@@ -30,7 +30,7 @@ use flow_machine::host::RunFault;
 use flow_monitor::{Audience, Monitor, Panel};
 use flow_refusal::{class_line, class_status, refusal_line, refusal_status, world_line};
 use flow_show::show::{show_lines, write_lines};
-use flow_shrink::{Shrunk, shrink};
+use flow_shrink::{Shrunk, copied, shrink};
 use flow_tree::fault::SourceFault;
 use flow_world::trace::put_trace;
 use flow_world::{Ending, RunEnding, World, write_trace};
@@ -310,7 +310,7 @@ fn shrink_run(
         world: World::start(alloc, classes, first)?,
         runs: 0,
     };
-    shrink(world, monitor, limit, &mut stage)
+    shrink(alloc, world, monitor, limit, &mut stage)
 }
 
 // The text of what making a world smaller came to.

@@ -20,7 +20,7 @@ use flow_base::memory::NoMemory;
 use flow_machine::host::RunFault;
 use flow_monitor::heard::is_heard;
 use flow_monitor::{Audience, Heard, Monitor, Panel};
-use flow_shrink::Runner;
+use flow_shrink::{Runner, copied};
 use flow_trace::line::Line;
 use flow_trace::out::LineOut;
 use flow_world::{Ending, Event, World};
@@ -123,23 +123,6 @@ impl LineOut for Listening {
     fn faults(&self) -> u64 {
         0
     }
-}
-
-/// A copy of a world file.
-pub fn copied(alloc: Global, world: &World0) -> Result<World0, NoMemory>
-    ensures { IfOk result (λ copy. seen copy ≡ seen world.now) }
-{
-    Ok(World0 {
-        seed: world.seed,
-        words: world.words.to_vec(alloc)?,
-        processes: world.processes,
-        events: world.events,
-        turns: world.turns,
-        latency: world.latency,
-        loss: world.loss,
-        diskdelay: world.diskdelay,
-        script: world.script.to_vec(alloc)?,
-    })
 }
 
 // Runs events up to the end of the run, or to one that comes after a Stop in an event that wasn't spent. Nobody else hears them.

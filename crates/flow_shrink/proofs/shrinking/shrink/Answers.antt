@@ -1,9 +1,7 @@
+use Rattle.std.proofs.lemmas.Result.{IfOk-weaker}
 use Rattle.flow_worldfile.specs.Worlds.{seen}
-use Rattle.flow_shrink.specs.Shrinking.{IsLeast}
-use Rattle.flow_shrink.proofs.Passing.{moved}
+use Rattle.flow_shrink.proofs.Passing.{shrinks_lines}
 use Rattle.flow_shrink.proofs.shrinking.shrink.Goals as goal
 
 pub returns-clause-shrinks : goal.returns-clause-shrinks
-returns-clause-shrinks g c =
-    moved g.R.Runner.means _ _ _ _ c.args.limit (λ S. IsLeast S (seen c.args.world) (seen c.take_all.new.world))
-    c.in_ok-stopped.ensures.kept c.in_ok-stopped.ensures.begun c.in_ok-take_all.ensures.least
+returns-clause-shrinks g c = IfOk-weaker c.shrink_by.result _ _ (λ x h. shrinks_lines _ (seen c.args.world) x h) c.shrink_by.ensures.shrinks

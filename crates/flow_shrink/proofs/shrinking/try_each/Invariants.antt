@@ -1,16 +1,18 @@
-use Rattle.std.proofs.Common.{◌≡◌, ◌≤◌, ◌+◌, length}
+use Rattle.std.proofs.Common.{◌≡◌, ◌≤◌, ◌+◌}
 use Rattle.flow_worldfile.specs.Worlds.{IsInRange, seen}
-use Rattle.flow_shrink.specs.Shrinking.{Stops, TriedFrom}
-use Rattle.flow_shrink.proofs.shrinking.take_each.Given as goal
+use Rattle.flow_shrink.specs.Shrinking.{Stops}
+use Rattle.flow_shrink.specs.Editing.{TriedFrom}
+use Rattle.flow_shrink.proofs.shrinking.try_each.Given as goal
 
 abbrev pub invariant-loop-place : goal.invariant-loop-place
 invariant-loop-place g l =
-    TriedFrom (λ w. Stops (g.R.Runner.means (g.R.Runner.kept l.fn.runner) w) ((goal.Monitor-dyn g (l.fn.monitor.vtable, l.fn.monitor.value)).begun l.fn.monitor.value l.limit))
+    TriedFrom g.E.Edits.edit
+    (λ w. Stops (g.R.Runner.means (g.R.Runner.kept l.fn.runner) w) ((goal.Monitor-dyn g (l.fn.monitor.vtable, l.fn.monitor.value)).begun l.fn.monitor.value l.limit))
     l.place (seen l.fn.world) (seen l.world)
     × IsInRange (seen l.world)
     × ((goal.Monitor-dyn g (l.monitor.vtable, l.monitor.value)).begun l.monitor.value
     ≡ (goal.Monitor-dyn g (l.fn.monitor.vtable, l.fn.monitor.value)).begun l.fn.monitor.value)
-    × (g.R.Runner.count l.runner + l.place ≤ g.R.Runner.count l.fn.runner + length (seen l.fn.world).script)
+    × (g.R.Runner.count l.runner + l.place ≤ g.R.Runner.count l.fn.runner + g.E.Edits.edit.places (seen l.fn.world))
     × (g.R.Runner.kept l.runner ≡ g.R.Runner.kept l.fn.runner)
     × g.R.Runner.ready l.runner
 
