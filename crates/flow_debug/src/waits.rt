@@ -18,13 +18,20 @@ pub struct WaitPlaces {
 }
 
 impl WaitPlaces {
+    /// No place of any wait.
+    pub fn none(alloc: Global) -> WaitPlaces
+        ensures { waits_seen result ≡ [] }
+    {
+        WaitPlaces {
+            actors: Vec::new(alloc),
+        }
+    }
+
     /// The places of the waits of each actor among some declarations, in the order of the text.
     pub fn new(alloc: Global, decls: &[Decl]) -> Result<WaitPlaces, NoMemory>
         ensures { IfOk result (λ w. waits_seen w ≡ places_of_waits (map decl_of decls.now)) }
     {
-        let mut waits = WaitPlaces {
-            actors: Vec::new(alloc),
-        };
+        let mut waits = WaitPlaces::none(alloc);
         for decl in decls {
             waits.add(alloc, decl)?;
         }

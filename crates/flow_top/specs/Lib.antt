@@ -5,6 +5,7 @@ pub mod Due
 pub mod Decided
 pub mod Summary
 pub mod Shrunk
+pub mod Debugged
 pub mod Staging
 pub mod Told
 pub mod Answers

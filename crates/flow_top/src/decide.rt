@@ -7,9 +7,10 @@ ghost use Rattle.flow_top.specs.Outcomes.{MayTell, IsFor, run_for, shrink_for};
 ghost use Rattle.flow_top.specs.Decided.{Decided};
 
 use crate::judge::{judge, world_of};
-use crate::outcome::{Answered, BenchRun, Outcome, ProgramRun};
+use crate::outcome::{Answered, BenchRun, DebugRun, Outcome, ProgramRun};
 use crate::source::{first_source, read_text, world_source};
 use flow_base::files::Files;
+use flow_debug::waits::WaitPlaces;
 use flow_shrink::SCRIPT_LINES;
 use flow_words::Asked;
 use std::alloc::Global;
@@ -24,7 +25,8 @@ fn tells_frames(asked: &Asked<'_>) -> bool
         | Asked::Check(_)
         | Asked::Compile(_)
         | Asked::Bench(..)
-        | Asked::Shrink(_) => false,
+        | Asked::Shrink(_)
+        | Asked::Debug(_) => false,
     }
 }
 
@@ -40,8 +42,8 @@ fn shrink_for(run: ProgramRun) -> Outcome
 }
 
 // The outcome where classes are run for a request.
-fn run_for(asked: &Asked<'_>, run: ProgramRun) -> Outcome
-    ensures { result ≡ run_for (request_of asked.now) run }
+fn run_for(asked: &Asked<'_>, run: ProgramRun, waits: WaitPlaces) -> Outcome
+    ensures { result ≡ run_for (request_of asked.now) run waits }
 {
     match asked {
         Asked::Bench(clients, seed) => Outcome::Bench(BenchRun {
@@ -52,6 +54,11 @@ fn run_for(asked: &Asked<'_>, run: ProgramRun) -> Outcome
         Asked::Format(_) | Asked::Check(_) | Asked::Compile(_) | Asked::Run(_) | Asked::Exec(_) =>
             Outcome::Run(run),
         Asked::Shrink(_) => shrink_for(run),
+        Asked::Debug(debug) => Outcome::Debug(DebugRun {
+            run,
+            waits,
+            most: debug.most,
+        }),
     }
 }
 
@@ -86,6 +93,7 @@ pub fn decide<F: Files>(alloc: Global, asked: &Asked<'_>, files: &mut F) -> Outc
                 world,
                 frames: tells_frames(asked),
             },
+            runnable.waits,
         ),
         Err(told) => Outcome::Answered(told),
     }

@@ -9,23 +9,26 @@ ghost use Rattle.flow_machine.specs.declared.host.RunFault.TheVariants.{Stuck};
 ghost use Rattle.flow_machine.specs.Cause.{fault_of};
 ghost use Rattle.flow_world.specs.WatchedTraces.{IsEnding};
 ghost use Rattle.flow_world.specs.declared.run_ending.RunEnding.TheVariants.{Own};
+ghost use Rattle.flow_top.specs.declared.outcome.Outcome.TheVariants as Outcome;
 ghost use Rattle.flow_top.specs.Outcomes.{text_of, status_of, world_status, MayRun, MayTell, IsText, IsOnce, IsAgain};
-ghost use Rattle.flow_top.specs.Told.{ending_status, run_status, fault_status_of, GoesOut, GoesOutInPart, ReportedTold, ReportedRun, IsCounted, ReportedBench, ReportedShrink, Reported};
+ghost use Rattle.flow_top.specs.Told.{ending_status, run_status, fault_status_of, GoesOut, GoesOutInPart, ReportedTold, ReportedRun, IsCounted, ReportedBench, ReportedShrink, ReportedDebug, Reported};
 ghost use Rattle.flow_top.specs.Requests.{alone};
 ghost use Rattle.flow_top.specs.Shrunk.{IsStopped, shrunk_text, shrunk_status};
 ghost use Rattle.flow_shrink.specs.Shrinking.{Shrinks};
 ghost use Rattle.flow_worldfile.specs.Worlds.{seen};
 
 use crate::counting::Counts;
-use crate::outcome::{Answered, BenchRun, Outcome, ProgramRun};
+use crate::outcome::{Answered, BenchRun, DebugRun, Outcome, ProgramRun};
 use crate::stage::Stage;
 use crate::summary::summary;
+use crate::viewing::put_view;
 use flow_base::fault::OutFault;
 use flow_base::memory::NoMemory;
 use flow_base::output::write_whole;
 use flow_base::sink::Sink;
 use flow_classprint::write_classes;
 use flow_classread::fault::ClassFault;
+use flow_debug::waits::WaitPlaces;
 use flow_machine::host::RunFault;
 use flow_monitor::{Audience, Monitor, Panel};
 use flow_refusal::{class_line, class_status, refusal_line, refusal_status, world_line};
@@ -358,6 +361,59 @@ fn report_shrink<S: Sink>(
     }
 }
 
+// Runs classes up to an event. It ends early where the run does.
+fn run_up_to(alloc: Global, run: ProgramRun, most: u32) -> Result<(World, Option<Ending>), NoMemory>
+    requires { MayRun run }
+{
+    let ProgramRun {
+        meant: _,
+        classes,
+        world,
+        frames: _,
+    } = run;
+    let mut world = World::start(alloc, classes, world)?;
+    match world.run_events(most) {
+        Ok(ending) => Ok((world, ending)),
+        Err(_) => Err(NoMemory),
+    }
+}
+
+// Writes the state of a world and flushes it.
+fn write_view<S: Sink>(
+    alloc: Global,
+    waits: &WaitPlaces,
+    world: &World,
+    out: &mut S,
+) -> Result<(), OutFault>
+    ensures handed { Grows (S.seen out.old).handed (S.seen out.new).handed }
+    ensures cause { HasCause (S.seen out.old).faults (S.seen out.new).faults result }
+{
+    put_view(alloc, waits, world, out)?;
+    out.flush()
+}
+
+// Runs classes up to an event, writes the state after it and flushes it, and gives the status.
+fn report_debug<S: Sink>(alloc: Global, debug: DebugRun, out: &mut S) -> u8
+    requires { MayTell (Outcome.Debug debug) }
+    ensures reported { ReportedDebug debug (S.seen out.old) (S.seen out.new) result }
+    ensures handed { Grows (S.seen out.old).handed (S.seen out.new).handed }
+{
+    let DebugRun { run, waits, most } = debug;
+    let Ok((world, ending)) = run_up_to(alloc, run, most) else {
+        return 7;
+    };
+    let (written, status) = match ending {
+        Some(Ending::Spent) => (write_text(b"end spent\n", out), 4),
+        Some(Ending::Idle) | Some(Ending::Bound) | None => {
+            (write_view(alloc, &waits, &world, out), 0)
+        }
+    };
+    match written {
+        Ok(()) => status,
+        Err(fault) => fault_status(fault),
+    }
+}
+
 /// Writes the text of an outcome that runs no classes, or runs them again and again, and flushes it, and gives the status. The
 /// monitor hears each run from its begin.
 pub fn report_again<S: Sink>(
@@ -376,7 +432,7 @@ pub fn report_again<S: Sink>(
     match outcome {
         Outcome::Answered(told) => report_told(alloc, told, out),
         Outcome::Shrink(run) => report_shrink(alloc, run, monitor, limit, out),
-        Outcome::Run(_) | Outcome::Bench(_) => unreachable!(),
+        Outcome::Run(_) | Outcome::Bench(_) | Outcome::Debug(_) => unreachable!(),
     }
 }
 
@@ -398,6 +454,7 @@ pub fn report<P: Audience, S: Sink>(
         Outcome::Answered(told) => report_told(alloc, told, out),
         Outcome::Run(run) => report_run(alloc, run, panel, out),
         Outcome::Bench(bench) => report_bench(alloc, bench, out),
+        Outcome::Debug(debug) => report_debug(alloc, debug, out),
         Outcome::Shrink(_) => unreachable!(),
     }
 }

@@ -1,4 +1,9 @@
-mod Parts
-mod Within
-mod Codes
-mod Standing
+pub mod Parts
+pub mod Within
+pub mod Codes
+pub mod Standing
+pub mod Tied
+pub mod Names
+pub mod Frames
+pub mod Worlds
+pub mod Law

@@ -14,6 +14,7 @@ use Rattle.flow_class.specs.Code as frame
 use Rattle.flow_class.specs.Scopes.{Scope}
 use Rattle.flow_meaning.specs.Evaluating.{Names, Effectful, effect_in}
 use Rattle.flow_meaning.specs.Frame.{no_class}
+use Rattle.flow_meaning.specs.Text.{first_spot}
 use Rattle.flow_meaning.specs.Items.{Site, site_past, change}
 use Rattle.flow_meaning.specs.Carry.{Pos, Target, entry, at, AssignBy, AssignAt, ChangeAt, FirstAt, DeclareAt, PassAt, default_expr}
 use Rattle.flow_meaning.specs.Carries.{ThrowAt, BodyAt, AllCarried}
@@ -34,7 +35,7 @@ module _ (ns : Names) where
 
   no_change : (s : Scope) (xs : List Ident) (o : Option ExprTree) (p : Pos) → ChangeAt ns no_class s xs o p → ⊥
   no_change s xs None p h = h
-  no_change s xs (Some e) p h = no_assign s xs e p h
+  no_change s xs (Some e) p h = no_assign s _ e p h
 
   no_first : (to : Slotted) (t : TypeTree) (o : Option ExprTree) (p : Pos) → FirstAt ns no_class to t o p → ⊥
   no_first to t None p h = no_body ns p _ h.0
@@ -72,9 +73,12 @@ module _ (ns : Names) where
   nothing_stands s x (CallStmt at xs es k) p h = no_body ns p _ h.1
   nothing_stands s x (WaitStmt at w k) p h = no_last ns p _ h.4.0
 
-  pub never_over : (as : List RoutineTree) (cs : List ClassTree) (k : ℕ) → AllCarried ns as cs → (a : RoutineTree) → slice_get as k ≡ Some a → slice_get cs k ≡ Some no_class → ⊥
-  never_over [] cs k h a e f = cc
-  never_over (b ∷ as) [] k h a e f = h
-  never_over (b ∷ as) (c ∷ cs) zero h a e f =
-      let same : c ≡ no_class = cc in nothing_stands [] _ b.body (entry 0) (subst (λ z. BodyAt ns z [] [] [] _ b.body (entry 0)) same h.0)
-  never_over (b ∷ as) (c ∷ cs) (suc k) h a e f = never_over as cs k h.1 a e f
+  abbrev begin : Site
+  begin = record { spot = first_spot; caught = None }
+
+  pub never_over : (ts : List RoutineTree) (cs : List ClassTree) (k : ℕ) → AllCarried ns ts cs → (t : RoutineTree) → slice_get ts k ≡ Some t → slice_get cs k ≡ Some no_class → ⊥
+  never_over [] cs k h t e f = cc
+  never_over (u ∷ ts) [] k h t e f = h
+  never_over (u ∷ ts) (c ∷ cs) zero h t e f =
+      let same : c ≡ no_class = cc in nothing_stands [] begin u.body (entry 0) (subst (λ z. BodyAt ns z [] [] [] begin u.body (entry 0)) same h.0)
+  never_over (u ∷ ts) (c ∷ cs) (suc k) h t e f = never_over ts cs k h.1 t e f
