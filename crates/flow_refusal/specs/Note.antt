@@ -57,6 +57,12 @@ overall name words = name ++ said words
 abbrev pub line_remark : (name text : List ℕ) → (line : ℕ) → (words : List ℕ) → List ℕ
 line_remark name text line words = name ++ codes ":" ++ decimal line ++ said words ++ window (line_at text line) 0 ++ codes "\n"
 
+-- that an actor of a process waits at a place in a file
+abbrev pub wait_note : (file text process actor name : List ℕ) → Place → List ℕ
+wait_note file text process actor name at =
+    file ++ codes ":" ++ place_text at ++ codes ": actor " ++ actor ++ codes " of process " ++ process ++ codes ", " ++ name
+    ++ codes ", waits here\n" ++ excerpt text at
+
 -- how many of the lines of a script are left
 abbrev pub left_note : (left all : ℕ) → List ℕ
 left_note left all = decimal left ++ codes " of " ++ decimal all ++ (if left == 1 then codes " lines is left\n" else codes " lines are left\n")

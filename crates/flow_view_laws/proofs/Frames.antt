@@ -36,7 +36,8 @@ use Rattle.flow_debug.specs.SourceView.{suspended_at, filled_variables, cell_of,
 use Rattle.flow_typing_laws.specs.ControlFlow.Laws.{AllHaveSimpleParts}
 use Rattle.flow_view_laws.specs.Within.{PartOf, RestWithin}
 use Rattle.flow_view_laws.specs.Told.{if_told}
-use Rattle.flow_view_laws.proofs.Tied.{AreDistinct, Tied, Stands}
+use Rattle.flow_view_laws.proofs.Names.{AreDistinct}
+use Rattle.flow_view_laws.proofs.Tied.{Tied, Stands}
 
 -- the variables in the slots
 variables_same : (ts : List SlotTree) (os ls : List (Option ValueTree)) → length os ≡ length ts → variables_told ts (os ++ ls) ≡ filled_variables (slots_seen ts os)

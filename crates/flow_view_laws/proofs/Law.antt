@@ -28,8 +28,8 @@ use Rattle.flow_debug.specs.SourceView.{SourceView}
 use Rattle.flow_world.specs.Ending.{Seen}
 use Rattle.flow_view_laws.specs.Told.{places_told}
 use Rattle.flow_view_laws.specs.Viewed.{IsViewed, ProgramsViewed}
-use Rattle.flow_view_laws.proofs.Tied.{AreDistinct, Stands, tied}
-use Rattle.flow_view_laws.proofs.Names.{valid_distinct}
+use Rattle.flow_view_laws.proofs.Tied.{Stands, tied}
+use Rattle.flow_view_laws.proofs.Names.{AreDistinct, valid_distinct}
 use Rattle.flow_view_laws.proofs.Worlds.{world_told, all_rise, state_beside}
 
 -- of an accepted program and its classes
@@ -52,13 +52,13 @@ module _ {A : Type 0} (puts : A → Line → Result (Unit {0}) OutFault → A �
       let t = program_of program in
       let r = own text program sound in
       let x = programs_rest puts text program c file with_frames first v a b sound light has range starts goes in
-      let run = subst (λ z. IsRun (classes z) (seen file) x.states x.run.0) (sym has) x.run.1 in
+      let run = subst (λ z. IsRun (classes z) (seen file) x.states x.run.0) has x.run.1 in
       let R = Stands t r (carry text program sound) (differ text program sound) (simple text program sound) in
       let other = traces_return (source t) (classes r) R (tied t r (carry text program sound) (differ text program sound) (simple text program sound)) (seen file) x.states x.run.0 run in
       let beside = state_beside R v.ran other.0 x.states x.state other.2 x.after_as_many in
       let out = beside.2.0 in
       let told = world_told t r (carry text program sound) (differ text program sound) (simple text program sound) x.state.out.file.processes v.places x.state beside.0
-        (subst (λ z. Rattle.flow_world_refinement.specs.Order.Showing.PlacesRepresent (Rattle.flow_restore_laws.specs.Rest.Boundary.IsAtRest z) x.state.out.file.processes 0 v.places x.state.places) (sym has) x.shows.places) beside.2 in
+        (subst (λ z. Rattle.flow_world_refinement.specs.Order.Showing.PlacesRepresent (Rattle.flow_restore_laws.specs.Rest.Boundary.IsAtRest z) x.state.out.file.processes 0 v.places x.state.places) has x.shows.places) beside.2 in
       record {
         states = other.0;
         lines = x.run.0;

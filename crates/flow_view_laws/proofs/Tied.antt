@@ -32,10 +32,7 @@ use Rattle.flow_view_laws.specs.Within.{ActorWithin}
 use Rattle.flow_view_laws.proofs.Within.{step_stays_within, store_stays_within, take_stays_within, raise_stays_within, begins_within}
 use Rattle.flow_view_laws.proofs.Codes.{KeepsClass, keeps_on, step_keeps, store_keeps, take_keeps, raise_keeps}
 use Rattle.flow_view_laws.proofs.Standing.{never_over}
-
--- a class stands at one place
-abbrev pub AreDistinct : RawTree → Type 0
-AreDistinct r = (i k : ℕ) (c : ClassTree) → slice_get r.classes i ≡ Some c → slice_get r.classes k ≡ Some c → i ≡ k
+use Rattle.flow_view_laws.proofs.Names.{AreDistinct}
 
 -- the parts of the `for`s of each actor are simple
 parts_at : (ds : List DeclTree) (k : ℕ) (t : RoutineTree) → AllHaveSimpleParts ds → slice_get (actors_in ds) k ≡ Some t → HasSimpleParts t.body
@@ -111,13 +108,13 @@ module _ (p : ProgramTree) (r : RawTree) (h : AreCarried p r) (differ : AreDisti
   both_begin k vs None None e g m = tt
   both_begin k vs None (Some f) e g m = absurd m
   both_begin k vs (Some a) None e g m = absurd m
-  both_begin k vs (Some a) (Some f) e g m = (m, tied)
+  both_begin k vs (Some a) (Some f) e g m = (m, begun_tied)
     where
       own : slice_get r.classes k ≡ Some f.code
       own = class_begun (slice_get r.classes k) vs f g
 
-      tied : Tied a f
-      tied i t there is =
+      begun_tied : Tied a f
+      begun_tied i t there is =
           let same : i ≡ k = differ i k f.code is own in
           let at : slice_get (actors_in p.decls) k ≡ Some t = ap (slice_get (actors_in p.decls)) (sym same) ∙ there in
           text_begun (slice_get (actors_in p.decls) k) vs a t at (parts_at p.decls k t simple at) e

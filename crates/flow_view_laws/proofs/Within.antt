@@ -137,24 +137,24 @@ module _ (all : List Place) where
         let inner = later_body all (λ z. past t (past i z)) s (is ++ ts) b two before_k w.parts.3 in
         let behind = later_body all (λ z. past b (past t (past i z))) s ((is ++ ts) ++ bs) k (both_pass (λ z. past t (past i z)) (past b) (is ++ ts) bs two (past_passes b)) w.waits w.parts.4 in
         let step = subst (λ z. BodyWithin all (site_at z s_t) t) (sym (step_stays t w.parts.0.1 s_t.spot)) parts.1 in
-        (parts.0, (inner, step), tt, behind, h)
+        (parts.0, ((inner, step), (tt, (behind, h))))
 
     body_stays : (a : Actor) (s : Site) (b : Body) (r : List Item) → ActorWithin all a → BodyWithin all s b → RestWithin all r → Stays (do_body ns v a s b r)
     body_stays a s End r g w h = h
     body_stays a s (BlockStmt at b k) r g w h =
-        let x = two_bodies all s b k w.waits w.parts.1 w.parts.2 in (x.0, tt, x.1, h)
+        let x = two_bodies all s b k w.waits w.parts.1 w.parts.2 in (x.0, (tt, (x.1, h)))
     body_stays a s (IfStmt at e b k) r g w h =
         let x = two_bodies all s b k w.waits w.parts.1 w.parts.2 in
-        test_stays a e _ _ g (x.0, tt, x.1, h) (x.1, h)
+        test_stays a e _ _ g (x.0, (tt, (x.1, h))) (x.1, h)
     body_stays a s (IfElseStmt at e b c k) r g w h =
         let x = three_bodies all s b c k w.waits w.parts.1 w.parts.2 w.parts.3 in
-        test_stays a e _ _ g (x.0, tt, x.2, h) (x.1, tt, x.2, h)
+        test_stays a e _ _ g (x.0, (tt, (x.2, h))) (x.1, (tt, (x.2, h)))
     body_stays a s (WhileStmt at e b k) r g w h =
         let x = two_bodies all s b k w.waits w.parts.1 w.parts.2 in
-        ((x.0, empty_body all s (wait_places b ++ wait_places k) w.waits), x.1, h)
+        ((x.0, empty_body all s (wait_places b ++ wait_places k) w.waits), (x.1, h))
     body_stays a s (LoopStmt at b k) r g w h =
         let x = two_bodies all s b k w.waits w.parts.1 w.parts.2 in
-        ((x.0, empty_body all s (wait_places b ++ wait_places k) w.waits), x.1, h)
+        ((x.0, empty_body all s (wait_places b ++ wait_places k) w.waits), (x.1, h))
     body_stays a s (ForStmt at i e t b k) r g w h = for_stays a s at i t b k e r w h
     body_stays a s (BreakStmt at k) r g w h = exit_stays v.left Breaks (Do s (BreakStmt at k)) a r w g h
     body_stays a s (ContinueStmt at k) r g w h = exit_stays v.left Continues (Do s (ContinueStmt at k)) a r w g h
@@ -163,7 +163,7 @@ module _ (all : List Place) where
     body_stays a s (ThrowStmt at e k) r g w h = throws_stay a e s.caught g
     body_stays a s (TryStmt at b q x c k) r g w h =
         let y = three_bodies all s b c k w.waits w.parts.1 w.parts.2 w.parts.3 in
-        (y.0, tt, record { waits = y.1.waits; parts = y.1.parts }, y.2, h)
+        (y.0, (tt, (record { waits = y.1.waits; parts = y.1.parts }, (y.2, h))))
     body_stays a s (ChooseStmt at bs k) r g w h = await_stays a s.spot (operand (OneOf bs) v.kept) g
     body_stays a s (DeclareStmt at i e k) r g w h = declares_stay a i e (Do s k ∷ r) g (record { waits = w.waits; parts = w.parts.1 }, h)
     body_stays a s (AssignStmt at xs e k) r g w h = store_stays a (Path xs) e (Do s k ∷ r) g (record { waits = w.waits; parts = w.parts.1 }, h)
@@ -176,8 +176,8 @@ module _ (all : List Place) where
     body_stays a s (WaitStmt at w k) r g x h = await_stays a s.spot (operand (Single w) v.kept) g
 
     check_stays : (a : Actor) (l : Loop) (e : Option ExprTree) (r : List Item) → ActorWithin all a → LoopWithin all l → RestWithin all r → Stays (check ns v a l e r)
-    check_stays a l None r g w h = (w.0, tt, w, h)
-    check_stays a l (Some e) r g w h = test_stays a e _ _ g (w.0, tt, w, h) h
+    check_stays a l None r g w h = (w.0, (tt, (w, h)))
+    check_stays a l (Some e) r g w h = test_stays a e _ _ g (w.0, (tt, (w, h))) h
 
     item_stays : (a : Actor) (r : List Item) → ActorWithin all a → RestWithin all r → Stays (do_item ns v a r)
     item_stays a [] g h = g
@@ -185,7 +185,7 @@ module _ (all : List Place) where
     item_stays a (Leave ∷ r) g h = leave_stays (scope a.vars.locals) v.left (actor (record a.vars { locals = outside a.vars.locals }) r) h.1
     item_stays a (Round l ∷ r) g h = h
     item_stays a (Check l ∷ r) g h = check_stays a l l.condition r g h.0 h.1
-    item_stays a (Made l ∷ r) g h = (h.0.1, h.0, h.1)
+    item_stays a (Made l ∷ r) g h = (h.0.1, (h.0, h.1))
     item_stays a (Handler x s k ∷ r) g h = h.1
     item_stays a (Over ∷ r) g h = g
 
@@ -214,7 +214,7 @@ module _ (all : List Place) where
       → HaveSimpleParts bs → RestWithin all r
       → ActorWithin all (take_case bs n s u a r).1
   case_stays NoBranches n s u a r g p w h = g
-  case_stays (MoreBranches at w b bs) zero s u a r g p x h = (first_body all s b (branch_places bs) p x.1, tt, h)
+  case_stays (MoreBranches at w b bs) zero s u a r g p x h = (first_body all s b (branch_places bs) p x.1, (tt, h))
   case_stays (MoreBranches at w b bs) (suc n) s u a r g p x h =
       case_stays bs n (site_at (past b s.spot) s) u a r g (later_part all s.spot.group (past b s.spot).group (wait_places b) (branch_places bs) (past_passes b s.spot) p) x.2 h
 
@@ -249,7 +249,7 @@ module _ (all : List Place) where
 
   raised_within : (err : ℕ) (vars : Vars) (o : Option (Unwound (Option ValueTree))) → UnwoundWithin o → ActorWithin all (raised err vars o).1
   raised_within err vars None h = (tt, tt)
-  raised_within err vars (Some u) h = (h.0, tt, h.1)
+  raised_within err vars (Some u) h = (h.0, (tt, h.1))
 
   pub raise_stays_within : (err : ℕ) (a : Actor) → ActorWithin all a → ActorWithin all (raise err a).1
   raise_stays_within err a h = raised_within err a.vars (unwind [] a.vars.locals a.rest) (unwound_within [] a.vars.locals a.rest h)

@@ -45,7 +45,8 @@ use Rattle.flow_debug.specs.Told.{places_of_waits, actor_told}
 use Rattle.flow_debug.specs.SourceView.{actor_seen, process_seen, places_seen, SourceView}
 use Rattle.flow_typing_laws.specs.ControlFlow.Laws.{AllHaveSimpleParts}
 use Rattle.flow_view_laws.specs.Told.{if_told, actors_told, places_told, AllRise}
-use Rattle.flow_view_laws.proofs.Tied.{AreDistinct, Stands}
+use Rattle.flow_view_laws.proofs.Names.{AreDistinct}
+use Rattle.flow_view_laws.proofs.Tied.{Stands}
 use Rattle.flow_view_laws.proofs.Frames.{frame_told}
 
 module _ (p : ProgramTree) (r : RawTree) (carried : AreCarried p r) (differ : AreDistinct r) (simple : AllHaveSimpleParts p.decls) where
