@@ -2,7 +2,7 @@
 _flow() {
     local word=${COMP_WORDS[COMP_CWORD]} words= files= file
     if [ "$COMP_CWORD" = 1 ]; then
-        mapfile -t COMPREPLY < <(compgen -W 'check compile format run exec bench build help --version' -- "$word")
+        mapfile -t COMPREPLY < <(compgen -W 'check compile format run exec bench shrink build help --version' -- "$word")
         return
     fi
     case ${COMP_WORDS[1]} in
@@ -12,6 +12,7 @@ _flow() {
         run) words='--frames --monitor' files='*.flow *.world' ;;
         exec) words='--frames --monitor' files='*.classes *.world' ;;
         bench) words='' files='' ;;
+        shrink) words='--monitor' files='*.flow *.world' ;;
     esac
     mapfile -t COMPREPLY < <(compgen -W "$words" -- "$word"; compgen -d -- "$word"; set -f; for file in $files; do compgen -f -X "!$file" -- "$word"; done; set +f)
 }

@@ -57,7 +57,8 @@ fn try_place<E: Edits, R: Runner>(
     requires ready { R.ready runner.old }
     requires within { place < E.edit.places (seen world.old) }
     ensures tried { IfOk result (λ m. Tried E.edit
-        (λ w. Stops (R.means (R.kept runner.old) w) (begun monitor limit)) place (seen world.old) (seen world.new)) }
+        (λ w. Stops (R.means (R.kept runner.old) w) (begun monitor limit)) place
+        (seen world.old) (seen world.new)) }
     ensures range { IfOk result (λ m. IsInRange (seen world.new)) }
     ensures begun { IfOk result (λ m. begun m ≡ begun monitor) }
     ensures counted { R.count runner.new ≤ next_count (R.count runner.old) }
@@ -85,7 +86,8 @@ fn try_each<E: Edits, R: Runner>(
     requires ready { R.ready runner.old }
     requires stops { Stops (R.means (R.kept runner.old) (seen world.old)) (begun monitor limit) }
     ensures tried { IfOk result (λ m. TriedFrom E.edit
-        (λ w. Stops (R.means (R.kept runner.old) w) (begun monitor limit)) 0 (seen world.old) (seen world.new)) }
+        (λ w. Stops (R.means (R.kept runner.old) w) (begun monitor limit)) 0
+        (seen world.old) (seen world.new)) }
     ensures range { IfOk result (λ m. IsInRange (seen world.new)) }
     ensures begun { IfOk result (λ m. begun m ≡ begun monitor) }
     ensures counted { R.count runner.new ≤ R.count runner.old + E.edit.places (seen world.old) }
@@ -113,7 +115,8 @@ fn try_all<E: Edits, R: Runner>(
     requires ready { R.ready runner.old }
     requires stops { Stops (R.means (R.kept runner.old) (seen world.old)) (begun monitor limit) }
     ensures least { OnOk result (IsLeastBy E.edit
-        (λ w. Stops (R.means (R.kept runner.old) w) (begun monitor limit)) (seen world.old) (seen world.new)) }
+        (λ w. Stops (R.means (R.kept runner.old) w) (begun monitor limit))
+        (seen world.old) (seen world.new)) }
     ensures range { OnOk result (IsInRange (seen world.new)) }
     ensures counted { let n = E.edit.places (seen world.old) in
         R.count runner.new ≤ R.count runner.old + n * n }

@@ -79,7 +79,8 @@ fn or_named(
     more: Box<dyn Monitor>,
     name: &Name,
 ) -> Option<Box<dyn Monitor>>
-    ensures { option_map (λ m. record { name = label m; begun = begun m }) result ≡ or_named name.now
+    ensures { option_map (λ m. record { name = label m; begun = begun m }) result
+        ≡ or_named name.now
         (option_map (λ m. record { name = label m; begun = begun m }) found)
         (record { name = label more; begun = begun more }) }
 {
@@ -95,7 +96,8 @@ fn or_named(
 // The first monitor of a name; none exactly where there is none. The others are dropped. A trait object that another crate hands out
 // counts as one that is made, so this one is found here.
 fn first_named(handed: Vec<Box<dyn Monitor>>, name: &Name) -> Option<Box<dyn Monitor>>
-    ensures { option_map (λ m. record { name = label m; begun = begun m }) result ≡ first_named name.now
+    ensures { option_map (λ m. record { name = label m; begun = begun m }) result
+        ≡ first_named name.now
         (map (λ m. record { name = label m; begun = begun m }) handed.items) }
 {
     let mut found = None;
@@ -112,8 +114,10 @@ pub fn pick_wanted(
     monitors: Vec<Box<dyn Monitor>>,
 ) -> Result<Box<dyn Monitor>, Answered>
     ensures fault { Attaches (want_fault (map (λ (h : Handed). h.name)
-        (map (λ m. record { name = label m; begun = begun m }) monitors.items)) (want.now ∷ [])) result }
-    ensures ears { IfOk result (λ m. alone (label m) (begun m want.now.limit) ≡ attached (want.now ∷ [])
+        (map (λ m. record { name = label m; begun = begun m }) monitors.items)) (want.now ∷ []))
+        result }
+    ensures ears { IfOk result (λ m. alone (label m) (begun m want.now.limit)
+        ≡ attached (want.now ∷ [])
         (map (λ m. record { name = label m; begun = begun m }) monitors.items)) }
 {
     match first_named(monitors, &want.name) {

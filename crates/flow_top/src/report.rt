@@ -345,8 +345,8 @@ fn report_shrink<S: Sink>(
     out: &mut S,
 ) -> u8
     requires { MayRun run × IsText run.meant }
-    ensures reported { ReportedShrink run (alone (label monitor) (begun monitor limit)) (S.seen out.old)
-        (S.seen out.new) result }
+    ensures reported { ReportedShrink run (alone (label monitor) (begun monitor limit))
+        (S.seen out.old) (S.seen out.new) result }
     ensures handed { Grows (S.seen out.old).handed (S.seen out.new).handed }
 {
     let Ok(shrunk) = shrink_run(alloc, run, monitor, limit) else {
@@ -425,8 +425,8 @@ pub fn report_again<S: Sink>(
 ) -> u8
     requires may { MayTell outcome }
     requires again { IsAgain outcome }
-    ensures reported { Reported (alone (label monitor) (begun monitor limit)) outcome (S.seen out.old)
-        (S.seen out.new) result }
+    ensures reported { Reported (alone (label monitor) (begun monitor limit)) outcome
+        (S.seen out.old) (S.seen out.new) result }
     ensures handed { Grows (S.seen out.old).handed (S.seen out.new).handed }
 {
     match outcome {

@@ -94,8 +94,8 @@ pub fn flow_main<F: Files, S: Sink>(
     monitors: Vec<Box<dyn Monitor>>,
 ) -> u8
     ensures answers { let given = map string_bytes words.now in
-        Answers given (map (λ m. record { name = label m; begun = begun m }) monitors.items) (F.seen files.old) (F.seen files.new) (S.seen out.old)
-        (S.seen out.new) result }
+        Answers given (map (λ m. record { name = label m; begun = begun m }) monitors.items)
+        (F.seen files.old) (F.seen files.new) (S.seen out.old) (S.seen out.new) result }
     ensures handed { Grows (S.seen out.old).handed (S.seen out.new).handed }
 {
     let asked = match ask(alloc, words) {
