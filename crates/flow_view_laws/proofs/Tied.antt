@@ -98,7 +98,7 @@ module _ (p : ProgramTree) (r : RawTree) (h : AreCarried p r) (differ : AreDisti
 
   answers : (v : View) (lighter : Type 0) (o : Option Ask) (a b : Actor) (f : Frame) → Tied a f → ((all : List _) → ActorWithin all a → ActorWithin all b)
       → MatchesAsk (ActorMatches (names_of p)) (classes r) v lighter o b f → MatchesAsk Stands (classes r) v lighter o b f
-  answers v lighter None a b f t w m = (m.0, m.1, m.2, tied_on a b f m.0 t (moves_keep v f m.0 lighter m.1) w)
+  answers v lighter None a b f t w m = (m.0, m.1, (m.2, tied_on a b f m.0 t (moves_keep v f m.0 lighter m.1) w))
   answers v lighter (Some k) a b f t w m =
       let keeps = keeps_on f.code m.0 m.1 (quiet_keeps m.2) (next_keeps v m.0 (Some k, m.1) m.3) in
       (m.0, m.1, m.2, m.3, asked k.act b m.1 m.4 (tied_on a b f m.1 t keeps w) (waited v m.0 m.1 k m.3))
@@ -134,15 +134,15 @@ module _ (p : ProgramTree) (r : RawTree) (h : AreCarried p r) (differ : AreDisti
     next = λ v a f s.
         answers v (base.weight ((source p).next v a).1 < base.weight a) ((source p).next v a).0 a ((source p).next v a).1 f s.1
         (λ all w. step_stays_within all (names_of p) v a w) (base.next v a f s.0);
-    lose = λ a f s. let m = base.lose a f s.0 in (m.0, m.1, tied_on a ((source p).lose a).1 f ((classes r).lose f).1 s.1 (inl refl) (λ all w. w));
+    lose = λ a f s. let m = base.lose a f s.0 in (m.0, (m.1, tied_on a ((source p).lose a).1 f ((classes r).lose f).1 s.1 (inl refl) (λ all w. w)));
     store = λ u a f s.
         let m = base.store u a f s.0 in
-        (m.0, m.1, tied_on a ((source p).store u a).1 f ((classes r).store u f).1 s.1 (store_keeps (class_names r) u f) (λ all w. store_stays_within all (names_of p) u a w));
+        (m.0, (m.1, tied_on a ((source p).store u a).1 f ((classes r).store u f).1 s.1 (store_keeps (class_names r) u f) (λ all w. store_stays_within all (names_of p) u a w)));
     take = λ n u a f s.
         let m = base.take n u a f s.0 in
-        (m.0, m.1, tied_on a ((source p).take n u a).1 f ((classes r).take n u f).1 s.1 (take_keeps (class_names r) n u f) (λ all w. take_stays_within all n u a w));
+        (m.0, (m.1, tied_on a ((source p).take n u a).1 f ((classes r).take n u f).1 s.1 (take_keeps (class_names r) n u f) (λ all w. take_stays_within all n u a w)));
     raise = λ err a f s.
         let m = base.raise err a f s.0 in
-        (m.0, m.1, tied_on a ((source p).raise err a).1 f ((classes r).raise err f).1 s.1 (raise_keeps err f) (λ all w. raise_stays_within all err a w));
+        (m.0, (m.1, tied_on a ((source p).raise err a).1 f ((classes r).raise err f).1 s.1 (raise_keeps err f) (λ all w. raise_stays_within all err a w)));
     occ = λ side k a f s. base.occ side k a f s.0;
   }
