@@ -6,7 +6,7 @@ use Rattle.flow_trace.specs.declared.line.Line.{Line}
 use Rattle.flow_trace.specs.declared.line.Line.TheVariants as line
 use Rattle.flow_meaning.specs.Process.{Engine}
 use Rattle.flow_meaning.specs.World.{World}
-use Rattle.flow_meaning.specs.Runs.{Runs, ends, spent, event, IsRun, lines_of}
+use Rattle.flow_meaning.specs.Runs.{Runs, ends, spent, event, IsRun, after, lines_of}
 use Rattle.flow_meaning.proofs.Once.{run_once}
 use Rattle.flow_world.specs.Ends.{LastIs}
 
@@ -54,7 +54,7 @@ module _ {A : Type 0} (e : Engine A) where
   onward w _ _ (suc n) s (ends last x) g = cc
   onward w _ _ (suc n) s (spent b l x k q h) g = cc
   onward w _ _ (suc n) s (event {states = states} {lines = lines} b l x k q h r) g =
-      let o = onward _ states lines n s r g in
+      let o = onward (after w b l) states lines n s r g in
       record {
         rest = o.rest;
         own = o.own;

@@ -39,6 +39,11 @@ use Rattle.flow_view_laws.specs.Told.{if_told}
 use Rattle.flow_view_laws.proofs.Names.{AreDistinct}
 use Rattle.flow_view_laws.proofs.Tied.{Tied, Stands}
 
+-- an actor that is shown
+abbrev shown : (process actor : ℕ) (name : List ℕ) (group : ℕ) → Place → List ℕ → List VariableSeen → ActorSeen
+shown p i name group at cells variables =
+    record { process = p; actor = i; name = name; group = group; at = at; cells = cells; variables = variables }
+
 -- the variables in the slots
 variables_same : (ts : List SlotTree) (os ls : List (Option ValueTree)) → length os ≡ length ts → variables_told ts (os ++ ls) ≡ filled_variables (slots_seen ts os)
 variables_same [] [] ls h = refl
@@ -131,8 +136,6 @@ module _ (p : ProgramTree) (r : RawTree) (h : AreCarried p r) (differ : AreDisti
       ∙ ap (seen_at p process (i, e) a) (sym x.suspended)
     where
       one : (n o : List ℕ) (g q : ℕ) (at : Place) (cs ds : List ℕ) (us vs : List VariableSeen) → n ≡ o → g ≡ q → cs ≡ ds → us ≡ vs
-          → (record { process = process; actor = i; name = n; group = g; at = at; cells = cs; variables = us } : ActorSeen) ∷ []
-          ≡ record { process = process; actor = i; name = o; group = q; at = at; cells = ds; variables = vs } ∷ []
+          → shown process i n g at cs us ∷ [] ≡ shown process i o q at ds vs ∷ []
       one n o g q at cs ds us vs e1 e2 e3 e4 =
-          ap₂ (λ x y. (record { process = process; actor = i; name = x; group = y; at = at; cells = cs; variables = us } : ActorSeen) ∷ []) e1 e2
-          ∙ ap₂ (λ x y. (record { process = process; actor = i; name = o; group = q; at = at; cells = x; variables = y } : ActorSeen) ∷ []) e3 e4
+          ap₂ (λ x y. shown process i x y at cs us ∷ []) e1 e2 ∙ ap₂ (λ x y. shown process i o q at x y ∷ []) e3 e4

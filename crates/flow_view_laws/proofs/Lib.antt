@@ -5,5 +5,8 @@ pub mod Standing
 pub mod Tied
 pub mod Names
 pub mod Frames
+pub mod Heaps
 pub mod Worlds
+pub mod Ends
 pub mod Law
+pub mod Skipped
