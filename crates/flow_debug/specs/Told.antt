@@ -1,5 +1,5 @@
 -- What the frame of an unfinished actor tells of it, by the places of the program's waits and by the classes.
-use Rattle.std.specs.Prelude.{ℕ, zero, suc, List, [], ◌∷◌, map, slice_get}
+use Rattle.std.specs.Prelude.{ℕ, zero, suc, List, [], ◌∷◌, ◌++◌, map, slice_get}
 use Rattle.std.specs.declared.option.Option.{Option}
 use Rattle.std.specs.declared.option.Option.TheVariants.{None, Some}
 use Rattle.flow_base.specs.declared.place.Place.{Place}
@@ -50,3 +50,12 @@ told_by p a (Some c) (Some at) = Some (record {
 
 abbrev pub actor_told : List (List Place) → List ClassTree → (process : ℕ) → ActorPart → Option ActorSeen
 actor_told waits classes p a = told_by p a (slice_get classes a.class) (wait_of (slice_get waits a.class) a.state)
+
+-- what is told of several frames of a process, in order
+abbrev pub if_told : Option ActorSeen → List ActorSeen
+if_told None = []
+if_told (Some a) = a ∷ []
+
+abbrev pub actors_told : List (List Place) → List ClassTree → (process : ℕ) → List ActorPart → List ActorSeen
+actors_told waits classes p [] = []
+actors_told waits classes p (a ∷ parts) = if_told (actor_told waits classes p a) ++ actors_told waits classes p parts

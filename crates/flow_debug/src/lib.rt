@@ -4,3 +4,4 @@
 pub mod print;
 pub mod view;
 pub mod waits;
+pub mod write;

@@ -1,16 +1,10 @@
 -- What the state of a program after so many events comes to.
 use Rattle.std.specs.Prelude.{◌≡◌, ℕ, List}
-use Rattle.std.specs.List.{flat_map}
-use Rattle.flow_base.specs.declared.place.Place.{Place}
 use Rattle.flow_tree.specs.DeclView.{program_of}
-use Rattle.flow_class.specs.Classes.{ClassTree}
 use Rattle.flow_worldfile.specs.Worlds.{World, seen}
-use Rattle.flow_heapstate.specs.State.{ActorPart}
 use Rattle.flow_debug.specs.declared.waits.WaitPlaces.{WaitPlaces}
 use Rattle.flow_debug.specs.Waits.{waits_seen}
-use Rattle.flow_debug.specs.Told.{places_of_waits, actor_told}
-use Rattle.flow_debug.specs.ViewText.{actor_lines}
-use Rattle.flow_view_laws.specs.Told.{if_told}
+use Rattle.flow_debug.specs.Told.{places_of_waits}
 use Rattle.flow_view_laws.specs.Skipped.{IsView}
 use Rattle.flow_words.specs.Asked.{Request, debug}
 use Rattle.flow_top.specs.declared.outcome.Meant.{Meant}
@@ -34,7 +28,3 @@ WaitsOf Classes waits = ⊥
 abbrev pub WaitsFor : Request → Meant → WaitPlaces → Type 0
 WaitsFor (debug program world most) meant waits = WaitsOf meant waits
 WaitsFor _ meant waits = Unit {0}
-
--- the lines of what a frame tells, and of what those of a process tell
-abbrev pub told_lines : List (List Place) → List ClassTree → (process : ℕ) → ActorPart → List ℕ
-told_lines waits classes p a = flat_map actor_lines (if_told (actor_told waits classes p a))

@@ -31,11 +31,10 @@ use Rattle.flow_heap_refinement.specs.Representing.{LiveFrameRepresents, Positio
 use Rattle.flow_compile_laws.specs.Simulation.Memories.{slots_seen}
 use Rattle.flow_compile_laws.specs.Simulation.Carried.{AreCarried}
 use Rattle.flow_debug.specs.Seen.{VariableSeen, ActorSeen, with_variable}
-use Rattle.flow_debug.specs.Told.{waits_in, places_of_waits, wait_of, cell_held, variables_told, told_by, actor_told}
+use Rattle.flow_debug.specs.Told.{waits_in, places_of_waits, wait_of, cell_held, variables_told, told_by, actor_told, if_told}
 use Rattle.flow_debug.specs.SourceView.{suspended_at, filled_variables, cell_of, seen_at, actor_seen}
 use Rattle.flow_typing_laws.specs.ControlFlow.Laws.{AllHaveSimpleParts}
 use Rattle.flow_view_laws.specs.Within.{PartOf, RestWithin}
-use Rattle.flow_view_laws.specs.Told.{if_told}
 use Rattle.flow_view_laws.proofs.Names.{AreDistinct}
 use Rattle.flow_view_laws.proofs.Tied.{Tied, Stands}
 

@@ -22,10 +22,9 @@ use Rattle.flow_heap_refinement.specs.Representing.{Represents, ActorRepresents,
 use Rattle.flow_heap_refinement.specs.Rested.{Sorted}
 use Rattle.flow_compile_laws.specs.Simulation.Carried.{AreCarried}
 use Rattle.flow_world_refinement.proofs.Views.Paired.{Both, Paired, paired}
-use Rattle.flow_debug.specs.Told.{places_of_waits, actor_told}
+use Rattle.flow_debug.specs.Told.{places_of_waits, actor_told, if_told, actors_told}
 use Rattle.flow_debug.specs.SourceView.{actor_seen}
 use Rattle.flow_typing_laws.specs.ControlFlow.Laws.{AllHaveSimpleParts}
-use Rattle.flow_view_laws.specs.Told.{if_told, actors_told}
 use Rattle.flow_view_laws.proofs.Names.{AreDistinct}
 use Rattle.flow_view_laws.proofs.Tied.{Stands}
 use Rattle.flow_view_laws.proofs.Frames.{frame_told}

@@ -19,10 +19,10 @@ use Rattle.flow_world.specs.declared.place.Place.{Place}
 use Rattle.flow_world.specs.Views.{actors_at}
 use Rattle.flow_world_refinement.specs.Order.Showing.{PlacesRepresent}
 use Rattle.flow_restore_laws.specs.Rest.Boundary.{IsAtRest}
-use Rattle.flow_debug.specs.Told.{places_of_waits}
+use Rattle.flow_debug.specs.Told.{places_of_waits, actors_told}
 use Rattle.flow_debug.specs.SourceView.{actor_seen, process_seen, places_seen, SourceView}
 use Rattle.flow_typing_laws.specs.ControlFlow.Laws.{AllHaveSimpleParts}
-use Rattle.flow_view_laws.specs.Told.{actors_told, places_told, AllRise}
+use Rattle.flow_view_laws.specs.Told.{places_told, AllRise}
 use Rattle.flow_view_laws.proofs.Names.{AreDistinct}
 use Rattle.flow_view_laws.proofs.Tied.{Stands}
 use Rattle.flow_view_laws.proofs.Heaps.{Beside, heap_told}
