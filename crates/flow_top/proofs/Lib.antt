@@ -8,3 +8,4 @@ pub mod Staging
 pub mod Reporting
 pub mod Missing
 pub mod OneAnswer
+pub mod Viewing

@@ -26,8 +26,6 @@ use Rattle.flow_top.specs.declared.outcome.ProgramRun.{ProgramRun}
 use Rattle.flow_top.specs.declared.outcome.Meant.{Meant}
 use Rattle.flow_top.specs.declared.outcome.Answered as told
 use Rattle.flow_top.specs.declared.outcome.Answered.TheVariants.{Usage, Refused, NoClasses, NoWorld, Passed, Compiled, Formatted}
-use Rattle.flow_debug.specs.declared.waits.WaitPlaces.{WaitPlaces}
-use Rattle.flow_top.specs.Debugged.{WaitsFor}
 use Rattle.flow_top.specs.Requests.{tells_frames}
 use Rattle.flow_top.specs.Sources.{Source, first_source, world_source, FileText, read_for, IsOf}
 use Rattle.flow_top.specs.Outcomes.{heavy_outcome, IsPassing, IsRunBy, IsMeantBy, run_for}
@@ -68,8 +66,8 @@ pub data DueIn (text world_text : List ℕ) (q : Request) : Outcome → Type 0 w
   no_world : (meant : Meant) (classes : RawClasses) (fault : WorldFault) → IsRunFor text q meant classes
       → reading.ReadsWorld world_text (Err fault) → fault ≢ world.OutOfMemory → DueIn text world_text q (Answered (NoWorld fault))
   -- classes are run in the world
-  runs : (r : ProgramRun) (waits : WaitPlaces) → IsRunFor text q r.meant r.classes → reading.ReadsWorld world_text (Ok r.world)
-      → r.frames ≡ tells_frames q → WaitsFor q r.meant waits → DueIn text world_text q (run_for q r waits)
+  runs : (r : ProgramRun) → IsRunFor text q r.meant r.classes → reading.ReadsWorld world_text (Ok r.world) → r.frames ≡ tells_frames q
+      → DueIn text world_text q (run_for q r)
 
 -- What is due by the request and by the texts of these files, in the order in which they were asked for.
 pub data Due : Option Request → Outcome → List FileText → Type 0 where

@@ -36,7 +36,7 @@ use Rattle.flow_words.specs.Asked.{Request, run as run_words, exec as exec_words
 use Rattle.flow_top.specs.declared.outcome.Outcome.{Outcome}
 use Rattle.flow_top.specs.declared.outcome.Outcome.TheVariants.{Answered, Run, Bench, Shrink, Debug}
 use Rattle.flow_top.specs.declared.outcome.ProgramRun.{ProgramRun}
-use Rattle.flow_debug.specs.declared.waits.WaitPlaces.{WaitPlaces}
+use Rattle.flow_top.specs.declared.outcome.DebugRun.{DebugRun}
 use Rattle.flow_top.specs.Debugged.{WaitsOf}
 use Rattle.flow_top.specs.declared.outcome.Meant.{Meant}
 use Rattle.flow_top.specs.declared.outcome.Meant.TheVariants.{Text, Classes}
@@ -133,11 +133,11 @@ shrink_for r = if nat_le r.world.script.len SCRIPT_LINES then Shrink r else Answ
 
 -- the outcome where classes are run for a request: what is shown of them is written, or for `bench` its summary, for `shrink` a world that
 -- was made smaller, or for `debug` a state
-abbrev pub run_for : Request → ProgramRun → WaitPlaces → Outcome
-run_for (bench_words clients seed) r waits = Bench (record { run = r; clients = clients; seed = seed })
-run_for (shrink_words program world want) r waits = shrink_for r
-run_for (debug_words program world most) r waits = Debug (record { run = r; waits = waits; most = most })
-run_for _ r waits = Run r
+abbrev pub run_for : Request → ProgramRun → Outcome
+run_for (bench_words clients seed) r = Bench (record { run = r; clients = clients; seed = seed })
+run_for (shrink_words program world want) r = shrink_for r
+run_for (debug_words program world most) r = Debug (record { run = r; most = most })
+run_for _ r = Run r
 
 -- a run that may be made: of the classes of some text, in a world in range
 pub record MayRun (r : ProgramRun) : Type 0 where
@@ -150,12 +150,16 @@ abbrev pub IsText : Meant → Type 0
 IsText (Text p) = Unit {0}
 IsText Classes = ⊥
 
+-- the state of a program is told, whose waits are known
+abbrev pub MayView : DebugRun → Type 0
+MayView d = MayRun d.run × IsText d.run.meant × WaitsOf d.run.meant d.run.waits
+
 abbrev pub MayTell : Outcome → Type 0
 MayTell (Answered outcome) = Unit {0}
 MayTell (Run r) = MayRun r
 MayTell (Bench b) = MayRun b.run
 MayTell (Shrink r) = MayRun r × IsText r.meant
-MayTell (Debug d) = MayRun d.run × WaitsOf d.run.meant d.waits
+MayTell (Debug d) = MayView d
 
 -- classes are run once at most, or again and again if they are run
 abbrev pub IsOnce : Outcome → Type 0

@@ -10,7 +10,6 @@ use crate::judge::{judge, world_of};
 use crate::outcome::{Answered, BenchRun, DebugRun, Outcome, ProgramRun};
 use crate::source::{first_source, read_text, world_source};
 use flow_base::files::Files;
-use flow_debug::waits::WaitPlaces;
 use flow_shrink::SCRIPT_LINES;
 use flow_words::Asked;
 use std::alloc::Global;
@@ -42,8 +41,8 @@ fn shrink_for(run: ProgramRun) -> Outcome
 }
 
 // The outcome where classes are run for a request.
-fn run_for(asked: &Asked<'_>, run: ProgramRun, waits: WaitPlaces) -> Outcome
-    ensures { result ≡ run_for (request_of asked.now) run waits }
+fn run_for(asked: &Asked<'_>, run: ProgramRun) -> Outcome
+    ensures { result ≡ run_for (request_of asked.now) run }
 {
     match asked {
         Asked::Bench(clients, seed) => Outcome::Bench(BenchRun {
@@ -56,7 +55,6 @@ fn run_for(asked: &Asked<'_>, run: ProgramRun, waits: WaitPlaces) -> Outcome
         Asked::Shrink(_) => shrink_for(run),
         Asked::Debug(debug) => Outcome::Debug(DebugRun {
             run,
-            waits,
             most: debug.most,
         }),
     }
@@ -92,8 +90,8 @@ pub fn decide<F: Files>(alloc: Global, asked: &Asked<'_>, files: &mut F) -> Outc
                 classes: runnable.classes,
                 world,
                 frames: tells_frames(asked),
+                waits: runnable.waits,
             },
-            runnable.waits,
         ),
         Err(told) => Outcome::Answered(told),
     }

@@ -38,20 +38,20 @@ pub struct Runnable {
     pub waits: WaitPlaces,
 }
 
-/// Classes that are run in a world, and whether frames are told after each event.
+/// Classes that are run in a world, whether frames are told after each event, and where the waits of the program stand, if that is asked for.
 #[derive(Drop)]
 pub struct ProgramRun {
     pub meant: Meant,
     pub classes: ClassProgram,
     pub world: World0,
     pub frames: bool,
+    pub waits: WaitPlaces,
 }
 
-/// A run up to so many events, and where the waits of its program stand.
+/// A run up to so many events.
 #[derive(Drop)]
 pub struct DebugRun {
     pub run: ProgramRun,
-    pub waits: WaitPlaces,
     pub most: u32,
 }
 

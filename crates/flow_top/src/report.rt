@@ -9,13 +9,20 @@ ghost use Rattle.flow_machine.specs.declared.host.RunFault.TheVariants.{Stuck};
 ghost use Rattle.flow_machine.specs.Cause.{fault_of};
 ghost use Rattle.flow_world.specs.WatchedTraces.{IsEnding};
 ghost use Rattle.flow_world.specs.declared.run_ending.RunEnding.TheVariants.{Own};
-ghost use Rattle.flow_top.specs.declared.outcome.Outcome.TheVariants as Outcome;
 ghost use Rattle.flow_top.specs.Outcomes.{text_of, status_of, world_status, MayRun, MayTell, IsText, IsOnce, IsAgain};
 ghost use Rattle.flow_top.specs.Told.{ending_status, run_status, fault_status_of, GoesOut, GoesOutInPart, ReportedTold, ReportedRun, IsCounted, ReportedBench, ReportedShrink, ReportedDebug, Reported};
 ghost use Rattle.flow_top.specs.Requests.{alone};
 ghost use Rattle.flow_top.specs.Shrunk.{IsStopped, shrunk_text, shrunk_status};
 ghost use Rattle.flow_shrink.specs.Shrinking.{Shrinks};
 ghost use Rattle.flow_worldfile.specs.Worlds.{seen};
+ghost use Rattle.flow_world.specs.Ending.{Seen};
+ghost use Rattle.flow_world.specs.Starting.{Starts};
+ghost use Rattle.flow_world.specs.Skipping.{SkipsUpTo};
+ghost use Rattle.flow_world.specs.Worlds.{world_seen};
+ghost use Rattle.flow_debug.specs.Waits.{waits_seen};
+ghost use Rattle.flow_view_laws.specs.Told.{AllRise};
+ghost use Rattle.flow_view_laws.specs.Skipped.{SkippedRise, world_view, skipped_text, skipped_status};
+ghost use Rattle.flow_top.specs.Outcomes.{MayView};
 
 use crate::counting::Counts;
 use crate::outcome::{Answered, BenchRun, DebugRun, Outcome, ProgramRun};
@@ -217,6 +224,7 @@ fn report_run<P: Audience, S: Sink>(
         classes,
         world,
         frames,
+        waits: _,
     } = run;
     let ending = match write_trace(alloc, classes, world, frames, panel, out) {
         Ok(ending) => ending,
@@ -250,6 +258,7 @@ fn count_run(alloc: Global, run: ProgramRun) -> Result<(Ending, Counts), NoMemor
         classes,
         world,
         frames,
+        waits: _,
     } = run;
     let mut nobody = Panel::empty(alloc);
     let mut counts = Counts::new();
@@ -305,6 +314,7 @@ fn shrink_run(
         classes,
         world,
         frames: _,
+        waits: _,
     } = run;
     let first = copied(alloc, &world)?;
     let mut stage = Stage {
@@ -361,19 +371,26 @@ fn report_shrink<S: Sink>(
     }
 }
 
-// Runs classes up to an event. It ends early where the run does.
-fn run_up_to(alloc: Global, run: ProgramRun, most: u32) -> Result<(World, Option<Ending>), NoMemory>
+// Runs classes up to an event, or up to the end where that comes before. Where the waits stand goes along.
+fn run_up_to(
+    alloc: Global,
+    run: ProgramRun,
+    most: u32,
+) -> Result<(World, Option<Ending>, WaitPlaces), NoMemory>
     requires { MayRun run }
+    ensures { IfOk result (λ x. (first : Seen) × Starts run.classes run.world first
+        × SkipsUpTo most first x.1 (world_seen x.0) × (x.2 ≡ run.waits)) }
 {
     let ProgramRun {
         meant: _,
         classes,
         world,
         frames: _,
+        waits,
     } = run;
     let mut world = World::start(alloc, classes, world)?;
     match world.run_events(most) {
-        Ok(ending) => Ok((world, ending)),
+        Ok(ending) => Ok((world, ending, waits)),
         Err(_) => Err(NoMemory),
     }
 }
@@ -385,6 +402,12 @@ fn write_view<S: Sink>(
     world: &World,
     out: &mut S,
 ) -> Result<(), OutFault>
+    ensures whole { OnOk result (AllRise (world_seen world.now).places
+        → GoesOut (S.seen out.old) (S.seen out.new)
+            (world_view (waits_seen waits.now) (world_seen world.now))) }
+    ensures part { AllRise (world_seen world.now).places
+        → GoesOutInPart (S.seen out.old) (S.seen out.new)
+            (world_view (waits_seen waits.now) (world_seen world.now)) }
     ensures handed { Grows (S.seen out.old).handed (S.seen out.new).handed }
     ensures cause { HasCause (S.seen out.old).faults (S.seen out.new).faults result }
 {
@@ -392,24 +415,51 @@ fn write_view<S: Sink>(
     out.flush()
 }
 
+// Writes the state of a world, or that an event was spent, by how its run ended, and flushes it.
+fn write_state<S: Sink>(
+    alloc: Global,
+    waits: &WaitPlaces,
+    world: &World,
+    ending: Option<Ending>,
+    out: &mut S,
+) -> Result<(), OutFault>
+    ensures whole { OnOk result (SkippedRise ending (world_seen world.now)
+        → GoesOut (S.seen out.old) (S.seen out.new)
+            (skipped_text (waits_seen waits.now) ending (world_seen world.now))) }
+    ensures part { SkippedRise ending (world_seen world.now)
+        → GoesOutInPart (S.seen out.old) (S.seen out.new)
+            (skipped_text (waits_seen waits.now) ending (world_seen world.now)) }
+    ensures handed { Grows (S.seen out.old).handed (S.seen out.new).handed }
+    ensures cause { HasCause (S.seen out.old).faults (S.seen out.new).faults result }
+{
+    match ending {
+        Some(Ending::Spent) => write_text(b"end spent\n", out),
+        Some(Ending::Idle) | Some(Ending::Bound) | None => write_view(alloc, waits, world, out),
+    }
+}
+
+// The status of a state.
+fn state_status(ending: Option<Ending>) -> u8
+    ensures { result ≡ skipped_status ending }
+{
+    match ending {
+        Some(Ending::Spent) => 4,
+        Some(Ending::Idle) | Some(Ending::Bound) | None => 0,
+    }
+}
+
 // Runs classes up to an event, writes the state after it and flushes it, and gives the status.
 fn report_debug<S: Sink>(alloc: Global, debug: DebugRun, out: &mut S) -> u8
-    requires { MayTell (Outcome.Debug debug) }
+    requires { MayView debug }
     ensures reported { ReportedDebug debug (S.seen out.old) (S.seen out.new) result }
     ensures handed { Grows (S.seen out.old).handed (S.seen out.new).handed }
 {
-    let DebugRun { run, waits, most } = debug;
-    let Ok((world, ending)) = run_up_to(alloc, run, most) else {
+    let DebugRun { run, most } = debug;
+    let Ok((world, ending, waits)) = run_up_to(alloc, run, most) else {
         return 7;
     };
-    let (written, status) = match ending {
-        Some(Ending::Spent) => (write_text(b"end spent\n", out), 4),
-        Some(Ending::Idle) | Some(Ending::Bound) | None => {
-            (write_view(alloc, &waits, &world, out), 0)
-        }
-    };
-    match written {
-        Ok(()) => status,
+    match write_state(alloc, &waits, &world, ending, out) {
+        Ok(()) => state_status(ending),
         Err(fault) => fault_status(fault),
     }
 }

@@ -1,17 +1,15 @@
 // A state goes out.
 
-ghost use Rattle.std.specs.Prelude.{◌≡◌, ℕ, List, ◌++◌, map, slice_get, OnOk};
-ghost use Rattle.std.specs.List.{flat_map};
+ghost use Rattle.std.specs.Prelude.{slice_get, OnOk};
 ghost use Rattle.std.specs.Io.KnownBytes.{Appends};
 ghost use Rattle.flow_base.specs.Bytes.{AppendsPart, Grows};
 ghost use Rattle.flow_base.specs.Faults.{HasCause};
-ghost use Rattle.flow_class.specs.View.{class_of, raw_of};
-ghost use Rattle.flow_world.specs.Views.{actors_at, NumbersRiseAt};
+ghost use Rattle.flow_world.specs.Views.{NumbersRiseAt};
 ghost use Rattle.flow_world.specs.Worlds.{world_seen};
 ghost use Rattle.flow_debug.specs.Waits.{waits_seen};
-ghost use Rattle.flow_debug.specs.Told.{actors_told};
-ghost use Rattle.flow_debug.specs.ViewText.{actor_lines, ViewText};
-ghost use Rattle.flow_view_laws.specs.Told.{places_told, AllRise};
+ghost use Rattle.flow_view_laws.specs.Told.{AllRise};
+ghost use Rattle.flow_view_laws.specs.Skipped.{world_view};
+ghost use Rattle.flow_top.specs.Debugged.{process_text};
 
 use flow_base::fault::OutFault;
 use flow_base::ids::ProcId;
@@ -31,6 +29,12 @@ fn put_process<S: Sink>(
     process: ProcId,
     out: &mut S,
 ) -> Result<(), OutFault>
+    ensures whole { OnOk result (NumbersRiseAt (slice_get world.now.places.items process.0)
+        → Appends (S.seen out.old).written (S.seen out.new).written
+            (process_text (waits_seen waits.now) (world_seen world.now) process.0)) }
+    ensures part { NumbersRiseAt (slice_get world.now.places.items process.0)
+        → AppendsPart (S.seen out.old).written (S.seen out.new).written
+            (process_text (waits_seen waits.now) (world_seen world.now) process.0) }
     ensures handed { Grows (S.seen out.old).handed (S.seen out.new).handed }
     ensures cause { HasCause (S.seen out.old).faults (S.seen out.new).faults result }
 {
@@ -54,6 +58,12 @@ pub fn put_view<S: Sink>(
     world: &World,
     out: &mut S,
 ) -> Result<(), OutFault>
+    ensures whole { OnOk result (AllRise (world_seen world.now).places
+        → Appends (S.seen out.old).written (S.seen out.new).written
+            (world_view (waits_seen waits.now) (world_seen world.now))) }
+    ensures part { AllRise (world_seen world.now).places
+        → AppendsPart (S.seen out.old).written (S.seen out.new).written
+            (world_view (waits_seen waits.now) (world_seen world.now)) }
     ensures handed { Grows (S.seen out.old).handed (S.seen out.new).handed }
     ensures cause { HasCause (S.seen out.old).faults (S.seen out.new).faults result }
 {

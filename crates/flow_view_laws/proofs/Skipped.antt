@@ -51,7 +51,7 @@ use Rattle.flow_debug.specs.ViewText.{ViewText}
 use Rattle.flow_debug.specs.SourceView.{SourceView}
 use Rattle.flow_view_laws.specs.Told.{places_told}
 use Rattle.flow_view_laws.specs.Viewed.{IsViewed}
-use Rattle.flow_view_laws.specs.Skipped.{IsSpentWithin, IsView, viewed, spent as is_spent, spent_text, SkipsView}
+use Rattle.flow_view_laws.specs.Skipped.{IsSpentWithin, IsView, viewed, spent as is_spent, world_view, SkipsView}
 use Rattle.flow_view_laws.proofs.Ends.{one_last, ended_at}
 use Rattle.flow_view_laws.proofs.Law.{programs_viewed}
 
@@ -113,40 +113,46 @@ module _ (text : List ℕ) (program : Program) (c : RawClasses) (file : World0) 
       let once = one_run (source t) (seen file) x.states other.0 x.lines g.run.0 x.run other.1 in
       (ap length once.0 ∙ same_many R other.0 g.states other.2 ∙ own.0, subst (λ ls. LastIs (end_line e) ls) (sym once.1) own.1)
 
-  view_same : (v : Seen) (x : IsViewed t (raw_of c) (seen file) v)
-      → ViewText v.ran v.outside.time (places_told (places_of_waits t.decls) (raw_of c).classes 0 v.places) ≡ ViewText x.state.out.ran x.state.out.time (SourceView t x.state)
-  view_same v x =
-      ap₂ (λ n k. ViewText n k (places_told (places_of_waits t.decls) (raw_of c).classes 0 v.places)) x.ran x.time
+  -- the world runs the program's classes
+  runs_them : (v : Seen) (a b : _) → RunsEvents (tells unkept) false first a v b → raw_of v.code.program ≡ raw_of c
+  runs_them v a b goes =
+      (programs_go_onward (tells unkept) text program c file false first v a b sound light has range starts (resumed (tells unkept) false goes)).goes.text
+
+  view_same : (v : Seen) (x : IsViewed t (raw_of c) (seen file) v) → raw_of v.code.program ≡ raw_of c
+      → world_view (places_of_waits t.decls) v ≡ ViewText x.state.out.ran x.state.out.time (SourceView t x.state)
+  view_same v x runs =
+      ap (λ r. ViewText v.ran v.outside.time (places_told (places_of_waits t.decls) r.classes 0 v.places)) runs
+      ∙ ap₂ (λ n k. ViewText n k (places_told (places_of_waits t.decls) (raw_of c).classes 0 v.places)) x.ran x.time
       ∙ ap (ViewText x.state.out.ran x.state.out.time) x.told
 
-  view_at : (v : Seen) (x : IsViewed t (raw_of c) (seen file) v) (most : ℕ) → (IsSpentWithin most x.states x.lines → ⊥) → min most (length x.states - 1) ≡ v.ran
-      → IsView t (seen file) most (ViewText v.ran v.outside.time (places_told (places_of_waits t.decls) (raw_of c).classes 0 v.places)) 0
-  view_at v x most whole is =
-      subst (λ z. IsView t (seen file) most z 0) (sym (view_same v x))
+  view_at : (v : Seen) (x : IsViewed t (raw_of c) (seen file) v) → raw_of v.code.program ≡ raw_of c → (most : ℕ) → (IsSpentWithin most x.states x.lines → ⊥) → min most (length x.states - 1) ≡ v.ran
+      → IsView t (seen file) most (world_view (places_of_waits t.decls) v) 0
+  view_at v x runs most whole is =
+      subst (λ z. IsView t (seen file) most z 0) (sym (view_same v x runs))
       (viewed x.states x.lines x.state x.run whole (ap (slice_get x.states) is ∙ x.after_as_many))
 
   -- the run goes so far
   goes_so_far : (v : Seen) (most : ℕ) (b : _) → Skips most first v b
       → (Rattle.flow_view_laws.specs.Skipped.SkippedRise None v)
-      × IsView t (seen file) most (ViewText v.ran v.outside.time (places_told (places_of_waits t.decls) (raw_of c).classes 0 v.places)) 0
+      × IsView t (seen file) most (world_view (places_of_waits t.decls) v) 0
   goes_so_far v most b s =
       let x = at_last v _ _ s.runs in
       let ran : v.ran ≡ most = s.counted ∙ ap (λ n. n + most) starts.ran in
       let within : v.ran < length x.states = slice_get_within x.states v.ran x.state x.after_as_many in
-      (x.rise, view_at v x most (λ z. absurd (omega (arith, z.0, within, ran))) (omega (arith, within, ran)))
+      (x.rise, view_at v x (runs_them v _ _ s.runs) most (λ z. absurd (omega (arith, z.0, within, ran))) (omega (arith, within, ran)))
 
   -- or it ends before
   ends_before : (e : Ending) (v : Seen) (most : ℕ) (u : Seen) (many : ℕ) (before : _) (after : _) → many < most → Skips many first u before
       → (end_line e ≡ line.EndSpent → ⊥) → EventDoes (tells unkept) (last_answer e) u _ v after → v ≡ u
       → (Rattle.flow_view_laws.specs.Skipped.SkippedRise None v)
-      × IsView t (seen file) most (ViewText v.ran v.outside.time (places_told (places_of_waits t.decls) (raw_of c).classes 0 v.places)) 0
+      × IsView t (seen file) most (world_view (places_of_waits t.decls) v) 0
   ends_before e v most u many before after few s other does same =
       let x = at_last u _ _ s.runs in
       let ran : u.ran ≡ many = s.counted ∙ ap (λ n. n + many) starts.ran in
       let over = ended u v _ _ _ e s.runs does x in
       subst (λ z. (Rattle.flow_view_laws.specs.Skipped.SkippedRise None z)
-          × IsView t (seen file) most (ViewText z.ran z.outside.time (places_told (places_of_waits t.decls) (raw_of c).classes 0 z.places)) 0) (sym same)
-      (x.rise, view_at u x most (λ z. other (one_last (end_line e) line.EndSpent x.lines over.1 z.1)) (omega (arith, over.0, ran, few)))
+          × IsView t (seen file) most (world_view (places_of_waits t.decls) z) 0) (sym same)
+      (x.rise, view_at u x (runs_them u _ _ s.runs) most (λ z. other (one_last (end_line e) line.EndSpent x.lines over.1 z.1)) (omega (arith, over.0, ran, few)))
 
 not_spent_idle : line.EndIdle ≡ line.EndSpent → ⊥
 not_spent_idle e = cc

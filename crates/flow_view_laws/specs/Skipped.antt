@@ -11,7 +11,6 @@ use Rattle.flow_trace.specs.declared.line.Line.TheVariants.{EndSpent}
 use Rattle.flow_worldfile.specs.declared.world.World0.{World0}
 use Rattle.flow_worldfile.specs.Worlds as worlds
 use Rattle.flow_worldfile.specs.Worlds.{IsInRange, seen}
-use Rattle.flow_class.specs.Classes.{ClassTree}
 use Rattle.flow_class.specs.declared.class.RawClasses.{RawClasses}
 use Rattle.flow_class.specs.View.{raw_of}
 use Rattle.flow_front.specs.Verdict.{IsSound}
@@ -49,10 +48,14 @@ pub data IsView (p : ProgramTree) (w : worlds.World) (most : ℕ) : (text : List
   spent : (states : List (World Actor)) (lines : List Line) → IsRun (source p) w states lines
       → IsSpentWithin most states lines → IsView p w most spent_text 4
 
--- what a world in memory tells after some events, by how the run ended, if it did
-abbrev pub skipped_text : List (List Place) → List ClassTree → Option Ending → Seen → List ℕ
-skipped_text waits classes (Some Spent) v = spent_text
-skipped_text waits classes _ v = ViewText v.ran v.outside.time (places_told waits classes 0 v.places)
+-- what a world in memory tells, by the places of the waits of the program whose classes it runs
+abbrev pub world_view : List (List Place) → Seen → List ℕ
+world_view waits v = ViewText v.ran v.outside.time (places_told waits (raw_of v.code.program).classes 0 v.places)
+
+-- and after some events, by how the run ended, if it did
+abbrev pub skipped_text : List (List Place) → Option Ending → Seen → List ℕ
+skipped_text waits (Some Spent) v = spent_text
+skipped_text waits _ v = world_view waits v
 
 abbrev pub skipped_status : Option Ending → ℕ
 skipped_status (Some Spent) = 4
@@ -70,4 +73,4 @@ SkipsView =
     → first_heavy (program_of program).decls ≡ None → Has (program_of program) (raw_of c) → IsInRange (seen file) → Starts c file first
     → SkipsUpTo most first e v
     → SkippedRise e v
-    × IsView (program_of program) (seen file) most (skipped_text (places_of_waits (program_of program).decls) (raw_of c).classes e v) (skipped_status e)
+    × IsView (program_of program) (seen file) most (skipped_text (places_of_waits (program_of program).decls) e v) (skipped_status e)
