@@ -20,8 +20,7 @@ ghost use Rattle.flow_world.specs.Starting.{Starts};
 ghost use Rattle.flow_world.specs.Skipping.{SkipsUpTo};
 ghost use Rattle.flow_world.specs.Worlds.{world_seen};
 ghost use Rattle.flow_debug.specs.Waits.{waits_seen};
-ghost use Rattle.flow_view_laws.specs.Told.{AllRise};
-ghost use Rattle.flow_view_laws.specs.Skipped.{SkippedRise, world_view, skipped_text, skipped_status};
+ghost use Rattle.flow_view_laws.specs.Skipped.{CanBeTold, SkippedRise, world_view, skipped_text, skipped_status};
 ghost use Rattle.flow_top.specs.Outcomes.{MayView};
 
 use crate::counting::Counts;
@@ -402,10 +401,10 @@ fn write_view<S: Sink>(
     world: &World,
     out: &mut S,
 ) -> Result<(), OutFault>
-    ensures whole { OnOk result (AllRise (world_seen world.now).places
+    ensures whole { OnOk result (CanBeTold (world_seen world.now)
         → GoesOut (S.seen out.old) (S.seen out.new)
             (world_view (waits_seen waits.now) (world_seen world.now))) }
-    ensures part { AllRise (world_seen world.now).places
+    ensures part { CanBeTold (world_seen world.now)
         → GoesOutInPart (S.seen out.old) (S.seen out.new)
             (world_view (waits_seen waits.now) (world_seen world.now)) }
     ensures handed { Grows (S.seen out.old).handed (S.seen out.new).handed }

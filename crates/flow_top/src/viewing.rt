@@ -7,8 +7,7 @@ ghost use Rattle.flow_base.specs.Faults.{HasCause};
 ghost use Rattle.flow_world.specs.Views.{NumbersRiseAt};
 ghost use Rattle.flow_world.specs.Worlds.{world_seen};
 ghost use Rattle.flow_debug.specs.Waits.{waits_seen};
-ghost use Rattle.flow_view_laws.specs.Told.{AllRise};
-ghost use Rattle.flow_view_laws.specs.Skipped.{world_view};
+ghost use Rattle.flow_view_laws.specs.Skipped.{CanBeTold, world_view};
 ghost use Rattle.flow_top.specs.Debugged.{process_text};
 
 use flow_base::fault::OutFault;
@@ -58,10 +57,10 @@ pub fn put_view<S: Sink>(
     world: &World,
     out: &mut S,
 ) -> Result<(), OutFault>
-    ensures whole { OnOk result (AllRise (world_seen world.now).places
+    ensures whole { OnOk result (CanBeTold (world_seen world.now)
         → Appends (S.seen out.old).written (S.seen out.new).written
             (world_view (waits_seen waits.now) (world_seen world.now))) }
-    ensures part { AllRise (world_seen world.now).places
+    ensures part { CanBeTold (world_seen world.now)
         → AppendsPart (S.seen out.old).written (S.seen out.new).written
             (world_view (waits_seen waits.now) (world_seen world.now)) }
     ensures handed { Grows (S.seen out.old).handed (S.seen out.new).handed }
