@@ -54,6 +54,7 @@ use Rattle.flow_view_laws.specs.Viewed.{IsViewed}
 use Rattle.flow_view_laws.specs.Skipped.{IsSpentWithin, IsView, viewed, spent as is_spent, world_view, SkipsView}
 use Rattle.flow_view_laws.proofs.Ends.{one_last, ended_at}
 use Rattle.flow_view_laws.proofs.Law.{programs_viewed}
+use Rattle.flow_view_laws.proofs.Worlds.{places_many}
 
 -- a run from the start is one
 one_run : {A : Type 0} (e : Engine A) (w : worlds.World) (xs ys : List (World A)) (ks ls : List Line) → IsRun e w xs ks → IsRun e w ys ls → (xs ≡ ys) × (ks ≡ ls)
@@ -118,6 +119,13 @@ module _ (text : List ℕ) (program : Program) (c : RawClasses) (file : World0) 
   runs_them v a b goes =
       (programs_go_onward (tells unkept) text program c file false first v a b sound light has range starts (resumed (tells unkept) false goes)).goes.text
 
+  -- and has as many processes as it says
+  counted : (v : Seen) (a b : _) → RunsEvents (tells unkept) false first a v b → v.outside.net.processes ≡ length v.places
+  counted v a b goes =
+      let g = programs_go_onward (tells unkept) text program c file false first v a b sound light has range starts (resumed (tells unkept) false goes) in
+      g.goes.shows.outside.processes ∙ sym g.goes.keeps.lasting.keeps.fits.count
+      ∙ sym (places_many (Quiescent (raw_of c)) g.state.out.file.processes 0 v.places g.state.places g.goes.shows.places)
+
   view_same : (v : Seen) (x : IsViewed t (raw_of c) (seen file) v) → raw_of v.code.program ≡ raw_of c
       → world_view (places_of_waits t.decls) v ≡ ViewText x.state.out.ran x.state.out.time (SourceView t x.state)
   view_same v x runs =
@@ -139,7 +147,7 @@ module _ (text : List ℕ) (program : Program) (c : RawClasses) (file : World0) 
       let x = at_last v _ _ s.runs in
       let ran : v.ran ≡ most = s.counted ∙ ap (λ n. n + most) starts.ran in
       let within : v.ran < length x.states = slice_get_within x.states v.ran x.state x.after_as_many in
-      (x.rise, view_at v x (runs_them v _ _ s.runs) most (λ z. absurd (omega (arith, z.0, within, ran))) (omega (arith, within, ran)))
+      ((counted v _ _ s.runs, x.rise), view_at v x (runs_them v _ _ s.runs) most (λ z. absurd (omega (arith, z.0, within, ran))) (omega (arith, within, ran)))
 
   -- or it ends before
   ends_before : (e : Ending) (v : Seen) (most : ℕ) (u : Seen) (many : ℕ) (before : _) (after : _) → many < most → Skips many first u before
@@ -152,7 +160,7 @@ module _ (text : List ℕ) (program : Program) (c : RawClasses) (file : World0) 
       let over = ended u v _ _ _ e s.runs does x in
       subst (λ z. (Rattle.flow_view_laws.specs.Skipped.SkippedRise None z)
           × IsView t (seen file) most (world_view (places_of_waits t.decls) z) 0) (sym same)
-      (x.rise, view_at u x (runs_them u _ _ s.runs) most (λ z. other (one_last (end_line e) line.EndSpent x.lines over.1 z.1)) (omega (arith, over.0, ran, few)))
+      ((counted u _ _ s.runs, x.rise), view_at u x (runs_them u _ _ s.runs) most (λ z. other (one_last (end_line e) line.EndSpent x.lines over.1 z.1)) (omega (arith, over.0, ran, few)))
 
 not_spent_idle : line.EndIdle ≡ line.EndSpent → ⊥
 not_spent_idle e = cc

@@ -1,5 +1,5 @@
 -- What a world in memory tells between events is the view of the state of the text that is beside the state that it represents.
-use Rattle.std.proofs.Common.{◌≡◌, ℕ, zero, suc, List, [], ◌∷◌, ◌++◌, refl, sym, ap, ap₂, subst, ◌∙◌}
+use Rattle.std.proofs.Common.{◌≡◌, ℕ, zero, suc, List, [], ◌∷◌, ◌++◌, length, refl, sym, ap, ap₂, subst, ◌∙◌}
 use Rattle.std.specs.Prelude.{slice_get}
 use Rattle.std.specs.List.{flat_map}
 use Rattle.std.specs.declared.option.Option.TheVariants.{None, Some}
@@ -10,11 +10,12 @@ use Rattle.flow_meaning.specs.Frame.{Frame}
 use Rattle.flow_meaning.specs.Items.{Actor}
 use Rattle.flow_meaning.specs.Law.{Related}
 use Rattle.flow_meaning.specs.Orderly.{Phase}
-use Rattle.flow_meaning.specs.Process.{Core}
+use Rattle.flow_meaning.specs.Process.{Core, Proc}
 use Rattle.flow_meaning.specs.RunLaw.{SamePlace, SamePlaces, SameWorld, SameStates}
 use Rattle.flow_meaning.specs.World.{World}
 use Rattle.flow_meaning.specs.World as meaning
 use Rattle.flow_compile_laws.specs.Simulation.Carried.{AreCarried}
+use Rattle.flow_steps.specs.declared.process.Process.{Process}
 use Rattle.flow_world.specs.declared.place.Place.{Place}
 use Rattle.flow_world.specs.Views.{actors_at}
 use Rattle.flow_world_refinement.specs.Order.Showing.{PlacesRepresent}
@@ -58,6 +59,13 @@ all_rise r m n (at ∷ ats) [] h = absurd h
 all_rise r m n (at ∷ ats) (x ∷ xs) h =
     let sorted = h.0.rests.rested.running.sorted in
     (record { cells = sorted.cells; streams = sorted.streams; frames = sorted.frames }, all_rise r m (suc n) ats xs h.1)
+
+-- as many processes are in memory
+pub places_many : (Rests : Process → Proc Frame → Type 0) (processes n : ℕ) (ats : List Place) (xs : List (meaning.Place Frame)) → PlacesRepresent Rests processes n ats xs → length ats ≡ length xs
+places_many Rests m n [] [] h = refl
+places_many Rests m n [] (x ∷ xs) h = absurd h
+places_many Rests m n (at ∷ ats) [] h = absurd h
+places_many Rests m n (at ∷ ats) (x ∷ xs) h = ap suc (places_many Rests m (suc n) ats xs h.1)
 
 -- the state of the first kind beside a state of the second
 pub state_beside : {A B : Type 0} (R : Phase → A → B → Type 0) (n : ℕ) (ws : List (World A)) (us : List (World B)) (u : World B) → SameStates R ws us → slice_get us n ≡ Some u

@@ -61,10 +61,14 @@ abbrev pub skipped_status : Option Ending → ℕ
 skipped_status (Some Spent) = 4
 skipped_status _ = 0
 
--- its numbers rise, unless it is past an event that was spent
+-- it can be told: it has as many processes as it says, and the numbers in each rise
+abbrev pub CanBeTold : Seen → Type 0
+CanBeTold v = (v.outside.net.processes ≡ length v.places) × AllRise v.places
+
+-- so it is unless it is past an event that was spent
 abbrev pub SkippedRise : Option Ending → Seen → Type 0
 SkippedRise (Some Spent) v = Unit {0}
-SkippedRise _ v = AllRise v.places
+SkippedRise _ v = CanBeTold v
 
 -- That is the view of the program's own state.
 abbrev pub SkipsView : Type 0
