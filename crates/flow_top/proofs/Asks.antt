@@ -102,6 +102,11 @@ pub unanswered_alone : (handed : List Handed) (q : Request) (want : Want) (one :
 unanswered_alone handed q want one a files sink sink' status h reported =
     unanswered handed q a files sink sink' status (subst (λ f. NotAttached f a) (sym (ap (want_fault (map (λ (h : Handed). h.name) handed)) one)) h) reported
 
+-- by monitors as they were handed in
+pub as_handed : (given handed : List Handed) (q : Request) (files files' : FilesSeen) (sink sink' : SinkSeen) (status : ℕ) → given ≡ handed
+    → AnswersTo (served given q) given files files' sink sink' status → AnswersTo (served handed q) handed files files' sink sink' status
+as_handed given handed q files files' sink sink' status same a = subst (λ hs. AnswersTo (served hs q) hs files files' sink sink' status) same a
+
 -- the words ask for it
 pub by_words : (given : List (List ℕ)) (handed : List Handed) (q : Request) (files files' : FilesSeen) (sink sink' : SinkSeen) (status : ℕ) → asked given ≡ Some q
     → AnswersTo (served handed q) handed files files' sink sink' status → Answers given handed files files' sink sink' status

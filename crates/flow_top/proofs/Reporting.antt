@@ -1,5 +1,5 @@
 -- What was told, from what was written.
-use Rattle.std.proofs.Common.{◌≡◌, ℕ, ◌≤◌, Bool, false, List, [], length, refl, sym, ap, ◌∙◌, subst, arith, Option, Result}
+use Rattle.std.proofs.Common.{◌≡◌, ℕ, ◌≤◌, Bool, false, List, [], refl, sym, ap, ◌∙◌, subst, arith, Option, Result}
 use Rattle.std.specs.Io.KnownBytes.{Appends, Keeps}
 use Rattle.std.proofs.KnownBytes.{Appends-kept}
 use Rattle.std.proofs.lemmas.List.{append-nil}
@@ -17,8 +17,8 @@ use Rattle.flow_class_reading_laws.proofs.Whole.{reads_whole}
 use Rattle.flow_worldfile.specs.declared.world.World0.{World0}
 use Rattle.flow_worldfile.specs.Worlds.{World, IsInRange, seen}
 use Rattle.flow_monitor.specs.Cut.{Cut}
-use Rattle.flow_monitor.specs.Ears.{Ear, Ears, names}
-use Rattle.flow_monitor.proofs.Naming.{many_stay, nobody_cuts}
+use Rattle.flow_monitor.specs.Ears.{Ear, Ears}
+use Rattle.flow_monitor.proofs.Naming.{nobody_cuts}
 use Rattle.flow_machine.specs.declared.host.RunFault.{RunFault}
 use Rattle.flow_machine.specs.declared.host.RunFault.TheVariants.{Stuck}
 use Rattle.flow_world.specs.Around.{Puts}
@@ -26,7 +26,7 @@ use Rattle.flow_world.specs.BreakingTraces.{TraceFails}
 use Rattle.flow_world.specs.Ends.{end_line, LastIs}
 use Rattle.flow_world.specs.FaultedLines.{tells, telling, whole}
 use Rattle.flow_world.specs.Watching.{Hearing, hearing, watching}
-use Rattle.flow_world.specs.WatchedTraces.{IsEnding, HeardTrace, last_line}
+use Rattle.flow_world.specs.WatchedTraces.{HeardTrace, last_line}
 use Rattle.flow_world.specs.declared.run_ending.RunEnding.{RunEnding}
 use Rattle.flow_world.specs.declared.run_ending.RunEnding.TheVariants.{Own}
 use Rattle.flow_world.specs.declared.ending.Ending.{Ending}
@@ -162,11 +162,6 @@ unflushed r before after between ears others e OutOfMemory may t kept out rose =
     run_no_memory x.lines x.shown (record { part = whole_part _ _ _ (went_out r before after between ears e x kept); out = out })
 
 -- A run whose lines are counted.
-
--- a panel of nobody stops no run
-pub no_stop : (nobody others : Ears) (e : RunEnding) → nobody ≡ [] → names others ≡ names nobody → IsEnding e (length others) → IsEnding e 0
-no_stop nobody others e none same place = subst (IsEnding e) (many_stay nobody others same ∙ ap length none) place
-
 abbrev pub CountedRun : ProgramRun → Counts → Ears → RunEnding → Counts → Ears → Type 0
 CountedRun r before ears e after others =
     (stop : Option ℕ) × HeardTrace CountsLine r.frames r.classes r.world (watching before ears) e (whole (hearing after others stop))

@@ -6,6 +6,7 @@ mod counting;
 mod decide;
 mod judge;
 pub mod laws;
+mod nobody;
 mod outcome;
 mod report;
 mod source;

@@ -24,6 +24,7 @@ ghost use Rattle.flow_view_laws.specs.Skipped.{CanBeTold, SkippedRise, world_vie
 ghost use Rattle.flow_top.specs.Outcomes.{MayView};
 
 use crate::counting::Counts;
+use crate::nobody::Nobody;
 use crate::outcome::{Answered, BenchRun, DebugRun, Outcome, ProgramRun};
 use crate::stage::Stage;
 use crate::summary::summary;
@@ -36,7 +37,7 @@ use flow_classprint::write_classes;
 use flow_classread::fault::ClassFault;
 use flow_debug::waits::WaitPlaces;
 use flow_machine::host::RunFault;
-use flow_monitor::{Audience, Monitor, Panel};
+use flow_monitor::{Audience, Monitor};
 use flow_refusal::{class_line, class_status, refusal_line, refusal_status, world_line};
 use flow_show::show::{show_lines, write_lines};
 use flow_shrink::{Shrunk, copied, shrink};
@@ -259,7 +260,7 @@ fn count_run(alloc: Global, run: ProgramRun) -> Result<(Ending, Counts), NoMemor
         frames,
         waits: _,
     } = run;
-    let mut nobody = Panel::empty(alloc);
+    let mut nobody = Nobody;
     let mut counts = Counts::new();
     match put_trace(alloc, classes, world, frames, &mut nobody, &mut counts) {
         Ok(ending) => Ok((own_ending(ending), counts)),

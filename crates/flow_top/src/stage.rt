@@ -14,12 +14,13 @@ ghost use Rattle.flow_top.specs.Outcomes.{ShownIn};
 ghost use Rattle.flow_top.specs.Staging.{standing, HearsLine, HeardEvents, HeardRun, IsReady};
 
 use crate::counting::is_event;
+use crate::nobody::Nobody;
 use crate::outcome::Meant;
 use flow_base::fault::OutFault;
 use flow_base::memory::NoMemory;
 use flow_machine::host::RunFault;
 use flow_monitor::heard::is_heard;
-use flow_monitor::{Audience, Heard, Monitor, Panel};
+use flow_monitor::{Audience, Heard, Monitor};
 use flow_shrink::{Runner, copied};
 use flow_trace::line::Line;
 use flow_trace::out::LineOut;
@@ -180,7 +181,6 @@ fn hear_all<P: Audience>(
 // Runs a world before its first event where a monitor hears it, as far as it takes to know whether it says Stop in an event that
 // isn't spent.
 fn hear_run(
-    alloc: Global,
     world: &mut World,
     monitor: Box<dyn Monitor>,
 ) -> Result<(bool, Box<dyn Monitor>), NoMemory>
@@ -197,7 +197,7 @@ fn hear_run(
         monitor,
         progress: Progress::Hears,
     };
-    let mut nobody = Panel::empty(alloc);
+    let mut nobody = Nobody;
     match hear_all(world, &mut nobody, &mut lines) {
         Ok(()) => Ok((lines.is_stopped(), lines.monitor)),
         Err(_) => Err(NoMemory),
@@ -232,7 +232,7 @@ impl Runner for Stage {
         self.runs = self.runs.saturating_add(1);
         let file = copied(self.alloc, world)?;
         self.world.start_again(file)?;
-        hear_run(self.alloc, &mut self.world, monitor)
+        hear_run(&mut self.world, monitor)
     }
 
     fn runs(&self) -> u64 {

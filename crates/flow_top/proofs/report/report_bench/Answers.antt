@@ -1,5 +1,4 @@
 use Rattle.std.proofs.Common.{Err, ap, sym, subst, refl, ◌∙◌}
-use Rattle.flow_base.specs.Bytes.{Grows}
 use Rattle.flow_base.proofs.Growing.{grows_same}
 use Rattle.flow_top.specs.Told.{ReportedBench, GoesOut, GoesOutInPart, sum_no_memory}
 use Rattle.flow_top.proofs.Reporting.{sum_out, sum_in_part}

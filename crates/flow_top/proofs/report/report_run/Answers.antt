@@ -1,5 +1,4 @@
-use Rattle.std.proofs.Common.{◌≡◌, Err, ap, sym, ◌∙◌, subst}
-use Rattle.flow_base.specs.declared.fault.OutFault.TheVariants.{Failed}
+use Rattle.std.proofs.Common.{Err, ap, sym, ◌∙◌, subst}
 use Rattle.flow_machine.specs.Cause.{fault_of}
 use Rattle.flow_base.proofs.Growing.{grows_trans}
 use Rattle.flow_top.specs.Told.{ReportedRun}
