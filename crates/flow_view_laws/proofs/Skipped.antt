@@ -34,7 +34,8 @@ use Rattle.flow_world.specs.declared.ending.Ending.{Ending}
 use Rattle.flow_world.specs.declared.ending.Ending.TheVariants.{Idle, Bound, Spent}
 use Rattle.flow_world.specs.Ending.{Seen}
 use Rattle.flow_world.specs.Ends.{end_line, LastIs}
-use Rattle.flow_world.specs.FaultedLines.{tells}
+use Rattle.flow_world.specs.FaultedLines.{Telling, tells, whole}
+use Rattle.flow_world.specs.declared.silence.Silence.{Silence}
 use Rattle.flow_world.specs.Happening.{EventDoes}
 use Rattle.flow_world.specs.Skipping.{unkept, Skips, SkipsToEnd, SkipsUpTo}
 use Rattle.flow_world.specs.Starting.{Starts}
@@ -98,11 +99,11 @@ module _ (text : List ℕ) (program : Program) (c : RawClasses) (file : World0) 
   t = program_of program
 
   -- after so many events memory shows the state of that number
-  at_last : (v : Seen) (a b : _) → RunsEvents (tells unkept) false first a v b → IsViewed t (raw_of c) (seen file) v
+  at_last : (v : Seen) (a b : Telling Silence) → RunsEvents (tells unkept) false first a v b → IsViewed t (raw_of c) (seen file) v
   at_last v a b goes = programs_viewed (tells unkept) text program c file false first v a b sound light has range starts goes
 
   -- the last of them
-  ended : (u v : Seen) (a b d : _) (e : Ending) → RunsEvents (tells unkept) false first a u b → EventDoes (tells unkept) (last_answer e) u b v d
+  ended : (u v : Seen) (a b d : Telling Silence) (e : Ending) → RunsEvents (tells unkept) false first a u b → EventDoes (tells unkept) (last_answer e) u b v d
       → (x : IsViewed t (raw_of c) (seen file) u) → (length x.states ≡ suc u.ran) × LastIs (end_line e) x.lines
   ended u v a b d e goes does x =
       let g = programs_go_onward (tells unkept) text program c file false first u a b sound light has range starts (resumed (tells unkept) false goes) in
@@ -115,12 +116,12 @@ module _ (text : List ℕ) (program : Program) (c : RawClasses) (file : World0) 
       (ap length once.0 ∙ same_many R other.0 g.states other.2 ∙ own.0, subst (λ ls. LastIs (end_line e) ls) (sym once.1) own.1)
 
   -- the world runs the program's classes
-  runs_them : (v : Seen) (a b : _) → RunsEvents (tells unkept) false first a v b → raw_of v.code.program ≡ raw_of c
+  runs_them : (v : Seen) (a b : Telling Silence) → RunsEvents (tells unkept) false first a v b → raw_of v.code.program ≡ raw_of c
   runs_them v a b goes =
       (programs_go_onward (tells unkept) text program c file false first v a b sound light has range starts (resumed (tells unkept) false goes)).goes.text
 
   -- and has as many processes as it says
-  counted : (v : Seen) (a b : _) → RunsEvents (tells unkept) false first a v b → v.outside.net.processes ≡ length v.places
+  counted : (v : Seen) (a b : Telling Silence) → RunsEvents (tells unkept) false first a v b → v.outside.net.processes ≡ length v.places
   counted v a b goes =
       let g = programs_go_onward (tells unkept) text program c file false first v a b sound light has range starts (resumed (tells unkept) false goes) in
       g.goes.shows.outside.processes ∙ sym g.goes.keeps.lasting.keeps.fits.count
@@ -140,23 +141,23 @@ module _ (text : List ℕ) (program : Program) (c : RawClasses) (file : World0) 
       (viewed x.states x.lines x.state x.run whole (ap (slice_get x.states) is ∙ x.after_as_many))
 
   -- the run goes so far
-  goes_so_far : (v : Seen) (most : ℕ) (b : _) → Skips most first v b
+  goes_so_far : (v : Seen) (most : ℕ) (b : Silence) → Skips most first v b
       → (Rattle.flow_view_laws.specs.Skipped.SkippedRise None v)
       × IsView t (seen file) most (world_view (places_of_waits t.decls) v) 0
   goes_so_far v most b s =
       let x = at_last v _ _ s.runs in
-      let ran : v.ran ≡ most = s.counted ∙ ap (λ n. n + most) starts.ran in
+      let ran : v.ran ≡ most = omega (arith, s.counted, starts.ran) in
       let within : v.ran < length x.states = slice_get_within x.states v.ran x.state x.after_as_many in
       ((counted v _ _ s.runs, x.rise), view_at v x (runs_them v _ _ s.runs) most (λ z. absurd (omega (arith, z.0, within, ran))) (omega (arith, within, ran)))
 
   -- or it ends before
-  ends_before : (e : Ending) (v : Seen) (most : ℕ) (u : Seen) (many : ℕ) (before : _) (after : _) → many < most → Skips many first u before
-      → (end_line e ≡ line.EndSpent → ⊥) → EventDoes (tells unkept) (last_answer e) u _ v after → v ≡ u
+  ends_before : (e : Ending) (v : Seen) (most : ℕ) (u : Seen) (many : ℕ) (before : Silence) (after : Telling Silence) → many < most → Skips many first u before
+      → (end_line e ≡ line.EndSpent → ⊥) → EventDoes (tells unkept) (last_answer e) u (whole before) v after → v ≡ u
       → (Rattle.flow_view_laws.specs.Skipped.SkippedRise None v)
       × IsView t (seen file) most (world_view (places_of_waits t.decls) v) 0
   ends_before e v most u many before after few s other does same =
       let x = at_last u _ _ s.runs in
-      let ran : u.ran ≡ many = s.counted ∙ ap (λ n. n + many) starts.ran in
+      let ran : u.ran ≡ many = omega (arith, s.counted, starts.ran) in
       let over = ended u v _ _ _ e s.runs does x in
       subst (λ z. (Rattle.flow_view_laws.specs.Skipped.SkippedRise None z)
           × IsView t (seen file) most (world_view (places_of_waits t.decls) z) 0) (sym same)
@@ -176,6 +177,6 @@ skips_view text program c file first v most (Some Bound) sound light has range s
     ends_before text program c file first sound light has range starts Bound v most s.last s.many s.before _ s.fewer s.skips not_spent_bound s.ends s.ends.2
 skips_view text program c file first v most (Some Spent) sound light has range starts s =
     let x = at_last text program c file first sound light has range starts s.last _ _ s.skips.runs in
-    let ran : s.last.ran ≡ s.many = s.skips.counted ∙ ap (λ n. n + s.many) starts.ran in
+    let ran : s.last.ran ≡ s.many = omega (arith, s.skips.counted, starts.ran) in
     let over = ended text program c file first sound light has range starts s.last v _ _ _ Spent s.skips.runs s.ends x in
     (tt, is_spent x.states x.lines x.run (omega (arith, over.0, ran, s.fewer), over.1))
