@@ -8,4 +8,5 @@ pub mod Staging
 pub mod Reporting
 pub mod Missing
 pub mod OneAnswer
-pub mod Viewing
+pub mod Debugging
+pub mod Places
