@@ -71,7 +71,7 @@ fn put_branch(
 fn put_branches(out: &mut Vec<u8>, view: &ActorView) -> Result<(), NoMemory>
     ensures { OnOk result (out.new.items ≡ out.old.items
         ++ branch_lines view.now.process.0 view.now.actor.0 0
-            (map cell_number view.now.cells.items)) }
+        (map cell_number view.now.cells.items)) }
 {
     for (branch, cell) in view.cells.iter().enumerate() {
         put_branch(out, view, branch as u64, *cell)?;
@@ -95,7 +95,7 @@ fn put_variable(out: &mut Vec<u8>, view: &ActorView, variable: &VarView) -> Resu
 fn put_variables(out: &mut Vec<u8>, view: &ActorView) -> Result<(), NoMemory>
     ensures { OnOk result (out.new.items ≡ out.old.items
         ++ flat_map (variable_line view.now.process.0 view.now.actor.0)
-            (map variable_of view.now.vars.items)) }
+        (map variable_of view.now.vars.items)) }
 {
     for variable in &view.vars {
         put_variable(out, view, variable)?;

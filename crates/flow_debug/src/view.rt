@@ -52,7 +52,7 @@ pub fn actor_view(
 ) -> Result<Option<ActorView>, NoMemory>
     ensures { IfOk result (λ v. option_map view_of v
         ≡ actor_told (waits_seen waits.now) (map class_of classes.now) process.0
-            (actor_kept frame.now)) }
+        (actor_kept frame.now)) }
 {
     let Some(class) = classes.get(frame.class as usize) else {
         return Ok(None);

@@ -34,10 +34,10 @@ fn write_actor<S: Sink>(
 ) -> Result<(), OutFault>
     ensures whole { OnOk result (Appends (S.seen out.old).written (S.seen out.new).written
         (told_lines (waits_seen waits.now) (map class_of classes.now) process.0
-            (actor_kept frame.now))) }
+        (actor_kept frame.now))) }
     ensures part { AppendsPart (S.seen out.old).written (S.seen out.new).written
         (told_lines (waits_seen waits.now) (map class_of classes.now) process.0
-            (actor_kept frame.now)) }
+        (actor_kept frame.now)) }
     ensures handed { Grows (S.seen out.old).handed (S.seen out.new).handed }
     ensures cause { HasCause (S.seen out.old).faults (S.seen out.new).faults result }
 {
@@ -63,10 +63,10 @@ pub fn write_actors<S: Sink>(
 ) -> Result<(), OutFault>
     ensures whole { OnOk result (Appends (S.seen out.old).written (S.seen out.new).written
         (flat_map actor_lines (actors_told (waits_seen waits.now) (map class_of classes.now)
-            process.0 (map actor_kept frames.now)))) }
+        process.0 (map actor_kept frames.now)))) }
     ensures part { AppendsPart (S.seen out.old).written (S.seen out.new).written
         (flat_map actor_lines (actors_told (waits_seen waits.now) (map class_of classes.now)
-            process.0 (map actor_kept frames.now))) }
+        process.0 (map actor_kept frames.now))) }
     ensures handed { Grows (S.seen out.old).handed (S.seen out.new).handed }
     ensures cause { HasCause (S.seen out.old).faults (S.seen out.new).faults result }
 {

@@ -17,6 +17,8 @@ var 1 300 p = 0
 var 1 300 x = Future#2
 ";
 
+const HEAD: &[u8] = b"debug 1\nat 1 0\n";
+
 fn variables(alloc: Global) -> Result<Vec<VarView>, NoMemory> {
     let mut vars = Vec::new(alloc);
     vars.push(VarView {
@@ -50,7 +52,7 @@ fn is_printed(alloc: Global) -> Result<bool, NoMemory> {
 
 fn head_is_printed(alloc: Global) -> Result<bool, NoMemory> {
     let text = print_head(alloc, 1, 0)?;
-    Ok(text.as_slice() == b"debug 1\nat 1 0\n")
+    Ok(text.as_slice() == HEAD)
 }
 
 #[test]

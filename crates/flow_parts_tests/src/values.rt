@@ -67,11 +67,7 @@ fn writes_a_text(alloc: Global) -> Result<bool, NoMemory> {
 
 fn writes_a_record(alloc: Global) -> Result<bool, NoMemory> {
     let value = outer(alloc)?;
-    is_written(
-        alloc,
-        &value,
-        b"((Future#7, \"abc\"), PromiseStream#2)",
-    )
+    is_written(alloc, &value, b"((Future#7, \"abc\"), PromiseStream#2)")
 }
 
 #[test]

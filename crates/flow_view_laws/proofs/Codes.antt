@@ -1,5 +1,5 @@
 -- A frame keeps its class, unless it is over.
-use Rattle.std.proofs.Common.{◌≡◌, ◌⊎◌, inl, inr, ℕ, Bool, true, false, List, [], ◌∷◌, refl, sym, ap, subst, ◌∙◌}
+use Rattle.std.proofs.Common.{◌≡◌, ◌⊎◌, inl, inr, ℕ, Bool, true, false, List, [], refl, ◌∙◌}
 use Rattle.std.specs.declared.option.Option.{Option}
 use Rattle.std.specs.declared.option.Option.TheVariants.{None, Some}
 use Rattle.flow_tree.specs.Tree.{ExprTree, ExprTrees}
@@ -8,11 +8,10 @@ use Rattle.flow_eval.specs.Answers.{bool_of, error_of}
 use Rattle.flow_eval.specs.Eval.{Res, Done, Fails, Spent, Meaningless}
 use Rattle.flow_class.specs.Classes.{InstrTree, SetInstr, EffectInstr, NewInstr, ActInstr, DropInstr, LastTree, GotoLast, PassLast, TestLast, ChooseLast, ReturnLast, ThrowLast, CallbackTree, CatcherTree, ClassTree}
 use Rattle.flow_class.specs.Code.{type_at, Fetched, Body, Last, Nothing, fetch, callback_at, catcher_at}
-use Rattle.flow_meaning.specs.Requests.{Spot, Make, Goal, Stored, Kept, Act, Effects, Returns, Ask}
+use Rattle.flow_meaning.specs.Requests.{Spot, Make, Goal, Stored, Kept, Effects, Returns}
 use Rattle.flow_meaning.specs.Process.{View}
 use Rattle.flow_meaning.specs.Evaluating.{Names, bind, StepOf, asks, given, evaluated, Effectful, effect_in, effect_of, value, values, call_act}
-use Rattle.flow_meaning.specs.Law.{Quietly, still, quiet}
-use Rattle.flow_meaning.specs.Class.{promise_kind, placed, effects, instruction, test, operand_ref, operand_by, choose, throw_value, last, fetched, next_step, stored, store_at, bound, onward, take_callback, take_at, classes, class_names}
+use Rattle.flow_meaning.specs.Class.{promise_kind, placed, effects, instruction, test, operand_ref, operand_by, choose, throw_value, last, fetched, next_step, stored, store_at, bound, onward, take_callback, take_at}
 use Rattle.flow_meaning.specs.Frame.{Memory, Frame, look, assign, put_at, spot_of, next_instr, no_class, over, everything, lose, raised, raise}
 
 -- the class is this one, or the frame is over

@@ -1,15 +1,14 @@
 -- What a frame in memory tells is the view of the actor beside it.
-use Rattle.std.proofs.Common.{◌≡◌, ℕ, zero, suc, ◌+◌, nat_eq, Bool, true, false, List, [], ◌∷◌, ◌++◌, map, length, refl, sym, ap, ap₂, subst, ◌∙◌, arith}
+use Rattle.std.proofs.Common.{◌≡◌, ℕ, zero, suc, true, List, [], ◌∷◌, ◌++◌, map, length, refl, sym, ap, ap₂, subst, ◌∙◌, arith}
 use Rattle.std.specs.Prelude.{slice_get, unwrap_or}
 use Rattle.std.specs.Option.{option_map}
 use Rattle.std.proofs.lemmas.Option.{slice_get-map}
 use Rattle.std.specs.declared.option.Option.{Option}
-use Rattle.std.specs.declared.option.Option.TheVariants.{None, Some}
+use Rattle.std.specs.declared.option.Option.TheVariants.{Some}
 use Rattle.flow_base.specs.declared.place.Place.{Place}
-use Rattle.flow_tree.specs.Body.{Body, ChooseStmt, WaitStmt}
-use Rattle.flow_tree.specs.Decls.{SlotTree, RoutineTree, DeclTree, ProgramTree}
+use Rattle.flow_tree.specs.Body.{ChooseStmt, WaitStmt}
+use Rattle.flow_tree.specs.Decls.{SlotTree, RoutineTree, ProgramTree}
 use Rattle.flow_value.specs.declared.value.Value.{Value}
-use Rattle.flow_value.specs.View.{value_of}
 use Rattle.flow_value.specs.Values.{ValueTree}
 use Rattle.flow_class.specs.Classes.{ClassTree, RawTree}
 use Rattle.flow_numbered.specs.Numbered.{Numbered}
@@ -23,7 +22,7 @@ use Rattle.flow_meaning.specs.Orderly.{Waiting}
 use Rattle.flow_meaning.specs.Process.{Entry}
 use Rattle.flow_meaning.specs.Requests.{Spot}
 use Rattle.flow_meaning.specs.Items.{Item, Do, Actor}
-use Rattle.flow_meaning.specs.Source.{source, names_of, actors_in, routine_name}
+use Rattle.flow_meaning.specs.Source.{source, actors_in, routine_name}
 use Rattle.flow_meaning.specs.Shape.{IsClassOf, AreClassesOf}
 use Rattle.flow_meaning.specs.Frame.{Frame}
 use Rattle.flow_meaning.specs.Views.{spot_in, actor_spot, frame_spot}
@@ -36,7 +35,7 @@ use Rattle.flow_debug.specs.SourceView.{suspended_at, filled_variables, cell_of,
 use Rattle.flow_typing_laws.specs.ControlFlow.Laws.{AllHaveSimpleParts}
 use Rattle.flow_view_laws.specs.Within.{PartOf, RestWithin}
 use Rattle.flow_view_laws.proofs.Names.{AreDistinct}
-use Rattle.flow_view_laws.proofs.Tied.{Tied, Stands}
+use Rattle.flow_view_laws.proofs.Tied.{Stands}
 
 -- an actor that is shown
 abbrev shown : (process actor : ℕ) (name : List ℕ) (group : ℕ) → Place → List ℕ → List VariableSeen → ActorSeen
@@ -123,12 +122,12 @@ module _ (p : ProgramTree) (r : RawTree) (h : AreCarried p r) (differ : AreDisti
       let x = found all a.rest state.0 (s.1 m.class t.actor t.there k.code) (group ∙ state.1) in
       let waits : slice_get (places_of_waits p.decls) m.class ≡ Some all = slice_get-map waits_in (actors_in p.decls) m.class ∙ ap (option_map waits_in) t.there in
       let wait : wait_of (slice_get (places_of_waits p.decls) m.class) m.state ≡ Some x.at =
-        ap₂ wait_of waits (sym group) ∙ x.wait in
+      ap₂ wait_of waits (sym group) ∙ x.wait in
       let part = actor_part notes (i, m) in
       let names = name_same m.class t.actor f.code t.there t.same ∙ ap (source p).label (sym class) in
       let cells = ap (map cell_held) k.callbacks ∙ cells_same (wait_spot f).first e.operands in
       let variables = ap (variables_told f.code.slots) k.places ∙ variables_same f.code.slots f.mem.slots f.mem.locals k.slots
-        ∙ ap (λ vs. filled_variables vs.states) (sym s.0.vars) in
+      ∙ ap (λ vs. filled_variables vs.states) (sym s.0.vars) in
       ap₂ (λ c o. if_told (told_by process part c o)) k.code wait
       ∙ one f.code.name ((source p).label e.class) m.state (actor_spot a).group x.at (map cell_held m.callbacks) (map cell_of e.operands)
       (variables_told f.code.slots (map place_of m.places)) (filled_variables a.vars.states) names (sym group) cells variables

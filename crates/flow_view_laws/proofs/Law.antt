@@ -1,6 +1,6 @@
 -- Event after event memory tells the view of the state of the text.
-use Rattle.std.proofs.Common.{◌≡◌, Bool, List, refl, sym, ap, subst, ◌∙◌}
-use Rattle.std.specs.Prelude.{slice_get, Result}
+use Rattle.std.proofs.Common.{List, sym, ap, subst, ◌∙◌}
+use Rattle.std.specs.Prelude.{Result}
 use Rattle.flow_base.specs.declared.fault.OutFault.{OutFault}
 use Rattle.flow_tree.specs.declared.decl.Program.{Program}
 use Rattle.flow_tree.specs.DeclView.{program_of}
@@ -19,15 +19,11 @@ use Rattle.flow_determinism.proofs.Whole.{compiles_whole}
 use Rattle.flow_meaning.specs.Class.{classes}
 use Rattle.flow_meaning.specs.Runs.{IsRun}
 use Rattle.flow_meaning.specs.Source.{source}
-use Rattle.flow_meaning.specs.World.{World}
-use Rattle.flow_meaning.specs.Frame.{Frame}
 use Rattle.flow_meaning.proofs.LiftRuns.{traces_return}
 use Rattle.flow_restore_laws.proofs.Rest.Worlds.{programs_rest}
 use Rattle.flow_debug.specs.Told.{places_of_waits}
-use Rattle.flow_debug.specs.SourceView.{SourceView}
-use Rattle.flow_world.specs.Ending.{Seen}
 use Rattle.flow_view_laws.specs.Told.{places_told}
-use Rattle.flow_view_laws.specs.Viewed.{IsViewed, ProgramsViewed}
+use Rattle.flow_view_laws.specs.Viewed.{ProgramsViewed}
 use Rattle.flow_view_laws.proofs.Tied.{Stands, tied}
 use Rattle.flow_view_laws.proofs.Names.{AreDistinct, valid_distinct}
 use Rattle.flow_view_laws.proofs.Worlds.{world_told, all_rise, state_beside}
@@ -58,7 +54,7 @@ module _ {A : Type 0} (puts : A → Line → Result (Unit {0}) OutFault → A �
       let beside = state_beside R v.ran other.0 x.states x.state other.2 x.after_as_many in
       let out = beside.2.0 in
       let told = world_told t r (carry text program sound) (differ text program sound) (simple text program sound) x.state.out.file.processes v.places x.state beside.0
-        (subst (λ z. Rattle.flow_world_refinement.specs.Order.Showing.PlacesRepresent (Rattle.flow_restore_laws.specs.Rest.Boundary.IsAtRest z) x.state.out.file.processes 0 v.places x.state.places) has x.shows.places) beside.2 in
+      (subst (λ z. Rattle.flow_world_refinement.specs.Order.Showing.PlacesRepresent (Rattle.flow_restore_laws.specs.Rest.Boundary.IsAtRest z) x.state.out.file.processes 0 v.places x.state.places) has x.shows.places) beside.2 in
       record {
         states = other.0;
         lines = x.run.0;

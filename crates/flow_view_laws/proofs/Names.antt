@@ -47,7 +47,6 @@ known_last : (ds : List DeclTree) (c : ClassTree) → is_there (known (ds ++ (he
 known_last ds c =
     ap (λ rows. is_there (named rows c.name)) (rows_behind ds (head_of c)) ∙ found_last (packet_row ∷ map row_of ds) c.name (row_of (head_of c)).1
 
-
 module _ (all : List ℕ → Option Meaning) where
   -- of one class after some that are kept
   record Kept (ds : List DeclTree) (i : ℕ) (c : ClassTree) (cs : List ClassTree) : Type 0 where
@@ -63,8 +62,11 @@ module _ (all : List ℕ → Option Meaning) where
   kept ds i c cs e = by_test (head_kept (known ds) all c) refl e
     where
       by_test : (b : Bool) → head_kept (known ds) all c ≡ b → (if b then first_head all (ds ++ (head_of c ∷ [])) (suc i) cs else Some i) ≡ None → Kept ds i c cs
-      by_test true h e = record { own = name_free (is_predefined c.name) (is_there (known ds c.name)) (nat_le c.params (length c.slots))
-          (list_all (λ (s : SlotTree). type_known all s.ty) c.slots) (list_all (type_known all) c.locals) h; rest = e }
+      by_test true h e = record {
+        own = name_free (is_predefined c.name) (is_there (known ds c.name)) (nat_le c.params (length c.slots))
+            (list_all (λ (s : SlotTree). type_known all s.ty) c.slots) (list_all (type_known all) c.locals) h;
+        rest = e;
+      }
       by_test false h e = cc
 
   later_free : (ds : List DeclTree) (i : ℕ) (cs : List ClassTree) (k : ℕ) (c : ClassTree) → first_head all ds i cs ≡ None → slice_get cs k ≡ Some c

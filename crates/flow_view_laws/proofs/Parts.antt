@@ -1,8 +1,7 @@
 -- Parts of a body, as parts of its text.
-use Rattle.std.proofs.Common.{◌≡◌, ℕ, suc, ◌+◌, List, [], ◌∷◌, ◌++◌, length, refl, sym, ap, ◌∙◌, subst, append_assoc, append-nil, arith, length-append}
+use Rattle.std.proofs.Common.{◌≡◌, ℕ, ◌+◌, List, [], ◌++◌, length, refl, sym, ap, ◌∙◌, append_assoc, arith, length-append}
 use Rattle.flow_base.specs.declared.place.Place.{Place}
-use Rattle.flow_tree.specs.Tree.{ExprTree}
-use Rattle.flow_tree.specs.Body.{WaitTree, Body, End, AssignStmt, ModifyStmt, ChooseStmt, WaitStmt, Branches}
+use Rattle.flow_tree.specs.Body.{Body, End, AssignStmt, ModifyStmt, ChooseStmt, WaitStmt, Branches}
 use Rattle.flow_tree.specs.Formed.{IsStep}
 use Rattle.flow_tree.proofs.Folds.{folds_alike, branches_alike}
 use Rattle.flow_staterule.specs.StateRule.{stmt_places, places_listed, wait_places, branch_places}

@@ -1,8 +1,7 @@
 -- What is told after events that ran without a line is the view of the program's own state after as many events.
-use Rattle.std.proofs.Common.{◌≡◌, ℕ, suc, ◌+◌, ◌-◌, ◌≤◌, ◌<◌, min, Bool, false, List, [], ◌∷◌, ◌++◌, length, refl, sym, ap, ap₂, subst, ◌∙◌, arith}
+use Rattle.std.proofs.Common.{◌≡◌, ℕ, suc, ◌-◌, ◌<◌, min, Bool, false, List, [], ◌∷◌, ◌++◌, length, refl, sym, ap, ap₂, subst, ◌∙◌, arith}
 use Rattle.std.proofs.lemmas.Option.{slice_get_within}
 use Rattle.std.specs.Prelude.{slice_get, Result}
-use Rattle.std.specs.declared.option.Option.{Option}
 use Rattle.std.specs.declared.option.Option.TheVariants.{None, Some}
 use Rattle.flow_base.specs.declared.fault.OutFault.{OutFault}
 use Rattle.flow_tree.specs.declared.decl.Program.{Program}
@@ -20,7 +19,6 @@ use Rattle.flow_lower.specs.Weighing.{first_heavy}
 use Rattle.flow_lower.specs.Compiled.{Has}
 use Rattle.flow_meaning.specs.Class.{classes}
 use Rattle.flow_meaning.specs.Frame.{Frame}
-use Rattle.flow_meaning.specs.Items.{Actor}
 use Rattle.flow_meaning.specs.Process.{Engine}
 use Rattle.flow_meaning.specs.RunLaw.{SameStates}
 use Rattle.flow_meaning.specs.Runs.{Runs, IsRun, ends, spent, lines_of}
@@ -37,7 +35,7 @@ use Rattle.flow_world.specs.Ends.{end_line, LastIs}
 use Rattle.flow_world.specs.FaultedLines.{Telling, tells, whole}
 use Rattle.flow_world.specs.declared.silence.Silence.{Silence}
 use Rattle.flow_world.specs.Happening.{EventDoes}
-use Rattle.flow_world.specs.Skipping.{unkept, Skips, SkipsToEnd, SkipsUpTo}
+use Rattle.flow_world.specs.Skipping.{unkept, Skips}
 use Rattle.flow_world.specs.Starting.{Starts}
 use Rattle.flow_world.specs.Tracing.{RunsEvents, no_event, one_more, last_answer}
 use Rattle.flow_world_refinement.specs.Effects.Quiescence.{Quiescent}
@@ -160,7 +158,7 @@ module _ (text : List ℕ) (program : Program) (c : RawClasses) (file : World0) 
       let ran : u.ran ≡ many = omega (arith, s.counted, starts.ran) in
       let over = ended u v _ _ _ e s.runs does x in
       subst (λ z. (Rattle.flow_view_laws.specs.Skipped.SkippedRise None z)
-          × IsView t (seen file) most (world_view (places_of_waits t.decls) z) 0) (sym same)
+      × IsView t (seen file) most (world_view (places_of_waits t.decls) z) 0) (sym same)
       ((counted u _ _ s.runs, x.rise), view_at u x (runs_them u _ _ s.runs) most (λ z. other (one_last (end_line e) line.EndSpent x.lines over.1 z.1)) (omega (arith, over.0, ran, few)))
 
 not_spent_idle : line.EndIdle ≡ line.EndSpent → ⊥

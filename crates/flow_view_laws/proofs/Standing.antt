@@ -16,7 +16,7 @@ use Rattle.flow_meaning.specs.Evaluating.{Names, Effectful, effect_in}
 use Rattle.flow_meaning.specs.Frame.{no_class}
 use Rattle.flow_meaning.specs.Text.{first_spot}
 use Rattle.flow_meaning.specs.Items.{Site, site_past, change}
-use Rattle.flow_meaning.specs.Carry.{Pos, Target, entry, at, AssignBy, AssignAt, ChangeAt, FirstAt, DeclareAt, PassAt, default_expr}
+use Rattle.flow_meaning.specs.Carry.{Pos, entry, at, AssignBy, AssignAt, ChangeAt, FirstAt, DeclareAt, PassAt, default_expr}
 use Rattle.flow_meaning.specs.Carries.{ThrowAt, BodyAt, AllCarried}
 
 no_last : (ns : Names) (p : Pos) (l : LastTree) → at ns no_class p ≡ Last l → ⊥

@@ -7,24 +7,21 @@ use Rattle.flow_tree.specs.Decls.{RoutineTree, DeclTree, StructDecl, FunctionDec
 use Rattle.flow_ast.specs.Slots.{body_slots}
 use Rattle.flow_value.specs.Values.{ValueTree}
 use Rattle.flow_class.specs.Classes.{ClassTree, RawTree}
-use Rattle.flow_class.specs.Code.{fetch}
 use Rattle.flow_staterule.specs.StateRule.{wait_places}
 use Rattle.flow_typing_laws.specs.ControlFlow.Laws.{HasSimpleParts, AllHaveSimpleParts}
 use Rattle.flow_meaning.specs.Requests.{Act, Waits, Ask}
-use Rattle.flow_meaning.specs.Process.{View, Engine}
+use Rattle.flow_meaning.specs.Process.{View}
 use Rattle.flow_meaning.specs.Orderly.{Phase, Free, Risky, Due, Waiting}
 use Rattle.flow_meaning.specs.Evaluating.{StepOf, bind}
-use Rattle.flow_meaning.specs.Law.{Quietly, still, quiet, phase_after, Moves, MatchesAsk, Alike, BothOrNone, Simulates}
+use Rattle.flow_meaning.specs.Law.{Quietly, still, quiet, phase_after, Moves, MatchesAsk, BothOrNone, Simulates}
 use Rattle.flow_meaning.specs.Items.{Actor}
 use Rattle.flow_meaning.specs.Source.{source, names_of, actors_in, no_values, with_args, begun, fresh_from}
-use Rattle.flow_meaning.specs.Frame.{Frame, no_class, raise}
-use Rattle.flow_meaning.specs.Frame as frame
+use Rattle.flow_meaning.specs.Frame.{Frame}
 use Rattle.flow_meaning.specs.Class.{classes, class_names}
 use Rattle.flow_meaning.specs.Class as class
 use Rattle.flow_meaning.specs.Views.{frame_spot}
 use Rattle.flow_heap_refinement.specs.Representing.{wait_spot}
 use Rattle.flow_compile_laws.specs.Simulation.Matching.{ActorMatches}
-use Rattle.flow_compile_laws.specs.Simulation.Weights.{actor_weight}
 use Rattle.flow_compile_laws.specs.Simulation.Carried.{AreCarried}
 use Rattle.flow_compile_laws.proofs.Simulation.Follows.{carried}
 use Rattle.flow_world_refinement.proofs.Views.Steps.{Waited, Well, step_well}

@@ -1,11 +1,10 @@
 -- The rest of an actor stays part of its text.
-use Rattle.std.proofs.Common.{◌≡◌, ℕ, zero, suc, ◌+◌, Bool, true, false, List, [], ◌∷◌, ◌++◌, length, refl, sym, ap, ◌∙◌, subst, append-nil, arith}
+use Rattle.std.proofs.Common.{ℕ, zero, suc, Bool, true, false, List, [], ◌∷◌, ◌++◌, refl, sym, subst, append-nil, arith}
 use Rattle.std.specs.declared.option.Option.{Option}
 use Rattle.std.specs.declared.option.Option.TheVariants.{None, Some}
 use Rattle.flow_base.specs.declared.place.Place.{Place}
 use Rattle.flow_tree.specs.Tree.{TypeTree, PromiseType, PromiseStreamType, ExprTree, ExprTrees}
-use Rattle.flow_tree.specs.Body.{IntoTree, WaitTree, Body, End, BlockStmt, IfStmt, IfElseStmt, WhileStmt, ForStmt, LoopStmt, BreakStmt, ContinueStmt, ReturnStmt, ThrowStmt, TryStmt, ChooseStmt, DeclareStmt, AssignStmt, ModifyStmt, CallStmt, WaitStmt, Branches, NoBranches, MoreBranches}
-use Rattle.flow_tree.specs.Decls.{RoutineTree}
+use Rattle.flow_tree.specs.Body.{IntoTree, Body, End, BlockStmt, IfStmt, IfElseStmt, WhileStmt, ForStmt, LoopStmt, BreakStmt, ContinueStmt, ReturnStmt, ThrowStmt, TryStmt, ChooseStmt, DeclareStmt, AssignStmt, ModifyStmt, CallStmt, WaitStmt, Branches, NoBranches, MoreBranches}
 use Rattle.flow_value.specs.Values.{ValueTree, RefValue}
 use Rattle.flow_eval.specs.Eval.{Res, Done, Fails, Spent, Meaningless}
 use Rattle.flow_eval.specs.Answers.{bool_of, error_of}
@@ -13,17 +12,16 @@ use Rattle.flow_eval.specs.Functions.{default_value}
 use Rattle.flow_staterule.specs.StateRule.{wait_places, branch_places}
 use Rattle.flow_typing_laws.specs.ControlFlow.Laws.{HasSimpleParts, HaveSimpleParts}
 use Rattle.flow_class.specs.Scopes.{Local, scope, outside}
-use Rattle.flow_meaning.specs.Requests.{Spot, Act, Goal, Stored, Kept, Effects}
+use Rattle.flow_meaning.specs.Requests.{Spot, Goal, Stored, Kept, Effects}
 use Rattle.flow_meaning.specs.Process.{View}
 use Rattle.flow_meaning.specs.Evaluating.{Names, bind, StepOf, asks, given, evaluated, Effectful, effect_in, effect_of, value, values, call_act}
 use Rattle.flow_meaning.specs.Variables.{Vars, look}
-use Rattle.flow_meaning.specs.Text.{past, past_branches, first_spot, next_spot, branch_count}
+use Rattle.flow_meaning.specs.Text.{past, past_branches, next_spot, branch_count}
 use Rattle.flow_meaning.specs.Items.{Site, Loop, Single, OneOf, Target, Declared, Path, Item, Do, Leave, Round, Check, Made, Handler, Over, Actor, actor, leave_scope, put_goal, change, operand, site_past, site_at, Unwound, unwind, raised, raise, assign, declare}
 use Rattle.flow_meaning.specs.SourceStep.{Exit, Breaks, Continues, exit, choose, test, placed, place, effects, store_by, store, declare_new, declares, throw_value, throws, operand_ref, operand_by, await, do_body, check, do_item, next_step}
-use Rattle.flow_meaning.specs.Source.{names_of, no_values, with_args, begun, fresh_from, stored, store_if, makes_cell, is_effect_in, store_at, bound, onward, take_case, take_at}
-use Rattle.flow_meaning.specs.Source as source
+use Rattle.flow_meaning.specs.Source.{begun, store_if, makes_cell, is_effect_in, store_at, take_case, take_at}
 use Rattle.flow_view_laws.specs.Within.{PartOf, BodyWithin, LoopWithin, ItemWithin, RestWithin, ActorWithin}
-use Rattle.flow_view_laws.proofs.Parts.{Passes, both_pass, past_passes, branches_pass, step_stays, first_part, later_part, first_body, later_body, two_bodies, three_bodies, empty_body}
+use Rattle.flow_view_laws.proofs.Parts.{both_pass, past_passes, branches_pass, step_stays, first_part, later_part, first_body, later_body, two_bodies, three_bodies, empty_body}
 
 module _ (all : List Place) where
   -- so is that of the actor after a step

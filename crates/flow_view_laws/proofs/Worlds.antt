@@ -2,7 +2,7 @@
 use Rattle.std.proofs.Common.{◌≡◌, ℕ, zero, suc, List, [], ◌∷◌, ◌++◌, length, refl, sym, ap, ap₂, subst, ◌∙◌}
 use Rattle.std.specs.Prelude.{slice_get}
 use Rattle.std.specs.List.{flat_map}
-use Rattle.std.specs.declared.option.Option.TheVariants.{None, Some}
+use Rattle.std.specs.declared.option.Option.TheVariants.{Some}
 use Rattle.flow_tree.specs.Decls.{ProgramTree}
 use Rattle.flow_class.specs.Classes.{RawTree}
 use Rattle.flow_numbered.specs.Numbered.{thing}
@@ -25,7 +25,6 @@ use Rattle.flow_debug.specs.SourceView.{actor_seen, process_seen, places_seen, S
 use Rattle.flow_typing_laws.specs.ControlFlow.Laws.{AllHaveSimpleParts}
 use Rattle.flow_view_laws.specs.Told.{places_told, AllRise}
 use Rattle.flow_view_laws.proofs.Names.{AreDistinct}
-use Rattle.flow_view_laws.proofs.Tied.{Stands}
 use Rattle.flow_view_laws.proofs.Heaps.{Beside, heap_told}
 
 module _ (p : ProgramTree) (r : RawTree) (carried : AreCarried p r) (differ : AreDistinct r) (simple : AllHaveSimpleParts p.decls) where

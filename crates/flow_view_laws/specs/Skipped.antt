@@ -1,5 +1,5 @@
 -- A program's own state after so many events, and what a world in memory tells after as many events that ran without a line.
-use Rattle.std.specs.Prelude.{◌≡◌, ℕ, ◌-◌, ◌≤◌, min, List, [], ◌∷◌, ◌++◌, length, codes, slice_get}
+use Rattle.std.specs.Prelude.{◌≡◌, ℕ, ◌-◌, ◌≤◌, min, List, length, codes, slice_get}
 use Rattle.std.specs.declared.option.Option.{Option}
 use Rattle.std.specs.declared.option.Option.TheVariants.{None, Some}
 use Rattle.flow_base.specs.declared.place.Place.{Place}
@@ -21,7 +21,7 @@ use Rattle.flow_meaning.specs.Runs.{IsRun}
 use Rattle.flow_meaning.specs.Source.{source}
 use Rattle.flow_meaning.specs.World.{World}
 use Rattle.flow_world.specs.declared.ending.Ending.{Ending}
-use Rattle.flow_world.specs.declared.ending.Ending.TheVariants.{Idle, Bound, Spent}
+use Rattle.flow_world.specs.declared.ending.Ending.TheVariants.{Spent}
 use Rattle.flow_world.specs.Ending.{Seen}
 use Rattle.flow_world.specs.Ends.{LastIs}
 use Rattle.flow_world.specs.Skipping.{SkipsUpTo}

@@ -1,12 +1,12 @@
-use Rattle.std.proofs.Common.{[], ◌+◌, ◌++◌, map, sym, ap, ◌∙◌, refl, arith}
-use Rattle.std.proofs.KnownBytes.{Appends-trans, Appends-nil}
-use Rattle.flow_base.proofs.Growing.{grows_same, grows_trans}
+use Rattle.std.proofs.Common.{◌+◌, ◌++◌, map, sym, ap, ◌∙◌, arith}
+use Rattle.std.proofs.KnownBytes.{Appends-trans}
+use Rattle.flow_base.proofs.Growing.{grows_trans}
 use Rattle.flow_class.specs.View.{class_of}
 use Rattle.flow_heapstate.specs.State.{actor_kept}
 use Rattle.flow_show.proofs.Writing.{part_behind}
 use Rattle.flow_debug.specs.Waits.{waits_seen}
 use Rattle.flow_debug.specs.Writing.{told_lines}
-use Rattle.flow_debug.proofs.Writing.{lines_from, next_lines, ahead_next, whole}
+use Rattle.flow_debug.proofs.Writing.{lines_from, next_lines, ahead_next}
 use Rattle.flow_debug.proofs.write.write_actors.Goals as goal
 
 pub returns-in_err-write_actor-clause-part : goal.returns-in_err-write_actor-clause-part
