@@ -1,5 +1,5 @@
 -- Where all texts pass and no call fails, what is due is told whole, or there was no memory.
-use Rattle.std.proofs.Common.{◌≡◌, ℕ, ◌+◌, ◌≤◌, Bool, true, false, true≢false, refl, sym, ap, ◌∙◌, List, [], ◌∷◌, ◌++◌, length, codes, ◌⊎◌, inl, inr, Some, subst}
+use Rattle.std.proofs.Common.{◌≡◌, ℕ, ◌+◌, ◌≤◌, arith, Bool, true, false, true≢false, refl, sym, ap, ◌∙◌, List, [], ◌∷◌, ◌++◌, length, codes, ◌⊎◌, inl, inr, Some, subst}
 use Rattle.flow_gen.specs.Generator.{program_text, generated_world}
 use Rattle.flow_tree.specs.declared.limits.TheConstants.{PROGRAM_BYTES}
 use Rattle.flow_tree.specs.Canon.{Canon}
