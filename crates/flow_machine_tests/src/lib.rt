@@ -1,5 +1,5 @@
 //! Tests of flow_machine: bursts of one process, over a host that keeps the lines; and of flow_world: traces of a program in
-//! small worlds; and of flow_debug: the lines of a view.
+//! small worlds.
 #![tactic(auto)]
 
 #[cfg(test)]
@@ -18,8 +18,6 @@ mod saved;
 mod speed;
 #[cfg(test)]
 mod traces;
-#[cfg(test)]
-mod views;
 #[cfg(test)]
 mod watched;
 #[cfg(test)]

@@ -1,6 +1,6 @@
 //! Tests of the small parts below the machine and the world, apart from them, so that a change of one doesn't prove the
 //! others again: a module for each of `flow_base`, `flow_cell`, `flow_draw`, `flow_monitor`, `flow_numbered`, `flow_shrink`, `flow_simdisk`,
-//! `flow_simnet`, `flow_timers`, `flow_trace`, `flow_value` (with its texts) and `flow_worldfile` (with the world of `flow_gen`), and one for parts of
+//! `flow_simnet`, `flow_timers`, `flow_trace`, `flow_value` and `flow_worldfile` (with the world of `flow_gen`), and one for parts of
 //! lowering.
 //! In each a function that owns what is tested has one end, since it is dropped at every end.
 #![tactic(auto)]
