@@ -149,11 +149,13 @@ fn compiled(alloc: Global, text: &[u8]) -> Answered
     ensures { (p : List ℕ) → EndsBy text.now (Request.compile p) result }
 {
     match program(alloc, text) {
-        Ok(Runnable {
-            meant: _,
-            classes,
-            waits: _,
-        }) => Answered::Compiled(classes),
+        Ok(
+            Runnable {
+                meant: _,
+                classes,
+                waits: _,
+            },
+        ) => Answered::Compiled(classes),
         Err(told) => told,
     }
 }

@@ -403,10 +403,10 @@ fn write_view<S: Sink>(
 ) -> Result<(), OutFault>
     ensures whole { OnOk result (CanBeTold (world_seen world.now)
         → GoesOut (S.seen out.old) (S.seen out.new)
-            (world_view (waits_seen waits.now) (world_seen world.now))) }
+        (world_view (waits_seen waits.now) (world_seen world.now))) }
     ensures part { CanBeTold (world_seen world.now)
         → GoesOutInPart (S.seen out.old) (S.seen out.new)
-            (world_view (waits_seen waits.now) (world_seen world.now)) }
+        (world_view (waits_seen waits.now) (world_seen world.now)) }
     ensures handed { Grows (S.seen out.old).handed (S.seen out.new).handed }
     ensures cause { HasCause (S.seen out.old).faults (S.seen out.new).faults result }
 {
@@ -424,10 +424,10 @@ fn write_state<S: Sink>(
 ) -> Result<(), OutFault>
     ensures whole { OnOk result (SkippedRise ending (world_seen world.now)
         → GoesOut (S.seen out.old) (S.seen out.new)
-            (skipped_text (waits_seen waits.now) ending (world_seen world.now))) }
+        (skipped_text (waits_seen waits.now) ending (world_seen world.now))) }
     ensures part { SkippedRise ending (world_seen world.now)
         → GoesOutInPart (S.seen out.old) (S.seen out.new)
-            (skipped_text (waits_seen waits.now) ending (world_seen world.now)) }
+        (skipped_text (waits_seen waits.now) ending (world_seen world.now)) }
     ensures handed { Grows (S.seen out.old).handed (S.seen out.new).handed }
     ensures cause { HasCause (S.seen out.old).faults (S.seen out.new).faults result }
 {

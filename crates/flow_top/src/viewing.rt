@@ -30,10 +30,10 @@ fn put_process<S: Sink>(
 ) -> Result<(), OutFault>
     ensures whole { OnOk result (NumbersRiseAt (slice_get world.now.places.items process.0)
         → Appends (S.seen out.old).written (S.seen out.new).written
-            (process_text (waits_seen waits.now) (world_seen world.now) process.0)) }
+        (process_text (waits_seen waits.now) (world_seen world.now) process.0)) }
     ensures part { NumbersRiseAt (slice_get world.now.places.items process.0)
         → AppendsPart (S.seen out.old).written (S.seen out.new).written
-            (process_text (waits_seen waits.now) (world_seen world.now) process.0) }
+        (process_text (waits_seen waits.now) (world_seen world.now) process.0) }
     ensures handed { Grows (S.seen out.old).handed (S.seen out.new).handed }
     ensures cause { HasCause (S.seen out.old).faults (S.seen out.new).faults result }
 {
@@ -59,10 +59,10 @@ pub fn put_view<S: Sink>(
 ) -> Result<(), OutFault>
     ensures whole { OnOk result (CanBeTold (world_seen world.now)
         → Appends (S.seen out.old).written (S.seen out.new).written
-            (world_view (waits_seen waits.now) (world_seen world.now))) }
+        (world_view (waits_seen waits.now) (world_seen world.now))) }
     ensures part { CanBeTold (world_seen world.now)
         → AppendsPart (S.seen out.old).written (S.seen out.new).written
-            (world_view (waits_seen waits.now) (world_seen world.now)) }
+        (world_view (waits_seen waits.now) (world_seen world.now)) }
     ensures handed { Grows (S.seen out.old).handed (S.seen out.new).handed }
     ensures cause { HasCause (S.seen out.old).faults (S.seen out.new).faults result }
 {
