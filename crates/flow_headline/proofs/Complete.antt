@@ -12,8 +12,8 @@ use Rattle.flow_worldfile.specs.Laws.{OneVerdict as OneWorldVerdict}
 use Rattle.flow_front.specs.Verdict.{IsProgram}
 use Rattle.flow_front.specs.Laws.{OneVerdict}
 use Rattle.flow_compile_laws.specs.Frames.Framed.{SourceShown}
-use Rattle.flow_words.specs.Asked.{Request, format, check, bench, shrink}
-use Rattle.flow_top.specs.declared.outcome.Outcome.TheVariants.{Answered, Bench, Shrink}
+use Rattle.flow_words.specs.Asked.{Request, format, check, bench, shrink, debug}
+use Rattle.flow_top.specs.declared.outcome.Outcome.TheVariants.{Answered, Bench, Shrink, Debug}
 use Rattle.flow_top.specs.declared.outcome.Answered.TheVariants.{Passed, Formatted, LongScript}
 use Rattle.flow_top.specs.declared.outcome.ProgramRun.{ProgramRun}
 use Rattle.flow_top.specs.Sources.{Source, generated, IsOf}
@@ -25,6 +25,7 @@ use Rattle.flow_shrink.specs.declared.shrinking.Shrunk.{Shrunk}
 use Rattle.flow_shrink.specs.declared.shrinking.Shrunk.TheVariants.{Least, NotStopped}
 use Rattle.flow_shrink.specs.Shrinking as shrinking
 use Rattle.flow_shrink.proofs.Removing.{script_length}
+use Rattle.flow_view_laws.specs.Skipped.{IsView}
 use Rattle.flow_top.specs.Requests.{request_by, panel_for}
 use Rattle.flow_top.specs.Told.{GoesOut}
 use Rattle.flow_top.specs.Shrunk.{shrunk_text, shrunk_status}
@@ -32,9 +33,9 @@ use Rattle.flow_top.specs.Outcomes.{IsPassing, run_for}
 use Rattle.flow_top.specs.Due.{DueBy, IsRunFor}
 use Rattle.flow_headline.specs.Calls.{Call, AsksFor, HasFile, HasWorld, ears_of, IsFault, read_fault, write_fault, no_memory}
 use Rattle.flow_headline.specs.Laws.{Compiles, RunTells, ExecTells}
-use Rattle.flow_headline.specs.Complete.{NoFault, formats, checks, compiles, runs, execs, benches, shrinks, ProgramStops, TellsShrunk, least, not_stopped, TellsText, TellsSummary, Complete}
-use Rattle.flow_headline.proofs.Deciding.{IsTold, IsSummed, IsShrunk, DueFor, first, behind, text_is, told_of, bench_of, shrunk_of, comes}
-use Rattle.flow_headline.proofs.Judging.{format_due, check_due, bench_due, bench_shows, shrink_due, shrink_shows}
+use Rattle.flow_headline.specs.Complete.{NoFault, formats, checks, compiles, runs, execs, benches, shrinks, debugs, TellsView, ProgramStops, TellsShrunk, least, not_stopped, TellsText, TellsSummary, Complete}
+use Rattle.flow_headline.proofs.Deciding.{IsTold, IsSummed, IsShrunk, IsStateTold, DueFor, first, behind, text_is, told_of, bench_of, shrunk_of, state_of, comes}
+use Rattle.flow_headline.proofs.Judging.{format_due, check_due, bench_due, bench_shows, shrink_due, shrink_shows, debug_due, debug_shows}
 use Rattle.flow_headline.proofs.Telling.{due_in, first_of}
 
 -- without a fault of files or sink there was no memory
@@ -170,6 +171,43 @@ module _ (c : Call) (program world : List ℕ) (want : Want) (text : List ℕ) (
           (text_is (c.files.content world) WORLD_BYTES u there.text there.file there.short (first_of c.files.content world WORLD_BYTES s u from b)) d
           (λ m run e at frames. shrink_runs m e at (subst (λ z. IsRunFor z q m.meant m.classes) (is_text t a.0) run))
 
+module _ (c : Call) (program world : List ℕ) (most : ℕ) (text : List ℕ) (p : Program) (w : World) (one : OneVerdict text) (once : OneWorldVerdict)
+    (asks : AsksFor c (debug program world most)) (file : HasFile c program text) (pass : IsPassing text p) (there : HasWorld c world w) where
+  abbrev wanted : Request
+  wanted = debug program world most
+
+  abbrev Views : Type 0
+  Views = TellsView c (program_of p) w most ⊎ IsFault c
+
+  view_tells : (m : ProgramRun) → c.answers.outcome ≡ Debug (record { run = m; most = most }) → seen m.world ≡ w → IsRunFor text wanted m.meant m.classes → Views
+  view_tells m e at run = by (state_of c (record { run = m; most = most }) e)
+    where
+      by : IsStateTold (record { run = m; most = most }) c.sink c.sink' c.status ⊎ IsFault c → Views
+      by (inr x) = inr x
+      by (inl x) =
+          let shown = debug_shows text one p pass program world most m.meant m.classes run.is_run run.is_meant (seen m.world) x.text x.status_due x.view in
+          inl (record {
+            text = x.text;
+            status_due = x.status_due;
+            view = subst (λ v. IsView (program_of p) v most x.text x.status_due) at shown;
+            out = x.out;
+            status = x.status;
+          })
+
+  debug_done : Views
+  debug_done = by (comes c wanted asks)
+    where
+      is_text : (t : List ℕ) → AreFirstOf (PROGRAM_BYTES + 1) (c.files.content program) t → t ≡ text
+      is_text t a = text_is (c.files.content program) PROGRAM_BYTES t text file pass.sound.typed.read.has.short a
+
+      by : DueFor c.files.content wanted c.answers.outcome ⊎ IsFault c → Views
+      by (inr x) = inr x
+      by (inl (first t of a d)) = debug_due text one p pass program world most c.answers.outcome (subst (λ z. DueBy z wanted c.answers.outcome) (is_text t a.0) d)
+      by (inl (behind t u s of from also a b d)) =
+          due_in once wanted w there.text there.short there.is t u c.answers.outcome
+          (text_is (c.files.content world) WORLD_BYTES u there.text there.file there.short (first_of c.files.content world WORLD_BYTES s u from b)) d
+          (λ m run e at frames. view_tells m e at (subst (λ z. IsRunFor z wanted m.meant m.classes) (is_text t a.0) run))
+
 pub complete : ((text : List ℕ) → OneVerdict text) → OneWorldVerdict → Compiles → RunTells → ExecTells → Complete
 complete one once compiles_law run_law exec_law c _ (formats name text p file is) asks n = unfailing c n (format_done c name text p (one text) asks file is)
 complete one once compiles_law run_law exec_law c _ (checks name text p file pass) asks n = unfailing c n (check_done c name text p (one text) asks file pass)
@@ -180,3 +218,5 @@ complete one once compiles_law run_law exec_law c _ (benches clients seed p w pa
     unfailing c n (bench_done c clients seed p w (one (program_text clients)) once asks pass short is)
 complete one once compiles_law run_law exec_law c _ (shrinks program world want text p w file pass there short) asks n =
     unfailing c n (shrink_done c program world want text p w (one text) once asks file pass there short)
+complete one once compiles_law run_law exec_law c _ (debugs program world most text p w file pass there) asks n =
+    unfailing c n (debug_done c program world most text p w (one text) once asks file pass there)

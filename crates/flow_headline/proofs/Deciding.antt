@@ -14,7 +14,7 @@ use Rattle.flow_world.specs.Ends.{end_line, LastIs}
 use Rattle.flow_world.specs.WatchedTraces.{last_line}
 use Rattle.flow_world.specs.Written.{bytes_of}
 use Rattle.flow_top.specs.declared.outcome.Outcome.{Outcome}
-use Rattle.flow_top.specs.declared.outcome.Outcome.TheVariants.{Answered, Run, Bench, Shrink}
+use Rattle.flow_top.specs.declared.outcome.Outcome.TheVariants.{Answered, Run, Bench, Shrink, Debug}
 use Rattle.flow_top.specs.declared.outcome.ProgramRun.{ProgramRun}
 use Rattle.flow_top.specs.declared.outcome.BenchRun.{BenchRun}
 use Rattle.flow_top.specs.declared.outcome.Answered as told
@@ -23,7 +23,9 @@ use Rattle.flow_top.specs.Sources.{Source, first_source, world_source, FileText,
 use Rattle.flow_top.specs.Outcomes.{text_of, status_of, IsShown}
 use Rattle.flow_top.specs.Due.{DueBy, DueIn, Due, usage, by_text, in_world}
 use Rattle.flow_top.specs.Decided.{Decided, due, read_fault, no_memory, no_memory_at_once}
-use Rattle.flow_top.specs.Told.{GoesOut, ReportedTold, whole, write_fault, no_memory_told, ReportedRun, ended, run_write_fault, run_no_memory, ReportedBench, summed, sum_write_fault, sum_no_memory_told, sum_no_memory, ReportedShrink, shrunk, shrink_write_fault, shrink_no_memory_told, shrink_no_memory, Reported, run_status, ending_status}
+use Rattle.flow_top.specs.Told.{GoesOut, ReportedTold, whole, write_fault, no_memory_told, ReportedRun, ended, run_write_fault, run_no_memory, ReportedBench, summed, sum_write_fault, sum_no_memory_told, sum_no_memory, ReportedShrink, shrunk, shrink_write_fault, shrink_no_memory_told, shrink_no_memory, Reported, run_status, ending_status, ReportedDebug, shown_state, state_write_fault, state_no_memory_told, state_no_memory}
+use Rattle.flow_top.specs.declared.outcome.DebugRun.{DebugRun}
+use Rattle.flow_top.specs.Debugged.{IsViewOf}
 use Rattle.flow_worldfile.specs.Worlds.{seen}
 use Rattle.flow_shrink.specs.declared.shrinking.Shrunk.{Shrunk}
 use Rattle.flow_shrink.specs.Shrinking.{Shrinks}
@@ -86,6 +88,19 @@ shrink_whole r ears before after _ (shrunk x h out) = inl (record { came_to = x;
 shrink_whole r ears before after _ (shrink_write_fault x h part rose) = inr (inl (refl, rose))
 shrink_whole r ears before after _ (shrink_no_memory_told x h part) = inr (inr refl)
 shrink_whole r ears before after _ (shrink_no_memory same) = inr (inr refl)
+
+pub record IsStateTold (d : DebugRun) (before after : SinkSeen) (given : ℕ) : Type 0 where
+  pub text : List ℕ
+  pub status_due : ℕ
+  pub view : IsViewOf d.run d.most text status_due
+  pub out : GoesOut before after text
+  pub status : given ≡ status_due
+
+debug_whole : (d : DebugRun) (before after : SinkSeen) (status : ℕ) → ReportedDebug d before after status → IsStateTold d before after status ⊎ SinkFault before after status
+debug_whole d before after _ (shown_state text status view out) = inl (record { text = text; status_due = status; view = view; out = out; status = refl })
+debug_whole d before after _ (state_write_fault text status view part rose) = inr (inl (refl, rose))
+debug_whole d before after _ (state_no_memory_told text status view part) = inr (inr refl)
+debug_whole d before after _ (state_no_memory same) = inr (inr refl)
 
 -- what was decided
 data Decision (asked : Option Request) (before after : FilesSeen) (o : Outcome) : Type 0 where
@@ -170,6 +185,13 @@ module _ (c : Call) where
     where
       by : IsShrunk r (panel_for (request_by c.words c.handed) c.handed) c.sink c.sink' c.status ⊎ SinkFault c.sink c.sink' c.status
           → IsShrunk r (panel_for (request_by c.words c.handed) c.handed) c.sink c.sink' c.status ⊎ IsFault c
+      by (inl x) = inl x
+      by (inr x) = inr (sink_fault x)
+
+  pub state_of : (d : DebugRun) → c.answers.outcome ≡ Debug d → IsStateTold d c.sink c.sink' c.status ⊎ IsFault c
+  state_of d e = by (debug_whole d c.sink c.sink' c.status (subst (λ o. Reported (panel_for (request_by c.words c.handed) c.handed) o c.sink c.sink' c.status) e c.answers.reported))
+    where
+      by : IsStateTold d c.sink c.sink' c.status ⊎ SinkFault c.sink c.sink' c.status → IsStateTold d c.sink c.sink' c.status ⊎ IsFault c
       by (inl x) = inl x
       by (inr x) = inr (sink_fault x)
 

@@ -21,7 +21,7 @@ use Rattle.flow_front.specs.Laws.{OneVerdict}
 use Rattle.flow_lower.specs.Weighing.{first_heavy}
 use Rattle.flow_lower.specs.Compiled.{Has}
 use Rattle.flow_compile_laws.specs.Frames.Framed.{SourceShown, ClassShown}
-use Rattle.flow_words.specs.Asked.{RunRequest, format, check, compile, run, exec, bench, shrink}
+use Rattle.flow_words.specs.Asked.{RunRequest, format, check, compile, run, exec, bench, shrink, debug}
 use Rattle.flow_top.specs.declared.outcome.Outcome.{Outcome}
 use Rattle.flow_top.specs.declared.outcome.Outcome.TheVariants.{Answered}
 use Rattle.flow_top.specs.declared.outcome.Answered as told
@@ -33,6 +33,8 @@ use Rattle.flow_monitor.specs.declared.attach.Want.{Want}
 use Rattle.flow_monitor.specs.Ears.{Ears}
 use Rattle.flow_shrink.specs.declared.shrinking.Shrunk.{Shrunk}
 use Rattle.flow_shrink.specs.Shrinking.{Shrinks}
+use Rattle.flow_view_laws.specs.Skipped.{IsView}
+use Rattle.flow_top.specs.Debugged.{IsViewBy}
 use Rattle.flow_top.specs.Shrunk.{IsStoppedBy}
 use Rattle.flow_headline.specs.Complete.{ProgramStops}
 use Rattle.flow_headline.specs.ReadBack.{IsReadAsProgram}
@@ -67,6 +69,15 @@ module _ (text : List ℕ) (one : OneVerdict text) (p : Program) (pass : IsPassi
       → (ears : Ears) (w : World) (x : Shrunk) → Shrinks (IsStoppedBy meant classes ears) w x → Shrinks (ProgramStops (program_of p) ears) w x
   shrink_shows program world want _ _ (of_program q classes other has) m ears w x s = subst (λ t. Shrinks (ProgramStops t ears) w x) (same_program q.value other) s
   shrink_shows program world want _ _ (of_class_text classes a) m ears w x s = absurd m
+
+  pub debug_due : {A : Type 0} (program world : List ℕ) (most : ℕ) (o : Outcome) → DueBy text (debug program world most) o → A
+  debug_due program world most _ (refused q a has r) = unrefused a r
+
+  -- the view of the program that is run is that of the text's
+  pub debug_shows : (program world : List ℕ) (most : ℕ) (meant : Meant) (classes : RawClasses) → IsRunBy text meant classes → IsMeantBy (debug program world most) meant
+      → (w : World) (view : List ℕ) (status : ℕ) → IsViewBy meant w most view status → IsView (program_of p) w most view status
+  debug_shows program world most _ _ (of_program q classes other has) m w view status s = subst (λ t. IsView t w most view status) (same_program q.value other) s
+  debug_shows program world most _ _ (of_class_text classes a) m w view status s = absurd m
 
   pub run_due : {A : Type 0} (r : RunRequest) (o : Outcome) → DueBy text (run r) o → A
   run_due r _ (refused q a has b) = unrefused a b

@@ -19,9 +19,10 @@ use Rattle.flow_monitor.specs.declared.attach.Want.{Want}
 use Rattle.flow_monitor.specs.Ears.{Ears}
 use Rattle.flow_shrink.specs.declared.shrinking.TheConstants.{SCRIPT_LINES}
 use Rattle.flow_shrink.specs.Shrinking.{IsLeast}
-use Rattle.flow_words.specs.Asked.{Request, RunRequest, format, check, compile, run, exec, bench, shrink}
+use Rattle.flow_words.specs.Asked.{Request, RunRequest, format, check, compile, run, exec, bench, shrink, debug}
 use Rattle.flow_world.specs.declared.ending.Ending.{Ending}
 use Rattle.flow_world.specs.Ends.{end_line, LastIs}
+use Rattle.flow_view_laws.specs.Skipped.{IsView}
 use Rattle.flow_top.specs.Outcomes.{IsPassing}
 use Rattle.flow_top.specs.Shrunk.{IsCut}
 use Rattle.flow_top.specs.Summary.{summary_text}
@@ -47,6 +48,8 @@ pub data TextsPass (c : Call) : Request → Type 0 where
       → IsFileOf (generated_world seed) w → TextsPass c (bench clients seed)
   shrinks : (program world : List ℕ) (want : Want) (text : List ℕ) (p : Program) (w : World) → HasFile c program text → IsPassing text p
       → HasWorld c world w → length w.script ≤ SCRIPT_LINES → TextsPass c (shrink program world want)
+  debugs : (program world : List ℕ) (most : ℕ) (text : List ℕ) (p : Program) (w : World) → HasFile c program text → IsPassing text p
+      → HasWorld c world w → TextsPass c (debug program world most)
 
 -- the lines that are told
 abbrev pub TellsAll : Call → Request → (shown : List Line → Type 0) → Type 0
@@ -72,6 +75,14 @@ pub data TellsShrunk (c : Call) (p : ProgramTree) (ears : Ears) (w : World) : Ty
   not_stopped : (ProgramStops p ears w → ⊥) → GoesOut c.sink c.sink' (codes "not stopped" ++ 10 ∷ []) → c.status ≡ 13
       → TellsShrunk c p ears w
 
+-- The view of a program's own state after so many events was written and handed on, with status 0, or that one of them was spent, with 4.
+pub record TellsView (c : Call) (p : ProgramTree) (w : World) (most : ℕ) : Type 0 where
+  pub text : List ℕ
+  pub status_due : ℕ
+  pub view : IsView p w most text status_due
+  pub out : GoesOut c.sink c.sink' text
+  pub status : c.status ≡ status_due
+
 -- a whole text was written and handed on, with status 0
 abbrev pub TellsText : Call → List ℕ → Type 0
 TellsText c text = GoesOut c.sink c.sink' text × (c.status ≡ 0)
@@ -86,6 +97,7 @@ IsDone c _ (execs r text classes w file read world) = TellsAll c (exec r) (Class
 IsDone c _ (benches clients seed p w pass short is) = TellsSummary c clients seed (SourceShown false (program_of p) w)
 IsDone c _ (shrinks program world want text p w file pass there short) =
     TellsShrunk c (program_of p) (ears_of c (shrink program world want)) w
+IsDone c _ (debugs program world most text p w file pass there) = TellsView c (program_of p) w most
 
 -- Or there was no memory, with status 7.
 abbrev pub Complete : Type 0

@@ -3,9 +3,11 @@
 
 mod real;
 mod status;
+mod waits;
 
 use crate::real::{BeginKept, SystemFiles};
 use crate::status::{NO_MEMORY, answer, hand_on_rest, is_noted};
+use crate::waits::waits_note;
 use flow_base::memory::NoMemory;
 use flow_monitor::{Errors, Live, Monitor, Until};
 use flow_refusal::{left_note, note};
@@ -41,11 +43,11 @@ fn write_note(rt: &HostRuntime, files: &OpenedFiles<SystemFiles>, begin: &[u8]) 
     }
 }
 
-// Whether the words are those of `shrink`.
-fn is_shrink(words: &io::Result<Vec<String>>) -> bool {
+// Whether the words are those of a command.
+fn is_command(words: &io::Result<Vec<String>>, command: &str) -> bool {
     match words {
         Ok(words) => match words.first() {
-            Some(word) => word.as_str() == "shrink",
+            Some(word) => word.as_str() == command,
             None => false,
         },
         Err(_) => false,
@@ -62,6 +64,13 @@ fn write_left(rt: &HostRuntime, world: &[u8], left: usize) {
     }
 }
 
+// Writes where the actors of these lines wait to standard error. Where that fails, nothing is said.
+fn write_waits(rt: &HostRuntime, files: &OpenedFiles<SystemFiles>, lines: &[u8]) {
+    if let Ok(text) = waits_note(rt.alloc(), lines, files.asked(0), files.text(0)) {
+        let _ = rt.stderr().write_all(&text);
+    }
+}
+
 // Does what the words say, with the shipped monitors at hand, and gives the status.
 fn run(rt: &HostRuntime) -> Result<u8, NoMemory> {
     let alloc = rt.alloc();
@@ -72,7 +81,8 @@ fn run(rt: &HostRuntime) -> Result<u8, NoMemory> {
     let mut files = OpenedFiles::new(alloc, SystemFiles::new(rt));
     let mut out = BeginKept::new(alloc, Gathering::new(alloc, io::writer(rt)));
     let words = words(rt);
-    let shrinks = is_shrink(&words);
+    let shrinks = is_command(&words, "shrink");
+    let debugs = is_command(&words, "debug");
     let status = answer(alloc, words, &mut files, &mut out, monitors);
     hand_on_rest(status, &mut out);
     if is_noted(status) {
@@ -80,6 +90,9 @@ fn run(rt: &HostRuntime) -> Result<u8, NoMemory> {
     }
     if shrinks && status == 0 {
         write_left(rt, files.text(1), out.script());
+    }
+    if debugs && status == 0 {
+        write_waits(rt, &files, out.waits());
     }
     Ok(status)
 }

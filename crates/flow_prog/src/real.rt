@@ -36,12 +36,18 @@ impl<'a> Opener for SystemFiles<'a> {
 /// How many bytes at the begin of a text are kept: more than a refusal has.
 const BEGIN: usize = 256;
 
-/// A sink that keeps how its text begins, and counts the pieces of it that are lines of a script.
+/// Of how many actors the lines are kept that say where they wait.
+const ACTORS: usize = 20;
+
+/// A sink that keeps how its text begins, counts the pieces of it that are lines of a script, and keeps the first ones that are lines of
+/// actors.
 #[derive(Drop)]
 pub struct BeginKept<S> {
     out: S,
     begin: Vec<u8>,
     script: usize,
+    waits: Vec<u8>,
+    actors: usize,
 }
 
 impl<S: Sink> BeginKept<S> {
@@ -53,6 +59,8 @@ impl<S: Sink> BeginKept<S> {
             out,
             begin: Vec::new(alloc),
             script: 0,
+            waits: Vec::new(alloc),
+            actors: 0,
         }
     }
 
@@ -66,12 +74,21 @@ impl<S: Sink> BeginKept<S> {
         self.script
     }
 
+    /// The lines of the first actors, as far as there was memory to keep them.
+    pub fn waits(&self) -> &[u8] {
+        &self.waits
+    }
+
     // Keeps a piece, where it belongs to the begin of the text.
     fn keep(&mut self, piece: &[u8])
         ensures { self.new.out ≡ self.old.out }
     {
         if piece.starts_with(b"at ") {
             self.script = self.script.saturating_add(1);
+        }
+        if self.actors < ACTORS && piece.starts_with(b"actor ") {
+            self.actors += 1;
+            let _ = self.waits.extend_from_slice(piece);
         }
         if self.begin.len() < BEGIN && piece.len() < BEGIN {
             let _ = self.begin.extend_from_slice(piece);

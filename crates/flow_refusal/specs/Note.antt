@@ -57,6 +57,19 @@ overall name words = name ++ said words
 abbrev pub line_remark : (name text : List ℕ) → (line : ℕ) → (words : List ℕ) → List ℕ
 line_remark name text line words = name ++ codes ":" ++ decimal line ++ said words ++ window (line_at text line) 0 ++ codes "\n"
 
+-- that an actor of a process waits at a place in a file
+abbrev pub waits_at : (file : List ℕ) → Place → List ℕ
+waits_at file at = file ++ codes ":" ++ place_text at
+
+abbrev pub who_waits : (process actor : List ℕ) → List ℕ
+who_waits process actor = codes ": actor " ++ actor ++ codes " of process " ++ process
+
+abbrev pub waits_here : (name : List ℕ) → List ℕ
+waits_here name = codes ", " ++ name ++ codes ", waits here\n"
+
+abbrev pub wait_note : (file text process actor name : List ℕ) → Place → List ℕ
+wait_note file text process actor name at = waits_at file at ++ who_waits process actor ++ waits_here name ++ excerpt text at
+
 -- how many of the lines of a script are left
 abbrev pub left_note : (left all : ℕ) → List ℕ
 left_note left all = decimal left ++ codes " of " ++ decimal all ++ (if left == 1 then codes " lines is left\n" else codes " lines are left\n")

@@ -7,8 +7,10 @@ mod expecting;
 mod line;
 mod reading;
 mod telling;
+mod waiting;
 mod words;
 
 pub use class::{class_line, class_status};
 pub use line::{refusal_line, refusal_status, world_line};
 pub use telling::{left_note, note};
+pub use waiting::put_wait;

@@ -11,3 +11,4 @@ mod ways;
 
 pub use rule::{Lost, first_lost};
 pub use sound::{Sound, check_state};
+pub use waits::wait_places;

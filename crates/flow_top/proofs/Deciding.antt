@@ -23,7 +23,7 @@ use Rattle.flow_lower.specs.Compiled.{Has}
 use Rattle.flow_compile.specs.Right.{IsAccepted}
 use Rattle.flow_worldfile.specs.declared.world.World0.{World0}
 use Rattle.flow_worldfile.specs.Worlds.{IsInRange, seen}
-use Rattle.flow_words.specs.Asked.{Request, RunRequest, format, check, compile, run, exec, bench, shrink}
+use Rattle.flow_words.specs.Asked.{Request, RunRequest, format, check, compile, run, exec, bench, shrink, debug}
 use Rattle.flow_top.specs.declared.outcome.Outcome.{Outcome}
 use Rattle.flow_top.specs.declared.outcome.Outcome.TheVariants.{Answered, Shrink}
 use Rattle.flow_top.specs.declared.outcome.ProgramRun.{ProgramRun}
@@ -32,6 +32,8 @@ use Rattle.flow_top.specs.declared.outcome.Meant.{Meant}
 use Rattle.flow_top.specs.declared.outcome.Meant.TheVariants.{Text, Classes}
 use Rattle.flow_top.specs.declared.outcome.Answered as told
 use Rattle.flow_top.specs.declared.outcome.Answered.TheVariants.{LongScript, Compiled, Passed, Formatted}
+use Rattle.flow_debug.specs.declared.waits.WaitPlaces.{WaitPlaces}
+use Rattle.flow_top.specs.Debugged.{WaitsOf, WaitsFor}
 use Rattle.flow_top.specs.Requests.{wanted_by, wanted_alone, tells_frames}
 use Rattle.flow_top.specs.Sources.{Source, first_source, world_source, FileText, read_for, names_of}
 use Rattle.flow_top.specs.Outcomes.{refusal_outcome_of, class_outcome_of, heavy_outcome, IsPassing, IsRunBy, of_program, of_class_text, IsMeantBy, IsText, IsOnce, IsAgain, IsFor, run_for, MayRun, MayTell}
@@ -89,9 +91,9 @@ pub unlowered : (text : List ℕ) (s : Sound) (o : told.Answered) → JudgesTo t
 unlowered text s _ j (is_heavy at is) = stops _ (heavy s.typed.program at (sound j) is)
 unlowered text s _ j none_lowered = starves
 
-pub is_compiled : (text : List ℕ) (s : Sound) (p : Snapshot Program) (c : RawClasses) → p.value ≡ s.typed.program → JudgesTo text (Ok s)
-    → LowersTo (program_of s.typed.program) (Ok c) → CompilesTo text (Ok (record { meant = Text p; classes = c }))
-is_compiled text s p c same j (are_classes _ has light) =
+pub is_compiled : (text : List ℕ) (s : Sound) (p : Snapshot Program) (c : RawClasses) (w : WaitPlaces) → p.value ≡ s.typed.program → JudgesTo text (Ok s)
+    → LowersTo (program_of s.typed.program) (Ok c) → CompilesTo text (Ok (record { meant = Text p; classes = c; waits = w }))
+is_compiled text s p c w same j (are_classes _ has light) =
     let passing : IsPassing text s.typed.program = record { sound = sound j; light = light } in
     goes _ (record {
       is_run = of_program p c (subst (IsPassing text) (sym same) passing) (subst (λ x. Has (program_of x) (raw_of c)) (sym same) has);
@@ -120,8 +122,8 @@ program_runs text q _ has meant (stops a why) = stops a (refused q a has why)
 program_runs text q _ has meant starves = starves
 
 -- a class text
-pub classes_run : (text : List ℕ) (c : RawClasses) → ClassAnswer text (Ok c) → (r : RunRequest) → RunsTo text (exec r) (Ok (record { meant = Classes; classes = c }))
-classes_run text c answer r = goes _ (record { is_run = of_class_text c answer; is_meant = tt })
+pub classes_run : (text : List ℕ) (c : RawClasses) (w : WaitPlaces) → ClassAnswer text (Ok c) → (r : RunRequest) → RunsTo text (exec r) (Ok (record { meant = Classes; classes = c; waits = w }))
+classes_run text c w answer r = goes _ (record { is_run = of_class_text c answer; is_meant = tt })
 
 pub classes_refused : (text : List ℕ) (fault : ClassFault) (o : told.Answered) → o ≡ class_outcome_of fault → ClassAnswer text (Err fault) → (r : RunRequest) → RunsTo text (exec r) (Err o)
 classes_refused text (class.Form line) o e answer r = subst (λ x. RunsTo text (exec r) (Err x)) (sym e) (stops _ (no_classes r (class.Form line) answer (λ h. cc)))
@@ -176,6 +178,7 @@ has_world (run r) m h e = cc
 has_world (exec r) m h e = cc
 has_world (bench clients seed) m h e = cc
 has_world (shrink program world want) m h e = cc
+has_world (debug program world most) m h e = cc
 
 module _ (q : Request) (before mid after : FilesSeen) (text : List ℕ) (meant : Meant) (classes : RawClasses) (s : Source) (has : HasText (first_source q) before mid text)
     (is : IsRunFor text q meant classes) (world : world_source q ≡ Some s) (same : mid.content ≡ before.content) where
@@ -221,28 +224,33 @@ text_by : (program world : List ℕ) (want : Want) (m : Meant) → IsMeantBy (sh
 text_by program world want (Text p) h = tt
 text_by program world want Classes h = h
 
+viewed_by : (program world : List ℕ) (most : ℕ) (m : Meant) → IsMeantBy (debug program world most) m → IsText m
+viewed_by program world most (Text p) h = tt
+viewed_by program world most Classes h = h
+
 shrink_may : (b : Bool) (r : ProgramRun) → MayRun r → IsText r.meant → MayTell (if b then Shrink r else Answered LongScript)
 shrink_may true r may is = (may, is)
 shrink_may false r may is = tt
 
-may_by : (q : Request) (r : ProgramRun) → MayRun r → IsMeantBy q r.meant → MayTell (run_for q r)
-may_by (format p) r may is = may
-may_by (check p) r may is = may
-may_by (compile p) r may is = may
-may_by (run x) r may is = may
-may_by (exec x) r may is = may
-may_by (bench clients seed) r may is = may
-may_by (shrink program world want) r may is = shrink_may (nat_le r.world.script.len SCRIPT_LINES) r may (text_by program world want r.meant is)
+may_by : (q : Request) (r : ProgramRun) → MayRun r → IsMeantBy q r.meant → WaitsFor q r.meant r.waits → MayTell (run_for q r)
+may_by (format p) r may is w = may
+may_by (check p) r may is w = may
+may_by (compile p) r may is w = may
+may_by (run x) r may is w = may
+may_by (exec x) r may is w = may
+may_by (bench clients seed) r may is w = may
+may_by (shrink program world want) r may is w = shrink_may (nat_le r.world.script.len SCRIPT_LINES) r may (text_by program world want r.meant is)
+may_by (debug program world most) r may is w = (may, viewed_by program world most r.meant is, w)
 
-pub may_run : (q : Request) (text : List ℕ) (meant : Meant) (classes : RawClasses) (r : ProgramRun) (o : Outcome) → r.meant ≡ meant → r.classes ≡ classes → o ≡ run_for q r
-    → IsRunFor text q meant classes → IsInRange (seen r.world) → MayTell o
-may_run q text meant classes r o m c e is in_range =
+pub may_run : (q : Request) (text : List ℕ) (meant : Meant) (classes : RawClasses) (waits : WaitPlaces) (r : ProgramRun) (o : Outcome) → r.meant ≡ meant → r.classes ≡ classes → r.waits ≡ waits → o ≡ run_for q r
+    → IsRunFor text q meant classes → WaitsFor q meant waits → IsInRange (seen r.world) → MayTell o
+may_run q text meant classes waits r o m c w e is known in_range =
     let may : MayRun r = record {
       text = text;
       is_run = subst (λ x. IsRunBy text x r.classes) (sym m) (subst (IsRunBy text meant) (sym c) is.is_run);
       in_range = in_range;
     } in
-    subst MayTell (sym e) (may_by q r may (subst (IsMeantBy q) (sym m) is.is_meant))
+    subst MayTell (sym e) (may_by q r may (subst (IsMeantBy q) (sym m) is.is_meant) (subst (λ x. WaitsFor q x r.waits) (sym m) (subst (WaitsFor q meant) (sym w) known)))
 
 -- it is run once, or again and again, as the request has it
 pub told_for : (q : Request) (a : told.Answered) → IsFor q (Answered a)
@@ -253,6 +261,7 @@ told_for (run x) a = tt
 told_for (exec x) a = tt
 told_for (bench clients seed) a = tt
 told_for (shrink program world want) a = tt
+told_for (debug program world most) a = tt
 
 again : (b : Bool) (r : ProgramRun) → IsAgain (if b then Shrink r else Answered LongScript)
 again true r = tt
@@ -266,6 +275,7 @@ ran_for (run x) r = tt
 ran_for (exec x) r = tt
 ran_for (bench clients seed) r = tt
 ran_for (shrink program world want) r = again (nat_le r.world.script.len SCRIPT_LINES) r
+ran_for (debug program world most) r = tt
 
 pub is_run_for : (q : Request) (r : ProgramRun) (o : Outcome) → o ≡ run_for q r → IsFor q o
 is_run_for q r o e = subst (IsFor q) (sym e) (ran_for q r)
@@ -278,6 +288,7 @@ once (run x) o e h = h
 once (exec x) o e h = h
 once (bench clients seed) o e h = h
 once (shrink program world want) o e h = absurd (cc)
+once (debug program world most) o e h = h
 
 pub many : (q : Request) (want : Want) (o : Outcome) → wanted_alone q ≡ Some want → IsFor q o → IsAgain o
 many (format p) want o e h = absurd (cc)
@@ -287,6 +298,7 @@ many (run x) want o e h = absurd (cc)
 many (exec x) want o e h = absurd (cc)
 many (bench clients seed) want o e h = absurd (cc)
 many (shrink program world w) want o e h = h
+many (debug program world most) want o e h = absurd (cc)
 
 -- and then one monitor is wanted
 pub wants_one : (q : Request) (want : Want) → wanted_alone q ≡ Some want → wanted_by q ≡ want ∷ []
@@ -296,6 +308,7 @@ wants_one (compile p) want e = absurd (cc)
 wants_one (run x) want e = absurd (cc)
 wants_one (exec x) want e = absurd (cc)
 wants_one (bench clients seed) want e = absurd (cc)
+wants_one (debug program world most) want e = absurd (cc)
 wants_one (shrink program world w) want e = ap (λ x. x ∷ []) (same e)
   where
     same : {x y : Want} → Some x ≡ Some y → x ≡ y

@@ -9,3 +9,5 @@ pub mod Staging
 pub mod Reporting
 pub mod Missing
 pub mod OneAnswer
+pub mod Debugging
+pub mod Places

@@ -29,7 +29,7 @@ use Rattle.flow_front.specs.Verdict.{IsRefused, IsSound, IsLost}
 use Rattle.flow_front.specs.Laws.{OneVerdict}
 use Rattle.flow_lower.specs.Weighing.{first_heavy}
 use Rattle.flow_lower.specs.Compiled.{Has, compiled as compiled_tree}
-use Rattle.flow_words.specs.Asked.{Request, format, check, compile, run, exec, bench, shrink}
+use Rattle.flow_words.specs.Asked.{Request, format, check, compile, run, exec, bench, shrink, debug}
 use Rattle.flow_top.specs.declared.outcome.Outcome.{Outcome}
 use Rattle.flow_top.specs.declared.outcome.Outcome.TheVariants.{Answered, Shrink}
 use Rattle.flow_top.specs.declared.outcome.ProgramRun.{ProgramRun}
@@ -217,6 +217,7 @@ never_both (run r) p a b = b
 never_both (exec r) p a b = a
 never_both (bench clients seed) p a b = b
 never_both (shrink program world want) p a b = b
+never_both (debug program world most) p a b = b
 
 module _ (one_class : OneClassAnswer) (text : List ℕ) (one : OneVerdict text) (q : Request) where
   run_once : {m n : Meant} {c d : RawClasses} → IsRunBy text m c → IsRunBy text n d → IsMeantBy q m → IsMeantBy q n → SameMeant m n × (raw_of c ≡ raw_of d)
@@ -269,6 +270,7 @@ module _ (one_class : OneClassAnswer) (text : List ℕ) (one : OneVerdict text) 
       by_request (exec r) h k = h
       by_request (bench clients seed) h k = k
       by_request (shrink program world want) h k = k
+      by_request (debug program world most) h k = k
   never_runs _ _ m c (passed name p passing) is a = a
   never_runs _ _ m c (compiled name p d passing has) is a = a
   never_runs _ _ _ _ (no_classes r fault answer some) (of_program p c passing has) meant = meant
@@ -289,6 +291,7 @@ same_run (compile name) r s same = same
 same_run (run x) r s same = same
 same_run (exec x) r s same = same
 same_run (bench clients seed) r s same = (same, refl, refl)
+same_run (debug program world most) r s same = (same, refl)
 same_run (shrink program world want) r s same =
     let long : r.world.script.len ≡ s.world.script.len = sym (script_length r.world) ∙ ap (λ (w : World). length w.script) same.world ∙ script_length s.world in
     same_shrink r s _ _ (ap (λ n. nat_le n SCRIPT_LINES) long) same

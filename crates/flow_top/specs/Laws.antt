@@ -4,7 +4,7 @@ use Rattle.std.specs.declared.option.Option.TheVariants.{Some}
 use Rattle.flow_base.specs.Seen.{Missing, FilesSeen}
 use Rattle.flow_words.specs.Asked.{Request}
 use Rattle.flow_top.specs.declared.outcome.Outcome.{Outcome}
-use Rattle.flow_top.specs.declared.outcome.Outcome.TheVariants.{Answered, Run, Bench, Shrink}
+use Rattle.flow_top.specs.declared.outcome.Outcome.TheVariants.{Answered, Run, Bench, Shrink, Debug}
 use Rattle.flow_top.specs.declared.outcome.Answered.TheVariants.{ReadFault, OutOfMemory, NoWorld, LongScript}
 use Rattle.flow_top.specs.Sources.{of_file, first_source, world_source}
 use Rattle.flow_top.specs.Decided.{Decided}
@@ -20,6 +20,7 @@ abbrev pub IsWorldless : Outcome → Type 0
 IsWorldless (Run r) = ⊥
 IsWorldless (Bench b) = ⊥
 IsWorldless (Shrink r) = ⊥
+IsWorldless (Debug d) = ⊥
 IsWorldless (Answered (NoWorld fault)) = ⊥
 IsWorldless (Answered LongScript) = ⊥
 IsWorldless (Answered outcome) = Unit {0}

@@ -6,6 +6,7 @@ pub mod Decided
 pub mod Summary
 pub mod Shrunk
 pub mod Deaf
+pub mod Debugged
 pub mod Staging
 pub mod Told
 pub mod Answers

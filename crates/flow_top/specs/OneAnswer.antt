@@ -7,7 +7,7 @@ use Rattle.flow_class.specs.View.{raw_of}
 use Rattle.flow_worldfile.specs.Worlds.{seen}
 use Rattle.flow_words.specs.Asked.{Request}
 use Rattle.flow_top.specs.declared.outcome.Outcome.{Outcome}
-use Rattle.flow_top.specs.declared.outcome.Outcome.TheVariants.{Answered, Run, Bench, Shrink}
+use Rattle.flow_top.specs.declared.outcome.Outcome.TheVariants.{Answered, Run, Bench, Shrink, Debug}
 use Rattle.flow_top.specs.declared.outcome.ProgramRun.{ProgramRun}
 use Rattle.flow_top.specs.declared.outcome.Meant.{Meant}
 use Rattle.flow_top.specs.declared.outcome.Meant.TheVariants.{Text, Classes}
@@ -37,6 +37,7 @@ abbrev pub SameOutcome : Outcome → Outcome → Type 0
 SameOutcome (Answered a) (Answered b) = (text_of a ≡ text_of b) × (status_of a ≡ status_of b)
 SameOutcome (Run r) (Run s) = SameRun r s
 SameOutcome (Shrink r) (Shrink s) = SameRun r s
+SameOutcome (Debug a) (Debug b) = SameRun a.run b.run × (a.most ≡ b.most)
 SameOutcome (Bench a) (Bench b) = SameRun a.run b.run × (a.clients ≡ b.clients) × (a.seed ≡ b.seed)
 SameOutcome _ _ = ⊥
 

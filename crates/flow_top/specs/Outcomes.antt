@@ -32,10 +32,12 @@ use Rattle.flow_monitor.specs.declared.attach.PanelFault.{PanelFault}
 use Rattle.flow_monitor.specs.declared.attach.PanelFault.TheVariants as panel
 use Rattle.flow_words.specs.declared.asked.WordsFault.{WordsFault}
 use Rattle.flow_words.specs.declared.asked.WordsFault.TheVariants as words
-use Rattle.flow_words.specs.Asked.{Request, run as run_words, exec as exec_words, bench as bench_words, shrink as shrink_words}
+use Rattle.flow_words.specs.Asked.{Request, run as run_words, exec as exec_words, bench as bench_words, shrink as shrink_words, debug as debug_words}
 use Rattle.flow_top.specs.declared.outcome.Outcome.{Outcome}
-use Rattle.flow_top.specs.declared.outcome.Outcome.TheVariants.{Answered, Run, Bench, Shrink}
+use Rattle.flow_top.specs.declared.outcome.Outcome.TheVariants.{Answered, Run, Bench, Shrink, Debug}
 use Rattle.flow_top.specs.declared.outcome.ProgramRun.{ProgramRun}
+use Rattle.flow_top.specs.declared.outcome.DebugRun.{DebugRun}
+use Rattle.flow_top.specs.Debugged.{WaitsOf}
 use Rattle.flow_top.specs.declared.outcome.Meant.{Meant}
 use Rattle.flow_top.specs.declared.outcome.Meant.TheVariants.{Text, Classes}
 use Rattle.flow_top.specs.declared.outcome.Answered as told
@@ -116,11 +118,12 @@ pub data IsRunBy (text : List ℕ) : Meant → RawClasses → Type 0 where
       → IsRunBy text (Text p) classes
   of_class_text : (classes : RawClasses) → ClassAnswer text (Ok classes) → IsRunBy text Classes classes
 
--- programs are run for `run`, `bench` and `shrink`, class texts for `exec`
+-- programs are run for `run`, `bench`, `shrink` and `debug`, class texts for `exec`
 abbrev pub IsMeantBy : Request → Meant → Type 0
 IsMeantBy (run_words r) (Text p) = Unit {0}
 IsMeantBy (bench_words clients seed) (Text p) = Unit {0}
 IsMeantBy (shrink_words program world want) (Text p) = Unit {0}
+IsMeantBy (debug_words program world most) (Text p) = Unit {0}
 IsMeantBy (exec_words r) Classes = Unit {0}
 IsMeantBy _ _ = ⊥
 
@@ -128,11 +131,12 @@ IsMeantBy _ _ = ⊥
 abbrev pub shrink_for : ProgramRun → Outcome
 shrink_for r = if nat_le r.world.script.len SCRIPT_LINES then Shrink r else Answered LongScript
 
--- the outcome where classes are run for a request: what is shown of them is written, or for `bench` its summary, or for `shrink` a world
--- that was made smaller
+-- the outcome where classes are run for a request: what is shown of them is written, or for `bench` its summary, for `shrink` a world that
+-- was made smaller, or for `debug` a state
 abbrev pub run_for : Request → ProgramRun → Outcome
 run_for (bench_words clients seed) r = Bench (record { run = r; clients = clients; seed = seed })
 run_for (shrink_words program world want) r = shrink_for r
+run_for (debug_words program world most) r = Debug (record { run = r; most = most })
 run_for _ r = Run r
 
 -- a run that may be made: of the classes of some text, in a world in range
@@ -146,11 +150,16 @@ abbrev pub IsText : Meant → Type 0
 IsText (Text p) = Unit {0}
 IsText Classes = ⊥
 
+-- the state of a program is told, whose waits are known
+abbrev pub MayView : DebugRun → Type 0
+MayView d = MayRun d.run × IsText d.run.meant × WaitsOf d.run.meant d.run.waits
+
 abbrev pub MayTell : Outcome → Type 0
 MayTell (Answered outcome) = Unit {0}
 MayTell (Run r) = MayRun r
 MayTell (Bench b) = MayRun b.run
 MayTell (Shrink r) = MayRun r × IsText r.meant
+MayTell (Debug d) = MayView d
 
 -- classes are run once at most, or again and again if they are run
 abbrev pub IsOnce : Outcome → Type 0
@@ -160,6 +169,7 @@ IsOnce _ = Unit {0}
 abbrev pub IsAgain : Outcome → Type 0
 IsAgain (Run r) = ⊥
 IsAgain (Bench b) = ⊥
+IsAgain (Debug d) = ⊥
 IsAgain _ = Unit {0}
 
 -- as a request has it

@@ -8,7 +8,7 @@ use Rattle.flow_gen.specs.Generator.{program_text, generated_world}
 use Rattle.flow_tree.specs.declared.limits.TheConstants.{PROGRAM_BYTES}
 use Rattle.flow_worldfile.specs.declared.TheConstants.{WORLD_BYTES}
 use Rattle.flow_classread.specs.declared.read.TheConstants.{CLASS_BYTES}
-use Rattle.flow_words.specs.Asked.{Request, format, check, compile, run, exec, bench, shrink}
+use Rattle.flow_words.specs.Asked.{Request, format, check, compile, run, exec, bench, shrink, debug}
 use Rattle.flow_top.specs.declared.source.Source as code
 use Rattle.flow_top.specs.declared.source.Source.TheVariants.{File, GeneratedProgram, GeneratedWorld}
 
@@ -26,6 +26,7 @@ first_source (run r) = of_file r.what PROGRAM_BYTES
 first_source (exec r) = of_file r.what CLASS_BYTES
 first_source (bench clients seed) = generated (program_text clients)
 first_source (shrink program world want) = of_file program PROGRAM_BYTES
+first_source (debug program world most) = of_file program PROGRAM_BYTES
 
 -- the text of the world in which something is run
 abbrev pub world_source : Request → Option Source
@@ -33,6 +34,7 @@ world_source (run r) = Some (of_file r.world WORLD_BYTES)
 world_source (exec r) = Some (of_file r.world WORLD_BYTES)
 world_source (bench clients seed) = Some (generated (generated_world seed))
 world_source (shrink program world want) = Some (of_file world WORLD_BYTES)
+world_source (debug program world most) = Some (of_file world WORLD_BYTES)
 world_source _ = None
 
 -- the source as the code has it

@@ -8,6 +8,11 @@ use Rattle.flow_base.specs.Faults.{next_count}
 use Rattle.flow_base.specs.Seen.{FilesSeen}
 use Rattle.flow_base.specs.declared.place.Place.{Place}
 use Rattle.flow_tree.specs.Decls.{ProgramTree}
+use Rattle.flow_tree.specs.DeclView.{program_of}
+use Rattle.flow_tree.specs.declared.decl.Program.{Program}
+use Rattle.flow_debug.specs.declared.waits.WaitPlaces.{WaitPlaces}
+use Rattle.flow_debug.specs.Waits.{waits_seen}
+use Rattle.flow_debug.specs.Told.{places_of_waits}
 use Rattle.flow_class.specs.declared.class.RawClasses.{RawClasses}
 use Rattle.flow_class.specs.View.{raw_of}
 use Rattle.flow_front.specs.Verdict.{IsSound}
@@ -108,3 +113,8 @@ pub data WorldOf (text : List ℕ) : Result World0 told.Answered → Type 0 wher
   is_world : (w : World0) → reading.ReadsWorld text (Ok w) → WorldOf text (Ok w)
   is_none : (fault : WorldFault) → reading.ReadsWorld text (Err fault) → fault ≢ world.OutOfMemory → WorldOf text (Err (NoWorld fault))
   no_room_for_it : WorldOf text (Err OutOfMemory)
+
+-- The places of a program's waits, if there was memory for them.
+abbrev pub WaitsAre : Program → Result WaitPlaces told.Answered → Type 0
+WaitsAre p (Ok waits) = waits_seen waits ≡ places_of_waits (program_of p).decls
+WaitsAre p (Err outcome) = outcome ≡ OutOfMemory

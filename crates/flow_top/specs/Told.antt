@@ -17,15 +17,17 @@ use Rattle.flow_world.specs.Ends.{end_line, LastIs}
 use Rattle.flow_world.specs.WatchedTraces.{last_line}
 use Rattle.flow_world.specs.Written.{bytes_of}
 use Rattle.flow_top.specs.declared.outcome.Outcome.{Outcome}
-use Rattle.flow_top.specs.declared.outcome.Outcome.TheVariants.{Answered, Run, Bench, Shrink}
+use Rattle.flow_top.specs.declared.outcome.Outcome.TheVariants.{Answered, Run, Bench, Shrink, Debug}
 use Rattle.flow_top.specs.declared.outcome.ProgramRun.{ProgramRun}
 use Rattle.flow_top.specs.declared.outcome.BenchRun.{BenchRun}
+use Rattle.flow_top.specs.declared.outcome.DebugRun.{DebugRun}
 use Rattle.flow_top.specs.declared.outcome.Answered as told
 use Rattle.flow_top.specs.Outcomes.{text_of, status_of, IsShown}
 use Rattle.flow_top.specs.declared.counting.Counts.{Counts}
 use Rattle.flow_worldfile.specs.Worlds.{seen}
 use Rattle.flow_shrink.specs.declared.shrinking.Shrunk.{Shrunk}
 use Rattle.flow_shrink.specs.Shrinking.{Shrinks}
+use Rattle.flow_top.specs.Debugged.{IsViewOf}
 use Rattle.flow_top.specs.Shrunk.{IsStopped, shrunk_text, shrunk_status}
 use Rattle.flow_top.specs.Summary.{counts_of, summary_text}
 
@@ -102,8 +104,19 @@ pub data ReportedShrink (r : ProgramRun) (ears : Ears) (before after : SinkSeen)
   -- there was no memory before any of it was written
   shrink_no_memory : after ≡ before → ReportedShrink r ears before after 7
 
+-- What was told of a program's state after so many events: the text of that, with its status; or a first part of it.
+pub data ReportedDebug (d : DebugRun) (before after : SinkSeen) : ℕ → Type 0 where
+  shown_state : (text : List ℕ) (status : ℕ) → IsViewOf d.run d.most text status → GoesOut before after text → ReportedDebug d before after status
+  state_write_fault : (text : List ℕ) (status : ℕ) → IsViewOf d.run d.most text status → GoesOutInPart before after text
+      → Rose before.faults after.faults → ReportedDebug d before after 6
+  state_no_memory_told : (text : List ℕ) (status : ℕ) → IsViewOf d.run d.most text status → GoesOutInPart before after text
+      → ReportedDebug d before after 7
+  -- there was no memory before any of it was written
+  state_no_memory : after ≡ before → ReportedDebug d before after 7
+
 abbrev pub Reported : Ears → Outcome → SinkSeen → SinkSeen → ℕ → Type 0
 Reported ears (Answered outcome) before after status = ReportedTold outcome before after status
 Reported ears (Run r) before after status = ReportedRun r ears before after status
 Reported ears (Bench b) before after status = ReportedBench b before after status
 Reported ears (Shrink r) before after status = ReportedShrink r ears before after status
+Reported ears (Debug d) before after status = ReportedDebug d before after status

@@ -41,7 +41,11 @@ fn wanted_by<'a>(asked: &'a Asked<'_>) -> &'a [Want]
     match asked {
         Asked::Run(run) | Asked::Exec(run) => &run.wanted,
         Asked::Shrink(shrink) => slice::from_ref(&shrink.want),
-        Asked::Format(_) | Asked::Check(_) | Asked::Compile(_) | Asked::Bench(..) => &[],
+        Asked::Format(_)
+        | Asked::Check(_)
+        | Asked::Compile(_)
+        | Asked::Bench(..)
+        | Asked::Debug(_) => &[],
     }
 }
 

@@ -7,7 +7,7 @@ ghost use Rattle.flow_top.specs.Outcomes.{MayTell, IsFor, run_for, shrink_for};
 ghost use Rattle.flow_top.specs.Decided.{Decided};
 
 use crate::judge::{judge, world_of};
-use crate::outcome::{Answered, BenchRun, Outcome, ProgramRun};
+use crate::outcome::{Answered, BenchRun, DebugRun, Outcome, ProgramRun};
 use crate::source::{first_source, read_text, world_source};
 use flow_base::files::Files;
 use flow_shrink::SCRIPT_LINES;
@@ -24,7 +24,8 @@ fn tells_frames(asked: &Asked<'_>) -> bool
         | Asked::Check(_)
         | Asked::Compile(_)
         | Asked::Bench(..)
-        | Asked::Shrink(_) => false,
+        | Asked::Shrink(_)
+        | Asked::Debug(_) => false,
     }
 }
 
@@ -52,6 +53,10 @@ fn run_for(asked: &Asked<'_>, run: ProgramRun) -> Outcome
         Asked::Format(_) | Asked::Check(_) | Asked::Compile(_) | Asked::Run(_) | Asked::Exec(_) =>
             Outcome::Run(run),
         Asked::Shrink(_) => shrink_for(run),
+        Asked::Debug(debug) => Outcome::Debug(DebugRun {
+            run,
+            most: debug.most,
+        }),
     }
 }
 
@@ -85,6 +90,7 @@ pub fn decide<F: Files>(alloc: Global, asked: &Asked<'_>, files: &mut F) -> Outc
                 classes: runnable.classes,
                 world,
                 frames: tells_frames(asked),
+                waits: runnable.waits,
             },
         ),
         Err(told) => Outcome::Answered(told),

@@ -8,14 +8,17 @@ ghost use Rattle.flow_worldfile.specs.Worlds.{IsInRange, seen};
 ghost use Rattle.flow_words.specs.Asked.{request_of, RunRequest};
 ghost use Rattle.flow_words.specs.Asked as Request;
 ghost use Rattle.flow_top.specs.Outcomes.{refusal_outcome_of, heavy_outcome, class_outcome_of};
-ghost use Rattle.flow_top.specs.Steps.{JudgesTo, LowersTo, CompilesTo, EndsBy, RunsTo, WorldOf};
+ghost use Rattle.flow_top.specs.Steps.{JudgesTo, LowersTo, CompilesTo, EndsBy, RunsTo, WorldOf, WaitsAre};
+ghost use Rattle.flow_top.specs.Debugged.{WaitsOf, WaitsFor};
 
 use crate::outcome::{Answered, Meant, Runnable};
 use flow_base::place::Place;
 use flow_classread::fault::ClassFault;
 use flow_classread::read::read_classes;
 use flow_compile::{CompileFault, compile, first_heavy, front, read_program};
+use flow_debug::waits::WaitPlaces;
 use flow_staterule::Sound;
+use flow_tree::decl::Program;
 use flow_tree::fault::{Rule, SourceFault};
 use flow_valid::program::ClassProgram;
 use flow_words::Asked;
@@ -101,9 +104,44 @@ fn program(alloc: Global, text: &[u8]) -> Result<Runnable, Answered>
         Ok(classes) => Ok(Runnable {
             meant: Meant::Text(Snapshot::of(sound.program())),
             classes,
+            waits: WaitPlaces::none(alloc),
         }),
         Err(told) => Err(told),
     }
+}
+
+// The places of the waits of a program.
+fn waits_of(alloc: Global, program: &Program) -> Result<WaitPlaces, Answered>
+    ensures { WaitsAre program.now result }
+{
+    match WaitPlaces::new(alloc, &program.decls) {
+        Ok(waits) => Ok(waits),
+        Err(_) => Err(Answered::OutOfMemory),
+    }
+}
+
+// The classes of the program that a text is, the program, and where its waits stand.
+fn program_with_waits(alloc: Global, text: &[u8]) -> Result<Runnable, Answered>
+    ensures judged { CompilesTo text.now result }
+    ensures waits { IfOk result (λ r. WaitsOf r.meant r.waits) }
+{
+    let sound = match sound_of(alloc, text) {
+        Ok(sound) => sound,
+        Err(told) => return Err(told),
+    };
+    let classes = match classes_of(alloc, &sound) {
+        Ok(classes) => classes,
+        Err(told) => return Err(told),
+    };
+    let waits = match waits_of(alloc, sound.program()) {
+        Ok(waits) => waits,
+        Err(told) => return Err(told),
+    };
+    Ok(Runnable {
+        meant: Meant::Text(Snapshot::of(sound.program())),
+        classes,
+        waits,
+    })
 }
 
 // What `compile` comes to on a text.
@@ -111,7 +149,13 @@ fn compiled(alloc: Global, text: &[u8]) -> Answered
     ensures { (p : List ℕ) → EndsBy text.now (Request.compile p) result }
 {
     match program(alloc, text) {
-        Ok(Runnable { meant: _, classes }) => Answered::Compiled(classes),
+        Ok(
+            Runnable {
+                meant: _,
+                classes,
+                waits: _,
+            },
+        ) => Answered::Compiled(classes),
         Err(told) => told,
     }
 }
@@ -136,6 +180,7 @@ fn class_text(alloc: Global, text: &[u8]) -> Result<Runnable, Answered>
         Ok(classes) => Ok(Runnable {
             meant: Meant::Classes,
             classes,
+            waits: WaitPlaces::none(alloc),
         }),
         Err(fault) => Err(class_outcome(fault)),
     }
@@ -143,7 +188,8 @@ fn class_text(alloc: Global, text: &[u8]) -> Result<Runnable, Answered>
 
 /// What a request comes to by the text that it begins with: the classes that are run for it, or the outcome without a run.
 pub fn judge(alloc: Global, asked: &Asked<'_>, text: &[u8]) -> Result<Runnable, Answered>
-    ensures { RunsTo text.now (request_of asked.now) result }
+    ensures runs { RunsTo text.now (request_of asked.now) result }
+    ensures waits { IfOk result (λ r. WaitsFor (request_of asked.now) r.meant r.waits) }
 {
     match asked {
         Asked::Format(_) => Err(format(alloc, text)),
@@ -152,6 +198,7 @@ pub fn judge(alloc: Global, asked: &Asked<'_>, text: &[u8]) -> Result<Runnable, 
         Asked::Run(_) => program(alloc, text),
         Asked::Bench(..) => program(alloc, text),
         Asked::Shrink(_) => program(alloc, text),
+        Asked::Debug(_) => program_with_waits(alloc, text),
         Asked::Exec(_) => class_text(alloc, text),
     }
 }

@@ -13,5 +13,6 @@ mod source;
 mod stage;
 mod summary;
 mod top;
+mod viewing;
 
 pub use top::flow_main;

@@ -1,6 +1,7 @@
 // What a command line comes to.
 
 use flow_classread::fault::ClassFault;
+use flow_debug::waits::WaitPlaces;
 use flow_tree::decl::Program;
 use flow_tree::fault::SourceFault;
 use flow_valid::program::ClassProgram;
@@ -18,6 +19,8 @@ pub enum Outcome {
     Bench(BenchRun),
     /// They are run again and again, in the world and in smaller ones, and the smallest that a monitor stops is told.
     Shrink(ProgramRun),
+    /// They are run up to an event, and the state of the program after it is told.
+    Debug(DebugRun),
 }
 
 /// What classes mean that are run: a program, which is read by clauses alone, or themselves.
@@ -27,20 +30,29 @@ pub enum Meant {
     Classes,
 }
 
-/// Classes to be run, and what they mean.
+/// Classes to be run, what they mean, and where the waits of the program stand, if that is asked for.
 #[derive(Drop)]
 pub struct Runnable {
     pub meant: Meant,
     pub classes: ClassProgram,
+    pub waits: WaitPlaces,
 }
 
-/// Classes that are run in a world, and whether frames are told after each event.
+/// Classes that are run in a world, whether frames are told after each event, and where the waits of the program stand, if that is asked for.
 #[derive(Drop)]
 pub struct ProgramRun {
     pub meant: Meant,
     pub classes: ClassProgram,
     pub world: World0,
     pub frames: bool,
+    pub waits: WaitPlaces,
+}
+
+/// A run up to so many events.
+#[derive(Drop)]
+pub struct DebugRun {
+    pub run: ProgramRun,
+    pub most: u32,
 }
 
 /// A run whose summary is told, by the number of clients and the seed that it was generated of.

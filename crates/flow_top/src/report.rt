@@ -10,22 +10,31 @@ ghost use Rattle.flow_machine.specs.Cause.{fault_of};
 ghost use Rattle.flow_world.specs.WatchedTraces.{IsEnding};
 ghost use Rattle.flow_world.specs.declared.run_ending.RunEnding.TheVariants.{Own};
 ghost use Rattle.flow_top.specs.Outcomes.{text_of, status_of, world_status, MayRun, MayTell, IsText, IsOnce, IsAgain};
-ghost use Rattle.flow_top.specs.Told.{ending_status, run_status, fault_status_of, GoesOut, GoesOutInPart, ReportedTold, ReportedRun, IsCounted, ReportedBench, ReportedShrink, Reported};
+ghost use Rattle.flow_top.specs.Told.{ending_status, run_status, fault_status_of, GoesOut, GoesOutInPart, ReportedTold, ReportedRun, IsCounted, ReportedBench, ReportedShrink, ReportedDebug, Reported};
 ghost use Rattle.flow_top.specs.Requests.{alone};
 ghost use Rattle.flow_top.specs.Shrunk.{IsStopped, shrunk_text, shrunk_status};
 ghost use Rattle.flow_shrink.specs.Shrinking.{Shrinks};
 ghost use Rattle.flow_worldfile.specs.Worlds.{seen};
+ghost use Rattle.flow_world.specs.Ending.{Seen};
+ghost use Rattle.flow_world.specs.Starting.{Starts};
+ghost use Rattle.flow_world.specs.Skipping.{SkipsUpTo};
+ghost use Rattle.flow_world.specs.Worlds.{world_seen};
+ghost use Rattle.flow_debug.specs.Waits.{waits_seen};
+ghost use Rattle.flow_view_laws.specs.Skipped.{CanBeTold, SkippedRise, world_view, skipped_text, skipped_status};
+ghost use Rattle.flow_top.specs.Outcomes.{MayView};
 
 use crate::counting::Counts;
-use crate::outcome::{Answered, BenchRun, Outcome, ProgramRun};
+use crate::outcome::{Answered, BenchRun, DebugRun, Outcome, ProgramRun};
 use crate::stage::Stage;
 use crate::summary::summary;
+use crate::viewing::put_view;
 use flow_base::fault::OutFault;
 use flow_base::memory::NoMemory;
 use flow_base::output::write_whole;
 use flow_base::sink::Sink;
 use flow_classprint::write_classes;
 use flow_classread::fault::ClassFault;
+use flow_debug::waits::WaitPlaces;
 use flow_machine::host::RunFault;
 use flow_monitor::{Audience, Monitor, Panel};
 use flow_refusal::{class_line, class_status, refusal_line, refusal_status, world_line};
@@ -214,6 +223,7 @@ fn report_run<P: Audience, S: Sink>(
         classes,
         world,
         frames,
+        waits: _,
     } = run;
     let ending = match write_trace(alloc, classes, world, frames, panel, out) {
         Ok(ending) => ending,
@@ -247,6 +257,7 @@ fn count_run(alloc: Global, run: ProgramRun) -> Result<(Ending, Counts), NoMemor
         classes,
         world,
         frames,
+        waits: _,
     } = run;
     let mut nobody = Panel::empty(alloc);
     let mut counts = Counts::new();
@@ -302,6 +313,7 @@ fn shrink_run(
         classes,
         world,
         frames: _,
+        waits: _,
     } = run;
     let first = copied(alloc, &world)?;
     let mut stage = Stage {
@@ -358,6 +370,99 @@ fn report_shrink<S: Sink>(
     }
 }
 
+// Runs classes up to an event, or up to the end where that comes before. Where the waits stand goes along.
+fn run_up_to(
+    alloc: Global,
+    run: ProgramRun,
+    most: u32,
+) -> Result<(World, Option<Ending>, WaitPlaces), NoMemory>
+    requires { MayRun run }
+    ensures { IfOk result (λ x. (first : Seen) × Starts run.classes run.world first
+        × SkipsUpTo most first x.1 (world_seen x.0) × (x.2 ≡ run.waits)) }
+{
+    let ProgramRun {
+        meant: _,
+        classes,
+        world,
+        frames: _,
+        waits,
+    } = run;
+    let mut world = World::start(alloc, classes, world)?;
+    match world.run_events(most) {
+        Ok(ending) => Ok((world, ending, waits)),
+        Err(_) => Err(NoMemory),
+    }
+}
+
+// Writes the state of a world and flushes it.
+fn write_view<S: Sink>(
+    alloc: Global,
+    waits: &WaitPlaces,
+    world: &World,
+    out: &mut S,
+) -> Result<(), OutFault>
+    ensures whole { OnOk result (CanBeTold (world_seen world.now)
+        → GoesOut (S.seen out.old) (S.seen out.new)
+        (world_view (waits_seen waits.now) (world_seen world.now))) }
+    ensures part { CanBeTold (world_seen world.now)
+        → GoesOutInPart (S.seen out.old) (S.seen out.new)
+        (world_view (waits_seen waits.now) (world_seen world.now)) }
+    ensures handed { Grows (S.seen out.old).handed (S.seen out.new).handed }
+    ensures cause { HasCause (S.seen out.old).faults (S.seen out.new).faults result }
+{
+    put_view(alloc, waits, world, out)?;
+    out.flush()
+}
+
+// Writes the state of a world, or that an event was spent, by how its run ended, and flushes it.
+fn write_state<S: Sink>(
+    alloc: Global,
+    waits: &WaitPlaces,
+    world: &World,
+    ending: Option<Ending>,
+    out: &mut S,
+) -> Result<(), OutFault>
+    ensures whole { OnOk result (SkippedRise ending (world_seen world.now)
+        → GoesOut (S.seen out.old) (S.seen out.new)
+        (skipped_text (waits_seen waits.now) ending (world_seen world.now))) }
+    ensures part { SkippedRise ending (world_seen world.now)
+        → GoesOutInPart (S.seen out.old) (S.seen out.new)
+        (skipped_text (waits_seen waits.now) ending (world_seen world.now)) }
+    ensures handed { Grows (S.seen out.old).handed (S.seen out.new).handed }
+    ensures cause { HasCause (S.seen out.old).faults (S.seen out.new).faults result }
+{
+    match ending {
+        Some(Ending::Spent) => write_text(b"end spent\n", out),
+        Some(Ending::Idle) | Some(Ending::Bound) | None => write_view(alloc, waits, world, out),
+    }
+}
+
+// The status of a state.
+fn state_status(ending: Option<Ending>) -> u8
+    ensures { result ≡ skipped_status ending }
+{
+    match ending {
+        Some(Ending::Spent) => 4,
+        Some(Ending::Idle) | Some(Ending::Bound) | None => 0,
+    }
+}
+
+// Runs classes up to an event, writes the state after it and flushes it, and gives the status.
+fn report_debug<S: Sink>(alloc: Global, debug: DebugRun, out: &mut S) -> u8
+    requires { MayView debug }
+    ensures reported { ReportedDebug debug (S.seen out.old) (S.seen out.new) result }
+    ensures handed { Grows (S.seen out.old).handed (S.seen out.new).handed }
+{
+    let DebugRun { run, most } = debug;
+    let Ok((world, ending, waits)) = run_up_to(alloc, run, most) else {
+        return 7;
+    };
+    match write_state(alloc, &waits, &world, ending, out) {
+        Ok(()) => state_status(ending),
+        Err(fault) => fault_status(fault),
+    }
+}
+
 /// Writes the text of an outcome that runs no classes, or runs them again and again, and flushes it, and gives the status. The
 /// monitor hears each run from its begin.
 pub fn report_again<S: Sink>(
@@ -376,7 +481,7 @@ pub fn report_again<S: Sink>(
     match outcome {
         Outcome::Answered(told) => report_told(alloc, told, out),
         Outcome::Shrink(run) => report_shrink(alloc, run, monitor, limit, out),
-        Outcome::Run(_) | Outcome::Bench(_) => unreachable!(),
+        Outcome::Run(_) | Outcome::Bench(_) | Outcome::Debug(_) => unreachable!(),
     }
 }
 
@@ -398,6 +503,7 @@ pub fn report<P: Audience, S: Sink>(
         Outcome::Answered(told) => report_told(alloc, told, out),
         Outcome::Run(run) => report_run(alloc, run, panel, out),
         Outcome::Bench(bench) => report_bench(alloc, bench, out),
+        Outcome::Debug(debug) => report_debug(alloc, debug, out),
         Outcome::Shrink(_) => unreachable!(),
     }
 }

@@ -41,6 +41,7 @@ pub fn first_source<'a>(asked: &Asked<'a>) -> Source<'a>
         Asked::Run(run) => Source::File(run.what, PROGRAM_BYTES),
         Asked::Exec(run) => Source::File(run.what, CLASS_BYTES),
         Asked::Shrink(shrink) => Source::File(shrink.program, PROGRAM_BYTES),
+        Asked::Debug(debug) => Source::File(debug.program, PROGRAM_BYTES),
         Asked::Bench(clients, _) => Source::GeneratedProgram(*clients),
     }
 }
@@ -53,6 +54,7 @@ pub fn world_source<'a>(asked: &Asked<'a>) -> Option<Source<'a>>
         Asked::Run(run) | Asked::Exec(run) => Some(Source::File(run.world, WORLD_BYTES)),
         Asked::Bench(clients, seed) => Some(Source::GeneratedWorld(*clients, *seed)),
         Asked::Shrink(shrink) => Some(Source::File(shrink.world, WORLD_BYTES)),
+        Asked::Debug(debug) => Some(Source::File(debug.world, WORLD_BYTES)),
         Asked::Format(_) | Asked::Check(_) | Asked::Compile(_) => None,
     }
 }

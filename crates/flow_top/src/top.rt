@@ -73,7 +73,8 @@ fn wanted_alone<'a>(asked: &'a Asked<'_>) -> Option<&'a Want>
         | Asked::Compile(_)
         | Asked::Run(_)
         | Asked::Exec(_)
-        | Asked::Bench(..) => None,
+        | Asked::Bench(..)
+        | Asked::Debug(_) => None,
     }
 }
 
@@ -83,7 +84,8 @@ fn wanted_alone<'a>(asked: &'a Asked<'_>) -> Option<&'a Want>
 /// file W and writes what is shown of it by its text: the trace, and with `--frames` the frames and callbacks after each event, up
 /// to where a monitor says Stop that is handed in and named by `--monitor`. `exec C W` does so with the classes of the class text
 /// C, and `bench N SEED` writes the summary of a generated run. `shrink P W --monitor name=n` writes the world with a script of
-/// which no line can go, so that this monitor still says Stop.
+/// which no line can go, so that this monitor still says Stop. `debug P W K` writes the state of the program's own text after K events:
+/// where each unfinished actor waits, at which cells, and what its variables hold.
 pub fn flow_main<F: Files, S: Sink>(
     alloc: Global,
     words: &[String],

@@ -41,6 +41,10 @@ run_app = with_rule (with_rule two_texts_app (flag (codes "frames"))) (option_te
 abbrev pub shrink_app : App
 shrink_app = with_rule two_texts_app (option_text (codes "monitor"))
 
+-- three texts
+abbrev pub three_texts_app : App
+three_texts_app = with_rule two_texts_app (required_text (codes "third"))
+
 -- what clap reads of the words, where its definition finds no fault in them
 abbrev pub matched : App → (words : List Text) → Option (List Row)
 matched app words = if is_empty (fault_of app words) then Some (matches_of app words) else None
@@ -51,6 +55,9 @@ first_text rows = first_of (codes "first") rows
 
 abbrev pub second_text : List Row → Option Text
 second_text rows = first_of (codes "second") rows
+
+abbrev pub third_text : List Row → Option Text
+third_text rows = first_of (codes "third") rows
 
 abbrev pub monitor_text : List Row → Option Text
 monitor_text rows = first_of (codes "monitor") rows

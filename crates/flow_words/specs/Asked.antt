@@ -4,8 +4,8 @@ use Rattle.std.specs.declared.option.Option.{Option}
 use Rattle.std.specs.declared.option.Option.TheVariants.{None, Some}
 use Rattle.clap.specs.Words.{Row, Text}
 use Rattle.flow_monitor.specs.declared.attach.Want.{Want}
-use Rattle.flow_words.specs.Apps.{one_text_app, two_texts_app, run_app, shrink_app, matched, first_text, second_text, monitor_text, has_frames}
-use Rattle.flow_words.specs.Wants.{number_within, number_of, listed, sole}
+use Rattle.flow_words.specs.Apps.{one_text_app, two_texts_app, run_app, three_texts_app, shrink_app, matched, first_text, second_text, third_text, monitor_text, has_frames}
+use Rattle.flow_words.specs.Wants.{number_within, number_of, events_of, listed, sole}
 use Rattle.flow_words.specs.declared.asked.Asked.{Asked}
 use Rattle.flow_words.specs.declared.asked.Asked.TheVariants as words
 use Rattle.flow_words.specs.declared.asked.RunWords.{RunWords}
@@ -21,8 +21,8 @@ pub record RunRequest : Type 0 where
   pub frames : Bool
   pub wanted : List Want
 
--- what is asked for: of a program by its file, of a run, of a generated program and world by clients and seed, or of a smaller world in
--- which a monitor stops a program
+-- what is asked for: of a program by its file, of a run, of a generated program and world by clients and seed, of a smaller world in
+-- which a monitor stops a program, or of a program's state after so many events
 pub data Request : Type 0 where
   format : (program : List ℕ) → Request
   check : (program : List ℕ) → Request
@@ -31,6 +31,7 @@ pub data Request : Type 0 where
   exec : RunRequest → Request
   bench : (clients seed : ℕ) → Request
   shrink : (program world : List ℕ) → Want → Request
+  debug : (program world : List ℕ) (most : ℕ) → Request
 
 -- the command of its word
 abbrev pub command_of : (word : Text) → Option CommandWord
@@ -41,6 +42,7 @@ command_of word = if bytes_eq word (codes "format") then Some command.Format
     else if bytes_eq word (codes "exec") then Some command.Exec
     else if bytes_eq word (codes "bench") then Some command.Bench
     else if bytes_eq word (codes "shrink") then Some command.Shrink
+    else if bytes_eq word (codes "debug") then Some command.Debug
     else None
 
 -- `PROGRAM`
@@ -80,6 +82,17 @@ shrink_by rows = shrink_with (first_text rows) (second_text rows) (option_and_th
 abbrev pub shrink_of : (words : List Text) → Option Request
 shrink_of words = option_and_then shrink_by (matched shrink_app words)
 
+-- `PROGRAM WORLD K`: K events
+abbrev pub debug_with : Option Text → Option Text → Option ℕ → Option Request
+debug_with (Some program) (Some world) (Some most) = Some (debug program world most)
+debug_with _ _ _ = None
+
+abbrev pub debug_by : List Row → Option Request
+debug_by rows = debug_with (first_text rows) (second_text rows) (option_and_then events_of (third_text rows))
+
+abbrev pub debug_of : (words : List Text) → Option Request
+debug_of words = option_and_then debug_by (matched three_texts_app words)
+
 -- what a command asks for with the words behind it
 abbrev pub asked_by : Option CommandWord → (words : List Text) → Option Request
 asked_by None words = None
@@ -90,6 +103,7 @@ asked_by (Some command.Run) words = option_map run (run_of words)
 asked_by (Some command.Exec) words = option_map exec (run_of words)
 asked_by (Some command.Bench) words = bench_of words
 asked_by (Some command.Shrink) words = shrink_of words
+asked_by (Some command.Debug) words = debug_of words
 
 -- what the words of a command line ask for, if they are one
 abbrev pub asked : (words : List Text) → Option Request
@@ -108,6 +122,7 @@ request_of (words.Run r) = run (run_request r)
 request_of (words.Exec r) = exec (run_request r)
 request_of (words.Bench clients seed) = bench clients seed
 request_of (words.Shrink s) = shrink s.program.now s.world.now s.want
+request_of (words.Debug d) = debug d.program.now d.world.now d.most
 
 -- What is asked for is read, and where nothing is asked for, there is no usage of that form. There may be no memory.
 abbrev pub Reads : {T U : Type 0} → (U → T) → Option T → Result U WordsFault → Type 0

@@ -17,6 +17,10 @@ number_within least most word =
 abbrev pub number_of : (word : List ℕ) → Option ℕ
 number_of = number_within 0 (2 ^ 64 - 1)
 
+-- how many events, in 1 to 7 digits
+abbrev pub events_of : (word : List ℕ) → Option ℕ
+events_of word = if nat_le (length word) 7 then number_within 0 1000000 word else None
+
 -- a monitor that is wanted with a limit, if its name has the form of names and there is a limit
 abbrev pub named : (name : List ℕ) → Option ℕ → Option Want
 named name None = None

@@ -17,6 +17,7 @@ pub enum CommandWord {
     Exec,
     Bench,
     Shrink,
+    Debug,
 }
 
 /// What a command line asks for.
@@ -36,6 +37,8 @@ pub enum Asked<'a> {
     Bench(u32, u64),
     /// The world of a file with as little of its script as a monitor still stops the program of a file at.
     Shrink(ShrinkWords<'a>),
+    /// The state of a run of the program of a file after so many events, 0 to 1,000,000, as the program's text has it.
+    Debug(DebugWords<'a>),
 }
 
 /// A run that is asked for: the files of what is run and of its world, whether frames are told after each event, and the
@@ -54,6 +57,14 @@ pub struct ShrinkWords<'a> {
     pub program: &'a str,
     pub world: &'a str,
     pub want: Want,
+}
+
+/// A state that is asked for: the files of the program and of the world, and after how many events.
+#[derive(Drop)]
+pub struct DebugWords<'a> {
+    pub program: &'a str,
+    pub world: &'a str,
+    pub most: u32,
 }
 
 /// Why words can't be read: they ask for nothing that there is, or there was no memory.

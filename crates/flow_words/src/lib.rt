@@ -7,5 +7,5 @@ mod number;
 mod reading;
 mod wanting;
 
-pub use asked::{Asked, CommandWord, RunWords, ShrinkWords, WordsFault};
+pub use asked::{Asked, CommandWord, DebugWords, RunWords, ShrinkWords, WordsFault};
 pub use reading::read_words;

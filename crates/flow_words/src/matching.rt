@@ -3,7 +3,7 @@
 ghost use Rattle.std.specs.Prelude.{◌≡◌, ◌⊎◌, [], true, false, codes, map, IfOk, string_bytes, option_map};
 ghost use Rattle.clap.specs.Words.{app_of, rule_of, found_of, rows_of, is_simple_and_free, with_rule, first_of};
 ghost use Rattle.flow_words.specs.Apps as spec;
-ghost use Rattle.flow_words.specs.Apps.{one_text_app, two_texts_app, run_app, shrink_app, matched, first_text, second_text, monitor_text, has_frames, is_true};
+ghost use Rattle.flow_words.specs.Apps.{one_text_app, two_texts_app, three_texts_app, run_app, shrink_app, matched, first_text, second_text, third_text, monitor_text, has_frames, is_true};
 ghost use Rattle.flow_words.specs.Asked.{Reads};
 
 use crate::asked::WordsFault;
@@ -59,6 +59,13 @@ pub fn two_texts<'a>(alloc: Global) -> Result<Command<'a>, AllocError>
     one_text(alloc)?.arg(required_text(alloc, "second"))
 }
 
+/// A command with three texts.
+pub fn three_texts<'a>(alloc: Global) -> Result<Command<'a>, AllocError>
+    ensures { IfOk result (λ c. app_of c ≡ three_texts_app) }
+{
+    two_texts(alloc)?.arg(required_text(alloc, "third"))
+}
+
 /// A command with two texts, `--frames` and `--monitor LIST`.
 pub fn run_command<'a>(alloc: Global) -> Result<Command<'a>, AllocError>
     ensures { IfOk result (λ c. app_of c ≡ run_app) }
@@ -104,6 +111,13 @@ pub fn second_text<'a>(matches: &ArgMatches<'a>) -> Option<&'a str>
     ensures { option_map (λ s. s.now) result ≡ second_text (rows_of (found_of matches.now)) }
 {
     matches.get_str("second")
+}
+
+/// The text of the third argument.
+pub fn third_text<'a>(matches: &ArgMatches<'a>) -> Option<&'a str>
+    ensures { option_map (λ s. s.now) result ≡ third_text (rows_of (found_of matches.now)) }
+{
+    matches.get_str("third")
 }
 
 /// The text of `--monitor`, if it is there.

@@ -5,7 +5,7 @@ ghost use Rattle.std.specs.List.{list_all};
 ghost use Rattle.std.specs.Char.{is_ascii_digit};
 ghost use Rattle.std.specs.Str.Parse.{digits_value};
 ghost use Rattle.flow_worldfile.specs.Lines.{is_number};
-ghost use Rattle.flow_words.specs.Wants.{number_within, number_of};
+ghost use Rattle.flow_words.specs.Wants.{number_within, number_of, events_of};
 
 // Whether all bytes are decimal digits.
 fn are_digits(word: &[u8]) -> bool
@@ -49,4 +49,14 @@ pub fn number_within(word: &[u8], least: u64, most: u64) -> Option<u64>
         return None;
     }
     Some(value as u64)
+}
+
+/// How many events a word of 1 to 7 digits says, 1,000,000 at most; none where it is no such word.
+pub fn events_of(word: &[u8]) -> Option<u64>
+    ensures { result ≡ events_of word.now }
+{
+    if word.len() > 7 {
+        return None;
+    }
+    number_within(word, 0, 1_000_000)
 }

@@ -2,15 +2,15 @@
 
 ghost use Rattle.std.specs.Prelude.{◌≡◌, map, string_bytes, option_map, Some};
 ghost use Rattle.clap.specs.Words.{found_of, rows_of};
-ghost use Rattle.flow_words.specs.Asked.{Reads, asked, request_of, run_request, command_of, program_of, run_of, run_by, bench_of, bench_by, shrink_of, shrink_by, asked_by};
+ghost use Rattle.flow_words.specs.Asked.{Reads, asked, request_of, run_request, command_of, program_of, run_of, run_by, bench_of, bench_by, shrink_of, shrink_by, debug_of, debug_by, asked_by};
 ghost use Rattle.flow_words.specs.Wants.{listed, sole};
 
-use crate::asked::{Asked, CommandWord, RunWords, ShrinkWords, WordsFault};
+use crate::asked::{Asked, CommandWord, DebugWords, RunWords, ShrinkWords, WordsFault};
 use crate::matching::{
     first_text, has_frames, matches, monitor_text, one_text, run_command, second_text,
-    shrink_command, two_texts,
+    shrink_command, third_text, three_texts, two_texts,
 };
-use crate::number::number_within;
+use crate::number::{events_of, number_within};
 use crate::wanting::read_wants;
 use clap::ArgMatches;
 use flow_monitor::Want;
@@ -40,6 +40,9 @@ fn command_of(word: &str) -> Option<CommandWord>
     }
     if word == "shrink" {
         return Some(CommandWord::Shrink);
+    }
+    if word == "debug" {
+        return Some(CommandWord::Debug);
     }
     None
 }
@@ -161,6 +164,37 @@ fn shrink_of<'a>(alloc: Global, words: &'a [String]) -> Result<Asked<'a>, WordsF
     shrink_by(alloc, &found)
 }
 
+// The files and the number of events that the matches ask for.
+fn debug_by<'a>(found: &ArgMatches<'a>) -> Result<Asked<'a>, WordsFault>
+    ensures { Reads request_of (debug_by (rows_of (found_of found.now))) result }
+{
+    let Some(program) = first_text(found) else {
+        return Err(WordsFault::Usage);
+    };
+    let Some(world) = second_text(found) else {
+        return Err(WordsFault::Usage);
+    };
+    let Some(most) = third_text(found) else {
+        return Err(WordsFault::Usage);
+    };
+    let Some(most) = events_of(most.as_bytes()) else {
+        return Err(WordsFault::Usage);
+    };
+    Ok(Asked::Debug(DebugWords {
+        program,
+        world,
+        most: most as u32,
+    }))
+}
+
+// The words are a program's file, a world's and a number of events.
+fn debug_of<'a>(alloc: Global, words: &'a [String]) -> Result<Asked<'a>, WordsFault>
+    ensures { Reads request_of (debug_of (map string_bytes words.entry.now)) result }
+{
+    let found = matches(three_texts(alloc)?, words)?;
+    debug_by(&found)
+}
+
 // What a command asks for with the words behind it.
 fn asked_by<'a>(
     alloc: Global,
@@ -177,6 +211,7 @@ fn asked_by<'a>(
         CommandWord::Exec => Ok(Asked::Exec(run_of(alloc, words)?)),
         CommandWord::Bench => bench_of(alloc, words),
         CommandWord::Shrink => shrink_of(alloc, words),
+        CommandWord::Debug => debug_of(alloc, words),
     }
 }
 

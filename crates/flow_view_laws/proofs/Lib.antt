@@ -1,0 +1,12 @@
+pub mod Parts
+pub mod Within
+pub mod Codes
+pub mod Standing
+pub mod Tied
+pub mod Names
+pub mod Frames
+pub mod Heaps
+pub mod Worlds
+pub mod Ends
+pub mod Law
+pub mod Skipped

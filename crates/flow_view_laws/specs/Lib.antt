@@ -1,0 +1,4 @@
+pub mod Within
+pub mod Told
+pub mod Viewed
+pub mod Skipped
