@@ -1,0 +1,4 @@
+mod Joins
+mod EachKind
+mod Mentioned
+mod Found
