@@ -12,7 +12,7 @@ use Rattle.flow_ast.specs.declared.predefined.Method.{Method}
 use Rattle.flow_ast.specs.declared.predefined.Method.TheVariants as method
 use Rattle.flow_tree.specs.Tree.{TypeTree, IntType, BoolType, StringType, VoidType, ErrorType, NamedType, FutureType, FutureStreamType, PromiseType, PromiseStreamType, ExprTree, ExprTrees, IntExpr, TextExpr, BoolExpr, VoidExpr, VarExpr, CallExpr, FieldExpr, MethodExpr, NotExpr, NegExpr, BinaryExpr, ParenExpr, NoExprs, MoreExprs}
 use Rattle.flow_tree.specs.Decls.{ParamTree, RecordTree, RoutineTree}
-use Rattle.flow_ast.specs.TypingNames.{named, call_names, method_names, constant_names}
+use Rattle.flow_ast.specs.TypingNames.{named, selected, call_names, constant_names}
 
 -- what is in force where an expression stands
 pub record ScopeTree : Type 0 where
@@ -262,7 +262,7 @@ abbrev mutual
   type_in s (CallExpr f xs) = with_type (types_in s xs) (applied (call_signature s f.name))
   type_in s (FieldExpr e x) = with_type (type_in s e) (λ t. field_type s.records t x.name)
   type_in s (MethodExpr e m xs) =
-      with_type (type_in s e) (λ t. with_type (types_in s xs) (applied (method_in t (named method_names m.name))))
+      with_type (type_in s e) (λ t. with_type (types_in s xs) (applied (method_in t (selected m))))
   type_in s (NotExpr e) = with_type (type_in s e) bool_only
   type_in s (NegExpr e) = with_type (type_in s e) int_only
   type_in s (BinaryExpr op a b) = with_type (type_in s a) (λ t. with_type (type_in s b) (binary_type op t))

@@ -4,6 +4,7 @@ use Rattle.std.specs.Str.{bytes_eq}
 use Rattle.std.specs.declared.option.Option.{Option}
 use Rattle.std.specs.declared.option.Option.TheVariants.{None, Some}
 use Rattle.flow_base.specs.ErrorNumbers.{end_of_stream, timed_out, broken_promise, operation_cancelled}
+use Rattle.flow_tree.specs.Tree.{Selector, ByName, ByIndex}
 use Rattle.flow_ast.specs.declared.predefined.Predefined.{Predefined}
 use Rattle.flow_ast.specs.declared.predefined.Predefined.TheVariants.{ToString, ToInt, Now, EndOfStream, TimedOut, BrokenPromise, OperationCancelled, ActorCancelled, Error, RandomInt, Delay, Never, Listen, ReadFile, WriteFile, SyncFile, FileSize, Trace, SendTo}
 use Rattle.flow_ast.specs.declared.predefined.Method.{Method}
@@ -53,6 +54,11 @@ method_names =
     ∷ (codes "sendError", SendError)
     ∷ (codes "cancel", Cancel)
     ∷ []
+
+-- the method that a selector calls, where it calls one; no type has elements
+abbrev pub selected : Selector → Option Method
+selected (ByName x) = named method_names x.name
+selected ByIndex = None
 
 -- the constants, all whole numbers
 abbrev pub constant_names : List (List ℕ × ℕ)

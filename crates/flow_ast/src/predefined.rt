@@ -1,6 +1,6 @@
 // Names that are known without a declaration.
 
-ghost use Rattle.std.specs.Prelude.{◌≡◌};
+ghost use Rattle.std.specs.Prelude.{◌≡◌, map};
 ghost use Rattle.flow_ast.specs.TypingNames.{named, call_names, method_names, constant_names};
 
 use flow_base::errors::{BROKEN_PROMISE, END_OF_STREAM, OPERATION_CANCELLED, TIMED_OUT};
@@ -45,108 +45,69 @@ pub enum Method {
     Cancel,
 }
 
+// The calls, effects and statement calls that stand without a base.
+const CALLS: [(&[u8], Predefined); 19] = [
+    (b"to_string", Predefined::ToString),
+    (b"to_int", Predefined::ToInt),
+    (b"now", Predefined::Now),
+    (b"end_of_stream", Predefined::EndOfStream),
+    (b"timed_out", Predefined::TimedOut),
+    (b"broken_promise", Predefined::BrokenPromise),
+    (b"operation_cancelled", Predefined::OperationCancelled),
+    (b"actor_cancelled", Predefined::ActorCancelled),
+    (b"error", Predefined::Error),
+    (b"randomInt", Predefined::RandomInt),
+    (b"delay", Predefined::Delay),
+    (b"Never", Predefined::Never),
+    (b"listen", Predefined::Listen),
+    (b"readFile", Predefined::ReadFile),
+    (b"writeFile", Predefined::WriteFile),
+    (b"syncFile", Predefined::SyncFile),
+    (b"fileSize", Predefined::FileSize),
+    (b"trace", Predefined::Trace),
+    (b"sendTo", Predefined::SendTo),
+];
+
+// What stands behind a dot before arguments.
+const METHODS: [(&[u8], Method); 11] = [
+    (b"code", Method::Code),
+    (b"size", Method::Size),
+    (b"substr", Method::Substr),
+    (b"isReady", Method::IsReady),
+    (b"isError", Method::IsError),
+    (b"get", Method::Get),
+    (b"getFuture", Method::GetFuture),
+    (b"isSet", Method::IsSet),
+    (b"send", Method::Send),
+    (b"sendError", Method::SendError),
+    (b"cancel", Method::Cancel),
+];
+
+// What a table has at a name: the first row of that name.
+fn named<T: Copy>(mut rows: &[(&[u8], T)], name: &[u8]) -> Option<T>
+    ensures { result ≡ named (map (λ row. (row.0.now, row.1)) rows.entry.now) name.now }
+{
+    while let [row, rest @ ..] = rows {
+        if name == row.0 {
+            return Some(row.1);
+        }
+        rows = rest;
+    }
+    None
+}
+
 /// What a predefined name calls, where it is one.
 pub fn predefined_call(name: &[u8]) -> Option<Predefined>
     ensures { result ≡ named call_names name.now }
 {
-    if name == b"to_string".as_slice() {
-        return Some(Predefined::ToString);
-    }
-    if name == b"to_int".as_slice() {
-        return Some(Predefined::ToInt);
-    }
-    if name == b"now".as_slice() {
-        return Some(Predefined::Now);
-    }
-    if name == b"end_of_stream".as_slice() {
-        return Some(Predefined::EndOfStream);
-    }
-    if name == b"timed_out".as_slice() {
-        return Some(Predefined::TimedOut);
-    }
-    if name == b"broken_promise".as_slice() {
-        return Some(Predefined::BrokenPromise);
-    }
-    if name == b"operation_cancelled".as_slice() {
-        return Some(Predefined::OperationCancelled);
-    }
-    if name == b"actor_cancelled".as_slice() {
-        return Some(Predefined::ActorCancelled);
-    }
-    if name == b"error".as_slice() {
-        return Some(Predefined::Error);
-    }
-    if name == b"randomInt".as_slice() {
-        return Some(Predefined::RandomInt);
-    }
-    if name == b"delay".as_slice() {
-        return Some(Predefined::Delay);
-    }
-    if name == b"Never".as_slice() {
-        return Some(Predefined::Never);
-    }
-    if name == b"listen".as_slice() {
-        return Some(Predefined::Listen);
-    }
-    if name == b"readFile".as_slice() {
-        return Some(Predefined::ReadFile);
-    }
-    if name == b"writeFile".as_slice() {
-        return Some(Predefined::WriteFile);
-    }
-    if name == b"syncFile".as_slice() {
-        return Some(Predefined::SyncFile);
-    }
-    if name == b"fileSize".as_slice() {
-        return Some(Predefined::FileSize);
-    }
-    if name == b"trace".as_slice() {
-        return Some(Predefined::Trace);
-    }
-    if name == b"sendTo".as_slice() {
-        return Some(Predefined::SendTo);
-    }
-    None
+    named(&CALLS, name)
 }
 
 /// What a name behind a dot calls, where it calls something.
 pub fn predefined_method(name: &[u8]) -> Option<Method>
     ensures { result ≡ named method_names name.now }
 {
-    if name == b"code".as_slice() {
-        return Some(Method::Code);
-    }
-    if name == b"size".as_slice() {
-        return Some(Method::Size);
-    }
-    if name == b"substr".as_slice() {
-        return Some(Method::Substr);
-    }
-    if name == b"isReady".as_slice() {
-        return Some(Method::IsReady);
-    }
-    if name == b"isError".as_slice() {
-        return Some(Method::IsError);
-    }
-    if name == b"get".as_slice() {
-        return Some(Method::Get);
-    }
-    if name == b"getFuture".as_slice() {
-        return Some(Method::GetFuture);
-    }
-    if name == b"isSet".as_slice() {
-        return Some(Method::IsSet);
-    }
-    if name == b"send".as_slice() {
-        return Some(Method::Send);
-    }
-    if name == b"sendError".as_slice() {
-        return Some(Method::SendError);
-    }
-    if name == b"cancel".as_slice() {
-        return Some(Method::Cancel);
-    }
-    None
+    named(&METHODS, name)
 }
 
 /// The whole number that a predefined constant stands for, where the name is one.

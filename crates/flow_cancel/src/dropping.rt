@@ -2,8 +2,8 @@
 
 ghost use Rattle.std.specs.Prelude.{◌≡◌, ◌<◌, ℕ, [], true, false, OnOk, IfOk, None, Some, IsSome};
 ghost use Rattle.std.specs.Option.{ForSome, is_some};
-ghost use Rattle.flow_value.specs.View.{value_of};
-ghost use Rattle.flow_value.specs.Values.{refs_of};
+ghost use Rattle.flow_value.specs.View.{value_of, values_of};
+ghost use Rattle.flow_value.specs.Values.{refs_of, refs_of_all};
 ghost use Rattle.flow_numbered.specs.Numbered.{thing, with_thing};
 ghost use Rattle.flow_cell.specs.Cells.{no_counts};
 ghost use Rattle.flow_cancel.specs.Heap.{HeapTree, has_number, owner};
@@ -14,28 +14,39 @@ use crate::task::{Dropped, Task};
 use flow_base::ids::{ActorId, CellId};
 use flow_base::memory::NoMemory;
 use flow_cell::counts::{Loss, References, Side};
-use flow_value::value::{Outcome, Value};
+use flow_value::value::{Outcome, Value, any_may_refer};
 use std::collections::VecDeque;
 
-#[tactic(auto, using(crate::proofs::Drops::fields_last))]
 /// Pushes drops of the references of a value on top of tasks, that of the first on top.
+#[cycle(push_drops)]
 pub(crate) fn push_drops(tasks: &mut VecDeque<Task>, value: &Value) -> Result<(), NoMemory>
     ensures { OnOk result (tasks.new.items ≡ drops (refs_of (value_of value.now)) tasks.old.items) }
 {
     match value {
-        Value::Struct(record) => {
-            let fields = &record.fields;
-            for field in fields.iter().rev() {
-                push_drops(tasks, field)?;
-            }
-            Ok(())
-        }
+        Value::Struct(record) => push_part_drops(tasks, &record.fields),
+        Value::List(items) => push_part_drops(tasks, items),
         Value::Ref(kind, cell) => {
             tasks.push_front(Task::Drop(*kind, *cell))?;
             Ok(())
         }
         Value::Int(_) | Value::Bool(_) | Value::Text(_) | Value::Void | Value::Error(_) => Ok(()),
     }
+}
+
+/// Pushes drops of the references of parts on top of tasks, that of the first on top.
+#[cycle(push_drops)]
+#[tactic(auto, using(crate::proofs::Drops::fields_last, crate::proofs::Drops::nothing_drops))]
+fn push_part_drops(tasks: &mut VecDeque<Task>, parts: &[Value]) -> Result<(), NoMemory>
+    ensures { OnOk result (tasks.new.items
+        ≡ drops (refs_of_all (values_of parts.now)) tasks.old.items) }
+{
+    if !any_may_refer(parts) {
+        return Ok(());
+    }
+    for part in parts.iter().rev() {
+        push_drops(tasks, part)?;
+    }
+    Ok(())
 }
 
 #[tactic(auto, using(crate::proofs::Drops::drops_last))]

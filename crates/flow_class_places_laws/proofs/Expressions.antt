@@ -3,13 +3,13 @@ use Rattle.std.proofs.Common.{◌≡◌, ℕ, suc, List, [], ◌∷◌, Bool, fa
 use Rattle.std.specs.Prelude.{slice_get}
 use Rattle.std.specs.declared.option.Option.{Option}
 use Rattle.std.specs.declared.option.Option.TheVariants.{None, Some}
-use Rattle.flow_tree.specs.Tree.{TypeTree, BoolType, IntType, ExprTree, ExprTrees, IntExpr, TextExpr, BoolExpr, VoidExpr, VarExpr, CallExpr, FieldExpr, MethodExpr, NotExpr, NegExpr, BinaryExpr, ParenExpr, NoExprs, MoreExprs}
-use Rattle.flow_tree.specs.Canon.{placeless_expr, placeless_exprs}
+use Rattle.flow_tree.specs.Tree.{Selector, ByName, ByIndex, TypeTree, BoolType, IntType, ExprTree, ExprTrees, IntExpr, TextExpr, BoolExpr, VoidExpr, VarExpr, CallExpr, FieldExpr, MethodExpr, NotExpr, NegExpr, BinaryExpr, ParenExpr, NoExprs, MoreExprs}
+use Rattle.flow_tree.specs.Canon.{placeless_expr, placeless_exprs, placeless_selector}
 use Rattle.flow_ast.specs.Typing.{with_type}
 use Rattle.flow_rules.specs.declared.rule.SemanticRule.{SemanticRule}
 use Rattle.flow_rules.specs.declared.rule.SemanticRule.TheVariants.{WrongCount}
 use Rattle.flow_rules.specs.Least.{lesser, unless}
-use Rattle.flow_rules.specs.Judged.{Setting, Need, Kind, Callee, called, called_on, needs_of, gives_of, field_form, sign_form, form, wants, fits, operands, placed, as_many, calls, calls_on, of_field, fault, faults, wanted}
+use Rattle.flow_rules.specs.Judged.{Setting, Need, Kind, Callee, called, needs_of, gives_of, field_form, sign_form, form, wants, fits, operands, placed, as_many, calls, calls_on, of_field, fault, faults, wanted, selected_on}
 
 as_many_aside : (es : ExprTrees) (ns : List Need) → as_many (placeless_exprs es) ns ≡ as_many es ns
 as_many_aside NoExprs [] = refl
@@ -25,6 +25,10 @@ calls_on_aside : (t : Option TypeTree) (es : ExprTrees) (c : Option Callee) (may
 calls_on_aside None es c may = refl
 calls_on_aside (Some t) es c may = calls_aside es c may
 
+selected_aside : (t : Option TypeTree) (m : Selector) → selected_on t (placeless_selector m) ≡ selected_on t m
+selected_aside t (ByName x) = refl
+selected_aside t ByIndex = refl
+
 module _ (s : Setting) where
   pub form_aside : (e : ExprTree) → form s (placeless_expr e) ≡ form s e
   form_aside (IntExpr n) = refl
@@ -34,7 +38,7 @@ module _ (s : Setting) where
   form_aside (VarExpr x) = refl
   form_aside (CallExpr f es) = refl
   form_aside (FieldExpr e x) = ap (λ o. with_type o (λ t. field_form s t x.name)) (form_aside e)
-  form_aside (MethodExpr e m es) = ap (λ o. gives_of (called_on o m.name)) (form_aside e)
+  form_aside (MethodExpr e m es) = ap gives_of (selected_aside (form s (placeless_expr e)) m) ∙ ap (λ o. gives_of (selected_on o m)) (form_aside e)
   form_aside (NotExpr e) = refl
   form_aside (NegExpr e) = refl
   form_aside (BinaryExpr op a b) = ap₂ (λ t u. sign_form op t u) (form_aside a) (form_aside b)
@@ -51,10 +55,12 @@ module _ (s : Setting) where
         ap₂ (λ k n. lesser k n) (faults_aside 0 (needs_of (called s f.name)) es) (calls_aside es (called s f.name) (placed s whole))
     fault_aside whole (FieldExpr e x) = ap₂ (λ k t. lesser k (of_field s t x.name)) (fault_aside false e) (form_aside e)
     fault_aside whole (MethodExpr e m es) =
-        ap₂ (λ k t. lesser k (lesser (faults s 0 (needs_of (called_on t m.name)) (placeless_exprs es)) (calls_on t (placeless_exprs es) (called_on t m.name) (placed s false))))
+        ap (λ c. lesser (fault s false (placeless_expr e)) (lesser (faults s 0 (needs_of c) (placeless_exprs es)) (calls_on (form s (placeless_expr e)) (placeless_exprs es) c (placed s false))))
+        (selected_aside (form s (placeless_expr e)) m)
+        ∙ ap₂ (λ k t. lesser k (lesser (faults s 0 (needs_of (selected_on t m)) (placeless_exprs es)) (calls_on t (placeless_exprs es) (selected_on t m) (placed s false))))
         (fault_aside false e) (form_aside e)
         ∙ ap₂ (λ k n. lesser (fault s false e) (lesser k n))
-        (faults_aside 0 (needs_of (called_on (form s e) m.name)) es) (calls_on_aside (form s e) es (called_on (form s e) m.name) (placed s false))
+        (faults_aside 0 (needs_of (selected_on (form s e) m)) es) (calls_on_aside (form s e) es (selected_on (form s e) m) (placed s false))
     fault_aside whole (NotExpr e) = ap₂ (λ k t. lesser k (wants t BoolType)) (fault_aside false e) (form_aside e)
     fault_aside whole (NegExpr e) = ap₂ (λ k t. lesser k (wants t IntType)) (fault_aside false e) (form_aside e)
     fault_aside whole (BinaryExpr op a b) =

@@ -6,7 +6,7 @@ use Rattle.flow_tree.specs.declared.token.Token.TheVariants as token
 use Rattle.flow_tree.specs.declared.token.Word.TheVariants as word
 use Rattle.flow_tree.specs.declared.token.Sign.TheVariants as sign
 use Rattle.flow_tree.specs.declared.ty.Ident.{Ident}
-use Rattle.flow_tree.specs.Tree.{ExprTree, ExprTrees, IntExpr, TextExpr, BoolExpr, VoidExpr, VarExpr, CallExpr, FieldExpr, MethodExpr, NotExpr, NegExpr, BinaryExpr, ParenExpr, NoExprs, MoreExprs}
+use Rattle.flow_tree.specs.Tree.{ByName, ExprTree, ExprTrees, IntExpr, TextExpr, BoolExpr, VoidExpr, VarExpr, CallExpr, FieldExpr, MethodExpr, NotExpr, NegExpr, BinaryExpr, ParenExpr, NoExprs, MoreExprs}
 use Rattle.flow_tree.specs.GrammarToken.{Part, Node, Marked, opens, begin}
 use Rattle.flow_tree.specs.Grammar.{sign_at, name_at, node_sign, node_word, node_name, in_round, op_sign, ExprRule, number, text, truth, falsehood, void, variable, call, paren, field, method, negation, minus, binary, ArgsRule, no_args, some_args, MoreArgsRule, end_args, more_args}
 
@@ -175,7 +175,7 @@ mutual
       let g = shut args r o.0 o.2 in
       let s = renamed t b.of b.alike in
       let v = renamed_args u g.of g.alike in (
-        MethodExpr s.0 n.0 v.0,
+        MethodExpr s.0 (ByName n.0) v.0,
         method p q r n.0 b.of g.of s.1 v.1
             (a.is ∙ ap (λ z. z ++ a.right) b.is ∙ ap (λ z. begin (Node d) b.of ++ z)
             (c.1 ∙ ap (λ z. sign_at sign.Dot p ∷ z) (n.2 ∙ ap (λ z. name_at n.0 ∷ z) (o.1 ∙ ap (λ z. sign_at sign.OpenRound q ∷ z) g.is)))),

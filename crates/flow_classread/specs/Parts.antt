@@ -173,7 +173,9 @@ abbrev pub Heads : List Marked → List RecordTree × List RoutineTree → Type 
 Heads w x = HeadsRule w x.0 x.1
 
 abbrev pub Rest : List Marked → RawTree → Type 0
-Rest = Mapped (λ (x : (List RecordTree × List RoutineTree) × List ClassTree). record { records = x.0.0; functions = x.0.1; classes = x.1 }) (Both Heads ClassesRule)
+Rest = Mapped
+    (λ (x : (List RecordTree × List RoutineTree) × List ClassTree). record { records = x.0.0; functions = x.0.1; classes = x.1 })
+    (Both Heads ClassesRule)
 
 -- a class begins at a token, and no function whose result is a record of that name; or none does
 abbrev pub BeginsClass : List Spot → ℕ → Type 0

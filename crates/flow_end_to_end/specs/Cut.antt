@@ -36,7 +36,8 @@ module _ {A : Type 0} (puts : A → Line → Result (Unit {0}) OutFault → A �
   ClassesCut =
       (c : RawClasses) (file : World0) (with_frames : Bool) (a : A) (ears : Ears) (e : RunEnding) (b : Hearing A) → AreWhole (raw_of c)
       → HaveFewPlaces (raw_of c) → IsInRange (seen file) → HeardTrace puts with_frames c file (watching a ears) e (whole b)
-      → (lines : List Line) × ClassShown with_frames (raw_of c) (seen file) lines × Puts (tells puts) (whole a) (Cut ears lines) (whole b.out)
+      → (lines : List Line) × ClassShown with_frames (raw_of c) (seen file) lines
+      × Puts (tells puts) (whole a) (Cut ears lines) (whole b.out)
       × LastIs (last_line ears e) (Cut ears lines)
 
   -- Where a line failed, that was told up to this line.
@@ -44,22 +45,24 @@ module _ {A : Type 0} (puts : A → Line → Result (Unit {0}) OutFault → A �
   ClassesCutInPart =
       (c : RawClasses) (file : World0) (with_frames : Bool) (a : A) (ears : Ears) (b : Hearing A) → AreWhole (raw_of c)
       → HaveFewPlaces (raw_of c) → IsInRange (seen file) → HeardTracePart puts with_frames c file (watching a ears) b
-      → (lines : List Line) × ClassShown with_frames (raw_of c) (seen file) lines × Puts (tells puts) (whole a) (Cut ears lines) (failed b.out)
+      → (lines : List Line) × ClassShown with_frames (raw_of c) (seen file) lines
+      × Puts (tells puts) (whole a) (Cut ears lines) (failed b.out)
 
   -- The same of the classes of a text, by what is shown of the text.
   abbrev pub ProgramCut : Type 0
   ProgramCut =
-      (text : List ℕ) (program : Program) (c : RawClasses) (file : World0) (with_frames : Bool) (a : A) (ears : Ears) (e : RunEnding) (b : Hearing A)
-      → IsSound text program → first_heavy (program_of program).decls ≡ None → Has (program_of program) (raw_of c) → IsInRange (seen file)
-      → HeardTrace puts with_frames c file (watching a ears) e (whole b)
+      (text : List ℕ) (program : Program) (c : RawClasses) (file : World0) (with_frames : Bool) (a : A) (ears : Ears)
+      (e : RunEnding) (b : Hearing A)
+      → IsSound text program → first_heavy (program_of program).decls ≡ None → Has (program_of program) (raw_of c)
+      → IsInRange (seen file) → HeardTrace puts with_frames c file (watching a ears) e (whole b)
       → (lines : List Line) × SourceShown with_frames (program_of program) (seen file) lines
       × Puts (tells puts) (whole a) (Cut ears lines) (whole b.out) × LastIs (last_line ears e) (Cut ears lines)
 
   abbrev pub ProgramCutInPart : Type 0
   ProgramCutInPart =
       (text : List ℕ) (program : Program) (c : RawClasses) (file : World0) (with_frames : Bool) (a : A) (ears : Ears) (b : Hearing A)
-      → IsSound text program → first_heavy (program_of program).decls ≡ None → Has (program_of program) (raw_of c) → IsInRange (seen file)
-      → HeardTracePart puts with_frames c file (watching a ears) b
+      → IsSound text program → first_heavy (program_of program).decls ≡ None → Has (program_of program) (raw_of c)
+      → IsInRange (seen file) → HeardTracePart puts with_frames c file (watching a ears) b
       → (lines : List Line) × SourceShown with_frames (program_of program) (seen file) lines
       × Puts (tells puts) (whole a) (Cut ears lines) (failed b.out)
 
@@ -87,16 +90,17 @@ module _ {A : Type 0} (puts : A → Line → Result (Unit {0}) OutFault → A �
 abbrev pub ClassesWrittenInPart : Type 0
 ClassesWrittenInPart =
     (c : RawClasses) (file : World0) (with_frames : Bool) (a : Option (List ℕ)) (ears : Ears) (f : RunFault)
-    (b : Hearing (Option (List ℕ))) (fault : Option OutFault) → AreWhole (raw_of c) → HaveFewPlaces (raw_of c) → IsInRange (seen file)
-    → TraceFails put_bytes with_frames c file (watching a ears) f (telling b fault)
+    (b : Hearing (Option (List ℕ))) (fault : Option OutFault) → AreWhole (raw_of c) → HaveFewPlaces (raw_of c)
+    → IsInRange (seen file) → TraceFails put_bytes with_frames c file (watching a ears) f (telling b fault)
     → (f ≡ Stuck → ⊥)
     × ((lines : List Line) × ClassShown with_frames (raw_of c) (seen file) lines × AppendsPart a b.out (bytes_of (Cut ears lines)))
 
 abbrev pub ProgramWrittenInPart : Type 0
 ProgramWrittenInPart =
     (text : List ℕ) (program : Program) (c : RawClasses) (file : World0) (with_frames : Bool) (a : Option (List ℕ)) (ears : Ears)
-    (f : RunFault) (b : Hearing (Option (List ℕ))) (fault : Option OutFault) → IsSound text program → first_heavy (program_of program).decls ≡ None
-    → Has (program_of program) (raw_of c) → IsInRange (seen file)
+    (f : RunFault) (b : Hearing (Option (List ℕ))) (fault : Option OutFault) → IsSound text program
+    → first_heavy (program_of program).decls ≡ None → Has (program_of program) (raw_of c) → IsInRange (seen file)
     → TraceFails put_bytes with_frames c file (watching a ears) f (telling b fault)
     → (f ≡ Stuck → ⊥)
-    × ((lines : List Line) × SourceShown with_frames (program_of program) (seen file) lines × AppendsPart a b.out (bytes_of (Cut ears lines)))
+    × ((lines : List Line) × SourceShown with_frames (program_of program) (seen file) lines
+    × AppendsPart a b.out (bytes_of (Cut ears lines)))

@@ -8,6 +8,7 @@ pub mod StatementKinds
 pub mod Parts
 pub mod Meanings
 pub mod TypedValues
+pub mod TypedReferences
 pub mod TypedAnswers
 pub mod TypedExprs
 pub mod TypedLocals

@@ -10,14 +10,14 @@ use Rattle.flow_tree.specs.DeclView.{record_of, param_of}
 use Rattle.flow_tree.specs.Decls.{ParamTree, RecordTree}
 use Rattle.flow_value.specs.declared.value.Value.{Value}
 use Rattle.flow_value.specs.View.{value_of, values_of}
-use Rattle.flow_value.specs.Values.{ValueTree, ValueTrees, NoValues, MoreValues}
+use Rattle.flow_value.specs.Values.{ValueTree, ValueTrees, NoValues, MoreValues, value_at, value_put}
 use Rattle.std.specs.Option.{option_map}
 use Rattle.std.proofs.Common.{slice_get, if◌then◌else◌}
 use Rattle.flow_tree.specs.declared.ty.Ident.{Ident}
 use Rattle.flow_eval.specs.declared.variables.Var.{Var}
 use Rattle.flow_eval.specs.Variables.{var_of}
 use Rattle.flow_eval.specs.Functions.{Locals, put_in, put_place, put_at_var, put_path}
-use Rattle.flow_eval.specs.Records.{place_in, value_at, value_put}
+use Rattle.flow_eval.specs.Records.{place_in}
 
 length-mapped : {X Y : Type 0} (f : X → Y) (xs : List X) → length (map f xs) ≡ length xs
 length-mapped f [] = refl

@@ -11,10 +11,10 @@ use Rattle.flow_ast.specs.declared.predefined.Predefined as code
 use Rattle.flow_tree.specs.Tree.{ExprTree, ExprTrees, IntExpr, TextExpr, BoolExpr, VoidExpr, VarExpr, CallExpr, FieldExpr, MethodExpr, NotExpr, NegExpr, BinaryExpr, ParenExpr, NoExprs, MoreExprs}
 use Rattle.flow_tree.specs.Body.{IntoTree, ChangeTree, PlusChange, MinusChange, UpChange, DownChange, Body, End, BlockStmt, IfStmt, IfElseStmt, WhileStmt, ForStmt, LoopStmt, BreakStmt, ContinueStmt, ReturnStmt, ThrowStmt, TryStmt, ChooseStmt, DeclareStmt, AssignStmt, ModifyStmt, CallStmt, WaitStmt}
 use Rattle.flow_tree.specs.Decls.{RoutineTree}
-use Rattle.flow_ast.specs.TypingNames.{named, call_names, method_names, constant_names}
+use Rattle.flow_ast.specs.TypingNames.{named, selected, call_names, constant_names}
 use Rattle.flow_ast.specs.Typing.{routine_named}
 use Rattle.flow_value.specs.declared.value.RecordId.{RecordId}
-use Rattle.flow_value.specs.Values.{ValueTree, IntValue, BoolValue, values_of_list, RecordValue}
+use Rattle.flow_value.specs.Values.{ValueTree, IntValue, BoolValue, values_of_list, CompositeValue, RecordWhole}
 use Rattle.flow_eval.specs.Answers.{Answer, Given, Throws, NoMeaning, truth, bool_of, error_of}
 use Rattle.flow_eval.specs.Operators.{operated, negated, inverted}
 use Rattle.flow_eval.specs.Predefined.{call_answer}
@@ -71,7 +71,7 @@ module _ (k : ℕ) (s : Setting) (run : Runner) (runs : RunsMore k run) where
 
   declared_later : (r : Option RecordId) (f : List ℕ) (vs : List ValueTree) (left sum : ℕ) → sum ≡ left + k → Later k (declared_called s run r f vs left) (declared_called s run r f vs sum)
   declared_later None f vs left sum e = function_later (routine_named s.functions f) vs left sum e
-  declared_later (Some r) f vs left sum e = at_once_later k (Given (RecordValue r (values_of_list vs))) left sum e
+  declared_later (Some r) f vs left sum e = at_once_later k (Given (CompositeValue (RecordWhole r) (values_of_list vs))) left sum e
 
   called_later : (p : Option code.Predefined) (f : List ℕ) (vs : List ValueTree) (left sum : ℕ) → sum ≡ left + k → Later k (called s run p f vs left) (called s run p f vs sum)
   called_later None f vs left sum e = declared_later (record_id s.records f) f vs left sum e
@@ -125,10 +125,10 @@ module _ (k : ℕ) (s : Setting) (run : Runner) (runs : RunsMore k run) where
         then_later k (λ v left. at_once (field_answer (field s.records v x.name)) left) (eval s run look e left) (eval s run look e sum) (eval_later look e left sum q)
         (λ v l m h. at_once_later k (field_answer (field s.records v x.name)) l m h)
     eval_later look (MethodExpr e m xs) left sum q =
-        then_later k (λ v left. then (eval_all s run look xs left) (λ vs left. at_once (method_called s.cells (named method_names m.name) v vs) left)) (eval s run look e left) (eval s run look e sum)
+        then_later k (λ v left. then (eval_all s run look xs left) (λ vs left. at_once (method_called s.cells (selected m) v vs) left)) (eval s run look e left) (eval s run look e sum)
         (eval_later look e left sum q)
-        (λ v l n h. then_later k (λ vs left. at_once (method_called s.cells (named method_names m.name) v vs) left) (eval_all s run look xs l) (eval_all s run look xs n) (eval_all_later look xs l n h)
-        (λ vs i j g. at_once_later k (method_called s.cells (named method_names m.name) v vs) i j g))
+        (λ v l n h. then_later k (λ vs left. at_once (method_called s.cells (selected m) v vs) left) (eval_all s run look xs l) (eval_all s run look xs n) (eval_all_later look xs l n h)
+        (λ vs i j g. at_once_later k (method_called s.cells (selected m) v vs) i j g))
     eval_later look (NotExpr e) left sum q =
         then_later k (λ v left. at_once (inverted v) left) (eval s run look e left) (eval s run look e sum) (eval_later look e left sum q) (λ v l m h. at_once_later k (inverted v) l m h)
     eval_later look (NegExpr e) left sum q =

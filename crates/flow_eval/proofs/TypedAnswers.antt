@@ -17,11 +17,11 @@ use Rattle.flow_ast.specs.Typing.{Signature, signature, is_effect, applied, same
 use Rattle.flow_ast.specs.Typing as type
 use Rattle.flow_value.specs.declared.value.Kind.{Kind}
 use Rattle.flow_value.specs.declared.value.Kind.TheVariants.{Promise, Future, PromiseStream, FutureStream}
-use Rattle.flow_value.specs.Values.{ValueTree, IntValue, BoolValue, TextValue, VoidValue, ErrorValue, RecordValue, RefValue, OutcomeTree, GoodOutcome, BadOutcome, values_of_list}
+use Rattle.flow_value.specs.Values.{ValueTree, IntValue, BoolValue, TextValue, VoidValue, ErrorValue, CompositeValue, RefValue, RecordWhole, ListWhole, OutcomeTree, GoodOutcome, BadOutcome, values_of_list, at_place}
 use Rattle.flow_eval.specs.Answers.{Answer, Given, Throws, NoMeaning, whole, truth, int_of, text_of, arg}
 use Rattle.flow_eval.specs.Operators.{operated, on_ints, on_texts, on_bools, quotient, remainder}
 use Rattle.flow_eval.specs.Predefined.{call_answer, method_answer, to_string, to_int, int_read, read_int, error_number, in_error_range, natural, substr, text_method, future_method, promise_method, stream_method, error_method, got}
-use Rattle.flow_eval.specs.Records.{field, at_place}
+use Rattle.flow_eval.specs.Records.{field}
 use Rattle.flow_eval.specs.Typed.{reference_type, HasType, HaveTypes, CellsFit}
 use Rattle.flow_eval.proofs.TypedValues.{some_same, none_some, bytes_same, is_int_value, is_bool_value, is_text_value, field_at, value_got}
 
@@ -186,7 +186,8 @@ module _ (rs : List RecordTree) (typed : ℕ → TypeTree → Type 0) where
       subst (λ w. Typed t (operated op (TextValue a) w)) (sym b.1) (texts_typed op a b.0 t s (subst (λ u. sign_type op u ≡ Some t) h e))
   operated_typed op VoidValue w u t s h k e = no_sign op VoidType t refl (subst (λ u. sign_type op u ≡ Some t) h e)
   operated_typed op (ErrorValue n) w u t s h k e = no_sign op ErrorType t refl (subst (λ u. sign_type op u ≡ Some t) h e)
-  operated_typed op (RecordValue r vs) w u t s h k e = no_sign op (NamedType h.0) t refl (subst (λ u. sign_type op u ≡ Some t) h.2 e)
+  operated_typed op (CompositeValue (RecordWhole r) vs) w u t s h k e = no_sign op (NamedType h.1.name) t refl (subst (λ u. sign_type op u ≡ Some t) h.1.named e)
+  operated_typed op (CompositeValue ListWhole vs) w u t s h k e = absurd h.1
   operated_typed op (RefValue j c) w u t s h k e = no_sign op (reference_type j h.0) t (unsigned j h.0) (subst (λ u. sign_type op u ≡ Some t) h.1 e)
 
   -- the argument at a place
@@ -257,10 +258,12 @@ module _ (rs : List RecordTree) (typed : ℕ → TypeTree → Type 0) where
   field_typed (TextValue s) u x t h e = none_some t (sym (ap (λ u. field_type rs u x) h) ∙ e)
   field_typed VoidValue u x t h e = none_some t (sym (ap (λ u. field_type rs u x) h) ∙ e)
   field_typed (ErrorValue n) u x t h e = none_some t (sym (ap (λ u. field_type rs u x) h) ∙ e)
-  field_typed (RecordValue r vs) u x t h e =
-      let at = field_at rs h.0 r h.1 x t h.3 h.4 (sym (ap (λ u. field_type rs u x) h.2) ∙ e) in
-      let got = value_got rs typed vs h.1.params at.0 t h.5 at.2 in
+  field_typed (CompositeValue (RecordWhole r) vs) u x t h e =
+      let m = h.1 in
+      let at = field_at rs m.name r m.call x t m.placed m.called (sym (ap (λ u. field_type rs u x) m.named) ∙ e) in
+      let got = value_got rs typed vs h.0 at.0 t h.2 (ap (λ l. slice_get l at.0) m.fields ∙ at.2) in
       (got.0, ap (at_place vs) at.1 ∙ got.1, got.2)
+  field_typed (CompositeValue ListWhole vs) u x t h e = absurd h.1
   field_typed (RefValue Promise c) u x t h e = none_some t (sym (ap (λ u. field_type rs u x) h.1) ∙ e)
   field_typed (RefValue Future c) u x t h e = none_some t (sym (ap (λ u. field_type rs u x) h.1) ∙ e)
   field_typed (RefValue PromiseStream c) u x t h e = none_some t (sym (ap (λ u. field_type rs u x) h.1) ∙ e)
@@ -358,7 +361,8 @@ module _ (rs : List RecordTree) (typed : ℕ → TypeTree → Type 0) where
   method_typed cells m (TextValue s) u vs ts t fit h e k = text_method_typed m s vs ts t (sym (ap (λ u. applied (method_signature u m) ts) h) ∙ e) k
   method_typed cells m VoidValue u vs ts t fit h e k = none_some t (sym (ap (λ u. applied (method_signature u m) ts) h) ∙ e)
   method_typed cells m (ErrorValue n) u vs ts t fit h e k = error_method_typed m n ts t (sym (ap (λ u. applied (method_signature u m) ts) h) ∙ e)
-  method_typed cells m (RecordValue r ws) u vs ts t fit h e k = none_some t (sym (ap (λ u. applied (method_signature u m) ts) h.2) ∙ e)
+  method_typed cells m (CompositeValue (RecordWhole r) ws) u vs ts t fit h e k = none_some t (sym (ap (λ u. applied (method_signature u m) ts) h.1.named) ∙ e)
+  method_typed cells m (CompositeValue ListWhole ws) u vs ts t fit h e k = absurd h.1
   method_typed cells m (RefValue Future c) u vs ts t fit h e k =
       future_method_typed m (cells c) h.0 ts t (λ v is. fit c h.0 v h.2 is) (sym (ap (λ u. applied (method_signature u m) ts) h.1) ∙ e)
   method_typed cells m (RefValue Promise c) u vs ts t fit h e k =

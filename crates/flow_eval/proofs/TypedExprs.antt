@@ -11,7 +11,7 @@ use Rattle.flow_ast.specs.declared.predefined.Predefined.{Predefined}
 use Rattle.flow_ast.specs.declared.predefined.Method.{Method}
 use Rattle.flow_tree.specs.Tree.{TypeTree, IntType, BoolType, StringType, VoidType, ErrorType, NamedType, FutureType, FutureStreamType, PromiseType, PromiseStreamType, ExprTree, ExprTrees, IntExpr, TextExpr, BoolExpr, VoidExpr, VarExpr, CallExpr, FieldExpr, MethodExpr, NotExpr, NegExpr, BinaryExpr, ParenExpr, NoExprs, MoreExprs}
 use Rattle.flow_tree.specs.Decls.{ParamTree, RecordTree, RoutineTree}
-use Rattle.flow_ast.specs.TypingNames.{named, call_names, method_names, constant_names}
+use Rattle.flow_ast.specs.TypingNames.{named, selected, call_names, constant_names}
 use Rattle.flow_ast.specs.Typing.{ScopeTree, Signature, effect_call, or_else, is_there, record_call, routine_named, param_named, param_types, applied, same_type, int_only, bool_only, sign_type, with_type, binary_type, more_types, variable_in, method_in, field_type, call_in, effect_in, call_signature, type_in, types_in, without_effects, all_without_effects}
 use Rattle.flow_value.specs.Values.{ValueTree, IntValue, values_of_list}
 use Rattle.flow_eval.specs.Answers.{Answer, Given, Throws, NoMeaning, bool_of, truth, if_int}
@@ -105,7 +105,7 @@ module _ (s : Setting) (typed : ℕ → TypeTree → Type 0) (actors : List Rout
       let id = id_there s.records x sg ir in
       let is = applied_some sg ts t e in
       subst (λ o. Safe (Is t) (declared_called s run o x vs left)) (sym id.1)
-      (x, sg, sym is.1 ∙ id.2, id.1, ir, subst (λ ts. HaveTypes s.records typed (values_of_list vs) ts) (sym is.0) h)
+      (ts, record { name = x; named = sym is.1 ∙ id.2; placed = id.1; call = sg; called = ir; fields = sym is.0 }, h)
   declared_good None (Some f) ao x vs ts t left runs ir fi w e h =
       let is = applied_some (record { params = param_types f.params; gives = f.returns }) ts t e in
       subst (λ o. Safe (Is t) (declared_called s run o x vs left)) (sym (no_id s.records x ir))
@@ -218,13 +218,13 @@ module _ (s : Setting) (typed : ℕ → TypeTree → Type 0) (actors : List Rout
             then_good (Is p.0) (Is t) (eval s run look a left) (λ v left. at_once (field_answer (field s.records v x.name)) left) (eval_good a p.0 left p.1 w)
             (λ v left h. field_good v p.0 x.name t left h p.2)
         eval_good (MethodExpr a m xs) t left e w =
-            let p = with_typed (type_in scope a) (λ u. with_type (types_in scope xs) (applied (method_in u (named method_names m.name)))) t e in
-            let q = with_typed (types_in scope xs) (applied (method_in p.0 (named method_names m.name))) t p.2 in
-            then_good (Is p.0) (Is t) (eval s run look a left) (λ v left. then (eval_all s run look xs left) (λ vs left. at_once (method_called s.cells (named method_names m.name) v vs) left))
+            let p = with_typed (type_in scope a) (λ u. with_type (types_in scope xs) (applied (method_in u (selected m)))) t e in
+            let q = with_typed (types_in scope xs) (applied (method_in p.0 (selected m))) t p.2 in
+            then_good (Is p.0) (Is t) (eval s run look a left) (λ v left. then (eval_all s run look xs left) (λ vs left. at_once (method_called s.cells (selected m) v vs) left))
             (eval_good a p.0 left p.1 (and_left (without_effects scope a) (all_without_effects scope xs) w))
-            (λ v left h. then_good (Are q.0) (Is t) (eval_all s run look xs left) (λ vs left. at_once (method_called s.cells (named method_names m.name) v vs) left)
+            (λ v left h. then_good (Are q.0) (Is t) (eval_all s run look xs left) (λ vs left. at_once (method_called s.cells (selected m) v vs) left)
             (all_good xs q.0 left q.1 (and_right (without_effects scope a) (all_without_effects scope xs) w))
-            (λ vs left k. method_good (named method_names m.name) v p.0 vs q.0 t left cells h q.2 k))
+            (λ vs left k. method_good (selected m) v p.0 vs q.0 t left cells h q.2 k))
         eval_good (NotExpr a) t left e w =
             let p = with_typed (type_in scope a) bool_only t e in
             then_good (Is p.0) (Is t) (eval s run look a left) (λ v left. at_once (inverted v) left) (eval_good a p.0 left p.1 w) (λ v left h. not_good v p.0 t left h p.2)

@@ -12,8 +12,8 @@ use Rattle.flow_tree.specs.Decls.{ParamTree, RecordTree}
 use Rattle.flow_ast.specs.TypingNames.{named}
 use Rattle.flow_ast.specs.Typing.{param_named, param_types, field_type}
 use Rattle.flow_value.specs.declared.value.Kind.TheVariants.{Promise, Future, PromiseStream, FutureStream}
-use Rattle.flow_value.specs.Values.{ValueTree, IntValue, BoolValue, TextValue, VoidValue, ErrorValue, RecordValue, RefValue, values_of_list}
-use Rattle.flow_eval.specs.Records.{value_put, field}
+use Rattle.flow_value.specs.Values.{ValueTree, IntValue, BoolValue, TextValue, VoidValue, ErrorValue, CompositeValue, RefValue, values_of_list, value_put, RecordWhole, ListWhole}
+use Rattle.flow_eval.specs.Records.{field}
 use Rattle.flow_eval.specs.Functions.{Locals, bound, with_first, entered, put_at, place_of, put_in, read_in, read_path, put_at_var, put_place, put_path}
 use Rattle.flow_ast.specs.Fits.{fields_type, path_type}
 use Rattle.flow_eval.specs.Typed.{HasType, HaveTypes, VariablesFit}
@@ -114,12 +114,14 @@ module _ (rs : List RecordTree) (typed : ℕ → TypeTree → Type 0) where
   field_put (TextValue s) u x t w h e k = none_some t (sym (ap (λ u. field_type rs u x) h) ∙ e)
   field_put VoidValue u x t w h e k = none_some t (sym (ap (λ u. field_type rs u x) h) ∙ e)
   field_put (ErrorValue n) u x t w h e k = none_some t (sym (ap (λ u. field_type rs u x) h) ∙ e)
-  field_put (RecordValue r vs) u x t w h e k =
-      let at = field_at rs h.0 r h.1 x t h.3 h.4 (sym (ap (λ u. field_type rs u x) h.2) ∙ e) in (
-        RecordValue r (value_put vs at.0 w),
-        ap (λ o. put_at (RecordValue r vs) o (Some w)) at.1,
-        (h.0, h.1, h.2, h.3, h.4, value_put_fits rs typed vs h.1.params at.0 t w h.5 at.2 k),
+  field_put (CompositeValue (RecordWhole r) vs) u x t w h e k =
+      let m = h.1 in
+      let at = field_at rs m.name r m.call x t m.placed m.called (sym (ap (λ u. field_type rs u x) m.named) ∙ e) in (
+        CompositeValue (RecordWhole r) (value_put vs at.0 w),
+        ap (λ o. put_at (CompositeValue (RecordWhole r) vs) o (Some w)) at.1,
+        (h.0, m, value_put_fits rs typed vs h.0 at.0 t w h.2 (ap (λ l. slice_get l at.0) m.fields ∙ at.2) k),
       )
+  field_put (CompositeValue ListWhole vs) u x t w h e k = absurd h.1
   field_put (RefValue Promise c) u x t w h e k = none_some t (sym (ap (λ u. field_type rs u x) h.1) ∙ e)
   field_put (RefValue Future c) u x t w h e k = none_some t (sym (ap (λ u. field_type rs u x) h.1) ∙ e)
   field_put (RefValue PromiseStream c) u x t w h e k = none_some t (sym (ap (λ u. field_type rs u x) h.1) ∙ e)

@@ -15,9 +15,9 @@ use Rattle.flow_value.specs.declared.value.Kind.{Kind}
 use Rattle.flow_value.specs.declared.value.Kind.TheVariants.{Promise, Future, PromiseStream, FutureStream}
 use Rattle.flow_value.specs.declared.value.RecordId.{RecordId}
 use Rattle.flow_value.specs.declared.value.RecordId.TheVariants.{Packet, Declared}
-use Rattle.flow_value.specs.Values.{ValueTree, ValueTrees, NoValues, MoreValues, IntValue, BoolValue, TextValue, VoidValue, ErrorValue, RecordValue, RefValue}
-use Rattle.flow_eval.specs.Records.{record_id, field_place, place_in, value_at, value_put}
-use Rattle.flow_eval.specs.Typed.{reference_type, HasType, HaveTypes}
+use Rattle.flow_value.specs.Values.{ValueTree, ValueTrees, NoValues, MoreValues, IntValue, BoolValue, TextValue, VoidValue, ErrorValue, CompositeValue, RefValue, Whole, RecordWhole, ListWhole, value_at, value_put}
+use Rattle.flow_eval.specs.Records.{record_id, field_place, place_in}
+use Rattle.flow_eval.specs.Typed.{reference_type, IsMadeOf, HasType, HaveTypes}
 
 pub some_same : {A : Type 0} (x y : A) → Some x ≡ Some y → x ≡ y
 some_same x y e = cc
@@ -97,14 +97,14 @@ place_in_at (q ∷ rs) (suc k) r x e = place_in_at rs k r x e
 
 -- the field of this type
 abbrev pub FieldAt : List RecordTree → RecordId → Signature → List ℕ → TypeTree → Type 0
-FieldAt rs r s x t = (k : ℕ) × (field_place rs r x ≡ Some k) × (slice_get s.params k ≡ Some t)
+FieldAt rs r s x t = (k : ℕ) × (field_place rs (RecordWhole r) x ≡ Some k) × (slice_get s.params k ≡ Some t)
 
 packet_field : (rs : List RecordTree) (n : List ℕ) (r : RecordId) (s : Signature) (x : List ℕ) (t : TypeTree)
     → Some Packet ≡ Some r → takes (map (λ (f : List ℕ × TypeTree). f.1) packet_fields) (NamedType n) ≡ Some s → named packet_fields x ≡ Some t → FieldAt rs r s x t
 packet_field rs n r s x t er es e =
     let row = named_row packet_fields x t e in
     let at = first_there (λ (f : List ℕ × TypeTree). bytes_eq f.0 x) packet_fields row.0 row.1 in
-    let place : field_place rs r x ≡ Some at.0 = subst (λ r. field_place rs r x ≡ Some at.0) (some_same Packet r er) at.1 in
+    let place : field_place rs (RecordWhole r) x ≡ Some at.0 = subst (λ r. field_place rs (RecordWhole r) x ≡ Some at.0) (some_same Packet r er) at.1 in
     let type : slice_get (map (λ (f : List ℕ × TypeTree). f.1) packet_fields) at.0 ≡ Some t =
     slice_map (λ (f : List ℕ × TypeTree). f.1) packet_fields at.0 row.0 at.2 ∙ ap Some row.2 in
     (at.0, place, subst (λ (s : Signature). slice_get s.params at.0 ≡ Some t) (some_same (record { params = map (λ (f : List ℕ × TypeTree). f.1) packet_fields; gives = NamedType n }) s es) type)
@@ -124,10 +124,10 @@ declared_field_at rs n r s x t (Some q) is er es e =
     let one : Declared there.0 ≡ r = some_same (Declared there.0) r (sym (ap (option_map Declared) there.1) ∙ er) in
     let p = param_type (param_named q.fields x) t e in
     let at = first_there (λ (p : ParamTree). bytes_eq p.name.name x) q.fields p.0 p.1 in
-    let place : field_place rs (Declared there.0) x ≡ Some at.0 = place_in_at rs there.0 q x there.2 ∙ at.1 in
+    let place : field_place rs (RecordWhole (Declared there.0)) x ≡ Some at.0 = place_in_at rs there.0 q x there.2 ∙ at.1 in
     let type : slice_get (param_types q.fields) at.0 ≡ Some t = slice_map (λ (p : ParamTree). p.ty) q.fields at.0 p.0 at.2 ∙ ap Some p.2 in (
       at.0,
-      subst (λ r. field_place rs r x ≡ Some at.0) one place,
+      subst (λ r. field_place rs (RecordWhole r) x ≡ Some at.0) one place,
       subst (λ (s : Signature). slice_get s.params at.0 ≡ Some t)
           (some_same (record { params = param_types q.fields; gives = NamedType n }) s es) type,
     )
@@ -189,6 +189,18 @@ reference_plain FutureStream u = refl
 pub no_reference : {A : Type 0} (k : Kind) (t u : TypeTree) → is_plain t ≡ true → t ≡ reference_type k u → A
 no_reference k t u p e = absurd (let d : true ≡ false = sym p ∙ ap is_plain e ∙ reference_plain k u in cc)
 
+-- a type whose values have parts
+abbrev pub has_parts : TypeTree → Bool
+has_parts (NamedType x) = true
+has_parts _ = false
+
+made_parts : (rs : List RecordTree) (w : Whole) (t : TypeTree) (ts : List TypeTree) → IsMadeOf rs w t ts → has_parts t ≡ true
+made_parts rs (RecordWhole r) t ts h = ap has_parts h.named
+made_parts rs ListWhole t ts h = absurd h
+
+pub no_parts : {A : Type 0} (rs : List RecordTree) (w : Whole) (t : TypeTree) (ts : List TypeTree) → has_parts t ≡ false → IsMadeOf rs w t ts → A
+no_parts rs w t ts e h = absurd (let d : false ≡ true = sym e ∙ made_parts rs w t ts h in cc)
+
 module _ (rs : List RecordTree) (typed : ℕ → TypeTree → Type 0) where
   pub is_int_value : (v : ValueTree) → HasType rs typed v IntType → (n : ℤ) × (v ≡ IntValue n)
   is_int_value (IntValue n) h = (n, refl)
@@ -196,7 +208,7 @@ module _ (rs : List RecordTree) (typed : ℕ → TypeTree → Type 0) where
   is_int_value (TextValue s) h = absurd (cc)
   is_int_value VoidValue h = absurd (cc)
   is_int_value (ErrorValue e) h = absurd (cc)
-  is_int_value (RecordValue r vs) h = let d = h.2 in absurd (cc)
+  is_int_value (CompositeValue w vs) h = no_parts rs w IntType h.0 refl h.1
   is_int_value (RefValue k c) h = no_reference k IntType h.0 refl h.1
 
   pub is_bool_value : (v : ValueTree) → HasType rs typed v BoolType → (b : Bool) × (v ≡ BoolValue b)
@@ -205,7 +217,7 @@ module _ (rs : List RecordTree) (typed : ℕ → TypeTree → Type 0) where
   is_bool_value (TextValue s) h = absurd (cc)
   is_bool_value VoidValue h = absurd (cc)
   is_bool_value (ErrorValue e) h = absurd (cc)
-  is_bool_value (RecordValue r vs) h = let d = h.2 in absurd (cc)
+  is_bool_value (CompositeValue w vs) h = no_parts rs w BoolType h.0 refl h.1
   is_bool_value (RefValue k c) h = no_reference k BoolType h.0 refl h.1
 
   pub is_text_value : (v : ValueTree) → HasType rs typed v StringType → (s : List ℕ) × (v ≡ TextValue s)
@@ -214,7 +226,7 @@ module _ (rs : List RecordTree) (typed : ℕ → TypeTree → Type 0) where
   is_text_value (TextValue s) h = (s, refl)
   is_text_value VoidValue h = absurd (cc)
   is_text_value (ErrorValue e) h = absurd (cc)
-  is_text_value (RecordValue r vs) h = let d = h.2 in absurd (cc)
+  is_text_value (CompositeValue w vs) h = no_parts rs w StringType h.0 refl h.1
   is_text_value (RefValue k c) h = no_reference k StringType h.0 refl h.1
 
   pub is_error_value : (v : ValueTree) → HasType rs typed v ErrorType → (e : ℕ) × (v ≡ ErrorValue e)
@@ -223,7 +235,7 @@ module _ (rs : List RecordTree) (typed : ℕ → TypeTree → Type 0) where
   is_error_value (TextValue s) h = absurd (cc)
   is_error_value VoidValue h = absurd (cc)
   is_error_value (ErrorValue e) h = (e, refl)
-  is_error_value (RecordValue r vs) h = let d = h.2 in absurd (cc)
+  is_error_value (CompositeValue w vs) h = no_parts rs w ErrorType h.0 refl h.1
   is_error_value (RefValue k c) h = no_reference k ErrorType h.0 refl h.1
 
   -- the field at the place of a type

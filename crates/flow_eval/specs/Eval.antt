@@ -8,10 +8,10 @@ use Rattle.flow_ast.specs.declared.predefined.Predefined as code
 use Rattle.flow_ast.specs.declared.predefined.Method.{Method}
 use Rattle.flow_tree.specs.Tree.{ExprTree, ExprTrees, IntExpr, TextExpr, BoolExpr, VoidExpr, VarExpr, CallExpr, FieldExpr, MethodExpr, NotExpr, NegExpr, BinaryExpr, ParenExpr, NoExprs, MoreExprs}
 use Rattle.flow_tree.specs.Decls.{RecordTree, RoutineTree}
-use Rattle.flow_ast.specs.TypingNames.{named, call_names, method_names, constant_names}
+use Rattle.flow_ast.specs.TypingNames.{named, selected, call_names, constant_names}
 use Rattle.flow_ast.specs.Typing.{routine_named}
 use Rattle.flow_value.specs.declared.value.RecordId.{RecordId}
-use Rattle.flow_value.specs.Values.{ValueTree, IntValue, BoolValue, TextValue, VoidValue, RecordValue, OutcomeTree, values_of_list}
+use Rattle.flow_value.specs.Values.{ValueTree, IntValue, BoolValue, TextValue, VoidValue, CompositeValue, OutcomeTree, values_of_list, RecordWhole}
 use Rattle.flow_eval.specs.Answers.{Answer, Given, Throws, NoMeaning, truth, bool_of}
 use Rattle.flow_eval.specs.Operators.{operated, negated, inverted}
 use Rattle.flow_eval.specs.Predefined.{call_answer, method_answer}
@@ -97,7 +97,7 @@ module _ (s : Setting) (run : Runner) where
   -- a record of the program, else a function
   abbrev pub declared_called : Option RecordId → List ℕ → List ValueTree → ℕ → Res ValueTree
   declared_called None f vs left = function_called (routine_named s.functions f) vs left
-  declared_called (Some r) f vs left = at_once (Given (RecordValue r (values_of_list vs))) left
+  declared_called (Some r) f vs left = at_once (Given (CompositeValue (RecordWhole r) (values_of_list vs))) left
 
   -- a call by its name, a predefined one first
   abbrev pub called : Option code.Predefined → List ℕ → List ValueTree → ℕ → Res ValueTree
@@ -117,7 +117,7 @@ module _ (s : Setting) (run : Runner) where
     eval look (FieldExpr e x) left = then (eval look e left) (λ v left. at_once (field_answer (field s.records v x.name)) left)
     eval look (MethodExpr e m xs) left =
         then (eval look e left) (λ v left. then (eval_all look xs left)
-        (λ vs left. at_once (method_called s.cells (named method_names m.name) v vs) left))
+        (λ vs left. at_once (method_called s.cells (selected m) v vs) left))
     eval look (NotExpr e) left = then (eval look e left) (λ v left. at_once (inverted v) left)
     eval look (NegExpr e) left = then (eval look e left) (λ v left. at_once (negated v) left)
     eval look (BinaryExpr op a b) left = then (eval look a left) (λ v left. second op v (eval look b) left)

@@ -14,10 +14,10 @@ use Rattle.flow_tree.specs.Body.{IntoTree, ChangeTree, PlusChange, MinusChange, 
 use Rattle.flow_tree.specs.Decls.{ParamTree, RecordTree, RoutineTree}
 use Rattle.flow_ast.specs.TypingNames.{named}
 use Rattle.flow_ast.specs.Typing.{routine_named}
-use Rattle.flow_value.specs.Values.{ValueTree, IntValue, BoolValue, TextValue, ErrorValue, RecordValue}
+use Rattle.flow_value.specs.Values.{ValueTree, IntValue, BoolValue, TextValue, ErrorValue, CompositeValue, value_put}
 use Rattle.flow_eval.specs.Answers.{bool_of, error_of}
 use Rattle.flow_eval.specs.Operators.{operated}
-use Rattle.flow_eval.specs.Records.{field_place, value_put, field}
+use Rattle.flow_eval.specs.Records.{field_place, field}
 use Rattle.flow_eval.specs.Eval.{Res, Done, Fails, Spent, Meaningless, Setting, Runner, at_once, eval, eval_all, function_called}
 
 -- the variables in force, the oldest first; no two have one name
@@ -117,7 +117,7 @@ declared (Some v) x vars left = Goes (bound vars x v) left
 
 -- a value with the field put in place to which the names lead
 abbrev pub put_at : ValueTree → Option ℕ → Option ValueTree → Option ValueTree
-put_at (RecordValue r vs) (Some k) (Some w) = Some (RecordValue r (value_put vs k w))
+put_at (CompositeValue r vs) (Some k) (Some w) = Some (CompositeValue r (value_put vs k w))
 put_at _ _ _ = None
 
 abbrev pub with_first : (List ℕ × ValueTree) → Option Locals → Option Locals
@@ -126,7 +126,7 @@ with_first v (Some vars) = Some (v ∷ vars)
 
 module _ (rs : List RecordTree) where
   abbrev pub place_of : ValueTree → List ℕ → Option ℕ
-  place_of (RecordValue r vs) x = field_place rs r x
+  place_of (CompositeValue r vs) x = field_place rs r x
   place_of _ x = None
 
   abbrev pub put_in : Option ValueTree → List Ident → ValueTree → Option ValueTree

@@ -9,7 +9,7 @@ use Rattle.flow_tree.specs.Decls.{ParamTree, RecordTree}
 use Rattle.flow_ast.specs.Typing.{is_packet, packet_fields}
 use Rattle.flow_value.specs.declared.value.RecordId.{RecordId}
 use Rattle.flow_value.specs.declared.value.RecordId.TheVariants.{Packet, Declared}
-use Rattle.flow_value.specs.Values.{ValueTree, ValueTrees, NoValues, MoreValues, RecordValue}
+use Rattle.flow_value.specs.Values.{ValueTree, CompositeValue, Whole, RecordWhole, ListWhole, at_place}
 use Rattle.flow_eval.specs.Answers.{Answer, Given, NoMeaning}
 
 -- the record of a name, the predefined one first
@@ -22,28 +22,15 @@ place_in [] k x = None
 place_in (r ∷ rs) zero x = position (λ (p : ParamTree). bytes_eq p.name.name x) r.fields
 place_in (r ∷ rs) (suc k) x = place_in rs k x
 
-abbrev pub field_place : List RecordTree → RecordId → List ℕ → Option ℕ
-field_place rs Packet x = position (λ (f : List ℕ × TypeTree). bytes_eq f.0 x) packet_fields
-field_place rs (Declared k) x = place_in rs k x
+-- the place of a part in a whole by its name: fields alone have names
+abbrev pub field_place : List RecordTree → Whole → List ℕ → Option ℕ
+field_place rs (RecordWhole Packet) x = position (λ (f : List ℕ × TypeTree). bytes_eq f.0 x) packet_fields
+field_place rs (RecordWhole (Declared k)) x = place_in rs k x
+field_place rs ListWhole x = None
 
--- the value at a place, and one put there
-abbrev pub value_at : ValueTrees → ℕ → Option ValueTree
-value_at NoValues k = None
-value_at (MoreValues v vs) zero = Some v
-value_at (MoreValues v vs) (suc k) = value_at vs k
-
-abbrev pub value_put : ValueTrees → ℕ → ValueTree → ValueTrees
-value_put NoValues k w = NoValues
-value_put (MoreValues v vs) zero w = MoreValues w vs
-value_put (MoreValues v vs) (suc k) w = MoreValues v (value_put vs k w)
-
-abbrev pub at_place : ValueTrees → Option ℕ → Option ValueTree
-at_place vs None = None
-at_place vs (Some k) = value_at vs k
-
--- a field of a record value
+-- a field of a value that has parts
 abbrev pub field : List RecordTree → ValueTree → List ℕ → Option ValueTree
-field rs (RecordValue r vs) x = at_place vs (field_place rs r x)
+field rs (CompositeValue w vs) x = at_place vs (field_place rs w x)
 field rs _ x = None
 
 abbrev pub field_answer : Option ValueTree → Answer

@@ -5,9 +5,10 @@ use Rattle.std.specs.declared.option.Option.TheVariants.{Some}
 use Rattle.flow_tree.specs.Tree.{TypeTree, IntType, BoolType, StringType, VoidType, ErrorType, NamedType, FutureType, FutureStreamType, PromiseType, PromiseStreamType}
 use Rattle.flow_tree.specs.Decls.{ParamTree, RecordTree}
 use Rattle.flow_ast.specs.Typing.{Signature, record_call, param_named}
+use Rattle.flow_value.specs.declared.value.RecordId.{RecordId}
 use Rattle.flow_value.specs.declared.value.Kind.{Kind}
 use Rattle.flow_value.specs.declared.value.Kind.TheVariants.{Promise, Future, PromiseStream, FutureStream}
-use Rattle.flow_value.specs.Values.{ValueTree, ValueTrees, NoValues, MoreValues, IntValue, BoolValue, TextValue, VoidValue, ErrorValue, RecordValue, RefValue, OutcomeTree, GoodOutcome}
+use Rattle.flow_value.specs.Values.{ValueTree, ValueTrees, NoValues, MoreValues, IntValue, BoolValue, TextValue, VoidValue, ErrorValue, CompositeValue, RefValue, Whole, RecordWhole, ListWhole, OutcomeTree, GoodOutcome}
 use Rattle.flow_eval.specs.Records.{record_id}
 
 -- the type of a reference of a kind, to what holds values of this type
@@ -24,7 +25,21 @@ future_side Future t = FutureType t
 future_side PromiseStream t = FutureStreamType t
 future_side FutureStream t = FutureStreamType t
 
--- a value has a type, where cells have these types: a record by its fields in order, a reference by
+-- a type is that of a record, whose fields have these types in order
+pub record IsRecordType (rs : List RecordTree) (r : RecordId) (t : TypeTree) (ts : List TypeTree) : Type 0 where
+  pub name : List ℕ
+  pub named : t ≡ NamedType name
+  pub placed : record_id rs name ≡ Some r
+  pub call : Signature
+  pub called : record_call rs name ≡ Some call
+  pub fields : ts ≡ call.params
+
+-- what a whole of a type is made of: parts of these types in order; no type is that of lists
+abbrev pub IsMadeOf : List RecordTree → Whole → TypeTree → List TypeTree → Type 0
+IsMadeOf rs (RecordWhole r) t ts = IsRecordType rs r t ts
+IsMadeOf rs ListWhole t ts = ⊥
+
+-- a value has a type, where cells have these types: a whole by its parts in order, a reference by
 -- its cell
 module _ (rs : List RecordTree) (typed : ℕ → TypeTree → Type 0) where
   abbrev mutual
@@ -34,8 +49,7 @@ module _ (rs : List RecordTree) (typed : ℕ → TypeTree → Type 0) where
     HasType (TextValue s) t = t ≡ StringType
     HasType VoidValue t = t ≡ VoidType
     HasType (ErrorValue e) t = t ≡ ErrorType
-    HasType (RecordValue r vs) t =
-        (x : List ℕ) × (s : Signature) × (t ≡ NamedType x) × (record_id rs x ≡ Some r) × (record_call rs x ≡ Some s) × HaveTypes vs s.params
+    HasType (CompositeValue w vs) t = (ts : List TypeTree) × IsMadeOf rs w t ts × HaveTypes vs ts
     HasType (RefValue k c) t = (u : TypeTree) × (t ≡ reference_type k u) × typed c (future_side k u)
 
     pub HaveTypes : ValueTrees → List TypeTree → Type 0

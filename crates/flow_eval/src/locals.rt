@@ -7,9 +7,9 @@ ghost use Rattle.flow_tree.specs.DeclView.{record_of, param_of};
 ghost use Rattle.flow_tree.specs.View.{type_of};
 ghost use Rattle.flow_ast.specs.TypingNames.{named};
 ghost use Rattle.flow_value.specs.View.{value_of, values_of};
-ghost use Rattle.flow_value.specs.Values.{ValueTree, RecordValue};
+ghost use Rattle.flow_value.specs.Values.{ValueTree, CompositeValue, value_put, value_at, at_place, RecordWhole};
 ghost use Rattle.flow_eval.specs.Eval.{found};
-ghost use Rattle.flow_eval.specs.Records.{value_put, value_at, at_place, field_place};
+ghost use Rattle.flow_eval.specs.Records.{field_place};
 ghost use Rattle.flow_eval.specs.Functions.{bound, entered, default_value, read_path, read_in, put_path, put_place, put_in, put_at, rethrown, error_at};
 ghost use Rattle.flow_eval.specs.Variables.{var_of};
 ghost use Rattle.flow_eval.specs.View.{GivesAnswer, Entered};
@@ -109,7 +109,8 @@ pub fn put_at(fields: &mut Vec<Value>, k: usize, value: Value)
 
 /// A record as a value.
 pub fn record_value(of: Box<Record<Value>>) -> Value
-    ensures { value_of result ≡ RecordValue of.value.id (values_of of.value.fields.items) }
+    ensures { value_of result
+        ≡ CompositeValue (RecordWhole of.value.id) (values_of of.value.fields.items) }
 {
     Value::Struct(of)
 }
@@ -142,6 +143,7 @@ pub fn put_in(records: &[RecordDecl], base: Value, path: &[Ident], value: Value)
         | Value::Text(_)
         | Value::Void
         | Value::Error(_)
+        | Value::List(_)
         | Value::Ref(_, _) => None,
     }
 }
@@ -156,11 +158,12 @@ fn put_field(
     value: Value,
 ) -> Option<Value>
     ensures { option_map value_of result
-        ≡ put_at (RecordValue of.value.id (values_of of.value.fields.items))
-        (field_place (map record_of records.now) of.value.id name.now)
+        ≡ put_at (CompositeValue (RecordWhole of.value.id) (values_of of.value.fields.items))
+        (field_place (map record_of records.now) (RecordWhole of.value.id) name.now)
         (put_in (map record_of records.now)
         (at_place (values_of of.value.fields.items)
-        (field_place (map record_of records.now) of.value.id name.now)) rest.now (value_of value)) }
+        (field_place (map record_of records.now) (RecordWhole of.value.id) name.now)) rest.now
+        (value_of value)) }
 {
     let Some(k) = field_place(records, of.id, name) else {
         return None;

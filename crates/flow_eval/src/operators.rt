@@ -126,6 +126,7 @@ pub fn operated(alloc: Global, op: Op, left: &Value, right: &Value) -> Result<Va
             | Value::Void
             | Value::Error(_)
             | Value::Struct(_)
+            | Value::List(_)
             | Value::Ref(_, _) => Err(Halt::NoMeaning),
         },
         Value::Text(s) => match right {
@@ -135,6 +136,7 @@ pub fn operated(alloc: Global, op: Op, left: &Value, right: &Value) -> Result<Va
             | Value::Void
             | Value::Error(_)
             | Value::Struct(_)
+            | Value::List(_)
             | Value::Ref(_, _) => Err(Halt::NoMeaning),
         },
         Value::Bool(a) => match right {
@@ -144,9 +146,10 @@ pub fn operated(alloc: Global, op: Op, left: &Value, right: &Value) -> Result<Va
             | Value::Void
             | Value::Error(_)
             | Value::Struct(_)
+            | Value::List(_)
             | Value::Ref(_, _) => Err(Halt::NoMeaning),
         },
-        Value::Void | Value::Error(_) | Value::Struct(_) | Value::Ref(_, _) => {
+        Value::Void | Value::Error(_) | Value::Struct(_) | Value::List(_) | Value::Ref(_, _) => {
             Err(Halt::NoMeaning)
         }
     }

@@ -318,6 +318,8 @@ pub fn method_answer<C: CellView>(
         Value::Error(code) => error_method(method, *code),
         Value::Text(text) => text_method(alloc, method, text, args),
         Value::Ref(kind, cell) => reference_method(alloc, view, method, *kind, *cell),
-        Value::Int(_) | Value::Bool(_) | Value::Void | Value::Struct(_) => { Err(Halt::NoMeaning) }
+        Value::Int(_) | Value::Bool(_) | Value::Void | Value::Struct(_) | Value::List(_) => {
+            Err(Halt::NoMeaning)
+        }
     }
 }

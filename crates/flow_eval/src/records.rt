@@ -6,8 +6,8 @@ ghost use Rattle.std.specs.Str.{bytes_eq};
 ghost use Rattle.flow_tree.specs.DeclView.{record_of, param_of};
 ghost use Rattle.flow_ast.specs.Typing.{packet_fields};
 ghost use Rattle.flow_value.specs.View.{value_of, values_of};
-ghost use Rattle.flow_value.specs.Values.{ValueTree};
-ghost use Rattle.flow_eval.specs.Records.{record_id, field_place, field, place_in, value_at};
+ghost use Rattle.flow_value.specs.Values.{ValueTree, value_at, RecordWhole};
+ghost use Rattle.flow_eval.specs.Records.{record_id, field_place, field, place_in};
 
 use flow_ast::decl::{Param, RecordDecl};
 use flow_ast::typing::{Declared, is_packet};
@@ -72,7 +72,7 @@ fn declared_place(records: &[RecordDecl], k: usize, name: &[u8]) -> Option<usize
 
 /// The place of a field in a record, where it has one of that name.
 pub fn field_place(records: &[RecordDecl], id: RecordId, name: &[u8]) -> Option<usize>
-    ensures { result ≡ field_place (map record_of records.now) id name.now }
+    ensures { result ≡ field_place (map record_of records.now) (RecordWhole id) name.now }
 {
     match id {
         RecordId::Packet => packet_place(name),
@@ -102,6 +102,7 @@ pub fn field<'a>(records: &[RecordDecl], value: &'a Value, name: &[u8]) -> Optio
         | Value::Text(_)
         | Value::Void
         | Value::Error(_)
+        | Value::List(_)
         | Value::Ref(_, _) => None,
     }
 }

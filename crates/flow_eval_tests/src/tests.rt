@@ -56,7 +56,7 @@ fn is_wanted(value: &Value, wanted: &str) -> bool {
         Value::Text(text) => is_quoted(wanted, text.bytes()),
         Value::Void => wanted == "Void()",
         Value::Error(code) => is_numbered(wanted, "error ", u64::from(code.0)),
-        Value::Struct(_) => false,
+        Value::Struct(_) | Value::List(_) => false,
         Value::Ref(kind, cell) => is_numbered(wanted, kind_word(*kind), cell.0),
     }
 }

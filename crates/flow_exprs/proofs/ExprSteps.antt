@@ -17,7 +17,7 @@ use Rattle.flow_tree.specs.declared.token.Spot.{Spot}
 use Rattle.flow_tree.specs.declared.expr.Op.{Op}
 use Rattle.flow_tree.specs.declared.expr.Op.TheVariants.{Sub}
 use Rattle.flow_tree.specs.declared.ty.Ident.{Ident}
-use Rattle.flow_tree.specs.Tree.{ExprTree, ExprTrees, IntExpr, TextExpr, BoolExpr, VoidExpr, VarExpr, CallExpr, FieldExpr, MethodExpr, NotExpr, NegExpr, BinaryExpr, ParenExpr, NoExprs, MoreExprs}
+use Rattle.flow_tree.specs.Tree.{ByName, ExprTree, ExprTrees, IntExpr, TextExpr, BoolExpr, VoidExpr, VarExpr, CallExpr, FieldExpr, MethodExpr, NotExpr, NegExpr, BinaryExpr, ParenExpr, NoExprs, MoreExprs}
 use Rattle.flow_tree.specs.declared.expr.Expr.{Expr}
 use Rattle.flow_tree.specs.View.{expr_of, exprs_of}
 use Rattle.flow_tree.specs.declared.token.Tokens.{Tokens}
@@ -558,14 +558,14 @@ module _ (spots : List Spot) where
       ∙ ap (λ m. run m (WantArgs (Method t v) K) (drop m spots)) e1
 
   pub method_goes : (j d : ℕ) (t : ExprTree) (high : ℕ) (v : Ident) (ts : ExprTrees) (wide to : ℕ) → kind_at spots j ≡ Some kind.Dot → high ≡ height t → d + high ≤ 64 → ident_at spots (j + 1) ≡ Some v
-      → kind_at spots (j + 2) ≡ Some kind.Open → ReadsArgs spots (j + 3) d ts wide to → Extends spots t j 6 d 8 (MethodExpr t v ts) (max high wide + 1) to
+      → kind_at spots (j + 2) ≡ Some kind.Open → ReadsArgs spots (j + 3) d ts wide to → Extends spots t j 6 d 8 (MethodExpr t (ByName v) ts) (max high wide + 1) to
   method_goes j d t high v ts wide to h hi le n o r = record {
     after = omega (arith, r.after);
     within = r.within;
     high_is = omega (arith, r.high_is);
     fits_in = omega (arith, r.fits_in);
     comes = λ K f. method_comes j d t v K h (omega arith) n o f.depth_is f.fits_is ∙ r.comes (Method t v) K (any_fit 7 6 d K (omega arith) f) (omega arith);
-    stops = stops_eight (MethodExpr t v ts) (kind_at spots to) (λ e. tt);
+    stops = stops_eight (MethodExpr t (ByName v) ts) (kind_at spots to) (λ e. tt);
   }
 
   pub method_refused : (j d : ℕ) (t : ExprTree) (v : Ident) (s : Stop) (K : Stack) → kind_at spots j ≡ Some kind.Dot → d + height t ≤ 64 → ident_at spots (j + 1) ≡ Some v

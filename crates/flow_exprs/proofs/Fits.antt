@@ -7,7 +7,7 @@ use Rattle.flow_tree.specs.declared.token.Word.TheVariants as word
 use Rattle.flow_tree.specs.declared.token.Sign.TheVariants as sign
 use Rattle.flow_tree.specs.declared.token.Spot.{Spot}
 use Rattle.flow_tree.specs.declared.expr.Op.{Op}
-use Rattle.flow_tree.specs.Tree.{ExprTree, ExprTrees, IntExpr, TextExpr, BoolExpr, VoidExpr, VarExpr, CallExpr, FieldExpr, MethodExpr, NotExpr, NegExpr, BinaryExpr, ParenExpr, NoExprs, MoreExprs}
+use Rattle.flow_tree.specs.Tree.{ByName, ExprTree, ExprTrees, IntExpr, TextExpr, BoolExpr, VoidExpr, VarExpr, CallExpr, FieldExpr, MethodExpr, NotExpr, NegExpr, BinaryExpr, ParenExpr, NoExprs, MoreExprs}
 use Rattle.flow_tree.specs.GrammarToken.{Part, Node, Marked, opens, begin, spots_of}
 use Rattle.flow_tree.specs.Grammar.{sign_at, name_at, node_sign, node_word, node_name, level, op_sign, ExprRule, number, text, truth, falsehood, void, variable, call, paren, field, method, negation, minus, binary, ArgsRule, no_args, some_args, MoreArgsRule, end_args, more_args}
 use Rattle.flow_tree.proofs.GrammarLists.{spots_append, spots_begin}
@@ -171,7 +171,7 @@ mutual
   fit {n} {d} {xs} (method {t = t} {ts = ts} p q s h of args r a e) K b hd fs j rest f =
       let cl = sign_at sign.CloseRound s ∷ [] in
       let l = sign_at sign.Dot p ∷ name_at h ∷ sign_at sign.OpenRound q ∷ (args ++ cl) in
-      goal_is d (MethodExpr t h ts) K j rest xs (begin (Node d) of ++ l) e (λ k c.
+      goal_is d (MethodExpr t (ByName h) ts) K j rest xs (begin (Node d) of ++ l) e (λ k c.
       let flat : spots_of of ++ (spots_of l ++ rest) ≡ spots_of (begin (Node d) of ++ l) ++ rest =
       sym (ap (λ z. z ++ rest) (spots_append (begin (Node d) of) l ∙ ap (λ z. z ++ spots_of l) (spots_begin (Node d) of)) ∙ append_assoc (spots_of of) (spots_of l) rest) in
       let flat2 : spots_of args ++ (sign_spot sign.CloseRound s ∷ rest) ≡ spots_of (args ++ cl) ++ rest =
@@ -193,7 +193,7 @@ mutual
       (along_step (w - 1 - 1) (Have (FieldExpr t h) K) (sign_spot sign.OpenRound q) (spots_of (args ++ cl) ++ rest) (λ y. and_true (hole K + height t) 64 (fits_stack K) (omega arith) fs)
       (subst (Along (w - 1 - 1 - 1) (WantArgs (Method t h) K)) flat2
       (fit_args a (Method t h) K s rest (omega arith) fs (omega arith) (omega (arith, height_some t)) (w - 1 - 1 - 1) k5.0 (λ o.
-      along_is (j - length (begin (Node d) of ++ l)) (w - 1 - 1 - 1 - length args - 1) (Have (MethodExpr t h ts) K) rest i (c (omega arith)))))))))))
+      along_is (j - length (begin (Node d) of ++ l)) (w - 1 - 1 - 1 - length args - 1) (Have (MethodExpr t (ByName h) ts) K) rest i (c (omega arith)))))))))))
   fit {n} {d} {xs} (negation {t = t} p of le r e) K b hd fs j rest f = goal_is d (NotExpr t) K j rest xs (node_sign d sign.Not p ∷ of) e (λ k c.
       let k1 = keep_first j (node_sign d sign.Not p) of k in
       let i : j - suc (length of) ≡ j - 1 - length of = omega arith in

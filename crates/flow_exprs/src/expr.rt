@@ -3,7 +3,7 @@
 ghost use Rattle.std.specs.Prelude.{◌≡◌, ◌↔◌, ℕ, suc, ◌+◌, ◌<◌, ◌≤◌, length, MatchResult, OnSome, IsTrue, Some, slice_get};
 ghost use Rattle.std.specs.Bool.{OnTrue};
 ghost use Rattle.std.specs.Option.{option_map};
-ghost use Rattle.flow_tree.specs.Tree.{VoidExpr, VarExpr, NotExpr, NegExpr, BinaryExpr, ParenExpr, FieldExpr, MethodExpr, CallExpr};
+ghost use Rattle.flow_tree.specs.Tree.{VoidExpr, VarExpr, NotExpr, NegExpr, BinaryExpr, ParenExpr, FieldExpr, MethodExpr, CallExpr, ByName};
 ghost use Rattle.flow_tree.specs.View.{expr_of, exprs_of};
 ghost use Rattle.flow_tree.specs.Grammar.{level, unary_level, dot_level, ExprRule};
 ghost use Rattle.flow_tree.specs.declared.limits.TheConstants.{DEPTH};
@@ -162,7 +162,7 @@ fn field(alloc: Global, of: Expr, name: Ident) -> Result<Expr, Stop>
 
 fn method(alloc: Global, of: Expr, name: Ident, args: Vec<Expr>) -> Result<Expr, Stop>
     ensures { MatchResult result (λ e. expr_of e
-        ≡ MethodExpr (expr_of of) name (exprs_of args.items)) (λ e. e ≡ Stop.NoMemory) }
+        ≡ MethodExpr (expr_of of) (ByName name) (exprs_of args.items)) (λ e. e ≡ Stop.NoMemory) }
 {
     Ok(Expr::Method(boxed(alloc, of)?, name, args))
 }

@@ -136,7 +136,7 @@ module _ (c : Call) (program world : List ℕ) (want : Want) (text : List ℕ) (
 
   told_shrunk : (x : Shrunk) → shrinking.Shrinks (ProgramStops (program_of p) (ears_of c q)) w x → GoesOut c.sink c.sink' (shrunk_text x) → c.status ≡ shrunk_status x
       → TellsShrunk c (program_of p) (ears_of c q) w
-  told_shrunk (Least v) h out status = least (seen v) h out status
+  told_shrunk (Least v) h out status = least (seen v) h.0 h.1 out status
   told_shrunk NotStopped h out status = not_stopped h out status
 
   shrink_tells : (m : ProgramRun) → c.answers.outcome ≡ Shrink m → seen m.world ≡ w → IsRunFor text q m.meant m.classes → Shrinks

@@ -68,10 +68,11 @@ pub record TellsSummary (c : Call) (clients seed : ℕ) (shown : List Line → T
 abbrev pub ProgramStops : ProgramTree → Ears → World → Type 0
 ProgramStops p ears w = (lines : List Line) × SourceShown false p w lines × IsCut ears lines
 
--- The world file was written and handed on of a world as this one but for its script, which has some of its lines, so that a program is
--- stopped in it, and isn't without any one of these, with status 0; or that it isn't stopped in this one, with status 13.
+-- Where a program is stopped in this world, the world file was written and handed on of a world as this one but for its script, which has
+-- some of its lines, so that the program is stopped in it, and isn't without any one of these, with status 0; else that it isn't, with 13.
 pub data TellsShrunk (c : Call) (p : ProgramTree) (ears : Ears) (w : World) : Type 0 where
-  least : (v : World) → IsLeast (ProgramStops p ears) w v → GoesOut c.sink c.sink' (world_text v) → c.status ≡ 0 → TellsShrunk c p ears w
+  least : (v : World) → ProgramStops p ears w → IsLeast (ProgramStops p ears) w v → GoesOut c.sink c.sink' (world_text v) → c.status ≡ 0
+      → TellsShrunk c p ears w
   not_stopped : (ProgramStops p ears w → ⊥) → GoesOut c.sink c.sink' (codes "not stopped" ++ 10 ∷ []) → c.status ≡ 13
       → TellsShrunk c p ears w
 

@@ -5,7 +5,7 @@ use Rattle.std.specs.Prelude.{◌&&◌, not}
 use Rattle.std.specs.declared.option.Option.{Option}
 use Rattle.std.specs.declared.option.Option.TheVariants.{None, Some}
 use Rattle.flow_value.specs.Values.{ValueTree, refs_of}
-use Rattle.flow_heap_refinement.specs.Evaluation.{GivesFutures, AllNamed}
+use Rattle.flow_heap_refinement.specs.Evaluation.{GivesFutures, AllNamed, RefNamed}
 use Rattle.flow_numbered.specs.Numbered.{Numbered}
 use Rattle.flow_meaning.specs.Cells.{PromiseSide, FutureSide, side_of, Ref, Waiter, Cell, waiters, held}
 use Rattle.flow_meaning.specs.Requests.{Make, Draw}
@@ -13,7 +13,7 @@ use Rattle.flow_meaning.specs.Process.{Task, Give, Store, Keep, Close, Drop, Ent
 use Rattle.flow_meaning.specs.References.{same_side, refs_in, value_in, one, count, count_maybe, count_waiters, count_kept, in_cells, in_entries, in_task, in_tasks}
 use Rattle.flow_meaning.specs.Frame.{Frame, everything}
 use Rattle.flow_heap_refinement.specs.Counted.{frames_hold}
-use Rattle.flow_heap_refinement.specs.Naming.{RefNamed, RefsNamed, CellsNamed, EntriesNamed, TaskNamed, TasksNamed, FramesNamed, HoldsNext}
+use Rattle.flow_heap_refinement.specs.Naming.{RefsNamed, CellsNamed, EntriesNamed, TaskNamed, TasksNamed, FramesNamed, HoldsNext}
 use Rattle.flow_heap_refinement.specs.Alone as law
 use Rattle.flow_heap_refinement.specs.Alone.{spares, results_at}
 use Rattle.flow_heap_refinement.proofs.NamingPlaces.{everything_named}

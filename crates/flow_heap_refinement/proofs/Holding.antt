@@ -5,9 +5,9 @@ use Rattle.std.specs.declared.option.Option.{Option}
 use Rattle.std.specs.declared.option.Option.TheVariants.{None, Some}
 use Rattle.flow_tree.specs.declared.ty.Ident.{Ident}
 use Rattle.flow_tree.specs.Decls.{RecordTree}
-use Rattle.flow_value.specs.Values.{ValueTree, ValueTrees, NoValues, MoreValues, IntValue, BoolValue, TextValue, VoidValue, ErrorValue, RecordValue, RefValue, refs_of, refs_of_all}
+use Rattle.flow_value.specs.Values.{ValueTree, ValueTrees, NoValues, MoreValues, IntValue, BoolValue, TextValue, VoidValue, ErrorValue, CompositeValue, RefValue, refs_of, refs_of_all, value_at, value_put, at_place}
 use Rattle.flow_class.specs.declared.class.Slotted.TheVariants.{Slot, Local}
-use Rattle.flow_eval.specs.Records.{value_at, value_put, at_place, field_place}
+use Rattle.flow_eval.specs.Records.{field_place}
 use Rattle.flow_eval.specs.Functions.{put_in, read_in, place_of}
 use Rattle.flow_eval.specs.Functions as eval
 use Rattle.flow_meaning.specs.Cells.{Side}
@@ -109,29 +109,29 @@ module _ (s : Side) (j : ℕ) where
     put_in_held : (root : Option ValueTree) (xs : List Ident) (w u : ValueTree) → put_in rs root xs w ≡ Some u → held s j (Some u) + held s j (read_in rs root xs) ≡ held s j root + held s j (Some w)
     put_in_held None xs w u e = absurd (nothing_in xs w u e)
     put_in_held (Some v) [] w u e = let same : w ≡ u = cc (e) in let a = ap (λ x. held s j (Some x)) same in omega (arith, a)
-    put_in_held (Some (RecordValue r vs)) (x ∷ xs) w u e = by_place (field_place rs r x.name) e (λ o i f. put_in_held o xs w i f)
+    put_in_held (Some (CompositeValue r vs)) (x ∷ xs) w u e = by_place (field_place rs r x.name) e (λ o i f. put_in_held o xs w i f)
       where
-        by_place : (n : Option ℕ) → eval.put_at (RecordValue r vs) n (put_in rs (at_place vs n) xs w) ≡ Some u
+        by_place : (n : Option ℕ) → eval.put_at (CompositeValue r vs) n (put_in rs (at_place vs n) xs w) ≡ Some u
             → ((o : Option ValueTree) (i : ValueTree) → put_in rs o xs w ≡ Some i → held s j (Some i) + held s j (read_in rs o xs) ≡ held s j o + held s j (Some w))
-            → held s j (Some u) + held s j (read_in rs (at_place vs n) xs) ≡ held s j (Some (RecordValue r vs)) + held s j (Some w)
+            → held s j (Some u) + held s j (read_in rs (at_place vs n) xs) ≡ held s j (Some (CompositeValue r vs)) + held s j (Some w)
         by_place None f rest = absurd (cc)
         by_place (Some n) f rest = by_inner (put_in rs (value_at vs n) xs w) refl f
           where
-            by_inner : (i : Option ValueTree) → put_in rs (value_at vs n) xs w ≡ i → eval.put_at (RecordValue r vs) (Some n) i ≡ Some u
-                → held s j (Some u) + held s j (read_in rs (value_at vs n) xs) ≡ held s j (Some (RecordValue r vs)) + held s j (Some w)
+            by_inner : (i : Option ValueTree) → put_in rs (value_at vs n) xs w ≡ i → eval.put_at (CompositeValue r vs) (Some n) i ≡ Some u
+                → held s j (Some u) + held s j (read_in rs (value_at vs n) xs) ≡ held s j (Some (CompositeValue r vs)) + held s j (Some w)
             by_inner None g q = absurd (cc)
             by_inner (Some i) g q = by_old (value_at vs n) refl
               where
-                by_old : (o : Option ValueTree) → value_at vs n ≡ o → held s j (Some u) + held s j (read_in rs (value_at vs n) xs) ≡ held s j (Some (RecordValue r vs)) + held s j (Some w)
+                by_old : (o : Option ValueTree) → value_at vs n ≡ o → held s j (Some u) + held s j (read_in rs (value_at vs n) xs) ≡ held s j (Some (CompositeValue r vs)) + held s j (Some w)
                 by_old None z = absurd (nothing_in xs w i (ap (λ y. put_in rs y xs w) (sym z) ∙ g))
                 by_old (Some old) z =
-                    let same : RecordValue r (value_put vs n i) ≡ u = cc (q) in
+                    let same : CompositeValue r (value_put vs n i) ≡ u = cc (q) in
                     let a = ap (λ y. held s j (Some y)) same in
                     let b = rest (value_at vs n) i g in
                     let c = put_held vs n i old z in
                     let d = ap (held s j) z in
-                    let e1 = held_one (RecordValue r (value_put vs n i)) in
-                    let e2 = held_one (RecordValue r vs) in
+                    let e1 = held_one (CompositeValue r (value_put vs n i)) in
+                    let e2 = held_one (CompositeValue r vs) in
                     let e3 = held_one i in
                     let e4 = held_one old in omega (arith, a, b, c, d, e1, e2, e3, e4)
     put_in_held (Some (IntValue n)) (x ∷ xs) w u e = absurd (cc)

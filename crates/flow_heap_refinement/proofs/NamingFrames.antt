@@ -13,7 +13,7 @@ use Rattle.flow_ast.specs.declared.predefined.Method.TheVariants as method
 use Rattle.flow_ast.specs.TypingNames.{named, call_names, method_names}
 use Rattle.flow_ast.specs.Typing.{routine_named}
 use Rattle.flow_value.specs.declared.value.Kind.TheVariants as kind
-use Rattle.flow_value.specs.Values.{ValueTree, IntValue, BoolValue, TextValue, VoidValue, ErrorValue, RecordValue, RefValue, OutcomeTree, BadOutcome}
+use Rattle.flow_value.specs.Values.{ValueTree, IntValue, BoolValue, TextValue, VoidValue, ErrorValue, CompositeValue, RefValue, OutcomeTree, BadOutcome}
 use Rattle.flow_class.specs.declared.class.Slotted.{Slotted}
 use Rattle.flow_class.specs.declared.class.Slotted.TheVariants.{Local}
 use Rattle.flow_class.specs.Classes.{CatcherTree, ClassTree, InstrTree, SetInstr, EffectInstr, NewInstr, ActInstr, DropInstr, LastTree, GotoLast, PassLast, TestLast, ChooseLast, ReturnLast, ThrowLast, CallbackTree}
@@ -28,12 +28,12 @@ use Rattle.flow_meaning.specs.Evaluating.{Names, setting, bind, StepOf, asks, gi
 use Rattle.flow_meaning.specs.Frame.{Memory, Frame, look, emptied, reversed, blanks, everything, put_at, assign, spot_of, go, next_instr, over, lose, raised, raise, with_error}
 use Rattle.flow_meaning.specs.Class as class
 use Rattle.flow_meaning.specs.Class.{begun, fresh_from}
-use Rattle.flow_heap_refinement.specs.Evaluation.{Rule, GivesFutures, Named, AllNamed, MaybeNamed, ResNamed, AllResNamed}
+use Rattle.flow_heap_refinement.specs.Evaluation.{Rule, GivesFutures, Named, AllNamed, MaybeNamed, ResNamed, AllResNamed, RefNamed}
 use Rattle.flow_heap_refinement.specs.Evaluation as names
 use Rattle.flow_heap_refinement.proofs.Evaluation.Answering.{read_in_named}
 use Rattle.flow_heap_refinement.proofs.Evaluation.Names.{eval_names, all_names}
 use Rattle.flow_heap_refinement.proofs.NamingPlaces.{arg_named, joined_named, reversed_named, filled_named, blanks_named, write_named, look_named, held_named, emptied_named, everything_named, PutNamed, put_named, assign_named}
-use Rattle.flow_heap_refinement.specs.Naming.{OutcomeNamed, RefNamed, PlacesNamed, MemoryNamed}
+use Rattle.flow_heap_refinement.specs.Naming.{OutcomeNamed, PlacesNamed, MemoryNamed}
 
 module _ (p : Rule) where
   -- asks
@@ -182,7 +182,7 @@ module _ (p : Rule) where
     method_named m (TextValue t) us n a = tt
     method_named m VoidValue us n a = tt
     method_named m (ErrorValue e) us n a = tt
-    method_named m (RecordValue r vs) us n a = tt
+    method_named m (CompositeValue r vs) us n a = tt
 
     based_named : (o : Option ValueTree) (m : Option Method) (us : List ValueTree) (left : ℕ) → MaybeNamed p o → AllNamed p us → ActRes (based_act ns v (look f.mem) o m us left)
     based_named (Some u) (Some m) us left n a = done_named (method_act m u us) left (method_named m u us n a)

@@ -6,7 +6,7 @@ use Rattle.std.specs.declared.option.Option.TheVariants.{None, Some}
 use Rattle.flow_base.specs.ErrorNumbers.{operation_cancelled, already_set, port_in_use, bad_argument, out_of_range}
 use Rattle.flow_value.specs.declared.value.Kind.{Kind}
 use Rattle.flow_value.specs.declared.value.Kind.TheVariants as kind
-use Rattle.flow_value.specs.Values.{ValueTree, IntValue, BoolValue, TextValue, VoidValue, ErrorValue, RecordValue, RefValue, OutcomeTree, GoodOutcome, BadOutcome}
+use Rattle.flow_value.specs.Values.{ValueTree, IntValue, BoolValue, TextValue, VoidValue, ErrorValue, CompositeValue, RefValue, OutcomeTree, GoodOutcome, BadOutcome}
 use Rattle.flow_draw.specs.Words.{scaled}
 use Rattle.flow_eval.specs.Predefined.{natural}
 use Rattle.flow_trace.specs.declared.line.Line.{Line}
@@ -24,9 +24,9 @@ use Rattle.flow_meaning.specs.React.{send_by, send_in, print, at_spot, wait_by, 
 use Rattle.flow_meaning.specs.Step.{proc, Stepped, view, entry_of, enrol, start_core, start, answer_effect, answer, run_next, run, give, store, fate, throw_core, throw, OperandFate, GoesOn, Cancelled, Ready, verdict, with_operand, below, leave_kept, keep_by, keep, close_actor, step_tasks, step_if}
 use Rattle.flow_meaning.specs.Frame.{Frame, lose}
 use Rattle.flow_meaning.specs.Class.{classes, class_names}
-use Rattle.flow_heap_refinement.specs.Evaluation.{Rule, GivesFutures, Named, AllNamed}
+use Rattle.flow_heap_refinement.specs.Evaluation.{Rule, GivesFutures, Named, AllNamed, RefNamed}
 use Rattle.flow_heap_refinement.specs.Naming as law
-use Rattle.flow_heap_refinement.specs.Naming.{Each, OutcomeNamed, RefNamed, RefsNamed, CellNamed, TaskNamed, TasksNamed, CoreNamed, MemoryNamed, FramesNamed, ProcNamed, HoldsNew, ActMakes, AskMakes, FrameMakes, TaskMakes, HoldsNext}
+use Rattle.flow_heap_refinement.specs.Naming.{Each, OutcomeNamed, RefsNamed, CellNamed, TaskNamed, TasksNamed, CoreNamed, MemoryNamed, FramesNamed, ProcNamed, HoldsNew, ActMakes, AskMakes, FrameMakes, TaskMakes, HoldsNext}
 use Rattle.flow_heap_refinement.proofs.NamingFrames.{EffectNamed, ActNamed, StepNamed, MaybeFrame, next_named, lose_named, store_named, take_named, raise_named, fresh_named}
 use Rattle.flow_heap_refinement.proofs.NamingWork.{each_put, each_removed, each_added, each_at, dropping_named, push_named, turn_named, fill_named, leave_named, branch_named, operands_named, cancels_named, suspend_named, drop_named, fire_named, close_named}
 
@@ -40,7 +40,7 @@ module _ (p : Rule) where
   result_named i (Kept spot) (TextValue t) c h n = n
   result_named i (Kept spot) VoidValue c h n = n
   result_named i (Kept spot) (ErrorValue e) c h n = n
-  result_named i (Kept spot) (RecordValue r vs) c h n = n
+  result_named i (Kept spot) (CompositeValue r vs) c h n = n
 
   made_named : (cell : Cell) (c : Core) → CellNamed p cell → CoreNamed p c → CoreNamed p (new_cell cell c)
   made_named cell c h n = (each_added (CellNamed p) c.cells (suc c.made) cell n.0 h, n.1, n.2)

@@ -5,7 +5,8 @@ use Rattle.std.specs.declared.option.Option.{Option}
 use Rattle.std.specs.declared.option.Option.TheVariants.{None, Some}
 use Rattle.flow_base.specs.ErrorNumbers.{operation_cancelled, second_waiter, broken_promise}
 use Rattle.flow_value.specs.declared.value.Kind.{Kind}
-use Rattle.flow_value.specs.Values.{ValueTree, ValueTrees, RecordValue, RefValue, NoValues, MoreValues, OutcomeTree, GoodOutcome, BadOutcome, refs_of, refs_of_all}
+use Rattle.flow_value.specs.Values.{ValueTree, OutcomeTree, GoodOutcome, BadOutcome, refs_of}
+use Rattle.flow_value.proofs.References.{listed_both, refs_listed}
 use Rattle.flow_numbered.specs.Numbered.{Numbered, thing, added, put, removed}
 use Rattle.flow_meaning.specs.Cells.{Side, PromiseSide, FutureSide, side_of, Ref, Waiter, Cell, Single, Stream, waiters, held, filled, taken, after_taking, left_by, with_waiter, is_busy, is_complete, is_ready}
 use Rattle.flow_meaning.specs.Requests.{Spot}
@@ -15,7 +16,7 @@ use Rattle.flow_meaning.specs.References.{Scan, reference_count, refs_in, value_
 use Rattle.flow_meaning.specs.Work.{turn_of, writes, pushed, drops, dropping_values, fill, fill_cell, free, free_cell, left_cells, running, leave_for, give, take_branch, Registration, Registered, Refused, Missing, register_at, register_one, register, is_result, owner, marked, cancel_by, cancel, cancel_owner}
 use Rattle.flow_meaning.specs.Dropping.{promises_gone, loss, port_of, suffer, lose_cell, lose_ref, drop, fire_to, fire_at, fire_cell, fire, set_result, give_result, close}
 use Rattle.flow_meaning.specs.React.{suspend}
-use Rattle.flow_heap_refinement.specs.Evaluation.{Rule, Named, FieldsNamed, AllNamed}
+use Rattle.flow_heap_refinement.specs.Evaluation.{Rule, Named, AllNamed, RefNamed}
 use Rattle.flow_heap_refinement.specs.Naming.{Each, OutcomeNamed, ContentNamed, RefsNamed, CellNamed, CellsNamed, EntriesNamed, TaskNamed, TasksNamed, CoreNamed}
 
 -- so it is with each thing after a change
@@ -50,23 +51,9 @@ module _ {A : Type 0} (P : A → Type 0) where
 
 module _ (p : Rule) where
   -- references of values
-  joined_refs : (rs qs : List Ref) → RefsNamed p rs → RefsNamed p qs → RefsNamed p (rs ++ qs)
-  joined_refs [] qs h k = k
-  joined_refs (r ∷ rs) qs h k = (h.0, joined_refs rs qs h.1 k)
-
-  mutual
-    value_refs : (v : ValueTree) → Named p v → RefsNamed p (refs_of v)
-    value_refs (RecordValue r vs) h = field_refs vs h
-    value_refs (RefValue k c) h = (h, tt)
-    value_refs _ h = tt
-
-    field_refs : (vs : ValueTrees) → FieldsNamed p vs → RefsNamed p (refs_of_all vs)
-    field_refs NoValues h = tt
-    field_refs (MoreValues v vs) h = joined_refs (refs_of v) (refs_of_all vs) (value_refs v h.0) (field_refs vs h.1)
-
   pub all_refs : (vs : List ValueTree) → AllNamed p vs → RefsNamed p (refs_in vs)
   all_refs [] h = tt
-  all_refs (v ∷ vs) h = joined_refs (refs_of v) (refs_in vs) (value_refs v h.0) (all_refs vs h.1)
+  all_refs (v ∷ vs) h = listed_both (RefNamed p) (refs_of v) (refs_in vs) (refs_listed (RefNamed p) v h.0) (all_refs vs h.1)
 
   drops_named : (rs : List Ref) (ts : List Task) → RefsNamed p rs → TasksNamed p ts → TasksNamed p (drops rs ts)
   drops_named [] ts h k = k

@@ -3,15 +3,16 @@ use Rattle.std.proofs.Common.{◌≡◌, ℕ, ◌+◌, nat_eq, Bool, true, false
 use Rattle.std.specs.Prelude.{◌&&◌, not}
 use Rattle.std.specs.declared.option.Option.{Option}
 use Rattle.std.specs.declared.option.Option.TheVariants.{None, Some}
-use Rattle.flow_value.specs.Values.{ValueTree, ValueTrees, RecordValue, RefValue, NoValues, MoreValues, OutcomeTree, GoodOutcome, BadOutcome, refs_of, refs_of_all}
-use Rattle.flow_heap_refinement.specs.Evaluation.{Named, FieldsNamed, AllNamed}
+use Rattle.flow_value.specs.Values.{ValueTree, OutcomeTree, GoodOutcome, BadOutcome, refs_of}
+use Rattle.flow_value.proofs.References.{listed_refs}
+use Rattle.flow_heap_refinement.specs.Evaluation.{Named, AllNamed, RefNamed}
 use Rattle.flow_numbered.specs.Numbered.{Numbered}
 use Rattle.flow_meaning.specs.Cells.{PromiseSide, side_of, Ref, Cell, Single, Stream, held}
 use Rattle.flow_meaning.specs.Process.{Entry, Task, Give, Store, Keep, Close, Drop}
 use Rattle.flow_meaning.specs.References.{count_kept, in_entries, same_side, refs_in, value_in, one, count, in_cells, in_task, in_tasks}
 use Rattle.flow_meaning.specs.Frame.{Memory, Frame, occ_memory}
 use Rattle.flow_heap_refinement.specs.Counted.{frames_hold}
-use Rattle.flow_heap_refinement.specs.Naming.{OutcomeNamed, RefNamed, CellNamed, CellsNamed, TaskNamed, TasksNamed, PlacesNamed, MemoryNamed, FramesNamed}
+use Rattle.flow_heap_refinement.specs.Naming.{OutcomeNamed, CellNamed, CellsNamed, TaskNamed, TasksNamed, PlacesNamed, MemoryNamed, FramesNamed, RefsNamed}
 use Rattle.flow_heap_refinement.specs.Alone as law
 use Rattle.flow_heap_refinement.specs.Alone.{spares, results_at}
 use Rattle.flow_heap_refinement.proofs.Sums.{count_joined}
@@ -25,15 +26,12 @@ module _ (k : ℕ) where
   ref_free : (r : Ref) → one PromiseSide k (side_of r.0) r.1 ≡ 0 → RefNamed (spares k) r
   ref_free r h = free (same_side PromiseSide (side_of r.0) && nat_eq k r.1) h
 
-  mutual
-    value_free : (v : ValueTree) → count PromiseSide k (refs_of v) ≡ 0 → Named (spares k) v
-    value_free (RecordValue r vs) h = fields_free vs h
-    value_free (RefValue kd c) h = ref_free (kd, c) (omega (arith, h))
-    value_free _ h = tt
+  refs_free : (rs : List Ref) → count PromiseSide k rs ≡ 0 → RefsNamed (spares k) rs
+  refs_free [] h = tt
+  refs_free (r ∷ rs) h = (ref_free r (omega (arith, h)), refs_free rs (omega (arith, h)))
 
-    fields_free : (vs : ValueTrees) → count PromiseSide k (refs_of_all vs) ≡ 0 → FieldsNamed (spares k) vs
-    fields_free NoValues h = tt
-    fields_free (MoreValues v vs) h = let a = count_joined PromiseSide k (refs_of v) (refs_of_all vs) in (value_free v (omega (arith, a, h)), fields_free vs (omega (arith, a, h)))
+  value_free : (v : ValueTree) → count PromiseSide k (refs_of v) ≡ 0 → Named (spares k) v
+  value_free v h = listed_refs (RefNamed (spares k)) v (refs_free (refs_of v) h)
 
   values_free : (vs : List ValueTree) → count PromiseSide k (refs_in vs) ≡ 0 → AllNamed (spares k) vs
   values_free [] h = tt

@@ -6,7 +6,7 @@ use Rattle.flow_tree.specs.Tree.{ExprTree, ExprTrees}
 use Rattle.flow_tree.specs.Decls.{RoutineTree}
 use Rattle.flow_value.specs.declared.value.Kind.{Kind}
 use Rattle.flow_value.specs.declared.value.Kind.TheVariants as kind
-use Rattle.flow_value.specs.Values.{ValueTree, ValueTrees, IntValue, BoolValue, TextValue, VoidValue, ErrorValue, RecordValue, RefValue, NoValues, MoreValues, GoodOutcome}
+use Rattle.flow_value.specs.Values.{ValueTree, GoodOutcome, AllRefs}
 use Rattle.flow_eval.specs.Eval.{Res, Done, Setting, eval_all}
 use Rattle.flow_eval.specs.Functions.{Eval, Call, run_function, deepest}
 
@@ -20,20 +20,12 @@ pub record GivesFutures (p : Rule) : Type 0 where
   pub stream : (k : ℕ) → p kind.PromiseStream k ≡ true → p kind.FutureStream k ≡ true
 
 module _ (p : Rule) where
-  -- each reference of a value keeps it
-  abbrev mutual
-    pub Named : ValueTree → Type 0
-    Named (IntValue n) = Unit {0}
-    Named (BoolValue b) = Unit {0}
-    Named (TextValue t) = Unit {0}
-    Named VoidValue = Unit {0}
-    Named (ErrorValue e) = Unit {0}
-    Named (RecordValue r vs) = FieldsNamed vs
-    Named (RefValue k c) = p k c ≡ true
+  abbrev pub RefNamed : Kind × ℕ → Type 0
+  RefNamed r = p r.0 r.1 ≡ true
 
-    pub FieldsNamed : ValueTrees → Type 0
-    FieldsNamed NoValues = Unit {0}
-    FieldsNamed (MoreValues v vs) = Named v × FieldsNamed vs
+  -- each reference of a value keeps it
+  abbrev pub Named : ValueTree → Type 0
+  Named = AllRefs RefNamed
 
   abbrev pub AllNamed : List ValueTree → Type 0
   AllNamed [] = Unit {0}

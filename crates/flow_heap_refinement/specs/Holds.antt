@@ -9,6 +9,7 @@ use Rattle.flow_value.specs.declared.value.Value.{Value}
 use Rattle.flow_value.specs.declared.value.Outcome.{Outcome}
 use Rattle.flow_value.specs.declared.value.Outcome.TheVariants as outcome
 use Rattle.flow_value.specs.View.{outcome_of}
+use Rattle.flow_value.specs.Values.{AllListed}
 use Rattle.flow_class.specs.Classes.{RawTree}
 use Rattle.flow_numbered.specs.Numbered as stored
 use Rattle.flow_cell.specs.declared.counts.Side as memory
@@ -54,8 +55,7 @@ pub record There (p : Proc Frame) (r : Ref) : Type 0 where
   pub right : RightCell r.0 cell
 
 abbrev pub AllThere : Proc Frame → List Ref → Type 0
-AllThere p [] = Unit {0}
-AllThere p (r ∷ rs) = There p r × AllThere p rs
+AllThere p = AllListed (There p)
 
 -- a reference counts
 abbrev pub held_cell : memory.Side → ℕ → Option (CellTree Outcome) → HeapTree → HeapTree

@@ -4,9 +4,9 @@ use Rattle.std.specs.declared.option.Option.{Option}
 use Rattle.std.specs.declared.option.Option.TheVariants.{None, Some}
 use Rattle.flow_value.specs.declared.value.Kind.{Kind}
 use Rattle.flow_value.specs.declared.value.Kind.TheVariants as kind
-use Rattle.flow_value.specs.Values.{ValueTree, OutcomeTree, GoodOutcome, BadOutcome}
+use Rattle.flow_value.specs.Values.{ValueTree, OutcomeTree, GoodOutcome, BadOutcome, AllListed}
 use Rattle.flow_class.specs.Classes.{RawTree}
-use Rattle.flow_heap_refinement.specs.Evaluation.{Rule, GivesFutures, Named, AllNamed, MaybeNamed}
+use Rattle.flow_heap_refinement.specs.Evaluation.{Rule, GivesFutures, RefNamed, Named, AllNamed, MaybeNamed}
 use Rattle.flow_numbered.specs.Numbered.{Numbered, thing}
 use Rattle.flow_meaning.specs.Cells.{Ref, Cell, Single, Stream}
 use Rattle.flow_meaning.specs.Requests.{Act, Effects, Effect, Make, Start, Draw, Delay, Never, Listen, Disk, Ask, Supply}
@@ -30,12 +30,8 @@ module _ (p : Rule) where
   ContentNamed None = Unit {0}
   ContentNamed (Some o) = OutcomeNamed o
 
-  abbrev pub RefNamed : Ref → Type 0
-  RefNamed r = p r.0 r.1 ≡ true
-
   abbrev pub RefsNamed : List Ref → Type 0
-  RefsNamed [] = Unit {0}
-  RefsNamed (r ∷ rs) = RefNamed r × RefsNamed rs
+  RefsNamed = AllListed (RefNamed p)
 
   -- what stands in cells, what actors keep, what tasks hold
   abbrev pub CellNamed : Cell → Type 0
@@ -54,7 +50,7 @@ module _ (p : Rule) where
   TaskNamed (Throw i e) = Unit {0}
   TaskNamed (Catch i e) = Unit {0}
   TaskNamed (Store i v) = Named p v
-  TaskNamed (Keep i spot r) = RefNamed r
+  TaskNamed (Keep i spot r) = RefNamed p r
   TaskNamed (Close i o) = OutcomeNamed o
   TaskNamed (Fire k) = Unit {0}
   TaskNamed (Drop kd k) = p kd k ≡ true

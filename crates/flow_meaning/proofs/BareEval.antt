@@ -6,12 +6,12 @@ use Rattle.std.specs.Str.{bytes_eq}
 use Rattle.std.specs.declared.option.Option.{Option}
 use Rattle.std.specs.declared.option.Option.TheVariants.{None, Some}
 use Rattle.flow_tree.specs.declared.ty.Ident.{Ident}
-use Rattle.flow_tree.specs.Tree.{ExprTree, ExprTrees, IntExpr, TextExpr, BoolExpr, VoidExpr, VarExpr, CallExpr, FieldExpr, MethodExpr, NotExpr, NegExpr, BinaryExpr, ParenExpr, NoExprs, MoreExprs}
+use Rattle.flow_tree.specs.Tree.{Selector, ByName, ByIndex, ExprTree, ExprTrees, IntExpr, TextExpr, BoolExpr, VoidExpr, VarExpr, CallExpr, FieldExpr, MethodExpr, NotExpr, NegExpr, BinaryExpr, ParenExpr, NoExprs, MoreExprs}
 use Rattle.flow_tree.specs.Body.{IntoTree, ChangeTree, PlusChange, MinusChange, UpChange, DownChange, Body, BlockStmt, IfStmt, IfElseStmt, WhileStmt, ForStmt, LoopStmt, ReturnStmt, ThrowStmt, TryStmt, DeclareStmt, AssignStmt, ModifyStmt, CallStmt}
 use Rattle.flow_tree.specs.Decls.{ParamTree, RoutineTree}
-use Rattle.flow_tree.specs.Canon.{placeless_ident, placeless_expr, placeless_exprs, placeless_into, placeless_change, placeless_body, placeless_param, placeless_routine}
+use Rattle.flow_tree.specs.Canon.{placeless_ident, placeless_selector, placeless_expr, placeless_exprs, placeless_into, placeless_change, placeless_body, placeless_param, placeless_routine}
 use Rattle.flow_ast.specs.declared.predefined.Predefined.{Predefined}
-use Rattle.flow_ast.specs.TypingNames.{named, call_names, method_names}
+use Rattle.flow_ast.specs.TypingNames.{named, selected, call_names}
 use Rattle.flow_ast.specs.Typing.{routine_named}
 use Rattle.flow_value.specs.declared.value.RecordId.{RecordId}
 use Rattle.flow_value.specs.Values.{ValueTree}
@@ -22,6 +22,10 @@ use Rattle.flow_eval.specs.Eval.{Res, Done, Fails, Spent, Meaningless, Setting, 
 use Rattle.flow_eval.specs.Functions.{Locals, Run, Goes, Returns, after, valued, chosen, looped, stepped, thrown, declared, put_at_var, put_place, put_path, read_path, assigned, with_first, entered, finished, scope, skip, leave_loop, change_sign, try_run, if_run, turn_run, loop_run, for_run, throw_run, declare_run, assign_run, change_operand, changed, modify_run, call_by, call_run, return_run, exec, body_run, run_function, deepest, Eval, Call}
 use Rattle.flow_meaning.specs.Placeless.{placeless_setting}
 use Rattle.flow_meaning.proofs.BareParts.{routine_bare, record_bare, field_bare, put_in_bare, read_in_bare}
+
+selected_bare : (m : Selector) → selected (placeless_selector m) ≡ selected m
+selected_bare (ByName x) = refl
+selected_bare ByIndex = refl
 
 pub then_same : {A B : Type 0} (go next : A → ℕ → Res B) (r q : Res A) → r ≡ q → ((x : A) (left : ℕ) → go x left ≡ next x left) → then r go ≡ then q next
 then_same go next (Done x left) q h f = f x left ∙ ap (λ y. then y next) h
@@ -81,10 +85,12 @@ module _ (s : Setting) (run other : Runner) (runs : (f : RoutineTree) (vs : List
         (eval b other look (placeless_expr e) left) (eval s run look e left) (eval_bare look e left)
         (λ v l. ap (λ o. at_once (field_answer o) l) (field_bare s.records v x.name))
     eval_bare look (MethodExpr e m xs) left =
-        then_same (λ v left. then (eval_all b other look (placeless_exprs xs) left) (λ vs left. at_once (method_called s.cells (named method_names m.name) v vs) left))
-        (λ v left. then (eval_all s run look xs left) (λ vs left. at_once (method_called s.cells (named method_names m.name) v vs) left))
+        ap (λ o. then (eval b other look (placeless_expr e) left) (λ v left. then (eval_all b other look (placeless_exprs xs) left) (λ vs left. at_once (method_called s.cells o v vs) left)))
+        (selected_bare m)
+        ∙ then_same (λ v left. then (eval_all b other look (placeless_exprs xs) left) (λ vs left. at_once (method_called s.cells (selected m) v vs) left))
+        (λ v left. then (eval_all s run look xs left) (λ vs left. at_once (method_called s.cells (selected m) v vs) left))
         (eval b other look (placeless_expr e) left) (eval s run look e left) (eval_bare look e left)
-        (λ v l. ap (λ r. then r (λ vs left. at_once (method_called s.cells (named method_names m.name) v vs) left)) (all_bare look xs l))
+        (λ v l. ap (λ r. then r (λ vs left. at_once (method_called s.cells (selected m) v vs) left)) (all_bare look xs l))
     eval_bare look (NotExpr e) left = ap (λ r. then r (λ v left. at_once (inverted v) left)) (eval_bare look e left)
     eval_bare look (NegExpr e) left = ap (λ r. then r (λ v left. at_once (negated v) left)) (eval_bare look e left)
     eval_bare look (BinaryExpr op x y) left =

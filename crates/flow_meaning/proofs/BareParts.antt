@@ -10,10 +10,9 @@ use Rattle.flow_tree.specs.declared.ty.Ident.{Ident}
 use Rattle.flow_tree.specs.Decls.{ParamTree, RecordTree, RoutineTree}
 use Rattle.flow_tree.specs.Canon.{placeless_ident, placeless_param, placeless_record, placeless_routine}
 use Rattle.flow_ast.specs.Typing.{routine_named, is_packet}
-use Rattle.flow_value.specs.declared.value.RecordId.{RecordId}
 use Rattle.flow_value.specs.declared.value.RecordId.TheVariants.{Packet, Declared}
-use Rattle.flow_value.specs.Values.{ValueTree, RecordValue}
-use Rattle.flow_eval.specs.Records.{record_id, place_in, field_place, at_place, field}
+use Rattle.flow_value.specs.Values.{ValueTree, CompositeValue, at_place, Whole, RecordWhole, ListWhole}
+use Rattle.flow_eval.specs.Records.{record_id, place_in, field_place, field}
 use Rattle.flow_eval.specs.Functions.{place_of, put_at, put_in, read_in}
 
 places-map : {A B : Type 0} (f : A → B) (p : B → Bool) (xs : List A) → position_or_len p (map f xs) ≡ position_or_len (λ x. p (f x)) xs
@@ -44,17 +43,18 @@ place_in_bare [] k x = refl
 place_in_bare (r ∷ rs) zero x = position-map placeless_param (λ (p : ParamTree). bytes_eq p.name.name x) r.fields
 place_in_bare (r ∷ rs) (suc k) x = place_in_bare rs k x
 
-field_place_bare : (rs : List RecordTree) (r : RecordId) (x : List ℕ) → field_place (map placeless_record rs) r x ≡ field_place rs r x
-field_place_bare rs Packet x = refl
-field_place_bare rs (Declared k) x = place_in_bare rs k x
+field_place_bare : (rs : List RecordTree) (w : Whole) (x : List ℕ) → field_place (map placeless_record rs) w x ≡ field_place rs w x
+field_place_bare rs (RecordWhole Packet) x = refl
+field_place_bare rs (RecordWhole (Declared k)) x = place_in_bare rs k x
+field_place_bare rs ListWhole x = refl
 
 module _ (rs : List RecordTree) where
   pub field_bare : (v : ValueTree) (x : List ℕ) → field (map placeless_record rs) v x ≡ field rs v x
-  field_bare (RecordValue r vs) x = ap (at_place vs) (field_place_bare rs r x)
+  field_bare (CompositeValue w vs) x = ap (at_place vs) (field_place_bare rs w x)
   field_bare v x = refl
 
   place_bare : (v : ValueTree) (x : List ℕ) → place_of (map placeless_record rs) v x ≡ place_of rs v x
-  place_bare (RecordValue r vs) x = field_place_bare rs r x
+  place_bare (CompositeValue w vs) x = field_place_bare rs w x
   place_bare v x = refl
 
   pub put_in_bare : (o : Option ValueTree) (xs : List Ident) (w : ValueTree) → put_in (map placeless_record rs) o (map placeless_ident xs) w ≡ put_in rs o xs w

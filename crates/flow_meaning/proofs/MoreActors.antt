@@ -13,7 +13,7 @@ use Rattle.flow_tree.specs.Body.{IntoTree, Body, IfStmt, IfElseStmt, BreakStmt, 
 use Rattle.flow_tree.specs.Decls.{RoutineTree, ProgramTree}
 use Rattle.flow_ast.specs.TypingNames.{named, call_names, method_names}
 use Rattle.flow_ast.specs.Typing.{routine_named}
-use Rattle.flow_value.specs.Values.{ValueTree, IntValue, BoolValue, TextValue, VoidValue, ErrorValue, RecordValue, RefValue}
+use Rattle.flow_value.specs.Values.{ValueTree, IntValue, BoolValue, TextValue, VoidValue, ErrorValue, RefValue}
 use Rattle.flow_eval.specs.Answers.{bool_of, error_of, int_of, text_of, arg}
 use Rattle.flow_eval.specs.Eval.{Res, Done, Fails, Spent, Meaningless}
 use Rattle.flow_eval.specs.MoreTurns.{Later}

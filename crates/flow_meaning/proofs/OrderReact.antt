@@ -6,7 +6,7 @@ use Rattle.std.specs.declared.option.Option.TheVariants.{None, Some}
 use Rattle.flow_base.specs.ErrorNumbers.{already_set, port_in_use, bad_argument, out_of_range}
 use Rattle.flow_value.specs.declared.value.Kind.{Kind}
 use Rattle.flow_value.specs.declared.value.Kind.TheVariants as kind
-use Rattle.flow_value.specs.Values.{ValueTree, IntValue, BoolValue, TextValue, VoidValue, ErrorValue, RecordValue, RefValue, OutcomeTree, GoodOutcome}
+use Rattle.flow_value.specs.Values.{ValueTree, IntValue, BoolValue, TextValue, VoidValue, ErrorValue, CompositeValue, RefValue, OutcomeTree, GoodOutcome}
 use Rattle.flow_draw.specs.Words.{scaled}
 use Rattle.flow_eval.specs.Predefined.{natural}
 use Rattle.flow_trace.specs.declared.line.Line.{Line}
@@ -41,7 +41,7 @@ gives_ordered i (Kept spot) (BoolValue b) c h a = tt
 gives_ordered i (Kept spot) (TextValue t) c h a = tt
 gives_ordered i (Kept spot) VoidValue c h a = tt
 gives_ordered i (Kept spot) (ErrorValue n) c h a = tt
-gives_ordered i (Kept spot) (RecordValue n vs) c h a = tt
+gives_ordered i (Kept spot) (CompositeValue n vs) c h a = tt
 
 gives_new_ordered : (i : ℕ) (goal : Goal) (k : Kind) (cell : Cell) (c : Core) → AllWait c.entries (waiters cell) → InHand i c → Awake i c → Unless Ordered (gives_new i goal k cell c)
 gives_new_ordered i goal k cell c w h a = gives_ordered i goal (RefValue k (suc c.made)) (new_cell cell c) (h.0, h.1, h.2, waits_added c.entries c.cells (suc c.made) cell w h.3, h.4) a

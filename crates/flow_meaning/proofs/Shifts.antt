@@ -6,7 +6,7 @@ use Rattle.std.specs.declared.option.Option.TheVariants.{None, Some}
 use Rattle.flow_base.specs.ErrorNumbers.{operation_cancelled, broken_promise, second_waiter, already_set, port_in_use, bad_argument, out_of_range}
 use Rattle.flow_value.specs.declared.value.Kind.{Kind}
 use Rattle.flow_value.specs.declared.value.Kind.TheVariants as kind
-use Rattle.flow_value.specs.Values.{ValueTree, IntValue, BoolValue, TextValue, VoidValue, ErrorValue, RecordValue, RefValue, OutcomeTree, GoodOutcome, BadOutcome}
+use Rattle.flow_value.specs.Values.{ValueTree, IntValue, BoolValue, TextValue, VoidValue, ErrorValue, CompositeValue, RefValue, OutcomeTree, GoodOutcome, BadOutcome}
 use Rattle.flow_draw.specs.Words.{scaled}
 use Rattle.flow_eval.specs.Predefined.{natural}
 use Rattle.flow_trace.specs.declared.line.Line.{Line}
@@ -82,7 +82,7 @@ gives_shifts i (Kept spot) (BoolValue b) c a = tt
 gives_shifts i (Kept spot) (TextValue t) c a = tt
 gives_shifts i (Kept spot) VoidValue c a = tt
 gives_shifts i (Kept spot) (ErrorValue n) c a = tt
-gives_shifts i (Kept spot) (RecordValue n vs) c a = tt
+gives_shifts i (Kept spot) (CompositeValue n vs) c a = tt
 
 gives_new_shifts : (i : ℕ) (goal : Goal) (k : Kind) (cell : Cell) (c : Core) → Awake i c → Unless (Shifts i Due c) (gives_new i goal k cell c)
 gives_new_shifts i goal k cell c a = gives_shifts i goal (RefValue k (suc c.made)) (new_cell cell c) a

@@ -11,7 +11,7 @@ use Rattle.flow_class.specs.declared.class.Slotted.{Slotted}
 use Rattle.flow_class.specs.Classes.{InstrTree, SetInstr, EffectInstr, NewInstr, ActInstr, DropInstr, LastTree, GotoLast, PassLast, TestLast, ChooseLast, ReturnLast, ThrowLast, CallbackTree, ClassTree, RawTree}
 use Rattle.flow_meaning.specs.Requests.{Spot, Make, Goal, Stored, Kept, Goes, Pass, Drops, Effects, Operand, Waits, Returns, Throws}
 use Rattle.flow_meaning.specs.Process.{View, Engine}
-use Rattle.flow_meaning.specs.Evaluating.{Names, bind, StepOf, asks, quietly, stuck, given, evaluated, Effectful, effect_in, effect_of, value, values, call_act}
+use Rattle.flow_meaning.specs.Evaluating.{Names, bind, StepOf, asks, quietly, stuck, given, evaluated, Effectful, effect_in, effect_of, value, values, call_statement}
 use Rattle.flow_meaning.specs.Source.{main_of}
 use Rattle.flow_class.specs.Code.{type_at, Fetched, Body, Last, Nothing, fetch, callback_at}
 use Rattle.flow_meaning.specs.Frame.{Memory, Frame, look, held_in, emptied, blanks, everything, occ_memory, put_at, assign, spot_of, go, next_instr, over, lose, raise}
@@ -36,7 +36,7 @@ module _ (ns : Names) (v : View) (f : Frame) where
   instruction (SetInstr path e) = evaluated f (value ns v (look f.mem) e) (λ u left. given f (assign ns.records f.mem path u) (placed left))
   instruction (EffectInstr path e) = given f (effect_in ns e) (effects Stored)
   instruction (NewInstr p) = given f (bind (type_at f.code p) promise_kind) (λ k. asks v.left (Effects Stored (Make k)) f)
-  instruction (ActInstr path es) = evaluated f (call_act ns v (look f.mem) path es) (λ act left. asks left act (next_instr f.mem f))
+  instruction (ActInstr path es) = call_statement ns v (look f.mem) f (next_instr f.mem f) path es
   instruction (DropInstr locals) = asks v.left (Drops (held_in f.mem locals)) (next_instr (emptied locals f.mem) f)
 
   abbrev pub test : (left : ℕ) → Option Bool → (yes no : ℕ) → StepOf Frame

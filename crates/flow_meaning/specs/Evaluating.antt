@@ -168,3 +168,7 @@ module _ (ns : Names) (v : View) (look : Look) where
   call_act (x ∷ y ∷ ys) es =
       then (values es) (λ vs left. based_act (read_in ns.records (look x.name) (before_last y ys))
       (named method_names (last_of y ys).name) vs left)
+
+  -- a call statement, by an actor that is `after` behind it: both kinds of actors ask its act
+  abbrev pub call_statement : {A : Type 0} → (now after : A) → List Ident → ExprTrees → StepOf A
+  call_statement now after path es = evaluated now (call_act path es) (λ act left. asks left act after)

@@ -11,7 +11,7 @@ use Rattle.flow_eval.specs.Answers.{bool_of, error_of}
 use Rattle.flow_eval.specs.Functions.{default_value}
 use Rattle.flow_meaning.specs.Requests.{Spot, Make, Goal, Stored, Kept, Goes, Pass, Drops, Effects, Operand, Waits, Returns, Throws}
 use Rattle.flow_meaning.specs.Process.{View}
-use Rattle.flow_meaning.specs.Evaluating.{Names, bind, StepOf, asks, quietly, stuck, given, evaluated, Effectful, effect_in, effect_of, value, values, call_act}
+use Rattle.flow_meaning.specs.Evaluating.{Names, bind, StepOf, asks, quietly, stuck, given, evaluated, Effectful, effect_in, effect_of, value, values, call_statement}
 use Rattle.flow_meaning.specs.Variables.{Vars, look}
 use Rattle.flow_meaning.specs.Items.{Site, Loop, Single, OneOf, Target, Declared, Path, Item, Do, Leave, Round, Check, Made, Handler, Over, Actor, actor, over, site_past, entered, left_scope, everything, put_goal, change, operand, lose}
 
@@ -136,8 +136,7 @@ module _ (ns : Names) (v : View) where
   do_body a s (DeclareStmt at i e k) r = declares a i e (Do s k ∷ r)
   do_body a s (AssignStmt at xs e k) r = store a (Path xs) e (Do s k ∷ r)
   do_body a s (ModifyStmt at xs c k) r = given a (change xs c) (λ e. store a (Path xs) e (Do s k ∷ r))
-  do_body a s (CallStmt at xs es k) r = evaluated a (call_act ns v (look a.vars) xs es)
-      (λ act left. asks left act (actor a.vars (Do s k ∷ r)))
+  do_body a s (CallStmt at xs es k) r = call_statement ns v (look a.vars) a (actor a.vars (Do s k ∷ r)) xs es
   do_body a s (WaitStmt at w k) r = await a s.spot (operand (Single w) v.kept)
 
   -- a pass of a loop, if the condition holds

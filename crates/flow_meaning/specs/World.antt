@@ -11,7 +11,7 @@ use Rattle.flow_worldfile.specs.Worlds as file
 use Rattle.flow_worldfile.specs.declared.directive.Order.{Order}
 use Rattle.flow_worldfile.specs.declared.directive.Order.TheVariants.{Kill, Stop, Boot, Cut, Heal, DiskFail}
 use Rattle.flow_value.specs.declared.value.RecordId.TheVariants as record_id
-use Rattle.flow_value.specs.Values.{ValueTree, IntValue, TextValue, VoidValue, RecordValue, OutcomeTree, GoodOutcome, BadOutcome, values_of_list}
+use Rattle.flow_value.specs.Values.{ValueTree, IntValue, TextValue, VoidValue, CompositeValue, OutcomeTree, GoodOutcome, BadOutcome, values_of_list, RecordWhole}
 use Rattle.flow_draw.specs.Words.{word_at}
 use Rattle.flow_numbered.specs.Numbered.{thing}
 use Rattle.flow_meaning.specs.Requests.{DiskCall, ReadCall, WriteCall, SyncCall, SizeCall}
@@ -150,7 +150,7 @@ ordered e (DiskFail p n) at w =
 
 -- a packet as a value
 abbrev pub packet : (from port : ℕ) → List ℕ → ValueTree
-packet from port text = RecordValue record_id.Packet (values_of_list (IntValue (pos from) ∷ IntValue (pos port) ∷ TextValue text ∷ []))
+packet from port text = CompositeValue (RecordWhole record_id.Packet) (values_of_list (IntValue (pos from) ∷ IntValue (pos port) ∷ TextValue text ∷ []))
 
 -- a packet goes to the stream of its port, or is discarded where the process is down or nobody listens
 abbrev pub arrived : {A : Type 0} → (number from port : ℕ) → List ℕ → Place A → Outside → Option ℕ → Begun A

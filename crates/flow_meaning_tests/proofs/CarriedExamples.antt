@@ -4,7 +4,7 @@ use Rattle.std.specs.Prelude.{pos, true, false, codes}
 use Rattle.std.specs.Fmt.{digits}
 use Rattle.std.specs.declared.option.Option.TheVariants.{None, Some}
 use Rattle.flow_tree.specs.declared.expr.Op.TheVariants.{Add, Mul, Lt}
-use Rattle.flow_tree.specs.Tree.{IntType, VoidType, ErrorType, IntExpr, VoidExpr, VarExpr, CallExpr, MethodExpr, BinaryExpr, NoExprs, MoreExprs}
+use Rattle.flow_tree.specs.Tree.{ByName, IntType, VoidType, ErrorType, IntExpr, VoidExpr, VarExpr, CallExpr, MethodExpr, BinaryExpr, NoExprs, MoreExprs}
 use Rattle.flow_tree.specs.Body.{End, WhileStmt, ReturnStmt, TryStmt, ChooseStmt, DeclareStmt, AssignStmt, CallStmt, WaitStmt, NoBranches, MoreBranches}
 use Rattle.flow_tree.specs.Decls.{ActorDecl, ProgramTree}
 use Rattle.flow_class.specs.declared.class.Slotted.TheVariants.{Slot, Local}
@@ -25,7 +25,7 @@ overflow_caught_program = record {
     params = ((record { ty = IntType; name = (id (codes "p")) }) ∷ []);
     body = (TryStmt nowhere (DeclareStmt nowhere (record { state = false; ty = IntType; name = (id (codes "x")) }) (Some (IntExpr (pos 9223372036854775807)))
         (CallStmt nowhere ((id (codes "trace")) ∷ []) (MoreExprs (BinaryExpr Add (VarExpr (id (codes "x"))) (IntExpr (pos 1))) NoExprs) End)) nowhere (id (codes "e"))
-        (CallStmt nowhere ((id (codes "trace")) ∷ []) (MoreExprs (MethodExpr (VarExpr (id (codes "e"))) (id (codes "code")) NoExprs) NoExprs) End) (ReturnStmt nowhere VoidExpr End));
+        (CallStmt nowhere ((id (codes "trace")) ∷ []) (MoreExprs (MethodExpr (VarExpr (id (codes "e"))) (ByName (id (codes "code"))) NoExprs) NoExprs) End) (ReturnStmt nowhere VoidExpr End));
     close = nowhere;
   }))
       ∷ []);
@@ -51,7 +51,7 @@ overflow_caught_classes = record {
         })
         ∷ (record {
           catcher = None;
-          body = ((ActInstr ((id (codes "trace")) ∷ []) (MoreExprs (MethodExpr (VarExpr (id (codes "l1"))) (id (codes "code")) NoExprs) NoExprs)) ∷ (DropInstr (1 ∷ [])) ∷ []);
+          body = ((ActInstr ((id (codes "trace")) ∷ []) (MoreExprs (MethodExpr (VarExpr (id (codes "l1"))) (ByName (id (codes "code"))) NoExprs) NoExprs)) ∷ (DropInstr (1 ∷ [])) ∷ []);
           last = (GotoLast 3);
         }) ∷ (record { catcher = None; body = []; last = (ReturnLast VoidExpr) }) ∷ []);
     groups = [];

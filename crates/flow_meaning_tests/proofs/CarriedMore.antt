@@ -4,7 +4,7 @@ use Rattle.std.specs.Prelude.{pos, true, false, codes}
 use Rattle.std.specs.Fmt.{digits}
 use Rattle.std.specs.declared.option.Option.TheVariants.{None, Some}
 use Rattle.flow_tree.specs.declared.expr.Op.TheVariants.{Eq, Lt, Gt, Add}
-use Rattle.flow_tree.specs.Tree.{IntType, VoidType, ErrorType, FutureType, IntExpr, TextExpr, BoolExpr, VoidExpr, VarExpr, CallExpr, MethodExpr, BinaryExpr, ParenExpr, NoExprs, MoreExprs}
+use Rattle.flow_tree.specs.Tree.{ByName, IntType, VoidType, ErrorType, FutureType, IntExpr, TextExpr, BoolExpr, VoidExpr, VarExpr, CallExpr, MethodExpr, BinaryExpr, ParenExpr, NoExprs, MoreExprs}
 use Rattle.flow_tree.specs.Body.{PlusChange, End, IfStmt, WhileStmt, ForStmt, LoopStmt, BreakStmt, ContinueStmt, ReturnStmt, ThrowStmt, TryStmt, ChooseStmt, DeclareStmt, AssignStmt, ModifyStmt, CallStmt, WaitStmt, NoBranches, MoreBranches}
 use Rattle.flow_tree.specs.Decls.{ActorDecl, ProgramTree}
 use Rattle.flow_class.specs.declared.class.Slotted.TheVariants.{Slot, Local}
@@ -28,7 +28,7 @@ break_out_of_try_program = record {
         (IfStmt nowhere (BinaryExpr Eq (VarExpr (id (codes "a"))) (IntExpr (pos 2)))
         (DeclareStmt nowhere (record { state = false; ty = IntType; name = (id (codes "b")) }) (Some (VarExpr (id (codes "a")))) (BreakStmt nowhere End))
         (AssignStmt nowhere ((id (codes "n")) ∷ []) (BinaryExpr Add (VarExpr (id (codes "a"))) (IntExpr (pos 1))) (ContinueStmt nowhere End)))) nowhere (id (codes "e"))
-        (CallStmt nowhere ((id (codes "trace")) ∷ []) (MoreExprs (MethodExpr (VarExpr (id (codes "e"))) (id (codes "code")) NoExprs) NoExprs) End) End) (ReturnStmt nowhere VoidExpr End)));
+        (CallStmt nowhere ((id (codes "trace")) ∷ []) (MoreExprs (MethodExpr (VarExpr (id (codes "e"))) (ByName (id (codes "code"))) NoExprs) NoExprs) End) End) (ReturnStmt nowhere VoidExpr End)));
     close = nowhere;
   })) ∷ []);
   end = nowhere;
@@ -65,7 +65,7 @@ break_out_of_try_classes = record {
         ∷ (record { catcher = None; body = ((DropInstr (0 ∷ [])) ∷ []); last = (PassLast 1) })
         ∷ (record {
           catcher = None;
-          body = ((ActInstr ((id (codes "trace")) ∷ []) (MoreExprs (MethodExpr (VarExpr (id (codes "l2"))) (id (codes "code")) NoExprs) NoExprs)) ∷ (DropInstr (2 ∷ [])) ∷ []);
+          body = ((ActInstr ((id (codes "trace")) ∷ []) (MoreExprs (MethodExpr (VarExpr (id (codes "l2"))) (ByName (id (codes "code"))) NoExprs) NoExprs)) ∷ (DropInstr (2 ∷ [])) ∷ []);
           last = (GotoLast 8);
         }) ∷ (record { catcher = None; body = []; last = (PassLast 1) }) ∷ (record { catcher = None; body = []; last = (ReturnLast VoidExpr) }) ∷ []);
     groups = [];
@@ -233,10 +233,10 @@ effect_as_step_program = record {
         params = ((record { ty = IntType; name = (id (codes "p")) }) ∷ []);
         body = (DeclareStmt nowhere (record { state = false; ty = (FutureType IntType); name = (id (codes "f")) }) (Some (CallExpr (id (codes "one")) (MoreExprs (IntExpr (pos 0)) NoExprs)))
             (ForStmt nowhere (DeclareStmt nowhere (record { state = false; ty = IntType; name = (id (codes "i")) }) (Some (IntExpr (pos 0))) End)
-            (Some (BinaryExpr Lt (MethodExpr (VarExpr (id (codes "f"))) (id (codes "get")) NoExprs) (IntExpr (pos 2))))
+            (Some (BinaryExpr Lt (MethodExpr (VarExpr (id (codes "f"))) (ByName (id (codes "get"))) NoExprs) (IntExpr (pos 2))))
             (AssignStmt nowhere ((id (codes "f")) ∷ []) (CallExpr (id (codes "one")) (MoreExprs (VarExpr (id (codes "i"))) NoExprs)) End)
             (ModifyStmt nowhere ((id (codes "i")) ∷ []) (PlusChange (IntExpr (pos 1)))
-            (CallStmt nowhere ((id (codes "trace")) ∷ []) (MoreExprs (MethodExpr (VarExpr (id (codes "f"))) (id (codes "get")) NoExprs) NoExprs) End)) (ReturnStmt nowhere VoidExpr End)));
+            (CallStmt nowhere ((id (codes "trace")) ∷ []) (MoreExprs (MethodExpr (VarExpr (id (codes "f"))) (ByName (id (codes "get"))) NoExprs) NoExprs) End)) (ReturnStmt nowhere VoidExpr End)));
         close = nowhere;
       }))
       ∷ []);
@@ -268,11 +268,11 @@ effect_as_step_classes = record {
               ∷ (SetInstr ((id (codes "l1")) ∷ []) (IntExpr (pos 0))) ∷ []);
           last = (PassLast 1);
         })
-            ∷ (record { catcher = None; body = []; last = (TestLast (BinaryExpr Lt (MethodExpr (VarExpr (id (codes "l0"))) (id (codes "get")) NoExprs) (IntExpr (pos 2))) 2 3) })
+            ∷ (record { catcher = None; body = []; last = (TestLast (BinaryExpr Lt (MethodExpr (VarExpr (id (codes "l0"))) (ByName (id (codes "get"))) NoExprs) (IntExpr (pos 2))) 2 3) })
             ∷ (record {
               catcher = None;
               body = ((SetInstr ((id (codes "l1")) ∷ []) (BinaryExpr Add (VarExpr (id (codes "l1"))) (ParenExpr (IntExpr (pos 1)))))
-                  ∷ (ActInstr ((id (codes "trace")) ∷ []) (MoreExprs (MethodExpr (VarExpr (id (codes "l0"))) (id (codes "get")) NoExprs) NoExprs))
+                  ∷ (ActInstr ((id (codes "trace")) ∷ []) (MoreExprs (MethodExpr (VarExpr (id (codes "l0"))) (ByName (id (codes "get"))) NoExprs) NoExprs))
                   ∷ (EffectInstr ((id (codes "l0")) ∷ []) (CallExpr (id (codes "one")) (MoreExprs (VarExpr (id (codes "l1"))) NoExprs))) ∷ []);
               last = (PassLast 1);
             })
@@ -431,7 +431,7 @@ catch_around_loop_program = record {
         (DeclareStmt nowhere (record { state = false; ty = IntType; name = (id (codes "after")) }) (Some (VarExpr (id (codes "n"))))
         (IfStmt nowhere (BinaryExpr Gt (VarExpr (id (codes "after"))) (IntExpr (pos 2))) (ThrowStmt nowhere (Some (CallExpr (id (codes "timed_out")) NoExprs)) End) End))))) End) nowhere
         (id (codes "e"))
-        (CallStmt nowhere ((id (codes "trace")) ∷ []) (MoreExprs (MethodExpr (VarExpr (id (codes "e"))) (id (codes "code")) NoExprs) NoExprs) End) (ReturnStmt nowhere VoidExpr End)));
+        (CallStmt nowhere ((id (codes "trace")) ∷ []) (MoreExprs (MethodExpr (VarExpr (id (codes "e"))) (ByName (id (codes "code"))) NoExprs) NoExprs) End) (ReturnStmt nowhere VoidExpr End)));
     close = nowhere;
   }))
       ∷ []);
@@ -463,7 +463,7 @@ catch_around_loop_classes = record {
         ∷ (record { catcher = None; body = ((DropInstr (1 ∷ 0 ∷ [])) ∷ []); last = (PassLast 2) }) ∷ (record { catcher = None; body = []; last = (GotoLast 8) })
         ∷ (record {
           catcher = None;
-          body = ((ActInstr ((id (codes "trace")) ∷ []) (MoreExprs (MethodExpr (VarExpr (id (codes "l2"))) (id (codes "code")) NoExprs) NoExprs)) ∷ (DropInstr (2 ∷ [])) ∷ []);
+          body = ((ActInstr ((id (codes "trace")) ∷ []) (MoreExprs (MethodExpr (VarExpr (id (codes "l2"))) (ByName (id (codes "code"))) NoExprs) NoExprs)) ∷ (DropInstr (2 ∷ [])) ∷ []);
           last = (GotoLast 8);
         }) ∷ (record { catcher = None; body = []; last = (ReturnLast VoidExpr) }) ∷ []);
     groups = (((record { next = false; operand = (CallExpr (id (codes "delay")) (MoreExprs (IntExpr (pos 1)) NoExprs)); into = None; block = 3 }) ∷ []) ∷ []);

@@ -6,7 +6,7 @@ use Rattle.flow_trace.specs.declared.line.Line.{Line}
 use Rattle.flow_trace.specs.declared.line.Line.TheVariants as line
 use Rattle.flow_worldfile.specs.Worlds.{World}
 use Rattle.flow_worldfile.specs.declared.directive.Order.TheVariants as order
-use Rattle.flow_tree.specs.Tree.{IntType, VoidType, ErrorType, FutureType, PromiseType, IntExpr, TextExpr, VoidExpr, VarExpr, CallExpr, MethodExpr, NoExprs, MoreExprs}
+use Rattle.flow_tree.specs.Tree.{ByName, IntType, VoidType, ErrorType, FutureType, PromiseType, IntExpr, TextExpr, VoidExpr, VarExpr, CallExpr, MethodExpr, NoExprs, MoreExprs}
 use Rattle.flow_tree.specs.Body.{End, LoopStmt, ReturnStmt, TryStmt, DeclareStmt, AssignStmt, CallStmt, WaitStmt}
 use Rattle.flow_tree.specs.Decls.{ActorDecl, ProgramTree}
 use Rattle.flow_meaning.specs.Runs.{SourceTrace, ClassTrace}
@@ -36,7 +36,7 @@ dropped_while_running_program = record {
         params = ((record { ty = IntType; name = (id (codes "p")) }) ∷ []);
         body = (DeclareStmt nowhere (record { state = true; ty = (PromiseType VoidType); name = (id (codes "go")) }) None
             (DeclareStmt nowhere (record { state = true; ty = (FutureType VoidType); name = (id (codes "f")) }) (Some (CallExpr (id (codes "a")) (MoreExprs (VarExpr (id (codes "go"))) NoExprs)))
-            (WaitStmt nowhere (record { into = None; next = false; operand = (MethodExpr (VarExpr (id (codes "go"))) (id (codes "getFuture")) NoExprs) })
+            (WaitStmt nowhere (record { into = None; next = false; operand = (MethodExpr (VarExpr (id (codes "go"))) (ByName (id (codes "getFuture"))) NoExprs) })
             (AssignStmt nowhere ((id (codes "f")) ∷ []) (CallExpr (id (codes "Never")) NoExprs)
             (CallStmt nowhere ((id (codes "trace")) ∷ []) (MoreExprs (TextExpr (codes "dropped")) NoExprs) (ReturnStmt nowhere VoidExpr End))))));
         close = nowhere;
@@ -108,7 +108,7 @@ dropped_while_running_classes = record {
               ∷ (ActInstr ((id (codes "trace")) ∷ []) (MoreExprs (TextExpr (codes "dropped")) NoExprs)) ∷ []);
           last = (ReturnLast VoidExpr);
         }) ∷ []);
-        groups = (((record { next = false; operand = (MethodExpr (VarExpr (id (codes "s1"))) (id (codes "getFuture")) NoExprs); into = None; block = 1 }) ∷ []) ∷ []);
+        groups = (((record { next = false; operand = (MethodExpr (VarExpr (id (codes "s1"))) (ByName (id (codes "getFuture"))) NoExprs); into = None; block = 1 }) ∷ []) ∷ []);
       }) ∷ []);
 }
 
@@ -229,7 +229,7 @@ cancel_by_name_program = record {
         params = ((record { ty = IntType; name = (id (codes "p")) }) ∷ []);
         body = (DeclareStmt nowhere (record { state = true; ty = (FutureType VoidType); name = (id (codes "f")) }) (Some (CallExpr (id (codes "leaf")) (MoreExprs (IntExpr (pos 1)) NoExprs)))
             (CallStmt nowhere ((id (codes "f")) ∷ (id (codes "cancel")) ∷ []) NoExprs
-            (CallStmt nowhere ((id (codes "trace")) ∷ []) (MoreExprs (MethodExpr (VarExpr (id (codes "f"))) (id (codes "isError")) NoExprs) NoExprs) (ReturnStmt nowhere VoidExpr End))));
+            (CallStmt nowhere ((id (codes "trace")) ∷ []) (MoreExprs (MethodExpr (VarExpr (id (codes "f"))) (ByName (id (codes "isError"))) NoExprs) NoExprs) (ReturnStmt nowhere VoidExpr End))));
         close = nowhere;
       }))
       ∷ []);
@@ -266,7 +266,7 @@ catch_forever_is_spent_program = record {
     name = (id (codes "main"));
     params = ((record { ty = IntType; name = (id (codes "p")) }) ∷ []);
     body = (LoopStmt nowhere (TryStmt nowhere (WaitStmt nowhere (record { into = None; next = false; operand = (CallExpr (id (codes "Never")) NoExprs) }) End) nowhere (id (codes "e"))
-        (CallStmt nowhere ((id (codes "trace")) ∷ []) (MoreExprs (MethodExpr (VarExpr (id (codes "e"))) (id (codes "code")) NoExprs) NoExprs) End) End) End);
+        (CallStmt nowhere ((id (codes "trace")) ∷ []) (MoreExprs (MethodExpr (VarExpr (id (codes "e"))) (ByName (id (codes "code"))) NoExprs) NoExprs) End) End) End);
     close = nowhere;
   })) ∷ []);
   end = nowhere;
@@ -312,7 +312,7 @@ catch_forever_is_spent_classes = record {
         ∷ (record { catcher = (Some (record { block = 4; error = (Some 0); drops = [] })); body = []; last = (ChooseLast 1) }) ∷ (record { catcher = None; body = []; last = (GotoLast 5) })
         ∷ (record {
           catcher = None;
-          body = ((ActInstr ((id (codes "trace")) ∷ []) (MoreExprs (MethodExpr (VarExpr (id (codes "l0"))) (id (codes "code")) NoExprs) NoExprs)) ∷ (DropInstr (0 ∷ [])) ∷ []);
+          body = ((ActInstr ((id (codes "trace")) ∷ []) (MoreExprs (MethodExpr (VarExpr (id (codes "l0"))) (ByName (id (codes "code"))) NoExprs) NoExprs)) ∷ (DropInstr (0 ∷ [])) ∷ []);
           last = (GotoLast 5);
         }) ∷ (record { catcher = None; body = []; last = (PassLast 1) }) ∷ []);
     groups = (((record { next = false; operand = (CallExpr (id (codes "Never")) NoExprs); into = None; block = 3 }) ∷ []) ∷ []);

@@ -7,7 +7,7 @@ use Rattle.flow_trace.specs.declared.line.Line.TheVariants as line
 use Rattle.flow_worldfile.specs.Worlds.{World}
 use Rattle.flow_worldfile.specs.declared.directive.Order.TheVariants as order
 use Rattle.flow_tree.specs.declared.expr.Op.TheVariants.{Eq, Lt, Gt, Sub, Div}
-use Rattle.flow_tree.specs.Tree.{IntType, VoidType, NamedType, FutureType, FutureStreamType, PromiseType, PromiseStreamType, IntExpr, TextExpr, VoidExpr, VarExpr, CallExpr, FieldExpr, MethodExpr, BinaryExpr, NoExprs, MoreExprs}
+use Rattle.flow_tree.specs.Tree.{ByName, IntType, VoidType, NamedType, FutureType, FutureStreamType, PromiseType, PromiseStreamType, IntExpr, TextExpr, VoidExpr, VarExpr, CallExpr, FieldExpr, MethodExpr, BinaryExpr, NoExprs, MoreExprs}
 use Rattle.flow_tree.specs.Body.{UpChange, End, IfStmt, IfElseStmt, WhileStmt, LoopStmt, ReturnStmt, TryStmt, ChooseStmt, DeclareStmt, AssignStmt, ModifyStmt, CallStmt, WaitStmt, NoBranches, MoreBranches}
 use Rattle.flow_tree.specs.Decls.{StructDecl, ActorDecl, ProgramTree}
 use Rattle.flow_meaning.specs.Runs.{SourceTrace}
@@ -97,7 +97,7 @@ second_test_program = record {
         name = (id (codes "main"));
         params = ((record { ty = IntType; name = (id (codes "p")) }) ∷ []);
         body = (DeclareStmt nowhere (record { state = true; ty = (PromiseType VoidType); name = (id (codes "q")) }) None
-            (ChooseStmt nowhere (MoreBranches nowhere (record { into = None; next = false; operand = (MethodExpr (VarExpr (id (codes "q"))) (id (codes "getFuture")) NoExprs) })
+            (ChooseStmt nowhere (MoreBranches nowhere (record { into = None; next = false; operand = (MethodExpr (VarExpr (id (codes "q"))) (ByName (id (codes "getFuture"))) NoExprs) })
             (CallStmt nowhere ((id (codes "trace")) ∷ []) (MoreExprs (TextExpr (codes "first")) NoExprs) End)
             (MoreBranches nowhere (record { into = None; next = false; operand = (CallExpr (id (codes "starter")) (MoreExprs (VarExpr (id (codes "q"))) NoExprs)) })
             (CallStmt nowhere ((id (codes "trace")) ∷ []) (MoreExprs (TextExpr (codes "second")) NoExprs) End) NoBranches)) (ReturnStmt nowhere VoidExpr End)));
@@ -145,7 +145,7 @@ own_test_before_second_program = record {
         name = (id (codes "main"));
         params = ((record { ty = IntType; name = (id (codes "p")) }) ∷ []);
         body = (DeclareStmt nowhere (record { state = true; ty = (PromiseType VoidType); name = (id (codes "q")) }) None
-            (ChooseStmt nowhere (MoreBranches nowhere (record { into = None; next = false; operand = (MethodExpr (VarExpr (id (codes "q"))) (id (codes "getFuture")) NoExprs) })
+            (ChooseStmt nowhere (MoreBranches nowhere (record { into = None; next = false; operand = (MethodExpr (VarExpr (id (codes "q"))) (ByName (id (codes "getFuture"))) NoExprs) })
             (CallStmt nowhere ((id (codes "trace")) ∷ []) (MoreExprs (TextExpr (codes "first")) NoExprs) End)
             (MoreBranches nowhere (record { into = None; next = false; operand = (CallExpr (id (codes "quick")) (MoreExprs (VarExpr (id (codes "q"))) NoExprs)) })
             (CallStmt nowhere ((id (codes "trace")) ∷ []) (MoreExprs (TextExpr (codes "second")) NoExprs) End) NoBranches)) (ReturnStmt nowhere VoidExpr End)));
@@ -195,7 +195,7 @@ error_in_second_operand_program = record {
             (ChooseStmt nowhere (MoreBranches nowhere (record { into = None; next = false; operand = (CallExpr (id (codes "leaf")) (MoreExprs (IntExpr (pos 3)) NoExprs)) }) End
             (MoreBranches nowhere (record { into = None; next = false; operand = (CallExpr (id (codes "delay")) (MoreExprs (BinaryExpr Div (IntExpr (pos 1)) (VarExpr (id (codes "p")))) NoExprs)) })
             End
-            NoBranches)) End)) nowhere (id (codes "e")) (CallStmt nowhere ((id (codes "trace")) ∷ []) (MoreExprs (MethodExpr (VarExpr (id (codes "e"))) (id (codes "code")) NoExprs) NoExprs) End)
+            NoBranches)) End)) nowhere (id (codes "e")) (CallStmt nowhere ((id (codes "trace")) ∷ []) (MoreExprs (MethodExpr (VarExpr (id (codes "e"))) (ByName (id (codes "code"))) NoExprs) NoExprs) End)
             (ReturnStmt nowhere VoidExpr End)));
         close = nowhere;
       })) ∷ []);
@@ -257,14 +257,14 @@ refused_registration_program = record {
             (MoreBranches nowhere (record {
               into = (Some (record { state = false; ty = IntType; name = (id (codes "a")) }));
               next = true;
-              operand = (MethodExpr (VarExpr (id (codes "q"))) (id (codes "getFuture")) NoExprs);
+              operand = (MethodExpr (VarExpr (id (codes "q"))) (ByName (id (codes "getFuture"))) NoExprs);
             }) End
             (MoreBranches nowhere (record {
               into = (Some (record { state = false; ty = IntType; name = (id (codes "b")) }));
               next = true;
-              operand = (MethodExpr (VarExpr (id (codes "q"))) (id (codes "getFuture")) NoExprs);
+              operand = (MethodExpr (VarExpr (id (codes "q"))) (ByName (id (codes "getFuture"))) NoExprs);
             }) End NoBranches))) End) nowhere (id (codes "e"))
-            (CallStmt nowhere ((id (codes "trace")) ∷ []) (MoreExprs (MethodExpr (VarExpr (id (codes "e"))) (id (codes "code")) NoExprs) NoExprs) End) (ReturnStmt nowhere VoidExpr End))));
+            (CallStmt nowhere ((id (codes "trace")) ∷ []) (MoreExprs (MethodExpr (VarExpr (id (codes "e"))) (ByName (id (codes "code"))) NoExprs) NoExprs) End) (ReturnStmt nowhere VoidExpr End))));
         close = nowhere;
       }))
       ∷ []);
@@ -338,9 +338,9 @@ cancelled_while_starting_program = record {
         body = (DeclareStmt nowhere (record { state = true; ty = (PromiseType VoidType); name = (id (codes "go")) }) None
             (DeclareStmt nowhere (record { state = true; ty = (PromiseType VoidType); name = (id (codes "tell")) }) None
             (DeclareStmt nowhere (record { state = true; ty = (FutureType VoidType); name = (id (codes "v")) })
-            (Some (CallExpr (id (codes "victim")) (MoreExprs (MethodExpr (VarExpr (id (codes "go"))) (id (codes "getFuture")) NoExprs) (MoreExprs (VarExpr (id (codes "tell"))) NoExprs))))
+            (Some (CallExpr (id (codes "victim")) (MoreExprs (MethodExpr (VarExpr (id (codes "go"))) (ByName (id (codes "getFuture"))) NoExprs) (MoreExprs (VarExpr (id (codes "tell"))) NoExprs))))
             (DeclareStmt nowhere (record { state = true; ty = (FutureType VoidType); name = (id (codes "k")) })
-            (Some (CallExpr (id (codes "killer")) (MoreExprs (MethodExpr (VarExpr (id (codes "tell"))) (id (codes "getFuture")) NoExprs) (MoreExprs (VarExpr (id (codes "v"))) NoExprs))))
+            (Some (CallExpr (id (codes "killer")) (MoreExprs (MethodExpr (VarExpr (id (codes "tell"))) (ByName (id (codes "getFuture"))) NoExprs) (MoreExprs (VarExpr (id (codes "v"))) NoExprs))))
             (AssignStmt nowhere ((id (codes "v")) ∷ []) (CallExpr (id (codes "Never")) NoExprs)
             (CallStmt nowhere ((id (codes "go")) ∷ (id (codes "send")) ∷ []) (MoreExprs VoidExpr NoExprs)
             (CallStmt nowhere ((id (codes "trace")) ∷ []) (MoreExprs (TextExpr (codes "after")) NoExprs) (ReturnStmt nowhere VoidExpr End))))))));
@@ -405,7 +405,7 @@ promise_again_in_loop_program = record {
     name = (id (codes "watch"));
     params = ((record { ty = (FutureType VoidType); name = (id (codes "f")) }) ∷ []);
     body = (TryStmt nowhere (WaitStmt nowhere (record { into = None; next = false; operand = (VarExpr (id (codes "f"))) }) End) nowhere (id (codes "e"))
-        (CallStmt nowhere ((id (codes "trace")) ∷ []) (MoreExprs (MethodExpr (VarExpr (id (codes "e"))) (id (codes "code")) NoExprs) NoExprs) End) (ReturnStmt nowhere VoidExpr End));
+        (CallStmt nowhere ((id (codes "trace")) ∷ []) (MoreExprs (MethodExpr (VarExpr (id (codes "e"))) (ByName (id (codes "code"))) NoExprs) NoExprs) End) (ReturnStmt nowhere VoidExpr End));
     close = nowhere;
   }))
       ∷ (ActorDecl (record {
@@ -417,7 +417,7 @@ promise_again_in_loop_program = record {
             (DeclareStmt nowhere (record { state = true; ty = (FutureType VoidType); name = (id (codes "w")) }) (Some (CallExpr (id (codes "Never")) NoExprs))
             (WhileStmt nowhere (BinaryExpr Lt (VarExpr (id (codes "i"))) (IntExpr (pos 2)))
             (DeclareStmt nowhere (record { state = true; ty = (PromiseType VoidType); name = (id (codes "q")) }) None
-            (AssignStmt nowhere ((id (codes "w")) ∷ []) (CallExpr (id (codes "watch")) (MoreExprs (MethodExpr (VarExpr (id (codes "q"))) (id (codes "getFuture")) NoExprs) NoExprs))
+            (AssignStmt nowhere ((id (codes "w")) ∷ []) (CallExpr (id (codes "watch")) (MoreExprs (MethodExpr (VarExpr (id (codes "q"))) (ByName (id (codes "getFuture"))) NoExprs) NoExprs))
             (ModifyStmt nowhere ((id (codes "i")) ∷ []) UpChange End))) (ReturnStmt nowhere VoidExpr End))));
         close = nowhere;
       })) ∷ []);
@@ -464,7 +464,7 @@ own_future_in_a_local_program = record {
     name = (id (codes "self"));
     params = ((record { ty = (FutureStreamType (FutureType VoidType)); name = (id (codes "box")) }) ∷ []);
     body = (WaitStmt nowhere (record { into = (Some (record { state = false; ty = (FutureType VoidType); name = (id (codes "me")) })); next = true; operand = (VarExpr (id (codes "box"))) })
-        (CallStmt nowhere ((id (codes "trace")) ∷ []) (MoreExprs (MethodExpr (VarExpr (id (codes "me"))) (id (codes "isReady")) NoExprs) NoExprs)
+        (CallStmt nowhere ((id (codes "trace")) ∷ []) (MoreExprs (MethodExpr (VarExpr (id (codes "me"))) (ByName (id (codes "isReady"))) NoExprs) NoExprs)
         (WaitStmt nowhere (record { into = None; next = false; operand = (CallExpr (id (codes "Never")) NoExprs) }) (ReturnStmt nowhere VoidExpr End))));
     close = nowhere;
   }))
@@ -475,7 +475,7 @@ own_future_in_a_local_program = record {
         params = ((record { ty = IntType; name = (id (codes "p")) }) ∷ []);
         body = (DeclareStmt nowhere (record { state = true; ty = (PromiseStreamType (FutureType VoidType)); name = (id (codes "box")) }) None
             (DeclareStmt nowhere (record { state = false; ty = (FutureType VoidType); name = (id (codes "f")) })
-            (Some (CallExpr (id (codes "self")) (MoreExprs (MethodExpr (VarExpr (id (codes "box"))) (id (codes "getFuture")) NoExprs) NoExprs)))
+            (Some (CallExpr (id (codes "self")) (MoreExprs (MethodExpr (VarExpr (id (codes "box"))) (ByName (id (codes "getFuture"))) NoExprs) NoExprs)))
             (CallStmt nowhere ((id (codes "box")) ∷ (id (codes "send")) ∷ []) (MoreExprs (VarExpr (id (codes "f"))) NoExprs)
             (CallStmt nowhere ((id (codes "trace")) ∷ []) (MoreExprs (TextExpr (codes "sent")) NoExprs)
             (WaitStmt nowhere (record { into = None; next = false; operand = (CallExpr (id (codes "delay")) (MoreExprs (IntExpr (pos 1)) NoExprs)) })
@@ -616,9 +616,9 @@ cancelled_while_closing_program = record {
         body = (DeclareStmt nowhere (record { state = true; ty = (PromiseType VoidType); name = (id (codes "go")) }) None
             (DeclareStmt nowhere (record { state = true; ty = (PromiseType VoidType); name = (id (codes "tell")) }) None
             (DeclareStmt nowhere (record { state = true; ty = (FutureType IntType); name = (id (codes "c")) })
-            (Some (CallExpr (id (codes "closing")) (MoreExprs (MethodExpr (VarExpr (id (codes "go"))) (id (codes "getFuture")) NoExprs) (MoreExprs (VarExpr (id (codes "tell"))) NoExprs))))
+            (Some (CallExpr (id (codes "closing")) (MoreExprs (MethodExpr (VarExpr (id (codes "go"))) (ByName (id (codes "getFuture"))) NoExprs) (MoreExprs (VarExpr (id (codes "tell"))) NoExprs))))
             (DeclareStmt nowhere (record { state = true; ty = (FutureType VoidType); name = (id (codes "h")) })
-            (Some (CallExpr (id (codes "holder")) (MoreExprs (MethodExpr (VarExpr (id (codes "tell"))) (id (codes "getFuture")) NoExprs) (MoreExprs (VarExpr (id (codes "c"))) NoExprs))))
+            (Some (CallExpr (id (codes "holder")) (MoreExprs (MethodExpr (VarExpr (id (codes "tell"))) (ByName (id (codes "getFuture"))) NoExprs) (MoreExprs (VarExpr (id (codes "c"))) NoExprs))))
             (AssignStmt nowhere ((id (codes "c")) ∷ []) (CallExpr (id (codes "never")) (MoreExprs (IntExpr (pos 2)) NoExprs))
             (CallStmt nowhere ((id (codes "go")) ∷ (id (codes "send")) ∷ []) (MoreExprs VoidExpr NoExprs)
             (CallStmt nowhere ((id (codes "trace")) ∷ []) (MoreExprs (TextExpr (codes "end")) NoExprs) (ReturnStmt nowhere VoidExpr End))))))));
@@ -680,9 +680,9 @@ argument_before_9004_program = record {
     body = (DeclareStmt nowhere (record { state = true; ty = (PromiseType IntType); name = (id (codes "q")) }) None
         (CallStmt nowhere ((id (codes "q")) ∷ (id (codes "send")) ∷ []) (MoreExprs (IntExpr (pos 1)) NoExprs)
         (TryStmt nowhere (CallStmt nowhere ((id (codes "q")) ∷ (id (codes "send")) ∷ []) (MoreExprs (BinaryExpr Div (IntExpr (pos 1)) (VarExpr (id (codes "p")))) NoExprs) End) nowhere (id (codes "e"))
-        (CallStmt nowhere ((id (codes "trace")) ∷ []) (MoreExprs (MethodExpr (VarExpr (id (codes "e"))) (id (codes "code")) NoExprs) NoExprs) End)
+        (CallStmt nowhere ((id (codes "trace")) ∷ []) (MoreExprs (MethodExpr (VarExpr (id (codes "e"))) (ByName (id (codes "code"))) NoExprs) NoExprs) End)
         (TryStmt nowhere (CallStmt nowhere ((id (codes "q")) ∷ (id (codes "send")) ∷ []) (MoreExprs (IntExpr (pos 2)) NoExprs) End) nowhere (id (codes "e"))
-        (CallStmt nowhere ((id (codes "trace")) ∷ []) (MoreExprs (MethodExpr (VarExpr (id (codes "e"))) (id (codes "code")) NoExprs) NoExprs) End) (ReturnStmt nowhere VoidExpr End)))));
+        (CallStmt nowhere ((id (codes "trace")) ∷ []) (MoreExprs (MethodExpr (VarExpr (id (codes "e"))) (ByName (id (codes "code"))) NoExprs) NoExprs) End) (ReturnStmt nowhere VoidExpr End)))));
     close = nowhere;
   })) ∷ []);
   end = nowhere;
@@ -726,7 +726,7 @@ listen_while_firing_program = record {
         (CallStmt nowhere ((id (codes "trace")) ∷ []) (MoreExprs (FieldExpr (VarExpr (id (codes "k"))) (id (codes "text"))) NoExprs)
         (TryStmt nowhere (DeclareStmt nowhere (record { state = true; ty = (FutureStreamType (NamedType (codes "Packet"))); name = (id (codes "again")) })
         (Some (CallExpr (id (codes "listen")) (MoreExprs (IntExpr (pos 7)) NoExprs))) (CallStmt nowhere ((id (codes "trace")) ∷ []) (MoreExprs (TextExpr (codes "free")) NoExprs) End)) nowhere
-        (id (codes "e")) (CallStmt nowhere ((id (codes "trace")) ∷ []) (MoreExprs (MethodExpr (VarExpr (id (codes "e"))) (id (codes "code")) NoExprs) NoExprs) End)
+        (id (codes "e")) (CallStmt nowhere ((id (codes "trace")) ∷ []) (MoreExprs (MethodExpr (VarExpr (id (codes "e"))) (ByName (id (codes "code"))) NoExprs) NoExprs) End)
         (WaitStmt nowhere (record { into = None; next = false; operand = (CallExpr (id (codes "delay")) (MoreExprs (IntExpr (pos 1)) NoExprs)) })
         (DeclareStmt nowhere (record { state = true; ty = (FutureStreamType (NamedType (codes "Packet"))); name = (id (codes "later")) })
         (Some (CallExpr (id (codes "listen")) (MoreExprs (IntExpr (pos 7)) NoExprs)))
@@ -785,7 +785,7 @@ stream_fire_takes_more_program = record {
         params = ((record { ty = IntType; name = (id (codes "p")) }) ∷ []);
         body = (DeclareStmt nowhere (record { state = true; ty = (PromiseStreamType IntType); name = (id (codes "q")) }) None
             (DeclareStmt nowhere (record { state = true; ty = (FutureType VoidType); name = (id (codes "e")) })
-            (Some (CallExpr (id (codes "eat")) (MoreExprs (MethodExpr (VarExpr (id (codes "q"))) (id (codes "getFuture")) NoExprs) (MoreExprs (VarExpr (id (codes "q"))) NoExprs))))
+            (Some (CallExpr (id (codes "eat")) (MoreExprs (MethodExpr (VarExpr (id (codes "q"))) (ByName (id (codes "getFuture"))) NoExprs) (MoreExprs (VarExpr (id (codes "q"))) NoExprs))))
             (CallStmt nowhere ((id (codes "q")) ∷ (id (codes "send")) ∷ []) (MoreExprs (IntExpr (pos 2)) NoExprs)
             (CallStmt nowhere ((id (codes "trace")) ∷ []) (MoreExprs (TextExpr (codes "sent")) NoExprs) (ReturnStmt nowhere VoidExpr End)))));
         close = nowhere;
@@ -835,7 +835,7 @@ waiter_cancels_the_next_waiter_program = record {
         name = (id (codes "first"));
         params = ((record { ty = (FutureType VoidType); name = (id (codes "go")) }) ∷ (record { ty = (FutureType (FutureType VoidType)); name = (id (codes "box")) }) ∷ []);
         body = (WaitStmt nowhere (record { into = None; next = false; operand = (VarExpr (id (codes "go"))) })
-            (DeclareStmt nowhere (record { state = false; ty = (FutureType VoidType); name = (id (codes "victim")) }) (Some (MethodExpr (VarExpr (id (codes "box"))) (id (codes "get")) NoExprs))
+            (DeclareStmt nowhere (record { state = false; ty = (FutureType VoidType); name = (id (codes "victim")) }) (Some (MethodExpr (VarExpr (id (codes "box"))) (ByName (id (codes "get"))) NoExprs))
             (CallStmt nowhere ((id (codes "victim")) ∷ (id (codes "cancel")) ∷ []) NoExprs
             (CallStmt nowhere ((id (codes "trace")) ∷ []) (MoreExprs (TextExpr (codes "cancelled")) NoExprs) (ReturnStmt nowhere VoidExpr End)))));
         close = nowhere;
@@ -857,10 +857,10 @@ waiter_cancels_the_next_waiter_program = record {
         body = (DeclareStmt nowhere (record { state = true; ty = (PromiseType VoidType); name = (id (codes "go")) }) None
             (DeclareStmt nowhere (record { state = true; ty = (PromiseType (FutureType VoidType)); name = (id (codes "box")) }) None
             (DeclareStmt nowhere (record { state = true; ty = (FutureType VoidType); name = (id (codes "a")) })
-            (Some (CallExpr (id (codes "first")) (MoreExprs (MethodExpr (VarExpr (id (codes "go"))) (id (codes "getFuture")) NoExprs)
-            (MoreExprs (MethodExpr (VarExpr (id (codes "box"))) (id (codes "getFuture")) NoExprs) NoExprs))))
+            (Some (CallExpr (id (codes "first")) (MoreExprs (MethodExpr (VarExpr (id (codes "go"))) (ByName (id (codes "getFuture"))) NoExprs)
+            (MoreExprs (MethodExpr (VarExpr (id (codes "box"))) (ByName (id (codes "getFuture"))) NoExprs) NoExprs))))
             (DeclareStmt nowhere (record { state = true; ty = (FutureType VoidType); name = (id (codes "b")) })
-            (Some (CallExpr (id (codes "second")) (MoreExprs (MethodExpr (VarExpr (id (codes "go"))) (id (codes "getFuture")) NoExprs) NoExprs)))
+            (Some (CallExpr (id (codes "second")) (MoreExprs (MethodExpr (VarExpr (id (codes "go"))) (ByName (id (codes "getFuture"))) NoExprs) NoExprs)))
             (CallStmt nowhere ((id (codes "box")) ∷ (id (codes "send")) ∷ []) (MoreExprs (VarExpr (id (codes "b"))) NoExprs)
             (CallStmt nowhere ((id (codes "go")) ∷ (id (codes "send")) ∷ []) (MoreExprs VoidExpr NoExprs)
             (CallStmt nowhere ((id (codes "trace")) ∷ []) (MoreExprs (TextExpr (codes "sent")) NoExprs) (ReturnStmt nowhere VoidExpr End))))))));
@@ -1029,7 +1029,7 @@ promise_in_a_dropped_stream_program = record {
         params = ((record { ty = IntType; name = (id (codes "p")) }) ∷ []);
         body = (DeclareStmt nowhere (record { state = false; ty = (PromiseStreamType (NamedType (codes "Ask"))); name = (id (codes "q")) }) None
             (DeclareStmt nowhere (record { state = false; ty = (PromiseType IntType); name = (id (codes "r")) }) None
-            (DeclareStmt nowhere (record { state = true; ty = (FutureType IntType); name = (id (codes "f")) }) (Some (MethodExpr (VarExpr (id (codes "r"))) (id (codes "getFuture")) NoExprs))
+            (DeclareStmt nowhere (record { state = true; ty = (FutureType IntType); name = (id (codes "f")) }) (Some (MethodExpr (VarExpr (id (codes "r"))) (ByName (id (codes "getFuture"))) NoExprs))
             (CallStmt nowhere ((id (codes "q")) ∷ (id (codes "send")) ∷ [])
             (MoreExprs (CallExpr (id (codes "Ask")) (MoreExprs (IntExpr (pos 1)) (MoreExprs (VarExpr (id (codes "r"))) NoExprs))) NoExprs)
             (WaitStmt nowhere (record { into = (Some (record { state = false; ty = IntType; name = (id (codes "x")) })); next = false; operand = (VarExpr (id (codes "f"))) })

@@ -6,7 +6,7 @@ use Rattle.flow_trace.specs.declared.line.Line.{Line}
 use Rattle.flow_trace.specs.declared.line.Line.TheVariants as line
 use Rattle.flow_worldfile.specs.Worlds.{World}
 use Rattle.flow_tree.specs.declared.expr.Op.TheVariants.{Gt, Mul}
-use Rattle.flow_tree.specs.Tree.{IntType, VoidType, ErrorType, NamedType, FutureType, FutureStreamType, PromiseType, PromiseStreamType, IntExpr, VoidExpr, VarExpr, CallExpr, FieldExpr, MethodExpr, BinaryExpr, NoExprs, MoreExprs}
+use Rattle.flow_tree.specs.Tree.{ByName, IntType, VoidType, ErrorType, NamedType, FutureType, FutureStreamType, PromiseType, PromiseStreamType, IntExpr, VoidExpr, VarExpr, CallExpr, FieldExpr, MethodExpr, BinaryExpr, NoExprs, MoreExprs}
 use Rattle.flow_tree.specs.Body.{End, IfStmt, LoopStmt, ReturnStmt, TryStmt, DeclareStmt, CallStmt, WaitStmt}
 use Rattle.flow_tree.specs.Decls.{StructDecl, ActorDecl, ProgramTree}
 use Rattle.flow_meaning.specs.Runs.{SourceTrace, ClassTrace}
@@ -48,7 +48,7 @@ request_server_program = record {
             (WaitStmt nowhere (record {
               into = (Some (record { state = false; ty = IntType; name = (id (codes "got")) }));
               next = false;
-              operand = (MethodExpr (VarExpr (id (codes "r"))) (id (codes "getFuture")) NoExprs);
+              operand = (MethodExpr (VarExpr (id (codes "r"))) (ByName (id (codes "getFuture"))) NoExprs);
             }) (ReturnStmt nowhere (VarExpr (id (codes "got"))) End))));
         close = nowhere;
       }))
@@ -59,7 +59,7 @@ request_server_program = record {
         params = ((record { ty = IntType; name = (id (codes "p")) }) ∷ []);
         body = (DeclareStmt nowhere (record { state = true; ty = (PromiseStreamType (NamedType (codes "Ask"))); name = (id (codes "asks")) }) None
             (DeclareStmt nowhere (record { state = true; ty = (FutureType VoidType); name = (id (codes "s")) })
-            (Some (CallExpr (id (codes "server")) (MoreExprs (MethodExpr (VarExpr (id (codes "asks"))) (id (codes "getFuture")) NoExprs) NoExprs)))
+            (Some (CallExpr (id (codes "server")) (MoreExprs (MethodExpr (VarExpr (id (codes "asks"))) (ByName (id (codes "getFuture"))) NoExprs) NoExprs)))
             (WaitStmt nowhere (record {
               into = (Some (record { state = false; ty = IntType; name = (id (codes "good")) }));
               next = false;
@@ -72,7 +72,7 @@ request_server_program = record {
               operand = (CallExpr (id (codes "client")) (MoreExprs (VarExpr (id (codes "asks"))) (MoreExprs (IntExpr (pos 0)) NoExprs)));
             })
             (CallStmt nowhere ((id (codes "trace")) ∷ []) (MoreExprs (VarExpr (id (codes "bad"))) NoExprs) End)) nowhere (id (codes "e"))
-            (CallStmt nowhere ((id (codes "trace")) ∷ []) (MoreExprs (MethodExpr (VarExpr (id (codes "e"))) (id (codes "code")) NoExprs) NoExprs) End) (ReturnStmt nowhere VoidExpr End))))));
+            (CallStmt nowhere ((id (codes "trace")) ∷ []) (MoreExprs (MethodExpr (VarExpr (id (codes "e"))) (ByName (id (codes "code"))) NoExprs) NoExprs) End) (ReturnStmt nowhere VoidExpr End))))));
         close = nowhere;
       })) ∷ []);
   end = nowhere;
@@ -155,7 +155,7 @@ request_server_classes = record {
           last = (ChooseLast 1);
         })
             ∷ (record { catcher = None; body = []; last = (ReturnLast (VarExpr (id (codes "l1")))) }) ∷ []);
-        groups = (((record { next = false; operand = (MethodExpr (VarExpr (id (codes "l0"))) (id (codes "getFuture")) NoExprs); into = (Some (Local 1)); block = 1 }) ∷ []) ∷ []);
+        groups = (((record { next = false; operand = (MethodExpr (VarExpr (id (codes "l0"))) (ByName (id (codes "getFuture"))) NoExprs); into = (Some (Local 1)); block = 1 }) ∷ []) ∷ []);
       })
       ∷ (record {
         name = (codes "main");
@@ -167,7 +167,7 @@ request_server_classes = record {
         blocks = ((record {
           catcher = None;
           body = ((NewInstr (Slot 1))
-              ∷ (EffectInstr ((id (codes "s2")) ∷ []) (CallExpr (id (codes "server")) (MoreExprs (MethodExpr (VarExpr (id (codes "s1"))) (id (codes "getFuture")) NoExprs) NoExprs))) ∷ []);
+              ∷ (EffectInstr ((id (codes "s2")) ∷ []) (CallExpr (id (codes "server")) (MoreExprs (MethodExpr (VarExpr (id (codes "s1"))) (ByName (id (codes "getFuture"))) NoExprs) NoExprs))) ∷ []);
           last = (ChooseLast 1);
         }) ∷ (record { catcher = None; body = ((ActInstr ((id (codes "trace")) ∷ []) (MoreExprs (VarExpr (id (codes "l0"))) NoExprs)) ∷ []); last = (GotoLast 2) })
             ∷ (record { catcher = (Some (record { block = 4; error = (Some 2); drops = [] })); body = []; last = (ChooseLast 2) })
@@ -178,7 +178,7 @@ request_server_classes = record {
             })
             ∷ (record {
               catcher = None;
-              body = ((ActInstr ((id (codes "trace")) ∷ []) (MoreExprs (MethodExpr (VarExpr (id (codes "l2"))) (id (codes "code")) NoExprs) NoExprs)) ∷ (DropInstr (2 ∷ [])) ∷ []);
+              body = ((ActInstr ((id (codes "trace")) ∷ []) (MoreExprs (MethodExpr (VarExpr (id (codes "l2"))) (ByName (id (codes "code"))) NoExprs) NoExprs)) ∷ (DropInstr (2 ∷ [])) ∷ []);
               last = (GotoLast 5);
             }) ∷ (record { catcher = None; body = []; last = (ReturnLast VoidExpr) }) ∷ []);
         groups = (((record {
@@ -210,14 +210,14 @@ stream_with_end_program = record {
     name = (id (codes "main"));
     params = ((record { ty = IntType; name = (id (codes "p")) }) ∷ []);
     body = (DeclareStmt nowhere (record { state = true; ty = (PromiseStreamType IntType); name = (id (codes "q")) }) None
-        (DeclareStmt nowhere (record { state = true; ty = (FutureStreamType IntType); name = (id (codes "s")) }) (Some (MethodExpr (VarExpr (id (codes "q"))) (id (codes "getFuture")) NoExprs))
+        (DeclareStmt nowhere (record { state = true; ty = (FutureStreamType IntType); name = (id (codes "s")) }) (Some (MethodExpr (VarExpr (id (codes "q"))) (ByName (id (codes "getFuture"))) NoExprs))
         (CallStmt nowhere ((id (codes "q")) ∷ (id (codes "send")) ∷ []) (MoreExprs (IntExpr (pos 1)) NoExprs)
         (CallStmt nowhere ((id (codes "q")) ∷ (id (codes "send")) ∷ []) (MoreExprs (IntExpr (pos 2)) NoExprs)
         (CallStmt nowhere ((id (codes "q")) ∷ (id (codes "sendError")) ∷ []) (MoreExprs (CallExpr (id (codes "end_of_stream")) NoExprs) NoExprs)
         (TryStmt nowhere (LoopStmt nowhere (WaitStmt nowhere (record
         { into = (Some (record { state = false; ty = IntType; name = (id (codes "x")) })); next = true; operand = (VarExpr (id (codes "s"))) })
         (CallStmt nowhere ((id (codes "trace")) ∷ []) (MoreExprs (VarExpr (id (codes "x"))) NoExprs) End)) End) nowhere (id (codes "e"))
-        (CallStmt nowhere ((id (codes "trace")) ∷ []) (MoreExprs (MethodExpr (VarExpr (id (codes "e"))) (id (codes "code")) NoExprs) NoExprs) End) (ReturnStmt nowhere VoidExpr End)))))));
+        (CallStmt nowhere ((id (codes "trace")) ∷ []) (MoreExprs (MethodExpr (VarExpr (id (codes "e"))) (ByName (id (codes "code"))) NoExprs) NoExprs) End) (ReturnStmt nowhere VoidExpr End)))))));
     close = nowhere;
   })) ∷ []);
   end = nowhere;
@@ -259,7 +259,7 @@ stream_with_end_classes = record {
     locals = (IntType ∷ ErrorType ∷ []);
     blocks = ((record {
       catcher = None;
-      body = ((NewInstr (Slot 1)) ∷ (SetInstr ((id (codes "s2")) ∷ []) (MethodExpr (VarExpr (id (codes "s1"))) (id (codes "getFuture")) NoExprs))
+      body = ((NewInstr (Slot 1)) ∷ (SetInstr ((id (codes "s2")) ∷ []) (MethodExpr (VarExpr (id (codes "s1"))) (ByName (id (codes "getFuture"))) NoExprs))
           ∷ (ActInstr ((id (codes "s1")) ∷ (id (codes "send")) ∷ []) (MoreExprs (IntExpr (pos 1)) NoExprs))
           ∷ (ActInstr ((id (codes "s1")) ∷ (id (codes "send")) ∷ []) (MoreExprs (IntExpr (pos 2)) NoExprs))
           ∷ (ActInstr ((id (codes "s1")) ∷ (id (codes "sendError")) ∷ []) (MoreExprs (CallExpr (id (codes "end_of_stream")) NoExprs) NoExprs)) ∷ []);
@@ -273,7 +273,7 @@ stream_with_end_classes = record {
         })
         ∷ (record {
           catcher = None;
-          body = ((ActInstr ((id (codes "trace")) ∷ []) (MoreExprs (MethodExpr (VarExpr (id (codes "l1"))) (id (codes "code")) NoExprs) NoExprs)) ∷ (DropInstr (1 ∷ [])) ∷ []);
+          body = ((ActInstr ((id (codes "trace")) ∷ []) (MoreExprs (MethodExpr (VarExpr (id (codes "l1"))) (ByName (id (codes "code"))) NoExprs) NoExprs)) ∷ (DropInstr (1 ∷ [])) ∷ []);
           last = (ReturnLast VoidExpr);
         }) ∷ []);
     groups = (((record { next = true; operand = (VarExpr (id (codes "s2"))); into = (Some (Local 0)); block = 3 }) ∷ []) ∷ []);

@@ -6,7 +6,7 @@ use Rattle.flow_trace.specs.declared.line.Line.{Line}
 use Rattle.flow_trace.specs.declared.line.Line.TheVariants as line
 use Rattle.flow_worldfile.specs.Worlds.{World}
 use Rattle.flow_tree.specs.declared.expr.Op.TheVariants.{Add}
-use Rattle.flow_tree.specs.Tree.{IntType, VoidType, ErrorType, FutureType, PromiseType, PromiseStreamType, IntExpr, VoidExpr, VarExpr, CallExpr, MethodExpr, BinaryExpr, NoExprs, MoreExprs}
+use Rattle.flow_tree.specs.Tree.{ByName, IntType, VoidType, ErrorType, FutureType, PromiseType, PromiseStreamType, IntExpr, VoidExpr, VarExpr, CallExpr, MethodExpr, BinaryExpr, NoExprs, MoreExprs}
 use Rattle.flow_tree.specs.Body.{End, ReturnStmt, TryStmt, ChooseStmt, DeclareStmt, CallStmt, WaitStmt, NoBranches, MoreBranches}
 use Rattle.flow_tree.specs.Decls.{ActorDecl, ProgramTree}
 use Rattle.flow_meaning.specs.Runs.{SourceTrace, ClassTrace}
@@ -119,7 +119,7 @@ choose_twice_on_one_future_program = record {
     params = ((record { ty = IntType; name = (id (codes "p")) }) ∷ []);
     body = (DeclareStmt nowhere (record { state = true; ty = (PromiseType IntType); name = (id (codes "q")) }) None
         (DeclareStmt nowhere (record { state = true; ty = (FutureType IntType); name = (id (codes "b")) })
-        (Some (CallExpr (id (codes "both")) (MoreExprs (MethodExpr (VarExpr (id (codes "q"))) (id (codes "getFuture")) NoExprs) NoExprs)))
+        (Some (CallExpr (id (codes "both")) (MoreExprs (MethodExpr (VarExpr (id (codes "q"))) (ByName (id (codes "getFuture"))) NoExprs) NoExprs)))
         (CallStmt nowhere ((id (codes "q")) ∷ (id (codes "send")) ∷ []) (MoreExprs (IntExpr (pos 5)) NoExprs) (ReturnStmt nowhere VoidExpr End))));
     close = nowhere;
   })) ∷ []);
@@ -175,7 +175,7 @@ choose_twice_on_one_future_classes = record {
         blocks = ((record {
           catcher = None;
           body = ((NewInstr (Slot 1))
-              ∷ (EffectInstr ((id (codes "s2")) ∷ []) (CallExpr (id (codes "both")) (MoreExprs (MethodExpr (VarExpr (id (codes "s1"))) (id (codes "getFuture")) NoExprs) NoExprs)))
+              ∷ (EffectInstr ((id (codes "s2")) ∷ []) (CallExpr (id (codes "both")) (MoreExprs (MethodExpr (VarExpr (id (codes "s1"))) (ByName (id (codes "getFuture"))) NoExprs) NoExprs)))
               ∷ (ActInstr ((id (codes "s1")) ∷ (id (codes "send")) ∷ []) (MoreExprs (IntExpr (pos 5)) NoExprs)) ∷ []);
           last = (ReturnLast VoidExpr);
         }) ∷ []);
@@ -199,7 +199,7 @@ promise_broken_at_wait_program = record {
         (WaitStmt nowhere (record {
           into = (Some (record { state = false; ty = IntType; name = (id (codes "x")) }));
           next = false;
-          operand = (MethodExpr (VarExpr (id (codes "q"))) (id (codes "getFuture")) NoExprs);
+          operand = (MethodExpr (VarExpr (id (codes "q"))) (ByName (id (codes "getFuture"))) NoExprs);
         }) (ReturnStmt nowhere (VarExpr (id (codes "x"))) End)));
     close = nowhere;
   }))
@@ -213,7 +213,7 @@ promise_broken_at_wait_program = record {
           next = false;
           operand = (CallExpr (id (codes "hold")) (MoreExprs (IntExpr (pos 1)) NoExprs));
         }) (CallStmt nowhere ((id (codes "trace")) ∷ []) (MoreExprs (VarExpr (id (codes "v"))) NoExprs) End)) nowhere
-            (id (codes "e")) (CallStmt nowhere ((id (codes "trace")) ∷ []) (MoreExprs (MethodExpr (VarExpr (id (codes "e"))) (id (codes "code")) NoExprs) NoExprs) End)
+            (id (codes "e")) (CallStmt nowhere ((id (codes "trace")) ∷ []) (MoreExprs (MethodExpr (VarExpr (id (codes "e"))) (ByName (id (codes "code"))) NoExprs) NoExprs) End)
             (ReturnStmt nowhere VoidExpr End));
         close = nowhere;
       })) ∷ []);
@@ -256,7 +256,7 @@ promise_broken_at_wait_classes = record {
     slots = ((record { ty = IntType; name = (codes "n") }) ∷ []);
     locals = ((PromiseType IntType) ∷ IntType ∷ []);
     blocks = ((record { catcher = None; body = ((NewInstr (Local 0)) ∷ []); last = (ChooseLast 1) }) ∷ (record { catcher = None; body = []; last = (ReturnLast (VarExpr (id (codes "l1")))) }) ∷ []);
-    groups = (((record { next = false; operand = (MethodExpr (VarExpr (id (codes "l0"))) (id (codes "getFuture")) NoExprs); into = (Some (Local 1)); block = 1 }) ∷ []) ∷ []);
+    groups = (((record { next = false; operand = (MethodExpr (VarExpr (id (codes "l0"))) (ByName (id (codes "getFuture"))) NoExprs); into = (Some (Local 1)); block = 1 }) ∷ []) ∷ []);
   })
       ∷ (record {
         name = (codes "main");
@@ -272,7 +272,7 @@ promise_broken_at_wait_classes = record {
             })
             ∷ (record {
               catcher = None;
-              body = ((ActInstr ((id (codes "trace")) ∷ []) (MoreExprs (MethodExpr (VarExpr (id (codes "l1"))) (id (codes "code")) NoExprs) NoExprs)) ∷ (DropInstr (1 ∷ [])) ∷ []);
+              body = ((ActInstr ((id (codes "trace")) ∷ []) (MoreExprs (MethodExpr (VarExpr (id (codes "l1"))) (ByName (id (codes "code"))) NoExprs) NoExprs)) ∷ (DropInstr (1 ∷ [])) ∷ []);
               last = (GotoLast 4);
             }) ∷ (record { catcher = None; body = []; last = (ReturnLast VoidExpr) }) ∷ []);
         groups = (((record { next = false; operand = (CallExpr (id (codes "hold")) (MoreExprs (IntExpr (pos 1)) NoExprs)); into = (Some (Local 0)); block = 2 }) ∷ []) ∷ []);
@@ -293,14 +293,14 @@ second_waiter_on_a_stream_program = record {
     params = ((record { ty = IntType; name = (id (codes "p")) }) ∷ []);
     body = (DeclareStmt nowhere (record { state = true; ty = (PromiseStreamType IntType); name = (id (codes "q")) }) None
         (TryStmt nowhere (ChooseStmt nowhere (MoreBranches nowhere (record
-        { into = (Some (record { state = false; ty = IntType; name = (id (codes "a")) })); next = true; operand = (MethodExpr (VarExpr (id (codes "q"))) (id (codes "getFuture")) NoExprs) })
+        { into = (Some (record { state = false; ty = IntType; name = (id (codes "a")) })); next = true; operand = (MethodExpr (VarExpr (id (codes "q"))) (ByName (id (codes "getFuture"))) NoExprs) })
         (CallStmt nowhere ((id (codes "trace")) ∷ []) (MoreExprs (VarExpr (id (codes "a"))) NoExprs) End)
         (MoreBranches nowhere (record {
           into = (Some (record { state = false; ty = IntType; name = (id (codes "b")) }));
           next = true;
-          operand = (MethodExpr (VarExpr (id (codes "q"))) (id (codes "getFuture")) NoExprs);
+          operand = (MethodExpr (VarExpr (id (codes "q"))) (ByName (id (codes "getFuture"))) NoExprs);
         }) (CallStmt nowhere ((id (codes "trace")) ∷ []) (MoreExprs (VarExpr (id (codes "b"))) NoExprs) End) NoBranches))
-        End) nowhere (id (codes "e")) (CallStmt nowhere ((id (codes "trace")) ∷ []) (MoreExprs (MethodExpr (VarExpr (id (codes "e"))) (id (codes "code")) NoExprs) NoExprs) End)
+        End) nowhere (id (codes "e")) (CallStmt nowhere ((id (codes "trace")) ∷ []) (MoreExprs (MethodExpr (VarExpr (id (codes "e"))) (ByName (id (codes "code"))) NoExprs) NoExprs) End)
         (ReturnStmt nowhere VoidExpr End)));
     close = nowhere;
   })) ∷ []);

@@ -7,7 +7,7 @@ use Rattle.flow_trace.specs.declared.line.Line.TheVariants as line
 use Rattle.flow_worldfile.specs.Worlds.{World}
 use Rattle.flow_worldfile.specs.declared.directive.Order.TheVariants as order
 use Rattle.flow_tree.specs.declared.expr.Op.TheVariants.{Eq, Lt, Add}
-use Rattle.flow_tree.specs.Tree.{IntType, StringType, VoidType, ErrorType, NamedType, FutureStreamType, IntExpr, TextExpr, VoidExpr, VarExpr, CallExpr, FieldExpr, MethodExpr, BinaryExpr, NoExprs, MoreExprs}
+use Rattle.flow_tree.specs.Tree.{ByName, IntType, StringType, VoidType, ErrorType, NamedType, FutureStreamType, IntExpr, TextExpr, VoidExpr, VarExpr, CallExpr, FieldExpr, MethodExpr, BinaryExpr, NoExprs, MoreExprs}
 use Rattle.flow_tree.specs.Body.{UpChange, End, IfStmt, IfElseStmt, ForStmt, ReturnStmt, ThrowStmt, TryStmt, ChooseStmt, DeclareStmt, AssignStmt, ModifyStmt, CallStmt, WaitStmt, NoBranches, MoreBranches}
 use Rattle.flow_tree.specs.Decls.{ActorDecl, ProgramTree}
 use Rattle.flow_meaning.specs.Runs.{SourceTrace, ClassTrace}
@@ -34,7 +34,7 @@ lost_ping_times_out_program = record {
         (CallStmt nowhere ((id (codes "trace")) ∷ []) (MoreExprs (FieldExpr (VarExpr (id (codes "k"))) (id (codes "text"))) NoExprs) End)
         (MoreBranches nowhere (record { into = None; next = false; operand = (CallExpr (id (codes "delay")) (MoreExprs (IntExpr (pos 10)) NoExprs)) })
         (ThrowStmt nowhere (Some (CallExpr (id (codes "timed_out")) NoExprs)) End) NoBranches)) End) nowhere (id (codes "e"))
-        (CallStmt nowhere ((id (codes "trace")) ∷ []) (MoreExprs (MethodExpr (VarExpr (id (codes "e"))) (id (codes "code")) NoExprs) NoExprs) End) End))
+        (CallStmt nowhere ((id (codes "trace")) ∷ []) (MoreExprs (MethodExpr (VarExpr (id (codes "e"))) (ByName (id (codes "code"))) NoExprs) NoExprs) End) End))
         (WaitStmt nowhere (record { into = (Some (record { state = false; ty = (NamedType (codes "Packet")); name = (id (codes "k")) })); next = true; operand = (VarExpr (id (codes "in"))) })
         (CallStmt nowhere ((id (codes "sendTo")) ∷ []) (MoreExprs (FieldExpr (VarExpr (id (codes "k"))) (id (codes "from")))
         (MoreExprs (IntExpr (pos 7)) (MoreExprs (TextExpr (codes "pong")) NoExprs)))
@@ -99,7 +99,7 @@ lost_ping_times_out_classes = record {
         ∷ (record { catcher = None; body = []; last = (GotoLast 7) }) ∷
         (record {
           catcher = None;
-          body = ((ActInstr ((id (codes "trace")) ∷ []) (MoreExprs (MethodExpr (VarExpr (id (codes "l1"))) (id (codes "code")) NoExprs) NoExprs)) ∷ (DropInstr (1 ∷ [])) ∷ []);
+          body = ((ActInstr ((id (codes "trace")) ∷ []) (MoreExprs (MethodExpr (VarExpr (id (codes "l1"))) (ByName (id (codes "code"))) NoExprs) NoExprs)) ∷ (DropInstr (1 ∷ [])) ∷ []);
           last = (GotoLast 7);
         }) ∷ (record { catcher = None; body = []; last = (GotoLast 10) }) ∷ (record { catcher = None; body = []; last = (ChooseLast 2) })
         ∷ (record {
@@ -261,7 +261,7 @@ disk_request_fails_program = record {
       next = false;
       operand = (CallExpr (id (codes "writeFile")) (MoreExprs (TextExpr (codes "f")) (MoreExprs (IntExpr (pos 0)) (MoreExprs (TextExpr (codes "a")) NoExprs))));
     }) End) nowhere (id (codes "e"))
-        (CallStmt nowhere ((id (codes "trace")) ∷ []) (MoreExprs (MethodExpr (VarExpr (id (codes "e"))) (id (codes "code")) NoExprs) NoExprs) End) (ReturnStmt nowhere VoidExpr End));
+        (CallStmt nowhere ((id (codes "trace")) ∷ []) (MoreExprs (MethodExpr (VarExpr (id (codes "e"))) (ByName (id (codes "code"))) NoExprs) NoExprs) End) (ReturnStmt nowhere VoidExpr End));
     close = nowhere;
   }))
       ∷ []);

@@ -63,7 +63,8 @@ fn count(counts: &mut [u64; 256], process: ProcId, line: &Line)
 
 // Whether a line changes them.
 fn changes(line: &Line) -> bool
-    ensures { result ≡ false → (p : ℕ) (counts : List ℕ) → counts_after line.now p counts ≡ counts }
+    ensures { result ≡ false → (p : ℕ) (counts : List ℕ)
+        → counts_after line.now p counts ≡ counts }
 {
     matches!(
         line,

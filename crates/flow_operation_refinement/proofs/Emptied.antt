@@ -4,8 +4,9 @@ use Rattle.std.specs.Option.{option_map}
 use Rattle.std.specs.declared.option.Option.{Option}
 use Rattle.std.specs.declared.option.Option.TheVariants.{None, Some}
 use Rattle.flow_value.specs.declared.value.Value.{Value}
-use Rattle.flow_value.specs.Values.{ValueTree, IntValue, BoolValue, TextValue, VoidValue, ErrorValue, RecordValue, RefValue, refs_of}
+use Rattle.flow_value.specs.Values.{may_refer}
 use Rattle.flow_value.specs.View.{value_of}
+use Rattle.flow_value.proofs.References.{no_refs}
 use Rattle.flow_class.specs.declared.class.Slotted.TheVariants.{Local}
 use Rattle.flow_class.specs.Classes.{RawTree}
 use Rattle.flow_trace.specs.declared.line.Line.{Line}
@@ -24,7 +25,7 @@ use Rattle.flow_heap_refinement.specs.Holds.{with_refs}
 use Rattle.flow_heap_refinement.proofs.Sums.{refs_joined}
 use Rattle.flow_steps.specs.declared.process.Process.{Process}
 use Rattle.flow_steps.specs.Holding.{on_heap}
-use Rattle.flow_steps.specs.Points.{place_held, place_put, place_lost, places_lost, losing_from, may_refer, if_refers, referring, places_taken, places_emptied}
+use Rattle.flow_steps.specs.Points.{place_held, place_put, place_lost, places_lost, losing_from, if_refers, referring, places_taken, places_emptied}
 use Rattle.flow_operation_refinement.specs.Placing.{RepresentsActor, with_memory, HasLocals, nothing_in}
 use Rattle.flow_operation_refinement.specs.Placing as law
 use Rattle.flow_operation_refinement.proofs.Places.{as_many_stood, place_seen, place_changed}
@@ -86,15 +87,6 @@ module _ (r : RawTree) (ls : List Line) (m : Process) (p : Proc Frame) (i : ℕ)
       (proc (work.dropping (refs_in (filled (reversed f.mem.locals))) q.core) xs) i e none) (put_over p.actors i slotless none) two)))))
 
 -- values that can't refer hold no reference
-no_refs : (v : ValueTree) → may_refer v ≡ false → refs_of v ≡ []
-no_refs (IntValue n) e = refl
-no_refs (BoolValue b) e = refl
-no_refs (TextValue t) e = refl
-no_refs VoidValue e = refl
-no_refs (ErrorValue n) e = refl
-no_refs (RecordValue n vs) e = absurd (cc)
-no_refs (RefValue k c) e = absurd (cc)
-
 pub referring_refs : (o : Option Value) → refs_in (map value_of (referring o)) ≡ refs_in (filled (option_map value_of o ∷ []))
 referring_refs None = refl
 referring_refs (Some v) = by_test (may_refer (value_of v)) refl

@@ -1,6 +1,6 @@
 -- What an actor does in memory with what evaluation comes to is a step of the class machine.
 use Rattle.std.proofs.Common.{◌≡◌, ◌⊎◌, inl, inr, ℕ, List, sym, ap, ◌∙◌, subst}
-use Rattle.flow_value.specs.Values.{ValueTree, IntValue, BoolValue, TextValue, VoidValue, ErrorValue, RecordValue, RefValue}
+use Rattle.flow_value.specs.Values.{ValueTree, IntValue, BoolValue, TextValue, VoidValue, ErrorValue, CompositeValue, RefValue}
 use Rattle.flow_value.specs.View.{value_of}
 use Rattle.flow_eval.specs.Answers.{error_of}
 use Rattle.flow_eval.specs.Eval.{Res}
@@ -44,7 +44,7 @@ module _ (r : RawTree) (ls : List Line) (m : Process) (p : Proc Frame) (i : ℕ)
   by_value x s w left (BoolValue b) pace n st next thrown = absurd thrown
   by_value x s w left (TextValue t) pace n st next thrown = absurd thrown
   by_value x s w left VoidValue pace n st next thrown = absurd thrown
-  by_value x s w left (RecordValue d vs) pace n st next thrown = absurd thrown
+  by_value x s w left (CompositeValue d vs) pace n st next thrown = absurd thrown
   by_value x s w left (RefValue kd k) pace n st next thrown = absurd thrown
 
   pub throw_step : law.ThrowStep r ls m p i e f

@@ -97,14 +97,16 @@ pub data ChangedRule (d : ℕ) (at : Place) (xs : List Ident) : List Marked → 
 -- what stands behind a declared variable: nothing, or a value
 pub data DeclaredRule (d : ℕ) (at : Place) (i : IntoTree) : List Marked → Body → Type 0 where
   no_value : DeclaredRule d at i [] (DeclareStmt at i None End)
-  value : {e : ExprTree} {all : List Marked} (p : Place) (of : List Marked) → ExprRule 0 (suc d) of e → all ≡ sign_at sign.Assign p ∷ of
+  value : {e : ExprTree} {all : List Marked} (p : Place) (of : List Marked) → ExprRule 0 (suc d) of e
+      → all ≡ sign_at sign.Assign p ∷ of
       → DeclaredRule d at i all (DeclareStmt at i (Some e) End)
 
 -- in a statement also a wait
 pub data ValuedRule (d : ℕ) (at : Place) (i : IntoTree) : List Marked → Body → Type 0 where
   declares : {body : Body} {all : List Marked} → DeclaredRule d at i all body → ValuedRule d at i all body
   waits : {next : Bool} {e : ExprTree} {all : List Marked} (p : Place) (of : List Marked) → OperandRule d of next e
-      → all ≡ sign_at sign.Assign p ∷ of → ValuedRule d at i all (WaitStmt at (record { into = Some i; next = next; operand = e }) End)
+      → all ≡ sign_at sign.Assign p ∷ of
+      → ValuedRule d at i all (WaitStmt at (record { into = Some i; next = next; operand = e }) End)
 
 -- a declaration, a change, a wait or a call, without its semicolon
 pub data UnendedRule (actor : Bool) (d : ℕ) (c : Counts) : List Marked → Counts → Body → Type 0 where
@@ -130,7 +132,8 @@ Assignment d w body = (at : Place) × AssignRule d w at End body
 
 -- the parts of a `for`, each with what closes it
 abbrev pub StartPart : Bool → ℕ → Counts → List Marked → Body × Counts → Type 0
-StartPart actor d c w x = (q : Place) × (of : List Marked) × InitPart actor d c x.1 of x.0 × (w ≡ of ++ sign_at sign.Semicolon q ∷ [])
+StartPart actor d c w x = (q : Place) × (of : List Marked) × InitPart actor d c x.1 of x.0
+    × (w ≡ of ++ sign_at sign.Semicolon q ∷ [])
 
 abbrev pub NextPart : ℕ → Counts → List Marked → Body × Counts → Type 0
 NextPart d c w x = (q : Place) × (of : List Marked) × StepPart d c x.1 of x.0 × (w ≡ of ++ sign_at sign.CloseRound q ∷ [])
@@ -169,10 +172,12 @@ WhenPart actor d n c w o = (bs : Branches) → WhenRule actor d n c o.counts w b
 
 -- branches and the brace that closes them
 abbrev pub WhensPart : Bool → ℕ → ℕ → Counts → List Marked → Branches × Counts → Type 0
-WhensPart actor d n c w x = (q : Place) × (of : List Marked) × WhensRule actor d n c x.1 of x.0 × (w ≡ of ++ sign_at sign.CloseCurly q ∷ [])
+WhensPart actor d n c w x = (q : Place) × (of : List Marked) × WhensRule actor d n c x.1 of x.0
+    × (w ≡ of ++ sign_at sign.CloseCurly q ∷ [])
 
 abbrev pub AllWhens : Bool → ℕ → Counts → List Marked → Branches × Counts → Type 0
-AllWhens actor d c w x = (q : Place) × (first more : List Marked) × (c1 : Counts) × (bs : Branches) × WhenRule actor d 1 c c1 first bs x.0
+AllWhens actor d c w x = (q : Place) × (first more : List Marked) × (c1 : Counts) × (bs : Branches)
+    × WhenRule actor d 1 c c1 first bs x.0
     × WhensRule actor d 2 c1 x.1 more bs × (w ≡ first ++ (more ++ sign_at sign.CloseCurly q ∷ []))
 
 abbrev pub FieldsPart : ℕ → List Marked → List ParamTree → Type 0

@@ -4,11 +4,12 @@ use Rattle.std.specs.declared.option.Option.TheVariants.{Some}
 use Rattle.flow_tree.specs.Tree.{TypeTree, FutureType}
 use Rattle.flow_value.specs.declared.value.Kind.{Kind}
 use Rattle.flow_value.specs.declared.value.Kind.TheVariants as kind
-use Rattle.flow_value.specs.Values.{ValueTree, ValueTrees, NoValues, MoreValues, RecordValue, RefValue, OutcomeTree, GoodOutcome, BadOutcome, refs_of, refs_of_all}
+use Rattle.flow_value.specs.Values.{ValueTree, OutcomeTree, GoodOutcome, BadOutcome, refs_of, AllListed}
+use Rattle.flow_value.proofs.References.{refs_listed}
 use Rattle.flow_class.specs.Classes.{RawTree}
 use Rattle.flow_valid.specs.Validity.{IsValid}
 use Rattle.flow_numbered.specs.Numbered.{Numbered, thing}
-use Rattle.flow_meaning.specs.Cells.{FutureSide, side_of}
+use Rattle.flow_meaning.specs.Cells.{FutureSide, Ref, side_of}
 use Rattle.flow_meaning.specs.Process.{Task, Close, Entry, Core}
 use Rattle.flow_meaning.specs.References.{refs_in, value_in, one, count}
 use Rattle.flow_meaning.specs.Orderly.{Orderly}
@@ -16,7 +17,7 @@ use Rattle.flow_meaning.specs.Frame.{Frame}
 use Rattle.flow_meaning.proofs.Shifts.{close_of}
 use Rattle.flow_progress.specs.Asking.{OutcomeFits}
 use Rattle.flow_progress.specs.Fitting.{CellTypes, typed_by, ProcessFits}
-use Rattle.flow_progress.proofs.Retyped.{Sees, SeesAll}
+use Rattle.flow_progress.proofs.Retyped.{Seen, Sees}
 use Rattle.flow_progress.proofs.StepFits.{actor_here}
 use Rattle.flow_progress.proofs.Unseen.{Off, mark, count_append}
 use Rattle.flow_progress.proofs.Depths.{apart}
@@ -35,18 +36,12 @@ module _ (k : ℕ) where
   one_zero kind.Future n off = not_marked n off
   one_zero kind.FutureStream n off = not_marked n off
 
-  mutual
-    value_zero : (v : ValueTree) → Sees (Off k) v → count FutureSide k (refs_of v) ≡ 0
-    value_zero (RecordValue d vs) h = all_zero vs h
-    value_zero (RefValue kd n) h = let z = one_zero kd n h in omega (arith, z)
-    value_zero _ h = refl
+  refs_zero : (qs : List Ref) → AllListed (Seen (Off k)) qs → count FutureSide k qs ≡ 0
+  refs_zero [] h = refl
+  refs_zero (q ∷ qs) h = let a = one_zero q.0 q.1 h.0 in let b = refs_zero qs h.1 in omega (arith, a, b)
 
-    all_zero : (vs : ValueTrees) → SeesAll (Off k) vs → count FutureSide k (refs_of_all vs) ≡ 0
-    all_zero NoValues h = refl
-    all_zero (MoreValues v vs) h =
-        let a = value_zero v h.0 in
-        let b = all_zero vs h.1 in
-        let c = count_append FutureSide k (refs_of v) (refs_of_all vs) in omega (arith, a, b, c)
+  value_zero : (v : ValueTree) → Sees (Off k) v → count FutureSide k (refs_of v) ≡ 0
+  value_zero v h = refs_zero (refs_of v) (refs_listed (Seen (Off k)) v h)
 
   outcome_zero : (r : RawTree) → IsValid r → (types : CellTypes) (o : OutcomeTree) (t : TypeTree) → types k ≡ Some (FutureType t) → OutcomeFits r.records (typed_by types) o t
       → count FutureSide k (refs_in (value_in o)) ≡ 0

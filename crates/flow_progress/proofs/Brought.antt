@@ -19,11 +19,15 @@ use Rattle.flow_progress.proofs.CellStates.{fill_fits}
 
 packet_fits : (r : RawTree) (types : CellTypes) (from at : ℕ) (text : List ℕ) → Fits r types (packet from at text) (NamedType (codes "Packet"))
 packet_fits r types from at text = (
-  codes "Packet",
-  record { params = map (λ (f : List ℕ × TypeTree). f.1) packet_fields; gives = NamedType (codes "Packet") },
-  refl,
-  refl,
-  refl,
+  IntType ∷ IntType ∷ StringType ∷ [],
+  record {
+    name = codes "Packet";
+    named = refl;
+    placed = refl;
+    call = record { params = map (λ (f : List ℕ × TypeTree). f.1) packet_fields; gives = NamedType (codes "Packet") };
+    called = refl;
+    fields = refl;
+  },
   (IntType, IntType ∷ StringType ∷ [], refl, refl, (IntType, StringType ∷ [], refl, refl, (StringType, [], refl, refl, refl))),
 )
 

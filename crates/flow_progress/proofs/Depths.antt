@@ -11,8 +11,10 @@ use Rattle.flow_ast.specs.TypingNames.{named}
 use Rattle.flow_ast.specs.Typing.{Signature, is_there, is_packet, packet_fields, param_types, record_named, record_call}
 use Rattle.flow_value.specs.declared.value.Kind.{Kind}
 use Rattle.flow_value.specs.declared.value.Kind.TheVariants as kind
-use Rattle.flow_value.specs.Values.{ValueTree, ValueTrees, NoValues, MoreValues, RecordValue, RefValue}
-use Rattle.flow_eval.specs.Typed.{HaveTypes, reference_type, future_side}
+use Rattle.flow_value.specs.Values.{ValueTree, CompositeValue, RefValue, Whole, RecordWhole, ListWhole}
+use Rattle.flow_value.proofs.References.{parts_map}
+use Rattle.flow_eval.specs.Typed.{IsMadeOf, reference_type, future_side}
+use Rattle.flow_eval.proofs.TypedReferences.{AllTypes, LeadsBy, typed_parts}
 use Rattle.flow_rules.specs.declared.rule.SemanticRule.TheVariants.{UnknownName, TakenName}
 use Rattle.flow_rules.specs.Least.{lesser, unless}
 use Rattle.flow_rules.specs.Known.{Meaning, RecordOf, row_of, known, is_record, type_known}
@@ -25,10 +27,11 @@ use Rattle.flow_rules.specs.Rules.{setting_of}
 use Rattle.flow_rules.proofs.Lesser.{no_first, no_second, holds, no_item}
 use Rattle.flow_typing_laws.proofs.Typing.Names.{bytes_sym, none_some}
 use Rattle.flow_typing_laws.proofs.Typing.Agreement.{neither_first, neither_second}
+use Rattle.flow_meaning.specs.Cells.{Ref}
 use Rattle.flow_progress.specs.Fitting.{CellTypes, typed_by, Fits}
 use Rattle.flow_progress.proofs.Tops.{none_is}
 use Rattle.flow_progress.proofs.Unseen.{Off}
-use Rattle.flow_progress.proofs.Retyped.{Sees, SeesAll}
+use Rattle.flow_progress.proofs.Retyped.{Seen, Sees}
 
 -- the place of a record by its name, counted from n
 abbrev place : ℕ → List RecordTree → List ℕ → ℕ
@@ -44,9 +47,11 @@ level rs (PromiseType t) = level rs t
 level rs (PromiseStreamType t) = level rs t
 level rs _ = 0
 
+abbrev Below : List RecordTree → ℕ → TypeTree → Type 0
+Below rs n t = level rs t < n
+
 abbrev AllBelow : List RecordTree → ℕ → List TypeTree → Type 0
-AllBelow rs n [] = Unit {0}
-AllBelow rs n (t ∷ ts) = (level rs t < n) × AllBelow rs n ts
+AllBelow rs n = AllTypes (Below rs n)
 
 -- what is known among some records stands among them
 place_known : (done more : List RecordTree) (n : ℕ) (x : List ℕ) → is_there (named (map row_of (map StructDecl done)) x) ≡ true → place n (done ++ more) x < n + length done
@@ -187,39 +192,29 @@ module _ (r : RawTree) (valid : IsValid r) (types : CellTypes) where
   below_all m n [] l h = tt
   below_all m n (t ∷ ts) l h = (let a = h.0 in omega (arith, a, l), below_all m n ts l h.1)
 
-  mutual
-    lower : (n : ℕ) (v : ValueTree) (t : TypeTree) → Fits r types v t → level r.records t < n → Sees (Lower n) v
-    lower n (RecordValue d vs) t h l =
-        let m : level r.records (NamedType h.0) < n = subst (λ t. level r.records t < n) h.2 l in
-        all_lower n vs h.1.params h.5 (below_all (level r.records (NamedType h.0)) n h.1.params (omega (arith, m)) (params_before h.0 h.1 h.4))
-    lower n (RefValue kd k) t h l = λ w e.
-        let same : h.0 ≡ w = same_inner kd h.0 w (some_type (future_side kd h.0) (FutureType w) (sym h.2 ∙ e)) in
-        subst (λ u. level r.records u < n) same (subst (λ m. m < n) (inner_level r.records kd h.0) (subst (λ t. level r.records t < n) h.1 l))
-    lower n _ t h l = tt
+  -- the types of which the values of a type are made are of a lower level
+  parts_below : (w : Whole) (t : TypeTree) (ts : List TypeTree) → IsMadeOf r.records w t ts → AllBelow r.records (level r.records t) ts
+  parts_below (RecordWhole d) t ts h =
+      subst (λ u. AllBelow r.records (level r.records u) ts) (sym h.named)
+      (subst (AllBelow r.records (level r.records (NamedType h.name))) (sym h.fields) (params_before h.name h.call h.called))
+  parts_below ListWhole t ts h = absurd h
 
-    all_lower : (n : ℕ) (vs : ValueTrees) (ts : List TypeTree) → HaveTypes r.records (typed_by types) vs ts → AllBelow r.records n ts → SeesAll (Lower n) vs
-    all_lower n NoValues ts h l = tt
-    all_lower n (MoreValues v vs) ts h l =
-        let m : AllBelow r.records n (h.0 ∷ h.1) = subst (AllBelow r.records n) h.2 l in
-        (lower n v h.0 h.3 m.0, all_lower n vs h.1 h.4 m.1)
+  parts_lower : (n : ℕ) (w : Whole) (t : TypeTree) (ts : List TypeTree) → IsMadeOf r.records w t ts → Below r.records n t → AllBelow r.records n ts
+  parts_lower n w t ts h l = let m : level r.records t < n = l in below_all (level r.records t) n ts (omega (arith, m)) (parts_below w t ts h)
 
-  mutual
-    sees_off : (P Q : ℕ → Type 0) → ((k : ℕ) → P k → Q k) → (v : ValueTree) → Sees P v → Sees Q v
-    sees_off P Q f (RecordValue d vs) h = all_sees_off P Q f vs h
-    sees_off P Q f (RefValue kd k) h = f k h
-    sees_off P Q f _ h = tt
-
-    all_sees_off : (P Q : ℕ → Type 0) → ((k : ℕ) → P k → Q k) → (vs : ValueTrees) → SeesAll P vs → SeesAll Q vs
-    all_sees_off P Q f NoValues h = tt
-    all_sees_off P Q f (MoreValues v vs) h = (sees_off P Q f v h.0, all_sees_off P Q f vs h.1)
+  -- a reference by a type of a level below leads to no cell of futures of a type that isn't
+  lower_ref : (n : ℕ) (q : Ref) → LeadsBy (typed_by types) (Below r.records n) q → Seen (Lower n) q
+  lower_ref n q h = λ w e.
+      let same : h.0 ≡ w = same_inner q.0 h.0 w (some_type (future_side q.0 h.0) (FutureType w) (sym h.1 ∙ e)) in
+      subst (λ u. level r.records u < n) same (subst (λ m. m < n) (inner_level r.records q.0 h.0) h.2)
 
   -- no value of a type refers to a cell of its futures
   pub apart : (k : ℕ) (v : ValueTree) (t : TypeTree) → types k ≡ Some (FutureType t) → Fits r types v t → Sees (Off k) v
-  apart k (RecordValue d vs) t e h =
-      let n = level r.records (NamedType h.0) in
-      all_sees_off (Lower n) (Off k)
-      (λ j l q. let less = l (NamedType h.0) (ap types q ∙ e ∙ ap (λ t. Some (FutureType t)) h.2) in omega (arith, less)) vs
-      (all_lower n vs h.1.params h.5 (params_before h.0 h.1 h.4))
+  apart k (CompositeValue w vs) t e h =
+      let n = level r.records t in
+      parts_map (LeadsBy (typed_by types) (Below r.records n)) (Seen (Off k))
+      (λ q l j. let less = lower_ref n q l t (ap types j ∙ e) in omega (arith, less)) vs
+      (typed_parts r.records (typed_by types) (Below r.records n) (parts_lower n) vs h.0 h.2 (parts_below w t h.0 h.1))
   apart k (RefValue kd j) t e h = λ q.
       let same : h.0 ≡ t = same_inner kd h.0 t (some_type (future_side kd h.0) (FutureType t) (sym h.2 ∙ ap types q ∙ e)) in
       no_loop kd h.0 (same ∙ h.1)

@@ -7,7 +7,7 @@ use Rattle.std.specs.declared.option.Option.{Option}
 use Rattle.std.specs.declared.option.Option.TheVariants.{None, Some}
 use Rattle.flow_tree.specs.Tree.{TypeTree, ExprTree, ExprTrees, IntExpr, TextExpr, BoolExpr, VoidExpr, VarExpr, CallExpr, FieldExpr, MethodExpr, NotExpr, NegExpr, BinaryExpr, ParenExpr, NoExprs, MoreExprs}
 use Rattle.flow_tree.specs.Decls.{ParamTree, RecordTree, RoutineTree}
-use Rattle.flow_ast.specs.TypingNames.{named, method_names, constant_names}
+use Rattle.flow_ast.specs.TypingNames.{named, selected, constant_names}
 use Rattle.flow_ast.specs.Typing.{param_named, variable_in, is_there, type_in, types_in, without_effects, all_without_effects, with_type, more_types, applied, call_signature, field_type, method_in, bool_only, int_only, binary_type, effect_call}
 use Rattle.flow_ast.specs.Fits.{scope_over, Yields, FunctionsFit}
 use Rattle.flow_value.specs.Values.{ValueTree, values_of_list}
@@ -171,8 +171,8 @@ module _ (rs : List RecordTree) (fs actors : List RoutineTree) (c : ClassTree) (
     types_same (CallExpr f es) h = ap (λ o. with_type o (applied (call_signature (scope_over rs fs actors vars) f.name))) (all_types_same es h)
     types_same (FieldExpr e x) h = ap (λ o. with_type o (λ t. field_type rs t x.name)) (types_same e h)
     types_same (MethodExpr e k es) h =
-        ap (λ o. with_type o (λ t. with_type (types_in (scope_over rs fs actors (filled_vars m vars)) es) (applied (method_in t (named method_names k.name))))) (types_same e h.0)
-        ∙ ap (λ o. with_type (type_in (scope_over rs fs actors vars) e) (λ t. with_type o (applied (method_in t (named method_names k.name))))) (all_types_same es h.1)
+        ap (λ o. with_type o (λ t. with_type (types_in (scope_over rs fs actors (filled_vars m vars)) es) (applied (method_in t (selected k))))) (types_same e h.0)
+        ∙ ap (λ o. with_type (type_in (scope_over rs fs actors vars) e) (λ t. with_type o (applied (method_in t (selected k))))) (all_types_same es h.1)
     types_same (NotExpr e) h = ap (λ o. with_type o bool_only) (types_same e h)
     types_same (NegExpr e) h = ap (λ o. with_type o int_only) (types_same e h)
     types_same (BinaryExpr op a b) h =

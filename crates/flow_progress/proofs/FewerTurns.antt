@@ -10,7 +10,7 @@ use Rattle.flow_ast.specs.declared.predefined.Predefined as code
 use Rattle.flow_tree.specs.Tree.{ExprTree, ExprTrees, VarExpr, CallExpr, FieldExpr, MethodExpr, NotExpr, NegExpr, BinaryExpr, ParenExpr, NoExprs, MoreExprs}
 use Rattle.flow_tree.specs.Body.{IntoTree, ChangeTree, PlusChange, MinusChange, UpChange, DownChange, Body, End, BlockStmt, IfStmt, IfElseStmt, WhileStmt, ForStmt, LoopStmt, BreakStmt, ContinueStmt, ReturnStmt, ThrowStmt, TryStmt, ChooseStmt, DeclareStmt, AssignStmt, ModifyStmt, CallStmt, WaitStmt}
 use Rattle.flow_tree.specs.Decls.{RoutineTree}
-use Rattle.flow_ast.specs.TypingNames.{named, call_names, method_names, constant_names}
+use Rattle.flow_ast.specs.TypingNames.{named, selected, call_names, constant_names}
 use Rattle.flow_ast.specs.Typing.{routine_named}
 use Rattle.flow_value.specs.declared.value.RecordId.{RecordId}
 use Rattle.flow_value.specs.Values.{ValueTree}
@@ -105,10 +105,10 @@ module _ (n : ℕ) (s : Setting) (run : Runner) (runs : RunnerFewer n run) where
         then_fewer n (eval s run look e left) (λ v left. at_once (field_answer (field s.records v x.name)) left) (eval_fewer look e left h)
         (λ v left le. once_fewer n (field_answer (field s.records v x.name)) left le)
     eval_fewer look (MethodExpr e m xs) left h =
-        then_fewer n (eval s run look e left) (λ v left. then (eval_all s run look xs left) (λ vs left. at_once (method_called s.cells (named method_names m.name) v vs) left))
+        then_fewer n (eval s run look e left) (λ v left. then (eval_all s run look xs left) (λ vs left. at_once (method_called s.cells (selected m) v vs) left))
         (eval_fewer look e left h)
-        (λ v left le. then_fewer n (eval_all s run look xs left) (λ vs left. at_once (method_called s.cells (named method_names m.name) v vs) left)
-        (eval_all_fewer look xs left le) (λ vs left le. once_fewer n (method_called s.cells (named method_names m.name) v vs) left le))
+        (λ v left le. then_fewer n (eval_all s run look xs left) (λ vs left. at_once (method_called s.cells (selected m) v vs) left)
+        (eval_all_fewer look xs left le) (λ vs left le. once_fewer n (method_called s.cells (selected m) v vs) left le))
     eval_fewer look (NotExpr e) left h = then_fewer n (eval s run look e left) (λ v left. at_once (inverted v) left) (eval_fewer look e left h) (λ v left le. once_fewer n (inverted v) left le)
     eval_fewer look (NegExpr e) left h = then_fewer n (eval s run look e left) (λ v left. at_once (negated v) left) (eval_fewer look e left h) (λ v left le. once_fewer n (negated v) left le)
     eval_fewer look (BinaryExpr op a b) left h =

@@ -15,10 +15,10 @@ use Rattle.flow_ast.specs.Typing.{Signature, signature, is_effect, equality_type
 use Rattle.flow_ast.specs.TypingNames.{named, call_names}
 use Rattle.flow_value.specs.declared.value.Kind.{Kind}
 use Rattle.flow_value.specs.declared.value.Kind.TheVariants as kind
-use Rattle.flow_value.specs.Values.{ValueTree, IntValue, BoolValue, TextValue, VoidValue, ErrorValue, RecordValue, RefValue, GoodOutcome, BadOutcome, values_of_list}
+use Rattle.flow_value.specs.Values.{ValueTree, IntValue, BoolValue, TextValue, VoidValue, ErrorValue, CompositeValue, RefValue, GoodOutcome, BadOutcome, values_of_list}
 use Rattle.flow_eval.specs.Answers.{int_of, text_of, error_of, arg}
 use Rattle.flow_eval.specs.Typed.{HasType, HaveTypes}
-use Rattle.flow_eval.proofs.TypedValues.{some_same, none_some, is_int_value, is_bool_value, is_text_value, is_error_value}
+use Rattle.flow_eval.proofs.TypedValues.{some_same, none_some, is_int_value, is_bool_value, is_text_value, is_error_value, no_parts}
 use Rattle.flow_class.specs.Classes.{ClassTree, RawTree}
 use Rattle.flow_valid.specs.Validity.{operand_type}
 use Rattle.flow_meaning.specs.Lines.{print_line}
@@ -55,7 +55,7 @@ module _ (rs : List RecordTree) (typed : ℕ → TypeTree → Type 0) where
   promise_ref (TextValue s) u h = absurd cc
   promise_ref VoidValue u h = absurd cc
   promise_ref (ErrorValue e) u h = absurd cc
-  promise_ref (RecordValue r vs) u h = let d = h.2 in absurd cc
+  promise_ref (CompositeValue w vs) u h = no_parts rs w (PromiseType u) h.0 refl h.1
   promise_ref (RefValue kind.Promise c) u h = let d = h.1 in let e : h.0 ≡ u = cc in (c, refl, subst (λ t. typed c (FutureType t)) e h.2)
   promise_ref (RefValue kind.Future c) u h = let d = h.1 in absurd cc
   promise_ref (RefValue kind.PromiseStream c) u h = let d = h.1 in absurd cc
@@ -67,7 +67,7 @@ module _ (rs : List RecordTree) (typed : ℕ → TypeTree → Type 0) where
   stream_ref (TextValue s) u h = absurd cc
   stream_ref VoidValue u h = absurd cc
   stream_ref (ErrorValue e) u h = absurd cc
-  stream_ref (RecordValue r vs) u h = let d = h.2 in absurd cc
+  stream_ref (CompositeValue w vs) u h = no_parts rs w (PromiseStreamType u) h.0 refl h.1
   stream_ref (RefValue kind.PromiseStream c) u h = let d = h.1 in let e : h.0 ≡ u = cc in (c, refl, subst (λ t. typed c (FutureStreamType t)) e h.2)
   stream_ref (RefValue kind.Future c) u h = let d = h.1 in absurd cc
   stream_ref (RefValue kind.Promise c) u h = let d = h.1 in absurd cc
@@ -79,7 +79,7 @@ module _ (rs : List RecordTree) (typed : ℕ → TypeTree → Type 0) where
   future_ref (TextValue s) u h = absurd cc
   future_ref VoidValue u h = absurd cc
   future_ref (ErrorValue e) u h = absurd cc
-  future_ref (RecordValue r vs) u h = let d = h.2 in absurd cc
+  future_ref (CompositeValue w vs) u h = no_parts rs w (FutureType u) h.0 refl h.1
   future_ref (RefValue kind.Future c) u h = let d = h.1 in let e : h.0 ≡ u = cc in (c, refl, subst (λ t. typed c (FutureType t)) e h.2)
   future_ref (RefValue kind.Promise c) u h = let d = h.1 in absurd cc
   future_ref (RefValue kind.PromiseStream c) u h = let d = h.1 in absurd cc
@@ -91,7 +91,7 @@ module _ (rs : List RecordTree) (typed : ℕ → TypeTree → Type 0) where
   next_ref (TextValue s) u h = absurd cc
   next_ref VoidValue u h = absurd cc
   next_ref (ErrorValue e) u h = absurd cc
-  next_ref (RecordValue r vs) u h = let d = h.2 in absurd cc
+  next_ref (CompositeValue w vs) u h = no_parts rs w (FutureStreamType u) h.0 refl h.1
   next_ref (RefValue kind.FutureStream c) u h = let d = h.1 in let e : h.0 ≡ u = cc in (c, refl, subst (λ t. typed c (FutureStreamType t)) e h.2)
   next_ref (RefValue kind.Promise c) u h = let d = h.1 in absurd cc
   next_ref (RefValue kind.PromiseStream c) u h = let d = h.1 in absurd cc

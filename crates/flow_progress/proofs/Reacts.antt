@@ -6,7 +6,7 @@ use Rattle.std.specs.declared.option.Option.TheVariants.{None, Some}
 use Rattle.flow_base.specs.ErrorNumbers.{operation_cancelled, second_waiter, already_set, port_in_use, bad_argument, out_of_range}
 use Rattle.flow_value.specs.declared.value.Kind.{Kind}
 use Rattle.flow_value.specs.declared.value.Kind.TheVariants as kind
-use Rattle.flow_value.specs.Values.{ValueTree, IntValue, BoolValue, TextValue, VoidValue, ErrorValue, RecordValue, RefValue, OutcomeTree, GoodOutcome}
+use Rattle.flow_value.specs.Values.{ValueTree, IntValue, BoolValue, TextValue, VoidValue, ErrorValue, CompositeValue, RefValue, OutcomeTree, GoodOutcome}
 use Rattle.flow_draw.specs.Words.{scaled}
 use Rattle.flow_eval.specs.Predefined.{natural}
 use Rattle.flow_trace.specs.declared.line.Line.{Line}
@@ -118,7 +118,7 @@ module _ (i n : ℕ) (xs : Numbered Frame) (e : Entry) (f : Frame) where
   gives_at (Kept spot) (TextValue t) c h room = tt
   gives_at (Kept spot) VoidValue c h room = tt
   gives_at (Kept spot) (ErrorValue z) c h room = tt
-  gives_at (Kept spot) (RecordValue z vs) c h room = tt
+  gives_at (Kept spot) (CompositeValue z vs) c h room = tt
 
   new_at : (goal : Goal) (k : Kind) (cell : Cell) (c : Core) → Hand i c xs e f → goal_room goal f (length e.operands) < n → Fallen c (gives_new i goal k cell c)
   new_at goal k cell c h room = let d = new_cell cell c in gives_at goal (RefValue k (suc c.made)) d (rehand i c d xs e f h.entry h) room

@@ -3,9 +3,11 @@ use Rattle.std.proofs.Common.{◌≡◌, ℕ, suc, Bool, true, false, List, [], 
 use Rattle.std.specs.declared.option.Option.{Option}
 use Rattle.std.specs.declared.option.Option.TheVariants.{None, Some}
 use Rattle.flow_tree.specs.Tree.{TypeTree, FutureType}
-use Rattle.flow_value.specs.Values.{ValueTree, ValueTrees, NoValues, MoreValues, IntValue, BoolValue, TextValue, VoidValue, ErrorValue, RecordValue, RefValue, OutcomeTree, GoodOutcome, BadOutcome}
+use Rattle.flow_value.specs.Values.{ValueTree, RefValue, OutcomeTree, GoodOutcome, BadOutcome, AllRefs, AllListed}
 use Rattle.flow_value.specs.declared.value.Kind.{Kind}
-use Rattle.flow_eval.specs.Typed.{future_side, HaveTypes}
+use Rattle.flow_value.proofs.References.{any_refs}
+use Rattle.flow_eval.specs.Typed.{future_side}
+use Rattle.flow_eval.proofs.TypedReferences.{type_moves}
 use Rattle.flow_class.specs.declared.class.Slotted.{Slotted}
 use Rattle.flow_class.specs.Classes.{ClassTree, RawTree}
 use Rattle.flow_meaning.specs.Cells.{Ref, Cell, Single, Stream}
@@ -17,19 +19,11 @@ use Rattle.flow_progress.specs.Fitting.{CellTypes, typed_by, Fits, Exists, Leads
 
 -- the cells to which things refer
 module _ (P : ℕ → Type 0) where
-  abbrev mutual
-    pub Sees : ValueTree → Type 0
-    Sees (IntValue n) = Unit {0}
-    Sees (BoolValue b) = Unit {0}
-    Sees (TextValue t) = Unit {0}
-    Sees VoidValue = Unit {0}
-    Sees (ErrorValue e) = Unit {0}
-    Sees (RecordValue r vs) = SeesAll vs
-    Sees (RefValue kd k) = P k
+  abbrev pub Seen : Ref → Type 0
+  Seen q = P q.1
 
-    pub SeesAll : ValueTrees → Type 0
-    SeesAll NoValues = Unit {0}
-    SeesAll (MoreValues v vs) = Sees v × SeesAll vs
+  abbrev pub Sees : ValueTree → Type 0
+  Sees = AllRefs Seen
 
   abbrev pub OutcomeSees : OutcomeTree → Type 0
   OutcomeSees (GoodOutcome v) = Sees v
@@ -51,8 +45,7 @@ module _ (P : ℕ → Type 0) where
   MemorySees m = (q : Slotted) (v : ValueTree) → read m q ≡ Some v → Sees v
 
   abbrev pub OperandsSee : List Ref → Type 0
-  OperandsSee [] = Unit {0}
-  OperandsSee (q ∷ qs) = P q.1 × OperandsSee qs
+  OperandsSee = AllListed Seen
 
   abbrev pub TaskSees : Task → Type 0
   TaskSees (Run i) = Unit {0}
@@ -74,15 +67,8 @@ module _ (P : ℕ → Type 0) where
   AllSeen (k ∷ ks) = P k × AllSeen ks
 
 module _ (r : RawTree) (types others : CellTypes) (P : ℕ → Type 0) (moves : (k : ℕ) (t : TypeTree) → P k → types k ≡ Some t → others k ≡ Some t) where
-  mutual
-    pub retyped : (v : ValueTree) (t : TypeTree) → Sees P v → Fits r types v t → Fits r others v t
-    retyped (RecordValue d vs) t s h = (h.0, h.1, h.2, h.3, h.4, all_retyped vs h.1.params s h.5)
-    retyped (RefValue kd k) t s h = (h.0, h.1, moves k (future_side kd h.0) s h.2)
-    retyped _ t s h = h
-
-    pub all_retyped : (vs : ValueTrees) (ts : List TypeTree) → SeesAll P vs → HaveTypes r.records (typed_by types) vs ts → HaveTypes r.records (typed_by others) vs ts
-    all_retyped NoValues ts s h = h
-    all_retyped (MoreValues v vs) ts s h = (h.0, h.1, h.2, retyped v h.0 s.0 h.3, all_retyped vs h.1 s.1 h.4)
+  pub retyped : (v : ValueTree) (t : TypeTree) → Sees P v → Fits r types v t → Fits r others v t
+  retyped = type_moves r.records (typed_by types) (typed_by others) (Seen P) (λ q u s e. moves q.1 (future_side q.0 u) s e)
 
   pub outcome_retyped : (o : OutcomeTree) (t : TypeTree) → OutcomeSees P o → OutcomeFits r.records (typed_by types) o t → OutcomeFits r.records (typed_by others) o t
   outcome_retyped (GoodOutcome v) t s h = retyped v t s h
@@ -189,15 +175,8 @@ module _ (r : RawTree) (types others : CellTypes) (P : ℕ → Type 0) (moves : 
 
 -- everything is seen where nothing is asked
 module _ (P : ℕ → Type 0) (any : (k : ℕ) → P k) where
-  mutual
-    pub sees_any : (v : ValueTree) → Sees P v
-    sees_any (RecordValue r vs) = all_sees_any vs
-    sees_any (RefValue kd k) = any k
-    sees_any _ = tt
-
-    pub all_sees_any : (vs : ValueTrees) → SeesAll P vs
-    all_sees_any NoValues = tt
-    all_sees_any (MoreValues v vs) = (sees_any v, all_sees_any vs)
+  pub sees_any : (v : ValueTree) → Sees P v
+  sees_any = any_refs (Seen P) (λ q. any q.1)
 
   pub outcome_any : (o : OutcomeTree) → OutcomeSees P o
   outcome_any (GoodOutcome v) = sees_any v

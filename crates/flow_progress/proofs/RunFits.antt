@@ -7,7 +7,9 @@ use Rattle.flow_tree.specs.Tree.{TypeTree, FutureType}
 use Rattle.flow_tree.specs.Decls.{RoutineTree}
 use Rattle.flow_value.specs.declared.value.Kind.TheVariants as kind
 use Rattle.flow_value.specs.Values.{ValueTree, RefValue, GoodOutcome, values_of_list}
-use Rattle.flow_eval.specs.Typed.{HaveTypes}
+use Rattle.flow_value.proofs.References.{any_parts}
+use Rattle.flow_eval.specs.Typed.{HaveTypes, future_side}
+use Rattle.flow_eval.proofs.TypedReferences.{types_move}
 use Rattle.flow_class.specs.Classes.{ClassTree, RawTree}
 use Rattle.flow_numbered.specs.Numbered.{Numbered, thing, added, put}
 use Rattle.flow_meaning.specs.Cells.{Single}
@@ -28,7 +30,7 @@ use Rattle.flow_progress.specs.Asking.{HaveSome, OutcomeFits, Gives, Wanted, Act
 use Rattle.flow_progress.specs.Fitting.{CellTypes, typed_by, OperandsFit, Standing, ActorFits, ProcessFits}
 use Rattle.flow_progress.proofs.Asks.{next_fits}
 use Rattle.flow_progress.proofs.Handed.{args_many, begun_fits}
-use Rattle.flow_progress.proofs.Retyped.{all_retyped, all_sees_any}
+use Rattle.flow_progress.proofs.Retyped.{Seen}
 use Rattle.flow_progress.proofs.States.{Fine, fine_same, fine_since, fine_turn, FitsBut, put_back, all_but, frame_but, actor_at, dropping_fits}
 use Rattle.flow_progress.proofs.NewCells.{with_type, Any, new_type, kept_types}
 use Rattle.flow_progress.proofs.KeptNone.{OfWait, AsksOfWaitAt, none_kept, still_kept}
@@ -91,7 +93,8 @@ module _ (r : RawTree) (actors : List RoutineTree) (rules : ClassRules r actors)
           framed = x.2.framed;
           registered = x.2.registered;
         } in
-        let args2 = all_retyped r types ts Any keeps (values_of_list args) (first_types d.params d.slots) (all_sees_any Any (λ n. tt) (values_of_list args)) fits in
+        let args2 = types_move r.records (typed_by types) (typed_by ts) (Seen Any) (λ q u s e. keeps q.1 (future_side q.0 u) s e)
+        (values_of_list args) (first_types d.params d.slots) (any_parts (Seen Any) (λ q. tt) (values_of_list args)) fits in
         let st4 = begun_fits r actors (class_vars d) (typed_by ts) d (rules.classes class d is) args args2 in
         subst (λ z. Fine r types (enrol class name (push_result i z k2)).halted (enrol class name (push_result i z k2)) (added xs (suc k.started) a)) (sym x.1)
         (fine_since r types ts None k.halted (enrol class name (pushed x.0 (pushed (Run i) k2))) (added xs (suc k.started) a) (λ n v q. keeps n v tt q)

@@ -1,12 +1,13 @@
 -- A process that fits, with one actor in hand, and put together again.
-use Rattle.std.proofs.Common.{◌≡◌, ℕ, zero, suc, Bool, true, false, List, [], ◌∷◌, ◌++◌, refl, sym, ◌∙◌, subst}
+use Rattle.std.proofs.Common.{◌≡◌, ℕ, zero, suc, Bool, true, false, List, [], ◌∷◌, refl, sym, ◌∙◌, subst}
 use Rattle.std.specs.Prelude.{codes}
 use Rattle.std.specs.declared.option.Option.{Option}
 use Rattle.std.specs.declared.option.Option.TheVariants.{None, Some}
 use Rattle.flow_tree.specs.Tree.{TypeTree, NamedType, FutureStreamType}
-use Rattle.flow_value.specs.Values.{ValueTree, ValueTrees, NoValues, MoreValues, RecordValue, RefValue, refs_of, refs_of_all}
+use Rattle.flow_value.specs.Values.{ValueTree, refs_of, AllListed}
+use Rattle.flow_value.proofs.References.{refs_listed, listed_both}
 use Rattle.flow_value.specs.declared.value.Kind.TheVariants.{Future}
-use Rattle.flow_eval.specs.Typed.{HaveTypes}
+use Rattle.flow_eval.proofs.TypedReferences.{refs_lead}
 use Rattle.flow_class.specs.Classes.{RawTree}
 use Rattle.flow_numbered.specs.Numbered.{Numbered, thing, put}
 use Rattle.flow_meaning.specs.Cells.{Ref, Waiter, Cell, waiters}
@@ -173,27 +174,18 @@ module _ (r : RawTree) (types : CellTypes) where
   }
 
   -- references of values that have types lead to cells of their kinds
+  abbrev pub RefExists : Ref → Type 0
+  RefExists q = Leads r types q.0 q.1
+
   abbrev pub RefsExist : List Ref → Type 0
-  RefsExist [] = Unit {0}
-  RefsExist (q ∷ qs) = Leads r types q.0 q.1 × RefsExist qs
+  RefsExist = AllListed RefExists
 
-  refs_both : (xs ys : List Ref) → RefsExist xs → RefsExist ys → RefsExist (xs ++ ys)
-  refs_both [] ys h k = k
-  refs_both (x ∷ xs) ys h k = (h.0, refs_both xs ys h.1 k)
-
-  mutual
-    value_refs : (v : ValueTree) (t : TypeTree) → Fits r types v t → RefsExist (refs_of v)
-    value_refs (RecordValue d vs) t h = all_refs vs h.1.params h.5
-    value_refs (RefValue kd k) t h = ((h.0, h.2), tt)
-    value_refs _ t h = tt
-
-    all_refs : (vs : ValueTrees) (ts : List TypeTree) → HaveTypes r.records (typed_by types) vs ts → RefsExist (refs_of_all vs)
-    all_refs NoValues ts h = tt
-    all_refs (MoreValues v vs) ts h = refs_both (refs_of v) (refs_of_all vs) (value_refs v h.0 h.3) (all_refs vs h.1 h.4)
+  value_refs : (v : ValueTree) (t : TypeTree) → Fits r types v t → RefsExist (refs_of v)
+  value_refs v t h = refs_listed RefExists v (refs_lead r.records (typed_by types) v t h)
 
   pub some_refs : (vs : List ValueTree) → HaveSome r.records (typed_by types) vs → RefsExist (refs_in vs)
   some_refs [] h = tt
-  some_refs (v ∷ vs) h = refs_both (refs_of v) (refs_in vs) (value_refs v h.0.0 h.0.1) (some_refs vs h.1)
+  some_refs (v ∷ vs) h = listed_both RefExists (refs_of v) (refs_in vs) (value_refs v h.0.0 h.0.1) (some_refs vs h.1)
 
   pub drops_fit : (qs : List Ref) (ts : List Task) → RefsExist qs → TasksFit r types ts → TasksFit r types (drops qs ts)
   drops_fit [] ts h k = k

@@ -5,7 +5,7 @@ use Rattle.std.specs.declared.option.Option.TheVariants.{None, Some}
 use Rattle.flow_base.specs.ErrorNumbers.{broken_promise}
 use Rattle.flow_value.specs.declared.value.Kind.{Kind}
 use Rattle.flow_value.specs.declared.value.Kind.TheVariants as kind
-use Rattle.flow_value.specs.Values.{ValueTree, IntValue, BoolValue, TextValue, VoidValue, ErrorValue, RecordValue, RefValue, OutcomeTree, BadOutcome}
+use Rattle.flow_value.specs.Values.{ValueTree, IntValue, BoolValue, TextValue, VoidValue, ErrorValue, CompositeValue, RefValue, OutcomeTree, BadOutcome}
 use Rattle.flow_numbered.specs.Numbered.{thing, put, removed}
 use Rattle.flow_meaning.specs.Cells.{Side, FutureSide, PromiseSide, side_of, Cell, taken, after_taking}
 use Rattle.flow_meaning.specs.Requests.{Goal, Stored, Kept}
@@ -107,7 +107,7 @@ push_left n i (Kept spot) class name (BoolValue b) c h = tt
 push_left n i (Kept spot) class name (TextValue t) c h = tt
 push_left n i (Kept spot) class name VoidValue c h = tt
 push_left n i (Kept spot) class name (ErrorValue z) c h = tt
-push_left n i (Kept spot) class name (RecordValue z vs) c h = tt
+push_left n i (Kept spot) class name (CompositeValue z vs) c h = tt
 
 pub start_turns : (i : ℕ) (goal : Goal) (class : ℕ) (name : List ℕ) (c : Core) → Unless (λ d. d.left < c.left) (start_core i goal class name c)
 start_turns i goal class name c =

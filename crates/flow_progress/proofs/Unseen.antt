@@ -5,7 +5,8 @@ use Rattle.std.specs.declared.option.Option.{Option}
 use Rattle.std.specs.declared.option.Option.TheVariants.{None, Some}
 use Rattle.flow_value.specs.declared.value.Kind.{Kind}
 use Rattle.flow_value.specs.declared.value.Kind.TheVariants as kind
-use Rattle.flow_value.specs.Values.{ValueTree, ValueTrees, NoValues, MoreValues, RecordValue, RefValue, OutcomeTree, GoodOutcome, BadOutcome, refs_of, refs_of_all}
+use Rattle.flow_value.specs.Values.{ValueTree, OutcomeTree, GoodOutcome, BadOutcome, refs_of}
+use Rattle.flow_value.proofs.References.{listed_refs}
 use Rattle.flow_class.specs.declared.class.Slotted.TheVariants.{Slot, Local}
 use Rattle.flow_numbered.specs.Numbered.{Numbered, thing}
 use Rattle.flow_meaning.specs.Cells.{Side, PromiseSide, FutureSide, Ref, side_of, Waiter, Cell, Single, Stream, waiters, held}
@@ -13,7 +14,7 @@ use Rattle.flow_meaning.specs.Process.{Task, Run, Give, Throw, Catch, Store, Kee
 use Rattle.flow_meaning.specs.References.{refs_in, value_in, one, count, count_maybe, count_waiters, in_cells, count_kept, in_entries, in_task, in_tasks, in_ports, in_requests, scan_of}
 use Rattle.flow_meaning.specs.Variables.{flat, filled}
 use Rattle.flow_meaning.specs.Frame.{Memory, Frame, reversed, everything, occ_memory}
-use Rattle.flow_progress.proofs.Retyped.{Sees, SeesAll, OutcomeSees, QueueSees, CellSees, MemorySees, OperandsSee, TaskSees, TasksSee, AllSeen}
+use Rattle.flow_progress.proofs.Retyped.{Seen, Sees, OutcomeSees, QueueSees, CellSees, MemorySees, OperandsSee, TaskSees, TasksSee, AllSeen}
 
 -- another number
 abbrev pub Off : ℕ → ℕ → Type 0
@@ -82,15 +83,8 @@ module _ (k : ℕ) where
     refs_off qs (zero_second (one PromiseSide k (side_of q.0) q.1) (count PromiseSide k qs) h.0, zero_second (one FutureSide k (side_of q.0) q.1) (count FutureSide k qs) h.1),
   )
 
-  mutual
-    value_off : (v : ValueTree) → Nil (refs_of v) → Sees (Off k) v
-    value_off (RecordValue d vs) h = all_off vs h
-    value_off (RefValue kd n) h = kind_off kd n (zero_first (one PromiseSide k (side_of kd) n) 0 h.0) (zero_first (one FutureSide k (side_of kd) n) 0 h.1)
-    value_off _ h = tt
-
-    all_off : (vs : ValueTrees) → Nil (refs_of_all vs) → SeesAll (Off k) vs
-    all_off NoValues h = tt
-    all_off (MoreValues v vs) h = (value_off v (nil_first (refs_of v) (refs_of_all vs) h), all_off vs (nil_second (refs_of v) (refs_of_all vs) h))
+  value_off : (v : ValueTree) → Nil (refs_of v) → Sees (Off k) v
+  value_off v h = listed_refs (Seen (Off k)) v (refs_off (refs_of v) h)
 
   queue_off : (vs : List ValueTree) → Nil (refs_in vs) → QueueSees (Off k) vs
   queue_off [] h = tt

@@ -11,7 +11,7 @@ use Rattle.flow_ast.specs.declared.predefined.Predefined.{Predefined}
 use Rattle.flow_ast.specs.declared.predefined.Predefined.TheVariants as predefined
 use Rattle.flow_ast.specs.declared.predefined.Method.{Method}
 use Rattle.flow_ast.specs.declared.predefined.Method.TheVariants as method
-use Rattle.flow_tree.specs.Tree.{TypeTree, IntType, BoolType, StringType, VoidType, ErrorType, NamedType, FutureType, PromiseType, PromiseStreamType, ExprTree, ExprTrees, IntExpr, TextExpr, BoolExpr, VoidExpr, VarExpr, CallExpr, FieldExpr, MethodExpr, NotExpr, NegExpr, BinaryExpr, ParenExpr, NoExprs, MoreExprs}
+use Rattle.flow_tree.specs.Tree.{Selector, ByName, ByIndex, TypeTree, IntType, BoolType, StringType, VoidType, ErrorType, NamedType, FutureType, PromiseType, PromiseStreamType, ExprTree, ExprTrees, IntExpr, TextExpr, BoolExpr, VoidExpr, VarExpr, CallExpr, FieldExpr, MethodExpr, NotExpr, NegExpr, BinaryExpr, ParenExpr, NoExprs, MoreExprs}
 use Rattle.flow_ast.specs.TypingNames.{named, call_names, method_names, constant_names}
 use Rattle.flow_ast.specs.Typing.{Signature, signature, same_type, sign_type, binary_type, equality_type, method_in, with_type, is_there}
 use Rattle.flow_rules.specs.declared.rule.SemanticRule.{SemanticRule}
@@ -119,6 +119,16 @@ abbrev pub called_on : Option TypeTree → List ℕ → Option Callee
 called_on None m = None
 called_on (Some t) m = called_by t (named method_names m)
 
+-- an index takes an int; no type has elements, so it has no type, as a statement call has none
+abbrev pub indexed_on : Option TypeTree → Option Callee
+indexed_on None = None
+indexed_on (Some t) = Some (statement (Exactly IntType ∷ []))
+
+-- what a selector behind a base of this type calls
+abbrev pub selected_on : Option TypeTree → Selector → Option Callee
+selected_on t (ByName x) = called_on t x.name
+selected_on t ByIndex = indexed_on t
+
 abbrev pub needs_of : Option Callee → List Need
 needs_of None = []
 needs_of (Some c) = c.needs
@@ -168,7 +178,7 @@ form s VoidExpr = Some VoidType
 form s (VarExpr x) = variable_form s x.name
 form s (CallExpr f xs) = gives_of (called s f.name)
 form s (FieldExpr e x) = with_type (form s e) (λ t. field_form s t x.name)
-form s (MethodExpr e m xs) = gives_of (called_on (form s e) m.name)
+form s (MethodExpr e m xs) = gives_of (selected_on (form s e) m)
 form s (NotExpr e) = Some BoolType
 form s (NegExpr e) = Some IntType
 form s (BinaryExpr op a b) = sign_form op (form s a) (form s b)
@@ -247,8 +257,8 @@ abbrev mutual
   fault s whole (FieldExpr e x) = lesser (fault s false e) (of_field s (form s e) x.name)
   fault s whole (MethodExpr e m xs) =
       lesser (fault s false e)
-      (lesser (faults s 0 (needs_of (called_on (form s e) m.name)) xs)
-      (calls_on (form s e) xs (called_on (form s e) m.name) (placed s false)))
+      (lesser (faults s 0 (needs_of (selected_on (form s e) m)) xs)
+      (calls_on (form s e) xs (selected_on (form s e) m) (placed s false)))
   fault s whole (NotExpr e) = lesser (fault s false e) (wants (form s e) BoolType)
   fault s whole (NegExpr e) = lesser (fault s false e) (wants (form s e) IntType)
   fault s whole (BinaryExpr op a b) = lesser (lesser (fault s false a) (fault s false b)) (operands op (form s a) (form s b))

@@ -13,7 +13,7 @@ use Rattle.flow_tree.specs.declared.token.Sign.TheVariants as sign
 use Rattle.flow_tree.specs.declared.expr.Op.{Op}
 use Rattle.flow_tree.specs.declared.expr.Op.TheVariants.{Or}
 use Rattle.flow_tree.specs.Spelling.{word_bytes, sign_bytes}
-use Rattle.flow_tree.specs.Tree.{TypeTree, ExprTree, ExprTrees, IntExpr, TextExpr, BoolExpr, VoidExpr, VarExpr, CallExpr, FieldExpr, MethodExpr, NotExpr, NegExpr, BinaryExpr, ParenExpr, NoExprs, MoreExprs}
+use Rattle.flow_tree.specs.Tree.{ByName, TypeTree, ExprTree, ExprTrees, IntExpr, TextExpr, BoolExpr, VoidExpr, VarExpr, CallExpr, FieldExpr, MethodExpr, NotExpr, NegExpr, BinaryExpr, ParenExpr, NoExprs, MoreExprs}
 use Rattle.flow_tree.specs.GrammarToken.{Node, Marked, opens, begin}
 use Rattle.flow_tree.specs.Grammar.{sign_at, node_sign, Wrapper, FutureOf, FutureStreamOf, PromiseOf, PromiseStreamOf, wrapper_word, wrapped, TypeRule, int_type, bool_type, string_type, void_type, error_type, named_type, wrapped_type, level, op_sign, ExprRule, number, text, truth, falsehood, void, variable, call, paren, field, method, negation, minus, binary, ArgsRule, no_args, some_args, MoreArgsRule, end_args, more_args}
 use Rattle.flow_tree.specs.Canon.{type_text, minus_gap, expr_text, args_text, more_args_text, placeless_ident, placeless_expr, placeless_exprs}
@@ -250,8 +250,8 @@ expr_opens {k} {d} (field {t = t} p x of r e) v =
     subst (Opening k (FieldExpr t x)) (sym (field_text (expr_text t) x.name))
     (more_opens k (FieldExpr t x) t (expr_text t) (46 ∷ x.name) (expr_opens r (valid_begun (Node d) of (valid_left (begin (Node d) of) _ (subst AllValid e v)))))
 expr_opens {k} {d} (method {t = t} {ts = ts} p q r f of args a b e) v =
-    subst (Opening k (MethodExpr t f ts)) (sym (method_text (expr_text t) f.name (args_text ts)))
-    (more_opens k (MethodExpr t f ts) t (expr_text t) (46 ∷ (f.name ++ (40 ∷ (args_text ts ++ 41 ∷ []))))
+    subst (Opening k (MethodExpr t (ByName f) ts)) (sym (method_text (expr_text t) f.name (args_text ts)))
+    (more_opens k (MethodExpr t (ByName f) ts) t (expr_text t) (46 ∷ (f.name ++ (40 ∷ (args_text ts ++ 41 ∷ []))))
     (expr_opens a (valid_begun (Node d) of (valid_left (begin (Node d) of) _ (subst AllValid e v)))))
 expr_opens {k} (negation p of le r e) v = byte_opens k (NotExpr _) 33 _ refl (λ e. omega (arith, e))
 expr_opens {k} (minus {t = t} p of le r e) v = record {
@@ -358,7 +358,7 @@ mutual
         marked = _;
         tree = _;
         rule = method y.1.0 y.1.1.1.0 y.1.1.1.1.1 (record { name = f.name; at = y.1.1.0 }) y.0.marked y.1.1.1.1.0.marked y.0.rule y.1.1.1.1.0.rule refl;
-        like = ap₂ (λ u us. MethodExpr u (placeless_ident f) us) y.0.like y.1.1.1.1.0.like;
+        like = ap₂ (λ u us. MethodExpr u (ByName (placeless_ident f)) us) y.0.like y.1.1.1.1.0.like;
       })
       (λ y. refl) e (method_text (expr_text t) f.name (args_text ts))
   expr_piece {k} {d} (negation {t = t} p of le r e) v =

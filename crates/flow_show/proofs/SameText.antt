@@ -7,10 +7,10 @@ use Rattle.std.specs.declared.option.Option.TheVariants.{None, Some}
 use Rattle.flow_tree.specs.declared.ty.Ident.{Ident}
 use Rattle.flow_tree.specs.Spelling.{sign_bytes}
 use Rattle.flow_tree.specs.Grammar.{op_sign}
-use Rattle.flow_tree.specs.Tree.{ExprTree, ExprTrees, IntExpr, TextExpr, BoolExpr, VoidExpr, VarExpr, CallExpr, FieldExpr, MethodExpr, NotExpr, NegExpr, BinaryExpr, ParenExpr, NoExprs, MoreExprs}
+use Rattle.flow_tree.specs.Tree.{ByName, ByIndex, ExprTree, ExprTrees, IntExpr, TextExpr, BoolExpr, VoidExpr, VarExpr, CallExpr, FieldExpr, MethodExpr, NotExpr, NegExpr, BinaryExpr, ParenExpr, NoExprs, MoreExprs}
 use Rattle.flow_tree.specs.Body.{IntoTree, WaitTree, ChangeTree, PlusChange, MinusChange, UpChange, DownChange, Body, End, BlockStmt, IfStmt, IfElseStmt, WhileStmt, ForStmt, LoopStmt, BreakStmt, ContinueStmt, ReturnStmt, ThrowStmt, TryStmt, ChooseStmt, DeclareStmt, AssignStmt, ModifyStmt, CallStmt, WaitStmt, Branches, NoBranches, MoreBranches}
 use Rattle.flow_tree.specs.Decls.{ParamTree, RoutineTree, DeclTree, StructDecl, FunctionDecl, ActorDecl, ProgramTree}
-use Rattle.flow_tree.specs.Canon.{type_text, minus_gap, expr_text, args_text, more_args_text, path_text, named_text, into_text, into_part, waiting_text, maybe_text, declare_text, assign_text, change_text, modify_text, call_text, part_text, line, body_text, branches_text, fields_text, more_params_text, params_text, routine_text, decl_text, decls_text, Canon, placeless_ident, placeless_expr, placeless_exprs, placeless_into, placeless_wait, placeless_change, placeless_body, placeless_branches, placeless_param, placeless_routine, placeless_decl, bare}
+use Rattle.flow_tree.specs.Canon.{type_text, minus_gap, selected_text, expr_text, args_text, more_args_text, path_text, named_text, into_text, into_part, waiting_text, maybe_text, declare_text, assign_text, change_text, modify_text, call_text, part_text, line, body_text, branches_text, fields_text, more_params_text, params_text, routine_text, decl_text, decls_text, Canon, placeless_ident, placeless_expr, placeless_exprs, placeless_into, placeless_wait, placeless_change, placeless_body, placeless_branches, placeless_param, placeless_routine, placeless_decl, bare}
 
 gap_same : (e : ExprTree) → minus_gap e ≡ minus_gap (placeless_expr e)
 gap_same (NegExpr e) = refl
@@ -26,7 +26,8 @@ mutual
   expr_same (VarExpr x) = refl
   expr_same (CallExpr f es) = ap (λ l. f.name ++ codes "(" ++ l ++ codes ")") (args_same es)
   expr_same (FieldExpr e x) = ap (λ l. l ++ codes "." ++ x.name) (expr_same e)
-  expr_same (MethodExpr e f es) = ap₂ (λ k l. k ++ codes "." ++ f.name ++ codes "(" ++ l ++ codes ")") (expr_same e) (args_same es)
+  expr_same (MethodExpr e (ByName f) es) = ap₂ (λ k l. selected_text k (ByName f) l) (expr_same e) (args_same es)
+  expr_same (MethodExpr e ByIndex es) = ap₂ (λ k l. selected_text k ByIndex l) (expr_same e) (args_same es)
   expr_same (NotExpr e) = ap (λ l. codes "!" ++ l) (expr_same e)
   expr_same (NegExpr e) = ap₂ (λ k l. codes "-" ++ k ++ l) (gap_same e) (expr_same e)
   expr_same (BinaryExpr op a b) = ap₂ (λ k l. k ++ codes " " ++ sign_bytes (op_sign op) ++ codes " " ++ l) (expr_same a) (expr_same b)

@@ -114,7 +114,7 @@ moved means k k' e e' limit P ke ee h =
 
 -- what the edits of lines come to
 pub shrinks_lines : (S : World → Type 0) (first : World) (x : Shrunk) → ShrinksBy line_goes S first x → Shrinks S first x
-shrinks_lines S first (Least w) h = least_lines S first (seen w) h
+shrinks_lines S first (Least w) h = (h.0, least_lines S first (seen w) h.1)
 shrinks_lines S first NotStopped h = h
 
 pub not_both : {b : Bool} → b ≡ true → b ≡ false → ⊥

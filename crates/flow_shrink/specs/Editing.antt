@@ -31,7 +31,7 @@ pub record IsLeastBy (e : Edit) (IsStopped : World → Type 0) (first least : Wo
 
 -- what making a world smaller by an edit comes to
 abbrev pub ShrinksBy : Edit → (IsStopped : World → Type 0) → (first : World) → Shrunk → Type 0
-ShrinksBy e IsStopped first (Least w) = IsLeastBy e IsStopped first (seen w)
+ShrinksBy e IsStopped first (Least w) = IsStopped first × IsLeastBy e IsStopped first (seen w)
 ShrinksBy e IsStopped first NotStopped = IsStopped first → ⊥
 
 -- What trying an edit of a world at a place comes to: it is made where the world after it stops, and else the world stays.

@@ -1,7 +1,6 @@
 -- Worlds whose run a monitor stops, and such a world of whose script no line can go.
-use Rattle.std.specs.Prelude.{◌≡◌, ◌≤◌, ◌<◌, ◌+◌, ◌*◌, ℕ, Bool, true, false, not, if◌then◌else◌, List, [], ◌∷◌, length}
+use Rattle.std.specs.Prelude.{◌≡◌, ◌<◌, ◌+◌, ◌*◌, ℕ, Bool, true, false, not, if◌then◌else◌, List, [], ◌∷◌, length}
 use Rattle.std.specs.List.{remove}
-use Rattle.std.specs.declared.option.Option.TheVariants.{Some}
 use Rattle.flow_trace.specs.declared.line.Line.{Line}
 use Rattle.flow_trace.specs.declared.line.Line.TheVariants.{EndSpent}
 use Rattle.flow_monitor.specs.declared.monitor.Heard.{Heard}
@@ -68,9 +67,9 @@ pub record IsLeast (IsStopped : World → Type 0) (first least : World) : Type 0
   pub stops : IsStopped least
   pub each : (k : ℕ) → k < length least.script → IsStopped (without k least) → ⊥
 
--- what shrinking a world comes to
+-- what shrinking a world comes to: it is not stopped exactly where that is said
 abbrev pub Shrinks : (IsStopped : World → Type 0) → (first : World) → Shrunk → Type 0
-Shrinks IsStopped first (Least w) = IsLeast IsStopped first (seen w)
+Shrinks IsStopped first (Least w) = IsStopped first × IsLeast IsStopped first (seen w)
 Shrinks IsStopped first NotStopped = IsStopped first → ⊥
 
 -- how often a world of so many lines is run at most

@@ -4,7 +4,7 @@ use Rattle.std.specs.declared.option.Option.{Option}
 use Rattle.std.specs.declared.option.Option.TheVariants.{None, Some}
 use Rattle.flow_base.specs.declared.ids.ActorId.{ActorId}
 use Rattle.flow_value.specs.declared.value.Value.{Value}
-use Rattle.flow_value.specs.Values.{ValueTree, IntValue, BoolValue, TextValue, VoidValue, ErrorValue, RecordValue, RefValue}
+use Rattle.flow_value.specs.Values.{ValueTree, IntValue, BoolValue, TextValue, VoidValue, ErrorValue, CompositeValue, RefValue}
 use Rattle.flow_value.specs.View.{value_of}
 use Rattle.flow_eval.specs.Eval.{Done}
 use Rattle.flow_class.specs.Classes.{RawTree}
@@ -229,7 +229,7 @@ module _ (r : RawTree) (ls : List Line) (m : Process) (p : Proc Frame) (i : ℕ)
       by_value (TextValue k) left done keeps = absurd keeps
       by_value VoidValue left done keeps = absurd keeps
       by_value (ErrorValue k) left done keeps = absurd keeps
-      by_value (RecordValue d vs) left done keeps = absurd keeps
+      by_value (CompositeValue d vs) left done keeps = absurd keeps
 
       by_case : GivesValue value_of comes_to m (OperandKept s (next_callback e f)) pace n ⊎ GoesBy r ls x w i e.class (on_core (pushed (Run i)) p) pace n
           → GoesBy r ls x w i e.class (on_core (pushed (Run i)) p) pace n

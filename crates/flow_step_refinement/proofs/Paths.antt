@@ -5,10 +5,9 @@ use Rattle.std.specs.declared.option.Option.{Option}
 use Rattle.std.specs.declared.option.Option.TheVariants.{None, Some}
 use Rattle.flow_tree.specs.declared.ty.Ident.{Ident}
 use Rattle.flow_tree.specs.Decls.{RecordTree}
-use Rattle.flow_value.specs.declared.value.RecordId.{RecordId}
-use Rattle.flow_value.specs.Values.{ValueTree, ValueTrees, IntValue, BoolValue, TextValue, VoidValue, ErrorValue, RecordValue, RefValue}
+use Rattle.flow_value.specs.Values.{ValueTree, ValueTrees, IntValue, BoolValue, TextValue, VoidValue, ErrorValue, CompositeValue, RefValue, value_at, value_put, at_place, Whole}
 use Rattle.flow_value.specs.View.{value_of}
-use Rattle.flow_eval.specs.Records.{value_at, value_put, at_place, field_place}
+use Rattle.flow_eval.specs.Records.{field_place}
 use Rattle.flow_eval.specs.Functions as eval
 use Rattle.flow_eval.specs.Functions.{put_in, read_in}
 use Rattle.flow_code.specs.Resolved.Resolving.{IsNumbering, place_by}
@@ -57,9 +56,9 @@ one_more_is (Some g) (Some hs) gs h = let same : g ∷ hs ≡ gs = cc (h) in (g,
 
 module _ (rs : List RecordTree) (field : List ℕ → Option ℕ) (at : Numbering) (numbering : IsNumbering rs field at) where
   -- a record of which a part is exchanged
-  within_is : (r : RecordId) (vs : ValueTrees) (n m : Option ℕ) (fs : List ℕ) (ys : List Ident) (u t : ValueTree) (a b : Option ValueTree) → n ≡ m
+  within_is : (r : Whole) (vs : ValueTrees) (n m : Option ℕ) (fs : List ℕ) (ys : List Ident) (u t : ValueTree) (a b : Option ValueTree) → n ≡ m
       → within r vs n (exchanged at fs u (at_place vs n)) ≡ Some (a, b)
-      → eval.put_at (RecordValue r vs) m (put_in rs (at_place vs m) ys u) ≡ Some t
+      → eval.put_at (CompositeValue r vs) m (put_in rs (at_place vs m) ys u) ≡ Some t
       → ((o : Option ValueTree) (t : ValueTree) (a b : Option ValueTree) → exchanged at fs u o ≡ Some (a, b) → put_in rs o ys u ≡ Some t → Exchanges rs ys o t a b)
       → (b ≡ Some t) × (read_in rs (at_place vs m) ys ≡ a)
   within_is r vs None m fs ys u t a b same h k rest = absurd (cc (h))
@@ -72,7 +71,7 @@ module _ (rs : List RecordTree) (field : List ℕ → Option ℕ) (at : Numberin
       moved : within r vs (Some j) (exchanged at fs u (value_at vs j)) ≡ Some (a, b)
       moved = subst (λ l. within r vs (Some l) (exchanged at fs u (value_at vs l)) ≡ Some (a, b)) number h
 
-      by_inner : (o : Option ValueTree) → put_in rs (value_at vs j) ys u ≡ o → eval.put_at (RecordValue r vs) (Some j) o ≡ Some t → (b ≡ Some t) × (read_in rs (value_at vs j) ys ≡ a)
+      by_inner : (o : Option ValueTree) → put_in rs (value_at vs j) ys u ≡ o → eval.put_at (CompositeValue r vs) (Some j) o ≡ Some t → (b ≡ Some t) × (read_in rs (value_at vs j) ys ≡ a)
       by_inner None e f = absurd (cc (f))
       by_inner (Some w) e f = by_exchange (exchanged at fs u (value_at vs j)) refl moved
         where
@@ -82,12 +81,12 @@ module _ (rs : List RecordTree) (field : List ℕ → Option ℕ) (at : Numberin
           by_exchange (Some (old, Some new)) g z =
               let inner = rest (value_at vs j) w old (Some new) g e in
               let is : Some new ≡ Some w = inner.new in
-              let pair = some_is {A = Exchange} (old, Some (RecordValue r (value_put vs j new))) (a, b) z in
-              let one : Some (RecordValue r (value_put vs j new)) ≡ b = ap (λ (y : Exchange). y.1) pair in
-              let two : RecordValue r (value_put vs j w) ≡ t = some_is (RecordValue r (value_put vs j w)) t f in
+              let pair = some_is {A = Exchange} (old, Some (CompositeValue r (value_put vs j new))) (a, b) z in
+              let one : Some (CompositeValue r (value_put vs j new)) ≡ b = ap (λ (y : Exchange). y.1) pair in
+              let two : CompositeValue r (value_put vs j w) ≡ t = some_is (CompositeValue r (value_put vs j w)) t f in
               let three : old ≡ a = ap (λ (y : Exchange). y.0) pair in
               let four : new ≡ w = some_is new w is in
-              (sym one ∙ ap (λ y. Some (RecordValue r (value_put vs j y))) four ∙ ap (λ y. Some y) two, inner.old ∙ three)
+              (sym one ∙ ap (λ y. Some (CompositeValue r (value_put vs j y))) four ∙ ap (λ y. Some y) two, inner.old ∙ three)
 
   exchange_is : (xs : List Ident) (fs : List ℕ) → fields_of field xs ≡ Some fs → (u : ValueTree) (o : Option ValueTree) (t : ValueTree) (a b : Option ValueTree)
       → exchanged at fs u o ≡ Some (a, b) → put_in rs o xs u ≡ Some t → Exchanges rs xs o t a b
@@ -97,7 +96,7 @@ module _ (rs : List RecordTree) (field : List ℕ → Option ℕ) (at : Numberin
       record { new = sym new ∙ ap (λ y. Some y) same; old = old }
   exchange_is [] (f ∷ fs) n u (Some v) t a b h k = absurd (cc (n))
   exchange_is (y ∷ ys) [] n u (Some v) t a b h k = let m = one_more_is (field y.name) (fields_of field ys) [] n in absurd (let c = m.1.1.2 in cc (c))
-  exchange_is (y ∷ ys) (f ∷ fs) n u (Some (RecordValue r vs)) t a b h k =
+  exchange_is (y ∷ ys) (f ∷ fs) n u (Some (CompositeValue r vs)) t a b h k =
       let m = one_more_is (field y.name) (fields_of field ys) (f ∷ fs) n in
       let z = m.1.1.2 in
       let first : f ≡ m.0 = cc (z) in

@@ -1,7 +1,7 @@
 -- A step after which an actor goes on at once asks for nothing, and takes no time.
 use Rattle.std.proofs.Common.{◌≡◌, ℕ, ◌-◌, nat_lt, Bool, true, false, List, [], ◌∷◌, if◌then◌else◌, refl, sym, ap, ◌∙◌}
 use Rattle.flow_value.specs.declared.value.Value.{Value}
-use Rattle.flow_value.specs.Values.{ValueTree, IntValue, BoolValue, TextValue, VoidValue, ErrorValue, RecordValue, RefValue}
+use Rattle.flow_value.specs.Values.{ValueTree, IntValue, BoolValue, TextValue, VoidValue, ErrorValue, CompositeValue, RefValue}
 use Rattle.flow_value.specs.View.{value_of}
 use Rattle.flow_code.specs.declared.class.Act.{Act}
 use Rattle.flow_code.specs.declared.class.Act.TheVariants as act
@@ -84,7 +84,7 @@ module _ (code : Code) (s : ControlPoint) (m n : Process) (t : ControlPoint) whe
   reference_quiet c (TextValue z) k pace on keeps a b = absurd keeps
   reference_quiet c VoidValue k pace on keeps a b = absurd keeps
   reference_quiet c (ErrorValue z) k pace on keeps a b = absurd keeps
-  reference_quiet c (RecordValue d vs) k pace on keeps a b = absurd keeps
+  reference_quiet c (CompositeValue d vs) k pace on keeps a b = absurd keeps
 
   operand_quiet : (c : ℕ) (o : Operand) (k : Process) (pace : Pace) → pace ≡ On t → OperandStep code (noted_stand s) c o k pace n → k.asked ≡ m.asked → k.time ≡ m.time → Quiet m n
   operand_quiet c (operand.Value e) k pace on does a b = let d = evaluated_on (noted_stand s) _ _ k _ t pace n on does in reference_quiet c (value_of d.0) _ pace on d.1.1 a b

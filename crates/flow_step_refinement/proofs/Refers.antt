@@ -1,17 +1,18 @@
 -- What an actor evaluates refers to what is there.
-use Rattle.std.proofs.Common.{◌≡◌, ℕ, Bool, true, false, List, [], ◌∷◌, ◌++◌, refl, ap, ◌∙◌, subst}
+use Rattle.std.proofs.Common.{◌≡◌, ℕ, Bool, true, false, List, [], ◌∷◌, refl, ap, ◌∙◌, subst}
 use Rattle.std.specs.declared.option.Option.{Option}
 use Rattle.std.specs.declared.option.Option.TheVariants.{None, Some}
 use Rattle.flow_value.specs.declared.value.Kind.{Kind}
 use Rattle.flow_value.specs.declared.value.Kind.TheVariants as kind
-use Rattle.flow_value.specs.Values.{ValueTree, ValueTrees, IntValue, BoolValue, TextValue, VoidValue, ErrorValue, RecordValue, RefValue, NoValues, MoreValues, refs_of, refs_of_all}
+use Rattle.flow_value.specs.Values.{ValueTree, refs_of}
+use Rattle.flow_value.proofs.References.{refs_map, listed_both, refs_listed, listed_refs}
 use Rattle.flow_eval.specs.Eval.{Res, Done}
 use Rattle.flow_class.specs.declared.class.Slotted.{Slotted}
 use Rattle.flow_class.specs.Places.{place_named}
-use Rattle.flow_heap_refinement.specs.Evaluation.{Rule, GivesFutures, Named, FieldsNamed, AllNamed, MaybeNamed, ResNamed, AllResNamed, LookNamed}
+use Rattle.flow_heap_refinement.specs.Evaluation.{Rule, GivesFutures, RefNamed, Named, AllNamed, MaybeNamed, ResNamed, AllResNamed, LookNamed}
 use Rattle.flow_heap_refinement.proofs.Evaluation.Names.{eval_names, all_names}
 use Rattle.flow_numbered.specs.Numbered.{thing}
-use Rattle.flow_meaning.specs.Cells.{Ref, Cell, Single, Stream}
+use Rattle.flow_meaning.specs.Cells.{Cell, Single, Stream, Ref}
 use Rattle.flow_meaning.specs.Evaluating.{bind, setting}
 use Rattle.flow_meaning.specs.Process.{Proc}
 use Rattle.flow_meaning.specs.References.{refs_in}
@@ -72,51 +73,21 @@ module _ (p : Proc Frame) where
   futures : GivesFutures rule
   futures = record { single = λ k. future_right (thing p.core.cells k); stream = λ k. stream_right (thing p.core.cells k) }
 
-  there_named : (kd : Kind) (k : ℕ) → There p (kd, k) → rule kd k ≡ true
-  there_named kd k t = ap (right kd) t.at ∙ right_is kd t.cell t.right
+  there_named : (q : Ref) → There p q → RefNamed rule q
+  there_named q t = ap (right q.0) t.at ∙ right_is q.0 t.cell t.right
 
-  named_there : (kd : Kind) (k : ℕ) → rule kd k ≡ true → There p (kd, k)
-  named_there kd k h = let a = is_right kd (thing p.core.cells k) h in record { cell = a.0; at = a.1.0; right = a.1.1 }
+  named_there : (q : Ref) → RefNamed rule q → There p q
+  named_there q h = let a = is_right q.0 (thing p.core.cells q.1) h in record { cell = a.0; at = a.1.0; right = a.1.1 }
 
-  joined : (rs qs : List Ref) → AllThere p rs → AllThere p qs → AllThere p (rs ++ qs)
-  joined [] qs h k = k
-  joined (r ∷ rs) qs h k = (h.0, joined rs qs h.1 k)
+  names : (v : ValueTree) → AllThere p (refs_of v) → Named rule v
+  names v h = refs_map (There p) (RefNamed rule) there_named v (listed_refs (There p) v h)
 
-  parted : (rs qs : List Ref) → AllThere p (rs ++ qs) → AllThere p rs × AllThere p qs
-  parted [] qs h = (tt, h)
-  parted (r ∷ rs) qs h = let a = parted rs qs h.1 in ((h.0, a.0), a.1)
-
-  mutual
-    names : (v : ValueTree) → AllThere p (refs_of v) → Named rule v
-    names (IntValue z) h = tt
-    names (BoolValue z) h = tt
-    names (TextValue z) h = tt
-    names VoidValue h = tt
-    names (ErrorValue z) h = tt
-    names (RecordValue d vs) h = names_all vs h
-    names (RefValue kd k) h = there_named kd k h.0
-
-    names_all : (vs : ValueTrees) → AllThere p (refs_of_all vs) → FieldsNamed rule vs
-    names_all NoValues h = tt
-    names_all (MoreValues v vs) h = let a = parted (refs_of v) (refs_of_all vs) h in (names v a.0, names_all vs a.1)
-
-  mutual
-    refers : (v : ValueTree) → Named rule v → AllThere p (refs_of v)
-    refers (IntValue z) h = tt
-    refers (BoolValue z) h = tt
-    refers (TextValue z) h = tt
-    refers VoidValue h = tt
-    refers (ErrorValue z) h = tt
-    refers (RecordValue d vs) h = refers_all vs h
-    refers (RefValue kd k) h = (named_there kd k h, tt)
-
-    refers_all : (vs : ValueTrees) → FieldsNamed rule vs → AllThere p (refs_of_all vs)
-    refers_all NoValues h = tt
-    refers_all (MoreValues v vs) h = joined (refs_of v) (refs_of_all vs) (refers v h.0) (refers_all vs h.1)
+  refers : (v : ValueTree) → Named rule v → AllThere p (refs_of v)
+  refers v h = refs_listed (There p) v (refs_map (RefNamed rule) (There p) named_there v h)
 
   all_refer : (vs : List ValueTree) → AllNamed rule vs → AllThere p (refs_in vs)
   all_refer [] h = tt
-  all_refer (v ∷ vs) h = joined (refs_of v) (refs_in vs) (refers v h.0) (all_refer vs h.1)
+  all_refer (v ∷ vs) h = listed_both (There p) (refs_of v) (refs_in vs) (refers v h.0) (all_refer vs h.1)
 
   maybe : (o : Option ValueTree) → ((v : ValueTree) → o ≡ Some v → AllThere p (refs_of v)) → MaybeNamed rule o
   maybe None h = tt

@@ -4,7 +4,7 @@ use Rattle.std.specs.Prelude.{ℕ, slice_get}
 use Rattle.std.specs.declared.option.Option.TheVariants.{Some}
 use Rattle.flow_ast.specs.declared.predefined.Method.{Method}
 use Rattle.flow_value.specs.declared.value.Value.{Value}
-use Rattle.flow_value.specs.Values.{ValueTree, IntValue, BoolValue, TextValue, VoidValue, ErrorValue, RecordValue, RefValue}
+use Rattle.flow_value.specs.Values.{ValueTree, IntValue, BoolValue, TextValue, VoidValue, ErrorValue, CompositeValue, RefValue}
 use Rattle.flow_value.specs.View.{value_of}
 use Rattle.flow_eval.specs.Eval.{Res}
 use Rattle.flow_code.specs.declared.expr.expr.Resolved.{Resolved}
@@ -72,7 +72,7 @@ module _ (code : Code) (s : ControlPoint) where
   by_throw t (BoolValue k) p n pace on thrown = absurd thrown
   by_throw t (TextValue k) p n pace on thrown = absurd thrown
   by_throw t VoidValue p n pace on thrown = absurd thrown
-  by_throw t (RecordValue d vs) p n pace on thrown = absurd thrown
+  by_throw t (CompositeValue d vs) p n pace on thrown = absurd thrown
   by_throw t (RefValue d k) p n pace on thrown = absurd thrown
 
 module _ (code : Code) (s : ControlPoint) (here : slice_get s.class.now.blocks.items s.place ≡ Some s.block.now) where
@@ -130,7 +130,7 @@ module _ (code : Code) (s : ControlPoint) (here : slice_get s.class.now.blocks.i
   by_reference t k (TextValue z) p n pace on keeps = absurd keeps
   by_reference t k VoidValue p n pace on keeps = absurd keeps
   by_reference t k (ErrorValue z) p n pace on keeps = absurd keeps
-  by_reference t k (RecordValue d vs) p n pace on keeps = absurd keeps
+  by_reference t k (CompositeValue d vs) p n pace on keeps = absurd keeps
 
   by_operand : (t : ControlPoint) (k : ℕ) (o : Operand) (p n : Process) (pace : Pace) → pace ≡ On t → OperandStep code (noted_stand s) k o p pace n → SameClass s true t
   by_operand t k (operand.Value e) p n pace on does = let a = evaluated_on (noted_stand s) _ _ p _ t pace n on does in by_reference t k (value_of a.0) _ n pace on a.1.1

@@ -11,7 +11,7 @@ use Rattle.flow_base.specs.declared.ids.ErrorCode.{ErrorCode}
 use Rattle.flow_value.specs.declared.value.Kind.{Kind}
 use Rattle.flow_value.specs.declared.value.Outcome.{Outcome}
 use Rattle.flow_value.specs.declared.value.Value.{Value}
-use Rattle.flow_value.specs.Values.{ValueTree, IntValue, BoolValue, TextValue, VoidValue, ErrorValue, RecordValue, RefValue}
+use Rattle.flow_value.specs.Values.{ValueTree, IntValue, BoolValue, TextValue, VoidValue, ErrorValue, CompositeValue, RefValue}
 use Rattle.flow_value.specs.View.{value_of}
 use Rattle.flow_eval.specs.Eval.{Res}
 use Rattle.flow_frame.specs.declared.held.Held.{Held}
@@ -97,7 +97,7 @@ reference_told s n (BoolValue b) m k pace none h = absurd h
 reference_told s n (TextValue t) m k pace none h = absurd h
 reference_told s n VoidValue m k pace none h = absurd h
 reference_told s n (ErrorValue e) m k pace none h = absurd h
-reference_told s n (RecordValue r vs) m k pace none h = absurd h
+reference_told s n (CompositeValue r vs) m k pace none h = absurd h
 
 -- the ends of blocks
 thrown_told : (s : ControlPoint) (v : ValueTree) (m n : Process) (pace : Pace) → m.asked ≡ None → ErrorThrown s v m pace n → OnlyTells n.asked
@@ -107,7 +107,7 @@ thrown_told s (BoolValue b) m n pace none h = absurd h
 thrown_told s (TextValue t) m n pace none h = absurd h
 thrown_told s VoidValue m n pace none h = absurd h
 thrown_told s (RefValue kd c) m n pace none h = absurd h
-thrown_told s (RecordValue r vs) m n pace none h = absurd h
+thrown_told s (CompositeValue r vs) m n pace none h = absurd h
 
 test_told : (s : ControlPoint) (one other : ℕ) (b : Bool) (m n : Process) (pace : Pace) → m.asked ≡ None → IsTest s one other b m pace n → OnlyTells n.asked
 test_told s one other true m n pace none h = quiet n (ap (λ (z : Process). z.asked) h.3 ∙ none)

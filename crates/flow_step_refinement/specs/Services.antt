@@ -28,11 +28,12 @@ use Rattle.flow_operation_refinement.specs.Matching.{ProcessRepresents}
 use Rattle.flow_operation_refinement.specs.Working.{SameGoal}
 
 -- a law on all processes in memory and their hosts, before and after, and on the process and the world that they show
-abbrev pub Always : (A W : Type 0) → (RawTree → Scan → List Line → Process → Process → A → A → Proc Frame → W → Type 0) → Type 0
+abbrev pub Always : (A W : Type 0)
+    → (RawTree → Scan → List Line → Process → Process → A → A → Proc Frame → W → Type 0) → Type 0
 Always A W law = (r : RawTree) (x : Scan) (ls : List Line) (m n : Process) (a b : A) (p : Proc Frame) (w : W) → law r x ls m n a b p w
 
-module _ {A W : Type 0} (serves : Host W) (shows : A → Numbered ℕ → W → Type 0) (wrote : A → List Line → A → Type 0) (r : RawTree)
-    (x : Scan) where
+module _ {A W : Type 0} (serves : Host W) (shows : A → Numbered ℕ → W → Type 0) (wrote : A → List Line → A → Type 0)
+    (r : RawTree) (x : Scan) where
   -- A process in memory that asks for nothing more, and the world around it, show a process and a world of the definitions.
   pub record Lives (ls : List Line) (m : Process) (a : A) (p : Proc Frame) (w : W) : Type 0 where
     pub shown : ProcessRepresents r ls x m p
@@ -72,15 +73,15 @@ module _ {A W : Type 0} (serves : Host W) (shows : A → Numbered ℕ → W → 
     -- a timer is asked for
     abbrev pub TimerSet : Type 0
     TimerSet =
-        (count : ℕ) (i : ActorId) (g : Goal) (h : asks.Goal) (ticks : ℤ) → Lives ls m a p w → InNumbers p.core → SameGoal p i.0 g h
-        → m.time ≡ (serves.supply w).now → Served serves shows wrote count (call.Delay i g ticks) m a n b
+        (count : ℕ) (i : ActorId) (g : Goal) (h : asks.Goal) (ticks : ℤ) → Lives ls m a p w → InNumbers p.core
+        → SameGoal p i.0 g h → m.time ≡ (serves.supply w).now → Served serves shows wrote count (call.Delay i g ticks) m a n b
         → Done ls n a b (acted w i (asks.Effects h (asks.Delay ticks)) p) w
 
     -- the disk is asked
     abbrev pub DiskAsked : Type 0
     DiskAsked =
-        (count : ℕ) (i : ActorId) (g : Goal) (h : asks.Goal) (request : DiskCall) → Lives ls m a p w → InNumbers p.core → SameGoal p i.0 g h
-        → Served serves shows wrote count (call.Disk i g request) m a n b
+        (count : ℕ) (i : ActorId) (g : Goal) (h : asks.Goal) (request : DiskCall) → Lives ls m a p w
+        → InNumbers p.core → SameGoal p i.0 g h → Served serves shows wrote count (call.Disk i g request) m a n b
         → Done ls n a b (acted w i (asks.Effects h (asks.Disk (asked_of request))) p) w
 
     -- a port gets a stream
@@ -108,6 +109,6 @@ module _ {A W : Type 0} (serves : Host W) (shows : A → Numbered ℕ → W → 
     -- a stream that nobody reads any more is no longer that of its port
     abbrev pub PortUnheard : Type 0
     PortUnheard =
-        (count : ℕ) (k : CellId) (ps : Numbered ℕ) → ProcessRepresents r ls x m p → m.asked ≡ Some (call.Unlisten k) → shows a ps w
-        → unheard k.0 ps ≡ p.core.ports → Served serves shows wrote count (call.Unlisten k) (record m { asked = None }) a n b
+        (count : ℕ) (k : CellId) (ps : Numbered ℕ) → ProcessRepresents r ls x m p → m.asked ≡ Some (call.Unlisten k)
+        → shows a ps w → unheard k.0 ps ≡ p.core.ports → Served serves shows wrote count (call.Unlisten k) (record m { asked = None }) a n b
         → wrote a [] b × Lives ls n b p w

@@ -6,12 +6,10 @@ use Rattle.std.specs.Option.{option_map}
 use Rattle.std.specs.declared.option.Option.{Option}
 use Rattle.std.specs.declared.option.Option.TheVariants.{None, Some}
 use Rattle.flow_value.specs.declared.value.Value.{Value}
-use Rattle.flow_value.specs.declared.value.RecordId.{RecordId}
 use Rattle.flow_value.specs.declared.value.Kind.{Kind}
 use Rattle.flow_value.specs.declared.value.Kind.TheVariants as kind
-use Rattle.flow_value.specs.Values.{ValueTree, ValueTrees, IntValue, BoolValue, TextValue, VoidValue, ErrorValue, RecordValue, RefValue}
+use Rattle.flow_value.specs.Values.{ValueTree, ValueTrees, IntValue, BoolValue, TextValue, VoidValue, ErrorValue, CompositeValue, RefValue, at_place, value_at, Whole, RecordWhole, ListWhole}
 use Rattle.flow_value.specs.View.{value_of, values_of}
-use Rattle.flow_eval.specs.Records.{at_place, value_at}
 use Rattle.flow_numbered.specs.Numbered.{Numbered, thing, put}
 use Rattle.flow_frame.specs.declared.held.Held.{Held}
 use Rattle.flow_frame.specs.Frames.{FrameTree, with_place}
@@ -138,15 +136,15 @@ value_past [] k le = refl
 value_past (v ∷ vs) zero le = absurd (omega (arith, le))
 value_past (v ∷ vs) (suc k) le = (let less : length vs ≤ k = omega (arith, le) in value_past vs k less)
 
-pub field_nowhere : (at : Numbering) (r : RecordId) (f : ℕ) (fs : List ℕ) (vs : ValueTrees) → at r f ≡ None → field_path at (f ∷ fs) (Some (RecordValue r vs)) ≡ None
-field_nowhere at r f fs vs none = ap (λ n. field_path at fs (at_place vs n)) none ∙ path_nowhere at fs
+pub field_nowhere : (at : Numbering) (w : Whole) (f : ℕ) (fs : List ℕ) (vs : ValueTrees) → at w f ≡ None → field_path at (f ∷ fs) (Some (CompositeValue w vs)) ≡ None
+field_nowhere at w f fs vs none = ap (λ n. field_path at fs (at_place vs n)) none ∙ path_nowhere at fs
 
-pub field_past : (at : Numbering) (r : RecordId) (f : ℕ) (fs : List ℕ) (vs : List Value) (k : ℕ) → at r f ≡ Some k → length vs ≤ k
-    → field_path at (f ∷ fs) (Some (RecordValue r (values_of vs))) ≡ None
-field_past at r f fs vs k is le = ap (λ n. field_path at fs (at_place (values_of vs) n)) is ∙ ap (field_path at fs) (value_past vs k le) ∙ path_nowhere at fs
+pub field_past : (at : Numbering) (w : Whole) (f : ℕ) (fs : List ℕ) (vs : List Value) (k : ℕ) → at w f ≡ Some k → length vs ≤ k
+    → field_path at (f ∷ fs) (Some (CompositeValue w (values_of vs))) ≡ None
+field_past at w f fs vs k is le = ap (λ n. field_path at fs (at_place (values_of vs) n)) is ∙ ap (field_path at fs) (value_past vs k le) ∙ path_nowhere at fs
 
 abbrev pub is_record : ValueTree → Bool
-is_record (RecordValue r vs) = true
+is_record (CompositeValue (RecordWhole r) vs) = true
 is_record _ = false
 
 pub flat_as : (v w : Value) (t : ValueTree) → v ≡ w → value_of w ≡ t → is_record (value_of v) ≡ is_record t
@@ -157,17 +155,20 @@ pub either : {A B : Type 0} (v : Value) → A ⊎ B → (A → is_record (value_
 either v (inl a) f g = f a
 either v (inr b) f g = g b
 
-flat_field : (at : Numbering) (v : ValueTree) (f : ℕ) → is_record v ≡ false → numbered_field at v f ≡ None
-flat_field at (RecordValue r vs) f flat = absurd (false≢true (sym flat))
-flat_field at (IntValue x) f flat = refl
-flat_field at (BoolValue x) f flat = refl
-flat_field at (TextValue x) f flat = refl
-flat_field at VoidValue f flat = refl
-flat_field at (ErrorValue x) f flat = refl
-flat_field at (RefValue k x) f flat = refl
+flat_field : (names : FieldNames) (v : ValueTree) (f : ℕ) → is_record v ≡ false → numbered_field (places_in names) v f ≡ None
+flat_field names (CompositeValue (RecordWhole r) vs) f flat = absurd (false≢true (sym flat))
+flat_field names (CompositeValue ListWhole vs) f flat = refl
+flat_field names (IntValue x) f flat = refl
+flat_field names (BoolValue x) f flat = refl
+flat_field names (TextValue x) f flat = refl
+flat_field names VoidValue f flat = refl
+flat_field names (ErrorValue x) f flat = refl
+flat_field names (RefValue k x) f flat = refl
 
-pub flat_path : (at : Numbering) (f : ℕ) (fs path : List ℕ) (v : ValueTree) → path ≡ f ∷ fs → is_record v ≡ false → field_path at path (Some v) ≡ None
-flat_path at f fs path v is flat = ap (λ l. field_path at l (Some v)) is ∙ ap (field_path at fs) (flat_field at v f flat) ∙ path_nowhere at fs
+pub flat_path : (names : FieldNames) (f : ℕ) (fs path : List ℕ) (v : ValueTree) → path ≡ f ∷ fs → is_record v ≡ false → field_path (places_in names) path (Some v) ≡ None
+flat_path names f fs path v is flat =
+    ap (λ l. field_path (places_in names) l (Some v)) is ∙ ap (field_path (places_in names) fs) (flat_field names v f flat)
+    ∙ path_nowhere (places_in names) fs
 
 pub nothing_held : (fields : FieldNames) (path : List ℕ) (o : Option Value) → o ≡ None → PartMissing fields path o
 nothing_held fields path o none = ap (λ (v : Option Value). field_path (places_in fields) path (option_map value_of v)) none ∙ path_nowhere (places_in fields) path

@@ -1,5 +1,5 @@
 -- References that come to count, one by one.
-use Rattle.std.proofs.Common.{◌≡◌, ℕ, suc, ◌+◌, ◌<◌, ◌≤◌, List, [], ◌∷◌, ◌++◌, length, drop, get_or, inl, inr, refl, ap, sym, ◌∙◌, subst, add-one}
+use Rattle.std.proofs.Common.{◌≡◌, ℕ, suc, ◌+◌, ◌<◌, ◌≤◌, false, List, [], ◌∷◌, ◌++◌, length, drop, get_or, inl, inr, refl, ap, sym, ◌∙◌, subst, add-one}
 use Rattle.std.proofs.lemmas.Bool.{false≢true}
 use Rattle.std.proofs.lemmas.List.{drop_all}
 use Rattle.flow_value.specs.declared.value.Value.{Value}
@@ -20,7 +20,8 @@ use Rattle.flow_stream.specs.Streams.{StreamTree}
 use Rattle.flow_cancel.specs.declared.actors.Note.{Note}
 use Rattle.flow_cancel.specs.declared.task.Task.{Task}
 use Rattle.flow_cancel.specs.declared.task.Task.TheVariants as task
-use Rattle.flow_value.specs.Values.{refs_of, refs_of_all}
+use Rattle.flow_value.specs.Values.{refs_of, refs_of_all, any_may_refer}
+use Rattle.flow_value.proofs.References.{no_part_refs}
 use Rattle.flow_value.specs.View.{value_of, values_of}
 use Rattle.flow_cancel.specs.Heap.{HeapTree, cell_id, next_cell, finished}
 use Rattle.flow_cancel.specs.Dropping.{drops}
@@ -63,6 +64,10 @@ fields_step vs i d old new all lt put inv =
 
 pub fields_end : (vs : List Value) (i : ℕ) (old all : HeapTree) → length vs ≤ i → fields_held (drop i vs) old ≡ all → old ≡ all
 fields_end vs i old all le inv = ap (λ l. fields_held l old) (sym (drop_all i vs le)) ∙ inv
+
+-- what can't refer leaves the process as it is
+pub nothing_counts : (vs : List Value) (p : Process) → any_may_refer (values_of vs) ≡ false → p ≡ on_heap (hold_all (refs_of_all (values_of vs))) p
+nothing_counts vs p e = ap (λ rs. on_heap (hold_all rs) p) (sym (no_part_refs (values_of vs) e))
 
 -- a reference of the first of two rows is missing, or, once all of those count, one of the second
 pub missing_first : (qs rs : List cells.Ref) (h : HeapTree) → SomeMissing qs h → SomeMissing (qs ++ rs) h

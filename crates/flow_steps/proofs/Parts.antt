@@ -5,10 +5,8 @@ use Rattle.std.specs.declared.option.Option.{Option}
 use Rattle.std.specs.declared.option.Option.TheVariants.{None, Some}
 use Rattle.flow_base.specs.declared.ids.ActorId.{ActorId}
 use Rattle.flow_value.specs.declared.value.Value.{Value}
-use Rattle.flow_value.specs.declared.value.RecordId.{RecordId}
-use Rattle.flow_value.specs.Values.{ValueTree, ValueTrees, RecordValue}
+use Rattle.flow_value.specs.Values.{ValueTree, ValueTrees, CompositeValue, at_place, value_at, value_put, Whole}
 use Rattle.flow_value.specs.View.{value_of}
-use Rattle.flow_eval.specs.Records.{at_place, value_at, value_put}
 use Rattle.flow_code.specs.Resolved.View.{places_in}
 use Rattle.flow_code.specs.declared.expr.names.FieldNames.{FieldNames}
 use Rattle.flow_code.specs.declared.class.Aim.{Aim}
@@ -18,17 +16,17 @@ use Rattle.flow_steps.specs.Points.{Numbering, within, exchanged, place_held, pl
 use Rattle.flow_steps.proofs.Framing.{put_anew}
 
 -- a part of a field of a record
-pub exchanged_field : (at : Numbering) (r : RecordId) (f : ℕ) (fs : List ℕ) (new : ValueTree) (before taken after : ValueTrees) (k : ℕ) (field old part : ValueTree)
-    → at r f ≡ Some k → value_at before k ≡ Some field
-    → ((w : ValueTree) → value_put taken k w ≡ value_put before k w)
+pub exchanged_field : (at : Numbering) (w : Whole) (f : ℕ) (fs : List ℕ) (new : ValueTree) (before taken after : ValueTrees) (k : ℕ) (field old part : ValueTree)
+    → at w f ≡ Some k → value_at before k ≡ Some field
+    → ((u : ValueTree) → value_put taken k u ≡ value_put before k u)
     → exchanged at fs new (Some field) ≡ Some (Some old, Some part)
     → after ≡ value_put taken k part
-    → exchanged at (f ∷ fs) new (Some (RecordValue r before)) ≡ Some (Some old, Some (RecordValue r after))
-exchanged_field at r f fs new before taken after k field old part is here rest e back =
-    ap (λ (p : Option ℕ). within r before p (exchanged at fs new (at_place before p))) is
-    ∙ ap (λ o. within r before (Some k) (exchanged at fs new o)) here
-    ∙ ap (within r before (Some k)) e
-    ∙ ap (λ l. Some (Some old, Some (RecordValue r l))) (sym (back ∙ rest part))
+    → exchanged at (f ∷ fs) new (Some (CompositeValue w before)) ≡ Some (Some old, Some (CompositeValue w after))
+exchanged_field at w f fs new before taken after k field old part is here rest e back =
+    ap (λ (p : Option ℕ). within w before p (exchanged at fs new (at_place before p))) is
+    ∙ ap (λ o. within w before (Some k) (exchanged at fs new o)) here
+    ∙ ap (within w before (Some k)) e
+    ∙ ap (λ l. Some (Some old, Some (CompositeValue w l))) (sym (back ∙ rest part))
 
 -- an aim with a path
 pub part_assigned : (fields : FieldNames) (i : ActorId) (aim : Aim) (new root_old root_new old : Value) (p taken q : Process)

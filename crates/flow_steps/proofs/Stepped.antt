@@ -10,7 +10,7 @@ use Rattle.flow_value.specs.declared.value.Value.{Value}
 use Rattle.flow_value.specs.declared.value.Value.TheVariants as value
 use Rattle.flow_value.specs.declared.value.Outcome.TheVariants as outcome
 use Rattle.flow_value.specs.declared.value.Kind.{Kind}
-use Rattle.flow_value.specs.Values.{RefValue}
+use Rattle.flow_value.specs.Values.{RefValue, may_refer}
 use Rattle.flow_value.specs.View.{value_of}
 use Rattle.flow_code.specs.Resolved.View.{places_in}
 use Rattle.flow_code.specs.declared.class.Aim.{Aim}
@@ -39,7 +39,7 @@ use Rattle.flow_steps.specs.declared.process.Process.{Process}
 use Rattle.flow_steps.specs.Doing.{turned, doing}
 use Rattle.flow_steps.specs.Holding.{on_heap, value_refs}
 use Rattle.flow_steps.specs.Delivering.{made}
-use Rattle.flow_steps.specs.Points.{noted, noted_stand, GoesTo, next_stand, place_held, place_put, referring, may_refer, if_refers, lost_from, field_path, Assigns}
+use Rattle.flow_steps.specs.Points.{noted, noted_stand, GoesTo, next_stand, place_held, place_put, referring, if_refers, lost_from, field_path, Assigns}
 use Rattle.flow_steps.specs.Waiting.{Waits}
 use Rattle.flow_steps.specs.Acting.{args_of, MethodCalled}
 use Rattle.flow_steps.specs.Evaluating.{Evaluates}

@@ -5,10 +5,8 @@ use Rattle.std.specs.declared.option.Option.{Option}
 use Rattle.std.specs.declared.option.Option.TheVariants.{None, Some}
 use Rattle.flow_base.specs.declared.ids.ActorId.{ActorId}
 use Rattle.flow_value.specs.declared.value.Value.{Value}
-use Rattle.flow_value.specs.declared.value.RecordId.{RecordId}
-use Rattle.flow_value.specs.Values.{ValueTree, ValueTrees, RecordValue, RefValue}
+use Rattle.flow_value.specs.Values.{ValueTree, ValueTrees, CompositeValue, at_place, value_put, Whole, may_refer}
 use Rattle.flow_value.specs.View.{value_of}
-use Rattle.flow_eval.specs.Records.{at_place, value_put}
 use Rattle.flow_code.specs.Resolved.Evaluation.{numbered_field}
 use Rattle.flow_code.specs.Resolved.View.{places_in}
 use Rattle.flow_code.specs.declared.expr.names.FieldNames.{FieldNames}
@@ -84,12 +82,6 @@ place_held i n h = held_in n (thing h.frames.things i)
 abbrev pub place_put : (actor place : ℕ) → Option Value → HeapTree → HeapTree
 place_put i n v h = with_frame (λ f. with_place f n v) i h
 
--- whether a value may hold references
-abbrev pub may_refer : ValueTree → Bool
-may_refer (RecordValue r vs) = true
-may_refer (RefValue k c) = true
-may_refer _ = false
-
 abbrev pub if_refers : Bool → Value → List Value
 if_refers true v = v ∷ []
 if_refers false v = []
@@ -131,7 +123,7 @@ lost_from i n h = losing_from i n (thing h.frames.things i) h
 -- The part of a value to which fields with names of these numbers lead, and that part exchanged for another: what stood there,
 -- and the value afterwards.
 abbrev pub Numbering : Type 0
-Numbering = RecordId → ℕ → Option ℕ
+Numbering = Whole → ℕ → Option ℕ
 
 abbrev pub field_path : Numbering → List ℕ → Option ValueTree → Option ValueTree
 field_path at [] v = v
@@ -141,13 +133,13 @@ field_path at (f ∷ fs) (Some v) = field_path at fs (numbered_field at v f)
 abbrev pub Exchange : Type 0
 Exchange = Option ValueTree × Option ValueTree
 
-abbrev pub within : RecordId → ValueTrees → Option ℕ → Option Exchange → Option Exchange
-within r vs (Some k) (Some (old, Some new)) = Some (old, Some (RecordValue r (value_put vs k new)))
-within r vs _ _ = None
+abbrev pub within : Whole → ValueTrees → Option ℕ → Option Exchange → Option Exchange
+within w vs (Some k) (Some (old, Some new)) = Some (old, Some (CompositeValue w (value_put vs k new)))
+within w vs _ _ = None
 
 abbrev pub exchanged : Numbering → List ℕ → ValueTree → Option ValueTree → Option Exchange
 exchanged at [] new old = Some (old, Some new)
-exchanged at (f ∷ fs) new (Some (RecordValue r vs)) = within r vs (at r f) (exchanged at fs new (at_place vs (at r f)))
+exchanged at (f ∷ fs) new (Some (CompositeValue w vs)) = within w vs (at w f) (exchanged at fs new (at_place vs (at w f)))
 exchanged at (f ∷ fs) new _ = None
 
 -- Where an actor aims gets a value: what stood there, and the process afterwards.

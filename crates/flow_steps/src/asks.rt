@@ -40,7 +40,9 @@ fn print_line(alloc: Global, actor: ActorId, value: Value) -> Result<Line, Fault
         Value::Int(n) => Ok(Line::PrintInt(actor, n)),
         Value::Bool(b) => Ok(Line::PrintBool(actor, b)),
         Value::Text(text) => Ok(Line::PrintText(actor, own_text(alloc, text)?)),
-        Value::Void | Value::Error(_) | Value::Struct(_) | Value::Ref(_, _) => { Err(Fault::Stuck) }
+        Value::Void | Value::Error(_) | Value::Struct(_) | Value::List(_) | Value::Ref(_, _) => {
+            Err(Fault::Stuck)
+        }
     }
 }
 

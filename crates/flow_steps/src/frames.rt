@@ -4,13 +4,13 @@ ghost use Rattle.std.specs.Prelude.{◌≡◌, ◌⊎◌, ◌∷◌, ◌++◌, O
 ghost use Rattle.std.specs.Option.{option_copied};
 ghost use Rattle.std.specs.declared.option.Option.TheVariants.{None, Some};
 ghost use Rattle.flow_value.specs.View.{value_of, values_of};
-ghost use Rattle.flow_value.specs.Values.{RecordValue};
+ghost use Rattle.flow_value.specs.Values.{CompositeValue, RecordWhole};
 ghost use Rattle.flow_code.specs.Resolved.View.{places_in};
 ghost use Rattle.flow_numbered.specs.Numbered.{thing};
 ghost use Rattle.flow_cancel.specs.Dropping.{dropping};
 ghost use Rattle.flow_steps.specs.Holding.{on_heap};
 ghost use Rattle.flow_steps.specs.Stuck.{OnStuck, FrameMissing, NoPlace, SomePlaceMissing, BlockMissing, Nowhere, HasNoPoint, PartMissing, AimsStuck};
-ghost use Rattle.flow_steps.specs.Points.{GoesTo, next_stand, noted_stand, noted, block_in, IsPointOf, IsAtPoint, gone, place_held, place_put, may_refer, referring, field_path, exchanged, Assigns, places_taken, places_emptied, place_lost, lost_from};
+ghost use Rattle.flow_steps.specs.Points.{GoesTo, next_stand, noted_stand, noted, block_in, IsPointOf, IsAtPoint, gone, place_held, place_put, referring, field_path, exchanged, Assigns, places_taken, places_emptied, place_lost, lost_from};
 ghost use Rattle.flow_steps.specs.Drops.{DropsOver};
 
 use crate::errors::Fault;
@@ -23,20 +23,13 @@ use flow_eval::locals::{put_at, record_value, take_at};
 use flow_frame::standing::Standing;
 use flow_value::value::{Record, Value};
 
-/// Whether a value may hold references.
-pub(crate) fn may_refer(value: &Value) -> bool
-    ensures { result ≡ may_refer (value_of value.now) }
-{
-    matches!(value, Value::Struct(_) | Value::Ref(_, _))
-}
-
 /// A value that left a place joins others, if it may hold references.
 fn keep_referring(values: &mut Vec<Value>, old: Option<Value>) -> Result<(), Fault>
     ensures done { OnOk result (values.new.items ≡ values.old.items ++ referring old) }
     ensures stuck { OnStuck result ⊥ }
 {
     match old {
-        Some(value) if may_refer(&value) => Ok(values.push(value)?),
+        Some(value) if value.may_refer() => Ok(values.push(value)?),
         _ => Ok(()),
     }
 }
@@ -149,6 +142,7 @@ fn exchange(
         | Value::Text(_)
         | Value::Void
         | Value::Error(_)
+        | Value::List(_)
         | Value::Ref(_, _) => None,
     }
 }
@@ -164,10 +158,12 @@ fn exchange_field(
     value: Value,
 ) -> Option<(Value, Value)>
     ensures done { IfSome result (λ r. exchanged (places_in fields.now) (name ∷ rest.now)
-        (value_of value) (Some (RecordValue of.value.id (values_of of.value.fields.items)))
+        (value_of value)
+        (Some (CompositeValue (RecordWhole of.value.id) (values_of of.value.fields.items)))
         ≡ Some (Some (value_of r.0), Some (value_of r.1))) }
     ensures none { IsNone result → field_path (places_in fields.now) (name ∷ rest.now)
-        (Some (RecordValue of.value.id (values_of of.value.fields.items))) ≡ None }
+        (Some (CompositeValue (RecordWhole of.value.id) (values_of of.value.fields.items)))
+        ≡ None }
 {
     let Some(place) = fields.place(of.id, name) else {
         return None;

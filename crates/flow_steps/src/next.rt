@@ -28,7 +28,7 @@ ghost use Rattle.flow_steps.specs.StuckSteps.{SetStuck, EmptiesStuck, FunctionSt
 use crate::branches::branch_in;
 use crate::call::Goal;
 use crate::errors::Fault;
-use crate::frames::{ControlPoint, instruction_at, may_refer};
+use crate::frames::{ControlPoint, instruction_at};
 use crate::process::Process;
 use crate::seen::Contents;
 use flow_ast::predefined::Method;
@@ -305,7 +305,7 @@ impl Process {
         ensures stuck { OnStuck result (FrameMissing stand.entry.actor.0 self.old.heap) }
     {
         match old {
-            Some(old) if may_refer(&old) => {
+            Some(old) if old.may_refer() => {
                 self.note(stand)?;
                 self.heap.push(Task::Run(stand.actor))?;
                 self.heap.push_drops(&old)?;

@@ -4,6 +4,8 @@ ghost use Rattle.std.specs.Prelude.{◌≡◌, ◌⊎◌, nat_lt, OnOk, IfOk};
 ghost use Rattle.flow_cancel.specs.declared.task.Task.TheVariants.{Run, Throw};
 ghost use Rattle.std.specs.Option.{IsSomeAnd};
 ghost use Rattle.std.specs.declared.option.Option.TheVariants.{Some};
+ghost use Rattle.flow_value.specs.Values.{refs_of_all};
+ghost use Rattle.flow_value.specs.View.{values_of};
 ghost use Rattle.flow_numbered.specs.Numbered.{thing};
 ghost use Rattle.flow_stream.specs.Streams.{with_item};
 ghost use Rattle.flow_heap_refinement.specs.Changes.{cell_put, stream_put};
@@ -22,7 +24,7 @@ use flow_cancel::heap::side_of;
 use flow_cancel::task::{Dropped, Task};
 use flow_cell::counts::Side;
 use flow_trace::line::Line;
-use flow_value::value::{Kind, Outcome, Value};
+use flow_value::value::{Kind, Outcome, Value, any_may_refer};
 
 impl Process {
     /// Takes a turn, and says whether one was left; where none was, the event is spent.
@@ -101,24 +103,38 @@ impl Process {
         }
     }
 
-    #[tactic(auto, using(crate::proofs::Holding::fields_end))]
     /// A value is stored: its references count.
+    #[cycle(hold_value)]
     pub(crate) fn hold_value(&mut self, value: &Value) -> Result<(), Fault>
         ensures done { OnOk result (self.new ≡ on_heap (hold_all (value_refs value.now)) self.old) }
         ensures stuck { OnStuck result (SomeMissing (value_refs value.now) self.old.heap) }
     {
         match value {
-            Value::Struct(record) => {
-                for field in &record.fields {
-                    self.hold_value(field)?;
-                }
-                Ok(())
-            }
+            Value::Struct(record) => self.hold_parts(&record.fields),
+            Value::List(items) => self.hold_parts(items),
             Value::Ref(kind, cell) => self.hold(*kind, *cell),
             Value::Int(_) | Value::Bool(_) | Value::Text(_) | Value::Void | Value::Error(_) => {
                 Ok(())
             }
         }
+    }
+
+    #[tactic(auto, using(crate::proofs::Holding::fields_end, crate::proofs::Holding::nothing_counts))]
+    /// Parts are stored: their references count.
+    #[cycle(hold_value)]
+    fn hold_parts(&mut self, parts: &[Value]) -> Result<(), Fault>
+        ensures done { OnOk result (self.new
+            ≡ on_heap (hold_all (refs_of_all (values_of parts.now))) self.old) }
+        ensures stuck { OnStuck result
+            (SomeMissing (refs_of_all (values_of parts.now)) self.old.heap) }
+    {
+        if !any_may_refer(parts) {
+            return Ok(());
+        }
+        for part in parts {
+            self.hold_value(part)?;
+        }
+        Ok(())
     }
 
     #[tactic(auto, using(crate::proofs::Holding::value_alone))]

@@ -209,12 +209,8 @@ sum_in_part b counts ending text before after OutOfMemory x is out rose =
 
 -- A world that was made smaller.
 shrinks_alike : (S T : World → Type 0) → ((w : World) → S w → T w) → ((w : World) → T w → S w) → (first : World) (x : Shrunk) → Shrinks S first x → Shrinks T first x
-shrinks_alike S T on back first (Least w) h = record {
-  same = h.same;
-  fewer = h.fewer;
-  stops = on (seen w) h.stops;
-  each = λ k lt stops. h.each k lt (back (without k (seen w)) stops);
-}
+shrinks_alike S T on back first (Least w) (was, h) =
+    (on first was, record { same = h.same; fewer = h.fewer; stops = on (seen w) h.stops; each = λ k lt stops. h.each k lt (back (without k (seen w)) stops) })
 shrinks_alike S T on back first NotStopped h = λ stops. h (back first stops)
 
 -- by what the monitor says it is stopped as its cut trace tells

@@ -28,7 +28,7 @@ use Rattle.flow_tree.specs.declared.stmt.StmtKind.TheOpen as layer
 use Rattle.flow_tree.specs.declared.stmt.StmtKind.TheVariants as kind
 use Rattle.flow_tree.specs.View.{type_of, type_step, expr_of, expr_step, exprs_of}
 use Rattle.flow_tree.specs.StmtView.{into_of, waiting_of, change_of, kind_of, kind_step, stmt_of, stmt_step, branch_step, simple_of, body_of, branches_of}
-use Rattle.flow_tree.specs.Tree.{TypeTree, ExprTree, FutureType, FutureStreamType, PromiseType, PromiseStreamType, CallExpr, FieldExpr, MethodExpr, NotExpr, NegExpr, BinaryExpr, ParenExpr}
+use Rattle.flow_tree.specs.Tree.{ByName, TypeTree, ExprTree, FutureType, FutureStreamType, PromiseType, PromiseStreamType, CallExpr, FieldExpr, MethodExpr, NotExpr, NegExpr, BinaryExpr, ParenExpr}
 use Rattle.flow_tree.specs.Body.{Body, Branches, BlockStmt, IfStmt, IfElseStmt, WhileStmt, ForStmt, LoopStmt, BreakStmt, ContinueStmt, ReturnStmt, ThrowStmt, TryStmt, ChooseStmt, DeclareStmt, AssignStmt, ModifyStmt, CallStmt, WaitStmt}
 
 pub type_future : (t : Box Ty Global) → type_of (type.Future t) ≡ FutureType (type_of t.value)
@@ -49,7 +49,7 @@ expr_call f xs = ap expr_of (sym (expr.rolls-Call f xs)) ∙ fold-roll-Expr Expr
 pub expr_field : (e : Box Expr Global) (x : Ident) → expr_of (expr.Field e x) ≡ FieldExpr (expr_of e.value) x
 expr_field e x = ap expr_of (sym (expr.rolls-Field e x)) ∙ fold-roll-Expr ExprTree expr_step (expr_layer.Field e x)
 
-pub expr_method : (e : Box Expr Global) (f : Ident) (xs : Vec Expr Global) → expr_of (expr.Method e f xs) ≡ MethodExpr (expr_of e.value) f (exprs_of xs.items)
+pub expr_method : (e : Box Expr Global) (f : Ident) (xs : Vec Expr Global) → expr_of (expr.Method e f xs) ≡ MethodExpr (expr_of e.value) (ByName f) (exprs_of xs.items)
 expr_method e f xs = ap expr_of (sym (expr.rolls-Method e f xs)) ∙ fold-roll-Expr ExprTree expr_step (expr_layer.Method e f xs)
 
 pub expr_not : (e : Box Expr Global) → expr_of (expr.Not e) ≡ NotExpr (expr_of e.value)

@@ -8,7 +8,7 @@ use Rattle.flow_base.specs.declared.place.Place.{Place}
 use Rattle.flow_base.specs.Quote.{quoted}
 use Rattle.flow_tree.specs.declared.ty.Ident.{Ident}
 use Rattle.flow_tree.specs.Spelling.{sign_bytes}
-use Rattle.flow_tree.specs.Tree.{TypeTree, IntType, BoolType, StringType, VoidType, ErrorType, NamedType, FutureType, FutureStreamType, PromiseType, PromiseStreamType, ExprTree, ExprTrees, IntExpr, TextExpr, BoolExpr, VoidExpr, VarExpr, CallExpr, FieldExpr, MethodExpr, NotExpr, NegExpr, BinaryExpr, ParenExpr, NoExprs, MoreExprs}
+use Rattle.flow_tree.specs.Tree.{Selector, ByName, ByIndex, TypeTree, IntType, BoolType, StringType, VoidType, ErrorType, NamedType, FutureType, FutureStreamType, PromiseType, PromiseStreamType, ExprTree, ExprTrees, IntExpr, TextExpr, BoolExpr, VoidExpr, VarExpr, CallExpr, FieldExpr, MethodExpr, NotExpr, NegExpr, BinaryExpr, ParenExpr, NoExprs, MoreExprs}
 use Rattle.flow_tree.specs.Grammar.{op_sign}
 use Rattle.flow_tree.specs.Body.{IntoTree, WaitTree, ChangeTree, PlusChange, MinusChange, UpChange, DownChange, Body, End, BlockStmt, IfStmt, IfElseStmt, WhileStmt, ForStmt, LoopStmt, BreakStmt, ContinueStmt, ReturnStmt, ThrowStmt, TryStmt, ChooseStmt, DeclareStmt, AssignStmt, ModifyStmt, CallStmt, WaitStmt, Branches, NoBranches, MoreBranches}
 use Rattle.flow_tree.specs.Decls.{ParamTree, RecordTree, RoutineTree, DeclTree, StructDecl, FunctionDecl, ActorDecl, ProgramTree}
@@ -35,6 +35,11 @@ abbrev pub minus_gap : ExprTree → List ℕ
 minus_gap (NegExpr e) = codes " "
 minus_gap e = []
 
+-- a selector behind the text of its base, with that of its arguments
+abbrev pub selected_text : List ℕ → Selector → List ℕ → List ℕ
+selected_text base (ByName f) args = base ++ codes "." ++ f.name ++ codes "(" ++ args ++ codes ")"
+selected_text base ByIndex args = base ++ codes "[" ++ args ++ codes "]"
+
 -- An expression: one space around a sign between two operands and after a comma, none after a sign
 -- before an operand and none in a call.
 abbrev mutual
@@ -46,7 +51,7 @@ abbrev mutual
   expr_text (VarExpr x) = x.name
   expr_text (CallExpr f es) = f.name ++ codes "(" ++ args_text es ++ codes ")"
   expr_text (FieldExpr e x) = expr_text e ++ codes "." ++ x.name
-  expr_text (MethodExpr e f es) = expr_text e ++ codes "." ++ f.name ++ codes "(" ++ args_text es ++ codes ")"
+  expr_text (MethodExpr e m es) = selected_text (expr_text e) m (args_text es)
   expr_text (NotExpr e) = codes "!" ++ expr_text e
   expr_text (NegExpr e) = codes "-" ++ minus_gap e ++ expr_text e
   expr_text (BinaryExpr op a b) = expr_text a ++ codes " " ++ sign_bytes (op_sign op) ++ codes " " ++ expr_text b
@@ -202,6 +207,10 @@ first_place = record { line = 1; column = 1; byte = 0 }
 abbrev pub placeless_ident : Ident → Ident
 placeless_ident x = record { name = x.name; at = first_place }
 
+abbrev pub placeless_selector : Selector → Selector
+placeless_selector (ByName f) = ByName (placeless_ident f)
+placeless_selector ByIndex = ByIndex
+
 abbrev mutual
   pub placeless_expr : ExprTree → ExprTree
   placeless_expr (IntExpr n) = IntExpr n
@@ -211,7 +220,7 @@ abbrev mutual
   placeless_expr (VarExpr x) = VarExpr (placeless_ident x)
   placeless_expr (CallExpr f es) = CallExpr (placeless_ident f) (placeless_exprs es)
   placeless_expr (FieldExpr e x) = FieldExpr (placeless_expr e) (placeless_ident x)
-  placeless_expr (MethodExpr e f es) = MethodExpr (placeless_expr e) (placeless_ident f) (placeless_exprs es)
+  placeless_expr (MethodExpr e m es) = MethodExpr (placeless_expr e) (placeless_selector m) (placeless_exprs es)
   placeless_expr (NotExpr e) = NotExpr (placeless_expr e)
   placeless_expr (NegExpr e) = NegExpr (placeless_expr e)
   placeless_expr (BinaryExpr op a b) = BinaryExpr op (placeless_expr a) (placeless_expr b)

@@ -10,7 +10,7 @@ use Rattle.flow_tree.specs.declared.token.Sign.TheVariants as sign
 use Rattle.flow_tree.specs.declared.expr.Op.{Op}
 use Rattle.flow_tree.specs.declared.expr.Op.TheVariants.{Or, And, Eq, Ne, Lt, Le, Gt, Ge, Add, Sub, Mul, Div, Rem}
 use Rattle.flow_tree.specs.declared.ty.Ident.{Ident}
-use Rattle.flow_tree.specs.Tree.{TypeTree, IntType, BoolType, StringType, VoidType, ErrorType, NamedType, FutureType, FutureStreamType, PromiseType, PromiseStreamType, ExprTree, ExprTrees, IntExpr, TextExpr, BoolExpr, VoidExpr, VarExpr, CallExpr, FieldExpr, MethodExpr, NotExpr, NegExpr, BinaryExpr, ParenExpr, NoExprs, MoreExprs}
+use Rattle.flow_tree.specs.Tree.{ByName, TypeTree, IntType, BoolType, StringType, VoidType, ErrorType, NamedType, FutureType, FutureStreamType, PromiseType, PromiseStreamType, ExprTree, ExprTrees, IntExpr, TextExpr, BoolExpr, VoidExpr, VarExpr, CallExpr, FieldExpr, MethodExpr, NotExpr, NegExpr, BinaryExpr, ParenExpr, NoExprs, MoreExprs}
 use Rattle.flow_tree.specs.GrammarToken.{Node, Marked, opens, begin}
 
 -- a sign, a word or a name with which no part begins
@@ -143,7 +143,7 @@ mutual
     method : {k d : ℕ} {t : ExprTree} {ts : ExprTrees} {all : List Marked} (p q r : Place) (f : Ident) (of args : List Marked)
         → ExprRule dot_level (suc d) of t → ArgsRule (suc d) args ts
         → all ≡ begin (Node d) of ++ (sign_at sign.Dot p ∷ name_at f ∷ in_round q args r [])
-        → ExprRule k d all (MethodExpr t f ts)
+        → ExprRule k d all (MethodExpr t (ByName f) ts)
     -- ( "!" | "-" ) unary
     negation : {k d : ℕ} {t : ExprTree} {all : List Marked} (p : Place) (of : List Marked)
         → k ≤ unary_level → ExprRule unary_level (suc d) of t

@@ -16,6 +16,11 @@ pub data TypeTree : Type 0 where
   PromiseType : TypeTree → TypeTree
   PromiseStreamType : TypeTree → TypeTree
 
+-- what a method is called by: its name, or the index of an element, which is its one argument
+pub data Selector : Type 0 where
+  ByName : Ident → Selector
+  ByIndex : Selector
+
 -- an expression, and the arguments of a call in order
 mutual
   pub data ExprTree : Type 0 where
@@ -26,7 +31,7 @@ mutual
     VarExpr : Ident → ExprTree
     CallExpr : Ident → ExprTrees → ExprTree
     FieldExpr : ExprTree → Ident → ExprTree
-    MethodExpr : ExprTree → Ident → ExprTrees → ExprTree
+    MethodExpr : ExprTree → Selector → ExprTrees → ExprTree
     NotExpr : ExprTree → ExprTree
     NegExpr : ExprTree → ExprTree
     BinaryExpr : Op → ExprTree → ExprTree → ExprTree

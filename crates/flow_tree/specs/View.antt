@@ -7,7 +7,7 @@ use Rattle.flow_tree.specs.declared.expr.Expr.{Expr}
 use Rattle.flow_tree.specs.declared.expr.Expr.TheOpen as layer
 use Rattle.flow_tree.specs.declared.expr.Expr.TheOpen.{Expr-F, Text, VoidValue, Var, Call, Field, Method, Not, Neg, Binary, Paren}
 use Rattle.flow_tree.specs.declared.expr.Expr.TheFolds.{fold-Expr}
-use Rattle.flow_tree.specs.Tree.{TypeTree, IntType, BoolType, StringType, VoidType, ErrorType, NamedType, FutureType, FutureStreamType, PromiseType, PromiseStreamType, ExprTree, ExprTrees, IntExpr, TextExpr, BoolExpr, VoidExpr, VarExpr, CallExpr, FieldExpr, MethodExpr, NotExpr, NegExpr, BinaryExpr, ParenExpr, exprs_of_list}
+use Rattle.flow_tree.specs.Tree.{TypeTree, IntType, BoolType, StringType, VoidType, ErrorType, NamedType, FutureType, FutureStreamType, PromiseType, PromiseStreamType, ExprTree, ExprTrees, IntExpr, TextExpr, BoolExpr, VoidExpr, VarExpr, CallExpr, FieldExpr, MethodExpr, NotExpr, NegExpr, BinaryExpr, ParenExpr, ByName, exprs_of_list}
 
 -- one layer of a type, with the mirror of its part in its place
 abbrev pub type_step : Ty-F TypeTree → TypeTree
@@ -34,7 +34,7 @@ expr_step VoidValue = VoidExpr
 expr_step (Var x) = VarExpr x
 expr_step (Call f xs) = CallExpr f (exprs_of_list xs.items)
 expr_step (Field e x) = FieldExpr e.value x
-expr_step (Method e f xs) = MethodExpr e.value f (exprs_of_list xs.items)
+expr_step (Method e f xs) = MethodExpr e.value (ByName f) (exprs_of_list xs.items)
 expr_step (Not e) = NotExpr e.value
 expr_step (Neg e) = NegExpr e.value
 expr_step (Binary op a b) = BinaryExpr op a.value b.value

@@ -14,12 +14,12 @@ use Rattle.flow_tree.specs.declared.expr.Expr.TheOpen as layer
 use Rattle.flow_tree.specs.declared.expr.Expr.TheVariants as expr
 use Rattle.flow_tree.specs.declared.expr.Expr.TheFolds.{fold-roll-Expr}
 use Rattle.flow_tree.specs.View.{type_of, type_step, expr_of, expr_step, exprs_of}
-use Rattle.flow_tree.specs.Tree.{TypeTree, NamedType, ExprTree, CallExpr, MethodExpr, NotExpr, NegExpr, BinaryExpr}
+use Rattle.flow_tree.specs.Tree.{ByName, TypeTree, NamedType, ExprTree, CallExpr, MethodExpr, NotExpr, NegExpr, BinaryExpr}
 
 pub is_call : (x : Expr) (f : Ident) (xs : Vec Expr Global) → x ≡ expr.Call f xs → expr_of x ≡ CallExpr f (exprs_of xs.items)
 is_call x f xs is = ap expr_of is ∙ ap expr_of (sym (expr.rolls-Call f xs)) ∙ fold-roll-Expr ExprTree expr_step (layer.Call f xs)
 
-pub is_method : (x : Expr) (e : Box Expr Global) (f : Ident) (xs : Vec Expr Global) → x ≡ expr.Method e f xs → expr_of x ≡ MethodExpr (expr_of e.value) f (exprs_of xs.items)
+pub is_method : (x : Expr) (e : Box Expr Global) (f : Ident) (xs : Vec Expr Global) → x ≡ expr.Method e f xs → expr_of x ≡ MethodExpr (expr_of e.value) (ByName f) (exprs_of xs.items)
 is_method x e f xs is = ap expr_of is ∙ ap expr_of (sym (expr.rolls-Method e f xs)) ∙ fold-roll-Expr ExprTree expr_step (layer.Method e f xs)
 
 pub is_not : (x : Expr) (e : Box Expr Global) → x ≡ expr.Not e → expr_of x ≡ NotExpr (expr_of e.value)

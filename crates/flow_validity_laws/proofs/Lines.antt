@@ -19,7 +19,7 @@ use Rattle.flow_class.specs.Classes.{ClassTree}
 use Rattle.flow_class.specs.Scopes.{Scope, Mark, place_of, var_over, name_over, over, over_all}
 use Rattle.flow_rules.specs.declared.rule.SemanticRule.TheVariants.{UnknownName}
 use Rattle.flow_rules.specs.Least.{lesser}
-use Rattle.flow_rules.specs.Judged.{Setting, Need, called, called_on, needs_of, calls, calls_on, placed, form, fault, faults, fits, wants, operands, of_field, variable_as}
+use Rattle.flow_rules.specs.Judged.{Setting, Need, called, needs_of, calls, calls_on, placed, form, fault, faults, fits, wants, operands, of_field, variable_as, selected_on}
 use Rattle.flow_rules.proofs.Lesser.{no_first, no_second, holds}
 use Rattle.flow_staterule.specs.declared.scope.Point.{Point}
 use Rattle.flow_staterule.specs.declared.scope.Use.{Use}
@@ -302,7 +302,7 @@ module _ (base : Setting) (c : ClassTree) where
             expr_in false e (no_first (fault n false e) (of_field n (form n e) x.name) f) h
         expr_in whole (MethodExpr e m es) f h =
             let n = over_names base c rows in
-            let o = called_on (form n e) m.name in
+            let o = selected_on (form n e) m in
             let a = faults n 0 (needs_of o) es in
             let b = calls_on (form n e) es o (placed n false) in
             let us = expr_uses vs p e in

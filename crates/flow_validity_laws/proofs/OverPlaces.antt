@@ -3,7 +3,7 @@ use Rattle.std.proofs.Common.{◌≡◌, ℕ, suc, Bool, true, false, List, [], 
 use Rattle.std.specs.declared.option.Option.{Option}
 use Rattle.std.specs.declared.option.Option.TheVariants.{None, Some}
 use Rattle.flow_tree.specs.declared.ty.Ident.{Ident}
-use Rattle.flow_tree.specs.Tree.{TypeTree, IntType, BoolType, NamedType, ExprTree, ExprTrees, VarExpr, CallExpr, FieldExpr, MethodExpr, NotExpr, NegExpr, BinaryExpr, ParenExpr, NoExprs, MoreExprs}
+use Rattle.flow_tree.specs.Tree.{Selector, TypeTree, IntType, BoolType, NamedType, ExprTree, ExprTrees, VarExpr, CallExpr, FieldExpr, MethodExpr, NotExpr, NegExpr, BinaryExpr, ParenExpr, NoExprs, MoreExprs}
 use Rattle.flow_ast.specs.declared.predefined.Method.{Method}
 use Rattle.flow_ast.specs.TypingNames.{named, constant_names, method_names}
 use Rattle.flow_ast.specs.Typing.{is_there, with_type}
@@ -14,7 +14,7 @@ use Rattle.flow_class.specs.Scopes.{Scope, place_of, var_over, name_over, over, 
 use Rattle.flow_rules.specs.declared.rule.SemanticRule.{SemanticRule}
 use Rattle.flow_rules.specs.declared.rule.SemanticRule.TheVariants.{UnknownName, WrongCount}
 use Rattle.flow_rules.specs.Least.{lesser, unless}
-use Rattle.flow_rules.specs.Judged.{Setting, Need, Kind, Value, OfFunction, Clock, Effect, Statement, Callee, called, called_by, called_on, needs_of, gives_of, field_form, variable_as, variable_form, sign_form, form, wants, fits, operands, placed, said, as_many, calls, calls_on, of_field, fault, faults, wanted}
+use Rattle.flow_rules.specs.Judged.{Setting, Need, Kind, Value, OfFunction, Clock, Effect, Statement, Callee, called, called_by, called_on, needs_of, gives_of, field_form, variable_as, variable_form, sign_form, form, wants, fits, operands, placed, said, as_many, calls, calls_on, of_field, fault, faults, wanted, selected_on}
 use Rattle.flow_rules.specs.Items.{path_form, path_fault, target_form, target_fault, assigned, ends_of, call_fault}
 use Rattle.flow_rules.proofs.Lesser.{no_first, no_second, no_lesser, holds}
 use Rattle.flow_valid.specs.Validity.{slot_rows, local_rows, is_effect_kind, calls_effect, is_effect, put_fault}
@@ -86,10 +86,10 @@ module _ (base : Setting) (c : ClassTree) where
     calls_same es None may can e h = h
     calls_same es (Some k) may can e h = ap₂ (λ b f. lesser (unless b WrongCount) f) (as_many_same es k.needs) (e k.kind) ∙ h
 
-    calls_on_same : (o : Option TypeTree) (es : ExprTrees) (m : List ℕ) → calls_on o es (called_on o m) (placed (over_names vs) false) ≡ None
-        → calls_on o (over_all c.slots s es) (called_on o m) (placed over_class false) ≡ None
+    calls_on_same : (o : Option TypeTree) (es : ExprTrees) (m : Selector) → calls_on o es (selected_on o m) (placed (over_names vs) false) ≡ None
+        → calls_on o (over_all c.slots s es) (selected_on o m) (placed over_class false) ≡ None
     calls_on_same None es m h = refl
-    calls_on_same (Some t) es m h = calls_same es (called_on (Some t) m) (placed (over_names vs) false) (placed over_class false) (placed_same vs false) h
+    calls_on_same (Some t) es m h = calls_same es (selected_on (Some t) m) (placed (over_names vs) false) (placed over_class false) (placed_same vs false) h
 
     -- a variable that is not a constant
     pub place_form : (x : List ℕ) (t : TypeTree) → Placed s x t → variable_form over_class (var_over (place_of c.slots s x)) ≡ Some t
@@ -128,18 +128,18 @@ module _ (base : Setting) (c : ClassTree) where
           }
       same whole (MethodExpr e m es) h =
           let t = form (over_names vs) e in
-          let l = faults (over_names vs) 0 (needs_of (called_on t m.name)) es in
-          let k = calls_on t es (called_on t m.name) (placed (over_names vs) false) in
+          let l = faults (over_names vs) 0 (needs_of (selected_on t m)) es in
+          let k = calls_on t es (selected_on t m) (placed (over_names vs) false) in
           let r = no_second (fault (over_names vs) false e) (lesser l k) h in
           let i = same false e (no_first (fault (over_names vs) false e) (lesser l k) h) in
-          let args = all_same 0 (needs_of (called_on t m.name)) es (no_first l k r) in
-          let call = calls_on_same t es m.name (no_second l k r) in
-          let rest = no_lesser (faults over_class 0 (needs_of (called_on t m.name)) (over_all c.slots s es)) (calls_on t (over_all c.slots s es) (called_on t m.name) (placed over_class false)) args
+          let args = all_same 0 (needs_of (selected_on t m)) es (no_first l k r) in
+          let call = calls_on_same t es m (no_second l k r) in
+          let rest = no_lesser (faults over_class 0 (needs_of (selected_on t m)) (over_all c.slots s es)) (calls_on t (over_all c.slots s es) (selected_on t m) (placed over_class false)) args
           call in
           record {
-            by_form = ap (λ o. gives_of (called_on o m.name)) i.by_form;
+            by_form = ap (λ o. gives_of (selected_on o m)) i.by_form;
             sound = no_lesser (fault over_class false (over c.slots s e)) _ i.sound
-                (subst (λ o. lesser (faults over_class 0 (needs_of (called_on o m.name)) (over_all c.slots s es)) (calls_on o (over_all c.slots s es) (called_on o m.name) (placed over_class false))
+                (subst (λ o. lesser (faults over_class 0 (needs_of (selected_on o m)) (over_all c.slots s es)) (calls_on o (over_all c.slots s es) (selected_on o m) (placed over_class false))
                 ≡ None) (sym i.by_form) rest);
           }
       same whole (NotExpr e) h =

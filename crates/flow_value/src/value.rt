@@ -1,7 +1,7 @@
 // Values.
 
 ghost use Rattle.std.specs.Prelude.{◌≡◌, ◌++◌, IfOk, OnOk, map};
-ghost use Rattle.flow_value.specs.Values.{RecordValue, TextValue, refs_of};
+ghost use Rattle.flow_value.specs.Values.{CompositeValue, RecordWhole, ListWhole, TextValue, refs_of, refs_of_all, may_refer, any_may_refer};
 ghost use Rattle.flow_value.specs.View.{value_of, values_of, outcome_of, ref_of};
 
 use flow_base::ids::{CellId, ErrorCode};
@@ -35,7 +35,8 @@ pub struct Record<V> {
     pub fields: Vec<V>,
 }
 
-/// A value. A text is shared by its copies, and a record stands in a box, so that a value is small; a reference names a cell.
+/// A value. A text and a list are shared by their copies, and a record stands in a box, so that a value takes 16 bytes; a
+/// reference names a cell.
 #[derive(Drop)]
 pub enum Value {
     Int(i64),
@@ -44,6 +45,7 @@ pub enum Value {
     Void,
     Error(ErrorCode),
     Struct(Box<Record<Value>>),
+    List(Rc<Vec<Value>>),
     Ref(Kind, CellId),
 }
 
@@ -55,7 +57,8 @@ pub enum Outcome {
 }
 
 impl Value {
-    /// An equal value.
+    /// An equal value. A copy of a text or a list is the same one, shared.
+    #[cycle(copy)]
     pub fn copy(&self, alloc: Global) -> Result<Value, NoMemory>
         ensures { IfOk result (λ v. value_of v ≡ value_of self.now) }
     {
@@ -66,21 +69,26 @@ impl Value {
             Value::Void => Ok(Value::Void),
             Value::Error(code) => Ok(Value::Error(*code)),
             Value::Struct(record) => {
-                let mut copies = Vec::with_capacity(alloc, record.fields.len())?;
-                for field in &record.fields {
-                    copies.push(field.copy(alloc)?)?;
-                }
-                Value::record(alloc, record.id, copies)
+                Value::record(alloc, record.id, copies(alloc, &record.fields)?)
             }
+            Value::List(items) => Ok(Value::List(items.clone()?)),
             Value::Ref(kind, cell) => Ok(Value::Ref(*kind, *cell)),
         }
     }
 
     /// The value of a record with these fields.
     pub fn record(alloc: Global, id: RecordId, fields: Vec<Value>) -> Result<Value, NoMemory>
-        ensures { IfOk result (λ v. value_of v ≡ RecordValue id (values_of fields.items)) }
+        ensures { IfOk result (λ v. value_of v
+            ≡ CompositeValue (RecordWhole id) (values_of fields.items)) }
     {
         Ok(Value::Struct(Box::new(alloc, Record { id, fields })?))
+    }
+
+    /// The value of a list of these elements.
+    pub fn list(alloc: Global, items: Vec<Value>) -> Result<Value, NoMemory>
+        ensures { IfOk result (λ v. value_of v ≡ CompositeValue ListWhole (values_of items.items)) }
+    {
+        Ok(Value::List(Rc::new(alloc, items)?))
     }
 
     /// The value of a text.
@@ -90,7 +98,7 @@ impl Value {
         Ok(Value::Text(Rc::new(alloc, text)?))
     }
 
-    /// Its references, in the order of its fields: kind and cell.
+    /// Its references, in the order of its parts: kind and cell.
     pub fn refs(&self, alloc: Global) -> Result<Vec<(Kind, CellId)>, NoMemory>
         ensures { IfOk result (λ v. map ref_of v.items ≡ refs_of (value_of self.now)) }
     {
@@ -99,17 +107,14 @@ impl Value {
         Ok(found)
     }
 
+    #[cycle(add_refs)]
     fn add_refs(&self, found: &mut Vec<(Kind, CellId)>) -> Result<(), NoMemory>
         ensures { OnOk result (map ref_of found.new.items
             ≡ map ref_of found.old.items ++ refs_of (value_of self.now)) }
     {
         match self {
-            Value::Struct(record) => {
-                for field in &record.fields {
-                    field.add_refs(found)?;
-                }
-                Ok(())
-            }
+            Value::Struct(record) => add_all_refs(&record.fields, found),
+            Value::List(items) => add_all_refs(items, found),
             Value::Ref(kind, cell) => {
                 found.push((*kind, *cell))?;
                 Ok(())
@@ -118,6 +123,62 @@ impl Value {
                 Ok(())
             }
         }
+    }
+
+    /// Whether a value of its kind may refer to cells.
+    pub fn may_refer(&self) -> bool
+        ensures { result ≡ may_refer (value_of self.now) }
+    {
+        matches!(self, Value::Struct(_) | Value::List(_) | Value::Ref(_, _))
+    }
+}
+
+/// Whether one of the values may refer to cells, by their kinds alone: where none may, there is no need to walk through them.
+pub fn any_may_refer(values: &[Value]) -> bool
+    ensures { result ≡ any_may_refer (values_of values.now) }
+{
+    for value in values {
+        if value.may_refer() {
+            return true;
+        }
+    }
+    false
+}
+
+#[cycle(add_refs)]
+#[tactic(auto, using(crate::proofs::References::nothing_more))]
+fn add_all_refs(values: &[Value], found: &mut Vec<(Kind, CellId)>) -> Result<(), NoMemory>
+    ensures { OnOk result (map ref_of found.new.items
+        ≡ map ref_of found.old.items ++ refs_of_all (values_of values.now)) }
+{
+    if !any_may_refer(values) {
+        return Ok(());
+    }
+    for value in values {
+        value.add_refs(found)?;
+    }
+    Ok(())
+}
+
+/// Equal values.
+#[cycle(copy)]
+pub fn copies(alloc: Global, values: &[Value]) -> Result<Vec<Value>, NoMemory>
+    ensures { IfOk result (λ v. map value_of v.items ≡ map value_of values.now) }
+{
+    let mut copies = Vec::with_capacity(alloc, values.len())?;
+    for value in values {
+        copies.push(value.copy(alloc)?)?;
+    }
+    Ok(copies)
+}
+
+/// The elements of a list, as ones that are not shared.
+pub fn own_items(alloc: Global, items: Rc<Vec<Value>>) -> Result<Vec<Value>, NoMemory>
+    ensures { IfOk result (λ v. map value_of v.items ≡ map value_of items.value.items) }
+{
+    match Rc::try_unwrap(items) {
+        Ok(items) => Ok(items),
+        Err(items) => copies(alloc, items.as_ref()),
     }
 }
 

@@ -4,8 +4,7 @@ use Rattle.std.specs.Fmt.{signed_decimal}
 use Rattle.flow_base.specs.Quote.{quoted}
 use Rattle.flow_value.specs.declared.value.Kind.{Kind}
 use Rattle.flow_value.specs.declared.value.Kind.TheVariants.{Promise, Future, PromiseStream, FutureStream}
-use Rattle.flow_value.specs.declared.value.RecordId.{RecordId}
-use Rattle.flow_value.specs.Values.{ValueTree, IntValue, BoolValue, TextValue, VoidValue, ErrorValue, RecordValue, RefValue, ValueTrees, NoValues, MoreValues}
+use Rattle.flow_value.specs.Values.{ValueTree, IntValue, BoolValue, TextValue, VoidValue, ErrorValue, CompositeValue, RefValue, Whole, RecordWhole, ListWhole, ValueTrees, NoValues, MoreValues}
 
 -- the word of a kind of reference
 abbrev pub kind_text : Kind → List ℕ
@@ -15,11 +14,13 @@ kind_text PromiseStream = codes "PromiseStream#"
 kind_text FutureStream = codes "FutureStream#"
 
 -- what stands before the parts of a value, and behind them
-abbrev pub opening : RecordId → List ℕ
-opening id = codes "("
+abbrev pub opening : Whole → List ℕ
+opening (RecordWhole r) = codes "("
+opening ListWhole = codes "["
 
-abbrev pub closing : RecordId → List ℕ
-closing id = codes ")"
+abbrev pub closing : Whole → List ℕ
+closing (RecordWhole r) = codes ")"
+closing ListWhole = codes "]"
 
 -- a comma before each part but the first
 abbrev pub separator : (first : Bool) → List ℕ
@@ -34,7 +35,7 @@ abbrev mutual
   value_text (TextValue t) = quoted t
   value_text VoidValue = codes "Void()"
   value_text (ErrorValue e) = codes "error(" ++ decimal e ++ codes ")"
-  value_text (RecordValue id vs) = opening id ++ parts_text true vs ++ closing id
+  value_text (CompositeValue w vs) = opening w ++ parts_text true vs ++ closing w
   value_text (RefValue kind cell) = kind_text kind ++ decimal cell
 
   pub parts_text : (first : Bool) → ValueTrees → List ℕ

@@ -3,11 +3,11 @@
 ghost use Rattle.std.specs.Prelude.{◌≡◌, ◌++◌, true, OnOk, codes, decimal};
 ghost use Rattle.flow_base.specs.Quote.{quoted, spelled_text};
 ghost use Rattle.flow_value.specs.View.{value_of, values_of};
-ghost use Rattle.flow_valuetext.specs.ValueText.{kind_text, value_text, parts_text, opening, closing};
+ghost use Rattle.flow_valuetext.specs.ValueText.{kind_text, value_text, parts_text};
 
 use flow_base::memory::NoMemory;
 use flow_trace::quote::spell_byte;
-use flow_value::value::{Kind, RecordId, Value};
+use flow_value::value::{Kind, Value};
 use itoa::Buffer;
 
 // Adds bytes.
@@ -41,14 +41,6 @@ fn kind_word(kind: Kind) -> &'static [u8]
     }
 }
 
-// What stands before the parts of a value, and behind them.
-fn brackets(_id: RecordId) -> (&'static [u8], &'static [u8])
-    ensures before { result.0.now ≡ opening _id }
-    ensures behind { result.1.now ≡ closing _id }
-{
-    (b"(", b")")
-}
-
 // Adds an error by its number.
 fn put_error(out: &mut Vec<u8>, number: u16) -> Result<(), NoMemory>
     ensures { OnOk result (out.new.items
@@ -67,8 +59,8 @@ fn put_reference(out: &mut Vec<u8>, kind: Kind, cell: u64) -> Result<(), NoMemor
     put(out, Buffer::new().format(cell).as_bytes())
 }
 
-/// Adds the text of a value: a number in decimal; `true` or `false`; a text in quotes; `Void()`; `error(N)`; the parts of a record
-/// in parentheses; a reference by its kind and its cell, as `Future#2`.
+/// Adds the text of a value: a number in decimal; `true` or `false`; a text in quotes; `Void()`; `error(N)`; the fields of a record
+/// in parentheses; the elements of a list in brackets; a reference by its kind and its cell, as `Future#2`.
 #[cycle(put_value)]
 pub fn put_value(out: &mut Vec<u8>, value: &Value) -> Result<(), NoMemory>
     ensures { OnOk result (out.new.items ≡ out.old.items ++ value_text (value_of value.now)) }
@@ -80,18 +72,23 @@ pub fn put_value(out: &mut Vec<u8>, value: &Value) -> Result<(), NoMemory>
         Value::Text(text) => put_quoted(out, text.bytes()),
         Value::Void => put(out, b"Void()"),
         Value::Error(code) => put_error(out, code.0),
-        Value::Struct(record) => put_parts(out, record.id, &record.fields),
+        Value::Struct(record) => put_parts(out, b"(", &record.fields, b")"),
+        Value::List(items) => put_parts(out, b"[", items, b"]"),
         Value::Ref(kind, cell) => put_reference(out, *kind, cell.0),
     }
 }
 
-// Adds values with commas between them, in the brackets of what they are parts of.
+// Adds values with commas between them, and what stands before and behind them.
 #[cycle(put_value)]
-fn put_parts(out: &mut Vec<u8>, id: RecordId, parts: &[Value]) -> Result<(), NoMemory>
+fn put_parts(
+    out: &mut Vec<u8>,
+    before: &[u8],
+    parts: &[Value],
+    behind: &[u8],
+) -> Result<(), NoMemory>
     ensures { OnOk result (out.new.items
-        ≡ out.old.items ++ (opening id ++ parts_text true (values_of parts.now) ++ closing id)) }
+        ≡ out.old.items ++ (before.now ++ parts_text true (values_of parts.now) ++ behind.now)) }
 {
-    let (before, behind) = brackets(id);
     put(out, before)?;
     let mut first = true;
     for part in parts {

@@ -11,7 +11,8 @@ use Rattle.flow_monitor.specs.declared.attach.Want.{Want}
 -- the number of 1 to 20 digits from the least to the most that a word is
 abbrev pub number_within : (least most : ℕ) → (word : List ℕ) → Option ℕ
 number_within least most word =
-    if is_number word && (nat_le least (digits_value 10 word) && nat_le (digits_value 10 word) most) then Some (digits_value 10 word) else None
+    if is_number word && (nat_le least (digits_value 10 word) && nat_le (digits_value 10 word) most)
+    then Some (digits_value 10 word) else None
 
 -- a number below 2^64
 abbrev pub number_of : (word : List ℕ) → Option ℕ

@@ -92,8 +92,8 @@ module _ {A : Type 0} (puts : A → Line → Result (Unit {0}) OutFault → A �
     line_put : (c : A) → puts a l (Ok tt) c → then_breaks c → PutBreaks l then_breaks a f b
 
   -- a process breaks off in what follows of a deed
-  pub record ActsBreaks (code : Code) (turns : ℕ) (p : ProcId) (d : EventAction) (at : Place) (m : Surroundings) (a : A) (f : RunFault) (b : A)
-      : Type 0 where
+  pub record ActsBreaks (code : Code) (turns : ℕ) (p : ProcId) (d : EventAction) (at : Place) (m : Surroundings)
+      (a : A) (f : RunFault) (b : A) : Type 0 where
     pub left : Inside A
     pub out : left.out ≡ b
     pub breaks : ActionBreaks meaning.host shows (wrote puts) (wrote_part puts) code d at.machine (begun m.time turns at.machine.process)
@@ -103,7 +103,8 @@ module _ {A : Type 0} (puts : A → Line → Result (Unit {0}) OutFault → A �
   pub data ActsAtBreaks (p : ProcId) (d : EventAction) (w : Seen) (a : A) (f : RunFault) (b : A) : Type 0 where
     no_process : f ≡ Stuck → NoProcess p w → ActsAtBreaks p d w a f b
     not_among : (at : Place) → f ≡ Stuck → slice_get w.places p.0 ≡ Some at → NotAmong p at w → ActsAtBreaks p d w a f b
-    acts_break : (at : Place) → slice_get w.places p.0 ≡ Some at → ActsBreaks w.code w.turns p d at w.outside a f b → ActsAtBreaks p d w a f b
+    acts_break : (at : Place) → slice_get w.places p.0 ≡ Some at → ActsBreaks w.code w.turns p d at w.outside a f b
+        → ActsAtBreaks p d w a f b
 
   -- so it is unless the process has nothing to do
   abbrev pub RunsBreaks : ProcId → EventAction → Seen → A → RunFault → A → Type 0

@@ -7,12 +7,13 @@ use Rattle.std.specs.declared.option.Option.{Option}
 use Rattle.std.specs.declared.option.Option.TheVariants.{None, Some}
 use Rattle.flow_tree.specs.Tree.{TypeTree, ErrorType}
 use Rattle.flow_tree.specs.Decls.{RecordTree}
-use Rattle.flow_value.specs.Values.{ValueTree, IntValue, BoolValue, TextValue, VoidValue, ErrorValue, RecordValue, RefValue, OutcomeTree}
+use Rattle.flow_value.specs.Values.{ValueTree, IntValue, BoolValue, TextValue, VoidValue, ErrorValue, CompositeValue, RefValue, OutcomeTree}
 use Rattle.flow_value.specs.declared.value.Outcome.{Outcome}
 use Rattle.flow_value.specs.View.{outcome_of}
 use Rattle.flow_value.specs.declared.value.Kind.TheVariants as kind
 use Rattle.flow_ast.specs.Typing.{is_there}
 use Rattle.flow_eval.specs.Typed.{HasType}
+use Rattle.flow_eval.proofs.TypedValues.{no_parts}
 use Rattle.flow_class.specs.declared.class.Slotted.{Slotted}
 use Rattle.flow_class.specs.declared.class.Slotted.TheVariants.{Local}
 use Rattle.flow_class.specs.Classes.{CatcherTree, ClassTree, RawTree}
@@ -102,7 +103,7 @@ error_holds rs typed (Some v) h s j = by_value v (h v refl)
     by_value (BoolValue b) t = refl
     by_value (TextValue x) t = refl
     by_value VoidValue t = refl
-    by_value (RecordValue n vs) t = let d = t.2 in absurd cc
+    by_value (CompositeValue w vs) t = no_parts rs w ErrorType t.0 refl t.1
     by_value (RefValue kind.Promise k) t = let d = t.1 in absurd cc
     by_value (RefValue kind.Future k) t = let d = t.1 in absurd cc
     by_value (RefValue kind.PromiseStream k) t = let d = t.1 in absurd cc

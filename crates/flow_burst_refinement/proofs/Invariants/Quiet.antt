@@ -12,7 +12,7 @@ use Rattle.flow_value.specs.declared.value.Value.{Value}
 use Rattle.flow_value.specs.declared.value.Outcome.{Outcome}
 use Rattle.flow_value.specs.declared.value.Kind.{Kind}
 use Rattle.flow_value.specs.declared.value.Kind.TheVariants as kind
-use Rattle.flow_value.specs.Values.{ValueTree, IntValue, BoolValue, TextValue, VoidValue, ErrorValue, RecordValue, RefValue}
+use Rattle.flow_value.specs.Values.{ValueTree, IntValue, BoolValue, TextValue, VoidValue, ErrorValue, CompositeValue, RefValue}
 use Rattle.flow_value.specs.View.{value_of}
 use Rattle.flow_eval.specs.Eval.{Res}
 use Rattle.flow_code.specs.declared.expr.expr.Resolved.{Resolved}
@@ -381,7 +381,7 @@ reference_kept s n (BoolValue b) m k pace none h = absurd h
 reference_kept s n (TextValue t) m k pace none h = absurd h
 reference_kept s n VoidValue m k pace none h = absurd h
 reference_kept s n (ErrorValue e) m k pace none h = absurd h
-reference_kept s n (RecordValue r vs) m k pace none h = absurd h
+reference_kept s n (CompositeValue r vs) m k pace none h = absurd h
 
 operand_step : (code : Code) (s : ControlPoint) (c : ℕ) (o : Operand) (m n : Process) (pace : Pace) → m.asked ≡ None → OperandStep code s c o m pace n → After pace m n
 operand_step code s c (operand.Value e) m n pace none h =
@@ -399,7 +399,7 @@ thrown_is s (BoolValue b) m n pace none h = absurd h
 thrown_is s (TextValue t) m n pace none h = absurd h
 thrown_is s VoidValue m n pace none h = absurd h
 thrown_is s (RefValue kd c) m n pace none h = absurd h
-thrown_is s (RecordValue r vs) m n pace none h = absurd h
+thrown_is s (CompositeValue r vs) m n pace none h = absurd h
 
 return_is : (s : ControlPoint) (v : Value) (m n : Process) (pace : Pace) → m.asked ≡ None → IsReturn s v m pace n → After pace m n
 return_is s v m n pace none h =

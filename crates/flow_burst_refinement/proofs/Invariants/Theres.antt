@@ -1,11 +1,13 @@
 -- In a process that fits, references lead to cells of their kinds.
-use Rattle.std.proofs.Common.{◌≡◌, ℕ, suc, false, true, List, [], ◌∷◌, ◌++◌, refl, sym, ap, subst, ◌∙◌}
+use Rattle.std.proofs.Common.{◌≡◌, ℕ, suc, false, true, List, [], ◌∷◌, refl, sym, ap, subst, ◌∙◌}
 use Rattle.std.specs.declared.option.Option.TheVariants.{None, Some}
 use Rattle.flow_tree.specs.Tree.{TypeTree, FutureType, FutureStreamType}
 use Rattle.flow_value.specs.declared.value.Kind.{Kind}
 use Rattle.flow_value.specs.declared.value.Kind.TheVariants as kind
-use Rattle.flow_value.specs.Values.{ValueTree, IntValue, BoolValue, TextValue, VoidValue, ErrorValue, RecordValue, RefValue, ValueTrees, NoValues, MoreValues, refs_of, refs_of_all, OutcomeTree, GoodOutcome, BadOutcome}
-use Rattle.flow_eval.specs.Typed.{future_side, HasType, HaveTypes}
+use Rattle.flow_value.specs.Values.{ValueTree, RefValue, refs_of, OutcomeTree, GoodOutcome, BadOutcome}
+use Rattle.flow_value.proofs.References.{refs_map, listed_both, refs_listed}
+use Rattle.flow_eval.specs.Typed.{future_side, HasType}
+use Rattle.flow_eval.proofs.TypedReferences.{LeadsSomewhere, refs_lead}
 use Rattle.flow_class.specs.Classes.{RawTree}
 use Rattle.flow_valid.specs.Validity.{operand_type}
 use Rattle.flow_numbered.specs.Numbered.{thing}
@@ -19,10 +21,6 @@ use Rattle.flow_heap_refinement.specs.Holds.{There, AllThere}
 use Rattle.flow_progress.specs.Asking.{OutcomeFits}
 use Rattle.flow_progress.specs.Fitting.{CellTypes, typed_by, Fits, CellFits, CellAt, OperandsFit}
 use Rattle.flow_progress.proofs.CellStates.{cell_there}
-
-pub all_both : (p : Proc Frame) (xs ys : List Ref) → AllThere p xs → AllThere p ys → AllThere p (xs ++ ys)
-all_both p [] ys h k = k
-all_both p (x ∷ xs) ys h k = (h.0, all_both p xs ys h.1 k)
 
 module _ (r : RawTree) (types : CellTypes) (p : Proc Frame) (cells : (k : ℕ) → CellAt r types (types k) (thing p.core.cells k)) where
   right_by : (kd : Kind) (u : TypeTree) (c : Cell) → CellFits r types c (future_side kd u) → RightCell kd c
@@ -40,22 +38,15 @@ module _ (r : RawTree) (types : CellTypes) (p : Proc Frame) (cells : (k : ℕ) �
       let c = cell_there r types k (future_side kd u) (thing p.core.cells k) e (cells k) in
       record { cell = c.0; at = c.1; right = right_by kd u c.0 c.2 }
 
-  mutual
-    pub value_there : (v : ValueTree) (t : TypeTree) → HasType r.records (typed_by types) v t → AllThere p (refs_of v)
-    value_there (IntValue n) t h = tt
-    value_there (BoolValue b) t h = tt
-    value_there (TextValue x) t h = tt
-    value_there VoidValue t h = tt
-    value_there (ErrorValue e) t h = tt
-    value_there (RecordValue n vs) t h = values_there vs h.1.params h.5
-    value_there (RefValue kd k) t h = (ref_there kd k h.0 h.2, tt)
+  led_there : (q : Ref) → LeadsSomewhere (typed_by types) q → There p q
+  led_there q l = let t = ref_there q.0 q.1 l.0 l.1 in record { cell = t.cell; at = t.at; right = t.right }
 
-    pub values_there : (vs : ValueTrees) (ts : List TypeTree) → HaveTypes r.records (typed_by types) vs ts → AllThere p (refs_of_all vs)
-    values_there NoValues ts h = tt
-    values_there (MoreValues v vs) ts h = all_both p (refs_of v) (refs_of_all vs) (value_there v h.0 h.3) (values_there vs h.1 h.4)
+  pub value_there : (v : ValueTree) (t : TypeTree) → HasType r.records (typed_by types) v t → AllThere p (refs_of v)
+  value_there v t h =
+      refs_listed (There p) v (refs_map (LeadsSomewhere (typed_by types)) (There p) led_there v (refs_lead r.records (typed_by types) v t h))
 
   pub outcome_there : (o : OutcomeTree) (u : TypeTree) → OutcomeFits r.records (typed_by types) o u → AllThere p (refs_in (value_in o))
-  outcome_there (GoodOutcome v) u h = all_both p (refs_of v) [] (value_there v u h) tt
+  outcome_there (GoodOutcome v) u h = listed_both (There p) (refs_of v) [] (value_there v u h) tt
   outcome_there (BadOutcome e) u h = tt
 
   -- what a branch takes from a cell

@@ -1,14 +1,15 @@
 -- What a process keeps allows each of its actors what it asks.
-use Rattle.std.proofs.Common.{◌≡◌, ℕ, zero, suc, List, [], ◌∷◌, ◌++◌, length, refl, ap, subst, ◌∙◌}
+use Rattle.std.proofs.Common.{◌≡◌, ℕ, List, [], ◌∷◌, length, refl, ap, subst, ◌∙◌}
 use Rattle.std.specs.Prelude.{slice_get}
 use Rattle.std.specs.declared.option.Option.{Option}
 use Rattle.std.specs.declared.option.Option.TheVariants.{None, Some}
 use Rattle.flow_tree.specs.declared.ty.Ident.{Ident}
 use Rattle.flow_tree.specs.Tree.{ExprTree, ExprTrees}
 use Rattle.flow_tree.specs.Decls.{RecordTree}
-use Rattle.flow_value.specs.Values.{ValueTree, IntValue, BoolValue, TextValue, VoidValue, ErrorValue, RecordValue, RefValue, ValueTrees, NoValues, MoreValues, refs_of, refs_of_all}
+use Rattle.flow_value.specs.Values.{ValueTree, IntValue, BoolValue, TextValue, VoidValue, ErrorValue, CompositeValue, RefValue, ValueTrees, refs_of, refs_of_all, at_place}
+use Rattle.flow_value.proofs.References.{refs_listed, listed_in, part_refs}
 use Rattle.flow_eval.specs.Eval.{Done}
-use Rattle.flow_eval.specs.Records.{value_at, at_place, field_place, field}
+use Rattle.flow_eval.specs.Records.{field_place, field}
 use Rattle.flow_eval.specs.Functions.{read_in}
 use Rattle.flow_class.specs.declared.class.Slotted.{Slotted}
 use Rattle.flow_class.specs.Classes.{SetInstr, EffectInstr, NewInstr, ActInstr, DropInstr, GotoLast, PassLast, TestLast, ChooseLast, ReturnLast, ThrowLast, CallbackTree, RawTree}
@@ -17,14 +18,13 @@ use Rattle.flow_class.specs.Places.{place_named}
 use Rattle.flow_code.specs.declared.program.Code.{Code}
 use Rattle.flow_valid.specs.Named.{has_place, base_place, exprs_places}
 use Rattle.flow_numbered.specs.Numbered.{thing}
-use Rattle.flow_meaning.specs.Cells.{Ref}
 use Rattle.flow_meaning.specs.Requests.{Supply, Goal, Stored, Kept, Effects}
 use Rattle.flow_meaning.specs.Process.{Entry, Proc}
 use Rattle.flow_meaning.specs.Evaluating.{StepOf, Effectful, Actor, asks, bind, given, evaluated, effect_in, effect_of, values, before_last}
 use Rattle.flow_meaning.specs.Step.{kept_by, view}
 use Rattle.flow_meaning.specs.Class.{effects, choose, operand_by, class_names}
 use Rattle.flow_meaning.specs.Frame.{Frame, read, look, spot_of}
-use Rattle.flow_heap_refinement.specs.Holds.{AllThere}
+use Rattle.flow_heap_refinement.specs.Holds.{AllThere, There}
 use Rattle.flow_progress.specs.Places.{class_vars}
 use Rattle.flow_progress.specs.Asking.{AsksFit}
 use Rattle.flow_progress.specs.Fitting.{typed_by}
@@ -42,21 +42,12 @@ use Rattle.flow_burst_refinement.specs.Requests.Allowing as law
 
 -- what a path leads to refers to what is there, if what it begins with does
 module _ (p : Proc Frame) where
-  parted : (rs qs : List Ref) → AllThere p (rs ++ qs) → AllThere p rs × AllThere p qs
-  parted [] qs h = (tt, h)
-  parted (r ∷ rs) qs h = let a = parted rs qs h.1 in ((h.0, a.0), a.1)
-
-  value_at_there : (vs : ValueTrees) (k : ℕ) (w : ValueTree) → value_at vs k ≡ Some w → AllThere p (refs_of_all vs) → AllThere p (refs_of w)
-  value_at_there NoValues k w e h = cc
-  value_at_there (MoreValues v vs) zero w e h = let s : v ≡ w = cc in subst (λ x. AllThere p (refs_of x)) s (parted (refs_of v) (refs_of_all vs) h).0
-  value_at_there (MoreValues v vs) (suc k) w e h = value_at_there vs k w e (parted (refs_of v) (refs_of_all vs) h).1
-
   at_place_there : (vs : ValueTrees) (o : Option ℕ) (w : ValueTree) → at_place vs o ≡ Some w → AllThere p (refs_of_all vs) → AllThere p (refs_of w)
   at_place_there vs None w e h = cc
-  at_place_there vs (Some k) w e h = value_at_there vs k w e h
+  at_place_there vs (Some k) w e h = refs_listed (There p) w (part_refs (There p) vs k w e (listed_in (There p) vs h))
 
   field_there : (rs : List RecordTree) (v : ValueTree) (x : List ℕ) (w : ValueTree) → field rs v x ≡ Some w → AllThere p (refs_of v) → AllThere p (refs_of w)
-  field_there rs (RecordValue n vs) x w e h = at_place_there vs (field_place rs n x) w e h
+  field_there rs (CompositeValue n vs) x w e h = at_place_there vs (field_place rs n x) w e h
   field_there rs (IntValue z) x w e h = cc
   field_there rs (BoolValue b) x w e h = cc
   field_there rs (TextValue t) x w e h = cc

@@ -8,13 +8,13 @@ use Rattle.flow_tree.specs.Tree.{ExprTree, ExprTrees, IntExpr, TextExpr, BoolExp
 use Rattle.flow_tree.specs.Decls.{RecordTree, RoutineTree}
 use Rattle.flow_ast.specs.declared.predefined.Predefined.{Predefined}
 use Rattle.flow_ast.specs.Typing.{routine_named}
-use Rattle.flow_ast.specs.TypingNames.{named, call_names, method_names, constant_names}
+use Rattle.flow_ast.specs.TypingNames.{named, selected, call_names, constant_names}
 use Rattle.flow_value.specs.declared.value.RecordId.{RecordId}
-use Rattle.flow_value.specs.Values.{ValueTree, IntValue, BoolValue, TextValue, VoidValue, ErrorValue, RecordValue, RefValue, values_of_list}
+use Rattle.flow_value.specs.Values.{ValueTree, IntValue, BoolValue, TextValue, VoidValue, ErrorValue, CompositeValue, RefValue, values_of_list, at_place, Whole}
 use Rattle.flow_eval.specs.Answers.{Answer, Given, NoMeaning, bool_of}
 use Rattle.flow_eval.specs.Functions.{routine_at}
 use Rattle.flow_eval.specs.Operators.{inverted, negated}
-use Rattle.flow_eval.specs.Records.{record_id, field_place, field, field_answer, at_place}
+use Rattle.flow_eval.specs.Records.{record_id, field_place, field, field_answer}
 use Rattle.flow_eval.specs.Eval.{Setting, Runner, Res, Done, Fails, Spent, Meaningless, then, at_once, more_args, found, variable, or_then, and_then, truth_of, both, second, method_called, function_called, declared_called, called, eval, eval_all}
 use Rattle.flow_code.specs.Resolved.Tree.{Node, Nodes}
 use Rattle.flow_code.specs.Resolved.Evaluation.{ActorViewTree, numbered_field, field_by, value_at, values_at}
@@ -56,21 +56,21 @@ second_same Div v go to left same = ap (both Div v) (same left)
 second_same Rem v go to left same = ap (both Rem v) (same left)
 
 -- a field by the number of its name is the field of its name
-field_same : (places : RecordId → ℕ → Option ℕ) (rs : List RecordTree) (x : List ℕ) (o : Option ℕ) (v : ValueTree)
-    → ((r : RecordId) → place_by places r o ≡ field_place rs r x) → field_by places v o ≡ field rs v x
+field_same : (places : Whole → ℕ → Option ℕ) (rs : List RecordTree) (x : List ℕ) (o : Option ℕ) (v : ValueTree)
+    → ((w : Whole) → place_by places w o ≡ field_place rs w x) → field_by places v o ≡ field rs v x
 field_same places rs x None (IntValue n) e = refl
 field_same places rs x None (BoolValue b) e = refl
 field_same places rs x None (TextValue t) e = refl
 field_same places rs x None VoidValue e = refl
 field_same places rs x None (ErrorValue c) e = refl
-field_same places rs x None (RecordValue r vs) e = ap (at_place vs) (e r)
+field_same places rs x None (CompositeValue w vs) e = ap (at_place vs) (e w)
 field_same places rs x None (RefValue k c) e = refl
 field_same places rs x (Some f) (IntValue n) e = refl
 field_same places rs x (Some f) (BoolValue b) e = refl
 field_same places rs x (Some f) (TextValue t) e = refl
 field_same places rs x (Some f) VoidValue e = refl
 field_same places rs x (Some f) (ErrorValue c) e = refl
-field_same places rs x (Some f) (RecordValue r vs) e = ap (at_place vs) (e r)
+field_same places rs x (Some f) (CompositeValue w vs) e = ap (at_place vs) (e w)
 field_same places rs x (Some f) (RefValue k c) e = refl
 
 -- a variable
@@ -104,7 +104,7 @@ module _ (n : Naming) (s : ActorViewTree) (look : List ℕ → Option ValueTree)
   call_same f (Some p) r k xs left d e = refl
 
   the_field : (x : List ℕ) (v : ValueTree) → field_by s.places v (n.field x) ≡ field s.setting.records v x
-  the_field x v = field_same s.places s.setting.records x (n.field x) v (λ r. fields r x)
+  the_field x v = field_same s.places s.setting.records x (n.field x) v (λ w. fields w x)
 
   mutual
     same : (e : ExprTree) (left : ℕ) → value_at s (resolved n e) left ≡ eval s.setting s.run look e left
@@ -118,7 +118,7 @@ module _ (n : Naming) (s : ActorViewTree) (look : List ℕ → Option ValueTree)
         ∙ ap (λ r. then r (λ vs left. called s.setting s.run (named call_names f.name) f.name vs left)) (same_all xs left)
     same (FieldExpr e x) left = then_same _ _ _ _ (same e left) (λ v left. ap (λ o. at_once (field_answer o) left) (the_field x.name v))
     same (MethodExpr e m xs) left =
-        then_same _ _ _ _ (same e left) (λ v left. ap (λ r. then r (λ vs left. at_once (method_called s.setting.cells (named method_names m.name) v vs) left)) (same_all xs left))
+        then_same _ _ _ _ (same e left) (λ v left. ap (λ r. then r (λ vs left. at_once (method_called s.setting.cells (selected m) v vs) left)) (same_all xs left))
     same (NotExpr e) left = ap (λ r. then r (λ v left. at_once (inverted v) left)) (same e left)
     same (NegExpr e) left = ap (λ r. then r (λ v left. at_once (negated v) left)) (same e left)
     same (BinaryExpr op a b) left = then_same _ _ _ _ (same a left) (λ v left. second_same op v _ _ left (same b))

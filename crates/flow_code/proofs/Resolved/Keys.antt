@@ -14,8 +14,8 @@ use denote.Ref.{Bor}
 use Rattle.flow_tree.specs.Decls.{ParamTree, RecordTree}
 use Rattle.flow_tree.specs.Tree.{TypeTree}
 use Rattle.flow_ast.specs.Typing.{packet_fields}
-use Rattle.flow_value.specs.declared.value.RecordId.{RecordId}
 use Rattle.flow_value.specs.declared.value.RecordId.TheVariants.{Packet, Declared}
+use Rattle.flow_value.specs.Values.{Whole, RecordWhole, ListWhole}
 use Rattle.flow_eval.specs.Records as fields
 use Rattle.flow_code.specs.declared.expr.names.FieldNames.{FieldNames}
 use Rattle.flow_code.specs.Resolved.Named.{key_at, first_from, IsNamed, AreNamed, AllNamed, Keeps, param_name}
@@ -197,22 +197,27 @@ module _ (ks : List Key) (distinct : IsDistinct same ks) (x : List ℕ) where
   declared o e (v ∷ vs) (r ∷ rs) zero h = here o v vs ∙ by_key param_name ks distinct x o e v.items r.fields h.0
   declared o e (v ∷ vs) (r ∷ rs) (suc k) h = later o v vs k ∙ declared o e vs rs k h.1
 
-  packet : (names : FieldNames) (o : Option ℕ) → place_by (places_in names) Packet o ≡ place_of (λ (f : List ℕ × TypeTree). f.0) ks distinct x o (0 ∷ 1 ∷ 2 ∷ [])
+  packet : (names : FieldNames) (o : Option ℕ) → place_by (places_in names) (RecordWhole Packet) o ≡ place_of (λ (f : List ℕ × TypeTree). f.0) ks distinct x o (0 ∷ 1 ∷ 2 ∷ [])
   packet names None = refl
   packet names (Some f) = sym (three f)
 
-  of_record : (names : FieldNames) (o : Option ℕ) (k : ℕ) → place_by (places_in names) (Declared k) o ≡ by_place o names.records.items k
+  of_record : (names : FieldNames) (o : Option ℕ) (k : ℕ) → place_by (places_in names) (RecordWhole (Declared k)) o ≡ by_place o names.records.items k
   of_record names None k = refl
   of_record names (Some f) k = refl
 
+  no_field : (names : FieldNames) (o : Option ℕ) → place_by (places_in names) ListWhole o ≡ None
+  no_field names None = refl
+  no_field names (Some f) = refl
+
   by_record : (names : FieldNames) (rs : List RecordTree) (o : Option ℕ) → key_from 0 ks x ≡ o → AreNamed (λ (f : List ℕ × TypeTree). f.0) ks (0 ∷ 1 ∷ 2 ∷ []) packet_fields
       → AllNamed ks names.records.items rs
-      → (r : RecordId) → place_by (places_in names) r o ≡ fields.field_place rs r x
-  by_record names rs o e p h Packet = packet names o ∙ by_key (λ (f : List ℕ × TypeTree). f.0) ks distinct x o e (0 ∷ 1 ∷ 2 ∷ []) packet_fields p
-  by_record names rs o e p h (Declared k) = of_record names o k ∙ declared o e names.records.items rs k h
+      → (w : Whole) → place_by (places_in names) w o ≡ fields.field_place rs w x
+  by_record names rs o e p h (RecordWhole Packet) = packet names o ∙ by_key (λ (f : List ℕ × TypeTree). f.0) ks distinct x o e (0 ∷ 1 ∷ 2 ∷ []) packet_fields p
+  by_record names rs o e p h (RecordWhole (Declared k)) = of_record names o k ∙ declared o e names.records.items rs k h
+  by_record names rs o e p h ListWhole = no_field names o
 
 pub numbered : (pk ks : List Key) (names : FieldNames) (rs : List RecordTree) → IsDistinct same ks → map (λ (k : Key). k.now) pk ≡ map (λ (f : List ℕ × TypeTree). f.0) packet_fields → Keeps pk ks
-    → AllNamed ks names.records.items rs → (r : RecordId) (x : List ℕ) → place_by (places_in names) r (key_at ks x) ≡ fields.field_place rs r x
-numbered pk ks names rs d first kept h r x =
-    ap (place_by (places_in names) r) (key_first ks x)
-    ∙ by_record ks d x names rs (key_from 0 ks x) refl (packet_kept pk ks (0 ∷ 1 ∷ 2 ∷ []) packet_fields kept (packet_named pk first)) h r
+    → AllNamed ks names.records.items rs → (w : Whole) (x : List ℕ) → place_by (places_in names) w (key_at ks x) ≡ fields.field_place rs w x
+numbered pk ks names rs d first kept h w x =
+    ap (place_by (places_in names) w) (key_first ks x)
+    ∙ by_record ks d x names rs (key_from 0 ks x) refl (packet_kept pk ks (0 ∷ 1 ∷ 2 ∷ []) packet_fields kept (packet_named pk first)) h w

@@ -14,7 +14,7 @@ use Rattle.flow_value.specs.declared.value.Value.{Value}
 use Rattle.flow_value.specs.declared.value.Value.TheVariants.{Struct, rolls-Struct}
 use Rattle.flow_value.specs.declared.value.Value.TheOpen as layer
 use Rattle.flow_value.specs.declared.value.Value.TheFolds.{fold-roll-Value}
-use Rattle.flow_value.specs.Values.{ValueTree, IntValue, BoolValue, RecordValue}
+use Rattle.flow_value.specs.Values.{ValueTree, IntValue, BoolValue, CompositeValue, RecordWhole}
 use Rattle.flow_value.specs.View.{value_of, values_of, value_step}
 use Rattle.flow_eval.specs.declared.stop.Halt.{Halt}
 use Rattle.flow_eval.specs.Answers.{truth, bool_of}
@@ -31,7 +31,7 @@ use Rattle.flow_code.specs.Resolved.Tree.{Node, FieldNode, BinaryNode}
 use Rattle.flow_code.specs.Resolved.View.{node_of, node_step}
 use Rattle.flow_code.specs.Resolved.Evaluation.{ActorViewTree, numbered_field, field_by, value_at}
 
-pub struct_seen : (b : Box (Record Value) Global) → value_of (Struct b) ≡ RecordValue b.value.id (values_of b.value.fields.items)
+pub struct_seen : (b : Box (Record Value) Global) → value_of (Struct b) ≡ CompositeValue (RecordWhole b.value.id) (values_of b.value.fields.items)
 struct_seen b = ap value_of (sym (rolls-Struct b)) ∙ fold-roll-Value ValueTree value_step (layer.Struct b)
 
 -- an expression comes to this value, whatever turns are left

@@ -9,7 +9,7 @@ use Rattle.flow_tree.specs.declared.expr.Expr.{Expr}
 use Rattle.flow_tree.specs.declared.expr.Expr.TheVariants as text
 use Rattle.flow_tree.specs.declared.expr.Expr.TheOpen as layer
 use Rattle.flow_tree.specs.declared.expr.Expr.TheFolds.{fold-roll-Expr}
-use Rattle.flow_tree.specs.Tree.{ExprTree, CallExpr, MethodExpr}
+use Rattle.flow_tree.specs.Tree.{ByName, ExprTree, CallExpr, MethodExpr}
 use Rattle.flow_tree.specs.View.{expr_of, exprs_of, expr_step}
 use Rattle.flow_ast.specs.declared.predefined.Method.{Method}
 use Rattle.flow_code.specs.declared.expr.expr.Resolved.{Resolved}
@@ -30,7 +30,7 @@ args_resolved n vs es e = ap nodes_of_list e ∙ all_resolved n es
 pub call_text : (f : Ident) (xs : Vec Expr Global) → expr_of (text.Call f xs) ≡ CallExpr f (exprs_of xs.items)
 call_text f xs = ap expr_of (sym (text.rolls-Call f xs)) ∙ fold-roll-Expr ExprTree expr_step (layer.Call f xs)
 
-pub method_text : (e : Box Expr Global) (f : Ident) (xs : Vec Expr Global) → expr_of (text.Method e f xs) ≡ MethodExpr (expr_of e.value) f (exprs_of xs.items)
+pub method_text : (e : Box Expr Global) (f : Ident) (xs : Vec Expr Global) → expr_of (text.Method e f xs) ≡ MethodExpr (expr_of e.value) (ByName f) (exprs_of xs.items)
 method_text e f xs = ap expr_of (sym (text.rolls-Method e f xs)) ∙ fold-roll-Expr ExprTree expr_step (layer.Method e f xs)
 
 pub method_node : (e : Box Resolved Global) (m : Option Method) (xs : Vec Resolved Global) → node_of (code.Method e m xs) ≡ MethodNode (node_of e.value) m (nodes_of xs.items)

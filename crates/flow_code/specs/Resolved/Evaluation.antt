@@ -2,12 +2,11 @@
 use Rattle.std.specs.Prelude.{ℕ, pos, List, [], ◌∷◌, slice_get}
 use Rattle.std.specs.declared.option.Option.{Option}
 use Rattle.std.specs.declared.option.Option.TheVariants.{None, Some}
-use Rattle.flow_value.specs.declared.value.RecordId.{RecordId}
-use Rattle.flow_value.specs.Values.{ValueTree, IntValue, BoolValue, TextValue, VoidValue, RecordValue, values_of_list}
+use Rattle.flow_value.specs.Values.{ValueTree, IntValue, BoolValue, TextValue, VoidValue, CompositeValue, values_of_list, at_place, Whole, RecordWhole}
 use Rattle.flow_eval.specs.Answers.{Answer, Given, NoMeaning}
 use Rattle.flow_eval.specs.Operators.{negated, inverted}
 use Rattle.flow_eval.specs.Predefined.{call_answer}
-use Rattle.flow_eval.specs.Records.{at_place, field_answer}
+use Rattle.flow_eval.specs.Records.{field_answer}
 use Rattle.flow_eval.specs.Eval.{Setting, Runner, Res, Done, Meaningless, then, at_once, more_args, found, second, method_called, function_called}
 use Rattle.flow_code.specs.Resolved.Tree.{Node, Nodes, IntNode, TextNode, BoolNode, VoidNode, PlaceNode, CallNode, RecordNode, FunctionNode, UnknownNode, FieldNode, MethodNode, NotNode, NegNode, BinaryNode, NothingNode, NoNodes, MoreNodes}
 
@@ -16,15 +15,15 @@ use Rattle.flow_code.specs.Resolved.Tree.{Node, Nodes, IntNode, TextNode, BoolNo
 pub record ActorViewTree : Type 0 where
   pub setting : Setting
   pub run : Runner
-  pub places : RecordId → ℕ → Option ℕ
+  pub places : Whole → ℕ → Option ℕ
   pub held : ℕ → Option ValueTree
 
--- a field of a record value by the number of its name
-abbrev pub numbered_field : (RecordId → ℕ → Option ℕ) → ValueTree → ℕ → Option ValueTree
-numbered_field places (RecordValue r vs) f = at_place vs (places r f)
+-- a field of a value that has parts by the number of its name
+abbrev pub numbered_field : (Whole → ℕ → Option ℕ) → ValueTree → ℕ → Option ValueTree
+numbered_field places (CompositeValue w vs) f = at_place vs (places w f)
 numbered_field places _ f = None
 
-abbrev pub field_by : (RecordId → ℕ → Option ℕ) → ValueTree → Option ℕ → Option ValueTree
+abbrev pub field_by : (Whole → ℕ → Option ℕ) → ValueTree → Option ℕ → Option ValueTree
 field_by places v None = None
 field_by places v (Some f) = numbered_field places v f
 
@@ -37,7 +36,7 @@ module _ (s : ActorViewTree) where
     value_at VoidNode left = Done VoidValue left
     value_at (PlaceNode n) left = at_once (found (s.held n)) left
     value_at (CallNode p xs) left = then (values_at xs left) (λ vs left. at_once (call_answer p s.setting.now vs) left)
-    value_at (RecordNode r xs) left = then (values_at xs left) (λ vs left. at_once (Given (RecordValue r (values_of_list vs))) left)
+    value_at (RecordNode r xs) left = then (values_at xs left) (λ vs left. at_once (Given (CompositeValue (RecordWhole r) (values_of_list vs))) left)
     value_at (FunctionNode k xs) left = then (values_at xs left)
         (λ vs left. function_called s.setting s.run (slice_get s.setting.functions k) vs left)
     value_at (UnknownNode xs) left = then (values_at xs left) (λ vs left. Meaningless)

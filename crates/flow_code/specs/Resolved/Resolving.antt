@@ -5,9 +5,9 @@ use Rattle.std.specs.declared.option.Option.TheVariants.{None, Some}
 use Rattle.flow_tree.specs.Tree.{ExprTree, ExprTrees, IntExpr, TextExpr, BoolExpr, VoidExpr, VarExpr, CallExpr, FieldExpr, MethodExpr, NotExpr, NegExpr, BinaryExpr, ParenExpr, NoExprs, MoreExprs}
 use Rattle.flow_tree.specs.Decls.{RecordTree, RoutineTree}
 use Rattle.flow_ast.specs.declared.predefined.Predefined.{Predefined}
-use Rattle.flow_ast.specs.TypingNames.{named, call_names, method_names, constant_names}
+use Rattle.flow_ast.specs.TypingNames.{named, selected, call_names, constant_names}
 use Rattle.flow_value.specs.declared.value.RecordId.{RecordId}
-use Rattle.flow_value.specs.Values.{ValueTree}
+use Rattle.flow_value.specs.Values.{ValueTree, Whole}
 use Rattle.flow_eval.specs.Records.{record_id, field_place}
 use Rattle.flow_ast.specs.Typing.{routine_named}
 use Rattle.flow_eval.specs.Functions.{routine_at}
@@ -54,7 +54,7 @@ module _ (n : Naming) where
     resolved (VarExpr x) = variable_node (named constant_names x.name) (n.place x.name)
     resolved (CallExpr f xs) = call_node (named call_names f.name) (n.record_of f.name) (n.function f.name) (resolved_all xs)
     resolved (FieldExpr e x) = FieldNode (resolved e) (n.field x.name)
-    resolved (MethodExpr e m xs) = MethodNode (resolved e) (named method_names m.name) (resolved_all xs)
+    resolved (MethodExpr e m xs) = MethodNode (resolved e) (selected m) (resolved_all xs)
     resolved (NotExpr e) = NotNode (resolved e)
     resolved (NegExpr e) = NegNode (resolved e)
     resolved (BinaryExpr op a b) = BinaryNode op (resolved a) (resolved b)
@@ -65,13 +65,13 @@ module _ (n : Naming) where
     resolved_all (MoreExprs e es) = MoreNodes (resolved e) (resolved_all es)
 
 -- what a field is by the number of its name, if it has one
-abbrev pub place_by : (RecordId → ℕ → Option ℕ) → RecordId → Option ℕ → Option ℕ
-place_by places r None = None
-place_by places r (Some f) = places r f
+abbrev pub place_by : (Whole → ℕ → Option ℕ) → Whole → Option ℕ → Option ℕ
+place_by places w None = None
+place_by places w (Some f) = places w f
 
 -- the numbers of fields lead where their names lead
-abbrev pub IsNumbering : List RecordTree → (List ℕ → Option ℕ) → (RecordId → ℕ → Option ℕ) → Type 0
-IsNumbering rs field places = (r : RecordId) (x : List ℕ) → place_by places r (field x) ≡ field_place rs r x
+abbrev pub IsNumbering : List RecordTree → (List ℕ → Option ℕ) → (Whole → ℕ → Option ℕ) → Type 0
+IsNumbering rs field places = (w : Whole) (x : List ℕ) → place_by places w (field x) ≡ field_place rs w x
 
 -- what variables hold is what the places of their names hold
 abbrev pub held_by : (ℕ → Option ValueTree) → Option ℕ → Option ValueTree

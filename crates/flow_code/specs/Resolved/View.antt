@@ -7,9 +7,8 @@ use Rattle.std.specs.declared.alloc.Global.{Global}
 use Rattle.std.specs.declared.vec.Vec.{Vec}
 use Rattle.flow_tree.specs.declared.limits.TheConstants.{CALL_DEPTH}
 use Rattle.flow_value.specs.declared.value.Value.{Value}
-use Rattle.flow_value.specs.declared.value.RecordId.{RecordId}
 use Rattle.flow_value.specs.declared.value.RecordId.TheVariants.{Packet, Declared}
-use Rattle.flow_value.specs.Values.{ValueTree, OutcomeTree}
+use Rattle.flow_value.specs.Values.{ValueTree, OutcomeTree, Whole, RecordWhole, ListWhole}
 use Rattle.flow_value.specs.View.{value_of}
 use Rattle.flow_eval.specs.View.{setting_of}
 use Rattle.flow_eval.specs.Functions.{run_function}
@@ -45,15 +44,16 @@ node_of = fold-Resolved Node node_step
 abbrev pub nodes_of : List Resolved → Nodes
 nodes_of es = nodes_of_list (map node_of es)
 
--- the place of a field in a record by the number of its name; those of a packet are 0, 1 and 2
+-- the place of a field in a record by the number of its name; those of a packet are 0, 1 and 2; elements have no names
 abbrev pub place_in : List (Vec ℕ Global) → ℕ → ℕ → Option ℕ
 place_in [] k f = None
 place_in (fs ∷ rs) zero f = position (λ n. nat_eq n f) fs.items
 place_in (fs ∷ rs) (suc k) f = place_in rs k f
 
-abbrev pub places_in : FieldNames → RecordId → ℕ → Option ℕ
-places_in names Packet f = if nat_lt f 3 then Some f else None
-places_in names (Declared k) f = place_in names.records.items k f
+abbrev pub places_in : FieldNames → Whole → ℕ → Option ℕ
+places_in names (RecordWhole Packet) f = if nat_lt f 3 then Some f else None
+places_in names (RecordWhole (Declared k)) f = place_in names.records.items k f
+places_in names ListWhole f = None
 
 -- what the places of a frame hold
 abbrev pub held_in : List (Option Value) → ℕ → Option ValueTree

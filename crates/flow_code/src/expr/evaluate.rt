@@ -3,11 +3,11 @@
 ghost use Rattle.std.specs.Prelude.{◌≡◌, ◌≤◌, ◌<◌, ℕ, map, length, slice_get, IfSome};
 ghost use Rattle.std.specs.Option.{option_map, option_copied};
 ghost use Rattle.flow_value.specs.View.{value_of, values_of};
-ghost use Rattle.flow_value.specs.Values.{BoolValue, IntValue};
+ghost use Rattle.flow_value.specs.Values.{BoolValue, IntValue, at_place, value_at as at, RecordWhole};
 ghost use Rattle.flow_code.specs.Resolved.Tree.{BinaryNode, FieldNode};
 ghost use Rattle.flow_eval.specs.Answers.{bool_of, truth};
 ghost use Rattle.flow_eval.specs.Operators.{operated};
-ghost use Rattle.flow_eval.specs.Records.{at_place, field_answer, value_at as at};
+ghost use Rattle.flow_eval.specs.Records.{field_answer};
 ghost use Rattle.flow_eval.specs.Eval.{Done, found, second, then, at_once, method_called, function_called, truth_of};
 ghost use Rattle.flow_eval.specs.Functions.{run_function};
 ghost use Rattle.flow_eval.specs.View.{GivesAnswer, Gives, GivesAll, setting_of};
@@ -59,7 +59,8 @@ fn value_in(values: &[Value], k: usize) -> Option<&Value>
 /// A field of a record, where it has one with a name of this number.
 fn record_field<'a>(fields: &FieldNames, of: &'a Record<Value>, name: usize) -> Option<&'a Value>
     ensures { option_map value_of (option_copied result)
-        ≡ at_place (values_of of.now.fields.items) (places_in fields.now of.now.id name) }
+        ≡ at_place (values_of of.now.fields.items)
+        (places_in fields.now (RecordWhole of.now.id) name) }
 {
     match fields.place(of.id, name) {
         Some(place) => value_in(&of.fields, place),
@@ -80,6 +81,7 @@ pub fn field<'a>(fields: &FieldNames, value: &'a Value, name: usize) -> Option<&
         | Value::Text(_)
         | Value::Void
         | Value::Error(_)
+        | Value::List(_)
         | Value::Ref(_, _) => None,
     }
 }

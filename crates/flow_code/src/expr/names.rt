@@ -3,6 +3,7 @@
 ghost use Rattle.std.specs.Prelude.{◌≡◌, ℕ, List, map, position, nat_eq, nat_lt, Some, None, IfOk, OnOk, if◌then◌else◌};
 ghost use Rattle.std.specs.Str.{bytes_eq};
 ghost use Rattle.flow_tree.specs.DeclView.{record_of, function_of, param_of};
+ghost use Rattle.flow_value.specs.Values.{RecordWhole};
 ghost use Rattle.flow_code.specs.Resolved.Named.{at_name, key_at, first_from, or_else, Keeps, IsNamed, AreNamed, AllNamed, param_name, record_at, name_of_record, name_of_function, naming_of};
 ghost use Rattle.flow_ast.specs.Typing.{packet_fields};
 ghost use Rattle.flow_code.specs.Resolved.Resolving.{AreRecords, AreFunctions, IsNumbering};
@@ -231,7 +232,7 @@ fn packet_place(number: usize) -> Option<usize>
 impl FieldNames {
     /// The place of a field in a record, where it has one with a name of this number.
     pub fn place(&self, id: RecordId, number: usize) -> Option<usize>
-        ensures { result ≡ places_in self.now id number }
+        ensures { result ≡ places_in self.now (RecordWhole id) number }
     {
         match id {
             RecordId::Packet => packet_place(number),

@@ -11,7 +11,7 @@ use Rattle.flow_ast.specs.declared.predefined.Predefined.{Predefined}
 use Rattle.flow_ast.specs.declared.predefined.Predefined.TheVariants as code
 use Rattle.flow_ast.specs.declared.predefined.Method.{Method}
 use Rattle.flow_ast.specs.declared.predefined.Method.TheVariants as method
-use Rattle.flow_ast.specs.TypingNames.{named, call_names, method_names, constant_names}
+use Rattle.flow_ast.specs.TypingNames.{named, selected, call_names, method_names, constant_names}
 use Rattle.flow_ast.specs.Typing.{routine_named}
 use Rattle.flow_value.specs.declared.value.Kind.TheVariants as kind
 use Rattle.flow_value.specs.Values.{ValueTree, RefValue}
@@ -63,10 +63,10 @@ module _ (c : ClassTree) (m : Memory) (s : Scope) (held : Held c m s) where
       eval_over (FieldExpr e x) left = ap (λ r. then r (λ v left. at_once (field_answer (field st.records v x.name)) left)) (eval_over e left)
       eval_over (MethodExpr e m xs) left =
           then_same
-          (λ v left. then (eval_all st run placed_look (over_all c.slots s xs) left) (λ vs left. at_once (method_called st.cells (named method_names m.name) v vs) left))
-          (λ v left. then (eval_all st run named_look xs left) (λ vs left. at_once (method_called st.cells (named method_names m.name) v vs) left))
+          (λ v left. then (eval_all st run placed_look (over_all c.slots s xs) left) (λ vs left. at_once (method_called st.cells (selected m) v vs) left))
+          (λ v left. then (eval_all st run named_look xs left) (λ vs left. at_once (method_called st.cells (selected m) v vs) left))
           (eval st run placed_look (over c.slots s e) left) (eval st run named_look e left) (eval_over e left)
-          (λ v l. ap (λ r. then r (λ vs left. at_once (method_called st.cells (named method_names m.name) v vs) left)) (all_over xs l))
+          (λ v l. ap (λ r. then r (λ vs left. at_once (method_called st.cells (selected m) v vs) left)) (all_over xs l))
       eval_over (NotExpr e) left = ap (λ r. then r (λ v left. at_once (inverted v) left)) (eval_over e left)
       eval_over (NegExpr e) left = ap (λ r. then r (λ v left. at_once (negated v) left)) (eval_over e left)
       eval_over (BinaryExpr op x y) left =

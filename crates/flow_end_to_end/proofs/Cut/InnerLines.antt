@@ -8,7 +8,7 @@ use Rattle.flow_base.specs.ErrorNumbers.{bad_argument, out_of_range, broken_prom
 use Rattle.flow_value.specs.declared.value.Kind.{Kind}
 use Rattle.flow_value.specs.declared.value.Kind.TheVariants as kind
 use Rattle.flow_eval.specs.Predefined.{natural}
-use Rattle.flow_value.specs.Values.{ValueTree, IntValue, BoolValue, TextValue, VoidValue, ErrorValue, RefValue, RecordValue, OutcomeTree, GoodOutcome, BadOutcome}
+use Rattle.flow_value.specs.Values.{ValueTree, IntValue, BoolValue, TextValue, VoidValue, ErrorValue, RefValue, CompositeValue, OutcomeTree, GoodOutcome, BadOutcome}
 use Rattle.flow_trace.specs.declared.line.Line.{Line}
 use Rattle.flow_numbered.specs.Numbered.{thing, added, put, removed}
 use Rattle.flow_meaning.specs.Cells.{side_of, Side, FutureSide, PromiseSide, Single, Stream, Ref, Waiter, Cell, is_complete, is_ready, waiters, taken, after_taking}
@@ -151,7 +151,7 @@ printed i (TextValue t) c h = written _ refl c h
 printed i VoidValue c h = h
 printed i (ErrorValue e) c h = h
 printed i (RefValue k n) c h = h
-printed i (RecordValue r vs) c h = h
+printed i (CompositeValue r vs) c h = h
 
 suspended : (i : ℕ) (spot : Spot) (e : Entry) (vs : List ValueTree) (r : Registration) → Adds (suspend i spot e vs r)
 suspended i spot e vs Missing c h = h

@@ -1,5 +1,5 @@
 -- Operators, predefined calls and fields keep a rule on references.
-use Rattle.std.proofs.Common.{◌≡◌, ℕ, zero, suc, ℤ, pos, Bool, true, false, List, [], ◌∷◌, ◌++◌, length, if◌then◌else◌, refl}
+use Rattle.std.proofs.Common.{◌≡◌, ℕ, ℤ, pos, Bool, true, false, List, [], ◌∷◌, ◌++◌, length, if◌then◌else◌, refl}
 use Rattle.std.specs.Prelude.{◌&&◌, ◌+ℤ◌, ◌-ℤ◌, ◌*ℤ◌, neg_ℤ, int_le, nat_le, take, drop}
 use Rattle.std.specs.Ordering.{is_eq, int_cmp, bool_cmp, nat_cmp}
 use Rattle.std.specs.Cmp.Lexicographic.{slice_cmp}
@@ -16,14 +16,15 @@ use Rattle.flow_ast.specs.declared.predefined.Method.{Method}
 use Rattle.flow_ast.specs.declared.predefined.Method.TheVariants as method
 use Rattle.flow_value.specs.declared.value.Kind.{Kind}
 use Rattle.flow_value.specs.declared.value.Kind.TheVariants as kind
-use Rattle.flow_value.specs.Values.{ValueTree, ValueTrees, IntValue, BoolValue, TextValue, VoidValue, ErrorValue, RecordValue, RefValue, NoValues, MoreValues, OutcomeTree, GoodOutcome, BadOutcome, values_of_list}
+use Rattle.flow_value.specs.Values.{ValueTree, ValueTrees, IntValue, BoolValue, TextValue, VoidValue, ErrorValue, CompositeValue, RefValue, OutcomeTree, GoodOutcome, BadOutcome, values_of_list, value_at, at_place, AllRefsIn}
+use Rattle.flow_value.proofs.References.{part_refs, put_refs}
 use Rattle.flow_eval.specs.Answers.{Answer, Given, Throws, NoMeaning, if_int, whole, truth, int_of, bool_of, text_of, arg}
 use Rattle.flow_eval.specs.Operators.{quotient, remainder, compared, equated, on_ints, on_texts, operated, negated, inverted}
 use Rattle.flow_eval.specs.Predefined.{read_int, int_read, to_string, to_int, in_error_range, natural, error_number, call_answer, substr, text_method, got, future_method, promise_method, stream_method, error_method, reference_method, method_answer}
-use Rattle.flow_eval.specs.Records.{field_place, value_at, value_put, at_place, field, field_answer}
+use Rattle.flow_eval.specs.Records.{field_place, field, field_answer}
 use Rattle.flow_eval.specs.Eval.{Res, Done, Fails, Spent, Meaningless, then as goes_on, at_once, more_args, found, truth_of, or_then, and_then, both, second, method_called}
 use Rattle.flow_eval.specs.Functions.{put_at, place_of, put_in, read_in}
-use Rattle.flow_heap_refinement.specs.Evaluation.{Rule, GivesFutures, Named, FieldsNamed, AllNamed, MaybeNamed, ResNamed, AllResNamed}
+use Rattle.flow_heap_refinement.specs.Evaluation.{Rule, GivesFutures, RefNamed, Named, AllNamed, MaybeNamed, ResNamed, AllResNamed}
 
 pub same_of : {X : Type 0} {x y : X} → Some x ≡ Some y → x ≡ y
 same_of h = cc
@@ -181,17 +182,16 @@ module _ (p : Rule) where
     maybe_method cells h (Some m) v vs n = method_named cells h m v vs n
 
   -- fields
-  pub at_named : (vs : ValueTrees) (k : ℕ) → FieldsNamed p vs → MaybeNamed p (value_at vs k)
-  at_named NoValues k h = tt
-  at_named (MoreValues v vs) zero h = h.0
-  at_named (MoreValues v vs) (suc k) h = at_named vs k h.1
-
-  pub place_named : (vs : ValueTrees) (k : Option ℕ) → FieldsNamed p vs → MaybeNamed p (at_place vs k)
+  pub place_named : (vs : ValueTrees) (k : Option ℕ) → AllRefsIn (RefNamed p) vs → MaybeNamed p (at_place vs k)
   place_named vs None h = tt
-  place_named vs (Some k) h = at_named vs k h
+  place_named vs (Some k) h = by_part (value_at vs k) refl
+    where
+      by_part : (o : Option ValueTree) → value_at vs k ≡ o → MaybeNamed p o
+      by_part None e = tt
+      by_part (Some w) e = part_refs (RefNamed p) vs k w e h
 
   pub field_named : (rs : List RecordTree) (v : ValueTree) (x : List ℕ) → Named p v → MaybeNamed p (field rs v x)
-  field_named rs (RecordValue r vs) x h = place_named vs (field_place rs r x) h
+  field_named rs (CompositeValue r vs) x h = place_named vs (field_place rs r x) h
   field_named rs _ x h = tt
 
   pub answer_named : (o : Option ValueTree) → MaybeNamed p o → AnswerNamed (field_answer o)
@@ -202,7 +202,7 @@ module _ (p : Rule) where
   found_named None h = tt
   found_named (Some v) h = h
 
-  pub record_named : (vs : List ValueTree) → AllNamed p vs → FieldsNamed p (values_of_list vs)
+  pub record_named : (vs : List ValueTree) → AllNamed p vs → AllRefsIn (RefNamed p) (values_of_list vs)
   record_named [] h = tt
   record_named (v ∷ vs) h = (h.0, record_named vs h.1)
 
@@ -271,15 +271,10 @@ module _ (p : Rule) where
   more_named Meaningless go h f = tt
 
   -- assignments
-  put_named : (vs : ValueTrees) (k : ℕ) (w : ValueTree) → FieldsNamed p vs → Named p w → FieldsNamed p (value_put vs k w)
-  put_named NoValues k w h n = tt
-  put_named (MoreValues v vs) zero w h n = (n, h.1)
-  put_named (MoreValues v vs) (suc k) w h n = (h.0, put_named vs k w h.1 n)
-
   put_at_named : (v : ValueTree) (k : Option ℕ) (o : Option ValueTree) → Named p v → MaybeNamed p o → MaybeNamed p (put_at v k o)
-  put_at_named (RecordValue r vs) (Some k) (Some w) h n = put_named vs k w h n
-  put_at_named (RecordValue r vs) (Some k) None h n = tt
-  put_at_named (RecordValue r vs) None o h n = tt
+  put_at_named (CompositeValue r vs) (Some k) (Some w) h n = put_refs (RefNamed p) vs k w h n
+  put_at_named (CompositeValue r vs) (Some k) None h n = tt
+  put_at_named (CompositeValue r vs) None o h n = tt
   put_at_named (IntValue z) k o h n = tt
   put_at_named (BoolValue z) k o h n = tt
   put_at_named (TextValue z) k o h n = tt

@@ -10,7 +10,7 @@ use Rattle.flow_tree.specs.Tree.{TypeTree, IntType, BoolType, StringType, ExprTr
 use Rattle.flow_tree.specs.Body.{IntoTree, ChangeTree, PlusChange, MinusChange, UpChange, DownChange, Body, End, BlockStmt, IfStmt, IfElseStmt, WhileStmt, ForStmt, LoopStmt, BreakStmt, ContinueStmt, ReturnStmt, ThrowStmt, TryStmt, ChooseStmt, DeclareStmt, AssignStmt, ModifyStmt, CallStmt, WaitStmt}
 use Rattle.flow_tree.specs.Decls.{ParamTree, RoutineTree}
 use Rattle.flow_ast.specs.declared.predefined.Predefined.{Predefined}
-use Rattle.flow_ast.specs.TypingNames.{named, call_names, method_names, constant_names}
+use Rattle.flow_ast.specs.TypingNames.{named, selected, call_names, constant_names}
 use Rattle.flow_ast.specs.Typing.{routine_named}
 use Rattle.flow_value.specs.declared.value.RecordId.{RecordId}
 use Rattle.flow_value.specs.Values.{ValueTree, ErrorValue}
@@ -52,10 +52,10 @@ module _ (p : Rule) where
           value_then p (eval s run look e left) (λ v left. at_once (field_answer (field s.records v x.name)) left) (eval_named look e left h)
           (λ v l n. once_named p (field_answer (field s.records v x.name)) l (answer_named p (field s.records v x.name) (field_named p s.records v x.name n)))
       eval_named look (MethodExpr e m xs) left h =
-          value_then p (eval s run look e left) (λ v left. goes_on (eval_all s run look xs left) (λ vs left. at_once (method_called s.cells (named method_names m.name) v vs) left))
+          value_then p (eval s run look e left) (λ v left. goes_on (eval_all s run look xs left) (λ vs left. at_once (method_called s.cells (selected m) v vs) left))
           (eval_named look e left h)
-          (λ v l n. values_then p (eval_all s run look xs l) (λ vs left. at_once (method_called s.cells (named method_names m.name) v vs) left) (all_named look xs l h)
-          (λ vs k a. once_named p (method_called s.cells (named method_names m.name) v vs) k (maybe_method p gives s.cells cells (named method_names m.name) v vs n)))
+          (λ v l n. values_then p (eval_all s run look xs l) (λ vs left. at_once (method_called s.cells (selected m) v vs) left) (all_named look xs l h)
+          (λ vs k a. once_named p (method_called s.cells (selected m) v vs) k (maybe_method p gives s.cells cells (selected m) v vs n)))
       eval_named look (NotExpr e) left h = value_then p (eval s run look e left) (λ v left. at_once (inverted v) left) (eval_named look e left h)
           (λ v l n. once_named p (inverted v) l (inverted_named p v))
       eval_named look (NegExpr e) left h = value_then p (eval s run look e left) (λ v left. at_once (negated v) left) (eval_named look e left h)

@@ -7,7 +7,7 @@ use Rattle.flow_base.specs.ErrorNumbers.{already_set, bad_argument, out_of_range
 use Rattle.flow_trace.specs.declared.line.Line.{Line}
 use Rattle.flow_value.specs.declared.value.Kind.{Kind}
 use Rattle.flow_value.specs.declared.value.Kind.TheVariants as kind
-use Rattle.flow_value.specs.Values.{ValueTree, IntValue, BoolValue, TextValue, VoidValue, ErrorValue, RecordValue, RefValue, OutcomeTree}
+use Rattle.flow_value.specs.Values.{ValueTree, IntValue, BoolValue, TextValue, VoidValue, ErrorValue, CompositeValue, RefValue, OutcomeTree}
 use Rattle.flow_draw.specs.Words.{scaled}
 use Rattle.flow_eval.specs.Predefined.{natural}
 use Rattle.flow_numbered.specs.Numbered.{Numbered, thing, added, put}
@@ -59,7 +59,7 @@ module _ (k : ℕ) (ys : Numbered Frame) (i : ℕ) where
   gives_refers (Kept spot) (TextValue n) c h = tt
   gives_refers (Kept spot) VoidValue c h = tt
   gives_refers (Kept spot) (ErrorValue n) c h = tt
-  gives_refers (Kept spot) (RecordValue n vs) c h = tt
+  gives_refers (Kept spot) (CompositeValue n vs) c h = tt
 
   -- nobody wants a cell that isn't there yet
   abbrev pub Fresh : Core → Type 0

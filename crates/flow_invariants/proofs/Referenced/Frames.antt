@@ -6,7 +6,7 @@ use Rattle.std.specs.declared.option.Option.TheVariants.{None, Some}
 use Rattle.flow_tree.specs.declared.ty.Ident.{Ident}
 use Rattle.flow_tree.specs.Tree.{ExprTree, ExprTrees}
 use Rattle.flow_tree.specs.Decls.{RecordTree}
-use Rattle.flow_value.specs.Values.{ValueTree, IntValue, BoolValue, TextValue, VoidValue, ErrorValue, RecordValue, RefValue}
+use Rattle.flow_value.specs.Values.{ValueTree, IntValue, BoolValue, TextValue, VoidValue, ErrorValue, CompositeValue, RefValue}
 use Rattle.flow_eval.specs.Eval.{Res, Done, Fails, Spent, Meaningless}
 use Rattle.flow_eval.specs.Answers.{bool_of, error_of}
 use Rattle.flow_eval.specs.Functions.{read_in, put_in}
@@ -135,7 +135,7 @@ module _ (s : Side) (k : ℕ) where
     ref_gives left spot (TextValue z) = still
     ref_gives left spot VoidValue = still
     ref_gives left spot (ErrorValue z) = still
-    ref_gives left spot (RecordValue z vs) = still
+    ref_gives left spot (CompositeValue z vs) = still
 
     operand_gives : (spot : Spot) (e : ExprTree) (o : Option (Effectful × ExprTrees)) → Gives (class.operand_by ns v f spot e o)
     operand_gives spot e (Some g) = effects_give (Kept spot) g

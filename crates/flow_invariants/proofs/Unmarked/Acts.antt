@@ -6,7 +6,7 @@ use Rattle.std.specs.declared.option.Option.TheVariants.{None, Some}
 use Rattle.flow_base.specs.ErrorNumbers.{second_waiter, already_set, port_in_use, bad_argument, out_of_range}
 use Rattle.flow_value.specs.declared.value.Kind.{Kind}
 use Rattle.flow_value.specs.declared.value.Kind.TheVariants as kind
-use Rattle.flow_value.specs.Values.{ValueTree, IntValue, BoolValue, TextValue, VoidValue, ErrorValue, RecordValue, RefValue, OutcomeTree, GoodOutcome}
+use Rattle.flow_value.specs.Values.{ValueTree, IntValue, BoolValue, TextValue, VoidValue, ErrorValue, CompositeValue, RefValue, OutcomeTree, GoodOutcome}
 use Rattle.flow_draw.specs.Words.{scaled}
 use Rattle.flow_eval.specs.Predefined.{natural}
 use Rattle.flow_trace.specs.declared.line.Line.{Line}
@@ -50,7 +50,7 @@ module _ (j : ℕ) where
   gives_steady i (Kept spot) (TextValue t) c h = tt
   gives_steady i (Kept spot) VoidValue c h = tt
   gives_steady i (Kept spot) (ErrorValue n) c h = tt
-  gives_steady i (Kept spot) (RecordValue n vs) c h = tt
+  gives_steady i (Kept spot) (CompositeValue n vs) c h = tt
 
   new_steady : (i : ℕ) (goal : Goal) (k : Kind) (cell : Cell) (c : Core) → S j c → Unless (S j) (gives_new i goal k cell c)
   new_steady i goal k cell c h = gives_steady i goal (RefValue k (suc c.made)) (new_cell cell c) h

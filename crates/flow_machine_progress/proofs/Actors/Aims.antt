@@ -4,7 +4,7 @@ use Rattle.std.specs.declared.option.Option.{Option}
 use Rattle.std.specs.declared.option.Option.TheVariants.{None, Some}
 use Rattle.flow_tree.specs.declared.ty.Ident.{Ident}
 use Rattle.flow_tree.specs.Decls.{RecordTree}
-use Rattle.flow_value.specs.Values.{ValueTree, IntValue, BoolValue, TextValue, VoidValue, ErrorValue, RecordValue, RefValue}
+use Rattle.flow_value.specs.Values.{ValueTree, IntValue, BoolValue, TextValue, VoidValue, ErrorValue, CompositeValue, RefValue}
 use Rattle.flow_eval.specs.Records.{field}
 use Rattle.flow_eval.specs.Functions as eval
 use Rattle.flow_eval.specs.Functions.{put_in, read_in}
@@ -29,8 +29,8 @@ use Rattle.flow_machine_progress.proofs.Actors.Here.{has_place}
 
 -- where a path leads to nothing, nothing is put
 no_part_put : (v : ValueTree) (o : Option ℕ) → eval.put_at v o None ≡ None
-no_part_put (RecordValue n vs) None = refl
-no_part_put (RecordValue n vs) (Some k) = refl
+no_part_put (CompositeValue n vs) None = refl
+no_part_put (CompositeValue n vs) (Some k) = refl
 no_part_put (IntValue z) o = refl
 no_part_put (BoolValue b) o = refl
 no_part_put (TextValue t) o = refl

@@ -6,7 +6,7 @@ use Rattle.std.specs.declared.option.Option.{Option}
 use Rattle.std.specs.declared.option.Option.TheVariants.{None, Some}
 use Rattle.flow_base.specs.declared.ids.ActorId.{ActorId}
 use Rattle.flow_tree.specs.Tree.{ExprTrees}
-use Rattle.flow_value.specs.Values.{ValueTree, IntValue, BoolValue, TextValue, VoidValue, ErrorValue, RecordValue, RefValue}
+use Rattle.flow_value.specs.Values.{ValueTree, IntValue, BoolValue, TextValue, VoidValue, ErrorValue, CompositeValue, RefValue}
 use Rattle.flow_value.specs.View.{value_of}
 use Rattle.flow_eval.specs.Eval.{Done}
 use Rattle.flow_class.specs.Classes.{ChooseLast, CallbackTree, RawTree}
@@ -194,7 +194,7 @@ module _ (r : RawTree) (code : Code) (w : Supply) (ls : List Line) (x : Scan) (s
       value_kept c there pure (TextValue z) left done fit stuck = fit.0
       value_kept c there pure VoidValue left done fit stuck = fit.0
       value_kept c there pure (ErrorValue z) left done fit stuck = fit.0
-      value_kept c there pure (RecordValue n vs) left done fit stuck = fit.0
+      value_kept c there pure (CompositeValue n vs) left done fit stuck = fit.0
 
       by_value : (c : CallbackTree) (res : Resolved) → callback_at f.code number (length e.operands) ≡ Some c → effects.effect_in (class_names r) c.operand ≡ None
           → node_of res ≡ resolved by.names c.operand

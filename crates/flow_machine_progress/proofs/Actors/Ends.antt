@@ -6,7 +6,7 @@ use Rattle.std.specs.declared.option.Option.{Option}
 use Rattle.std.specs.declared.option.Option.TheVariants.{None, Some}
 use Rattle.flow_tree.specs.Tree.{ExprTree}
 use Rattle.flow_value.specs.declared.value.Value.{Value}
-use Rattle.flow_value.specs.Values.{ValueTree, IntValue, BoolValue, TextValue, VoidValue, ErrorValue, RecordValue, RefValue}
+use Rattle.flow_value.specs.Values.{ValueTree, IntValue, BoolValue, TextValue, VoidValue, ErrorValue, CompositeValue, RefValue}
 use Rattle.flow_value.specs.View.{value_of}
 use Rattle.flow_eval.specs.Answers.{bool_of, error_of}
 use Rattle.flow_eval.specs.Eval.{Res, Done, Fails, Spent, Meaningless, truth_of}
@@ -100,7 +100,7 @@ module _ (r : RawTree) (w : Supply) (p : Proc Frame) (i : ℕ) (e : Entry) (f : 
   has_truth one other (Done (TextValue t) left) fit none = fit.0
   has_truth one other (Done VoidValue left) fit none = fit.0
   has_truth one other (Done (ErrorValue n) left) fit none = fit.0
-  has_truth one other (Done (RecordValue n vs) left) fit none = fit.0
+  has_truth one other (Done (CompositeValue n vs) left) fit none = fit.0
   has_truth one other (Done (RefValue kd k) left) fit none = fit.0
   has_truth one other (Fails err left) fit none = cc (none)
   has_truth one other Spent fit none = cc (none)
@@ -156,7 +156,7 @@ module _ (r : RawTree) (code : Code) (w : Supply) (ls : List Line) (x : Scan) (s
     an_error (BoolValue b) left fit stuck = fit.0
     an_error (TextValue t) left fit stuck = fit.0
     an_error VoidValue left fit stuck = fit.0
-    an_error (RecordValue n vs) left fit stuck = fit.0
+    an_error (CompositeValue n vs) left fit stuck = fit.0
     an_error (RefValue kd k) left fit stuck = fit.0
 
     pub throw_meant : fetch f.code f.block f.instr ≡ Last (ThrowLast t) → LastStuck code s (last.Throw res) m → ⊥

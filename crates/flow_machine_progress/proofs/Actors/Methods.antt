@@ -15,7 +15,7 @@ use Rattle.flow_tree.specs.Tree.{TypeTree, FutureType, PromiseType, PromiseStrea
 use Rattle.flow_value.specs.declared.value.Kind.{Kind}
 use Rattle.flow_value.specs.declared.value.Kind.TheVariants as kind
 use Rattle.flow_value.specs.declared.value.Value.{Value}
-use Rattle.flow_value.specs.Values.{ValueTree, IntValue, BoolValue, TextValue, VoidValue, ErrorValue, RecordValue, RefValue, refs_of}
+use Rattle.flow_value.specs.Values.{ValueTree, IntValue, BoolValue, TextValue, VoidValue, ErrorValue, CompositeValue, RefValue, refs_of}
 use Rattle.flow_value.specs.View.{value_of, outcome_of}
 use Rattle.flow_eval.specs.Answers.{arg}
 use Rattle.flow_eval.specs.Eval.{Res, Done}
@@ -174,7 +174,7 @@ module _ (r : RawTree) (code : Code) (w : Supply) (ls : List Line) (x : Scan) (s
     a_reference (Some (TextValue t)) is us left fit none = fit.0
     a_reference (Some VoidValue) is us left fit none = fit.0
     a_reference (Some (ErrorValue n)) is us left fit none = fit.0
-    a_reference (Some (RecordValue n vs)) is us left fit none = fit.0
+    a_reference (Some (CompositeValue n vs)) is us left fit none = fit.0
 
     calls_there : (o : Option Value) (left l : ℕ) → AllThere p (refs_of (arg (given o) 0)) → Fit r w p i e f run (called_on path (given o) left)
         → CallsStuck code s aim called o (with_left l m) → ⊥

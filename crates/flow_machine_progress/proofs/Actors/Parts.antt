@@ -14,6 +14,7 @@ use Rattle.flow_tree.specs.Decls.{ParamTree, RecordTree}
 use Rattle.flow_value.specs.declared.value.Kind.{Kind}
 use Rattle.flow_value.specs.declared.value.Kind.TheVariants as kind
 use Rattle.flow_value.specs.declared.value.RecordId.{RecordId}
+use Rattle.flow_value.specs.Values.{Whole, RecordWhole}
 use Rattle.flow_eval.specs.Records.{field_place}
 use Rattle.flow_eval.specs.Functions.{routine_at}
 use Rattle.flow_eval.proofs.TypedValues.{id_there, field_at}
@@ -54,10 +55,10 @@ no_record true o n x t none e = cc (none)
 no_record false None n x t none e = cc (e)
 no_record false (Some q) n x t none e = cc (none)
 
-field_placed : (rs : List RecordTree) (u : TypeTree) (x : List ℕ) (t : TypeTree) → field_type rs u x ≡ Some t → (r : RecordId) × (k : ℕ) × (field_place rs r x ≡ Some k)
+field_placed : (rs : List RecordTree) (u : TypeTree) (x : List ℕ) (t : TypeTree) → field_type rs u x ≡ Some t → (r : RecordId) × (k : ℕ) × (field_place rs (RecordWhole r) x ≡ Some k)
 field_placed rs (NamedType n) x t e = by_call (record_call rs n) refl
   where
-    by_call : (o : Option Signature) → record_call rs n ≡ o → (r : RecordId) × (k : ℕ) × (field_place rs r x ≡ Some k)
+    by_call : (o : Option Signature) → record_call rs n ≡ o → (r : RecordId) × (k : ℕ) × (field_place rs (RecordWhole r) x ≡ Some k)
     by_call None is = absurd (no_record (is_packet n) (record_named rs n) n x t is e)
     by_call (Some s) is = let id = id_there rs n s is in let at = field_at rs n id.0 s x t id.1 is e in (id.0, at.0, at.1)
 field_placed rs IntType x t e = absurd (cc (e))
@@ -71,14 +72,14 @@ field_placed rs (PromiseType u) x t e = absurd (cc (e))
 field_placed rs (PromiseStreamType u) x t e = absurd (cc (e))
 
 -- so its name has a number
-module _ (rs : List RecordTree) (field : List ℕ → Option ℕ) (at : RecordId → ℕ → Option ℕ) (numbering : IsNumbering rs field at) where
+module _ (rs : List RecordTree) (field : List ℕ → Option ℕ) (at : Whole → ℕ → Option ℕ) (numbering : IsNumbering rs field at) where
   field_numbered : (u : TypeTree) (x : List ℕ) (t : TypeTree) → field_type rs u x ≡ Some t → (n : ℕ) × (field x ≡ Some n)
   field_numbered u x t e = by_number (field x) refl
     where
       by_number : (o : Option ℕ) → field x ≡ o → (n : ℕ) × (field x ≡ Some n)
       by_number None is =
           let placed = field_placed rs u x t e in
-          let none : field_place rs placed.0 x ≡ None = sym (numbering placed.0 x) ∙ ap (place_by at placed.0) is in
+          let none : field_place rs (RecordWhole placed.0) x ≡ None = sym (numbering (RecordWhole placed.0) x) ∙ ap (place_by at (RecordWhole placed.0)) is in
           let some = placed.2 in absurd (cc (none, some))
       by_number (Some n) is = (n, is)
 

@@ -11,9 +11,10 @@ use Rattle.flow_tree.specs.Tree.{TypeTree, PromiseType, PromiseStreamType, ExprT
 use Rattle.flow_tree.specs.Decls.{RecordTree, ParamTree}
 use Rattle.flow_value.specs.declared.value.Value.{Value}
 use Rattle.flow_value.specs.declared.value.Kind.TheVariants as kind
-use Rattle.flow_value.specs.Values.{ValueTree, IntValue, BoolValue, TextValue, VoidValue, ErrorValue, RecordValue, RefValue}
+use Rattle.flow_value.specs.Values.{ValueTree, IntValue, BoolValue, TextValue, VoidValue, ErrorValue, CompositeValue, RefValue}
 use Rattle.flow_value.specs.View.{value_of}
 use Rattle.flow_eval.specs.Typed.{HasType}
+use Rattle.flow_eval.proofs.TypedValues.{no_parts, has_parts}
 use Rattle.flow_class.specs.declared.class.Slotted.{Slotted}
 use Rattle.flow_class.specs.Classes.{InstrTree, EffectInstr, NewInstr, LastTree, RawTree}
 use Rattle.flow_class.specs.Code.{Fetched, Body, fetch_in, fetch_at, fetch, type_at}
@@ -83,8 +84,8 @@ promised rs typed VoidValue t u (inl e) h none = cc (e, h)
 promised rs typed VoidValue t u (inr e) h none = cc (e, h)
 promised rs typed (ErrorValue n) t u (inl e) h none = cc (e, h)
 promised rs typed (ErrorValue n) t u (inr e) h none = cc (e, h)
-promised rs typed (RecordValue n vs) t u (inl e) h none = let a = h.2 in cc (e, a)
-promised rs typed (RecordValue n vs) t u (inr e) h none = let a = h.2 in cc (e, a)
+promised rs typed (CompositeValue w vs) t u (inl e) h none = no_parts rs w t h.0 (ap has_parts e) h.1
+promised rs typed (CompositeValue w vs) t u (inr e) h none = no_parts rs w t h.0 (ap has_parts e) h.1
 promised rs typed (RefValue kind.Promise k) t u e h none = none
 promised rs typed (RefValue kind.PromiseStream k) t u e h none = none
 promised rs typed (RefValue kind.Future k) t u (inl e) h none = let a = h.1 in cc (e, a)

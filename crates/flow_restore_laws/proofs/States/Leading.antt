@@ -14,6 +14,7 @@ use Rattle.flow_value.specs.declared.value.Value.{Value}
 use Rattle.flow_value.specs.declared.value.Outcome.{Outcome}
 use Rattle.flow_value.specs.Values.{ValueTree, OutcomeTree, GoodOutcome, BadOutcome, refs_of}
 use Rattle.flow_value.specs.View.{value_of, outcome_of}
+use Rattle.flow_value.proofs.References.{listed_both}
 use Rattle.flow_class.specs.declared.class.Slotted.TheVariants.{Slot, Local}
 use Rattle.flow_class.specs.Classes.{RawTree}
 use Rattle.flow_numbered.specs.Numbered.{thing}
@@ -34,7 +35,7 @@ use Rattle.flow_heap_refinement.specs.Holds.{There, AllThere}
 use Rattle.flow_heap_refinement.specs.Representing.{cell_number}
 use Rattle.flow_progress.specs.Places.{HoldsTypes}
 use Rattle.flow_progress.specs.Fitting.{typed_by, ContentFits, QueueFits, CellFits, CellAt}
-use Rattle.flow_burst_refinement.proofs.Invariants.Theres.{all_both, ref_there, value_there}
+use Rattle.flow_burst_refinement.proofs.Invariants.Theres.{ref_there, value_there}
 use Rattle.flow_restore_laws.specs.States.Heaps.{Fitting}
 use Rattle.flow_restore_laws.proofs.States.Totals.{all_by, rising}
 use Rattle.flow_restore_laws.proofs.States.Standing.{unset_is, single_at, stream_at, actor_stands}
@@ -73,7 +74,7 @@ places_joined (Some v ∷ os) us = ap (λ rs. refs_of v ++ rs) (places_joined os
 
 module _ (r : RawTree) (h : HeapTree) (p : Proc Frame) (f : Fitting r h p) where
   abbrev both : (xs ys : List Ref) → AllThere p xs → AllThere p ys → AllThere p (xs ++ ys)
-  both = all_both p
+  both = listed_both (There p)
 
   fits : (k : ℕ) → CellAt r f.types (f.types k) (thing p.core.cells k)
   fits = f.fits.cells

@@ -14,9 +14,9 @@ use Rattle.flow_tree.specs.declared.ty.Ident.{Ident}
 use Rattle.flow_tree.specs.Tree.{ExprTree, ExprTrees, IntExpr, TextExpr, BoolExpr, VoidExpr, VarExpr, CallExpr, FieldExpr, MethodExpr, NotExpr, NegExpr, BinaryExpr, ParenExpr}
 use Rattle.flow_tree.specs.Decls.{RecordTree}
 use Rattle.flow_value.specs.declared.value.Kind.{Kind}
-use Rattle.flow_value.specs.Values.{ValueTree, IntValue, BoolValue, TextValue, VoidValue, ErrorValue, RecordValue, RefValue}
+use Rattle.flow_value.specs.Values.{ValueTree, IntValue, BoolValue, TextValue, VoidValue, ErrorValue, CompositeValue, RefValue, at_place}
 use Rattle.flow_value.specs.View.{value_of}
-use Rattle.flow_eval.specs.Records.{at_place, field_place, field}
+use Rattle.flow_eval.specs.Records.{field_place, field}
 use Rattle.flow_eval.specs.Functions.{read_in}
 use Rattle.flow_class.specs.Classes.{SetInstr, EffectInstr, NewInstr, ActInstr, DropInstr, RawTree}
 use Rattle.flow_code.specs.Resolved.Named.{first_from}
@@ -280,7 +280,7 @@ method_coded c k (DropInstr ns) aim called args e = absurd (cc (e))
 
 -- A field by the number of its name is the field of its name.
 numbered_same : (rs : List RecordTree) (at : Numbering) (x : List ℕ) (n : ℕ) (v : ValueTree) → ((r : _) → at r n ≡ field_place rs r x) → numbered_field at v n ≡ field rs v x
-numbered_same rs at x n (RecordValue r vs) e = ap (at_place vs) (e r)
+numbered_same rs at x n (CompositeValue r vs) e = ap (at_place vs) (e r)
 numbered_same rs at x n (IntValue a) e = refl
 numbered_same rs at x n (BoolValue a) e = refl
 numbered_same rs at x n (TextValue a) e = refl

@@ -13,7 +13,7 @@ use Rattle.flow_value.specs.declared.value.Value.{Value}
 use Rattle.flow_value.specs.declared.value.Outcome.{Outcome}
 use Rattle.flow_value.specs.declared.value.Kind.{Kind}
 use Rattle.flow_value.specs.declared.value.Kind.TheVariants as kind
-use Rattle.flow_value.specs.Values.{ValueTree, IntValue, BoolValue, TextValue, VoidValue, ErrorValue, RecordValue, RefValue}
+use Rattle.flow_value.specs.Values.{ValueTree, IntValue, BoolValue, TextValue, VoidValue, ErrorValue, CompositeValue, RefValue}
 use Rattle.flow_value.specs.View.{value_of}
 use Rattle.flow_eval.specs.Eval.{Res}
 use Rattle.flow_code.specs.declared.expr.expr.Resolved.{Resolved}
@@ -264,7 +264,7 @@ reference_good s c (BoolValue b) m n pace h p = absurd h
 reference_good s c (TextValue t) m n pace h p = absurd h
 reference_good s c VoidValue m n pace h p = absurd h
 reference_good s c (ErrorValue e) m n pace h p = absurd h
-reference_good s c (RecordValue r vs) m n pace h p = absurd h
+reference_good s c (CompositeValue r vs) m n pace h p = absurd h
 
 operand_good : (code : Code) (s : ControlPoint) (c : ℕ) (o : Operand) (m n : Process) (pace : Pace) → OperandStep code s c o m pace n → NoStaleWaits m.heap → NoStaleWaits n.heap
 operand_good code s c (operand.Value e) m n pace h p = evaluates s value_of _ m n _ pace (λ v k n pace h p. reference_good s c (value_of v) k n pace h p) h p
@@ -291,7 +291,7 @@ thrown_good s (BoolValue b) m n pace h p = absurd h
 thrown_good s (TextValue t) m n pace h p = absurd h
 thrown_good s VoidValue m n pace h p = absurd h
 thrown_good s (RefValue kd c) m n pace h p = absurd h
-thrown_good s (RecordValue r vs) m n pace h p = absurd h
+thrown_good s (CompositeValue r vs) m n pace h p = absurd h
 
 return_good : (s : ControlPoint) (v : Value) (m n : Process) (pace : Pace) → IsReturn s v m pace n → NoStaleWaits m.heap → NoStaleWaits n.heap
 return_good s v m n pace h p =

@@ -34,15 +34,16 @@ use Rattle.flow_operation_refinement.specs.Carried.{StepsAs}
 
 -- a call that memory makes of an actor's act, kind by kind
 pub data Asks (p : Proc Frame) (i : ActorId) (c : Call) (a : asks.Act) : Type 0 where
-  draws : (g : Goal) (h : asks.Goal) (lo hi : ℤ) → SameGoal p i.0 g h → c ≡ call.Draw i g lo hi → a ≡ asks.Effects h (asks.Draw lo hi)
-      → Asks p i c a
-  delays : (g : Goal) (h : asks.Goal) (ticks : ℤ) → SameGoal p i.0 g h → c ≡ call.Delay i g ticks → a ≡ asks.Effects h (asks.Delay ticks)
-      → Asks p i c a
-  listens : (g : Goal) (h : asks.Goal) (port : ℤ) → SameGoal p i.0 g h → c ≡ call.Listen i g port → a ≡ asks.Effects h (asks.Listen port)
-      → Asks p i c a
-  disks : (g : Goal) (h : asks.Goal) (d : DiskCall) → SameGoal p i.0 g h → c ≡ call.Disk i g d → a ≡ asks.Effects h (asks.Disk (asked_of d))
-      → Asks p i c a
-  sends : (process port : ℤ) (text : List ℕ) → c ≡ call.SendTo i process port text → a ≡ asks.SendsTo process port text → Asks p i c a
+  draws : (g : Goal) (h : asks.Goal) (lo hi : ℤ) → SameGoal p i.0 g h → c ≡ call.Draw i g lo hi
+      → a ≡ asks.Effects h (asks.Draw lo hi) → Asks p i c a
+  delays : (g : Goal) (h : asks.Goal) (ticks : ℤ) → SameGoal p i.0 g h → c ≡ call.Delay i g ticks
+      → a ≡ asks.Effects h (asks.Delay ticks) → Asks p i c a
+  listens : (g : Goal) (h : asks.Goal) (port : ℤ) → SameGoal p i.0 g h → c ≡ call.Listen i g port
+      → a ≡ asks.Effects h (asks.Listen port) → Asks p i c a
+  disks : (g : Goal) (h : asks.Goal) (d : DiskCall) → SameGoal p i.0 g h → c ≡ call.Disk i g d
+      → a ≡ asks.Effects h (asks.Disk (asked_of d)) → Asks p i c a
+  sends : (process port : ℤ) (text : List ℕ) → c ≡ call.SendTo i process port text
+      → a ≡ asks.SendsTo process port text → Asks p i c a
 
 -- the process with the actor's own task off, its frame and the turns that evaluation left
 abbrev pub resumed : (actor : ℕ) → Frame → (left : ℕ) → Proc Frame → Proc Frame

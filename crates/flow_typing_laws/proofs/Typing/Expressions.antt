@@ -11,13 +11,13 @@ use Rattle.flow_ast.specs.declared.predefined.Predefined.{Predefined}
 use Rattle.flow_ast.specs.declared.predefined.Predefined.TheVariants as predefined
 use Rattle.flow_ast.specs.declared.predefined.Method.{Method}
 use Rattle.flow_ast.specs.declared.predefined.Method.TheVariants as method
-use Rattle.flow_tree.specs.Tree.{TypeTree, IntType, BoolType, StringType, VoidType, NamedType, FutureType, PromiseType, PromiseStreamType, ExprTree, ExprTrees, IntExpr, TextExpr, BoolExpr, VoidExpr, VarExpr, CallExpr, FieldExpr, MethodExpr, NotExpr, NegExpr, BinaryExpr, ParenExpr, NoExprs, MoreExprs}
-use Rattle.flow_ast.specs.TypingNames.{named, call_names, method_names, constant_names}
+use Rattle.flow_tree.specs.Tree.{Selector, ByName, ByIndex, TypeTree, IntType, BoolType, StringType, VoidType, NamedType, FutureType, PromiseType, PromiseStreamType, ExprTree, ExprTrees, IntExpr, TextExpr, BoolExpr, VoidExpr, VarExpr, CallExpr, FieldExpr, MethodExpr, NotExpr, NegExpr, BinaryExpr, ParenExpr, NoExprs, MoreExprs}
+use Rattle.flow_ast.specs.TypingNames.{named, selected, call_names, constant_names}
 use Rattle.flow_ast.specs.Typing.{ScopeTree, Signature, takes, signature, is_effect, applied, same_type, same_types, sum_type, order_type, equality_type, int_only, bool_only, binary_type, with_type, more_types, type_in, types_in, method_in, call_in, declared_call, effect_in, field_type, variable_in, is_there, without_effects, all_without_effects}
 use Rattle.flow_rules.specs.declared.rule.SemanticRule.TheVariants.{UnknownName, WrongType, WrongCount, EffectInside, NotInFunction}
 use Rattle.flow_rules.specs.Least.{lesser, unless}
 use Rattle.flow_rules.specs.Known.{Meaning, RecordOf, FunctionOf, ActorOf}
-use Rattle.flow_rules.specs.Judged.{Setting, Need, Exactly, Value, OfFunction, Effect, Statement, Callee, predefined_kind, stated, predefined_callee, declared_callee, called_as, called, sends, cancels, stated_on, method_callee, called_by, called_on, needs_of, gives_of, field_form, variable_as, variable_form, sign_form, form, wants, fits, operands, not_here, placed, as_many, calls, calls_on, of_field, fault, faults}
+use Rattle.flow_rules.specs.Judged.{Setting, Need, Exactly, Value, OfFunction, Effect, Statement, Callee, predefined_kind, stated, predefined_callee, declared_callee, called_as, called, sends, cancels, stated_on, method_callee, called_by, needs_of, gives_of, field_form, variable_as, variable_form, sign_form, form, wants, fits, operands, not_here, placed, as_many, calls, calls_on, of_field, fault, faults, selected_on}
 use Rattle.flow_rules.proofs.Lesser.{no_first, no_second, holds}
 use Rattle.flow_typing_laws.specs.Typing.Agreeing.{IsDeclared, Agrees}
 use Rattle.flow_typing_laws.specs.Typing.Joined.{IsTyped}
@@ -204,6 +204,12 @@ method_called : (s : Setting) (xs : ExprTrees) (t : TypeTree) (m : Option Method
 method_called s xs t None e = absurd (some_none e)
 method_called s xs t (Some m) e = signed_method s xs t m (method_in t (Some m)) e
 
+-- what a selector calls; an index has no type
+selected_called : (s : Setting) (xs : ExprTrees) (t : TypeTree) (m : Selector) → calls xs (selected_on (Some t) m) (placed s false) ≡ None
+    → Called s false xs (selected_on (Some t) m) (method_in t (selected m)) false
+selected_called s xs t (ByName x) e = method_called s xs t (named method_names x.name) e
+selected_called s xs t ByIndex e = absurd (statement_out s false (no_second (unless (as_many xs (Exactly IntType ∷ [])) WrongCount) (placed s false Statement) e))
+
 -- arguments of the types that are needed
 pub record AreTyped (c : ScopeTree) (ts : List TypeTree) (es : ExprTrees) : Type 0 where
   pub types : List TypeTree
@@ -237,18 +243,18 @@ module _ (s : Setting) (c : ScopeTree) (a : Agrees s c) where
         inside = r.quiet;
       }
 
-  of_method : (whole : Bool) (e : ExprTree) (m : Ident) (xs : ExprTrees) → IsTyped s c false e → calls_on (form s e) xs (called_on (form s e) m.name) (placed s false) ≡ None
-      → ((ts : List TypeTree) → needs_of (called_on (form s e) m.name) ≡ map Exactly ts → as_many xs (map Exactly ts) ≡ true → AreTyped c ts xs) → IsTyped s c whole (MethodExpr e m xs)
+  of_method : (whole : Bool) (e : ExprTree) (m : Selector) (xs : ExprTrees) → IsTyped s c false e → calls_on (form s e) xs (selected_on (form s e) m) (placed s false) ≡ None
+      → ((ts : List TypeTree) → needs_of (selected_on (form s e) m) ≡ map Exactly ts → as_many xs (map Exactly ts) ≡ true → AreTyped c ts xs) → IsTyped s c whole (MethodExpr e m xs)
   of_method whole e m xs b h args =
-      let h' = ap (λ o. calls_on o xs (called_on o m.name) (placed s false)) (sym b.by_form) ∙ h in
-      let k = method_called s xs b.type (named method_names m.name) h' in
-      let r = args k.params (ap (λ o. needs_of (called_on o m.name)) b.by_form ∙ k.needs) k.many in
+      let h' = ap (λ o. calls_on o xs (selected_on o m) (placed s false)) (sym b.by_form) ∙ h in
+      let k = selected_called s xs b.type m h' in
+      let r = args k.params (ap (λ o. needs_of (selected_on o m)) b.by_form ∙ k.needs) k.many in
       record {
         type = k.result;
-        by_form = ap (λ o. gives_of (called_on o m.name)) b.by_form ∙ k.gives;
+        by_form = ap (λ o. gives_of (selected_on o m)) b.by_form ∙ k.gives;
         in_scope =
-            ap (λ o. with_type o (λ t. with_type (types_in c xs) (applied (method_in t (named method_names m.name))))) b.in_scope
-            ∙ ap (λ o. with_type o (applied (method_in b.type (named method_names m.name)))) r.in_scope ∙ given _ k.params r.types k.result k.signs r.same;
+            ap (λ o. with_type o (λ t. with_type (types_in c xs) (applied (method_in t (selected m))))) b.in_scope
+            ∙ ap (λ o. with_type o (applied (method_in b.type (selected m)))) r.in_scope ∙ given _ k.params r.types k.result k.signs r.same;
         quiet = λ q. both_true (without_effects c e) (all_without_effects c xs) (b.quiet (inl refl)) r.quiet;
         inside = both_true (without_effects c e) (all_without_effects c xs) (b.quiet (inl refl)) r.quiet;
       }
@@ -322,8 +328,8 @@ module _ (s : Setting) (c : ScopeTree) (a : Agrees s c) where
         (no_first (faults s 0 (needs_of (called s f.name)) xs) (calls xs (called s f.name) (placed s whole)) h))
     typed whole (FieldExpr e x) h = of_field_expr whole e x (typed false e (no_first (fault s false e) (of_field s (form s e) x.name) h)) (no_second (fault s false e) (of_field s (form s e) x.name) h)
     typed whole (MethodExpr e m xs) h =
-        let n = needs_of (called_on (form s e) m.name) in
-        let k = calls_on (form s e) xs (called_on (form s e) m.name) (placed s false) in
+        let n = needs_of (selected_on (form s e) m) in
+        let k = calls_on (form s e) xs (selected_on (form s e) m) (placed s false) in
         let r = no_second (fault s false e) (lesser (faults s 0 n xs) k) h in
         of_method whole e m xs (typed false e (no_first (fault s false e) (lesser (faults s 0 n xs) k) h)) (no_second (faults s 0 n xs) k r)
         (λ ts q o. all_typed 0 n ts xs (from_start n (map Exactly ts) q) o (no_first (faults s 0 n xs) k r))

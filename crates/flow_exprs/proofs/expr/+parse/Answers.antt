@@ -1,7 +1,7 @@
 use Rattle.std.proofs.Common.{◌≡◌, ◌+◌, max, refl, sym, ap, ◌∙◌, subst, arith}
 use Rattle.std.proofs.lemmas.Result.{err_from_is_err_and}
 use Rattle.flow_tree.specs.declared.expr.Op.TheVariants.{Sub}
-use Rattle.flow_tree.specs.Tree.{NotExpr, NegExpr, BinaryExpr, ParenExpr, FieldExpr, MethodExpr, CallExpr, VarExpr}
+use Rattle.flow_tree.specs.Tree.{ByName, NotExpr, NegExpr, BinaryExpr, ParenExpr, FieldExpr, MethodExpr, CallExpr, VarExpr}
 use Rattle.flow_tree.specs.Grammar.{level}
 use Rattle.flow_tree.specs.View.{expr_of, exprs_of}
 use Rattle.flow_exprs.specs.declared.kind.Kind.TheVariants as kind
@@ -172,7 +172,7 @@ with_suffix-returns-in_err-read t c =
 pub with_suffix-returns : goal.with_suffix-returns
 with_suffix-returns t c =
     goes_is c.args.spots.now c.args.left.to 6 c.args.depth 8 (expr_of c.args.left.expr) (expr_of c.in_ok-method.field-0)
-    (MethodExpr (expr_of c.args.left.expr) c.in-Some.name (exprs_of c.in_ok-read.read.args.items)) (c.max.result + 1)
+    (MethodExpr (expr_of c.args.left.expr) (ByName c.in-Some.name) (exprs_of c.in_ok-read.read.args.items)) (c.max.result + 1)
     (max c.args.left.high c.in_ok-read.read.high + 1) c.in_ok-read.read.to c.in_ok-method.ensures (ap (λ x. x + 1) c.max.ensures)
     (method_goes c.args.spots.now c.args.left.to c.args.depth (expr_of c.args.left.expr) c.args.left.high c.in-Some.name
     (exprs_of c.in_ok-read.read.args.items) c.in_ok-read.read.high c.in_ok-read.read.to c.requires.dot c.requires.measured c.if-depth-left-gt-DEPTH.false (sym c.in_ok-name.ensures ∙ c.in-Some.is)

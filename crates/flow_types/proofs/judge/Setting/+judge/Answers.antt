@@ -1,6 +1,6 @@
 use Rattle.std.proofs.Common.{false, ◌+◌, drop, sym, ap, ap₂, ◌∙◌}
 use Rattle.std.specs.Option.{option_map}
-use Rattle.flow_tree.specs.Tree.{BoolType, IntType, MethodExpr}
+use Rattle.flow_tree.specs.Tree.{ByName, BoolType, IntType, MethodExpr}
 use Rattle.flow_tree.specs.View.{exprs_of, expr_of}
 use Rattle.flow_rules.specs.Least.{lesser}
 use Rattle.flow_rules.specs.Judged.{fault, form, faults, fits, calls, placed, called_on}
@@ -28,8 +28,8 @@ judge-returns-in-Method-clause-fault h c =
     let s = setting_view c.args.self.now in
     let m = c.in-Method.name.name in
     c.judge_method.ensures.fault
-    ∙ ap (λ l. fault s false (MethodExpr (expr_of c.deref-in-Method.result.now) c.in-Method.name (exprs_of l))) c.deref-in-Method-2.ensures.value
-    ∙ ap (λ x. fault s false (MethodExpr (expr_of x) c.in-Method.name (exprs_of c.in-Method.args.items))) c.deref-in-Method.ensures
+    ∙ ap (λ l. fault s false (MethodExpr (expr_of c.deref-in-Method.result.now) (ByName c.in-Method.name) (exprs_of l))) c.deref-in-Method-2.ensures.value
+    ∙ ap (λ x. fault s false (MethodExpr (expr_of x) (ByName c.in-Method.name) (exprs_of c.in-Method.args.items))) c.deref-in-Method.ensures
     ∙ sym (ap (fault s c.args.whole) (is_method c.args.expr.now c.in-Method.of c.in-Method.name c.in-Method.args c.in-Method.is))
 
 pub judge_method-returns-clause-fault : goal.judge_method-returns-clause-fault
