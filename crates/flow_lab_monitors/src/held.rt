@@ -3,8 +3,8 @@
 ghost use Rattle.std.specs.Prelude.{◌≡◌, codes};
 ghost use Rattle.flow_lab_monitors.specs.Watching.{text_says, change_of, counts_changed, held_ear, held_first, held_of};
 
-use crate::counts::Counts;
 use flow_base::ids::ProcId;
+use flow_monitor::counts::Counts;
 use flow_monitor::heard::process_after;
 use flow_monitor::{Heard, Monitor};
 use flow_trace::line::Line;

@@ -1,7 +1,6 @@
 //! Monitors of a laboratory: assertions of a program, resources that it says it holds, and a time that it is to keep.
 #![tactic(auto)]
 
-pub mod counts;
 pub mod held;
 pub mod late;
 pub mod throws;

@@ -150,7 +150,8 @@ ordered e (DiskFail p n) at w =
 
 -- a packet as a value
 abbrev pub packet : (from port : ℕ) → List ℕ → ValueTree
-packet from port text = CompositeValue (RecordWhole record_id.Packet) (values_of_list (IntValue (pos from) ∷ IntValue (pos port) ∷ TextValue text ∷ []))
+packet from port text = CompositeValue (RecordWhole record_id.Packet)
+    (values_of_list (IntValue (pos from) ∷ IntValue (pos port) ∷ TextValue text ∷ []))
 
 -- a packet goes to the stream of its port, or is discarded where the process is down or nobody listens
 abbrev pub arrived : {A : Type 0} → (number from port : ℕ) → List ℕ → Place A → Outside → Option ℕ → Begun A

@@ -2,6 +2,7 @@
 #![tactic(auto)]
 
 pub mod attach;
+pub mod counts;
 pub mod errors;
 pub mod handed;
 pub mod heard;

@@ -72,7 +72,8 @@ wait_note file text process actor name at = waits_at file at ++ who_waits proces
 
 -- how many of the lines of a script are left
 abbrev pub left_note : (left all : ℕ) → List ℕ
-left_note left all = decimal left ++ codes " of " ++ decimal all ++ (if left == 1 then codes " lines is left\n" else codes " lines are left\n")
+left_note left all = decimal left ++ codes " of " ++ decimal all
+    ++ (if left == 1 then codes " lines is left\n" else codes " lines are left\n")
 
 -- The note on a program: the place where a rule fails; or the use of a local that is lost, its declaration and the wait.
 -- The limit on the bytes of a text has no place.

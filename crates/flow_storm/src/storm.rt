@@ -46,7 +46,8 @@ fn push_act(script: &mut Vec<At>, time: u64, act: Act) -> Result<(), NoMemory>
 fn push_pair(script: &mut Vec<At>, strike: Strike, act: Act, later: Act) -> Result<(), NoMemory>
     requires soon { strike.time + strike.length < 2 ^ 63 }
     ensures { OnOk result (map timed script.new.items
-        ≡ map timed script.old.items ++ (strike.time, order_of act) ∷ (strike.time + strike.length, order_of later) ∷ []) }
+        ≡ map timed script.old.items
+        ++ (strike.time, order_of act) ∷ (strike.time + strike.length, order_of later) ∷ []) }
 {
     push_act(script, strike.time, act)?;
     push_act(script, strike.time + strike.length, later)

@@ -10,7 +10,8 @@ use Rattle.flow_top.specs.Decided.{Decided}
 use Rattle.flow_top.specs.Told.{Reported}
 
 -- The answer to what is asked for, over files and a sink, with monitors that are handed in: an outcome was decided, and it was told.
-pub record AnswersTo (q : Option Request) (handed : List Handed) (files files' : FilesSeen) (sink sink' : SinkSeen) (status : ℕ) : Type 0 where
+pub record AnswersTo (q : Option Request) (handed : List Handed) (files files' : FilesSeen) (sink sink' : SinkSeen) (status : ℕ)
+    : Type 0 where
   pub outcome : Outcome
   pub decided : Decided q files files' outcome
   pub reported : Reported (panel_for q handed) outcome sink sink' status

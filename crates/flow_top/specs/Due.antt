@@ -45,7 +45,8 @@ HasProgram _ = Unit {0}
 
 -- What is due by the first text alone.
 pub data DueBy (text : List ℕ) : Request → Outcome → Type 0 where
-  unread : (p : List ℕ) (rule : Rule) (at : Place) → IsUnread text rule at → DueBy text (format p) (Answered (Refused (source.Refused rule at)))
+  unread : (p : List ℕ) (rule : Rule) (at : Place) → IsUnread text rule at
+      → DueBy text (format p) (Answered (Refused (source.Refused rule at)))
   formatted : (p : List ℕ) (program : Program) → IsProgram text program → DueBy text (format p) (Answered (Formatted program))
   refused : (q : Request) (a : told.Answered) → HasProgram q → IsRefusedBy text a → DueBy text q (Answered a)
   passed : (p : List ℕ) (program : Program) → IsPassing text program → DueBy text (check p) (Answered Passed)

@@ -13,7 +13,8 @@ use Rattle.flow_top.specs.Decided.{Decided}
 abbrev pub MissingProgram : Type 0
 MissingProgram =
     (q : Request) (name : List ℕ) (most : ℕ) (before after : FilesSeen) (outcome : Outcome) → first_source q ≡ of_file name most
-    → before.content name ≡ Missing → Decided (Some q) before after outcome → (outcome ≡ Answered ReadFault) ⊎ (outcome ≡ Answered OutOfMemory)
+    → before.content name ≡ Missing → Decided (Some q) before after outcome
+    → (outcome ≡ Answered ReadFault) ⊎ (outcome ≡ Answered OutOfMemory)
 
 -- nothing is run, and no world is refused
 abbrev pub IsWorldless : Outcome → Type 0

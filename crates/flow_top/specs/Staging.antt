@@ -33,12 +33,14 @@ HearsLine h l (Err fault) k = ⊥
 -- What was heard of the events of a world: all of them, to an end of the run by itself; or those up to one that comes after a Stop.
 abbrev pub HeardEvents : {A : Type 0} (view : A → Hearing) (puts : A → Line → Result (Unit {0}) OutFault → A → Type 0) → Option Ending
     → Seen → A → A → Type 0
-HeardEvents view puts (Some e) w a b = (others : Ears) × (stop : Option ℕ) × EndsItself puts false e w (watching a []) (hearing b others stop)
+HeardEvents view puts (Some e) w a b =
+    (others : Ears) × (stop : Option ℕ) × EndsItself puts false e w (watching a []) (hearing b others stop)
 HeardEvents view puts None w a b =
     (v : Seen) × Quietly puts false w (watching a []) v (watching b []) × (is_stopped (view b) ≡ true)
 
 -- What was heard of a world: all lines, to the last; or those up to an event that comes after a Stop.
-pub data HeardRun {A : Type 0} (view : A → Hearing) (puts : A → Line → Result (Unit {0}) OutFault → A → Type 0) (w : Seen) (a b : A) : Type 0 where
+pub data HeardRun {A : Type 0} (view : A → Hearing) (puts : A → Line → Result (Unit {0}) OutFault → A → Type 0)
+    (w : Seen) (a b : A) : Type 0 where
   to_end : (e : Ending) (mid : A) → HeardEvents view puts (Some e) w a mid → puts mid (end_line e) (Ok tt) b → HeardRun view puts w a b
   broken_off : HeardEvents view puts None w a b → HeardRun view puts w a b
 

@@ -106,7 +106,8 @@ pub data ReportedShrink (r : ProgramRun) (ears : Ears) (before after : SinkSeen)
 
 -- What was told of a program's state after so many events: the text of that, with its status; or a first part of it.
 pub data ReportedDebug (d : DebugRun) (before after : SinkSeen) : ℕ → Type 0 where
-  shown_state : (text : List ℕ) (status : ℕ) → IsViewOf d.run d.most text status → GoesOut before after text → ReportedDebug d before after status
+  shown_state : (text : List ℕ) (status : ℕ) → IsViewOf d.run d.most text status → GoesOut before after text
+      → ReportedDebug d before after status
   state_write_fault : (text : List ℕ) (status : ℕ) → IsViewOf d.run d.most text status → GoesOutInPart before after text
       → Rose before.faults after.faults → ReportedDebug d before after 6
   state_no_memory_told : (text : List ℕ) (status : ℕ) → IsViewOf d.run d.most text status → GoesOutInPart before after text

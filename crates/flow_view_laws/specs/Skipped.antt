@@ -39,8 +39,8 @@ IsSpentWithin most states lines = (length states ≤ most) × LastIs EndSpent li
 abbrev pub spent_text : List ℕ
 spent_text = codes "end spent\n"
 
--- What is written of a program's own state after so many events in a world, or after the last one where there are fewer, with its status; or
--- that one of these events is spent.
+-- What is written of a program's own state after so many events in a world, or after the last one where there are fewer, with its status;
+-- or that one of these events is spent.
 pub data IsView (p : ProgramTree) (w : worlds.World) (most : ℕ) : (text : List ℕ) (status : ℕ) → Type 0 where
   viewed : (states : List (World Actor)) (lines : List Line) (state : World Actor) → IsRun (source p) w states lines
       → (IsSpentWithin most states lines → ⊥) → slice_get states (min most (length states - 1)) ≡ Some state
@@ -73,7 +73,8 @@ SkippedRise _ v = CanBeTold v
 -- That is the view of the program's own state.
 abbrev pub SkipsView : Type 0
 SkipsView =
-    (text : List ℕ) (program : Program) (c : RawClasses) (file : World0) (first v : Seen) (most : ℕ) (e : Option Ending) → IsSound text program
+    (text : List ℕ) (program : Program) (c : RawClasses) (file : World0) (first v : Seen) (most : ℕ) (e : Option Ending)
+    → IsSound text program
     → first_heavy (program_of program).decls ≡ None → Has (program_of program) (raw_of c) → IsInRange (seen file) → Starts c file first
     → SkipsUpTo most first e v
     → SkippedRise e v

@@ -36,7 +36,8 @@ module _ (s : ActorViewTree) where
     value_at VoidNode left = Done VoidValue left
     value_at (PlaceNode n) left = at_once (found (s.held n)) left
     value_at (CallNode p xs) left = then (values_at xs left) (λ vs left. at_once (call_answer p s.setting.now vs) left)
-    value_at (RecordNode r xs) left = then (values_at xs left) (λ vs left. at_once (Given (CompositeValue (RecordWhole r) (values_of_list vs))) left)
+    value_at (RecordNode r xs) left = then (values_at xs left)
+        (λ vs left. at_once (Given (CompositeValue (RecordWhole r) (values_of_list vs))) left)
     value_at (FunctionNode k xs) left = then (values_at xs left)
         (λ vs left. function_called s.setting s.run (slice_get s.setting.functions k) vs left)
     value_at (UnknownNode xs) left = then (values_at xs left) (λ vs left. Meaningless)

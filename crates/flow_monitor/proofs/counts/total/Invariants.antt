@@ -1,6 +1,6 @@
 use Rattle.std.proofs.Common.{◌≡◌, ◌≤◌, ◌*◌, ◌-◌, ◌^◌, take}
 use Rattle.std.specs.List.{sum}
-use Rattle.flow_lab_monitors.proofs.counts.total.Given as goal
+use Rattle.flow_monitor.proofs.counts.total.Given as goal
 
 abbrev pub invariant-loop-count : goal.invariant-loop-count
 invariant-loop-count l = record {
