@@ -1,6 +1,7 @@
 #!/bin/bash
 # Times the parts of the world, the processor's time in seconds, best of five runs of a test each: 1,000,000 pending
-# events, 40,000 of them at a time; 1,000,000 packets; and 100,000 writes of 100 bytes, a sync and a full read of a file.
+# events, 40,000 of them at a time; 1,000,000 packets; 100,000 writes of 100 bytes, a sync and a full read of a file;
+# and a list of 65,535 ints made, copied 10,000 times and dropped.
 # Usage: bench/parts.sh, after `rt test` in crates/flow_parts_tests, which builds the tests.
 set -e
 top=$(cd "$(dirname "$0")/.." && pwd)
@@ -16,3 +17,4 @@ time_of() {
 time_of timers::a_million_with_forty_thousand_pending
 time_of links::a_million_packets
 time_of disks::many_small_writes
+time_of values::a_list_of_65535_copied_ten_thousand_times
