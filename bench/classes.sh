@@ -4,28 +4,9 @@
 # once, so that `exec` of it takes no time for the run.
 # Usage: bench/classes.sh [COMMAND], after `./flow build`; COMMAND runs in its place. bench/classes.sh --mixed writes the program text of the
 # first of these.
-set -e
-top=$(cd "$(dirname "$0")/.." && pwd)
-command=${1:-$top/crates/flow_prog/out/flow_prog}
-work=$(mktemp -d)
-trap 'rm -r "$work"' EXIT
+. "$(dirname "$0")/common.sh"
 
-# Mixed program text of some 200,000 tokens, with names of its own.
-mixed() {
-    awk -v part="$1" 'BEGIN {
-        for (i = part * 1015; i < (part + 1) * 1015; i++) {
-            printf "struct Order%d { int number; Promise<int> reply; };\n", i
-            printf "int cost%d(int n, bool twice) { int sum = 0; for (int k = 0; k < n; k++) { if (k %% 2 == 0 || twice) sum += k * (k + 1); else sum -= 1; } return sum; }\n", i
-            printf "ACTOR Future<int> ask%d(PromiseStream<Order%d> to, int n) {\n    state int sum = cost%d(n, n > 3);\n", i, i, i
-            printf "    Promise<int> reply;\n    to.send(Order%d(sum, reply));\n", i
-            print "    try { int got = wait(reply.getFuture()); sum += got; } catch (Error& e) { trace(e.code()); }"
-            print "    choose { when (wait(delay(n))) { sum++; } when (wait(Never())) { throw end_of_stream(); } }\n    return sum;\n}"
-        }
-        print "ACTOR Future<Void> main(int p) {\n    return Void();\n}"
-    }'
-}
-
-[ "$1" != --mixed ] || { mixed 0; exit; }
+[ "$1" != --mixed ] || { mixed 0 1015; exit; }
 
 # The class texts of so many parts as one: the records and functions first, and `main` of the first part alone.
 joined() {
@@ -39,7 +20,7 @@ joined() {
 }
 
 for part in 0 1 2 3 4 5 6 7 8 9 10 11 12; do
-    mixed $part >"$work/program.flow"
+    mixed $((part * 1015)) $(((part + 1) * 1015)) >"$work/program.flow"
     "$command" compile "$work/program.flow" >"$work/$part.classes"
 done
 joined 1 >"$work/mixed.classes"

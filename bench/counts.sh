@@ -3,12 +3,8 @@
 # the bytes of distinct lines of 64 that ran more than 2,000 times, and the functions that took most. These figures are the same on a busy
 # machine. Usage: bench/counts.sh [COMMAND [CLIENTS [RUN]]], after `./flow build`; COMMAND runs in its place, with 2,500 clients in each
 # of four processes where no number is given. Where RUN is given, it is the whole of what COMMAND is called with.
-set -e
-top=$(cd "$(dirname "$0")/.." && pwd)
-command=${1:-$top/crates/flow_prog/out/flow_prog}
+. "$(dirname "$0")/common.sh"
 clients=${2:-2500}
-work=$(mktemp -d)
-trap 'rm -r "$work"' EXIT
 "$top/bench/clients.sh" "$clients" "$work/clients"
 words=${3:-run $work/clients.flow $work/clients.world}
 # shellcheck disable=SC2086

@@ -1,11 +1,7 @@
 #!/bin/sh
 # Times `debug` where the run of 10,000 clients in each of four processes is at its fullest, after event 4, best of five, with the peak of memory and
 # how many lines are written. Usage: bench/debug.sh [COMMAND], after `./flow build`; COMMAND runs in its place.
-set -e
-top=$(cd "$(dirname "$0")/.." && pwd)
-command=${1:-$top/crates/flow_prog/out/flow_prog}
-work=$(mktemp -d)
-trap 'rm -r "$work"' EXIT
+. "$(dirname "$0")/common.sh"
 
 "$top/bench/clients.sh" 10000 "$work/clients"
 printf 'The state of 10,000 clients in each of four processes after event 4: '

@@ -1,10 +1,7 @@
 #!/bin/sh
 # Times `format` on texts of 1 MiB, best of five runs each, with the peak of memory: statements of many kinds; few tokens
-# in long comments; and statements in 60 braces, whose canonical text is some 16 times as long. Usage: bench/format.sh
-set -e
-top=$(cd "$(dirname "$0")/.." && pwd)
-work=$(mktemp -d)
-trap 'rm -r "$work"' EXIT
+# in long comments; and statements in 60 braces, whose canonical text is some 16 times as long. Usage: bench/format.sh [COMMAND], after `./flow build`; COMMAND runs in its place.
+. "$(dirname "$0")/common.sh"
 
 # texts are filled up to 1 MiB with a comment
 awk 'BEGIN {
@@ -27,19 +24,10 @@ awk 'BEGIN {
     }
 }' >"$work/deep.flow"
 for name in mixed comments deep; do
-    bytes=$(wc -c <"$work/$name.flow")
-    awk -v room=$((1048576 - bytes - 3)) 'BEGIN { printf "//"; for (i = 0; i < room; i++) printf "x"; print "" }' >>"$work/$name.flow"
+    filled "$work/$name.flow"
 done
 
-"$top/flow" format "$work/mixed.flow" >/dev/null
 for name in mixed comments deep; do
-    best=
-    for _ in 1 2 3 4 5; do
-        start=$(date +%s%N)
-        "$top/crates/flow_prog/out/flow_prog" format "$work/$name.flow" >"$work/out"
-        took=$((($(date +%s%N) - start) / 1000))
-        if [ -z "$best" ] || [ "$took" -lt "$best" ]; then best=$took; fi
-    done
-    peak=$(/usr/bin/time -f %M "$top/crates/flow_prog/out/flow_prog" format "$work/$name.flow" 2>&1 >/dev/null)
-    echo "$name: $(wc -c <"$work/$name.flow") bytes to $(wc -c <"$work/out") in $best microseconds, $peak KiB at most"
+    timed "$command" format "$work/$name.flow"
+    echo "$name: $(wc -c <"$work/$name.flow") bytes to $(wc -c <"$work/out") in $least microseconds, $peak KB"
 done

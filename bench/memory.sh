@@ -4,11 +4,7 @@
 # are tried at least, where there are as many. It prints how often memory was wanting and how often all was out, and fails where it was
 # neither. Usage: bench/memory.sh [COMMAND], after `./flow build`; COMMAND, a program that takes its memory from `malloc` and `realloc` of a
 # shared C library, runs in its place.
-set -e
-top=$(cd "$(dirname "$0")/.." && pwd)
-command=${1:-$top/crates/flow_prog/out/flow_prog}
-work=$(mktemp -d)
-trap 'rm -r "$work"' EXIT
+. "$(dirname "$0")/common.sh"
 
 # Stands before the C library: counts calls for memory, and refuses the one whose number $REFUSED is.
 cat >"$work/refuse.c" <<'TEXT'

@@ -5,12 +5,8 @@
 # 1.2 MB of classes, most of which are only read and judged; and starting with no words, with words that are no command and with a file
 # that is missing. Usage: bench/run.sh [COMMAND [NAME=OTHER..]], after `./flow build`; COMMAND runs in its place. Each OTHER is a command with
 # its words, such as the same clients by other means; it is run in the same rounds, and its least time printed under its name.
-set -e
-top=$(cd "$(dirname "$0")/.." && pwd)
-command=${1:-$top/crates/flow_prog/out/flow_prog}
+. "$(dirname "$0")/common.sh"
 [ $# -eq 0 ] || shift
-work=$(mktemp -d)
-trap 'rm -r "$work"' EXIT
 
 "$top/bench/clients.sh" 10000 "$work/clients"
 

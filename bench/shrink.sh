@@ -1,11 +1,7 @@
 #!/bin/sh
 # Times `shrink` on a program of 2,500 actors, of which 100 run, and a script of 200 lines of which three are needed, best of five, with the peak
 # of memory. Usage: bench/shrink.sh [COMMAND], after `./flow build`; COMMAND runs in its place.
-set -e
-top=$(cd "$(dirname "$0")/.." && pwd)
-command=${1:-$top/crates/flow_prog/out/flow_prog}
-work=$(mktemp -d)
-trap 'rm -r "$work"' EXIT
+. "$(dirname "$0")/common.sh"
 
 # Each actor waits for the next one, and the last for a time. A stop while `main` waits throws in all of them: the third of three is one too many.
 awk 'BEGIN {

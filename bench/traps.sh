@@ -2,12 +2,8 @@
 # Looks for what grows faster than it is asked for: each family of programs is run with n things and with 10 n, and the exponent of what its
 # work costs is the logarithm to ten of the growth. What a work costs is the instructions of the run, less those of a run of the same
 # text that doesn't do it. Usage: bench/traps.sh [COMMAND [FAMILY..]], after `./flow build`; COMMAND runs in its place.
-set -e
-top=$(cd "$(dirname "$0")/.." && pwd)
-command=${1:-$top/crates/flow_prog/out/flow_prog}
+. "$(dirname "$0")/common.sh"
 [ $# -eq 0 ] || shift
-work=$(mktemp -d)
-trap 'rm -r "$work"' EXIT
 python3 - "$command" "$work" "$@" <<'CODE'
 import math, re, subprocess, sys
 

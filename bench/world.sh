@@ -25,8 +25,7 @@ function over() { if (live > most) { most = live; at = event } }
 /^(done|fail) / { live--; own[process]-- }
 END { over(); print at, most }
 TEXT
-sed -n '/^cat >"$work\/clients.flow"/,/^TEXT$/p' "$top/bench/run.sh" | sed '1d;$d' >"$work/clients.flow"
-printf 'seed 42\nprocesses 4\nevents 1000000\nturns 1000000\nlatency 1 2\ndiskdelay 1 2\nloss 0\n' >"$work/clients.world"
+"$top/bench/clients.sh" 10000 "$work/clients"
 "$command" run "$work/clients.flow" "$work/clients.world" >"$work/trace"
 read -r event actors <<<"$(awk -f "$work/fullest.awk" "$work/trace")"
 echo "the large run is at its fullest after event $event: $actors unfinished actors"
