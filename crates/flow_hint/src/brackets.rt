@@ -1,27 +1,33 @@
 // The bracket that is still open.
 
 use crate::source::Source;
-use flow_base::memory::NoMemory;
-use flow_tree::token::{Sign, Token};
-use std::alloc::Global;
+use flow_tree::token::{Sign, Word};
 
-/// The number of the last bracket that is open in front of the token with this number, among these tokens.
-pub fn still_open(
-    alloc: Global,
-    source: Source<'_>,
-    before: usize,
-) -> Result<Option<usize>, NoMemory> {
-    let mut open: Vec<usize> = Vec::new(alloc);
-    for number in 0..before.min(source.tokens.spots.len()) {
-        match source.token(number) {
-            Some(Token::Sign(Sign::OpenRound)) | Some(Token::Sign(Sign::OpenCurly)) => {
-                open.push(number)?;
+/// The number of the innermost bracket that is open in front of the token with this number.
+pub fn still_open(source: Source<'_>, before: usize) -> Option<usize> {
+    let mut closed: usize = 0;
+    for back in 0..before {
+        let at = before.saturating_sub(back).saturating_sub(1);
+        if source.is_sign(at, Sign::CloseRound) || source.is_sign(at, Sign::CloseCurly) {
+            closed = closed.saturating_add(1);
+        }
+        if source.is_sign(at, Sign::OpenRound) || source.is_sign(at, Sign::OpenCurly) {
+            if closed == 0 {
+                return Some(at);
             }
-            Some(Token::Sign(Sign::CloseRound)) | Some(Token::Sign(Sign::CloseCurly)) => {
-                let _ = open.pop();
-            }
-            _ => {}
+            closed = closed.saturating_sub(1);
         }
     }
-    Ok(open.last().copied())
+    None
+}
+
+/// Whether a bracket is that of a record.
+pub fn is_of_record(source: Source<'_>, open: Option<usize>) -> bool {
+    let Some(open) = open else {
+        return false;
+    };
+    match open.checked_sub(2) {
+        Some(first) => source.is_word(first, Word::Struct),
+        None => false,
+    }
 }

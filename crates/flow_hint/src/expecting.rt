@@ -1,16 +1,9 @@
 // What is said where no program goes on with a token: what could stand there.
 
-use crate::source::Source;
 use flow_base::memory::NoMemory;
 use flow_expected::{KINDS, Kind, at_refusal};
-use flow_lex::lex::lex;
-use flow_tree::limits::PROGRAM_BYTES;
 use flow_tree::token::{Sign, Tokens, Word};
 use std::alloc::Global;
-
-/// How many tokens a text may have where it is told what could stand in it: each kind is tried by a
-/// reading of those before the place.
-const TRIED: usize = 5_000;
 
 // The kinds with which a statement begins, and likewise a declaration, a type and an expression; and
 // the operators between two operands.
@@ -205,62 +198,8 @@ pub fn only_semicolon(words: &[u8]) -> bool {
     words == b"S5: expected `;`".as_slice()
 }
 
-// The number of the token with which the declaration begins in which the token with this number stands, where those before it
-// begin a program.
-fn declaration_of(source: Source<'_>, number: usize) -> usize {
-    let mut begin: usize = 0;
-    let mut depth: usize = 0;
-    for at in 0..number.min(source.tokens.spots.len()) {
-        if source.is_sign(at, Sign::OpenCurly) {
-            depth = depth.saturating_add(1);
-        }
-        if source.is_sign(at, Sign::CloseCurly) {
-            depth = depth.saturating_sub(1);
-        }
-        let closes = source.is_sign(at, Sign::CloseCurly) && !source.is_word(begin, Word::Struct);
-        if depth == 0 && (closes || source.is_sign(at, Sign::Semicolon)) {
-            begin = at.saturating_add(1);
-        }
-    }
-    begin
-}
-
-// The tokens of a text from the declaration on in which the token with this number stands, where the text has many.
-fn tokens_from(
-    alloc: Global,
-    source: Source<'_>,
-    number: usize,
-) -> Result<Option<Tokens>, NoMemory> {
-    let begin = if source.tokens.spots.len() > TRIED {
-        declaration_of(source, number)
-    } else {
-        0
-    };
-    if number.saturating_sub(begin) > TRIED {
-        return Ok(None);
-    }
-    let Some(rest) = source.text.get(source.place(begin).byte as usize..) else {
-        return Ok(None);
-    };
-    if rest.len() > PROGRAM_BYTES {
-        return Ok(None);
-    }
-    match lex(alloc, rest) {
-        Ok(tokens) => Ok(Some(tokens)),
-        Err(_) => Ok(None),
-    }
-}
-
-/// What could stand in place of the token with this number, at which a program text is refused by S5, in words. `None` where more
-/// than 5,000 tokens would have to be read for each kind, and where nothing could.
-pub fn expected_words(
-    alloc: Global,
-    source: Source<'_>,
-    number: usize,
-) -> Result<Option<Vec<u8>>, NoMemory> {
-    let Some(tokens) = tokens_from(alloc, source, number)? else {
-        return Ok(None);
-    };
+/// What could stand where these tokens are refused by S5, in words. `None` where they aren't, and where nothing could.
+pub fn expected_words(alloc: Global, tokens: Tokens) -> Result<Option<Vec<u8>>, NoMemory> {
     let Some(expected) = at_refusal(alloc, tokens, &KINDS)? else {
         return Ok(None);
     };

@@ -124,7 +124,7 @@ impl<'s, 'n, 'a> Explainer<'s, 'n, 'a> {
     /// Says why this item breaks the rule.
     pub fn item(self, item: Item<'a>, hint: &mut Hint) -> Result<(), NoMemory> {
         match item {
-            Item::Record(_) => Ok(()),
+            Item::Record(record) => self.record(record, hint),
             Item::Header(routine) => self.header(routine, hint),
             Item::Close(routine) => self.close(routine, hint),
             Item::Stmt(stmt) => self.stmt(stmt, hint),
@@ -183,9 +183,14 @@ impl<'s, 'n, 'a> Explainer<'s, 'n, 'a> {
 
     /// Advises to make an actor of the function.
     pub fn advise_actor(self, hint: &mut Hint) -> Result<(), NoMemory> {
-        let routine = self.seeker.routine;
+        let Some(routine) = self.seeker.routine else {
+            return Ok(());
+        };
         let mut returns = Vec::new(self.alloc);
-        put_type(&mut returns, routine.returns)?;
+        match routine.returns {
+            Ty::Future(of) => put_type(&mut returns, of)?,
+            of => put_type(&mut returns, of)?,
+        }
         let name = routine.name.name.bytes();
         let begin = if self.rule == 10 {
             b"make the function an actor: `ACTOR Future<".as_slice()
@@ -193,6 +198,37 @@ impl<'s, 'n, 'a> Explainer<'s, 'n, 'a> {
             b"make it an actor: `ACTOR Future<".as_slice()
         };
         self.advise(hint, &[begin, &returns, b"> ", name, b"(..)`"])
+    }
+
+    // The name of a record, and its fields.
+    fn record(self, record: &'a RecordDecl, hint: &mut Hint) -> Result<(), NoMemory> {
+        if self.rule == 2 {
+            self.top_taken(&record.name, hint)?;
+        }
+        for (number, field) in record.fields.iter().enumerate() {
+            self.written(&field.ty, field.name.at, hint)?;
+            if self.rule == 2 {
+                self.twice(&record.fields, number, field, hint)?;
+            }
+        }
+        Ok(())
+    }
+
+    // Says where a name stands that one before it has too; whether one has.
+    fn twice(
+        self,
+        params: &'a [Param],
+        number: usize,
+        param: &'a Param,
+        hint: &mut Hint,
+    ) -> Result<bool, NoMemory> {
+        for (before, other) in params.iter().enumerate() {
+            if before < number && other.name.name.bytes() == param.name.name.bytes() {
+                self.taken_by(&param.name, Some(other.name.at), hint)?;
+                return Ok(true);
+            }
+        }
+        Ok(false)
     }
 
     // A name at the top, the types and the names of the parameters.
@@ -218,10 +254,8 @@ impl<'s, 'n, 'a> Explainer<'s, 'n, 'a> {
         param: &'a Param,
         hint: &mut Hint,
     ) -> Result<(), NoMemory> {
-        for (before, other) in params.iter().enumerate() {
-            if before < number && other.name.name.bytes() == param.name.name.bytes() {
-                return self.taken_by(&param.name, Some(other.name.at), hint);
-            }
+        if self.twice(params, number, param, hint)? {
+            return Ok(());
         }
         let bytes = param.name.name.bytes();
         if is_predefined(bytes) {

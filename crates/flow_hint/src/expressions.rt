@@ -9,7 +9,7 @@ use flow_tree::expr::{Expr, Op};
 use flow_tree::stmt::Target;
 use flow_tree::token::Sign;
 use flow_tree::ty::Ident;
-use flow_types::callee::{Callee, Kind, Need, called_on};
+use flow_types::callee::{Callee, Need, called_on};
 use flow_types::type_view::{ElementView, TypeView, same_found, takes_both, takes_equality};
 use itoa::Buffer;
 
@@ -610,7 +610,8 @@ impl<'s, 'n, 'a> Explainer<'s, 'n, 'a> {
             return Ok(());
         };
         let ty = self.spelled(gives)?;
-        self.advise_kept(b"", &ty, name, &text, hint)?;
+        let first = b"keep it in a variable first: `".as_slice();
+        self.advise_kept(first, &ty, name, &text, hint)?;
         self.replaced(token, &text, name, hint)
     }
 
@@ -644,16 +645,16 @@ impl<'s, 'n, 'a> Explainer<'s, 'n, 'a> {
         self.say(hint, at, &[b"`", text, b"` gives `", ty, b"`"])
     }
 
-    // Advises to keep what a call gives in a variable of this name.
+    // Advises, in words that begin so, to keep what a call gives in a variable of this name.
     fn advise_kept<'x>(
         self,
-        state: &'x [u8],
+        begin: &'x [u8],
         ty: &'x [u8],
         name: &'x [u8],
         text: &'x [u8],
         hint: &mut Hint,
     ) -> Result<(), NoMemory> {
-        self.advise(hint, &[b"`", state, ty, b" ", name, b" = ", text, b";`"])
+        self.advise(hint, &[begin, ty, b" ", name, b" = ", text, b";`"])
     }
 
     // A name that nothing has yet.
@@ -733,10 +734,10 @@ impl<'s, 'n, 'a> Explainer<'s, 'n, 'a> {
         let Some(name) = self.free_name() else {
             return Ok(());
         };
-        let state = match callee.kind {
-            Kind::Effect => b"state ".as_slice(),
-            _ => b"".as_slice(),
+        let begin = match gives {
+            TypeView::Future(_) => b"or keep it: `state ".as_slice(),
+            _ => b"keep it: `".as_slice(),
         };
-        self.advise_kept(state, &ty, name, &text, hint)
+        self.advise_kept(begin, &ty, name, &text, hint)
     }
 }

@@ -1,16 +1,26 @@
 // Advice by the refused token and those before it: the forms that C++ and Flow have and this language hasn't.
 
+use crate::brackets::is_of_record;
 use crate::source::Source;
 use flow_tree::token::{Sign, Token};
 
 /// Tokens with what is written instead. The last one is refused; those before it stand right in front of it. `NAME`, `NUMBER` and
 /// `TEXT` are any of their kind, `ANY` is any token, and `END` the end of the text; `FIRST w` says that the statement or declaration
-/// begins with `w`, and that anything may stand between.
+/// begins with `w`, and that anything may stand between; `FIELD` and `TOP` say that they stand in a record, or outside of all brackets.
 const FORMS: &str = "\
+FIELD =|a field has no value of its own: all are given by `A(1)`
+FIELD (|a record has fields alone; it is made by `A(1)`
+TOP const ANY|a constant is a function: `int LIMIT() { return 5; }`
+TOP ) ;|the body stands here, `{ .. }`: what stands further down may be called before
+TOP NAME =|a constant is a function, `int LIMIT() { return 5; }`; a variable stands in a function or an actor
+TOP NAME ;|a variable stands in a function or an actor
 = wait|a `wait` declares its variable: `int y = wait(f);`, then `x = y;`
 = waitNext|a `waitNext` declares its variable: `int y = waitNext(s);`, then `x = y;`
 if ( wait|a wait is a statement by itself: `bool b = wait(f);`, then `if (b)`
 while ( wait|a wait is a statement by itself: `loop { bool b = wait(f()); if (!b) { break; } .. }`
+state wait|the variable stands in front: `state int x = wait(f);`
+state NAME =|a variable has a type: `state int n = 1;`
+state NAME ;|a variable has a type: `state int n = 1;`
 return wait|a wait is a statement by itself: `int x = wait(f);`, then `return x;`
 wait|a wait is a statement by itself: `int x = wait(f);`, then use `x`
 waitNext|a wait is a statement by itself: `int x = waitNext(s);`
@@ -34,12 +44,17 @@ FIRST NAME *|there is no `*=`: `x = x * 2;`; and there are no pointers
 FIRST NAME /|there is no `/=`: `x = x / 2;`
 FIRST NAME %|there is no `%=`: `x = x % 2;`
 *|there are no pointers: values are copied
+deterministicRandom ( ) - >|`int n = randomInt(0, 10);`
+g_random - >|`int n = randomInt(0, 10);`
 - >|there are no pointers: a field is `a.x`
--- >|there are no pointers: a field is `a.x`
+-deterministicRandom ( ) - >|`int n = randomInt(0, 10);`
+g_random - >|`int n = randomInt(0, 10);`
+- >|there are no pointers: a field is `a.x`
 catch ( .|a handler names its error: `catch (Error& e)`
 catch ( NAME|a handler names its error: `catch (Error& e)`
 catch ( Error NAME|the error is taken by reference: `catch (Error& e)`
 catch ( Error )|a handler names its error: `catch (Error& e)`
+Error & )|a handler names its error: `catch (Error& e)`
 catch {|a handler names its error: `catch (Error& e) { .. }`
 NUMBER . NUMBER|numbers are whole; time is counted in ticks: `delay(5)`
 NUMBER . NAME|numbers are whole; time is counted in ticks: `delay(5)`
@@ -47,6 +62,9 @@ NUMBER .|numbers are whole; time is counted in ticks: `delay(5)`
 NUMBER NAME|a number is decimal and whole, without letters behind it
 NUMBER NUMBER|a number begins with no zero, and has no blank or `'` in it
 = [|there are no functions without a name: write an actor
+( [|there are no functions without a name: write an actor
+, [|there are no functions without a name: write an actor
+return [|there are no functions without a name: write an actor
 [|there are no arrays: a stream holds many values, a record a fixed number
 ]|there are no arrays: a stream holds many values, a record a fixed number
 FIRST switch {|there is no `switch`: write `if (x == 1) { .. } else if (x == 2) { .. }`
@@ -61,6 +79,7 @@ FIRST template ANY|there are no templates: write it for the types that you need
 FIRST typedef ANY|there is no `typedef`: write the type
 FIRST struct (|a record has fields alone; it is made by `A(1)`
 FIRST struct =|a field has no value of its own: all are given by `A(1)`
+FIRST cout <|print one value: `trace(x);`
 FIRST TraceEvent .|print one value: `trace(x);`
 FIRST vector <|there are no vectors: a stream holds many values, a record a fixed number
 FIRST std <|a text is a `string`; there are no containers
@@ -69,9 +88,11 @@ FIRST Reference <|there are no pointers: values are copied
 FIRST map <|there are no maps: declare a record, or an actor that keeps it
 vector <|there are no vectors: a stream holds many values, a record a fixed number
 FIRST when NAME|a branch has a wait: `when (int x = wait(f)) { .. }`
+FIRST when (|a branch has a wait: `when (wait(f)) { .. }`
 FIRST when )|a branch has a wait: `when (wait(f)) { .. }`
 FIRST when .|a branch has a wait: `when (int x = wait(f)) { .. }`
 FIRST when NUMBER|a branch has a wait: `when (wait(f)) { .. }`
+choose { ANY|a `choose` has branches alone: `choose { when (wait(f)) { .. } when (wait(g)) { .. } }`
 FIRST choose ANY|a `choose` has branches alone: `choose { when (wait(f)) { .. } when (wait(g)) { .. } }`
 FIRST new ANY|there are no pointers: a record is made by `A(1)`
 FIRST delete ANY|there are no pointers: leave it out
@@ -82,8 +103,10 @@ new NAME|there are no pointers: a record is made by `A(1)`
 - =|`-=` has no blank in it
 < <|there are no signs on bits; a value is printed by `trace(x);`
 > >|there are no signs on bits
-++ NAME|the sign stands behind: `x++;`
--- NAME|the sign stands behind: `x--;`
+; ++|the sign stands behind: `x++`
+; --|the sign stands behind: `x--`
+{ ++|the sign stands behind: `x++`
+{ --|the sign stands behind: `x--`
 ++|it is a statement by itself: `x++;`
 --|it is a statement by itself: `x--;`
 NAME =|equal is `==`; an assignment is a statement by itself: `x = y;`
@@ -93,7 +116,6 @@ FIRST bool ,|declare one variable in a statement
 FIRST string ,|declare one variable in a statement
 FIRST state ,|declare one variable in a statement
 state state|one `state` will do
-state wait|the variable stands in front: `state int x = wait(f);`
 state|`state` stands in front of the type: `state int n = 1;`
 ( int|there are no casts: `to_int(s)` reads a text, `to_string(n)` writes a number
 ( string|there are no casts: `to_int(s)` reads a text, `to_string(n)` writes a number
@@ -162,19 +184,26 @@ fn fits_row(source: Source<'_>, number: usize, words: &str) -> bool {
     true
 }
 
-// Whether a row of the table is about the refused token.
-fn fits(source: Source<'_>, number: usize, words: &str) -> bool {
-    match words.strip_prefix("FIRST ") {
-        Some(rest) => fits_first(source, number, rest),
-        None => fits_row(source, number, words),
+// Whether a row of the table is about the refused token, in front of which this bracket is open.
+fn fits(source: Source<'_>, number: usize, open: Option<usize>, words: &str) -> bool {
+    if let Some(rest) = words.strip_prefix("FIRST ") {
+        return fits_first(source, number, rest);
     }
+    if let Some(rest) = words.strip_prefix("FIELD ") {
+        return is_of_record(source, open) && fits_row(source, number, rest);
+    }
+    if let Some(rest) = words.strip_prefix("TOP ") {
+        return open.is_none() && fits_row(source, number, rest);
+    }
+    fits_row(source, number, words)
 }
 
-/// What is written in place of the form that ends with the token with this number, where it is one of those that C++ and Flow have.
-pub fn form_advice(source: Source<'_>, number: usize) -> Option<&'static str> {
+/// What is written in place of the form that ends with the token with this number, where it is one of those that C++ and Flow have;
+/// this bracket is open in front of it.
+pub fn form_advice(source: Source<'_>, number: usize, open: Option<usize>) -> Option<&'static str> {
     for line in FORMS.lines() {
         if let Some((words, advice)) = line.split_once('|') {
-            if fits(source, number, words) {
+            if fits(source, number, open, words) {
                 return Some(advice);
             }
         }

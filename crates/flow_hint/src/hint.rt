@@ -44,9 +44,15 @@ impl Hint {
         Ok(())
     }
 
-    /// Advises so.
+    /// Advises so, where that isn't advised yet.
     pub fn advise(&mut self, words: Vec<u8>) -> Result<(), NoMemory> {
-        self.help.push(words)?;
+        if !self
+            .help
+            .iter()
+            .any(|one| one.as_slice() == words.as_slice())
+        {
+            self.help.push(words)?;
+        }
         Ok(())
     }
 }

@@ -10,6 +10,7 @@ mod hint;
 mod lookup;
 mod names;
 mod seek;
+mod shorten;
 mod source;
 mod spans;
 mod spelled;

@@ -9,24 +9,30 @@ use crate::brackets::still_open;
 use crate::expecting::{expected_words, only_semicolon};
 use crate::explain::{Explainer, place_of};
 use crate::forms::{form_advice, is_border};
-use crate::hint::{Hint, words};
-use crate::names::byte_advice;
+use crate::hint::{Hint, is_there, words};
+use crate::names::{byte_advice, name_at};
 use crate::seek::{Item, Seeker, routine_of};
+use crate::shorten::{shortened_around, shortened_before};
 use crate::source::Source;
 use flow_base::memory::NoMemory;
-use flow_base::name::is_name_byte;
 use flow_base::place::Place;
 use flow_lex::lex::lex;
 use flow_parse::parse::parse;
-use flow_tree::decl::{Decl, Param, Program};
+use flow_tree::decl::{Decl, Param, Program, RecordDecl};
 use flow_tree::fault::{Rule, SourceFault};
 use flow_tree::limits::PROGRAM_BYTES;
 use flow_tree::token::{Sign, Tokens};
 use flow_types::top_names::{TopNames, packet_fields};
 use std::alloc::Global;
 
-// The bytes of a text from a line and a column on.
-fn behind(text: &[u8], at: Place) -> Option<&[u8]> {
+/// How many tokens may stand before a place where it is told what could stand there: each kind is tried by a reading of them.
+const TRIED: usize = 2_500;
+
+/// How many bytes of a text are read as they are; of a longer one what needn't be read is left out.
+const READ: usize = 8_192;
+
+// How many bytes stand before a line and a column.
+fn bytes_before(text: &[u8], at: Place) -> usize {
     let mut line: u32 = 1;
     let mut begin: usize = 0;
     for (number, byte) in text.iter().enumerate() {
@@ -38,15 +44,47 @@ fn behind(text: &[u8], at: Place) -> Option<&[u8]> {
             begin = number.saturating_add(1);
         }
     }
-    text.get(begin.saturating_add(at.column.saturating_sub(1) as usize)..)
+    begin.saturating_add(at.column.saturating_sub(1) as usize)
+}
+
+// The bytes of a text from a line and a column on.
+fn behind(text: &[u8], at: Place) -> Option<&[u8]> {
+    text.get(bytes_before(text, at)..)
+}
+
+// The tokens of a text, where there are some.
+fn tokens_of(alloc: Global, text: &[u8]) -> Option<Tokens> {
+    if text.len() > PROGRAM_BYTES {
+        return None;
+    }
+    match lex(alloc, text) {
+        Ok(tokens) => Some(tokens),
+        Err(_) => None,
+    }
+}
+
+// The text that is read to tell what could stand at a place: all of it where it is short.
+fn read_before(alloc: Global, text: &[u8], at: Place) -> Result<Vec<u8>, NoMemory> {
+    if text.len() <= READ {
+        return Ok(text.to_vec(alloc)?);
+    }
+    shortened_before(alloc, text, bytes_before(text, at))
+}
+
+// The text that is read to tell what is wrong at a place: all of it where it is short.
+fn read_around(alloc: Global, text: &[u8], at: Place) -> Result<Vec<u8>, NoMemory> {
+    if text.len() <= READ {
+        return Ok(text.to_vec(alloc)?);
+    }
+    shortened_around(alloc, text, bytes_before(text, at))
 }
 
 // Advice where no token begins with a byte.
 fn on_byte(alloc: Global, text: &[u8], at: Place, hint: &mut Hint) -> Result<(), NoMemory> {
-    let Some([byte, ..]) = behind(text, at) else {
+    let Some(rest) = behind(text, at) else {
         return Ok(());
     };
-    if let Some(advice) = byte_advice(*byte) {
+    if let Some(advice) = byte_advice(rest) {
         hint.advise(words(alloc, &[advice.as_bytes()])?)?;
     }
     Ok(())
@@ -55,10 +93,11 @@ fn on_byte(alloc: Global, text: &[u8], at: Place, hint: &mut Hint) -> Result<(),
 // Advice where the tokens before a place and this one begin no program; and the bracket that is open at the end of the text.
 fn on_token(alloc: Global, source: Source<'_>, at: Place, hint: &mut Hint) -> Result<(), NoMemory> {
     let number = source.number(at);
-    if let Some(advice) = form_advice(source, number) {
+    let open = still_open(source, number);
+    if let Some(advice) = form_advice(source, number, open) {
         hint.advise(words(alloc, &[advice.as_bytes()])?)?;
     }
-    if let Some(open) = still_open(alloc, source, number)? {
+    if let Some(open) = open {
         if is_unclosed(source, number, open) {
             on_bracket(alloc, source, at, open, hint)?;
         }
@@ -92,23 +131,37 @@ fn on_bracket(
     hint.advise(words(alloc, &[b"put a ", closing, b" where what it opens ends"])?)
 }
 
+// Says behind which token a `;` is missing.
+fn on_semicolon(
+    alloc: Global,
+    source: Source<'_>,
+    at: Place,
+    last: usize,
+    hint: &mut Hint,
+) -> Result<(), NoMemory> {
+    let told = words(alloc, &[b"behind this"])?;
+    hint.say(at, source.place(last), told)?;
+    let token = source.slice(last, 1);
+    hint.advise(words(alloc, &[b"put a `;` behind `", token, b"`"])?)
+}
+
 // What could stand at a place, and advice by the tokens there.
 fn on_form(alloc: Global, text: &[u8], at: Place, hint: &mut Hint) -> Result<(), NoMemory> {
-    if text.len() > PROGRAM_BYTES {
-        return Ok(());
-    }
-    let Ok(tokens) = lex(alloc, text) else {
+    let text = read_before(alloc, text, at)?;
+    let (Some(tokens), Some(tried)) = (tokens_of(alloc, &text), tokens_of(alloc, &text)) else {
         return Ok(());
     };
-    let source = Source::new(text, &tokens);
+    let source = Source::new(&text, &tokens);
     on_token(alloc, source, at, hint)?;
     let number = source.number(at);
-    let Some(expected) = expected_words(alloc, source, number)? else {
+    if number > TRIED {
+        return Ok(());
+    }
+    let Some(expected) = expected_words(alloc, tried)? else {
         return Ok(());
     };
     if hint.help.is_empty() && only_semicolon(&expected) {
-        let before = source.slice(number.saturating_sub(1), 1);
-        hint.advise(words(alloc, &[b"put a `;` behind `", before, b"`"])?)?;
+        on_semicolon(alloc, source, at, number.saturating_sub(1), hint)?;
     }
     hint.words = expected;
     hint.alone = true;
@@ -161,18 +214,27 @@ impl<'a> Broken<'a> {
     }
 }
 
-// What is said of a function or an actor, where the rule is broken in it; whether it is.
+// A record, where the rule is broken in it.
+fn on_record<'a>(broken: Broken<'a>, record: &'a RecordDecl) -> Option<Item<'a>> {
+    if is_there(broken.at, record.at) {
+        return Some(Item::Record(record));
+    }
+    None
+}
+
+// What is said of a declaration, where the rule is broken in it; whether it is.
 fn on_decl<'a>(
     broken: Broken<'a>,
     names: &TopNames<'a>,
     decl: &'a Decl,
     hint: &mut Hint,
 ) -> Result<bool, NoMemory> {
-    let Some(routine) = routine_of(decl) else {
-        return Ok(false);
+    let mut seeker = Seeker::new(broken.alloc, names, routine_of(decl), broken.at);
+    let item = match decl {
+        Decl::Struct(record) => on_record(broken, record),
+        _ => seeker.item()?,
     };
-    let mut seeker = Seeker::new(broken.alloc, names, routine, broken.at);
-    let Some(item) = seeker.item()? else {
+    let Some(item) = item else {
         return Ok(false);
     };
     broken.explain(&seeker, item, hint)?;
@@ -226,10 +288,8 @@ fn on_meaning(
     at: Place,
     hint: &mut Hint,
 ) -> Result<(), NoMemory> {
-    if text.len() > PROGRAM_BYTES {
-        return Ok(());
-    }
-    let Ok(tokens) = lex(alloc, text) else {
+    let text = read_around(alloc, text, at)?;
+    let Some(tokens) = tokens_of(alloc, &text) else {
         return Ok(());
     };
     let Ok(program) = parse(alloc, &tokens) else {
@@ -241,7 +301,7 @@ fn on_meaning(
     let packet = packet_fields(alloc)?;
     on_item(
         alloc,
-        read_of(text, &tokens, &program),
+        read_of(&text, &tokens, &program),
         &packet,
         rule,
         at,
@@ -266,14 +326,6 @@ fn behind_signs(line: &[u8]) -> &[u8] {
     }
 }
 
-// How many bytes of a text are those of a name.
-fn name_len(text: &[u8]) -> usize {
-    match text.iter().position(|byte| !is_name_byte(*byte)) {
-        Some(len) => len,
-        None => text.len(),
-    }
-}
-
 // How a local is declared so that it is kept.
 fn on_lost(alloc: Global, text: &[u8], declared: Place, hint: &mut Hint) -> Result<(), NoMemory> {
     let begin = Place {
@@ -287,7 +339,7 @@ fn on_lost(alloc: Global, text: &[u8], declared: Place, hint: &mut Hint) -> Resu
     let Some(before) = line.get(..before) else {
         return Ok(());
     };
-    let name = rest.get(..name_len(rest)).unwrap_or(rest);
+    let name = name_at(rest);
     let ty = unindented(behind_signs(before));
     if ty.is_empty() || ty.contains(&b'&') {
         return Ok(());

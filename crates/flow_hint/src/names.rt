@@ -1,5 +1,7 @@
 // Advice by a name that isn't declared, and by a byte that begins no token: what C++ and Flow have and this language hasn't.
 
+use flow_base::name::is_name_byte;
+
 /// Names with what is written instead.
 const NAMES: &str = "\
 auto|write the type: `int x = ..;`
@@ -62,7 +64,7 @@ io_error|an error is made by its number: `error(1510)`
 const BYTES: &str = "\
 #|there are no includes and no macros: leave the line out
 ?|there is no `? :`: declare the variable, and set it in an `if`
-:|there is no `:`; of `std::string` write `string`, of `a::b` write `b`
+:|there is no `:`: a `case` and `? :` are written with `if`; records have neither constructors nor bases
 '|a text stands in double quotes
 ||the signs are `||` for or, `&&` for and; there are none on bits
 ^|there are no signs on bits
@@ -97,10 +99,34 @@ pub fn name_advice(name: &[u8]) -> Option<&'static str> {
     found(NAMES, name)
 }
 
-/// Advice where no token begins with this byte.
-pub fn byte_advice(byte: u8) -> Option<&'static str> {
-    if byte > 126 {
-        return Some("a name has ASCII letters, digits and `_`; other letters stand in texts alone");
+/// The name with which a text begins.
+pub fn name_at(text: &[u8]) -> &[u8] {
+    match text.iter().position(|byte| !is_name_byte(*byte)) {
+        Some(len) => text.get(..len).unwrap_or(text),
+        None => text,
     }
-    found(BYTES, &[byte])
+}
+
+// Advice on the `::` in front of a text.
+fn scope_advice(behind: &[u8]) -> &'static str {
+    match name_advice(name_at(behind)) {
+        Some(advice) => advice,
+        None => "there is no `::`: of `std::string` write `string`, of `a::b` write `b`",
+    }
+}
+
+/// Advice where no token begins with the first byte of a text.
+pub fn byte_advice(text: &[u8]) -> Option<&'static str> {
+    match text {
+        [b':', b':', behind @ ..] => Some(scope_advice(behind)),
+        [byte, ..] => {
+            if *byte > 126 {
+                return Some(
+                    "a name has ASCII letters, digits and `_`; other letters stand in texts alone",
+                );
+            }
+            found(BYTES, &[*byte])
+        }
+        [] => None,
+    }
 }

@@ -30,7 +30,8 @@ pub struct Seeker<'n, 'a> {
     pub setting: Setting<'n, 'a>,
     /// The names that were declared on the way: parameters, variables and errors of handlers.
     pub declared: Vec<&'a Ident>,
-    pub routine: Routine<'a>,
+    /// The function or the actor, and none in a record.
+    pub routine: Option<Routine<'a>>,
     at: Place,
 }
 
@@ -60,20 +61,20 @@ pub fn routine_of(decl: &Decl) -> Option<Routine<'_>> {
 }
 
 impl<'n, 'a> Seeker<'n, 'a> {
-    /// Before the parameters of a routine.
+    /// Before the parameters of a routine, or in a record.
     pub fn new(
         alloc: Global,
         names: &'n TopNames<'a>,
-        routine: Routine<'a>,
+        routine: Option<Routine<'a>>,
         at: Place,
     ) -> Seeker<'n, 'a> {
         let vars: Vars<'a> = IndexMap::new(alloc);
+        let plain = match routine {
+            Some(routine) => routine.plain,
+            None => false,
+        };
         Seeker {
-            setting: Setting {
-                names,
-                vars,
-                plain: routine.plain,
-            },
+            setting: Setting { names, vars, plain },
             declared: Vec::new(alloc),
             routine,
             at,
@@ -82,7 +83,9 @@ impl<'n, 'a> Seeker<'n, 'a> {
 
     /// The item of the routine that stands at the place.
     pub fn item(&mut self) -> Result<Option<Item<'a>>, NoMemory> {
-        let routine = self.routine;
+        let Some(routine) = self.routine else {
+            return Ok(None);
+        };
         if is_there(self.at, routine.at) {
             return Ok(Some(Item::Header(routine)));
         }

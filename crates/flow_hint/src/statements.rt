@@ -33,7 +33,9 @@ impl<'s, 'n, 'a> Explainer<'s, 'n, 'a> {
                 )
             }
             StmtKind::Return(value) => {
-                let routine = self.seeker.routine;
+                let Some(routine) = self.seeker.routine else {
+                    return Ok(());
+                };
                 let returns = TypeView::of(routine.returns);
                 self.wanted(value, token.saturating_add(1), Wanted::part(returns), hint)
             }

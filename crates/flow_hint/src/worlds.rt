@@ -3,6 +3,7 @@
 use crate::hint::{Hint, words};
 use flow_base::memory::NoMemory;
 use flow_worldfile::WorldFault;
+use itoa::Buffer;
 use std::alloc::Global;
 
 /// The forms of lines by their first word, those of an `at` line by the word of its order, with the ranges of their numbers.
@@ -41,7 +42,7 @@ fn line_of(text: &[u8], number: u32) -> &[u8] {
     &[]
 }
 
-// Whether a field of a line is this word, or has it with a colon behind.
+// Whether a field of a line is this word.
 fn is_field(field: &[u8], word: &[u8]) -> bool {
     field == word
 }
@@ -95,30 +96,44 @@ fn first_field(line: &[u8]) -> &[u8] {
     &[]
 }
 
-fn on_line(alloc: Global, text: &[u8], number: u32, hint: &mut Hint) -> Result<(), NoMemory> {
+// Advises by the form of a line, behind these words.
+fn on_line(
+    alloc: Global,
+    text: &[u8],
+    number: u32,
+    begin: &[u8],
+    hint: &mut Hint,
+) -> Result<(), NoMemory> {
     let line = line_of(text, number);
     let advice = match form_of(line) {
         Some(form) => form,
         None => if is_order(line) { ORDERS } else { WORDS },
     };
-    hint.advise(words(alloc, &[advice.as_bytes()])?)
+    hint.advise(words(alloc, &[begin, advice.as_bytes()])?)
 }
 
 /// What is said of the fault of a world file beyond its rule.
 pub fn world_hint(alloc: Global, text: &[u8], fault: WorldFault) -> Result<Hint, NoMemory> {
     let mut hint = Hint::new(alloc);
     match fault {
-        WorldFault::Form(line) | WorldFault::Range(line) => on_line(alloc, text, line, &mut hint)?,
+        WorldFault::Form(line) => on_line(alloc, text, line, b"", &mut hint)?,
+        WorldFault::Range(line) => {
+            on_line(
+                alloc,
+                text,
+                line,
+                b"keep to the range of its word: ",
+                &mut hint,
+            )?
+        }
         WorldFault::Twice(line) => {
             if let Some(first) = first_such(text, line) {
-                let number = itoa::Buffer::new();
-                let mut number = number;
                 hint.advise(words(
                     alloc,
                     &[
-                        b"line ",
-                        number.format(first).as_bytes(),
-                        b" says it first: keep one of them",
+                        b"keep one of them: line ",
+                        Buffer::new().format(first).as_bytes(),
+                        b" says it first",
                     ],
                 )?)?;
             }
