@@ -109,7 +109,9 @@ fn on_line(
         Some(form) => form,
         None => if is_order(line) { ORDERS } else { WORDS },
     };
-    hint.advise(words(alloc, &[begin, advice.as_bytes()])?)
+    let mut told = words(alloc, &[begin])?;
+    told.extend_from_slice(advice.as_bytes())?;
+    hint.advise(told)
 }
 
 /// What is said of the fault of a world file beyond its rule.
