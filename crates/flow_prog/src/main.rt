@@ -12,11 +12,13 @@ use crate::status::{NO_MEMORY, answer, hand_on_rest, is_accepted, is_noted};
 use crate::waits::waits_note;
 use flow_base::memory::NoMemory;
 use flow_base::sink::Sink;
-use flow_front::read_program;
+use flow_lex::lex::lex;
 use flow_monitor::{Errors, Live, Monitor, Until};
+use flow_parse::parse::parse;
 use flow_refusal::{Watcher, left_note, note, painted, warning_note};
 use flow_system::gathering::Gathering;
 use flow_system::opened::OpenedFiles;
+use flow_tree::limits::PROGRAM_BYTES;
 use flow_warning::find_warnings;
 use flow_worldfile::read_world;
 use std::io::{IsTerminal, Write};
@@ -74,7 +76,13 @@ fn write_note(rt: &HostRuntime, files: &OpenedFiles<SystemFiles>, begin: &[u8]) 
 
 // Writes what is warned of in a program that was accepted.
 fn write_warnings(rt: &HostRuntime, name: &str, text: &[u8]) {
-    let Ok(program) = read_program(rt.alloc(), text) else {
+    if text.len() > PROGRAM_BYTES {
+        return;
+    }
+    let Ok(tokens) = lex(rt.alloc(), text) else {
+        return;
+    };
+    let Ok(program) = parse(rt.alloc(), &tokens) else {
         return;
     };
     let Ok(warnings) = find_warnings(rt.alloc(), &program.decls) else {
