@@ -1,20 +1,27 @@
 //! flow: one command line over the files of the system and standard output.
 #![tactic(auto)]
 
+ghost use Rattle.std.specs.Prelude.{◌≡◌};
+
 mod real;
 mod status;
 mod waits;
 
 use crate::real::{BeginKept, SystemFiles};
-use crate::status::{NO_MEMORY, answer, hand_on_rest, is_noted};
+use crate::status::{NO_MEMORY, answer, hand_on_rest, is_accepted, is_noted};
 use crate::waits::waits_note;
 use flow_base::memory::NoMemory;
+use flow_base::sink::Sink;
+use flow_lex::lex::lex;
 use flow_monitor::{Errors, Live, Monitor, Until};
-use flow_refusal::{left_note, note};
+use flow_parse::parse::parse;
+use flow_refusal::{Watcher, left_note, note, painted, warning_note};
 use flow_system::gathering::Gathering;
 use flow_system::opened::OpenedFiles;
+use flow_tree::limits::PROGRAM_BYTES;
+use flow_warning::find_warnings;
 use flow_worldfile::read_world;
-use std::io::Write;
+use std::io::{IsTerminal, Write};
 use std::process::ExitCode;
 use std::{env, io};
 
@@ -27,8 +34,32 @@ fn words(rt: &HostRuntime) -> io::Result<Vec<String>> {
     Ok(words)
 }
 
-// Writes the note on what was answered, which begins so, to standard error. Where that fails, nothing is said: the answer
-// stands.
+// Whether standard error is a terminal on which colours are wanted: not where NO_COLOR is set to something.
+fn wants_colours(rt: &HostRuntime) -> bool {
+    if !rt.stderr().is_terminal() {
+        return false;
+    }
+    match env::var(rt, "NO_COLOR") {
+        Ok(value) => value.is_empty(),
+        Err(_) => true,
+    }
+}
+
+// Writes a note on a file of this name to standard error. Where that fails, nothing is said: the answer stands.
+fn write_told(rt: &HostRuntime, name: &str, told: &[u8]) {
+    if told.is_empty() {
+        return;
+    }
+    if wants_colours(rt) {
+        if let Ok(text) = painted(rt.alloc(), told, name) {
+            let _ = rt.stderr().write_all(&text);
+            return;
+        }
+    }
+    let _ = rt.stderr().write_all(told);
+}
+
+// Writes the note on what was answered, which begins so.
 fn write_note(rt: &HostRuntime, files: &OpenedFiles<SystemFiles>, begin: &[u8]) {
     let told = note(
         rt.alloc(),
@@ -39,18 +70,33 @@ fn write_note(rt: &HostRuntime, files: &OpenedFiles<SystemFiles>, begin: &[u8]) 
         files.text(1),
     );
     if let Ok(text) = told {
-        let _ = rt.stderr().write_all(&text);
+        write_told(rt, files.asked(0), &text);
     }
 }
 
-// Whether the words are those of a command.
-fn is_command(words: &io::Result<Vec<String>>, command: &str) -> bool {
-    match words {
-        Ok(words) => match words.first() {
-            Some(word) => word.as_str() == command,
-            None => false,
-        },
-        Err(_) => false,
+// Writes what is warned of in a program that was accepted.
+fn write_warnings(rt: &HostRuntime, name: &str, text: &[u8]) {
+    if text.len() > PROGRAM_BYTES {
+        return;
+    }
+    let Ok(tokens) = lex(rt.alloc(), text) else {
+        return;
+    };
+    let Ok(program) = parse(rt.alloc(), &tokens) else {
+        return;
+    };
+    let Ok(warnings) = find_warnings(rt.alloc(), &program.decls) else {
+        return;
+    };
+    if let Ok(told) = warning_note(rt.alloc(), name, text, &warnings) {
+        write_told(rt, name, &told);
+    }
+}
+
+// Writes what is said of an answer that is no refusal.
+fn write_end(rt: &HostRuntime, watcher: &Watcher, status: u8) {
+    if let Ok(told) = watcher.note(rt.alloc(), status) {
+        write_told(rt, "", &told);
     }
 }
 
@@ -71,6 +117,59 @@ fn write_waits(rt: &HostRuntime, files: &OpenedFiles<SystemFiles>, lines: &[u8])
     }
 }
 
+// What is told besides the answer: warnings on a program that is judged, how many lines a script has left, where actors wait.
+#[derive(Clone, Copy)]
+struct Asked {
+    judges: bool,
+    shrinks: bool,
+    debugs: bool,
+}
+
+impl Asked {
+    // By the first of the words.
+    fn by(words: &io::Result<Vec<String>>) -> Asked {
+        let command = match words {
+            Ok(words) => words.first(),
+            Err(_) => None,
+        };
+        let command = match command {
+            Some(word) => word.as_str(),
+            None => "",
+        };
+        Asked {
+            judges: command == "check" || command == "compile" || command == "run",
+            shrinks: command == "shrink",
+            debugs: command == "debug",
+        }
+    }
+}
+
+// Tells on standard error what there is to say of an answer of this status, which stays.
+fn told<S: Sink>(
+    rt: &HostRuntime,
+    asked: Asked,
+    files: &OpenedFiles<SystemFiles>,
+    out: &BeginKept<S>,
+    status: u8,
+) -> u8
+    ensures { result ≡ status }
+{
+    if is_noted(status) {
+        write_note(rt, files, out.begin());
+    }
+    if asked.shrinks && status == 0 {
+        write_left(rt, files.text(1), out.script());
+    }
+    if asked.debugs && status == 0 {
+        write_waits(rt, files, out.waits());
+    }
+    if asked.judges && is_accepted(status) {
+        write_warnings(rt, files.asked(0), files.text(0));
+    }
+    write_end(rt, out.watcher(), status);
+    status
+}
+
 // Does what the words say, with the shipped monitors at hand, and gives the status.
 fn run(rt: &HostRuntime) -> Result<u8, NoMemory> {
     let alloc = rt.alloc();
@@ -81,20 +180,10 @@ fn run(rt: &HostRuntime) -> Result<u8, NoMemory> {
     let mut files = OpenedFiles::new(alloc, SystemFiles::new(rt));
     let mut out = BeginKept::new(alloc, Gathering::new(alloc, io::writer(rt)));
     let words = words(rt);
-    let shrinks = is_command(&words, "shrink");
-    let debugs = is_command(&words, "debug");
+    let asked = Asked::by(&words);
     let status = answer(alloc, words, &mut files, &mut out, monitors);
     hand_on_rest(status, &mut out);
-    if is_noted(status) {
-        write_note(rt, &files, out.begin());
-    }
-    if shrinks && status == 0 {
-        write_left(rt, files.text(1), out.script());
-    }
-    if debugs && status == 0 {
-        write_waits(rt, &files, out.waits());
-    }
-    Ok(status)
+    Ok(told(rt, asked, &files, &out, status))
 }
 
 fn main(rt: HostRuntime) -> ExitCode {

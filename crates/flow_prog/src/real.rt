@@ -5,6 +5,7 @@ ghost use Rattle.flow_base.specs.Seen.{Untold};
 
 use flow_base::fault::OutFault;
 use flow_base::sink::Sink;
+use flow_refusal::Watcher;
 use flow_system::opened::Opener;
 use std::alloc::Global;
 use std::fs::File;
@@ -39,12 +40,13 @@ const BEGIN: usize = 256;
 /// Of how many actors the lines are kept that say where they wait.
 const ACTORS: usize = 20;
 
-/// A sink that keeps how its text begins, counts the pieces of it that are lines of a script, and keeps the first ones that are lines of
-/// actors.
+/// A sink that keeps how its text begins, watches the lines of a trace, counts the pieces that are lines of a script, and keeps the
+/// first ones that are lines of actors.
 #[derive(Drop)]
 pub struct BeginKept<S> {
     out: S,
     begin: Vec<u8>,
+    watcher: Watcher,
     script: usize,
     waits: Vec<u8>,
     actors: usize,
@@ -58,6 +60,7 @@ impl<S: Sink> BeginKept<S> {
         BeginKept {
             out,
             begin: Vec::new(alloc),
+            watcher: Watcher::new(alloc),
             script: 0,
             waits: Vec::new(alloc),
             actors: 0,
@@ -67,6 +70,11 @@ impl<S: Sink> BeginKept<S> {
     /// How the text that was written begins, as far as there was memory to keep it.
     pub fn begin(&self) -> &[u8] {
         &self.begin
+    }
+
+    /// What is remembered of the lines that were written.
+    pub fn watcher(&self) -> &Watcher {
+        &self.watcher
     }
 
     /// How many pieces were lines of a script.
@@ -83,6 +91,7 @@ impl<S: Sink> BeginKept<S> {
     fn keep(&mut self, piece: &[u8])
         ensures { self.new.out ≡ self.old.out }
     {
+        self.watcher.see(piece);
         if piece.starts_with(b"at ") {
             self.script = self.script.saturating_add(1);
         }

@@ -68,3 +68,11 @@ pub fn is_noted(status: u8) -> bool {
         _ => false,
     }
 }
+
+/// Whether a status says that a program is accepted, and what it is asked for is carried out.
+pub fn is_accepted(status: u8) -> bool {
+    match status {
+        0 | 4 | 8 => true,
+        _ => false,
+    }
+}

@@ -1,5 +1,6 @@
 -- The note on a refusal: the place in its file, what the rule asks, and the line with a mark under the place.
-use Rattle.std.specs.Prelude.{◌≡◌, ℕ, zero, suc, ◌+◌, ◌-◌, ◌||◌, ◌==◌, min, nat_lt, List, [], ◌++◌, map, take, drop, replicate, codes, decimal, if◌then◌else◌}
+use Rattle.std.specs.Prelude.{◌≡◌, ℕ, zero, suc, ◌+◌, ◌-◌, Bool, not, ◌&&◌, ◌||◌, ◌==◌, min, nat_lt, length, List, [], ◌∷◌, ◌++◌, map, take, drop, codes, decimal, if◌then◌else◌}
+use Rattle.std.specs.Str.{is_utf8}
 use Rattle.std.specs.List.{position_or_len}
 use Rattle.flow_base.specs.declared.place.Place.{Place}
 use Rattle.flow_tree.specs.declared.fault.Rule.TheVariants.{L}
@@ -29,17 +30,37 @@ lines_on (suc n) text = lines_on n (behind_feed text)
 abbrev pub line_at : List ℕ → (number : ℕ) → List ℕ
 line_at text number = until_feed (lines_on (number - 1) text)
 
--- a byte as it is shown: a tab as a blank, and a byte outside 32 to 126 as a question mark
-abbrev pub shown : ℕ → ℕ
-shown b = if b == 9 then 32 else if nat_lt b 32 || nat_lt 126 b then 63 else b
+-- a byte that goes on a character of UTF-8
+abbrev pub is_continuation : ℕ → Bool
+is_continuation b = nat_lt 127 b && nat_lt b 192
 
--- the part of a line around a column, so many bytes behind its begin: at most 60 bytes before it, and 120 in all
+-- A byte as it is shown of a line that is UTF-8, or isn't: a byte over 127 stands for itself in UTF-8, so does a tab; any other byte
+-- outside 32 to 126 is a question mark.
+abbrev pub shown : (whole : Bool) → ℕ → ℕ
+shown whole b = if b == 9 || (whole && nat_lt 127 b) then b else if nat_lt b 32 || nat_lt 126 b then 63 else b
+
+-- where a line is cut that is cut so many bytes behind its begin: behind the character that stands there, and at its end at most
+abbrev pub cut : List ℕ → ℕ → ℕ
+cut line n = let at = min n (length line) in at + position_or_len (λ b. not (is_continuation b)) (drop at line)
+
+-- the part of a line around a column, so many bytes behind its begin: about 60 bytes before it, and 120 in all
 abbrev pub window : List ℕ → (before : ℕ) → List ℕ
-window line before = map shown (take 120 (drop (before - 60) line))
+window line before = let rest = drop (cut line (before - 60)) line in map (shown (is_utf8 line)) (take (cut rest 120) rest)
+
+-- what stands under a byte before a place, so that the mark stands under it: a tab under a tab, else a blank under each character
+abbrev pub under_one : (whole : Bool) → ℕ → List ℕ
+under_one whole b = if b == 9 then 9 ∷ [] else if whole && is_continuation b then [] else 32 ∷ []
+
+abbrev pub under : (whole : Bool) → List ℕ → List ℕ
+under whole [] = []
+under whole (b ∷ bs) = under_one whole b ++ under whole bs
+
+abbrev pub indent : List ℕ → (before : ℕ) → List ℕ
+indent line before = under (is_utf8 line) (drop (cut line (before - 60)) (take before line))
 
 -- the line of a place, around it, and a mark under the place
 abbrev pub excerpt : (text : List ℕ) → Place → List ℕ
-excerpt text at = window (line_at text at.line) (at.column - 1) ++ codes "\n" ++ replicate (min (at.column - 1) 60) 32 ++ codes "^\n"
+excerpt text at = let line = line_at text at.line in window line (at.column - 1) ++ codes "\n" ++ indent line (at.column - 1) ++ codes "^\n"
 
 -- words behind what they are said of
 abbrev pub said : (words : List ℕ) → List ℕ
@@ -101,14 +122,14 @@ world_note words name text world.TooLarge = overall name words
 world_note words name text world.OutOfMemory = []
 
 -- What may be noted on a line that was answered, where the program or class text has this name and text, and the world that: the places
--- shown are those that the line tells, and nothing is noted on a line that tells of no fault.
+-- that are shown first are those that the line tells, more may be said behind, and nothing is noted on a line that tells of no fault.
 pub data Notes : (answer : List ℕ) → (name text : List ℕ) → (world world_text : List ℕ) → (note : List ℕ) → Type 0 where
-  on_program : {answer name text world world_text note : List ℕ} (words : List ℕ) (fault : SourceFault)
-      → answer ≡ refusal_text fault → note ≡ program_note words name text fault → Notes answer name text world world_text note
-  on_class : {answer name text world world_text note : List ℕ} (words : List ℕ) (fault : ClassFault)
-      → answer ≡ class_refusal fault → note ≡ class_note words name text fault → Notes answer name text world world_text note
-  on_world : {answer name text world world_text note : List ℕ} (words : List ℕ) (fault : WorldFault)
-      → answer ≡ world_refusal fault → note ≡ world_note words world world_text fault → Notes answer name text world world_text note
+  on_program : {answer name text world world_text note : List ℕ} (words more : List ℕ) (fault : SourceFault)
+      → answer ≡ refusal_text fault → note ≡ program_note words name text fault ++ more → Notes answer name text world world_text note
+  on_class : {answer name text world world_text note : List ℕ} (words more : List ℕ) (fault : ClassFault)
+      → answer ≡ class_refusal fault → note ≡ class_note words name text fault ++ more → Notes answer name text world world_text note
+  on_world : {answer name text world world_text note : List ℕ} (words more : List ℕ) (fault : WorldFault)
+      → answer ≡ world_refusal fault → note ≡ world_note words world world_text fault ++ more → Notes answer name text world world_text note
   on_words : {answer name text world world_text note : List ℕ} → answer ≡ codes "usage\n" → Notes answer name text world world_text note
   on_file : {answer name text world world_text note : List ℕ} → answer ≡ codes "read fault\n" → Notes answer name text world world_text note
   on_script : {answer name text world world_text note : List ℕ} → answer ≡ script_refusal

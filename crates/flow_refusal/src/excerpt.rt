@@ -1,15 +1,17 @@
 // The part of a text around a place, with a mark under it.
 
-ghost use Rattle.std.specs.Prelude.{◌≡◌, ◌<◌, ◌≤◌, ◌==◌, ◌-◌, ◌++◌, length, map, take, drop, replicate, position, IfOk, IfSome};
-ghost use Rattle.flow_refusal.specs.Note.{first_feed, until_feed, behind_feed, lines_on, line_at, shown, window, excerpt};
+ghost use Rattle.std.specs.Prelude.{◌≡◌, ◌<◌, ◌≤◌, ◌==◌, ◌∷◌, ◌++◌, [], not, length, map, take, drop, position, IfOk, IfSome};
+ghost use Rattle.std.specs.List.{position_or_len};
+ghost use Rattle.std.specs.Str.{is_utf8};
+ghost use Rattle.flow_refusal.specs.Note.{first_feed, until_feed, behind_feed, lines_on, line_at, is_continuation, cut, shown, window, under, excerpt};
 
 use flow_base::memory::NoMemory;
 use flow_base::place::Place;
 
-/// How many bytes are shown before a place.
+/// About how many bytes are shown before a place.
 const BEFORE: usize = 60;
 
-/// How many bytes are shown of a line.
+/// About how many bytes are shown of a line.
 const SHOWN: usize = 120;
 
 // The place of the first line feed, where there is one.
@@ -79,12 +81,58 @@ pub fn line_at(text: &[u8], number: u32) -> &[u8]
     until_feed(rest)
 }
 
-// A byte as it is shown.
-fn shown(byte: u8) -> u8
-    ensures { result ≡ shown byte }
+// Whether a byte goes on a character of UTF-8.
+fn is_continuation(byte: u8) -> bool
+    ensures { result ≡ is_continuation byte }
 {
-    if byte == b'\t' {
-        return b' ';
+    byte > 127 && byte < 192
+}
+
+// The place of the first byte that begins a character, where there is one.
+fn character(text: &[u8]) -> Option<usize>
+    ensures place { result ≡ position (λ b. not (is_continuation b)) text.now }
+    ensures within { IfSome result (λ place. place < length text.now) }
+{
+    text.iter().position(|byte| !is_continuation(*byte))
+}
+
+// How many bytes stand before the first that begins a character; all, where there is none.
+#[tactic(auto, using(crate::proofs::Feeds::character_found, crate::proofs::Feeds::character_missing))]
+fn skipped(text: &[u8]) -> usize
+    ensures count { result ≡ position_or_len (λ b. not (is_continuation b)) text.now }
+    ensures bound { result ≤ length text.now }
+{
+    match character(text) {
+        Some(at) => at,
+        None => text.len(),
+    }
+}
+
+// Where a line is cut that is cut so many bytes behind its begin.
+fn cut(line: &[u8], count: usize) -> usize
+    ensures { result ≡ cut line.now count }
+{
+    let at = count.min(line.len());
+    at.saturating_add(skipped(from(line, at)))
+}
+
+// Whether a line is UTF-8.
+#[tactic(auto, using(crate::proofs::Feeds::utf8_is, crate::proofs::Feeds::utf8_not))]
+fn is_utf8(line: &[u8]) -> bool
+    ensures { result ≡ is_utf8 line.now }
+{
+    match str::from_utf8(line) {
+        Ok(_) => true,
+        Err(_) => false,
+    }
+}
+
+// A byte as it is shown of a line that is UTF-8, or isn't.
+fn shown(whole: bool, byte: u8) -> u8
+    ensures { result ≡ shown whole byte }
+{
+    if byte == b'\t' || (whole && byte > 127) {
+        return byte;
     }
     if byte < 32 || byte > 126 {
         return b'?';
@@ -92,12 +140,12 @@ fn shown(byte: u8) -> u8
     byte
 }
 
-// Adds bytes as they are shown.
-fn put_shown(out: &mut Vec<u8>, bytes: &[u8]) -> Result<(), NoMemory>
-    ensures { IfOk result (λ _. out.new.items ≡ out.old.items ++ map shown bytes.now) }
+// Adds bytes as they are shown of such a line.
+fn put_shown(out: &mut Vec<u8>, whole: bool, bytes: &[u8]) -> Result<(), NoMemory>
+    ensures { IfOk result (λ _. out.new.items ≡ out.old.items ++ map (shown whole) bytes.now) }
 {
     for byte in bytes {
-        out.push(shown(*byte))?;
+        out.push(shown(whole, *byte))?;
     }
     Ok(())
 }
@@ -106,16 +154,32 @@ fn put_shown(out: &mut Vec<u8>, bytes: &[u8]) -> Result<(), NoMemory>
 pub fn put_window(out: &mut Vec<u8>, line: &[u8], before: usize) -> Result<(), NoMemory>
     ensures { IfOk result (λ _. out.new.items ≡ out.old.items ++ window line.now before) }
 {
-    let rest = from(line, before.saturating_sub(BEFORE));
-    put_shown(out, first(rest, SHOWN))
+    let rest = from(line, cut(line, before.saturating_sub(BEFORE)));
+    put_shown(out, is_utf8(line), first(rest, cut(rest, SHOWN)))
 }
 
-// Adds so many blanks.
-fn put_blanks(out: &mut Vec<u8>, count: usize) -> Result<(), NoMemory>
-    ensures { IfOk result (λ _. out.new.items ≡ out.old.items ++ replicate count 32) }
+// Adds what stands under a byte.
+fn put_under(out: &mut Vec<u8>, whole: bool, byte: u8) -> Result<(), NoMemory>
+    ensures { IfOk result (λ _. out.new.items ≡ out.old.items ++ under whole (byte ∷ [])) }
 {
-    for _ in 0..count {
-        out.push(b' ')?;
+    if byte == b'\t' {
+        out.push(b'\t')?;
+        return Ok(());
+    }
+    if whole && is_continuation(byte) {
+        return Ok(());
+    }
+    out.push(b' ')?;
+    Ok(())
+}
+
+// Adds what stands under these bytes.
+#[tactic(auto, using(crate::proofs::Feeds::under_next, crate::proofs::Feeds::under_end))]
+fn put_indent(out: &mut Vec<u8>, whole: bool, bytes: &[u8]) -> Result<(), NoMemory>
+    ensures { IfOk result (λ _. out.new.items ≡ out.old.items ++ under whole bytes.now) }
+{
+    for byte in bytes {
+        put_under(out, whole, *byte)?;
     }
     Ok(())
 }
@@ -125,9 +189,11 @@ pub fn put_excerpt(out: &mut Vec<u8>, text: &[u8], at: Place) -> Result<(), NoMe
     ensures { IfOk result (λ _. out.new.items ≡ out.old.items ++ excerpt text.now at) }
 {
     let before = at.column.saturating_sub(1) as usize;
-    put_window(out, line_at(text, at.line), before)?;
+    let line = line_at(text, at.line);
+    put_window(out, line, before)?;
     out.push(b'\n')?;
-    put_blanks(out, before.min(BEFORE))?;
+    let begin = cut(line, before.saturating_sub(BEFORE));
+    put_indent(out, is_utf8(line), from(first(line, before), begin))?;
     out.extend_from_slice(b"^\n")?;
     Ok(())
 }

@@ -3,14 +3,20 @@
 
 mod class;
 mod excerpt;
-mod expecting;
 mod line;
+mod paint;
 mod reading;
+mod saying;
 mod telling;
 mod waiting;
+mod warned;
+mod watcher;
 mod words;
 
 pub use class::{class_line, class_status};
 pub use line::{refusal_line, refusal_status, world_line};
+pub use paint::painted;
 pub use telling::{left_note, note};
 pub use waiting::put_wait;
+pub use warned::warning_note;
+pub use watcher::Watcher;

@@ -3,38 +3,39 @@
 ghost use Rattle.std.specs.Prelude.{◌≡◌, ◌++◌, ℕ, List, true, codes, decimal, IfOk};
 ghost use Rattle.flow_tree.specs.declared.fault.SourceFault.TheVariants.{Refused, AcrossWait};
 ghost use Rattle.flow_refusal.specs.Refusal.{refusal_text, class_refusal};
-ghost use Rattle.flow_refusal.specs.Note.{said, remark, overall, line_remark, left_note, program_note, class_note, world_note, Notes};
+ghost use Rattle.flow_refusal.specs.Note.{line_at, window, said, remark, overall, line_remark, left_note, program_note, class_note, world_note, Notes};
 
 use crate::excerpt::{line_at, put_excerpt, put_window};
-use crate::expecting::expected_words;
 use crate::line::put_place;
 use crate::reading::{read_class_refusal, read_refusal, read_world_refusal};
-use crate::words::{ACROSS_WAIT, SCRIPT_WORDS, USAGE, class_words, rule_words, world_words};
+use crate::saying::{class_more, program_more, script_words, sentence, world_more};
+use crate::words::{ACROSS_WAIT, USAGE, class_words, rule_words, world_words};
 use flow_base::memory::NoMemory;
 use flow_base::place::Place;
 use flow_classread::fault::ClassFault;
+use flow_hint::program_hint;
 use flow_tree::fault::{Rule, SourceFault};
 use flow_worldfile::WorldFault;
 use itoa::Buffer;
 use std::alloc::Global;
 
 // Adds words behind what they are said of.
-fn put_said(out: &mut Vec<u8>, words: &str) -> Result<(), NoMemory>
+fn put_said(out: &mut Vec<u8>, words: &[u8]) -> Result<(), NoMemory>
     ensures { IfOk result (λ _. out.new.items ≡ out.old.items ++ said words.now) }
 {
     out.extend_from_slice(b": ")?;
-    out.extend_from_slice(words.as_bytes())?;
+    out.extend_from_slice(words)?;
     out.extend_from_slice(b"\n")?;
     Ok(())
 }
 
-// Adds a place in a file, words on it, and the excerpt.
-fn put_remark(
+/// Adds a place in a file, words on it, and the excerpt.
+pub fn put_remark(
     out: &mut Vec<u8>,
     name: &str,
     text: &[u8],
     at: Place,
-    words: &str,
+    words: &[u8],
 ) -> Result<(), NoMemory>
     ensures { IfOk result (λ _. out.new.items
         ≡ out.old.items ++ remark name.now text.now at words.now) }
@@ -48,11 +49,21 @@ fn put_remark(
 }
 
 // Adds words on a file as a whole.
-fn put_overall(out: &mut Vec<u8>, name: &str, words: &str) -> Result<(), NoMemory>
+fn put_overall(out: &mut Vec<u8>, name: &str, words: &[u8]) -> Result<(), NoMemory>
     ensures { IfOk result (λ _. out.new.items ≡ out.old.items ++ overall name.now words.now) }
 {
     out.extend_from_slice(name.as_bytes())?;
     put_said(out, words)?;
+    Ok(())
+}
+
+// Adds a line of a text, from its begin.
+fn put_line(out: &mut Vec<u8>, text: &[u8], line: u32) -> Result<(), NoMemory>
+    ensures { IfOk result (λ _. out.new.items
+        ≡ out.old.items ++ (window (line_at text.now line) 0 ++ codes "\n")) }
+{
+    put_window(out, line_at(text, line), 0)?;
+    out.extend_from_slice(b"\n")?;
     Ok(())
 }
 
@@ -62,7 +73,7 @@ fn put_line_remark(
     name: &str,
     text: &[u8],
     line: u32,
-    words: &str,
+    words: &[u8],
 ) -> Result<(), NoMemory>
     ensures { IfOk result (λ _. out.new.items
         ≡ out.old.items ++ line_remark name.now text.now line words.now) }
@@ -71,8 +82,7 @@ fn put_line_remark(
     out.extend_from_slice(b":")?;
     out.extend_from_slice(Buffer::new().format(line).as_bytes())?;
     put_said(out, words)?;
-    put_window(out, line_at(text, line), 0)?;
-    out.extend_from_slice(b"\n")?;
+    put_line(out, text, line)?;
     Ok(())
 }
 
@@ -83,7 +93,7 @@ fn put_rule_remark(
     text: &[u8],
     rule: Rule,
     at: Place,
-    words: &str,
+    words: &[u8],
 ) -> Result<(), NoMemory>
     ensures { IfOk result (λ _. out.new.items
         ≡ out.old.items ++ program_note words.now name.now text.now (Refused rule at)) }
@@ -108,26 +118,28 @@ fn put_lost(
     at: Place,
     declared: Place,
     wait: Place,
-    words: &str,
+    words: &[u8],
 ) -> Result<(), NoMemory>
     ensures { IfOk result (λ _. out.new.items
         ≡ out.old.items ++ program_note words.now name.now text.now (AcrossWait at declared wait)) }
 {
     put_remark(out, name, text, at, words)?;
-    put_remark(out, name, text, declared, "declared here")?;
-    put_remark(out, name, text, wait, "the wait")?;
+    put_remark(out, name, text, declared, b"declared here")?;
+    put_remark(out, name, text, wait, b"the wait")?;
     Ok(())
 }
 
-// The note on a program.
+// The note on a program, with more behind.
 fn on_program(
     alloc: Global,
     name: &str,
     text: &[u8],
     fault: &SourceFault,
-    words: &str,
+    words: &[u8],
+    more: &[u8],
 ) -> Result<Vec<u8>, NoMemory>
-    ensures { IfOk result (λ v. v.items ≡ program_note words.now name.now text.now fault.now) }
+    ensures { IfOk result (λ v. v.items
+        ≡ program_note words.now name.now text.now fault.now ++ more.now) }
 {
     let mut out = Vec::new(alloc);
     match fault {
@@ -139,18 +151,21 @@ fn on_program(
         }
         SourceFault::OutOfMemory => {}
     }
+    out.extend_from_slice(more)?;
     Ok(out)
 }
 
-// The note on a class text.
+// The note on a class text, with more behind.
 fn on_class(
     alloc: Global,
     name: &str,
     text: &[u8],
     fault: &ClassFault,
-    words: &str,
+    words: &[u8],
+    more: &[u8],
 ) -> Result<Vec<u8>, NoMemory>
-    ensures { IfOk result (λ v. v.items ≡ class_note words.now name.now text.now fault.now) }
+    ensures { IfOk result (λ v. v.items
+        ≡ class_note words.now name.now text.now fault.now ++ more.now) }
 {
     let mut out = Vec::new(alloc);
     match fault {
@@ -158,18 +173,21 @@ fn on_class(
         ClassFault::Invalid { .. } | ClassFault::TooLarge => put_overall(&mut out, name, words)?,
         ClassFault::OutOfMemory => {}
     }
+    out.extend_from_slice(more)?;
     Ok(out)
 }
 
-// The note on a world file.
+// The note on a world file, with more behind.
 fn on_world(
     alloc: Global,
     name: &str,
     text: &[u8],
     fault: WorldFault,
-    words: &str,
+    words: &[u8],
+    more: &[u8],
 ) -> Result<Vec<u8>, NoMemory>
-    ensures { IfOk result (λ v. v.items ≡ world_note words.now name.now text.now fault) }
+    ensures { IfOk result (λ v. v.items
+        ≡ world_note words.now name.now text.now fault ++ more.now) }
 {
     let mut out = Vec::new(alloc);
     match fault {
@@ -180,6 +198,7 @@ fn on_world(
         WorldFault::TooLarge => put_overall(&mut out, name, words)?,
         WorldFault::OutOfMemory => {}
     }
+    out.extend_from_slice(more)?;
     Ok(out)
 }
 
@@ -210,7 +229,7 @@ fn on_usage(alloc: Global) -> Result<Vec<u8>, NoMemory> {
 fn on_read_fault(alloc: Global, name: &str, world: &str) -> Result<Vec<u8>, NoMemory> {
     let mut out = Vec::new(alloc);
     let last = if world.is_empty() { name } else { world };
-    put_overall(&mut out, last, "this file can't be read")?;
+    put_overall(&mut out, last, b"this file can't be read")?;
     Ok(out)
 }
 
@@ -228,7 +247,17 @@ fn on_world_line(
         v.items) }
 {
     match read_world_refusal(alloc, answer)? {
-        Some(fault) => on_world(alloc, world, world_text, fault, world_words(fault)),
+        Some(fault) => {
+            let more = world_more(alloc, world_text, fault)?;
+            on_world(
+                alloc,
+                world,
+                world_text,
+                fault,
+                world_words(fault).as_bytes(),
+                &more,
+            )
+        }
         None => Ok(Vec::new(alloc)),
     }
 }
@@ -251,10 +280,10 @@ fn on_fault(
     let Some(words) = fault_words(fault) else {
         return Ok(Vec::new(alloc));
     };
-    match expected_words(alloc, text, fault)? {
-        Some(expected) => on_program(alloc, name, text, fault, &expected),
-        None => on_program(alloc, name, text, fault, words),
-    }
+    let hint = program_hint(alloc, text, fault)?;
+    let words = sentence(alloc, words, &hint)?;
+    let more = program_more(alloc, name, text, fault, &hint)?;
+    on_program(alloc, name, text, fault, &words, &more)
 }
 
 // The note on a fault of a class text that a line tells, and none where no rule has its number.
@@ -273,7 +302,10 @@ fn on_class_fault(
         v.items) }
 {
     match class_words(fault) {
-        Some(words) => on_class(alloc, name, text, fault, words),
+        Some(words) => {
+            let more = class_more(alloc, fault)?;
+            on_class(alloc, name, text, fault, words.as_bytes(), &more)
+        }
         None => Ok(Vec::new(alloc)),
     }
 }
@@ -315,7 +347,7 @@ fn on_line(
 }
 
 // The note on a script that has too many lines.
-fn on_script(alloc: Global, world: &str, words: &str) -> Result<Vec<u8>, NoMemory>
+fn on_script(alloc: Global, world: &str, words: &[u8]) -> Result<Vec<u8>, NoMemory>
     ensures { IfOk result (λ v. (words : List ℕ) × (v.items ≡ overall world.now words)) }
 {
     let mut out = Vec::new(alloc);
@@ -364,7 +396,8 @@ pub fn note(
         return Ok(out);
     }
     if is_line(answer, b"refused L13\n") {
-        let out = on_script(alloc, world, SCRIPT_WORDS)?;
+        let words = script_words(alloc)?;
+        let out = on_script(alloc, world, &words)?;
         return Ok(out);
     }
     on_line(alloc, answer, name, text, world, world_text)

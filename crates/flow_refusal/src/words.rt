@@ -1,8 +1,10 @@
 // What the rules ask, in a sentence each.
 
+use flow_base::memory::NoMemory;
 use flow_classread::fault::ClassFault;
-use flow_tree::fault::Rule;
+use flow_tree::fault::{Rule, SourceFault};
 use flow_worldfile::WorldFault;
+use std::alloc::Global;
 
 /// What is said where a rule of the spelling or the form of a text fails.
 fn spelling(number: u8) -> Option<&'static str> {
@@ -37,9 +39,9 @@ fn limit(number: u8) -> Option<&'static str> {
 /// What is said where a rule of the meaning of a program fails.
 fn meaning(number: u8) -> Option<&'static str> {
     let words = match number {
-        1 => "K1: nothing of this name is in force here",
-        2 => "K2: this name is in force already, or predefined",
-        3 => "K3: a value of another type is needed here",
+        1 => "K1: nothing of this name is declared here",
+        2 => "K2: this name is declared already, or predefined",
+        3 => "K3: a value of another type is needed",
         4 => "K4: this call has too few or too many arguments",
         5 =>
             "K5: an effect may only be a whole right side, a whole operand of a wait, or a statement",
@@ -74,7 +76,7 @@ fn validity(number: u8) -> Option<&'static str> {
     let words = match number {
         1 => "V1: a record or a function breaks one of the rules K1 to K10, K12 and L8",
         2 =>
-            "V2: a class has a name in force, an unknown type or too few slots, or there is no right `main`",
+            "V2: a class has a name that is taken, an unknown type or too few slots, or there is no right `main`",
         3 => "V3: a slot, local, group or block that is named isn't there",
         4 => "V4: a `goto` or `test` has to lead to blocks of greater number",
         5 => "V5: each group has to be chosen by exactly one `choose`",
@@ -117,6 +119,100 @@ pub fn world_words(fault: WorldFault) -> &'static str {
 
 /// What is said where a script has too many lines to be made smaller.
 pub const SCRIPT_WORDS: &str = "L13: a script that is cut down has at most 200 lines";
+
+/// How each rule is mended.
+const MENDS: &str = "\
+S1|write other bytes in a text as `\\x41`
+S2|close the text on its line; `\\n` is a line feed
+S3|close it with `*/`
+S4|use a smaller number, a name of 255 bytes at most, a text of 65,535
+S5|write what is expected there; what is missing may stand before the mark
+K1|declare it before, or mend its name; a method needs a value of its type
+K2|choose another name
+K3|give a value of the type that is needed
+K4|give as many arguments as are declared
+K5|keep it in a variable first
+K6|make it an actor
+K7|give it a value
+K8|end with `return Void();`
+K9|move it into the loop or the handler
+K10|make the function an actor
+K11|add `ACTOR Future<Void> main(int p) { .. }`
+K12|wait for it, or keep it in a variable
+U1|declare it so, or after the wait
+L1|split the program
+L2|split the program
+L3|split the program
+L4|move a part into another actor or function
+L5|name a part by a variable
+L6|put some into a record of their own
+L7|wait for some of them in an actor of their own
+L8|flatten the records
+L9|move a part into another actor
+L10|shorten the script
+L11|compile a smaller program
+L13|take half of the lines out by hand, and keep the half that still stops
+C1|see the grammar of class text in docs/FORMATS.md
+V1|mend it as in a program
+V2|rename the class, or mend its head
+V3|name one that is
+V4|go back by `pass`
+V5|give each its group
+V6|name a block further on, and drop each local once
+V7|give a value of the type that is needed
+V8|fill it on each way
+W1|see the lines of a world file in docs/FORMATS.md
+W2|keep to the range of its word
+W3|keep one of them
+W4|raise `processes`, or name another
+";
+
+/// How the rule of this name is mended.
+pub fn mend_words(key: &str) -> Option<&'static str> {
+    for line in MENDS.lines() {
+        if let Some((rule, words)) = line.split_once('|') {
+            if rule == key {
+                return Some(words);
+            }
+        }
+    }
+    None
+}
+
+/// The name of the rule that a program breaks.
+pub fn program_key(alloc: Global, fault: &SourceFault) -> Result<String, NoMemory> {
+    match fault {
+        SourceFault::Refused { rule, .. } => match rule {
+            Rule::S(number) => Ok(format!(in alloc; "S{number}")?),
+            Rule::L(number) => Ok(format!(in alloc; "L{number}")?),
+            Rule::K(number) => Ok(format!(in alloc; "K{number}")?),
+        },
+        SourceFault::AcrossWait { .. } => Ok("U1".to_string(alloc)?),
+        SourceFault::OutOfMemory => Ok(String::new(alloc)),
+    }
+}
+
+/// The name of the rule that a class text breaks.
+pub fn class_key(alloc: Global, fault: &ClassFault) -> Result<String, NoMemory> {
+    match fault {
+        ClassFault::Form(_) => Ok("C1".to_string(alloc)?),
+        ClassFault::Invalid { rule, .. } => Ok(format!(in alloc; "V{rule}")?),
+        ClassFault::TooLarge => Ok("L11".to_string(alloc)?),
+        ClassFault::OutOfMemory => Ok(String::new(alloc)),
+    }
+}
+
+/// The name of the rule that a world file breaks.
+pub fn world_key(fault: WorldFault) -> &'static str {
+    match fault {
+        WorldFault::Form(_) => "W1",
+        WorldFault::Range(_) => "W2",
+        WorldFault::Twice(_) => "W3",
+        WorldFault::NoProcess(_) => "W4",
+        WorldFault::TooLarge => "L10",
+        WorldFault::OutOfMemory => "",
+    }
+}
 
 /// How the commands are called.
 pub const USAGE: &str = "\

@@ -2,15 +2,8 @@
 
 use flow_base::memory::NoMemory;
 use flow_expected::{KINDS, Kind, at_refusal};
-use flow_lex::lex::lex;
-use flow_tree::fault::{Rule, SourceFault};
-use flow_tree::limits::PROGRAM_BYTES;
-use flow_tree::token::{Sign, Word};
+use flow_tree::token::{Sign, Tokens, Word};
 use std::alloc::Global;
-
-/// How many tokens a text may have where it is told what could stand in it: each kind is tried by a
-/// reading of those before the place.
-const TRIED: usize = 5_000;
 
 // The kinds with which a statement begins, and likewise a declaration, a type and an expression; and
 // the operators between two operands.
@@ -184,44 +177,29 @@ fn names(alloc: Global, kinds: Vec<Kind>) -> Result<Vec<String>, NoMemory> {
 }
 
 // Names one after another, with `or` before the last.
-fn joined(alloc: Global, names: &[String]) -> Result<String, NoMemory> {
-    let mut text = "S5: expected ".to_string(alloc)?;
+fn joined(alloc: Global, names: &[String]) -> Result<Vec<u8>, NoMemory> {
+    let mut text = b"S5: expected ".to_vec(alloc)?;
     for (number, name) in names.iter().enumerate() {
         if number > 0 {
-            text.push_str(if number + 1 == names.len() {
-                " or "
+            let last = number + 1 == names.len();
+            text.extend_from_slice(if last {
+                b" or ".as_slice()
             } else {
-                ", "
+                b", ".as_slice()
             })?;
         }
-        text.push_str(name)?;
+        text.extend_from_slice(name.as_bytes())?;
     }
     Ok(text)
 }
 
-/// What could stand where a program text is refused by S5, in words. `None` for another rule, for a
-/// text of more than 5,000 tokens, and where nothing could.
-pub fn expected_words(
-    alloc: Global,
-    text: &[u8],
-    fault: &SourceFault,
-) -> Result<Option<String>, NoMemory> {
-    let SourceFault::Refused {
-        rule: Rule::S(5),
-        ..
-    } = fault
-    else {
-        return Ok(None);
-    };
-    if text.len() > PROGRAM_BYTES {
-        return Ok(None);
-    }
-    let Ok(tokens) = lex(alloc, text) else {
-        return Ok(None);
-    };
-    if tokens.spots.len() > TRIED {
-        return Ok(None);
-    }
+/// Whether these words say that a `;` alone could stand there.
+pub fn only_semicolon(words: &[u8]) -> bool {
+    words == b"S5: expected `;`".as_slice()
+}
+
+/// What could stand where these tokens are refused by S5, in words. `None` where they aren't, and where nothing could.
+pub fn expected_words(alloc: Global, tokens: Tokens) -> Result<Option<Vec<u8>>, NoMemory> {
     let Some(expected) = at_refusal(alloc, tokens, &KINDS)? else {
         return Ok(None);
     };
