@@ -9,14 +9,15 @@ use Rattle.flow_explain.specs.Texts.{ActorText}
 use Rattle.flow_explain.specs.Living.{Telling, told_after}
 use Rattle.flow_explain.specs.Words.{line_in_words}
 
--- the bytes written, and what lines told so far
+-- the actors that lines are told by, what lines told so far, and the bytes written
 pub record Writing : Type 0 where
-  pub written : Option (List ℕ)
+  pub texts : List ActorText
   pub told : Telling
+  pub written : Option (List ℕ)
 
--- the line's bytes in words were written, and it was heard; or, on a fault, a first part of them was written
-pub record WritesWords (texts : List ActorText) (before : Writing) (line : Line)
-    (answer : Result (Unit {0}) OutFault) (after : Writing) : Type 0 where
-  pub whole : OnOk answer (Appends before.written after.written (line_in_words texts before.told line))
-  pub heard : OnOk answer (after.told ≡ told_after texts line before.told)
-  pub part : AppendsPart before.written after.written (line_in_words texts before.told line)
+-- a line's bytes in words were written, and it was heard; or, on a fault, a first part of them was written
+pub record WritesWords (before : Writing) (line : Line) (answer : Result (Unit {0}) OutFault) (after : Writing) : Type 0 where
+  pub whole : OnOk answer (Appends before.written after.written (line_in_words before.texts before.told line))
+  pub heard : OnOk answer (after.told ≡ told_after before.texts line before.told)
+  pub part : AppendsPart before.written after.written (line_in_words before.texts before.told line)
+  pub texts : after.texts ≡ before.texts

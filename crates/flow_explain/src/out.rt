@@ -63,10 +63,10 @@ impl<'t, 'a, S: Sink> WordsOut<'t, 'a, S> {
 
 impl<'t, 'a, S: Sink> LineOut for WordsOut<'t, 'a, S> {
     ghost puts = { λ old line answer new. (new.before.value ≡ old.before.value)
-        × (new.texts.now ≡ old.texts.now)
-        × WritesWords old.texts.now
-        (record { written = (S.seen old.out.now).written; told = old.told }) line answer
-        (record { written = (S.seen new.out.now).written; told = new.told }) };
+        × WritesWords
+        (record { texts = old.texts.now; told = old.told; written = (S.seen old.out.now).written })
+        line answer
+        (record { texts = new.texts.now; told = new.told; written = (S.seen new.out.now).written }) };
 
     ghost faults = { λ w. (S.seen w.out.now).faults };
 
