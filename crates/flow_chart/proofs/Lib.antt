@@ -1,0 +1,5 @@
+mod Formed
+mod Gathered
+mod Room
+mod UnderWay
+mod Ways

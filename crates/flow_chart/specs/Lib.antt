@@ -1,0 +1,9 @@
+pub mod Marks
+pub mod Drawing
+pub mod Notes
+pub mod Elements
+pub mod Pages
+pub mod Picture
+pub mod Charting
+pub mod Grammar
+pub mod Laws

@@ -1,0 +1,6 @@
+mod Clean
+mod Finding
+mod Listed
+mod Lives
+mod Putting
+mod ReadBack

@@ -1,0 +1,15 @@
+use Rattle.std.proofs.Common.{◌<◌, Some, length, ap, ◌∙◌, arith}
+use Rattle.flow_explain.specs.Living.{with_started, living_in}
+use Rattle.flow_explain.proofs.Lives.{set_in, living_at}
+use Rattle.flow_explain.proofs.living.Telling.lives.Goals as goal
+
+pub returns : goal.returns
+returns c =
+    let place = c.from.ensures ∙ ap (λ t. t.process) c.self.view_is in
+    let inside : c.from.result < length c.self.inside.living.items = omega arith in
+    let now = c.args.self.now in
+    let old = living_at (λ m. m.entries) c.self.inside.process.0 c.self.inside.living.items c.from.result now.process c.index_mut.result.now now c.self.view_is
+    place inside c.index_mut.ensures.value in
+    set_in (λ m. m.entries) c.self.inside.process.0 c.self.inside.living.items c.from.result now.process c.insert.new.self
+    (with_started c.args.actor.0 (Some c.args.text) (living_in now.living now.process)) now c.self.view_is place
+    (c.in_ok-insert.ensures.entries ∙ ap (with_started c.args.actor.0 (Some c.args.text)) old)

@@ -1,0 +1,13 @@
+//! Traces in words: one line for each line of a trace, which says who does what, where in the text.
+#![tactic(auto)]
+
+mod errors;
+pub mod laws;
+pub mod living;
+pub mod out;
+pub mod pieces;
+pub mod texts;
+mod words;
+
+pub use out::{WordsOut, write_words};
+pub use texts::{ActorText, WaitText, actor_texts};
