@@ -26,7 +26,7 @@ pub first_words_more : (w : World) (n : ℕ) (xs ys : List ℕ) (x : ℕ) → xs
 first_words_more w n xs ys x so is word =
     is ∙ ap₂ (λ l z. l ++ z ∷ []) so word ∙ ap (first_words w) (sym (add-one n))
 
-words_in_range : (w : World) (words : List ℕ) → IsInRange w → AllByRecursion (λ n. InRange (Word n)) words → length words ≤ most_words
+pub words_in_range : (w : World) (words : List ℕ) → IsInRange w → AllByRecursion (λ n. InRange (Word n)) words → length words ≤ most_words
     → IsInRange (record w { words = words })
 words_in_range w words range each few = record {
   seed = range.seed;

@@ -1,2 +1,4 @@
 pub mod Common
 pub mod Pinning
+pub mod Simpler
+pub mod Fewer

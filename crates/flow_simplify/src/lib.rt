@@ -1,8 +1,10 @@
-//! The common word of a world, which it is made simple by, and worlds that list the words that their run takes.
+//! A world whose run monitors stop is made simple, as far as it goes: lines of its script go, and its words become the common one.
 #![tactic(auto)]
 
 pub mod common;
 pub mod pinning;
+pub mod simpler;
 
 pub use common::common_word;
 pub use pinning::pinned;
+pub use simpler::Simpler;

@@ -30,8 +30,8 @@ fn first_words(alloc: Global, world: &World0, count: u64) -> Result<Vec<u32>, No
     Ok(words)
 }
 
-// A world with these words in place of its own.
-fn with_words(alloc: Global, world: &World0, words: Vec<u32>) -> Result<World0, NoMemory>
+/// A world with these words in place of its own.
+pub fn with_words(alloc: Global, world: &World0, words: Vec<u32>) -> Result<World0, NoMemory>
     ensures { IfOk result (λ w. seen w ≡ record (seen world.now) { words = words.items }) }
 {
     let mut own = copied(alloc, world)?;
