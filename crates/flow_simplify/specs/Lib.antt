@@ -2,3 +2,4 @@ pub mod Common
 pub mod Pinning
 pub mod Simpler
 pub mod Fewer
+pub mod Together

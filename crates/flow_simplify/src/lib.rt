@@ -4,7 +4,9 @@
 pub mod common;
 pub mod pinning;
 pub mod simpler;
+pub mod together;
 
 pub use common::common_word;
 pub use pinning::pinned;
 pub use simpler::Simpler;
+pub use together::{Both, Limited};
