@@ -12,21 +12,21 @@ use std::alloc::Global;
 /// An edit that makes a world smaller, wherever it can be made.
 pub trait Edits {
     /// At how many places of a world it can be made, and the world after it at one of them.
-    ghost edit: { Edit };
+    ghost edit: { Self → Edit };
 
     /// At how many places of a world it can be made.
     fn places(&self, world: &World0) -> usize
-        ensures { result ≡ edit.places (seen world.now) };
+        ensures { result ≡ (edit self.now).places (seen world.now) };
 
     /// The world after it at a place, counted from 0 on; a world in range stays so.
     fn edited(&self, world: &World0, place: usize) -> Result<World0, NoMemory>
         requires range { IsInRange (seen world.now) }
-        requires within { place < edit.places (seen world.now) }
-        ensures edited { IfOk result (λ w. seen w ≡ edit.edited place (seen world.now)) }
+        requires within { place < (edit self.now).places (seen world.now) }
+        ensures edited { IfOk result (λ w. seen w ≡ (edit self.now).edited place (seen world.now)) }
         ensures range { IfOk result (λ w. IsInRange (seen w)) };
 
     /// After it there is one place less.
-    ghost fewer: { TakesAPlace edit };
+    ghost fewer: { (e : Self) → TakesAPlace (edit e) };
 }
 
 /// A copy of a world file.
@@ -53,9 +53,9 @@ pub struct LineGoes {
 }
 
 impl Edits for LineGoes {
-    ghost edit = { line_goes };
+    ghost edit = { λ e. line_goes };
 
-    ghost fewer = { λ w k within. length-remove w.script k within };
+    ghost fewer = { λ e w k within. length-remove w.script k within };
 
     fn places(&self, world: &World0) -> usize {
         world.script.len()

@@ -55,8 +55,8 @@ fn try_place<E: Edits, R: Runner>(
 ) -> Result<Box<dyn Monitor>, NoMemory>
     requires range { IsInRange (seen world.old) }
     requires ready { R.ready runner.old }
-    requires within { place < E.edit.places (seen world.old) }
-    ensures tried { IfOk result (λ m. Tried E.edit
+    requires within { place < (E.edit edits.now).places (seen world.old) }
+    ensures tried { IfOk result (λ m. Tried (E.edit edits.now)
         (λ w. Stops (R.means (R.kept runner.old) w) (begun monitor limit)) place
         (seen world.old) (seen world.new)) }
     ensures range { IfOk result (λ m. IsInRange (seen world.new)) }
@@ -85,12 +85,13 @@ fn try_each<E: Edits, R: Runner>(
     requires range { IsInRange (seen world.old) }
     requires ready { R.ready runner.old }
     requires stops { Stops (R.means (R.kept runner.old) (seen world.old)) (begun monitor limit) }
-    ensures tried { IfOk result (λ m. TriedFrom E.edit
+    ensures tried { IfOk result (λ m. TriedFrom (E.edit edits.now)
         (λ w. Stops (R.means (R.kept runner.old) w) (begun monitor limit)) 0
         (seen world.old) (seen world.new)) }
     ensures range { IfOk result (λ m. IsInRange (seen world.new)) }
     ensures begun { IfOk result (λ m. begun m ≡ begun monitor) }
-    ensures counted { R.count runner.new ≤ R.count runner.old + E.edit.places (seen world.old) }
+    ensures counted { R.count runner.new
+        ≤ R.count runner.old + (E.edit edits.now).places (seen world.old) }
     ensures ready { OnOk result (R.ready runner.new) }
     ensures kept { OnOk result (R.kept runner.new ≡ R.kept runner.old) }
 {
@@ -114,11 +115,11 @@ fn try_all<E: Edits, R: Runner>(
     requires range { IsInRange (seen world.old) }
     requires ready { R.ready runner.old }
     requires stops { Stops (R.means (R.kept runner.old) (seen world.old)) (begun monitor limit) }
-    ensures least { OnOk result (IsLeastBy E.edit
+    ensures least { OnOk result (IsLeastBy (E.edit edits.now)
         (λ w. Stops (R.means (R.kept runner.old) w) (begun monitor limit))
         (seen world.old) (seen world.new)) }
     ensures range { OnOk result (IsInRange (seen world.new)) }
-    ensures counted { let n = E.edit.places (seen world.old) in
+    ensures counted { let n = (E.edit edits.now).places (seen world.old) in
         R.count runner.new ≤ R.count runner.old + n * n }
     ensures ready { OnOk result (R.ready runner.new) }
     ensures kept { OnOk result (R.kept runner.new ≡ R.kept runner.old) }
@@ -146,11 +147,11 @@ pub fn shrink_by<E: Edits, R: Runner>(
 ) -> Result<Shrunk, NoMemory>
     requires range { IsInRange (seen world) }
     requires ready { R.ready runner.old }
-    ensures shrinks { IfOk result (ShrinksBy E.edit
+    ensures shrinks { IfOk result (ShrinksBy (E.edit edits.now)
         (λ w. Stops (R.means (R.kept runner.old) w) (begun monitor limit)) (seen world)) }
     ensures range { IfOk result KeepsRange }
     ensures counted { R.count runner.new ≤ R.count runner.old
-        + most_runs (E.edit.places (seen world)) }
+        + most_runs ((E.edit edits.now).places (seen world)) }
     ensures ready { OnOk result (R.ready runner.new) }
     ensures kept { OnOk result (R.kept runner.new ≡ R.kept runner.old) }
 {

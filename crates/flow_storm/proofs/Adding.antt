@@ -80,7 +80,7 @@ two_orders CutOff s = omega arith
 two_orders Stop s = omega arith
 two_orders Disk s = omega arith
 
-storm_short : (seed processes horizon n : ℕ) → length (storm_orders seed processes horizon n) ≤ 2 * n
+pub storm_short : (seed processes horizon n : ℕ) → length (storm_orders seed processes horizon n) ≤ 2 * n
 storm_short seed processes horizon zero = omega arith
 storm_short seed processes horizon (suc n) =
     let s = strike_at seed processes horizon n in

@@ -2,10 +2,10 @@
 #![tactic(auto)]
 
 pub mod asked;
-mod matching;
-mod number;
+pub mod matching;
+pub mod number;
 mod reading;
-mod wanting;
+pub mod wanting;
 
 pub use asked::{Asked, CommandWord, DebugWords, RunWords, ShrinkWords, WordsFault};
 pub use reading::read_words;

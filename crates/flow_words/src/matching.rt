@@ -11,32 +11,32 @@ use clap::error::ErrorKind;
 use clap::{Arg, ArgAction, ArgMatches, Command};
 use std::alloc::{AllocError, Global};
 
-// A text that has to be there.
-fn required_text<'a>(alloc: Global, id: &'a str) -> Arg<'a>
+/// A text that has to be there.
+pub fn required_text<'a>(alloc: Global, id: &'a str) -> Arg<'a>
     ensures rule { rule_of result ≡ spec.required_text id.entry.now }
     ensures own { result.global ≡ false }
 {
     Arg::new(alloc, id).required(true).action(ArgAction::Set)
 }
 
-// A flag that may be there.
-fn flag<'a>(alloc: Global, id: &'a str) -> Arg<'a>
+/// A flag that may be there.
+pub fn flag<'a>(alloc: Global, id: &'a str) -> Arg<'a>
     ensures rule { rule_of result ≡ spec.flag id.entry.now }
     ensures own { result.global ≡ false }
 {
     Arg::new(alloc, id).long(id).action(ArgAction::SetTrue)
 }
 
-// An option with a text that may be there.
-fn option_text<'a>(alloc: Global, id: &'a str) -> Arg<'a>
+/// An option with a text that may be there.
+pub fn option_text<'a>(alloc: Global, id: &'a str) -> Arg<'a>
     ensures rule { rule_of result ≡ spec.option_text id.entry.now }
     ensures own { result.global ≡ false }
 {
     Arg::new(alloc, id).long(id).action(ArgAction::Set)
 }
 
-// A command without arguments, without help and version.
-fn bare_command<'a>(alloc: Global) -> Command<'a>
+/// A command without arguments, without help and version.
+pub fn bare_command<'a>(alloc: Global) -> Command<'a>
     ensures { app_of result ≡ spec.bare_app }
 {
     Command::new(alloc, "flow")
@@ -127,8 +127,8 @@ pub fn monitor_text<'a>(matches: &ArgMatches<'a>) -> Option<&'a str>
     matches.get_str("monitor")
 }
 
-// Whether a text is clap's for a flag that is there.
-fn is_true(text: Option<&str>) -> bool
+/// Whether a text is clap's for a flag that is there.
+pub fn is_true(text: Option<&str>) -> bool
     ensures { result ≡ is_true (option_map (λ s. s.now) text.entry) }
 {
     match text {

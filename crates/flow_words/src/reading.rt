@@ -1,9 +1,9 @@
 // The words of a command line.
 
-ghost use Rattle.std.specs.Prelude.{◌≡◌, map, string_bytes, option_map, Some};
+ghost use Rattle.std.specs.Prelude.{◌≡◌, map, string_bytes, Some};
 ghost use Rattle.clap.specs.Words.{found_of, rows_of};
 ghost use Rattle.flow_words.specs.Asked.{Reads, asked, request_of, run_request, command_of, program_of, run_of, run_by, bench_of, bench_by, shrink_of, shrink_by, debug_of, debug_by, asked_by};
-ghost use Rattle.flow_words.specs.Wants.{listed, sole};
+ghost use Rattle.flow_words.specs.Wants.{sole};
 
 use crate::asked::{Asked, CommandWord, DebugWords, RunWords, ShrinkWords, WordsFault};
 use crate::matching::{
@@ -11,7 +11,7 @@ use crate::matching::{
     shrink_command, third_text, three_texts, two_texts,
 };
 use crate::number::{events_of, number_within};
-use crate::wanting::read_wants;
+use crate::wanting::listed;
 use clap::ArgMatches;
 use flow_monitor::Want;
 use std::alloc::Global;
@@ -55,16 +55,6 @@ fn program_of<'a>(alloc: Global, words: &'a [String]) -> Result<&'a str, WordsFa
     match first_text(&found) {
         Some(program) => Ok(program),
         None => Err(WordsFault::Usage),
-    }
-}
-
-// The monitors of a list, if there is one.
-fn listed(alloc: Global, list: Option<&str>) -> Result<Vec<Want>, WordsFault>
-    ensures { Reads (λ wanted. wanted.items) (listed (option_map (λ s. s.now) list.entry)) result }
-{
-    match list {
-        None => Ok(Vec::new(alloc)),
-        Some(list) => read_wants(alloc, list.as_bytes()),
     }
 }
 

@@ -2,7 +2,7 @@
 
 ghost use Rattle.std.specs.Prelude.{◌≡◌, ◌∷◌, [], ◌==◌, ℕ, ◌<◌, length, MatchOption, IfSome, option_map};
 ghost use Rattle.std.specs.List.{slice_split, position};
-ghost use Rattle.flow_words.specs.Wants.{cut_at, want_of, wants_of};
+ghost use Rattle.flow_words.specs.Wants.{cut_at, listed, want_of, wants_of};
 ghost use Rattle.flow_words.specs.Asked.{Reads, AddsWant};
 
 use crate::asked::WordsFault;
@@ -19,9 +19,9 @@ fn first_place(text: &[u8], byte: u8) -> Option<usize>
     text.iter().position(|b| *b == byte)
 }
 
-// The part of a text before a byte's first place, and the part behind it; none where the byte doesn't stand there.
+/// The part of a text before a byte's first place, and the part behind it; none where the byte doesn't stand there.
 #[tactic(auto, using(flow_worldfile::proofs::LineLemmas::one_part, flow_worldfile::proofs::LineLemmas::two_parts, crate::proofs::Lists::cut_here, crate::proofs::Lists::cut_nowhere))]
-fn split_once(text: &[u8], byte: u8) -> Option<(&[u8], &[u8])>
+pub fn split_once(text: &[u8], byte: u8) -> Option<(&[u8], &[u8])>
     ensures cut { option_map (λ parts. (parts.0.now, parts.1.now)) result ≡ cut_at byte text.now }
     ensures parts { MatchOption result (slice_split (λ b. b == byte) text.now ≡ text.now ∷ [])
         (λ parts. slice_split (λ b. b == byte) text.now
@@ -72,4 +72,14 @@ pub fn read_wants(alloc: Global, list: &[u8]) -> Result<Vec<Want>, WordsFault>
     }
     push_want(alloc, &mut wanted, rest)?;
     Ok(wanted)
+}
+
+/// The monitors of a list, if there is one.
+pub fn listed(alloc: Global, list: Option<&str>) -> Result<Vec<Want>, WordsFault>
+    ensures { Reads (λ wanted. wanted.items) (listed (option_map (λ s. s.now) list.entry)) result }
+{
+    match list {
+        None => Ok(Vec::new(alloc)),
+        Some(list) => read_wants(alloc, list.as_bytes()),
+    }
 }

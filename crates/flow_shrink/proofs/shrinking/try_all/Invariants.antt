@@ -6,12 +6,12 @@ use Rattle.flow_shrink.proofs.shrinking.try_all.Given as goal
 
 abbrev pub invariant-loop-pass : goal.invariant-loop-pass
 invariant-loop-pass g l =
-    Going g.E.Edits.edit g.met.E.Edits.fewer
+    Going (g.E.Edits.edit l.fn.edits) (g.met.E.Edits.fewer l.fn.edits)
     (λ w. Stops (g.R.Runner.means (g.R.Runner.kept l.fn.runner) w) ((goal.Monitor-dyn g (l.fn.monitor.vtable, l.fn.monitor.value)).begun l.fn.monitor.value l.limit))
     l._pass (seen l.fn.world) (seen l.world)
     × IsInRange (seen l.world)
     × ((goal.Monitor-dyn g (l.monitor.vtable, l.monitor.value)).begun l.monitor.value
     ≡ (goal.Monitor-dyn g (l.fn.monitor.vtable, l.fn.monitor.value)).begun l.fn.monitor.value)
-    × (g.R.Runner.count l.runner ≤ g.R.Runner.count l.fn.runner + l._pass * g.E.Edits.edit.places (seen l.fn.world))
+    × (g.R.Runner.count l.runner ≤ g.R.Runner.count l.fn.runner + l._pass * (g.E.Edits.edit l.fn.edits).places (seen l.fn.world))
     × (g.R.Runner.kept l.runner ≡ g.R.Runner.kept l.fn.runner)
     × g.R.Runner.ready l.runner

@@ -7,7 +7,7 @@ use Rattle.flow_shrink.proofs.shrinking.try_each.Goals as goal
 
 pub loop-place-init : goal.loop-place-init
 loop-place-init g c = (
-  none_tried g.E.Edits.edit g.met.E.Edits.fewer _ (seen c.args.world.now) c.places-place.result c.places-place.ensures c.requires.stops,
+  none_tried (g.E.Edits.edit c.args.edits.now) (g.met.E.Edits.fewer c.args.edits.now) _ (seen c.args.world.now) c.places-place.result c.places-place.ensures c.requires.stops,
   c.requires.range,
   refl,
   omega (arith, c.places-place.ensures),
@@ -21,8 +21,8 @@ loop-place-preserved g c =
     let k = c.loop-place.place - 1 in
     let place : c.loop-place.place ≡ k + 1 = omega (arith, c.loop-place-test.true) in
     let tried = moved g.R.Runner.means _ _ _ _ c.args.limit
-    (λ S. Tried g.E.Edits.edit S k (seen c.loop-place.world) (seen c.try_place.new.world)) was.4 was.2 c.in_ok-monitor.ensures.tried in (
-      one_tried g.E.Edits.edit g.met.E.Edits.fewer _ (seen c.args.world.now) (seen c.loop-place.world) (seen c.try_place.new.world) k c.loop-place.place place was.0 tried,
+    (λ S. Tried (g.E.Edits.edit c.args.edits.now) S k (seen c.loop-place.world) (seen c.try_place.new.world)) was.4 was.2 c.in_ok-monitor.ensures.tried in (
+      one_tried (g.E.Edits.edit c.args.edits.now) (g.met.E.Edits.fewer c.args.edits.now) _ (seen c.args.world.now) (seen c.loop-place.world) (seen c.try_place.new.world) k c.loop-place.place place was.0 tried,
       c.in_ok-monitor.ensures.range,
       c.in_ok-monitor.ensures.begun ∙ was.2,
       (let rose = rises (g.R.Runner.count c.loop-place.runner) in omega (arith, c.try_place.ensures.counted, rose, was.3, place)),
@@ -33,4 +33,4 @@ loop-place-preserved g c =
 pub returns-clause-tried : goal.returns-clause-tried
 returns-clause-tried g c =
     let none : c.loop-place.place ≡ 0 = omega (arith, c.loop-place-test.false) in
-    all_tried g.E.Edits.edit g.met.E.Edits.fewer _ (seen c.args.world.now) (seen c.loop-place.world) c.loop-place.place none c.loop-place.invariant.0
+    all_tried (g.E.Edits.edit c.args.edits.now) (g.met.E.Edits.fewer c.args.edits.now) _ (seen c.args.world.now) (seen c.loop-place.world) c.loop-place.place none c.loop-place.invariant.0

@@ -1,0 +1,4 @@
+pub mod Dividing
+pub mod WithWords
+pub mod Weights
+pub mod Edited

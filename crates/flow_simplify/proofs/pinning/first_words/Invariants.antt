@@ -1,0 +1,14 @@
+use Rattle.std.proofs.Common.{◌≡◌}
+use Rattle.std.specs.List.{AllByRecursion}
+use Rattle.flow_worldfile.specs.declared.directive.Directive.TheVariants.{Word}
+use Rattle.flow_worldfile.specs.Directives.{InRange}
+use Rattle.flow_worldfile.specs.Worlds.{seen}
+use Rattle.flow_simplify.specs.Pinning.{first_words}
+use Rattle.flow_simplify.proofs.pinning.first_words.Given as goal
+
+abbrev pub invariant-loop-word : goal.invariant-loop-word
+invariant-loop-word l = record {
+  words : l.words.items ≡ first_words (seen l.world) l._word;
+  range : AllByRecursion (λ n. InRange (Word n)) l.words.items;
+  draws : l.draws ≡ record { seed = l.world.seed; listed = l.world.words.items; used = l._word };
+}

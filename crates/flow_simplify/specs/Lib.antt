@@ -1,0 +1,5 @@
+pub mod Common
+pub mod Pinning
+pub mod Simpler
+pub mod Fewer
+pub mod Together

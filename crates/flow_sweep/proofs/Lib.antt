@@ -1,0 +1,5 @@
+pub mod Going
+pub mod One
+pub mod Making
+pub mod Loops
+pub mod Seeds
