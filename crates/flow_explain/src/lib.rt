@@ -4,10 +4,10 @@
 mod errors;
 pub mod laws;
 pub mod living;
-pub mod out;
 pub mod pieces;
 pub mod texts;
 mod words;
+pub mod words_out;
 
-pub use out::{WordsOut, write_words};
 pub use texts::{ActorText, WaitText, actor_texts};
+pub use words_out::{WordsOut, write_words};
