@@ -7,7 +7,7 @@ use Rattle.std.proofs.lemmas.Bool.{cond-true, cond-false, cond_both, lt-ltb, ltb
 use Rattle.flow_trace.specs.Groups.{is_event}
 use Rattle.flow_trace.specs.declared.line.Line.{Line}
 use Rattle.flow_trace.specs.declared.line.Line.TheVariants.{Head, Boot, Kill, Stop, Cut, Heal, DiskFail, Timer, Arrival, Read, Write, Sync, Size, Start, Wait, Take, Throw, Catch, Fail, Finish, Cancel, Broken, PrintInt, PrintBool, PrintText, Send, LostCut, LostDraw, Discard, Kept, Frame, Callback, EndIdle, EndBound, EndSpent, EndStop}
-use Rattle.flow_chart.specs.declared.out.TheConstants.{MOST_EVENTS}
+use Rattle.flow_chart.specs.declared.chart_out.TheConstants.{MOST_EVENTS}
 use Rattle.flow_chart.specs.declared.spot.Moment.{Moment}
 use Rattle.flow_chart.specs.Marks.{Sign, moment_of, sign_of}
 use Rattle.flow_chart.specs.Drawing.{Drawing, drawn, empty_drawing, with_event, with_sign}

@@ -5,7 +5,7 @@ use Rattle.std.specs.declared.option.Option.TheVariants.{None, Some}
 use Rattle.flow_base.specs.declared.fault.OutFault.{OutFault}
 use Rattle.flow_base.specs.declared.fault.OutFault.TheVariants.{Failed, OutOfMemory}
 use Rattle.flow_trace.specs.declared.line.Line.{Line}
-use Rattle.flow_chart.specs.declared.out.TheConstants.{MOST_EVENTS}
+use Rattle.flow_chart.specs.declared.chart_out.TheConstants.{MOST_EVENTS}
 use Rattle.flow_chart.specs.Drawing.{Drawing, drawn, empty_drawing}
 
 -- a drawing of at most so many events

@@ -8,7 +8,7 @@ use Rattle.flow_base.specs.declared.ids.ProcId.{ProcId}
 use Rattle.flow_trace.specs.declared.line.Line.{Line}
 use Rattle.flow_trace.specs.declared.line.Line.TheVariants.{Arrival, Send, LostCut, LostDraw}
 use Rattle.flow_trace.specs.Groups.{is_event}
-use Rattle.flow_chart.specs.declared.out.TheConstants.{MOST_EVENTS}
+use Rattle.flow_chart.specs.declared.chart_out.TheConstants.{MOST_EVENTS}
 use Rattle.flow_chart.specs.declared.packets.Way.{Way}
 use Rattle.flow_chart.specs.declared.spot.Spot.{Spot}
 use Rattle.flow_chart.specs.Charting.{chart_of}
