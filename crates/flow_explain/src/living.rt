@@ -57,8 +57,17 @@ impl Telling {
         })
     }
 
+    /// The place among the program's actors of an actor of the process of the last event, where it lives.
+    pub fn place_of(&self, actor: ActorId) -> Option<usize>
+        ensures { result ≡ text_of (living_in self.now.living self.now.process) actor.0 }
+    {
+        self.living[usize::from(self.process.0)]
+            .get(&actor.0)
+            .copied()
+    }
+
     /// The text of an actor of the process of the last event, where it lives.
-    pub(crate) fn text<'t>(&self, texts: &'t [ActorText], actor: ActorId) -> Option<&'t ActorText>
+    pub fn text<'t>(&self, texts: &'t [ActorText], actor: ActorId) -> Option<&'t ActorText>
         ensures { option_copied result ≡ actor_text texts.now self.now actor.0 }
     {
         let place = self.living[usize::from(self.process.0)].get(&actor.0)?;
@@ -110,7 +119,7 @@ impl Telling {
     }
 
     /// What is told with one line more.
-    pub(crate) fn hear(&mut self, texts: &[ActorText], line: &Line) -> Result<(), NoMemory>
+    pub fn hear(&mut self, texts: &[ActorText], line: &Line) -> Result<(), NoMemory>
         ensures { OnOk result (self.new ≡ told_after texts.now line.now self.old) }
     {
         match line {

@@ -70,6 +70,13 @@ impl WaitText {
         Ok(WaitText { at, branches })
     }
 
+    /// Where its branches go on.
+    pub fn branches(&self) -> &[Place]
+        ensures { result.now ≡ self.now.branches }
+    {
+        &self.branches
+    }
+
     /// Where a branch goes on, by its number from 0.
     pub(crate) fn branch(&self, branch: u32) -> Option<Place>
         ensures { result ≡ slice_get self.now.branches branch }
@@ -86,8 +93,22 @@ impl WaitText {
 }
 
 impl ActorText {
+    /// Its waits, in the order of the text.
+    pub fn waits(&self) -> &[WaitText]
+        ensures { result.now ≡ self.now.waits }
+    {
+        &self.waits
+    }
+
+    /// Its name.
+    pub fn own_name(&self) -> &Name
+        ensures { result.now ≡ self.now.name }
+    {
+        &self.name
+    }
+
     /// The bytes of its name.
-    pub(crate) fn name(&self) -> &[u8]
+    pub fn name(&self) -> &[u8]
         ensures { result.now ≡ self.now.name }
     {
         self.name.bytes()
@@ -141,7 +162,7 @@ pub fn actor_texts(alloc: Global, decls: &[Decl]) -> Result<Vec<ActorText>, NoMe
 }
 
 /// The place of a name among the actors.
-pub(crate) fn text_named(texts: &[ActorText], name: &[u8]) -> Option<usize>
+pub fn text_named(texts: &[ActorText], name: &[u8]) -> Option<usize>
     ensures { result ≡ text_named texts.now name.now }
 {
     texts.iter().position(|text| text.name() == name)

@@ -6,10 +6,9 @@ use Rattle.std.specs.Io.KnownBytes.{Appends}
 use Rattle.std.proofs.lemmas.List.Concat.{flat_map-append}
 use Rattle.flow_base.specs.Bytes.{AppendsPart}
 use Rattle.flow_base.specs.declared.fault.OutFault.{OutFault}
-use Rattle.flow_sweep.specs.declared.tally.Tally.{Tally}
 use Rattle.flow_sweep.specs.declared.sweep.Went.{Went}
 use Rattle.flow_sweep.specs.declared.sweep.Went.TheVariants.{On}
-use Rattle.flow_sweep.specs.Sweeps.{Row, is_told, told_as, row_text, rows_text, tallied, tally_from, Goes, goes_on, finds, fails}
+use Rattle.flow_sweep.specs.Sweeps.{Tally, Row, is_told, told_as, row_text, rows_text, tallied, tally_from, Goes, goes_on, finds, fails}
 
 pub appends_nothing : (a : Option (List ℕ)) → Appends a a []
 appends_nothing None = tt

@@ -3,3 +3,4 @@ pub mod One
 pub mod Making
 pub mod Loops
 pub mod Seeds
+mod Counting

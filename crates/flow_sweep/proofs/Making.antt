@@ -2,15 +2,13 @@
 use Rattle.std.proofs.Common.{◌≡◌, ℕ, zero, suc, ◌+◌, ◌-◌, ◌<◌, Bool, true, false, if◌then◌else◌, List, [], ◌∷◌, ◌++◌, map, length, take, drop, get_or, refl, sym, ap, ap₂, ◌∙◌, append_assoc, append-nil, arith, add-one, subst, Option, Some, Result}
 use Rattle.std.proofs.lemmas.List.{map-append, take-append-drop}
 use Rattle.flow_trace.specs.declared.line.Line.{Line}
-use Rattle.flow_monitor.specs.Ears.{Ears}
 use Rattle.flow_worldfile.specs.Worlds.{World}
 use Rattle.flow_storm.proofs.Adding.{all_added}
 use Rattle.flow_family.specs.declared.losses.PowerLoss.{PowerLoss}
 use Rattle.flow_base.specs.declared.fault.OutFault.{OutFault}
 use Rattle.flow_family.specs.Families.{is_borne, losses_at, losses_of, with_loss}
-use Rattle.flow_sweep.specs.declared.tally.Tally.{Tally}
 use Rattle.flow_sweep.specs.declared.sweep.Went.{Went}
-use Rattle.flow_sweep.specs.Sweeps.{Trial, Row, trial_of, loss_trial, loss_trials_of, IsRow, AreRuns, BeginRuns, GoesThrough}
+use Rattle.flow_sweep.specs.Sweeps.{Tally, Hearing, Trial, Row, trial_of, loss_trial, loss_trials_of, IsRow, AreRuns, BeginRuns, GoesThrough}
 
 losses_first : (b : Bool) (l : PowerLoss) (xs ys : List PowerLoss) → (if b then l ∷ xs else xs) ++ ys ≡ (if b then l ∷ (xs ++ ys) else xs ++ ys)
 losses_first true l xs ys = refl
@@ -49,24 +47,24 @@ losses_more down times n m lt =
     let is : grown (m - (n + 1)) n ≡ m = let g = grown_is (m - (n + 1)) n in omega (arith, g, lt) in
     (all.0, ap (losses_of down times) (sym is) ∙ all.1)
 
-module _ (means : World → List Line → Type 0) (ears : Ears) where
-  pub no_runs : AreRuns means ears [] []
+module _ (means : World → List Line → Type 0) (hearing : Hearing) where
+  pub no_runs : AreRuns means hearing [] []
   no_runs = record { trials = refl; each = tt }
 
   -- some runs, and then others
-  pub runs_two : (s t : List Trial) (a b : List Row) → AreRuns means ears s a → AreRuns means ears t b → AreRuns means ears (s ++ t) (a ++ b)
+  pub runs_two : (s t : List Trial) (a b : List Row) → AreRuns means hearing s a → AreRuns means hearing t b → AreRuns means hearing (s ++ t) (a ++ b)
   runs_two s t a b p q = record {
     trials = map-append trial_of a b ∙ ap₂ (λ x y. x ++ y) p.trials q.trials;
-    each = all_added (IsRow means ears) a b p.each q.each;
+    each = all_added (IsRow means hearing) a b p.each q.each;
   }
 
   -- some, and then a first part of others
-  pub runs_begin : (s t : List Trial) (a b : List Row) → AreRuns means ears s a → BeginRuns means ears t b → BeginRuns means ears (s ++ t) (a ++ b)
+  pub runs_begin : (s t : List Trial) (a b : List Row) → AreRuns means hearing s a → BeginRuns means hearing t b → BeginRuns means hearing (s ++ t) (a ++ b)
   runs_begin s t a b p q =
       (s ++ q.0, q.1, ap (λ l. s ++ l) q.2 ∙ sym (append_assoc s q.0 q.1), runs_two s q.0 a b p q.3)
 
   -- a first part of a first part
-  pub begin_more : (s t : List Trial) (a : List Row) → BeginRuns means ears s a → BeginRuns means ears (s ++ t) a
+  pub begin_more : (s t : List Trial) (a : List Row) → BeginRuns means hearing s a → BeginRuns means hearing (s ++ t) a
   begin_more s t a q = (q.0, q.1 ++ t, ap (λ l. l ++ t) q.2 ∙ append_assoc q.0 q.1 t, q.3)
 
 -- a loss of power that can't be is none, and one that can be is one
@@ -77,12 +75,12 @@ pub losses_one : (down : ℕ) (l : PowerLoss) → is_borne l.time down ≡ true 
 losses_one down l is = ap (λ b. if b then l ∷ [] else []) is
 
 -- the runs with these losses
-pub lossy_runs : (means : World → List Line → Type 0) (ears : Ears) (first : Bool) (down seed : ℕ) (own : World) (xs ys : List PowerLoss)
+pub lossy_runs : (means : World → List Line → Type 0) (hearing : Hearing) (first : Bool) (down seed : ℕ) (own : World) (xs ys : List PowerLoss)
     (tally tally' : Tally) (w0 w1 : Option (List ℕ)) (r : Result Went OutFault) → xs ≡ ys
-    → GoesThrough means ears (loss_trials_of down seed own xs) first tally tally' w0 w1 r
-    → GoesThrough means ears (loss_trials_of down seed own ys) first tally tally' w0 w1 r
-lossy_runs means ears first down seed own xs ys tally tally' w0 w1 r is =
-    subst (λ l. GoesThrough means ears (loss_trials_of down seed own l) first tally tally' w0 w1 r) is
+    → GoesThrough means hearing (loss_trials_of down seed own xs) first tally tally' w0 w1 r
+    → GoesThrough means hearing (loss_trials_of down seed own ys) first tally tally' w0 w1 r
+lossy_runs means hearing first down seed own xs ys tally tally' w0 w1 r is =
+    subst (λ l. GoesThrough means hearing (loss_trials_of down seed own l) first tally tally' w0 w1 r) is
 
 pub lossy_world : (down seed : ℕ) (own w : World) (l : PowerLoss) → w ≡ with_loss down l own
     → record { seed = seed; loss = Some l; world = w } ≡ loss_trial down seed own l

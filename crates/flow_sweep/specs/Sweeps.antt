@@ -1,5 +1,5 @@
 -- Runs of a program in the worlds of a family, and what is written of them.
-use Rattle.std.specs.Prelude.{◌≡◌, ℕ, ◌+◌, ◌-◌, Bool, true, false, ◌&&◌, nat_lt, List, [], ◌∷◌, ◌++◌, map, count_by, codes, decimal, if◌then◌else◌, Result, Ok, Err}
+use Rattle.std.specs.Prelude.{◌≡◌, ℕ, suc, ◌+◌, ◌-◌, Bool, true, false, ◌&&◌, nat_lt, List, [], ◌∷◌, ◌++◌, map, replicate, slice_get, count_by, codes, decimal, if◌then◌else◌, Result, Ok, Err}
 use Rattle.std.specs.List.{AllByRecursion, list_any, flat_map}
 use Rattle.std.specs.declared.option.Option.{Option}
 use Rattle.std.specs.declared.option.Option.TheVariants.{None, Some}
@@ -18,7 +18,6 @@ use Rattle.flow_family.specs.Families.{world_of, with_loss, times_of, losses_of}
 use Rattle.flow_sweep.specs.declared.ran.Ended.{Ended}
 use Rattle.flow_sweep.specs.declared.ran.Ended.TheVariants.{Stopped, Spent, Bound, Idle}
 use Rattle.flow_sweep.specs.declared.ran.Ran.{Ran}
-use Rattle.flow_sweep.specs.declared.tally.Tally.{Tally}
 use Rattle.flow_sweep.specs.declared.sweep.Went.{Went}
 use Rattle.flow_sweep.specs.declared.sweep.Went.TheVariants.{On, Found}
 
@@ -29,18 +28,24 @@ end_line Spent = line.EndSpent
 end_line Bound = line.EndBound
 end_line Idle = line.EndIdle
 
+-- who hears a run, at its begin, and what is looked for in its lines: of each thing whether they show it
+pub record Hearing : Type 0 where
+  pub ears : Ears
+  pub marks : List Line → List Bool
+
 -- These lines are a program's trace in a world, cut by what monitors hear, and the run came to that.
-pub record EndsSo (means : World → List Line → Type 0) (ears : Ears) (w : World) (cut : List Line) (r : Ran) : Type 0 where
+pub record EndsSo (means : World → List Line → Type 0) (hearing : Hearing) (w : World) (cut : List Line) (r : Ran) : Type 0 where
   pub lines : List Line
   pub trace : means w lines
-  pub is_cut : cut ≡ Cut ears lines
+  pub is_cut : cut ≡ Cut hearing.ears lines
   pub last : (front : List Line) × (cut ≡ front ++ end_line r.ended ∷ [])
   pub events : r.events ≡ count_by is_event cut
+  pub shown : r.shown.items ≡ hearing.marks cut
 
 -- what a run in a world tells, with the times of its events where they are asked for
-pub record Tries (means : World → List Line → Type 0) (ears : Ears) (w : World) (timed : Bool) (r : Ran) (told : List ℕ) : Type 0 where
+pub record Tries (means : World → List Line → Type 0) (hearing : Hearing) (w : World) (timed : Bool) (r : Ran) (told : List ℕ) : Type 0 where
   pub cut : List Line
-  pub ends : EndsSo means ears w cut r
+  pub ends : EndsSo means hearing w cut r
   pub times : told ≡ (if timed then times_of cut else [])
 
 -- a run that is to be made: its seed, the loss of power in it, if there is one, and its world
@@ -72,9 +77,9 @@ abbrev pub loss_trials : (down : Option ℕ) (seed : ℕ) (own : World) (times :
 loss_trials None seed own times = []
 loss_trials (Some down) seed own times = loss_trials_of down seed own (losses_of down times own.processes)
 
-module _ (means : World → List Line → Type 0) (ears : Ears) where
+module _ (means : World → List Line → Type 0) (hearing : Hearing) where
   abbrev pub IsRow : Row → Type 0
-  IsRow r = EndsSo means ears r.trial.world r.cut r.ran
+  IsRow r = EndsSo means hearing r.trial.world r.cut r.ran
 
   -- These runs were made, in this order.
   pub record AreRuns (due : List Trial) (rows : List Row) : Type 0 where
@@ -159,9 +164,27 @@ went_of first e = if first && is_find e then Found else On
 abbrev pub rows_text : (first : Bool) → List Row → List ℕ
 rows_text first = flat_map (row_text first)
 
--- how many runs there are, how many events they have, and how many of them end how
-abbrev pub no_tally : Tally
-no_tally = record { runs = 0; events = 0; stopped = 0; spent = 0; bound = 0; idle = 0 }
+-- how many runs there are, how many events they have, how many of them end how, and how many show each thing that is looked for
+pub record Tally : Type 0 where
+  pub runs : ℕ
+  pub events : ℕ
+  pub stopped : ℕ
+  pub spent : ℕ
+  pub bound : ℕ
+  pub idle : ℕ
+  pub shown : List ℕ
+
+abbrev pub no_tally : (things : ℕ) → Tally
+no_tally things = record { runs = 0; events = 0; stopped = 0; spent = 0; bound = 0; idle = 0; shown = replicate things 0 }
+
+abbrev pub counted : Option Bool → ℕ → ℕ
+counted (Some true) n = n + 1
+counted (Some false) n = n
+counted None n = n
+
+abbrev pub with_shown : List Bool → (from : ℕ) → List ℕ → List ℕ
+with_shown bs k [] = []
+with_shown bs k (n ∷ ns) = counted (slice_get bs k) n ∷ with_shown bs (suc k) ns
 
 abbrev pub one_ended : Ended → Tally → Tally
 one_ended (Stopped name) t = record t { stopped = t.stopped + 1 }
@@ -170,7 +193,8 @@ one_ended Bound t = record t { bound = t.bound + 1 }
 one_ended Idle t = record t { idle = t.idle + 1 }
 
 abbrev pub tallied : Ran → Tally → Tally
-tallied r t = one_ended r.ended (record t { runs = t.runs + 1; events = t.events + r.events })
+tallied r t =
+    one_ended r.ended (record t { runs = t.runs + 1; events = t.events + r.events; shown = with_shown r.shown.items 0 t.shown })
 
 abbrev pub tally_from : Tally → List Row → Tally
 tally_from t [] = t
@@ -202,23 +226,23 @@ pub data Goes (All Part : List Row → Type 0) (first : Bool) (tally tally' : Ta
       → Goes All Part first tally tally' before after (Err fault)
 
 -- these runs are to be made, one after another
-abbrev pub GoesThrough : (means : World → List Line → Type 0) (ears : Ears) (trials : List Trial) (first : Bool) (tally tally' : Tally)
+abbrev pub GoesThrough : (means : World → List Line → Type 0) (hearing : Hearing) (trials : List Trial) (first : Bool) (tally tally' : Tally)
     (before after : Option (List ℕ)) → Result Went OutFault → Type 0
-GoesThrough means ears trials = Goes (AreRuns means ears trials) (BeginRuns means ears trials)
+GoesThrough means hearing trials = Goes (AreRuns means hearing trials) (BeginRuns means hearing trials)
 
 -- What one run comes to: it was made, and counted, and what it tells was written;
-pub record RunMade (means : World → List Line → Type 0) (ears : Ears) (first : Bool) (t : Trial) (timed : Bool) (tally tally' : Tally)
+pub record RunMade (means : World → List Line → Type 0) (hearing : Hearing) (first : Bool) (t : Trial) (timed : Bool) (tally tally' : Tally)
     (before after : Option (List ℕ)) (answer : Went) (told : List ℕ) : Type 0 where
   pub row : Row
-  pub made : AreRuns means ears (t ∷ []) (row ∷ [])
+  pub made : AreRuns means hearing (t ∷ []) (row ∷ [])
   pub times : told ≡ (if timed then times_of row.cut else [])
   pub went : answer ≡ went_of first row.ran.ended
   pub counted : tally' ≡ tallied row.ran tally
   pub written : Appends before after (row_text first row)
 
 -- or it wasn't made; or it was, and a first part of what it tells was written
-pub data RunFails (means : World → List Line → Type 0) (ears : Ears) (first : Bool) (t : Trial) (before after : Option (List ℕ))
+pub data RunFails (means : World → List Line → Type 0) (hearing : Hearing) (first : Bool) (t : Trial) (before after : Option (List ℕ))
     : Type 0 where
-  not_made : AppendsPart before after [] → RunFails means ears first t before after
-  not_told : (row : Row) → AreRuns means ears (t ∷ []) (row ∷ []) → AppendsPart before after (row_text first row)
-      → RunFails means ears first t before after
+  not_made : AppendsPart before after [] → RunFails means hearing first t before after
+  not_told : (row : Row) → AreRuns means hearing (t ∷ []) (row ∷ []) → AppendsPart before after (row_text first row)
+      → RunFails means hearing first t before after

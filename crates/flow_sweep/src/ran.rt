@@ -15,11 +15,12 @@ pub enum Ended {
     Idle,
 }
 
-/// A run that was made: how it ended, and how many events it had.
+/// A run that was made: how it ended, how many events it had, and of each thing that is looked for whether its lines show it.
 #[derive(Drop)]
 pub struct Ran {
     pub ended: Ended,
     pub events: u64,
+    pub shown: Vec<bool>,
 }
 
 impl Ended {

@@ -69,7 +69,7 @@ impl Log {
         ensures handed { Grows (S.seen out.old).handed (S.seen out.new).handed }
         ensures cause { HasCause (S.seen out.old).faults (S.seen out.new).faults result }
     {
-        self.tally = or_fault(self.tally.with(ran))?;
+        or_fault(self.tally.add(ran))?;
         if !ran.ended.is_find() {
             return Ok(Went::On);
         }
@@ -96,11 +96,11 @@ impl Log {
         requires range { IsInRange (seen world.now) }
         requires ready { T.ready trials.old }
         ensures made { IfOk result (λ x. RunMade (T.means (T.kept trials.old))
-            (T.ears (T.kept trials.old)) self.old.first
+            (T.hearing (T.kept trials.old)) self.old.first
             (record { seed = seed; loss = loss; world = seen world.now }) timed self.old.tally
             self.new.tally (S.seen out.old).written (S.seen out.new).written x.0 x.1.items) }
         ensures fails { IfErr result (λ f. RunFails (T.means (T.kept trials.old))
-            (T.ears (T.kept trials.old)) self.old.first
+            (T.hearing (T.kept trials.old)) self.old.first
             (record { seed = seed; loss = loss; world = seen world.now })
             (S.seen out.old).written (S.seen out.new).written) }
         ensures first { self.new.first ≡ self.old.first }
@@ -134,7 +134,7 @@ impl Log {
         requires ready { T.ready trials.old }
         requires process { loss.process.0 < (seen own.now).processes }
         requires borne { loss.time + down ≤ 2 ^ 62 }
-        ensures goes { GoesThrough (T.means (T.kept trials.old)) (T.ears (T.kept trials.old))
+        ensures goes { GoesThrough (T.means (T.kept trials.old)) (T.hearing (T.kept trials.old))
             (loss_trial down seed (seen own.now) loss ∷ [])
             self.old.first self.old.tally self.new.tally
             (S.seen out.old).written (S.seen out.new).written result }
@@ -167,7 +167,7 @@ impl Log {
         requires room { length (seen own.now).script + 2 ≤ most_orders }
         requires ready { T.ready trials.old }
         requires process { loss.process.0 < (seen own.now).processes }
-        ensures goes { GoesThrough (T.means (T.kept trials.old)) (T.ears (T.kept trials.old))
+        ensures goes { GoesThrough (T.means (T.kept trials.old)) (T.hearing (T.kept trials.old))
             (loss_trials_of down seed (seen own.now)
             (losses_at down loss.process.0 (loss.time ∷ [])))
             self.old.first self.old.tally self.new.tally
@@ -199,7 +199,7 @@ impl Log {
         requires room { length (seen own.now).script + 2 ≤ most_orders }
         requires ready { T.ready trials.old }
         requires process { process.0 < (seen own.now).processes }
-        ensures goes { GoesThrough (T.means (T.kept trials.old)) (T.ears (T.kept trials.old))
+        ensures goes { GoesThrough (T.means (T.kept trials.old)) (T.hearing (T.kept trials.old))
             (loss_trials_of down seed (seen own.now) (losses_at down process.0 times.now))
             self.old.first self.old.tally self.new.tally
             (S.seen out.old).written (S.seen out.new).written result }
@@ -236,7 +236,7 @@ impl Log {
         requires range { IsInRange (seen own.now) }
         requires room { length (seen own.now).script + 2 ≤ most_orders }
         requires ready { T.ready trials.old }
-        ensures goes { GoesThrough (T.means (T.kept trials.old)) (T.ears (T.kept trials.old))
+        ensures goes { GoesThrough (T.means (T.kept trials.old)) (T.hearing (T.kept trials.old))
             (loss_trials_of down seed (seen own.now)
             (losses_of down times.now (seen own.now).processes))
             self.old.first self.old.tally self.new.tally
@@ -269,9 +269,9 @@ impl Log {
         requires family { IsFamily family.now (seen world.now) }
         requires ready { T.ready trials.old }
         ensures goes { let means = T.means (T.kept trials.old) in
-            let ears = T.ears (T.kept trials.old) in
-            Goes (OfSeed means ears family.now (seen world.now) seed)
-            (BeginsSeed means ears family.now (seen world.now) seed)
+            let hearing = T.hearing (T.kept trials.old) in
+            Goes (OfSeed means hearing family.now (seen world.now) seed)
+            (BeginsSeed means hearing family.now (seen world.now) seed)
             self.old.first self.old.tally self.new.tally
             (S.seen out.old).written (S.seen out.new).written result }
         ensures first { self.new.first ≡ self.old.first }
@@ -311,9 +311,9 @@ impl Log {
         requires seeds { family.now.from ≤ family.now.to }
         requires few { family.now.to < family.now.from + 1000000 }
         ensures goes { let means = T.means (T.kept trials.old) in
-            let ears = T.ears (T.kept trials.old) in
-            Goes (Swept means ears family.now (seen world.now))
-            (BeginsSweep means ears family.now (seen world.now))
+            let hearing = T.hearing (T.kept trials.old) in
+            Goes (Swept means hearing family.now (seen world.now))
+            (BeginsSweep means hearing family.now (seen world.now))
             self.old.first self.old.tally self.new.tally
             (S.seen out.old).written (S.seen out.new).written result }
         ensures first { self.new.first ≡ self.old.first }

@@ -2,9 +2,8 @@
 
 ghost use Rattle.std.specs.Prelude.{◌≡◌, List, IfOk, OnOk};
 ghost use Rattle.flow_trace.specs.declared.line.Line.{Line};
-ghost use Rattle.flow_monitor.specs.Ears.{Ears};
 ghost use Rattle.flow_worldfile.specs.Worlds.{World, IsInRange, seen};
-ghost use Rattle.flow_sweep.specs.Sweeps.{Tries};
+ghost use Rattle.flow_sweep.specs.Sweeps.{Hearing, Tries};
 
 use crate::ran::Ran;
 use flow_base::memory::NoMemory;
@@ -23,15 +22,15 @@ pub trait Trials {
     /// The lines of the trace of a world, in order, to the last.
     ghost means: { Self.Kept → World → List Line → Type 0 };
 
-    /// Who hears each run, at its begin.
-    ghost ears: { Self.Kept → Ears };
+    /// Who hears each run, at its begin, and what is looked for in its lines.
+    ghost hearing: { Self.Kept → Hearing };
 
     /// Runs a world that is in range to its end, and where the times of its events are asked for, tells them, rising, each once.
     fn run(&mut self, world: &World0, timed: bool) -> Result<(Ran, Vec<u64>), NoMemory>
         requires range { IsInRange (seen world.now) }
         requires ready { ready self.old }
         ensures tries { IfOk result (λ r. Tries (Self.means (Self.kept self.old))
-            (Self.ears (Self.kept self.old)) (seen world.now) timed r.0 r.1.items) }
+            (Self.hearing (Self.kept self.old)) (seen world.now) timed r.0 r.1.items) }
         ensures ready { OnOk result (ready self.new) }
         ensures kept { OnOk result (Self.kept self.new ≡ Self.kept self.old) };
 }

@@ -23,7 +23,7 @@ loop-further-preserved g c =
     let f = c.args.family.now in
     let w = seen c.args.world.now in
     let n = c.loop-further.further in
-    let step = moved_on g.T.Trials.means g.T.Trials.ears _ _ _ _ _ _
+    let step = moved_on g.T.Trials.means g.T.Trials.hearing _ _ _ _ _ _
     (λ m e b x. Goes (OfSeed m e f w (f.from + n)) (BeginsSeed m e f w (f.from + n)) b c.loop-further.self.tally c.run_seed.new.self.tally
     (g.S.Sink.seen c.loop-further.out).written (g.S.Sink.seen c.run_seed.new.out).written (Ok x)) was.kept was.first c.in-Ok-On.field-0-is
     c.in-Ok-On.ensures.goes in
@@ -42,7 +42,7 @@ returns-in-Ok-Found-clause-goes g c =
     let f = c.args.family.now in
     let w = seen c.args.world.now in
     let n = c.loop-further.further in
-    let step = moved_on g.T.Trials.means g.T.Trials.ears _ _ _ _ _ _
+    let step = moved_on g.T.Trials.means g.T.Trials.hearing _ _ _ _ _ _
     (λ m e b x. Goes (OfSeed m e f w (f.from + n)) (BeginsSeed m e f w (f.from + n)) b c.loop-further.self.tally c.run_seed.new.self.tally
     (g.S.Sink.seen c.loop-further.out).written (g.S.Sink.seen c.run_seed.new.out).written (Ok x)) was.kept was.first c.in-Ok-Found.field-0-is
     c.in-Ok-Found.ensures.goes in
@@ -54,7 +54,7 @@ returns-in-Err-clause-goes g c =
     let f = c.args.family.now in
     let w = seen c.args.world.now in
     let n = c.loop-further.further in
-    let step = moved g.T.Trials.means g.T.Trials.ears _ _ _ _
+    let step = moved g.T.Trials.means g.T.Trials.hearing _ _ _ _
     (λ m e b. Goes (OfSeed m e f w (f.from + n)) (BeginsSeed m e f w (f.from + n)) b c.loop-further.self.tally c.run_seed.new.self.tally
     (g.S.Sink.seen c.loop-further.out).written (g.S.Sink.seen c.run_seed.new.out).written (Err c.in-Err.fault)) was.kept was.first
     c.in-Err.ensures.goes in

@@ -7,8 +7,8 @@ use Rattle.flow_sweep.proofs.sweep.Log.run_all.Given as goal
 
 abbrev pub invariant-loop-further : goal.invariant-loop-further
 invariant-loop-further g l = record {
-  goes : Goes (OfSeeds (g.T.Trials.means (g.T.Trials.kept l.initial.trials)) (g.T.Trials.ears (g.T.Trials.kept l.initial.trials)) l.family (seen l.world) l.further)
-      (BeginsSweep (g.T.Trials.means (g.T.Trials.kept l.initial.trials)) (g.T.Trials.ears (g.T.Trials.kept l.initial.trials)) l.family (seen l.world))
+  goes : Goes (OfSeeds (g.T.Trials.means (g.T.Trials.kept l.initial.trials)) (g.T.Trials.hearing (g.T.Trials.kept l.initial.trials)) l.family (seen l.world) l.further)
+      (BeginsSweep (g.T.Trials.means (g.T.Trials.kept l.initial.trials)) (g.T.Trials.hearing (g.T.Trials.kept l.initial.trials)) l.family (seen l.world))
       l.initial.self.first l.initial.self.tally l.self.tally (g.S.Sink.seen l.initial.out).written (g.S.Sink.seen l.out).written (Ok On);
   first : l.self.first ≡ l.initial.self.first;
   ready : g.T.Trials.ready l.trials;

@@ -22,7 +22,7 @@ pub loop-process-preserved : goal.loop-process-preserved
 loop-process-preserved g c =
     let was = c.loop-process.invariant in
     let one = losses_at c.args.down c.loop-process.process c.args.times.now in
-    let step = moved_on g.T.Trials.means g.T.Trials.ears _ _ _ _ _ _
+    let step = moved_on g.T.Trials.means g.T.Trials.hearing _ _ _ _ _ _
     (λ m e f w. GoesThrough m e (loss_trials_of c.args.down c.args.seed (seen c.args.own.now) one) f c.loop-process.self.tally c.run_losses_of.new.self.tally
     (g.S.Sink.seen c.loop-process.out).written (g.S.Sink.seen c.run_losses_of.new.out).written (Ok w)) was.kept was.first c.in-Ok-On.field-0-is c.in-Ok-On.ensures.goes in
     record {
@@ -39,7 +39,7 @@ pub returns-in-Ok-Found-clause-goes : goal.returns-in-Ok-Found-clause-goes
 returns-in-Ok-Found-clause-goes g c =
     let was = c.loop-process.invariant in
     let one = losses_at c.args.down c.loop-process.process c.args.times.now in
-    let step = moved_on g.T.Trials.means g.T.Trials.ears _ _ _ _ _ _
+    let step = moved_on g.T.Trials.means g.T.Trials.hearing _ _ _ _ _ _
     (λ m e f w. GoesThrough m e (loss_trials_of c.args.down c.args.seed (seen c.args.own.now) one) f c.loop-process.self.tally c.run_losses_of.new.self.tally
     (g.S.Sink.seen c.loop-process.out).written (g.S.Sink.seen c.run_losses_of.new.out).written (Ok w)) was.kept was.first c.in-Ok-Found.field-0-is c.in-Ok-Found.ensures.goes in
     found_of_more _ _ _ c.args.down c.args.seed (seen c.args.own.now) _ _ _ _ _ _ _
@@ -51,7 +51,7 @@ pub returns-in-Err-clause-goes : goal.returns-in-Err-clause-goes
 returns-in-Err-clause-goes g c =
     let was = c.loop-process.invariant in
     let one = losses_at c.args.down c.loop-process.process c.args.times.now in
-    let step = moved g.T.Trials.means g.T.Trials.ears _ _ _ _
+    let step = moved g.T.Trials.means g.T.Trials.hearing _ _ _ _
     (λ m e f. GoesThrough m e (loss_trials_of c.args.down c.args.seed (seen c.args.own.now) one) f c.loop-process.self.tally c.run_losses_of.new.self.tally
     (g.S.Sink.seen c.loop-process.out).written (g.S.Sink.seen c.run_losses_of.new.out).written (Err c.in-Err.fault)) was.kept was.first c.in-Err.ensures.goes in
     failed_of_more _ _ _ c.args.down c.args.seed (seen c.args.own.now) _ _ _ _ _ _ _ _

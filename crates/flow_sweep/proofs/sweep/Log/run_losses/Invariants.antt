@@ -8,7 +8,7 @@ use Rattle.flow_sweep.proofs.sweep.Log.run_losses.Given as goal
 
 abbrev pub invariant-loop-process : goal.invariant-loop-process
 invariant-loop-process g l = record {
-  goes : GoesThrough (g.T.Trials.means (g.T.Trials.kept l.initial.trials)) (g.T.Trials.ears (g.T.Trials.kept l.initial.trials))
+  goes : GoesThrough (g.T.Trials.means (g.T.Trials.kept l.initial.trials)) (g.T.Trials.hearing (g.T.Trials.kept l.initial.trials))
       (loss_trials_of l.down l.seed (seen l.own) (losses_of l.down l.times l.process))
       l.initial.self.first l.initial.self.tally l.self.tally (g.S.Sink.seen l.initial.out).written (g.S.Sink.seen l.out).written (Ok On);
   first : l.self.first ≡ l.initial.self.first;

@@ -29,7 +29,7 @@ returns-in-None-clause-goes g c =
 pub returns-clause-goes : goal.returns-clause-goes
 returns-clause-goes g c =
     let own = seen c.in-Ok.own in
-    let step = moved g.T.Trials.means g.T.Trials.ears _ _ _ _
+    let step = moved g.T.Trials.means g.T.Trials.hearing _ _ _ _
     (λ m e f. GoesThrough m e (loss_trials_of c.in-Some.down c.args.seed own (losses_of c.in-Some.down c.deref.result.now own.processes)) f
     c.run.new.self.tally c.run_losses.new.self.tally (g.S.Sink.seen c.run.new.out).written (g.S.Sink.seen c.run_losses.new.out).written
     c.run_losses.result) c.in-Ok-run.ensures.kept c.run.ensures.first c.run_losses.ensures.goes in
