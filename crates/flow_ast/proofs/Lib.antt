@@ -1,3 +1,4 @@
 pub mod TypingLists
 pub mod TypingScope
 pub mod TypingArgs
+pub mod Written

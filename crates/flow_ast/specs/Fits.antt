@@ -5,7 +5,7 @@ use Rattle.std.specs.declared.option.Option.{Option}
 use Rattle.std.specs.declared.option.Option.TheVariants.{None, Some}
 use Rattle.flow_tree.specs.declared.ty.Ident.{Ident}
 use Rattle.flow_tree.specs.declared.expr.Op.TheVariants.{Add, Sub}
-use Rattle.flow_tree.specs.Tree.{TypeTree, IntType, BoolType, StringType, ErrorType, ExprTree, ExprTrees}
+use Rattle.flow_tree.specs.Tree.{TypeTree, IntType, BoolType, StringType, ErrorType, VectorType, ExprTree, ExprTrees}
 use Rattle.flow_tree.specs.Body.{IntoTree, ChangeTree, PlusChange, MinusChange, UpChange, DownChange, Body, End, BlockStmt, IfStmt, IfElseStmt, WhileStmt, ForStmt, LoopStmt, BreakStmt, ContinueStmt, ReturnStmt, ThrowStmt, TryStmt, ChooseStmt, DeclareStmt, AssignStmt, ModifyStmt, CallStmt, WaitStmt}
 use Rattle.flow_tree.specs.Decls.{ParamTree, RecordTree, RoutineTree}
 use Rattle.flow_ast.specs.Typing.{ScopeTree, routine_named, param_named, param_types, field_type, sign_type, same_types, type_in, types_in, without_effects, all_without_effects}
@@ -48,6 +48,7 @@ abbrev pub has_plain_default : TypeTree → Bool
 has_plain_default IntType = true
 has_plain_default BoolType = true
 has_plain_default StringType = true
+has_plain_default (VectorType t) = true
 has_plain_default _ = false
 
 module _ (rs : List RecordTree) (fs actors : List RoutineTree) where
@@ -91,6 +92,11 @@ module _ (rs : List RecordTree) (fs actors : List RoutineTree) where
   ThrowFits vars caught None = CaughtFits vars caught
   ThrowFits vars caught (Some e) = Yields vars e ErrorType
 
+  -- a function returns a value of its type
+  abbrev pub ReturnFits : List ParamTree → Option ExprTree → TypeTree → Type 0
+  ReturnFits vars None r = ⊥
+  ReturnFits vars (Some e) r = Yields vars e r
+
   -- Each statement of a body in a function that returns this type is well typed over the variables in
   -- force, in a loop or not, and with the variable of the innermost catch around it.
   abbrev pub BodyFits : TypeTree → Bool → Option (List ℕ) → List ParamTree → Body → Type 0
@@ -110,7 +116,7 @@ module _ (rs : List RecordTree) (fs actors : List RoutineTree) where
   BodyFits r loop caught vars (LoopStmt at b k) = BodyFits r true caught vars b × BodyFits r loop caught vars k
   BodyFits r loop caught vars (BreakStmt at k) = (loop ≡ true) × BodyFits r loop caught vars k
   BodyFits r loop caught vars (ContinueStmt at k) = (loop ≡ true) × BodyFits r loop caught vars k
-  BodyFits r loop caught vars (ReturnStmt at e k) = Yields vars e r × BodyFits r loop caught vars k
+  BodyFits r loop caught vars (ReturnStmt at e k) = ReturnFits vars e r × BodyFits r loop caught vars k
   BodyFits r loop caught vars (ThrowStmt at e k) = ThrowFits vars caught e × BodyFits r loop caught vars k
   BodyFits r loop caught vars (TryStmt at b q x h k) =
       BodyFits r loop caught vars b

@@ -1,6 +1,6 @@
 -- The types of expressions.
 use Rattle.std.specs.Prelude.{ℕ, Bool, true, false, ◌&&◌, not, List, [], ◌∷◌, map, find, codes, if◌then◌else◌}
-use Rattle.std.specs.Option.{option_map}
+use Rattle.std.specs.Option.{option_map, option_and_then}
 use Rattle.std.specs.Str.{bytes_eq}
 use Rattle.std.specs.declared.option.Option.{Option}
 use Rattle.std.specs.declared.option.Option.TheVariants.{None, Some}
@@ -10,7 +10,7 @@ use Rattle.flow_ast.specs.declared.predefined.Predefined.{Predefined}
 use Rattle.flow_ast.specs.declared.predefined.Predefined.TheVariants as predefined
 use Rattle.flow_ast.specs.declared.predefined.Method.{Method}
 use Rattle.flow_ast.specs.declared.predefined.Method.TheVariants as method
-use Rattle.flow_tree.specs.Tree.{TypeTree, IntType, BoolType, StringType, VoidType, ErrorType, NamedType, FutureType, FutureStreamType, PromiseType, PromiseStreamType, ExprTree, ExprTrees, IntExpr, TextExpr, BoolExpr, VoidExpr, VarExpr, CallExpr, FieldExpr, MethodExpr, NotExpr, NegExpr, BinaryExpr, ParenExpr, NoExprs, MoreExprs}
+use Rattle.flow_tree.specs.Tree.{TypeTree, IntType, BoolType, StringType, VoidType, ErrorType, NamedType, FutureType, FutureStreamType, PromiseType, PromiseStreamType, VectorType, NothingType, ExprTree, ExprTrees, IntExpr, TextExpr, BoolExpr, VoidExpr, VarExpr, CallExpr, FieldExpr, MethodExpr, NotExpr, NegExpr, BinaryExpr, ParenExpr, NoExprs, MoreExprs}
 use Rattle.flow_tree.specs.Decls.{ParamTree, RecordTree, RoutineTree}
 use Rattle.flow_ast.specs.TypingNames.{named, selected, call_names, constant_names}
 
@@ -93,6 +93,12 @@ abbrev pub stream_method : TypeTree → Method → Option Signature
 stream_method t method.GetFuture = takes [] (FutureStreamType t)
 stream_method t _ = None
 
+-- an index takes an int, and gives an element
+abbrev pub vector_method : TypeTree → Method → Option Signature
+vector_method t method.Size = takes [] IntType
+vector_method t method.At = takes (IntType ∷ []) t
+vector_method t _ = None
+
 -- the methods by the type of their base
 abbrev pub method_signature : TypeTree → Method → Option Signature
 method_signature ErrorType m = error_method m
@@ -100,6 +106,7 @@ method_signature StringType m = text_method m
 method_signature (FutureType t) m = future_method t m
 method_signature (PromiseType t) m = promise_method t m
 method_signature (PromiseStreamType t) m = stream_method t m
+method_signature (VectorType t) m = vector_method t m
 method_signature _ m = None
 
 -- the fields of the predefined record, in order
@@ -132,10 +139,18 @@ record_call rs x =
 abbrev pub function_call : List RoutineTree → List ℕ → Option Signature
 function_call fs x = option_map (λ (f : RoutineTree). record { params = param_types f.params; gives = f.returns }) (routine_named fs x)
 
--- an actor's call gives the future of its result
+-- whether it is the result of a void actor
+abbrev pub is_nothing : TypeTree → Bool
+is_nothing NothingType = true
+is_nothing _ = false
+
+-- an actor's call gives the future of its result; that of a void actor gives nothing
+abbrev pub actor_gives : List TypeTree → TypeTree → Option Signature
+actor_gives params NothingType = None
+actor_gives params t = takes params (FutureType t)
+
 abbrev pub actor_call : List RoutineTree → List ℕ → Option Signature
-actor_call fs x =
-    option_map (λ (f : RoutineTree). record { params = param_types f.params; gives = FutureType f.returns }) (routine_named fs x)
+actor_call fs x = option_and_then (λ (f : RoutineTree). actor_gives (param_types f.params) f.returns) (routine_named fs x)
 
 -- what the program declares by a name: a record, else a function, else an actor
 abbrev pub declared_call : ScopeTree → List ℕ → Option Signature
@@ -169,6 +184,8 @@ same_type (FutureType t) (FutureType u) = same_type t u
 same_type (FutureStreamType t) (FutureStreamType u) = same_type t u
 same_type (PromiseType t) (PromiseType u) = same_type t u
 same_type (PromiseStreamType t) (PromiseStreamType u) = same_type t u
+same_type (VectorType t) (VectorType u) = same_type t u
+same_type NothingType NothingType = true
 same_type t u = false
 
 -- whether two lists of types are the same, of equal length

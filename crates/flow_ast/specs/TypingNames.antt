@@ -8,7 +8,7 @@ use Rattle.flow_tree.specs.Tree.{Selector, ByName, ByIndex}
 use Rattle.flow_ast.specs.declared.predefined.Predefined.{Predefined}
 use Rattle.flow_ast.specs.declared.predefined.Predefined.TheVariants.{ToString, ToInt, Now, EndOfStream, TimedOut, BrokenPromise, OperationCancelled, ActorCancelled, Error, RandomInt, Delay, Never, Listen, ReadFile, WriteFile, SyncFile, FileSize, Trace, SendTo}
 use Rattle.flow_ast.specs.declared.predefined.Method.{Method}
-use Rattle.flow_ast.specs.declared.predefined.Method.TheVariants.{Code, Size, Substr, IsReady, IsError, Get, GetFuture, IsSet, Send, SendError, Cancel}
+use Rattle.flow_ast.specs.declared.predefined.Method.TheVariants.{Code, Size, Substr, IsReady, IsError, Get, GetFuture, IsSet, Send, SendError, Cancel, PushBack, Clear, At}
 
 -- what a table of names has at a name: the first row of that name
 abbrev pub named : {A : Type 0} → List (List ℕ × A) → List ℕ → Option A
@@ -53,12 +53,14 @@ method_names =
     ∷ (codes "send", Send)
     ∷ (codes "sendError", SendError)
     ∷ (codes "cancel", Cancel)
+    ∷ (codes "push_back", PushBack)
+    ∷ (codes "clear", Clear)
     ∷ []
 
--- the method that a selector calls, where it calls one; no type has elements
+-- the method that a selector calls, where it calls one; an index calls the one that has no name
 abbrev pub selected : Selector → Option Method
 selected (ByName x) = named method_names x.name
-selected ByIndex = None
+selected ByIndex = Some At
 
 -- the constants, all whole numbers
 abbrev pub constant_names : List (List ℕ × ℕ)

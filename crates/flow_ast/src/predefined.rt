@@ -43,6 +43,10 @@ pub enum Method {
     Send,
     SendError,
     Cancel,
+    PushBack,
+    Clear,
+    /// An index, which has no name.
+    At,
 }
 
 // The calls, effects and statement calls that stand without a base.
@@ -69,7 +73,7 @@ const CALLS: [(&[u8], Predefined); 19] = [
 ];
 
 // What stands behind a dot before arguments.
-const METHODS: [(&[u8], Method); 11] = [
+const METHODS: [(&[u8], Method); 13] = [
     (b"code", Method::Code),
     (b"size", Method::Size),
     (b"substr", Method::Substr),
@@ -81,6 +85,8 @@ const METHODS: [(&[u8], Method); 11] = [
     (b"send", Method::Send),
     (b"sendError", Method::SendError),
     (b"cancel", Method::Cancel),
+    (b"push_back", Method::PushBack),
+    (b"clear", Method::Clear),
 ];
 
 // What a table has at a name: the first row of that name.

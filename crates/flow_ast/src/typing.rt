@@ -7,7 +7,7 @@ ghost use Rattle.flow_tree.specs.Tree.{TypeTree, IntType, FutureType};
 ghost use Rattle.flow_tree.specs.View.{type_of, expr_of, exprs_of};
 ghost use Rattle.flow_tree.specs.DeclView.{param_of, record_of, function_of, actor_of};
 ghost use Rattle.flow_ast.specs.TypingNames.{named, constant_names, method_names};
-ghost use Rattle.flow_ast.specs.Typing.{method_in, is_packet, packet_fields, record_field, variable_in, sum_type, order_type, equality_type, same_type, same_types, sign_type, binary_type, bool_only, int_only, applied, signature, method_signature, error_method, text_method, future_method, promise_method, stream_method, record_named, routine_named, param_named, field_type, call_signature, declared_call, variable_type, param_types, with_type, type_in, types_in};
+ghost use Rattle.flow_ast.specs.Typing.{method_in, is_packet, packet_fields, record_field, variable_in, sum_type, order_type, equality_type, same_type, same_types, sign_type, binary_type, bool_only, int_only, applied, signature, method_signature, error_method, text_method, future_method, promise_method, stream_method, vector_method, record_named, routine_named, param_named, field_type, call_signature, declared_call, variable_type, param_types, with_type, type_in, types_in};
 ghost use Rattle.flow_ast.specs.TypingView.{scope_of, found_type, found_types};
 
 use crate::predefined::{
@@ -41,7 +41,8 @@ pub fn same_type(left: &Ty, right: &Ty) -> bool
             | Ty::Future(_)
             | Ty::FutureStream(_)
             | Ty::Promise(_)
-            | Ty::PromiseStream(_) => false,
+            | Ty::PromiseStream(_)
+            | Ty::Vector(_) => false,
         },
         Ty::Future(of) => match right {
             Ty::Future(other) => same_type(of, other),
@@ -53,7 +54,8 @@ pub fn same_type(left: &Ty, right: &Ty) -> bool
             | Ty::Named(_)
             | Ty::FutureStream(_)
             | Ty::Promise(_)
-            | Ty::PromiseStream(_) => false,
+            | Ty::PromiseStream(_)
+            | Ty::Vector(_) => false,
         },
         Ty::FutureStream(of) => match right {
             Ty::FutureStream(other) => same_type(of, other),
@@ -65,7 +67,8 @@ pub fn same_type(left: &Ty, right: &Ty) -> bool
             | Ty::Named(_)
             | Ty::Future(_)
             | Ty::Promise(_)
-            | Ty::PromiseStream(_) => false,
+            | Ty::PromiseStream(_)
+            | Ty::Vector(_) => false,
         },
         Ty::Promise(of) => match right {
             Ty::Promise(other) => same_type(of, other),
@@ -77,7 +80,8 @@ pub fn same_type(left: &Ty, right: &Ty) -> bool
             | Ty::Named(_)
             | Ty::Future(_)
             | Ty::FutureStream(_)
-            | Ty::PromiseStream(_) => false,
+            | Ty::PromiseStream(_)
+            | Ty::Vector(_) => false,
         },
         Ty::PromiseStream(of) => match right {
             Ty::PromiseStream(other) => same_type(of, other),
@@ -89,7 +93,21 @@ pub fn same_type(left: &Ty, right: &Ty) -> bool
             | Ty::Named(_)
             | Ty::Future(_)
             | Ty::FutureStream(_)
-            | Ty::Promise(_) => false,
+            | Ty::Promise(_)
+            | Ty::Vector(_) => false,
+        },
+        Ty::Vector(of) => match right {
+            Ty::Vector(other) => same_type(of, other),
+            Ty::Int
+            | Ty::Bool
+            | Ty::Str
+            | Ty::Void
+            | Ty::Error
+            | Ty::Named(_)
+            | Ty::Future(_)
+            | Ty::FutureStream(_)
+            | Ty::Promise(_)
+            | Ty::PromiseStream(_) => false,
         },
     }
 }
@@ -312,6 +330,17 @@ fn stream_method(of: Box<Ty>, method: Method, types: &[Ty]) -> ExprType
     }
 }
 
+fn vector_method(of: Box<Ty>, method: Method, types: &[Ty]) -> ExprType
+    ensures { found_type result ≡ applied (vector_method (type_of of.value) method)
+        (map type_of types.now) }
+{
+    match method {
+        Method::Size => given_if(fit_none(types), Ty::Int),
+        Method::At => given_if(fit_int(types), Box::into_inner(of)),
+        _ => ExprType::None,
+    }
+}
+
 fn method_type(base: Ty, method: Method, types: &[Ty]) -> ExprType
     ensures { found_type result ≡ applied (method_signature (type_of base) method)
         (map type_of types.now) }
@@ -322,6 +351,7 @@ fn method_type(base: Ty, method: Method, types: &[Ty]) -> ExprType
         Ty::Future(of) => future_method(of, method, types),
         Ty::Promise(of) => promise_method(of, method, types),
         Ty::PromiseStream(of) => stream_method(of, method, types),
+        Ty::Vector(of) => vector_method(of, method, types),
         Ty::Int | Ty::Bool | Ty::Void | Ty::Named(_) | Ty::FutureStream(_) => ExprType::None,
     }
 }
@@ -367,6 +397,7 @@ pub fn is_packet(name: &[u8]) -> bool
     name == b"Packet".as_slice()
 }
 
+#[tactic(auto, using(crate::proofs::Written::actor_gives_future))]
 fn declared_type(
     alloc: Global,
     scope: &Scope,
@@ -390,7 +421,10 @@ fn declared_type(
     }
     if let Some(actor) = actor_at(&scope.actors, name.bytes()) {
         let fits = fit_params(&actor.params, types);
-        return future_if(alloc, fits, actor.returns.copy(alloc)?);
+        return match &actor.returns {
+            Some(of) => future_if(alloc, fits, of.copy(alloc)?),
+            None => Ok(ExprType::None),
+        };
     }
     Ok(ExprType::None)
 }
@@ -466,6 +500,7 @@ fn field_type(
         Ty::Future(_) | Ty::FutureStream(_) | Ty::Promise(_) | Ty::PromiseStream(_) => {
             Ok(ExprType::None)
         }
+        Ty::Vector(_) => Ok(ExprType::None),
     }
 }
 
@@ -567,6 +602,15 @@ pub fn type_expr(alloc: Global, expr: &Expr, scope: &Scope) -> Result<ExprType, 
                 return Ok(ExprType::None);
             };
             Ok(called_method(base, name.name.bytes(), &types))
+        }
+        Expr::Index(of, index) => {
+            let ExprType::Is(base) = type_expr(alloc, of, scope)? else {
+                return Ok(ExprType::None);
+            };
+            let ExprType::Is(index) = type_expr(alloc, index, scope)? else {
+                return Ok(ExprType::None);
+            };
+            Ok(method_type(base, Method::At, &[index]))
         }
         Expr::Not(of) => {
             let ExprType::Is(of) = type_expr(alloc, of, scope)? else {

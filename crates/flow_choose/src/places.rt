@@ -134,6 +134,10 @@ pub fn over(alloc: Global, slots: &[Slot], scopes: &Scopes, expr: &Expr) -> Resu
             name.copy(alloc)?,
             over_all(alloc, slots, scopes, args)?,
         )),
+        Expr::Index(of, index) => Ok(Expr::Index(
+            Box::new(alloc, over(alloc, slots, scopes, of)?)?,
+            Box::new(alloc, over(alloc, slots, scopes, index)?)?,
+        )),
         Expr::Not(of) => Ok(Expr::Not(Box::new(alloc, over(alloc, slots, scopes, of)?)?)),
         Expr::Neg(of) => Ok(Expr::Neg(Box::new(alloc, over(alloc, slots, scopes, of)?)?)),
         Expr::Binary(op, left, right) => Ok(Expr::Binary(

@@ -14,8 +14,8 @@ pub record CatcherTree : Type 0 where
   pub error : Option ℕ
   pub drops : List ℕ
 
--- an instruction: an assignment, an assignment of what an effect gives, a new cell put in place, a call statement,
--- or locals that are emptied and dropped in order
+-- an instruction: an assignment, an assignment of what an effect gives, a new cell or an empty vector put in place, a call
+-- statement, or locals that are emptied and dropped in order
 pub data InstrTree : Type 0 where
   SetInstr : List Ident → ExprTree → InstrTree
   EffectInstr : List Ident → ExprTree → InstrTree
@@ -29,7 +29,7 @@ pub data LastTree : Type 0 where
   PassLast : (block : ℕ) → LastTree
   TestLast : ExprTree → (yes no : ℕ) → LastTree
   ChooseLast : (group : ℕ) → LastTree
-  ReturnLast : ExprTree → LastTree
+  ReturnLast : Option ExprTree → LastTree
   ThrowLast : ExprTree → LastTree
 
 pub record BlockTree : Type 0 where

@@ -1,7 +1,7 @@
 -- The classes of the code, seen as plain data.
 use Rattle.std.specs.Prelude.{List, map}
 use Rattle.std.specs.Option.{option_map}
-use Rattle.flow_tree.specs.View.{type_of, expr_of, exprs_of}
+use Rattle.flow_tree.specs.View.{type_of, result_of, expr_of, exprs_of}
 use Rattle.flow_tree.specs.DeclView.{slot_of, record_of, function_of}
 use Rattle.flow_class.specs.declared.class.Catcher.{Catcher}
 use Rattle.flow_class.specs.declared.class.Instr.{Instr}
@@ -30,7 +30,7 @@ last_of (Goto b) = GotoLast b
 last_of (Pass b) = PassLast b
 last_of (Test e b c) = TestLast (expr_of e) b c
 last_of (Choose g) = ChooseLast g
-last_of (Return e) = ReturnLast (expr_of e)
+last_of (Return e) = ReturnLast (option_map expr_of e)
 last_of (Throw e) = ThrowLast (expr_of e)
 
 abbrev pub block_of : Block → BlockTree
@@ -45,7 +45,7 @@ group_of g = map callback_of g.callbacks.items
 abbrev pub class_of : Class → ClassTree
 class_of c = record {
   name = c.name;
-  returns = type_of c.returns;
+  returns = result_of c.returns;
   params = c.params;
   slots = map slot_of c.slots.items;
   locals = map type_of c.locals.items;

@@ -30,7 +30,7 @@ pub enum Instr {
     Set(Target, Expr),
     /// An assignment of what an effect gives.
     Effect(Target, Expr),
-    /// A new cell is put in place.
+    /// A new cell or an empty vector is put in place.
     New(Slotted),
     /// A call statement.
     Act(Target, Vec<Expr>),
@@ -49,8 +49,8 @@ pub enum Last {
     Test(Expr, u32, u32),
     /// Waits for the callbacks of a group, numbered from 1.
     Choose(u32),
-    /// The actor ends with a value.
-    Return(Expr),
+    /// The actor ends with a value, or with none if it is void.
+    Return(Option<Expr>),
     /// An error is thrown.
     Throw(Expr),
 }
@@ -79,12 +79,12 @@ pub struct Group {
     pub callbacks: Vec<Callback>,
 }
 
-/// A class: its name, what its actor gives, how many of its slots are parameters, its slots, the
-/// types of its locals, its blocks numbered from 0, and its groups numbered from 1.
+/// A class: its name, what its actor gives if it isn't void, how many of its slots are parameters,
+/// its slots, the types of its locals, its blocks numbered from 0, and its groups numbered from 1.
 #[derive(Drop)]
 pub struct Class {
     pub name: Name,
-    pub returns: Ty,
+    pub returns: Option<Ty>,
     pub params: u32,
     pub slots: Vec<Slot>,
     pub locals: Vec<Ty>,

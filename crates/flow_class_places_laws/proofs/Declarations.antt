@@ -1,5 +1,5 @@
 -- The rules on records, functions and heads of classes don't see places.
-use Rattle.std.proofs.Common.{◌≡◌, ℕ, suc, List, [], ◌∷◌, ◌++◌, Bool, true, false, not, map, length, codes, refl, sym, ap, ap₂, ◌∙◌, if◌then◌else◌}
+use Rattle.std.proofs.Common.{◌≡◌, ℕ, suc, List, [], ◌∷◌, ◌++◌, Bool, true, false, not, map, length, codes, refl, sym, ap, ap₂, ◌∙◌, if◌then◌else◌, ◌||◌}
 use Rattle.std.specs.Prelude.{is_none}
 use Rattle.std.specs.declared.option.Option.{Option}
 use Rattle.std.specs.declared.option.Option.TheVariants.{Some}
@@ -11,7 +11,7 @@ use Rattle.flow_ast.specs.TypingNames.{named}
 use Rattle.flow_rules.specs.declared.rule.SemanticRule.TheVariants.{UnknownName, TakenName, FallsOff}
 use Rattle.flow_rules.specs.Least.{lesser, unless}
 use Rattle.flow_rules.specs.Known.{Meaning, RecordOf, FunctionOf, ActorOf, field_row, row_of, packet_row, known, type_known, holds}
-use Rattle.flow_rules.specs.Judged.{Setting}
+use Rattle.flow_rules.specs.Judged.{Setting, is_void}
 use Rattle.flow_rules.specs.Items.{written, body_refusal}
 use Rattle.flow_rules.specs.Closing.{Ways}
 use Rattle.flow_rules.specs.Rules.{setting_of, name_fault, with_name, fields_fault, param_fault, params_fault, param_name, body_env, routine_refusal, decl_refusal, decls_refusal, is_main, Size, type_size, beside, fields_size, record_size, too_large, large_record, with_size, first_large, packet_size}
@@ -61,7 +61,7 @@ routine_aside : (before : List ℕ → Option Meaning) (s : Setting) (f : Routin
 routine_aside before s f =
     or_same (item_same f.at (ap (λ k. lesser (name_fault before f.name.name) (lesser (written s f.returns) k)) (params_fault_aside s (λ x. false) f.params)))
     (or_same (record { same = ap (λ e. is_none (body_refusal e (placeless_body f.body))) (body_env_aside s f) ∙ (body_aside f.body (body_env s f)).same })
-    (item_same f.close (ap (λ (w : Ways). unless (not w.end) FallsOff) (ways_aside f.body))))
+    (item_same f.close (ap (λ (w : Ways). unless (is_void s f.returns || not w.end) FallsOff) (ways_aside f.body))))
 
 decl_aside : (all : Bool → Setting) (before : List ℕ → Option Meaning) (d : DeclTree) → Alike (decl_refusal all before (placeless_decl d)) (decl_refusal all before d)
 decl_aside all before (StructDecl r) =

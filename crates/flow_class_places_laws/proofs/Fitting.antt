@@ -16,7 +16,7 @@ use Rattle.flow_meaning.specs.Placeless.{placeless_instr, placeless_last, placel
 use Rattle.flow_valid.specs.declared.rule.ClassRule.{ClassRule}
 use Rattle.flow_valid.specs.declared.rule.ClassRule.TheVariants as rule
 use Rattle.flow_valid.specs.Named.{names_exist}
-use Rattle.flow_valid.specs.Validity.{leads_forward, groups_chosen, catchers_kept, slot_rows, local_rows, class_setting, is_effect, put_fault, is_promise, operand_type, has_type, instr_fits, last_fits, operand_fits, taken_type, callback_fits, block_fits, types_fit, first_broken, broken_rule}
+use Rattle.flow_valid.specs.Validity.{leads_forward, groups_chosen, catchers_kept, slot_rows, local_rows, class_setting, is_effect, put_fault, is_made, operand_type, has_type, instr_fits, last_fits, operand_fits, taken_type, callback_fits, block_fits, types_fit, first_broken, broken_rule}
 use Rattle.flow_class_places_laws.proofs.Parts.{list_all_over}
 use Rattle.flow_class_places_laws.proofs.Expressions.{form_aside, fault_aside, wanted_aside}
 use Rattle.flow_class_places_laws.proofs.Statements.{target_form_aside, target_fault_aside, call_aside}
@@ -40,7 +40,7 @@ module _ (c : ClassTree) (s : Setting) where
   instr_aside : (i : InstrTree) → instr_fits (placeless_class c) s (placeless_instr i) ≡ instr_fits c s i
   instr_aside (SetInstr xs e) = ap (λ k. is_none k) (put_aside s false xs e)
   instr_aside (EffectInstr xs e) = ap₂ (λ x k. x && is_none k) (effect_aside s e) (put_aside s true xs e)
-  instr_aside (NewInstr p) = ap (λ (t : Slotted → Option TypeTree). is_promise (t p)) (type_aside c)
+  instr_aside (NewInstr p) = ap (λ (t : Slotted → Option TypeTree). is_made (t p)) (type_aside c)
   instr_aside (ActInstr xs es) = ap (λ k. is_none k) (call_aside s xs es)
   instr_aside (DropInstr ns) = refl
 
@@ -49,7 +49,8 @@ module _ (c : ClassTree) (s : Setting) where
   last_aside (PassLast b) = refl
   last_aside (TestLast e b n) = type_same s false e BoolType
   last_aside (ChooseLast g) = refl
-  last_aside (ReturnLast e) = type_same s false e c.returns
+  last_aside (ReturnLast None) = refl
+  last_aside (ReturnLast (Some e)) = type_same s false e c.returns
   last_aside (ThrowLast e) = type_same s false e ErrorType
 
   block_aside : (b : BlockTree) → block_fits (placeless_class c) s (placeless_block b) ≡ block_fits c s b

@@ -61,7 +61,8 @@ last_places_aside (GotoLast b) = refl
 last_places_aside (PassLast b) = refl
 last_places_aside (TestLast e b c) = expr_places_aside e
 last_places_aside (ChooseLast g) = refl
-last_places_aside (ReturnLast e) = expr_places_aside e
+last_places_aside (ReturnLast None) = refl
+last_places_aside (ReturnLast (Some e)) = expr_places_aside e
 last_places_aside (ThrowLast e) = expr_places_aside e
 
 pub targets_aside : (l : LastTree) → targets (placeless_last l) ≡ targets l

@@ -258,7 +258,8 @@ mutual
   body_aside (LoopStmt p b k) e = or_same (body_aside b (in_loop e)) (under k (behind_aside e b) (body_aside k))
   body_aside (BreakStmt p k) e = or_same (item_same p refl) (body_aside k e)
   body_aside (ContinueStmt p k) e = or_same (item_same p refl) (body_aside k e)
-  body_aside (ReturnStmt p v k) e = or_same (item_same p (wanted_aside e.setting false v e.returns)) (body_aside k e)
+  body_aside (ReturnStmt p None k) e = or_same (item_same p refl) (body_aside k e)
+  body_aside (ReturnStmt p (Some v) k) e = or_same (item_same p (wanted_aside e.setting false v e.returns)) (body_aside k e)
   body_aside (ThrowStmt p v k) e = or_same (item_same p (throw_aside e.setting e.caught v)) (body_aside k e)
   body_aside (TryStmt p b q x h k) e =
       or_same (body_aside b e)

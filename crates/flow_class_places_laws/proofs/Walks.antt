@@ -92,7 +92,8 @@ reads_aside c (Last (GotoLast b)) = refl
 reads_aside c (Last (PassLast b)) = refl
 reads_aside c (Last (TestLast e b n)) = expr_places_aside e
 reads_aside c (Last (ChooseLast g)) = ap group_reads (group_aside c.groups g) ∙ group_reads_aside (group_at c.groups g)
-reads_aside c (Last (ReturnLast e)) = expr_places_aside e
+reads_aside c (Last (ReturnLast None)) = refl
+reads_aside c (Last (ReturnLast (Some e))) = expr_places_aside e
 reads_aside c (Last (ThrowLast e)) = expr_places_aside e
 reads_aside c Nothing = refl
 

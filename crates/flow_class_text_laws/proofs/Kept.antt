@@ -199,7 +199,8 @@ module _ (r : RawTree) (c : ClassTree) (few : IsFew c) (sized : AllSized (known 
       let t = both (has_block c y) _ (three (has_group c (TestLast e y z)) (list_all (has_block c) (y ∷ z ∷ [])) (list_all (has_place c) (expr_places e)) n).1 in
       (h, block_is y t.0, block_is z (both (has_block c z) true t.1).0)
   last_writable (ChooseLast g) h n = group_is g (three (has_group c (ChooseLast g)) (list_all (has_block c) []) (list_all (has_place c) []) n).0
-  last_writable (ReturnLast e) h n = h
+  last_writable (ReturnLast None) h n = h
+  last_writable (ReturnLast (Some e)) h n = h
   last_writable (ThrowLast e) h n = h
 
   catch_writable : (k : Option CatcherTree) → has_catcher c k ≡ true → CatchWritable k

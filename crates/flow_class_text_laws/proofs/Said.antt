@@ -2,6 +2,7 @@
 -- be written, paths can be spelled, no drop list is empty, and a group has a callback at least and 64 at most.
 use Rattle.std.proofs.Common.{◌≡◌, ◌≤◌, ℕ, List, [], ◌∷◌, length, None}
 use Rattle.std.specs.List.{AllByRecursion}
+use Rattle.std.specs.declared.option.Option.TheVariants.{Some, None}
 use Rattle.flow_tree.specs.declared.limits.TheConstants.{BRANCHES}
 use Rattle.flow_tree.specs.declared.token.Token.TheVariants as token
 use Rattle.flow_tree.specs.declared.ty.Ident.{Ident}
@@ -43,7 +44,8 @@ LastSaid (GotoLast b) = Unit {0}
 LastSaid (PassLast b) = Unit {0}
 LastSaid (TestLast e y n) = ExprWritable e
 LastSaid (ChooseLast g) = Unit {0}
-LastSaid (ReturnLast e) = ExprWritable e
+LastSaid (ReturnLast None) = ⊥
+LastSaid (ReturnLast (Some e)) = ExprWritable e
 LastSaid (ThrowLast e) = ExprWritable e
 
 abbrev pub InstrsSaid : List InstrTree → Type 0

@@ -56,7 +56,8 @@ LastWritable (GotoLast b) = IsNumber b
 LastWritable (PassLast b) = IsNumber b
 LastWritable (TestLast e y n) = ExprWritable e × IsNumber y × IsNumber n
 LastWritable (ChooseLast g) = IsNumber g
-LastWritable (ReturnLast e) = ExprWritable e
+LastWritable (ReturnLast None) = ⊥
+LastWritable (ReturnLast (Some e)) = ExprWritable e
 LastWritable (ThrowLast e) = ExprWritable e
 
 abbrev pub IsMaybeNumber : Option ℕ → Type 0

@@ -132,7 +132,8 @@ last_written (ChooseLast g) h = record {
   rule = rules.choose p p p h;
   are = ((word_spelled word.Choose, tt), ((number_spelled g h, tt), ((sign_spelled sign.Semicolon, tt), tt)));
 }
-last_written (ReturnLast e) h =
+last_written (ReturnLast None) h = absurd h
+last_written (ReturnLast (Some e)) h =
     let of = whole e h in
     record { tokens = _; rule = rules.return p p of.tokens of.rule refl; are = ((word_spelled word.Return, tt), both_are of.tokens _ of.are ((sign_spelled sign.Semicolon, tt), tt)) }
 last_written (ThrowLast e) h =

@@ -155,7 +155,7 @@ pub data LastRule : List Marked → LastTree → Type 0 where
   return : {e : ExprTree} {all : List Marked} (p q : Place) (of : List Marked)
       → WholeRule of e
       → all ≡ word_at word.Return p ∷ (of ++ sign_at sign.Semicolon q ∷ [])
-      → LastRule all (ReturnLast e)
+      → LastRule all (ReturnLast (Some e))
   throw : {e : ExprTree} {all : List Marked} (p q : Place) (of : List Marked)
       → WholeRule of e
       → all ≡ word_at word.Throw p ∷ (of ++ sign_at sign.Semicolon q ∷ [])

@@ -5,7 +5,7 @@ use Rattle.std.specs.declared.option.Option.{Option}
 use Rattle.std.specs.declared.option.Option.TheVariants.{None, Some}
 use Rattle.flow_tree.specs.Tree.{TypeTree, ExprTree}
 use Rattle.flow_tree.specs.Decls.{SlotTree, RecordTree, RoutineTree, StructDecl, FunctionDecl}
-use Rattle.flow_tree.specs.Canon.{type_text, expr_text, assign_text, call_text, line, decl_text}
+use Rattle.flow_tree.specs.Canon.{type_text, expr_text, maybe_text, assign_text, call_text, line, decl_text}
 use Rattle.flow_class.specs.declared.class.Slotted.{Slotted}
 use Rattle.flow_class.specs.declared.class.Slotted.TheVariants.{Slot, Local}
 use Rattle.flow_class.specs.Classes.{CatcherTree, InstrTree, SetInstr, EffectInstr, NewInstr, ActInstr, DropInstr, LastTree, GotoLast, PassLast, TestLast, ChooseLast, ReturnLast, ThrowLast, BlockTree, CallbackTree, ClassTree, RawTree}
@@ -57,7 +57,7 @@ last_text (GotoLast b) = codes "goto " ++ decimal b
 last_text (PassLast b) = codes "pass " ++ decimal b
 last_text (TestLast e y n) = codes "test(" ++ expr_text e ++ codes ") goto " ++ decimal y ++ codes " else " ++ decimal n
 last_text (ChooseLast g) = codes "choose " ++ decimal g
-last_text (ReturnLast e) = codes "return " ++ expr_text e
+last_text (ReturnLast e) = codes "return" ++ maybe_text (codes " ") e
 last_text (ThrowLast e) = codes "throw " ++ expr_text e
 
 abbrev pub instr_line : InstrTree → List ℕ

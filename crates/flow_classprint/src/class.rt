@@ -1,7 +1,7 @@
 // The text of a class.
 
 ghost use Rattle.std.specs.Prelude.{◌≡◌, ◌++◌, codes, decimal, length, map, IfOk};
-ghost use Rattle.flow_tree.specs.View.{type_of};
+ghost use Rattle.flow_tree.specs.View.{type_of, result_of};
 ghost use Rattle.flow_tree.specs.DeclView.{slot_of};
 ghost use Rattle.flow_tree.specs.Canon.{type_text, line};
 ghost use Rattle.flow_class.specs.View.{block_of, group_of, class_of};
@@ -105,13 +105,13 @@ fn put_groups(out: &mut Source, groups: &[Group]) -> Result<(), NoMemory>
 // Adds the line with which a class begins.
 fn put_class_begin(out: &mut Source, class: &Class) -> Result<(), NoMemory>
     ensures { IfOk result (λ _. out.new ≡ out.old ++ line 0 (codes "class " ++ class.now.name
-        ++ codes " returns " ++ type_text (type_of class.now.returns) ++ codes " params "
+        ++ codes " returns " ++ type_text (result_of class.now.returns) ++ codes " params "
         ++ decimal class.now.params ++ codes " {")) }
 {
     out.put(b"class ")?;
     out.put(class.name.bytes())?;
     out.put(b" returns ")?;
-    out.put_type(&class.returns)?;
+    out.put_result(&class.returns)?;
     out.put(b" params ")?;
     put_number(out, class.params)?;
     out.put(b" {\n")?;

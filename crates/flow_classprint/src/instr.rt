@@ -214,7 +214,8 @@ fn put_last(out: &mut Source, last: &Last) -> Result<(), NoMemory>
         Last::Pass(block) => put_leading(out, b"pass ", *block),
         Last::Test(condition, yes, no) => put_test(out, condition, *yes, *no),
         Last::Choose(group) => put_leading(out, b"choose ", *group),
-        Last::Return(value) => put_ending(out, b"return ", value),
+        Last::Return(Some(value)) => put_ending(out, b"return ", value),
+        Last::Return(None) => out.put(b"return"),
         Last::Throw(error) => put_ending(out, b"throw ", error),
     }
 }

@@ -90,7 +90,7 @@ LastForm Goto = Formed (Behind (token.Name (codes "goto")) Target) GotoLast
 LastForm Pass = Formed (Behind (token.Name (codes "pass")) Target) PassLast
 LastForm Tests = Formed (Behind (token.Name (codes "test")) BranchPart) (λ x. x)
 LastForm Choose = Formed (Behind (token.Word word.Choose) Target) ChooseLast
-LastForm Return = Formed (Behind (token.Word word.Return) Ended) ReturnLast
+LastForm Return = Formed (Behind (token.Word word.Return) Ended) (λ e. ReturnLast (Some e))
 LastForm Throw = Formed (Behind (token.Word word.Throw) Ended) ThrowLast
 
 number_behind : (x : Token) (p q r : Place) (n : ℕ) → IsNumber n → Behind x Target (opens [] x p ∷ number_at n q ∷ sign_at sign.Semicolon r ∷ []) n
@@ -173,7 +173,7 @@ choose_turns = record {
   forth = λ w n r. subst (λ k. LastRule k (ChooseLast n)) (sym (number_whole r)) (choose r.0 r.2.2.0 r.2.0 r.2.2.1);
 }
 
-pub return_turns : Turns LastRule Any (Behind (token.Word word.Return) Ended) Any ReturnLast (Some (token.Word word.Return))
+pub return_turns : Turns LastRule Any (Behind (token.Word word.Return) Ended) Any (λ e. ReturnLast (Some e)) (Some (token.Word word.Return))
 return_turns = record { back = λ w z b r f l. back_of z (last_form_is Return z r l); forth = λ w e r. return r.0 r.2.0 r.2.1 r.2.2 (ended_whole r) }
 
 pub throw_turns : Turns LastRule Any (Behind (token.Word word.Throw) Ended) Any ThrowLast (Some (token.Word word.Throw))

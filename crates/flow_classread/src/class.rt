@@ -139,7 +139,7 @@ pub fn class(alloc: Global, tokens: &Tokens, at: usize) -> Result<(Class, usize)
     let to = sign(tokens, at, Sign::CloseCurly)?;
     let class = Class {
         name: name.name,
-        returns,
+        returns: Some(returns),
         params,
         slots,
         locals,

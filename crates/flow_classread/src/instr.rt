@@ -235,7 +235,7 @@ pub fn last(alloc: Global, tokens: &Tokens, at: usize) -> Result<(Last, usize), 
     }
     if is_word(tokens, at, Word::Return) {
         let (value, to) = ended(alloc, tokens, at + 1)?;
-        return Ok((Last::Return(value), to));
+        return Ok((Last::Return(Some(value)), to));
     }
     let at = word(tokens, at, Word::Throw)?;
     let (error, to) = ended(alloc, tokens, at)?;

@@ -3,10 +3,9 @@ use Rattle.std.specs.Prelude.{ℕ, suc, ◌+◌, Bool, true, false, List, [], �
 use Rattle.std.specs.Option.{option_map, option_and_then}
 use Rattle.std.specs.declared.option.Option.{Option}
 use Rattle.std.specs.declared.option.Option.TheVariants.{None, Some}
-use Rattle.flow_value.specs.declared.value.Kind.{Kind}
 use Rattle.flow_value.specs.declared.value.Kind.TheVariants as kind
 use Rattle.flow_tree.specs.declared.ty.Ident.{Ident}
-use Rattle.flow_tree.specs.Tree.{TypeTree, PromiseType, PromiseStreamType, ExprTree, CallExpr}
+use Rattle.flow_tree.specs.Tree.{TypeTree, PromiseType, PromiseStreamType, VectorType, ExprTree, CallExpr, returned_expr}
 use Rattle.flow_ast.specs.declared.predefined.Predefined.{Predefined}
 use Rattle.flow_ast.specs.declared.predefined.Predefined.TheVariants.{RandomInt, Delay, Never, Listen, ReadFile, WriteFile, SyncFile, FileSize}
 use Rattle.flow_ast.specs.declared.predefined.Method.{Method}
@@ -14,7 +13,7 @@ use Rattle.flow_ast.specs.TypingNames.{named, call_names, method_names}
 use Rattle.flow_class.specs.declared.class.Slotted.{Slotted}
 use Rattle.flow_class.specs.Classes.{CatcherTree, InstrTree, SetInstr, EffectInstr, NewInstr, ActInstr, DropInstr, LastTree, GotoLast, PassLast, TestLast, ChooseLast, ReturnLast, ThrowLast, BlockTree, CallbackTree, ClassTree}
 use Rattle.flow_class.specs.Code.{type_at}
-use Rattle.flow_code.specs.Resolved.Tree.{Node, Nodes}
+use Rattle.flow_code.specs.Resolved.Tree.{Node, Nodes, EmptyNode}
 use Rattle.flow_code.specs.Resolved.Resolving.{Naming, resolved, resolved_all}
 use Rattle.flow_code.specs.declared.class.Effect.{Effect}
 use Rattle.flow_code.specs.declared.class.Effect.TheVariants as effect
@@ -41,15 +40,6 @@ is_effect WriteFile = true
 is_effect SyncFile = true
 is_effect FileSize = true
 is_effect _ = false
-
--- what a new cell of a promise's type is
-abbrev pub promise_kind : TypeTree → Option Kind
-promise_kind (PromiseType t) = Some kind.Promise
-promise_kind (PromiseStreamType t) = Some kind.PromiseStream
-promise_kind _ = None
-
-abbrev pub kind_at : ClassTree → Slotted → Option Kind
-kind_at t p = option_and_then promise_kind (type_at t p)
 
 -- the numbers of the names of fields, where all are names of fields
 abbrev pub one_more : Option ℕ → Option (List ℕ) → Option (List ℕ)
@@ -84,10 +74,17 @@ effect_code None f = NoCode
 effect_code (Some a) None = NoCode
 effect_code (Some a) (Some f) = EffectCode a f.0 f.1
 
-abbrev pub new_code : Option ℕ → Option Kind → InstructionTree
-new_code None k = NoCode
+-- `new` makes a cell, or puts the empty vector in place
+abbrev pub new_of : ℕ → TypeTree → InstructionTree
+new_of n (PromiseType t) = NewCode n kind.Promise
+new_of n (PromiseStreamType t) = NewCode n kind.PromiseStream
+new_of n (VectorType t) = SetCode (record { place = n; path = [] }) EmptyNode
+new_of n _ = NoCode
+
+abbrev pub new_code : Option ℕ → Option TypeTree → InstructionTree
+new_code None t = NoCode
 new_code (Some n) None = NoCode
-new_code (Some n) (Some k) = NewCode n k
+new_code (Some n) (Some t) = new_of n t
 
 abbrev pub plain_code : Option Act → Nodes → InstructionTree
 plain_code None es = NoCode
@@ -107,10 +104,11 @@ abbrev pub operand_code : Option (Effect × Nodes) → Node → OperandTree
 operand_code None e = ValueOperand e
 operand_code (Some f) e = EffectOperand f.0 f.1
 
--- a call statement without a base is a predefined call, or one of a plain function
-abbrev pub act_named : Option Predefined → Option ℕ → Option Act
-act_named (Some p) k = Some (act.World p)
-act_named None k = option_map act.Function k
+-- a call statement without a base is a predefined call, one of a plain function, or one of a void class
+abbrev pub act_named : Option Predefined → (function class : Option ℕ) → Option Act
+act_named (Some p) f k = Some (act.World p)
+act_named None (Some f) k = Some (act.Function f)
+act_named None None k = option_map act.Actor k
 
 -- Each block that ends in a wait is the home of its group, numbered from 1: the last of several. k is the number of the
 -- first of the blocks, and the homes before are in order of the groups.
@@ -139,7 +137,7 @@ module _ (c : Coding) where
 
   abbrev pub act_code : List Ident → Nodes → InstructionTree
   act_code [] es = NoCode
-  act_code (f ∷ []) es = plain_code (act_named (named call_names f.name) (c.names.function f.name)) es
+  act_code (f ∷ []) es = plain_code (act_named (named call_names f.name) (c.names.function f.name) (c.class f.name)) es
   act_code (x ∷ y ∷ ys) es = coded_method (x ∷ before_last y ys) (last_name y ys).name es
 
   abbrev pub coded_set : List Ident → ExprTree → InstructionTree
@@ -149,7 +147,7 @@ module _ (c : Coding) where
   coded_effect xs e = effect_code (aimed xs) (effect_in e)
 
   abbrev pub coded_new : ClassTree → Slotted → InstructionTree
-  coded_new t p = new_code (place_of c.slots p) (kind_at t p)
+  coded_new t p = new_code (place_of c.slots p) (type_at t p)
 
   abbrev pub coded_operand : ExprTree → OperandTree
   coded_operand e = operand_code (effect_in e) (resolved c.names e)
@@ -170,7 +168,7 @@ module _ (c : Coding) where
   ended (PassLast b) = PassEnd b
   ended (TestLast e b d) = TestEnd (resolved c.names e) b d
   ended (ChooseLast g) = ChooseEnd g
-  ended (ReturnLast e) = ReturnEnd (resolved c.names e)
+  ended (ReturnLast e) = ReturnEnd (resolved c.names (returned_expr e))
   ended (ThrowLast e) = ThrowEnd (resolved c.names e)
 
   abbrev pub caught : CatcherTree → CatcherTree

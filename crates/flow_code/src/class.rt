@@ -19,11 +19,12 @@ pub enum Effect {
     Actor(u32),
 }
 
-/// What a call statement without a base calls: a predefined one, or the plain function at a place.
+/// What a call statement without a base calls: a predefined one, or the plain function or the void class at a place.
 #[derive(Clone, Copy, PartialEq, Eq)]
 pub enum Act {
     World(Predefined),
     Function(usize),
+    Actor(u32),
 }
 
 /// An instruction.
@@ -37,7 +38,7 @@ pub enum Instruction {
     New(u32, Kind),
     /// A call statement.
     Act(Act, Vec<Resolved>),
-    /// A method of a reference.
+    /// A method of a reference or a vector.
     Method(Aim, Method, Vec<Resolved>),
     /// Places are emptied and dropped in this order.
     Drop(Vec<u32>),

@@ -5,12 +5,15 @@ ghost use Rattle.std.specs.Option.{option_map, option_and_then};
 ghost use Rattle.std.specs.Str.{bytes_eq};
 ghost use Rattle.flow_tree.specs.View.{expr_of, exprs_of, type_of};
 ghost use Rattle.flow_ast.specs.TypingNames.{named, call_names};
+ghost use denote.Ref.{Bor};
+ghost use Rattle.flow_tree.specs.declared.ty.Ty as tree;
+ghost use Rattle.flow_class.specs.Code.{type_at};
 ghost use Rattle.flow_class.specs.View as text;
 ghost use Rattle.flow_code.specs.Resolved.Named.{at_name, first_from, or_else};
 ghost use Rattle.flow_code.specs.Resolved.Resolving.{resolved, resolved_all};
 ghost use Rattle.flow_code.specs.Resolved.View.{node_of, nodes_of};
 ghost use Rattle.flow_code.specs.Places.{place_of, place_in};
-ghost use Rattle.flow_code.specs.Coding.{is_effect, promise_kind, fields_of, aimed, effect_named, effect_in, act_named, kind_at, coded_set, coded_effect, coded_new, coded_method, coded_operand, act_code, places, coded_instruction, ended, caught, coded_block, coded_branch, homes_of, home_noted, coded_groups, coded_class};
+ghost use Rattle.flow_code.specs.Coding.{is_effect, new_of, fields_of, aimed, effect_named, effect_in, act_named, coded_set, coded_effect, coded_new, coded_method, coded_operand, act_code, places, coded_instruction, ended, caught, coded_block, coded_branch, homes_of, home_noted, coded_groups, coded_class};
 ghost use Rattle.flow_code.specs.Coder.{coding_of, name_of_class};
 ghost use Rattle.flow_code.specs.View.{aim_of, instruction_of, end_of, catcher_of, block_of, operand_of, branch_of, group_of, code_of};
 
@@ -134,13 +137,17 @@ fn is_effect(call: Predefined) -> bool
     )
 }
 
-/// What a new cell of a promise's type is.
-fn promise_kind(ty: &Ty) -> Option<Kind>
-    ensures { result ≡ promise_kind (type_of ty.now) }
+/// What `new` does in a place of this type: it makes a cell, or puts the empty vector there.
+fn new_of(alloc: Global, place: u32, ty: &Ty) -> Instruction
+    ensures { instruction_of result ≡ new_of place (type_of ty.now) }
 {
     match ty {
-        Ty::Promise(_) => Some(Kind::Promise),
-        Ty::PromiseStream(_) => Some(Kind::PromiseStream),
+        Ty::Promise(_) => Instruction::New(place, Kind::Promise),
+        Ty::PromiseStream(_) => Instruction::New(place, Kind::PromiseStream),
+        Ty::Vector(_) => {
+            let path = Vec::new(alloc);
+            Instruction::Set(Aim { place, path }, Resolved::EmptyList)
+        }
         Ty::Int
         | Ty::Bool
         | Ty::Str
@@ -148,23 +155,21 @@ fn promise_kind(ty: &Ty) -> Option<Kind>
         | Ty::Error
         | Ty::Named(_)
         | Ty::Future(_)
-        | Ty::FutureStream(_) => None,
+        | Ty::FutureStream(_) => Instruction::Invalid,
     }
 }
 
-/// What a new cell at a place of a class is, by the type of the place.
-fn kind_at(class: &text::Class, place: Slotted) -> Option<Kind>
-    ensures { result ≡ kind_at (text.class_of class.now) place }
+/// The type of a place of a class.
+fn type_at(class: &text::Class, place: Slotted) -> Option<&Ty>
+    ensures { option_map (λ (t : Bor tree.Ty). type_of t.now) result
+        ≡ type_at (text.class_of class.now) place }
 {
     match place {
         Slotted::Slot(n) => match class.slots.get(n as usize) {
-            Some(slot) => promise_kind(&slot.ty),
+            Some(slot) => Some(&slot.ty),
             None => None,
         },
-        Slotted::Local(n) => match class.locals.get(n as usize) {
-            Some(ty) => promise_kind(ty),
-            None => None,
-        },
+        Slotted::Local(n) => class.locals.get(n as usize),
     }
 }
 
@@ -281,15 +286,19 @@ impl<'n, 'a> Coder<'n, 'a> {
     // What a call statement without a base calls.
     fn plain(&self, name: &[u8]) -> Option<Act>
         ensures { result ≡ act_named (named call_names name.now)
-            ((coding_of self.now).names.function name.now) }
+            ((coding_of self.now).names.function name.now)
+            ((coding_of self.now).class name.now) }
     {
-        match predefined_call(name) {
-            Some(call) => Some(Act::World(call)),
-            None => self.names.function(name).map(Act::Function),
+        if let Some(call) = predefined_call(name) {
+            return Some(Act::World(call));
+        }
+        match self.names.function(name) {
+            Some(function) => Some(Act::Function(function)),
+            None => self.classes.class(name).map(Act::Actor),
         }
     }
 
-    // A method of the reference at a path, its arguments resolved.
+    // A method of what is at a path, its arguments resolved.
     fn method(
         &self,
         first: &Ident,
@@ -365,13 +374,13 @@ impl<'n, 'a> Coder<'n, 'a> {
         }
     }
 
-    // A new cell.
-    fn new_cell(&self, class: &text::Class, place: Slotted) -> Instruction
+    // A new cell, or an empty vector.
+    fn new_thing(&self, class: &text::Class, place: Slotted) -> Instruction
         ensures { instruction_of result ≡ coded_new (coding_of self.now) (text.class_of class.now)
             place }
     {
-        match (self.number(place), kind_at(class, place)) {
-            (Some(place), Some(kind)) => Instruction::New(place, kind),
+        match (self.number(place), type_at(class, place)) {
+            (Some(place), Some(ty)) => new_of(self.alloc, place, ty),
             _ => Instruction::Invalid,
         }
     }
@@ -384,7 +393,7 @@ impl<'n, 'a> Coder<'n, 'a> {
         match instr {
             text::Instr::Set(target, expr) => self.set(target, expr),
             text::Instr::Effect(target, expr) => self.set_effect(target, expr),
-            text::Instr::New(place) => Ok(self.new_cell(class, *place)),
+            text::Instr::New(place) => Ok(self.new_thing(class, *place)),
             text::Instr::Act(target, args) => self.act(target, self.args(args)?),
             text::Instr::Drop(locals) => Ok(Instruction::Drop(self.locals(locals)?)),
         }
@@ -398,7 +407,8 @@ impl<'n, 'a> Coder<'n, 'a> {
             text::Last::Pass(block) => Ok(Last::Pass(*block)),
             text::Last::Test(expr, yes, no) => Ok(Last::Test(self.expr(expr)?, *yes, *no)),
             text::Last::Choose(group) => Ok(Last::Choose(*group)),
-            text::Last::Return(expr) => Ok(Last::Return(self.expr(expr)?)),
+            text::Last::Return(Some(expr)) => Ok(Last::Return(self.expr(expr)?)),
+            text::Last::Return(None) => Ok(Last::Return(Resolved::VoidValue)),
             text::Last::Throw(expr) => Ok(Last::Throw(self.expr(expr)?)),
         }
     }

@@ -2,6 +2,7 @@
 use Rattle.std.proofs.Common.{ℕ, suc, Bool, true, false, List, [], ◌∷◌, ◌++◌}
 use Rattle.std.specs.Prelude.{if◌then◌else◌}
 use Rattle.std.specs.List.{AllByRecursion}
+use Rattle.std.specs.Option.{option_map}
 use Rattle.std.specs.declared.option.Option.{Option}
 use Rattle.std.specs.declared.option.Option.TheVariants.{None, Some}
 use Rattle.flow_tree.specs.Tree.{ExprTree}
@@ -113,7 +114,7 @@ module _ (ns : Names) (slots : List SlotTree) where
     lowered_grouped (ContinueStmt at k) s w n h =
         let m = exited w.looped.tried n in
         rest_grouped w.hand k (exits_grouped w.looped.tried w s n w.looped.again) (lowered_grouped k s w (begun m) h.1)
-    lowered_grouped (ReturnStmt at e k) s w n h = rest_grouped w.hand k (ends_grouped w s true [] (ReturnLast (over slots s e))) (lowered_grouped k s w (begun n) h.1)
+    lowered_grouped (ReturnStmt at e k) s w n h = rest_grouped w.hand k (ends_grouped w s true [] (ReturnLast (option_map (over slots s) e))) (lowered_grouped k s w (begun n) h.1)
     lowered_grouped (ThrowStmt at e k) s w n h = rest_grouped w.hand k (ends_grouped w s true [] (ThrowLast (thrown ns slots s at e w.caught))) (lowered_grouped k s w (begun n) h.1)
     lowered_grouped (TryStmt at b p x c k) s w n h =
         let t = w.looped.tried in

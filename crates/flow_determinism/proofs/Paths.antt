@@ -2,6 +2,7 @@
 use Rattle.std.proofs.Common.{◌≡◌, ℕ, zero, suc, Bool, true, false, List, [], ◌∷◌, ◌++◌, map, subst}
 use Rattle.std.specs.Prelude.{slice_get}
 use Rattle.std.specs.List.{AllByRecursion}
+use Rattle.std.specs.Option.{option_map}
 use Rattle.std.specs.declared.option.Option.{Option}
 use Rattle.std.specs.declared.option.Option.TheVariants.{None, Some}
 use Rattle.flow_tree.specs.declared.ty.Ident.{Ident}
@@ -166,7 +167,7 @@ module _ (ns : Names) (slots : List SlotTree) where
         let m = exited w.looped.tried n in
         rest_pathed w.hand k (exits_pathed w.looped.tried w s n w.looped.again) (lowered_pathed k s w (begun m) h.1)
     lowered_pathed (ReturnStmt at e k) s w n h =
-        rest_pathed w.hand k (ends_pathed w s true [] (ReturnLast (over slots s e)) tt) (lowered_pathed k s w (begun n) h.1)
+        rest_pathed w.hand k (ends_pathed w s true [] (ReturnLast (option_map (over slots s) e)) tt) (lowered_pathed k s w (begun n) h.1)
     lowered_pathed (ThrowStmt at e k) s w n h =
         rest_pathed w.hand k (ends_pathed w s true [] (ThrowLast (thrown ns slots s at e w.caught)) tt) (lowered_pathed k s w (begun n) h.1)
     lowered_pathed (TryStmt at b p x c k) s w n h =

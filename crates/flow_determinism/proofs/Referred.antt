@@ -1,4 +1,4 @@
--- At each boundary of a run of a text a future refers to the result of each unfinished actor, which is unmarked.
+-- At each boundary of a run of a text each unfinished actor is unmarked, and a future refers to its result, unless it is void.
 use Rattle.std.proofs.Common.{ℕ, List, [], ◌∷◌, sym, subst}
 use Rattle.std.specs.List.{AllByRecursion}
 use Rattle.flow_tree.specs.declared.decl.Program.{Program}

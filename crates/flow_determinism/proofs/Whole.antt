@@ -6,6 +6,7 @@ use Rattle.flow_tree.specs.DeclView.{program_of}
 use Rattle.flow_class.specs.Classes.{ClassTree}
 use Rattle.flow_meaning.specs.Source.{names_of}
 use Rattle.flow_split.specs.Around.{whole}
+use Rattle.flow_split.specs.Lowered.{close_of}
 use Rattle.flow_lower.specs.Compiled.{class_in}
 use Rattle.flow_lowering_laws.proofs.Programs.Whole.{EachActor}
 use Rattle.flow_validity_laws.proofs.Tested.{class_of}
@@ -36,7 +37,7 @@ compiles_whole text p h =
       groups = λ i c e.
           let k = class_of Chooses (names_of t) t.decls i c all e in
           subst (λ (d : ClassTree). AllByRecursion HasCallback d.groups) k.is
-          (lowered_grouped (names_of t) (class_in (names_of t) k.actor).slots k.actor.body [] (whole k.actor.close) (record { block = 1; local = 0; group = 1 }) k.holds).groups;
+          (lowered_grouped (names_of t) (class_in (names_of t) k.actor).slots k.actor.body [] (whole (close_of k.actor)) (record { block = 1; local = 0; group = 1 }) k.holds).groups;
     }
 
 pub programs_rest : ProgramsRest

@@ -9,7 +9,7 @@ use Rattle.flow_rules.specs.Rules.{setting_of}
 use Rattle.flow_meaning.specs.Evaluating.{Names}
 use Rattle.flow_meaning.specs.Source.{functions_in, names_of}
 use Rattle.flow_split.specs.Around.{whole}
-use Rattle.flow_split.specs.Lowered.{block_with, lowered}
+use Rattle.flow_split.specs.Lowered.{block_with, lowered, close_of}
 use Rattle.flow_lower.specs.Compiled.{class_in}
 use Rattle.flow_typing_laws.specs.ControlFlow.Laws.{AllHaveSimpleParts}
 use Rattle.flow_typing_laws.proofs.ControlFlow.SimpleParts.{program_parts}
@@ -36,8 +36,8 @@ all_pathed s (ActorDecl a ∷ ds) w p = (record { well = w.0; paths = p.0 }, all
 class_written : (s : Setting) (ns : Names) (a : RoutineTree) → IsPathed s a → IsWritten (class_in ns a)
 class_written s ns a k =
     let c = class_in ns a in
-    let ch = lowered ns c.slots [] (whole a.close) (record { block = 1; local = 0; group = 1 }) a.body in
-    let f = lowered_pathed ns c.slots a.body [] (whole a.close) (record { block = 1; local = 0; group = 1 }) k.paths in
+    let ch = lowered ns c.slots [] (whole (close_of a)) (record { block = 1; local = 0; group = 1 }) a.body in
+    let f = lowered_pathed ns c.slots a.body [] (whole (close_of a)) (record { block = 1; local = 0; group = 1 }) k.paths in
     record {
       begins = begins_there ch.body ch.last;
       slots = k.well.small.slots;

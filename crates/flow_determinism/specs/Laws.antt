@@ -57,8 +57,8 @@ ProgramsKeep = (text : List ℕ) (program : Program) → IsSound text program �
 abbrev pub ProgramsRest : Type 0
 ProgramsRest = (text : List ℕ) (program : Program) → IsSound text program → StatesRest (classes_of program)
 
--- At each boundary of a run of the text no unfinished actor is marked as cancelled, and a future refers to its
--- result, by what the actors' own variables hold.
+-- At each boundary of a run of the text no unfinished actor is marked as cancelled, and, unless it is void, a future
+-- refers to its result, by what the actors' own variables hold.
 abbrev pub SourcesReferred : Type 0
 SourcesReferred =
     (text : List ℕ) (program : Program) (w : file.World) (states : List (World Actor)) → IsSound text program

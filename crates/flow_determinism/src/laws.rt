@@ -37,7 +37,7 @@ pub fn one_list_of_lines_is_shown()
 
 /// Each `choose` of such a program has a branch, so each group of its classes has a callback. So between two steps
 /// of an event its processes keep what they have to, and at each boundary of a run no unfinished actor is marked
-/// as cancelled, and a future refers to the result of each.
+/// as cancelled, and a future refers to the result of each that isn't void.
 pub fn compiled_boundaries_have_no_marked_actor()
     ensures whole { CompilesWhole }
     ensures steps { ProgramsKeep }
@@ -48,7 +48,7 @@ pub fn compiled_boundaries_have_no_marked_actor()
 }
 
 /// At each boundary of a run of such a program, by its text, no unfinished actor is marked as cancelled, and a future
-/// refers to the result of each, by what the variables of its actors hold.
+/// refers to the result of each that isn't void, by what the variables of its actors hold.
 pub fn actors_at_boundaries_are_referred()
     ensures { SourcesReferred }
 {}

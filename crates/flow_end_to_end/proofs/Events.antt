@@ -235,12 +235,12 @@ module _ (r : RawTree) {A : Type 0} (puts : A → Line → Result (Unit {0}) Out
 
   module _ (w : Seen) (program : IsProgram r w.code) (s : WorldRepresents (Quiescent r) w m) (bound : w.ran < w.bound) where
     -- programs can tell the time of the next event
-    tells : (t : ℕ) → t ≤ latest m.out.ran → program_time t ≡ pos t
+    tells : (t : ℕ) → t ≤ latest up.lasting.slack m.out.ran → program_time t ≡ pos t
     tells t early =
         let ran = s.ran in
         let events = s.bound in
         let within : m.out.ran < m.out.file.events = omega (arith, bound, ran, events) in
-        let many = up.lasting.times.file.events in clock_tells t m.out.ran early (omega (arith, within, many))
+        let many = up.lasting.times.file.events in clock_tells up.lasting.slack t m.out.ran up.lasting.few early (omega (arith, within, many))
 
     kept_on : (g : Begun Frame) → begun_by (classes r) m (next_of m.out) ≡ Some g → GoesOn r puts g
     kept_on g q = begun_kept r program.whole.valid m g up.lasting.keeps q
@@ -488,7 +488,7 @@ module _ (r : RawTree) {A : Type 0} (puts : A → Line → Result (Unit {0}) Out
         → OrderedBreaks puts n.line.act (record (begins time w) { script = n.rest }) a f b → NextInPart puts r m a f b
     line_comes time a f b t k left n comes breaks =
         let u : Seen = record (begins time w) { script = n.rest } in
-        let early = (next_early m.out up.lasting.times).line t k left comes in
+        let early = (next_early up.lasting.slack m.out up.lasting.times).line t k left comes in
         let go = line_begins r w m s time t k left n in
         let names : OrderNames m.out.file.processes k = ((next_in m.out.file.processes m.out up.lasting.keeps.fits.script).script t k left comes).0 in
         let ordered_now = subst (λ z. next_of m.out ≡ Script t z left) (sym n.orders) comes in
@@ -506,8 +506,8 @@ module _ (r : RawTree) {A : Type 0} (puts : A → Line → Result (Unit {0}) Out
         u : Seen
         u = with_outside (with_events n.rest (begins time w).outside) (begins time w)
 
-        early : x.time ≤ latest m.out.ran
-        early = ((next_early m.out up.lasting.times).event x left comes).0
+        early : x.time ≤ latest up.lasting.slack m.out.ran
+        early = ((next_early up.lasting.slack m.out up.lasting.times).event x left comes).0
 
         same_time : x.time ≡ time
         same_time = sym n.shows.time ∙ n.at

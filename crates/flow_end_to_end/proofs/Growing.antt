@@ -9,12 +9,13 @@ use Rattle.flow_value.specs.Values.{ValueTree, RefValue, OutcomeTree, GoodOutcom
 use Rattle.flow_numbered.specs.Numbered.{Numbered, thing, put, removed}
 use Rattle.flow_meaning.specs.Cells.{Ref}
 use Rattle.flow_meaning.specs.Requests.{Spot, Act, Goes, Pass, Drops, Effects, Operand, Waits, Sends, Cancels, Prints, SendsTo, Returns, Throws, RunsOut, Stuck, Effect, Make, Start, Draw, Delay, Never, Listen, Disk, Goal, Ask, Request, Supply}
+use Rattle.flow_meaning.specs.Requests as requests
 use Rattle.flow_meaning.specs.Process.{Task, Run, Give, Throw, Catch, Store, Keep, Close, Fire, Drop, Entry, Halt, NoMeaning, Core, Proc, Raised, Engine}
 use Rattle.flow_meaning.specs.Lines.{start_line, throw_line, catch_line}
 use Rattle.flow_meaning.specs.References.{scan_of, refs_in}
 use Rattle.flow_meaning.specs.Work.{writes, pushed, leave_for, take_branch, is_ready_at}
 use Rattle.flow_meaning.specs.Effects.{result_task, push_result}
-use Rattle.flow_meaning.specs.Step.{proc, Stepped, stuck, view, enrol, start_core, start, answer_effect, answer, run_next, run, replaced, give, store, fate, throw_core, throw, OperandFate, GoesOn, Cancelled, Ready, verdict, with_operand, below, leave_kept, lost, keep_by, keep, handle, close_actor, step_tasks, step_if, step}
+use Rattle.flow_meaning.specs.Step.{proc, Stepped, stuck, view, enrol_with, enrol, start_core, start_void, start, start_alone, answer_effect, answer, run_next, run, replaced, give, store, fate, throw_core, throw, OperandFate, GoesOn, Cancelled, Ready, verdict, with_operand, below, leave_kept, lost, keep_by, keep, handle, close_actor, step_tasks, step_if, step}
 use Rattle.flow_meaning.specs.Burst.{Host, Live, serve, advanced, advance, Burst, rests, steps}
 use Rattle.flow_meaning.specs.Turns.{Starts}
 use Rattle.flow_meaning.proofs.More.{starts_same, starts_on, Fair, Even, fair, after_turn, then_even, own_fair, same_even, halt_even, writes_even, pushed_even, dropping_even, leave_for_even, take_branch_fair, drop_fair, fire_fair, close_fair}
@@ -23,6 +24,13 @@ use Rattle.flow_progress.specs.Ending.{Reaches, here, onward}
 
 enrol_even : (class : ℕ) (name : List ℕ) → Even (enrol class name)
 enrol_even class name = record { even = λ k c. refl; adds = λ c. (start_line (suc c.started) name ∷ [], refl) }
+
+alone_even : (class : ℕ) (name : List ℕ) (r : Option ℕ) → Even (enrol_with class name r)
+alone_even class name r = record { even = λ k c. refl; adds = λ c. (start_line (suc c.started) name ∷ [], refl) }
+
+void_fair : (i class : ℕ) (name : List ℕ) → Fair (start_void i class name)
+void_fair i class name =
+    after_turn (λ d. enrol_with class name None (pushed (Run i) d)) (fair _ (then_even (pushed (Run i)) (enrol_with class name None) (pushed_even (Run i)) (alone_even class name None)))
 
 start_fair : (i : ℕ) (g : Goal) (class : ℕ) (name : List ℕ) → Fair (start_core i g class name)
 start_fair i g class name =
@@ -54,6 +62,10 @@ module _ {A : Type 0} where
   start_grows e i g class None xs c = stuck_grows xs c
   start_grows e i g class (Some a) xs c = (start_fair i g class (e.label class)).grows c
 
+  alone_grows : (e : Engine A) (i class : ℕ) (o : Option A) (xs : Numbered A) → Grows (λ c. start_alone e i class o (proc c xs))
+  alone_grows e i class None xs c = stuck_grows xs c
+  alone_grows e i class (Some a) xs c = (void_fair i class (e.label class)).grows c
+
   effect_grows : (e : Engine A) (s : Supply) (i : ℕ) (g : Goal) (f : Effect) (xs : Numbered A) → Grows (λ c. answer_effect e s i g f (proc c xs))
   effect_grows e s i g (Start class args) xs c = start_grows e i g class (e.fresh class args) xs c
   effect_grows e s i g (Make kd) xs c = (react_fair s i (Effects g (Make kd))).grows c
@@ -65,6 +77,7 @@ module _ {A : Type 0} where
 
   answer_grows : (e : Engine A) (s : Supply) (i : ℕ) (a : Act) (xs : Numbered A) → Grows (λ c. answer e s i a (proc c xs))
   answer_grows e s i (Effects g f) xs c = effect_grows e s i g f xs c
+  answer_grows e s i (requests.Starts class args) xs c = alone_grows e i class (e.fresh class args) xs c
   answer_grows e s i Goes xs c = (react_fair s i Goes).grows c
   answer_grows e s i Pass xs c = (react_fair s i Pass).grows c
   answer_grows e s i (Drops vs) xs c = (react_fair s i (Drops vs)).grows c

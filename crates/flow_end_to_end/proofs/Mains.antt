@@ -23,6 +23,7 @@ use Rattle.flow_meaning.specs.Process.{Proc}
 use Rattle.flow_meaning.specs.Step.{on_core}
 use Rattle.flow_heap_refinement.specs.Counted.{nothing_in_hand}
 use Rattle.flow_heap_refinement.specs.Representing.{cell_number}
+use Rattle.flow_progress.specs.Fitting.{OwnsResult}
 use Rattle.flow_progress.proofs.CellStates.{cell_there}
 use Rattle.flow_steps.specs.declared.call.Call.TheVariants as call
 use Rattle.flow_steps.specs.declared.process.Process.{Process}
@@ -58,8 +59,8 @@ use Rattle.flow_end_to_end.proofs.Parts.{nothing_of, these_in_part, spent_in_par
 results_there : (r : RawTree) (p : Proc Frame) → ProcessInvariant r p → ResultsThere p
 results_there r p k j n e at result =
     let u = unfinished r p k j e at in
-    let same : u.fits.result ≡ n = let a = u.fits.owns in cc (a, result) in
-    let c = cell_there r k.types n (FutureType u.fits.class.returns) (thing p.core.cells n) (ap k.types (sym same) ∙ u.fits.gives) (k.fits.cells n) in (c.0, c.1)
+    let owns = subst (λ o. OwnsResult r k.types o u.fits.class.returns) result u.fits.owns in
+    let c = cell_there r k.types n (FutureType u.fits.class.returns) (thing p.core.cells n) owns.1 (k.fits.cells n) in (c.0, c.1)
 
 not_held : (x : Option ℕ) (o : Option CellId) → x ≡ None → x ≡ option_map cell_number o → is_some o ≡ true → ⊥
 not_held x None e f h = false≢true h

@@ -52,7 +52,12 @@ pub begins : (c : RawClasses) (file : World0) → AreWhole (raw_of c) → HaveFe
     → BoundaryBegins (Quiescent (raw_of c)) (WorldInvariant (raw_of c)) (IsProgram (raw_of c)) c file
 begins c file whole few range =
     let r = raw_of c in
-    record { fresh = settled_first r; code = code_first c file whole few; keeps = lasting_starts r (seen file) range; keeps_on = lasting_stays r whole.valid }
+    record {
+      fresh = settled_first r;
+      code = code_first c file whole few;
+      keeps = (lasting_starts r (seen file) range).0;
+      keeps_on = λ m b l k g q go. (lasting_stays r whole.valid m b l k g q go).0;
+    }
 
 -- something is shown of valid classes
 pub lines_shown : (c : RawClasses) (file : World0) (with_frames : Bool) → AreWhole (raw_of c) → IsInRange (seen file)

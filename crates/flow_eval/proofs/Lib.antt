@@ -1,5 +1,6 @@
 pub mod Numbers
 pub mod Lookups
+pub mod Elements
 pub mod Results
 pub mod Bodies
 pub mod Weights

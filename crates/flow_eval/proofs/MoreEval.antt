@@ -311,8 +311,9 @@ module _ (k : ℕ) (s : Setting) (run : Runner) (runs : RunsMore k run) where
       (λ vs l m h. valued_later vars (λ v left. Goes vars left) (λ v i j g. goes_later vars i j g) (call_by s run xs vs l) (call_by s run xs vs m) (call_by_later xs vs l m h))
       (eval_all s run (named vars) es left) (eval_all s run (named vars) es sum) (eval_all_later (named vars) es left sum q)
 
-  return_later : (e : ExprTree) → Runs k (return_run s run e)
-  return_later e vars left sum q = valued_later vars (λ v left. Returns v left) (λ v l m h. inl (ap (Returns v) h)) (evaluated s run e vars left) (evaluated s run e vars sum)
+  return_later : (e : Option ExprTree) → Runs k (return_run s run e)
+  return_later None vars left sum q = inl refl
+  return_later (Some e) vars left sum q = valued_later vars (λ v left. Returns v left) (λ v l m h. inl (ap (Returns v) h)) (evaluated s run e vars left) (evaluated s run e vars sum)
       (evaluated_later e vars left sum q)
 
   try_later : (body : Locals → ℕ → Run) (x : List ℕ) (handler : Locals → ℕ → Run) → Runs k body → Runs k handler → Runs k (try_run body x handler)

@@ -65,7 +65,7 @@ module _ (s : Setting) (run : Runner) (caught : Option (List ℕ)) (vars : Local
   pub comes_modify : (q : StmtKind) (t : Target) (c : Change) → q ≡ kind.Modify t c → Comes q (modify_run s run t.path.items (change_of c) vars left)
   comes_modify q t c e = put_as q _ _ (ap kind_of e ∙ kind_modify t c) (λ k. refl)
 
-  pub comes_return : (q : StmtKind) (v : Expr) → q ≡ kind.Return v → Comes q (return_run s run (expr_of v) vars left)
+  pub comes_return : (q : StmtKind) (v : Option Expr) → q ≡ kind.Return v → Comes q (return_run s run (option_map expr_of v) vars left)
   comes_return q v e = put_as q _ _ (ap kind_of e ∙ kind_return v) (λ k. refl)
 
   pub comes_throw : (q : StmtKind) (v : Option Expr) → q ≡ kind.Throw v → Comes q (throw_run s run (option_map expr_of v) caught vars left)

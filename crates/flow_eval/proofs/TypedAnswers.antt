@@ -1,5 +1,5 @@
 -- Operators, predefined calls and methods on well-typed values have an answer, and of their type.
-use Rattle.std.proofs.Common.{◌≡◌, ℕ, zero, suc, ℤ, pos, Bool, true, false, if◌then◌else◌, ◌&&◌, List, [], ◌∷◌, ◌++◌, length, slice_get, refl, ap, sym, subst, ◌∙◌}
+use Rattle.std.proofs.Common.{◌≡◌, ℕ, zero, suc, ℤ, pos, negsuc, Bool, true, false, if◌then◌else◌, ◌&&◌, List, [], ◌∷◌, ◌++◌, length, slice_get, refl, ap, sym, subst, ◌∙◌}
 use Rattle.std.specs.Prelude.{nat_le, int_le, take, drop}
 use Rattle.std.specs.declared.option.Option.{Option}
 use Rattle.std.specs.declared.option.Option.TheVariants.{None, Some}
@@ -11,19 +11,19 @@ use Rattle.flow_ast.specs.declared.predefined.Predefined.{Predefined}
 use Rattle.flow_ast.specs.declared.predefined.Predefined.TheVariants as call
 use Rattle.flow_ast.specs.declared.predefined.Method.{Method}
 use Rattle.flow_ast.specs.declared.predefined.Method.TheVariants as method
-use Rattle.flow_tree.specs.Tree.{TypeTree, IntType, BoolType, StringType, VoidType, ErrorType, NamedType, FutureType, FutureStreamType, PromiseType, PromiseStreamType}
+use Rattle.flow_tree.specs.Tree.{TypeTree, IntType, BoolType, StringType, VoidType, ErrorType, NamedType, FutureType, FutureStreamType, PromiseType, PromiseStreamType, VectorType, NothingType}
 use Rattle.flow_tree.specs.Decls.{RecordTree}
 use Rattle.flow_ast.specs.Typing.{Signature, signature, is_effect, applied, same_type, same_types, sum_type, order_type, equality_type, int_only, bool_only, sign_type, method_signature, field_type}
 use Rattle.flow_ast.specs.Typing as type
 use Rattle.flow_value.specs.declared.value.Kind.{Kind}
 use Rattle.flow_value.specs.declared.value.Kind.TheVariants.{Promise, Future, PromiseStream, FutureStream}
-use Rattle.flow_value.specs.Values.{ValueTree, IntValue, BoolValue, TextValue, VoidValue, ErrorValue, CompositeValue, RefValue, RecordWhole, ListWhole, OutcomeTree, GoodOutcome, BadOutcome, values_of_list, at_place}
+use Rattle.flow_value.specs.Values.{ValueTree, ValueTrees, IntValue, BoolValue, TextValue, VoidValue, ErrorValue, CompositeValue, RefValue, RecordWhole, ListWhole, OutcomeTree, GoodOutcome, BadOutcome, values_of_list, value_at, at_place}
 use Rattle.flow_eval.specs.Answers.{Answer, Given, Throws, NoMeaning, whole, truth, int_of, text_of, arg}
 use Rattle.flow_eval.specs.Operators.{operated, on_ints, on_texts, on_bools, quotient, remainder}
-use Rattle.flow_eval.specs.Predefined.{call_answer, method_answer, to_string, to_int, int_read, read_int, error_number, in_error_range, natural, substr, text_method, future_method, promise_method, stream_method, error_method, got}
+use Rattle.flow_eval.specs.Predefined.{call_answer, method_answer, to_string, to_int, int_read, read_int, error_number, in_error_range, natural, substr, text_method, element, element_got, indexed, list_method, future_method, promise_method, stream_method, error_method, got}
 use Rattle.flow_eval.specs.Records.{field}
-use Rattle.flow_eval.specs.Typed.{reference_type, HasType, HaveTypes, CellsFit}
-use Rattle.flow_eval.proofs.TypedValues.{some_same, none_some, bytes_same, is_int_value, is_bool_value, is_text_value, field_at, value_got}
+use Rattle.flow_eval.specs.Typed.{reference_type, AllAre, HasType, HaveTypes, CellsFit}
+use Rattle.flow_eval.proofs.TypedValues.{some_same, none_some, bytes_same, is_int_value, is_bool_value, is_text_value, field_at, value_got, element_fits}
 
 -- two types that are said to be the same are
 pub type_same : (t u : TypeTree) → same_type t u ≡ true → t ≡ u
@@ -37,6 +37,8 @@ type_same (FutureType t) (FutureType u) e = ap FutureType (type_same t u e)
 type_same (FutureStreamType t) (FutureStreamType u) e = ap FutureStreamType (type_same t u e)
 type_same (PromiseType t) (PromiseType u) e = ap PromiseType (type_same t u e)
 type_same (PromiseStreamType t) (PromiseStreamType u) e = ap PromiseStreamType (type_same t u e)
+type_same (VectorType t) (VectorType u) e = ap VectorType (type_same t u e)
+type_same NothingType NothingType e = refl
 type_same t u e = absurd (cc)
 
 pub types_same : (ts us : List TypeTree) → same_types ts us ≡ true → ts ≡ us
@@ -151,6 +153,8 @@ module _ (rs : List RecordTree) (typed : ℕ → TypeTree → Type 0) where
   no_types (FutureStreamType u) s = (refl, refl, refl, refl, refl)
   no_types (PromiseType u) s = (refl, refl, refl, refl, refl)
   no_types (PromiseStreamType u) s = (refl, refl, refl, refl, refl)
+  no_types (VectorType u) s = (refl, refl, refl, refl, refl)
+  no_types NothingType s = (refl, refl, refl, refl, refl)
 
   no_sign : {A : Type 0} (op : Op) (u t : TypeTree) → has_signs u ≡ false → sign_type op u ≡ Some t → A
   no_sign Or u t s e = none_some t (sym (no_types u s).4 ∙ e)
@@ -187,7 +191,7 @@ module _ (rs : List RecordTree) (typed : ℕ → TypeTree → Type 0) where
   operated_typed op VoidValue w u t s h k e = no_sign op VoidType t refl (subst (λ u. sign_type op u ≡ Some t) h e)
   operated_typed op (ErrorValue n) w u t s h k e = no_sign op ErrorType t refl (subst (λ u. sign_type op u ≡ Some t) h e)
   operated_typed op (CompositeValue (RecordWhole r) vs) w u t s h k e = no_sign op (NamedType h.1.name) t refl (subst (λ u. sign_type op u ≡ Some t) h.1.named e)
-  operated_typed op (CompositeValue ListWhole vs) w u t s h k e = absurd h.1
+  operated_typed op (CompositeValue ListWhole vs) w u t s h k e = no_sign op (VectorType h.1.0) t refl (subst (λ u. sign_type op u ≡ Some t) h.1.1 e)
   operated_typed op (RefValue j c) w u t s h k e = no_sign op (reference_type j h.0) t (unsigned j h.0) (subst (λ u. sign_type op u ≡ Some t) h.1 e)
 
   -- the argument at a place
@@ -263,7 +267,7 @@ module _ (rs : List RecordTree) (typed : ℕ → TypeTree → Type 0) where
       let at = field_at rs m.name r m.call x t m.placed m.called (sym (ap (λ u. field_type rs u x) m.named) ∙ e) in
       let got = value_got rs typed vs h.0 at.0 t h.2 (ap (λ l. slice_get l at.0) m.fields ∙ at.2) in
       (got.0, ap (at_place vs) at.1 ∙ got.1, got.2)
-  field_typed (CompositeValue ListWhole vs) u x t h e = absurd h.1
+  field_typed (CompositeValue ListWhole vs) u x t h e = none_some t (sym (ap (λ u. field_type rs u x) h.1.1) ∙ e)
   field_typed (RefValue Promise c) u x t h e = none_some t (sym (ap (λ u. field_type rs u x) h.1) ∙ e)
   field_typed (RefValue Future c) u x t h e = none_some t (sym (ap (λ u. field_type rs u x) h.1) ∙ e)
   field_typed (RefValue PromiseStream c) u x t h e = none_some t (sym (ap (λ u. field_type rs u x) h.1) ∙ e)
@@ -282,6 +286,9 @@ module _ (rs : List RecordTree) (typed : ℕ → TypeTree → Type 0) where
   error_method_typed method.Send n ts t e = none_some t e
   error_method_typed method.SendError n ts t e = none_some t e
   error_method_typed method.Cancel n ts t e = none_some t e
+  error_method_typed method.PushBack n ts t e = none_some t e
+  error_method_typed method.Clear n ts t e = none_some t e
+  error_method_typed method.At n ts t e = none_some t e
 
   substr_typed : (s : List ℕ) (o p : Option ℤ) (from count : ℤ) → o ≡ Some from → p ≡ Some count → Typed StringType (substr s o p)
   substr_typed s o p from count e h =
@@ -306,6 +313,38 @@ module _ (rs : List RecordTree) (typed : ℕ → TypeTree → Type 0) where
   text_method_typed method.Send s vs ts t e h = none_some t e
   text_method_typed method.SendError s vs ts t e h = none_some t e
   text_method_typed method.Cancel s vs ts t e h = none_some t e
+  text_method_typed method.PushBack s vs ts t e h = none_some t e
+  text_method_typed method.Clear s vs ts t e h = none_some t e
+  text_method_typed method.At s vs ts t e h = none_some t e
+
+  -- an element of a list, or the error of an index that is none of one
+  got_element_typed : (o : Option ValueTree) (u : TypeTree) → ((v : ValueTree) → o ≡ Some v → HasType rs typed v u) → Typed u (element_got o)
+  got_element_typed None u h = tt {0}
+  got_element_typed (Some v) u h = h v refl
+
+  element_typed : (es : ValueTrees) (us : List TypeTree) (u : TypeTree) (n : ℤ) → HaveTypes rs typed es us → AllAre u us → Typed u (element_got (element es n))
+  element_typed es us u (pos k) h a = got_element_typed (value_at es k) u (λ v e. element_fits rs typed es us u k v h a e)
+  element_typed es us u (negsuc k) h a = tt {0}
+
+  list_method_typed : (m : Method) (es : ValueTrees) (vs : List ValueTree) (us ts : List TypeTree) (u t : TypeTree) → HaveTypes rs typed es us → AllAre u us
+      → applied (type.vector_method u m) ts ≡ Some t → HaveTypes rs typed (values_of_list vs) ts → Typed t (list_method m es vs)
+  list_method_typed method.Size es vs us ts u t h a e k = sym (applied_some (record { params = []; gives = IntType }) ts t e).1
+  list_method_typed method.At es vs us ts u t h a e k =
+      let is = applied_some (record { params = IntType ∷ []; gives = u }) ts t e in
+      let n = int_at vs ts 0 k (ap (λ l. slice_get l 0) (sym is.0)) in
+      subst (λ t. Typed t (list_method method.At es vs)) is.1 (subst (λ o. Typed u (indexed es o)) (sym n.1) (element_typed es us u n.0 h a))
+  list_method_typed method.Code es vs us ts u t h a e k = none_some t e
+  list_method_typed method.Substr es vs us ts u t h a e k = none_some t e
+  list_method_typed method.IsReady es vs us ts u t h a e k = none_some t e
+  list_method_typed method.IsError es vs us ts u t h a e k = none_some t e
+  list_method_typed method.Get es vs us ts u t h a e k = none_some t e
+  list_method_typed method.GetFuture es vs us ts u t h a e k = none_some t e
+  list_method_typed method.IsSet es vs us ts u t h a e k = none_some t e
+  list_method_typed method.Send es vs us ts u t h a e k = none_some t e
+  list_method_typed method.SendError es vs us ts u t h a e k = none_some t e
+  list_method_typed method.Cancel es vs us ts u t h a e k = none_some t e
+  list_method_typed method.PushBack es vs us ts u t h a e k = none_some t e
+  list_method_typed method.Clear es vs us ts u t h a e k = none_some t e
 
   got_typed : (o : Option OutcomeTree) (t : TypeTree) → ((v : ValueTree) → o ≡ Some (GoodOutcome v) → HasType rs typed v t) → Typed t (got o)
   got_typed None t h = tt {0}
@@ -325,6 +364,9 @@ module _ (rs : List RecordTree) (typed : ℕ → TypeTree → Type 0) where
   future_method_typed method.Send o u ts t h e = none_some t e
   future_method_typed method.SendError o u ts t h e = none_some t e
   future_method_typed method.Cancel o u ts t h e = none_some t e
+  future_method_typed method.PushBack o u ts t h e = none_some t e
+  future_method_typed method.Clear o u ts t h e = none_some t e
+  future_method_typed method.At o u ts t h e = none_some t e
 
   promise_method_typed : (m : Method) (c : ℕ) (o : Option OutcomeTree) (u : TypeTree) (ts : List TypeTree) (t : TypeTree) → typed c (FutureType u)
       → applied (type.promise_method u m) ts ≡ Some t → Typed t (promise_method m c o)
@@ -339,6 +381,9 @@ module _ (rs : List RecordTree) (typed : ℕ → TypeTree → Type 0) where
   promise_method_typed method.Send c o u ts t h e = none_some t e
   promise_method_typed method.SendError c o u ts t h e = none_some t e
   promise_method_typed method.Cancel c o u ts t h e = none_some t e
+  promise_method_typed method.PushBack c o u ts t h e = none_some t e
+  promise_method_typed method.Clear c o u ts t h e = none_some t e
+  promise_method_typed method.At c o u ts t h e = none_some t e
 
   stream_method_typed : (m : Method) (c : ℕ) (u : TypeTree) (ts : List TypeTree) (t : TypeTree) → typed c (FutureStreamType u) → applied (type.stream_method u m) ts ≡ Some t
       → Typed t (stream_method m c)
@@ -353,6 +398,9 @@ module _ (rs : List RecordTree) (typed : ℕ → TypeTree → Type 0) where
   stream_method_typed method.Send c u ts t h e = none_some t e
   stream_method_typed method.SendError c u ts t h e = none_some t e
   stream_method_typed method.Cancel c u ts t h e = none_some t e
+  stream_method_typed method.PushBack c u ts t h e = none_some t e
+  stream_method_typed method.Clear c u ts t h e = none_some t e
+  stream_method_typed method.At c u ts t h e = none_some t e
 
   pub method_typed : (cells : ℕ → Option OutcomeTree) (m : Method) (v : ValueTree) (u : TypeTree) (vs : List ValueTree) (ts : List TypeTree) (t : TypeTree)
       → CellsFit rs typed cells → HasType rs typed v u → applied (method_signature u m) ts ≡ Some t → HaveTypes rs typed (values_of_list vs) ts → Typed t (method_answer cells m v vs)
@@ -362,7 +410,8 @@ module _ (rs : List RecordTree) (typed : ℕ → TypeTree → Type 0) where
   method_typed cells m VoidValue u vs ts t fit h e k = none_some t (sym (ap (λ u. applied (method_signature u m) ts) h) ∙ e)
   method_typed cells m (ErrorValue n) u vs ts t fit h e k = error_method_typed m n ts t (sym (ap (λ u. applied (method_signature u m) ts) h) ∙ e)
   method_typed cells m (CompositeValue (RecordWhole r) ws) u vs ts t fit h e k = none_some t (sym (ap (λ u. applied (method_signature u m) ts) h.1.named) ∙ e)
-  method_typed cells m (CompositeValue ListWhole ws) u vs ts t fit h e k = absurd h.1
+  method_typed cells m (CompositeValue ListWhole ws) u vs ts t fit h e k =
+      list_method_typed m ws vs h.0 ts h.1.0 t h.2 h.1.2 (sym (ap (λ u. applied (method_signature u m) ts) h.1.1) ∙ e) k
   method_typed cells m (RefValue Future c) u vs ts t fit h e k =
       future_method_typed m (cells c) h.0 ts t (λ v is. fit c h.0 v h.2 is) (sym (ap (λ u. applied (method_signature u m) ts) h.1) ∙ e)
   method_typed cells m (RefValue Promise c) u vs ts t fit h e k =

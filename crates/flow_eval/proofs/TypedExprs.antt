@@ -1,7 +1,7 @@
 -- Well-typed expressions without effects have a meaning, where the functions that they call have one.
 use Rattle.std.proofs.Common.{◌≡◌, ℕ, Bool, true, false, ◌&&◌, not, List, [], ◌∷◌, refl, ap, sym, subst, ◌∙◌}
 use Rattle.std.specs.Prelude.{neg_ℤ}
-use Rattle.std.specs.Option.{option_map}
+use Rattle.std.specs.Option.{option_map, option_and_then}
 use Rattle.std.specs.declared.option.Option.{Option}
 use Rattle.std.specs.declared.option.Option.TheVariants.{None, Some}
 use Rattle.flow_base.proofs.Bools.{and_left, and_right}
@@ -9,10 +9,10 @@ use Rattle.flow_tree.specs.declared.expr.Op.{Op}
 use Rattle.flow_tree.specs.declared.expr.Op.TheVariants.{Or, And, Eq, Ne, Lt, Le, Gt, Ge, Add, Sub, Mul, Div, Rem}
 use Rattle.flow_ast.specs.declared.predefined.Predefined.{Predefined}
 use Rattle.flow_ast.specs.declared.predefined.Method.{Method}
-use Rattle.flow_tree.specs.Tree.{TypeTree, IntType, BoolType, StringType, VoidType, ErrorType, NamedType, FutureType, FutureStreamType, PromiseType, PromiseStreamType, ExprTree, ExprTrees, IntExpr, TextExpr, BoolExpr, VoidExpr, VarExpr, CallExpr, FieldExpr, MethodExpr, NotExpr, NegExpr, BinaryExpr, ParenExpr, NoExprs, MoreExprs}
+use Rattle.flow_tree.specs.Tree.{TypeTree, IntType, BoolType, StringType, VoidType, ErrorType, NamedType, FutureType, FutureStreamType, PromiseType, PromiseStreamType, VectorType, NothingType, ExprTree, ExprTrees, IntExpr, TextExpr, BoolExpr, VoidExpr, VarExpr, CallExpr, FieldExpr, MethodExpr, NotExpr, NegExpr, BinaryExpr, ParenExpr, NoExprs, MoreExprs}
 use Rattle.flow_tree.specs.Decls.{ParamTree, RecordTree, RoutineTree}
 use Rattle.flow_ast.specs.TypingNames.{named, selected, call_names, constant_names}
-use Rattle.flow_ast.specs.Typing.{ScopeTree, Signature, effect_call, or_else, is_there, record_call, routine_named, param_named, param_types, applied, same_type, int_only, bool_only, sign_type, with_type, binary_type, more_types, variable_in, method_in, field_type, call_in, effect_in, call_signature, type_in, types_in, without_effects, all_without_effects}
+use Rattle.flow_ast.specs.Typing.{ScopeTree, Signature, effect_call, or_else, is_there, actor_gives, record_call, routine_named, param_named, param_types, applied, same_type, int_only, bool_only, sign_type, with_type, binary_type, more_types, variable_in, method_in, field_type, call_in, effect_in, call_signature, type_in, types_in, without_effects, all_without_effects}
 use Rattle.flow_value.specs.Values.{ValueTree, IntValue, values_of_list}
 use Rattle.flow_eval.specs.Answers.{Answer, Given, Throws, NoMeaning, bool_of, truth, if_int}
 use Rattle.flow_eval.specs.Predefined.{call_answer, method_answer}
@@ -57,6 +57,8 @@ int_is (FutureType u) t e = none_some t e
 int_is (FutureStreamType u) t e = none_some t e
 int_is (PromiseType u) t e = none_some t e
 int_is (PromiseStreamType u) t e = none_some t e
+int_is (VectorType u) t e = none_some t e
+int_is NothingType t e = none_some t e
 
 bool_is : (u t : TypeTree) → bool_only u ≡ Some t → (u ≡ BoolType) × (t ≡ BoolType)
 bool_is BoolType t e = (refl, sym (some_same BoolType t e))
@@ -69,6 +71,8 @@ bool_is (FutureType u) t e = none_some t e
 bool_is (FutureStreamType u) t e = none_some t e
 bool_is (PromiseType u) t e = none_some t e
 bool_is (PromiseStreamType u) t e = none_some t e
+bool_is (VectorType u) t e = none_some t e
+bool_is NothingType t e = none_some t e
 
 not_true : (b : Bool) → not b ≡ true → b ≡ false
 not_true true e = sym e
@@ -99,7 +103,7 @@ module _ (s : Setting) (typed : ℕ → TypeTree → Type 0) (actors : List Rout
       → RunnerFits s.records typed s.functions run → record_call s.records x ≡ ro → routine_named s.functions x ≡ fo
       → not (is_there ro) && not (is_there fo) && is_there ao ≡ false
       → applied (or_else ro (or_else (option_map (λ (f : RoutineTree). record { params = param_types f.params; gives = f.returns }) fo)
-      (option_map (λ (f : RoutineTree). record { params = param_types f.params; gives = FutureType f.returns }) ao))) ts ≡ Some t
+      (option_and_then (λ (f : RoutineTree). actor_gives (param_types f.params) f.returns) ao))) ts ≡ Some t
       → Are ts vs → Safe (Is t) (declared_called s run (record_id s.records x) x vs left)
   declared_good (Some sg) fo ao x vs ts t left runs ir fi w e h =
       let id = id_there s.records x sg ir in

@@ -121,7 +121,7 @@ module _ (rs : List RecordTree) (typed : ℕ → TypeTree → Type 0) where
         ap (λ o. put_at (CompositeValue (RecordWhole r) vs) o (Some w)) at.1,
         (h.0, m, value_put_fits rs typed vs h.0 at.0 t w h.2 (ap (λ l. slice_get l at.0) m.fields ∙ at.2) k),
       )
-  field_put (CompositeValue ListWhole vs) u x t w h e k = absurd h.1
+  field_put (CompositeValue ListWhole vs) u x t w h e k = none_some t (sym (ap (λ u. field_type rs u x) h.1.1) ∙ e)
   field_put (RefValue Promise c) u x t w h e k = none_some t (sym (ap (λ u. field_type rs u x) h.1) ∙ e)
   field_put (RefValue Future c) u x t w h e k = none_some t (sym (ap (λ u. field_type rs u x) h.1) ∙ e)
   field_put (RefValue PromiseStream c) u x t w h e k = none_some t (sym (ap (λ u. field_type rs u x) h.1) ∙ e)

@@ -6,18 +6,18 @@ use Rattle.std.specs.declared.option.Option.{Option}
 use Rattle.std.specs.declared.option.Option.TheVariants.{None, Some}
 use Rattle.flow_tree.specs.declared.ty.Ident.{Ident}
 use Rattle.flow_tree.specs.declared.expr.Op.TheVariants.{Add, Sub}
-use Rattle.flow_tree.specs.Tree.{TypeTree, IntType, BoolType, StringType, ErrorType, ExprTree, ExprTrees}
+use Rattle.flow_tree.specs.Tree.{TypeTree, IntType, BoolType, StringType, ErrorType, VectorType, ExprTree, ExprTrees}
 use Rattle.flow_tree.specs.Body.{IntoTree, ChangeTree, PlusChange, MinusChange, UpChange, DownChange, Body, End, BlockStmt, IfStmt, IfElseStmt, WhileStmt, ForStmt, LoopStmt, BreakStmt, ContinueStmt, ReturnStmt, ThrowStmt, TryStmt, ChooseStmt, DeclareStmt, AssignStmt, ModifyStmt, CallStmt, WaitStmt}
 use Rattle.flow_tree.specs.Decls.{ParamTree, RoutineTree}
 use Rattle.flow_ast.specs.TypingNames.{named}
 use Rattle.flow_ast.specs.Typing.{is_there, sign_type, param_types}
-use Rattle.flow_value.specs.Values.{ValueTree, IntValue, BoolValue, TextValue, ErrorValue, values_of_list}
+use Rattle.flow_value.specs.Values.{ValueTree, IntValue, BoolValue, TextValue, ErrorValue, CompositeValue, ListWhole, NoValues, values_of_list}
 use Rattle.flow_eval.specs.Answers.{bool_of, error_of}
 use Rattle.flow_eval.specs.Operators.{operated}
 use Rattle.flow_eval.specs.Eval.{Res, Done, Fails, Spent, Meaningless, Setting, Runner, at_once, eval_all, function_called}
 use Rattle.flow_eval.specs.Functions.{Locals, Run, Goes, Breaks, Continues, Returns, Raises, SpentRun, NoRun, after, scoped, valued, chosen, again, passes, stepped, caught_by, thrown, error_at, default_value, bound, declared, assigned, scope, skip, leave_loop, change_sign, handled, try_run, put_path, evaluated, if_run, pass_run, turn_run, loop_run, for_run, throw_run, declare_run, assign_run, change_operand, changed, modify_run, call_by, call_run, return_run, exec, finished, entered, body_run, run_function}
 use Rattle.flow_ast.specs.Leaving.{has_statement, reaches_end, reaches_break}
-use Rattle.flow_ast.specs.Fits.{declared_in, path_type, has_plain_default, Yields, MaybeYields, ChangeFits, DeclareFits, CallFits, ThrowFits, BodyFits, FunctionFits, FunctionsFit}
+use Rattle.flow_ast.specs.Fits.{declared_in, path_type, has_plain_default, Yields, MaybeYields, ChangeFits, DeclareFits, CallFits, ThrowFits, ReturnFits, BodyFits, FunctionFits, FunctionsFit}
 use Rattle.flow_eval.specs.Typed.{HasType, HaveTypes, CellsFit}
 use Rattle.flow_eval.specs.WellTyped.{Safe}
 use Rattle.flow_eval.proofs.TypedValues.{first_there, is_bool_value, is_error_value}
@@ -283,6 +283,7 @@ module _ (s : Setting) (typed : ℕ → TypeTree → Type 0) where
     default_there IntType e = (IntValue (pos 0), refl, refl)
     default_there BoolType e = (BoolValue false, refl, refl)
     default_there StringType e = (TextValue [], refl, refl)
+    default_there (VectorType t) e = (CompositeValue ListWhole NoValues, refl, ([], (t, refl, tt), refl))
     default_there t e = absurd (cc)
 
     declare_runs : (r : TypeTree) (loop : Bool) (ps : List ParamTree) (ls : Locals) (i : IntoTree) (e : Option ExprTree) (left : ℕ) → Fit ps ls → DeclareFits s.records s.functions actors ps i e
@@ -296,8 +297,10 @@ module _ (s : Setting) (typed : ℕ → TypeTree → Type 0) where
         (evaluated s run e ls left) ls
         (λ v left. declared (Some v) i.name.name ls left) (value_good ps ls e i.ty left f y) (extends_same ps ls f) (λ v left h. (refl, bound_fits s.records typed ps ls i.name i.ty v f h))
 
-    return_runs : (r : TypeTree) (loop : Bool) (ps : List ParamTree) (ls : Locals) (e : ExprTree) (left : ℕ) → Fit ps ls → Yield ps e r → Runs r loop ps ps false false (return_run s run e ls left)
-    return_runs r loop ps ls e left f y =
+    return_runs : (r : TypeTree) (loop : Bool) (ps : List ParamTree) (ls : Locals) (e : Option ExprTree) (left : ℕ) → Fit ps ls → ReturnFits s.records s.functions actors ps e r
+        → Runs r loop ps ps false false (return_run s run e ls left)
+    return_runs r loop ps ls None left f y = absurd y
+    return_runs r loop ps ls (Some e) left f y =
         valued_comes r (λ v. HasType s.records typed v r) (Went false ps) (Left loop false (Extends ps)) (Left loop true (Extends ps)) (Extends ps) (evaluated s run e ls left) ls
         (λ v left. Returns v left) (value_good ps ls e r left f y) (extends_same ps ls f) (λ v left h. h)
 

@@ -7,7 +7,7 @@ use Rattle.std.specs.declared.option.Option.{Option}
 use Rattle.std.specs.declared.option.Option.TheVariants.{None, Some}
 use Rattle.std.proofs.lemmas.List.Folds.{find_at}
 use Rattle.std.proofs.lemmas.Slice.Eq.{bytes_eq-Decides}
-use Rattle.flow_tree.specs.Tree.{TypeTree, IntType, BoolType, StringType, ErrorType, NamedType, FutureType, FutureStreamType, PromiseType, PromiseStreamType}
+use Rattle.flow_tree.specs.Tree.{TypeTree, IntType, BoolType, StringType, ErrorType, NamedType, FutureType, FutureStreamType, PromiseType, PromiseStreamType, VectorType}
 use Rattle.flow_tree.specs.Decls.{ParamTree, RecordTree}
 use Rattle.flow_ast.specs.TypingNames.{named}
 use Rattle.flow_ast.specs.Typing.{Signature, is_packet, packet_fields, takes, record_named, param_named, param_types, record_call, record_field, declared_field}
@@ -17,7 +17,7 @@ use Rattle.flow_value.specs.declared.value.RecordId.{RecordId}
 use Rattle.flow_value.specs.declared.value.RecordId.TheVariants.{Packet, Declared}
 use Rattle.flow_value.specs.Values.{ValueTree, ValueTrees, NoValues, MoreValues, IntValue, BoolValue, TextValue, VoidValue, ErrorValue, CompositeValue, RefValue, Whole, RecordWhole, ListWhole, value_at, value_put}
 use Rattle.flow_eval.specs.Records.{record_id, field_place, place_in}
-use Rattle.flow_eval.specs.Typed.{reference_type, IsMadeOf, HasType, HaveTypes}
+use Rattle.flow_eval.specs.Typed.{reference_type, AllAre, IsMadeOf, HasType, HaveTypes}
 
 pub some_same : {A : Type 0} (x y : A) → Some x ≡ Some y → x ≡ y
 some_same x y e = cc
@@ -192,11 +192,12 @@ no_reference k t u p e = absurd (let d : true ≡ false = sym p ∙ ap is_plain 
 -- a type whose values have parts
 abbrev pub has_parts : TypeTree → Bool
 has_parts (NamedType x) = true
+has_parts (VectorType t) = true
 has_parts _ = false
 
 made_parts : (rs : List RecordTree) (w : Whole) (t : TypeTree) (ts : List TypeTree) → IsMadeOf rs w t ts → has_parts t ≡ true
 made_parts rs (RecordWhole r) t ts h = ap has_parts h.named
-made_parts rs ListWhole t ts h = absurd h
+made_parts rs ListWhole t ts h = ap has_parts h.1
 
 pub no_parts : {A : Type 0} (rs : List RecordTree) (w : Whole) (t : TypeTree) (ts : List TypeTree) → has_parts t ≡ false → IsMadeOf rs w t ts → A
 no_parts rs w t ts e h = absurd (let d : false ≡ true = sym e ∙ made_parts rs w t ts h in cc)
@@ -246,6 +247,17 @@ module _ (rs : List RecordTree) (typed : ℕ → TypeTree → Type 0) where
       let same : h.0 ≡ t = some_same h.0 t (sym (ap (λ l. slice_get l 0) h.2) ∙ e) in
       (v, refl, subst (HasType rs typed v) same h.3)
   value_got (MoreValues v vs) ts (suc k) t h e = value_got vs h.1 k t h.4 (sym (ap (λ l. slice_get l (suc k)) h.2) ∙ e)
+
+  -- an element of a list, whose elements are of one type
+  pub element_fits : (vs : ValueTrees) (ts : List TypeTree) (u : TypeTree) (k : ℕ) (v : ValueTree) → HaveTypes rs typed vs ts → AllAre u ts → value_at vs k ≡ Some v
+      → HasType rs typed v u
+  element_fits NoValues ts u k v h a e = none_some v e
+  element_fits (MoreValues w vs) ts u zero v h a e =
+      let is : AllAre u (h.0 ∷ h.1) = subst (AllAre u) h.2 a in
+      subst (λ w. HasType rs typed w u) (some_same w v e) (subst (HasType rs typed w) is.0 h.3)
+  element_fits (MoreValues w vs) ts u (suc k) v h a e =
+      let is : AllAre u (h.0 ∷ h.1) = subst (AllAre u) h.2 a in
+      element_fits vs h.1 u k v h.4 is.1 e
 
   pub value_put_fits : (vs : ValueTrees) (ts : List TypeTree) (k : ℕ) (t : TypeTree) (w : ValueTree) → HaveTypes rs typed vs ts → slice_get ts k ≡ Some t → HasType rs typed w t
       → HaveTypes rs typed (value_put vs k w) ts

@@ -1,6 +1,7 @@
 -- A function as a tree, of which the tests speak:
 -- `int f(int n) { if (n == 0) { return 0; } return f(n - 1) + 1; }`.
 use Rattle.std.specs.Prelude.{ℕ, pos, List, [], ◌∷◌, codes}
+use Rattle.std.specs.declared.option.Option.TheVariants.{Some}
 use Rattle.flow_base.specs.declared.place.Place.{Place}
 use Rattle.flow_tree.specs.declared.ty.Ident.{Ident}
 use Rattle.flow_tree.specs.declared.expr.Op.TheVariants.{Eq, Add, Sub}
@@ -22,8 +23,8 @@ call_f e = CallExpr (word (codes "f")) (MoreExprs e NoExprs)
 
 abbrev pub countdown_body : Body
 countdown_body =
-    IfStmt start (BinaryExpr Eq n (IntExpr (pos 0))) (ReturnStmt start (IntExpr (pos 0)) End)
-    (ReturnStmt start (BinaryExpr Add (call_f (BinaryExpr Sub n (IntExpr (pos 1)))) (IntExpr (pos 1))) End)
+    IfStmt start (BinaryExpr Eq n (IntExpr (pos 0))) (ReturnStmt start (Some (IntExpr (pos 0))) End)
+    (ReturnStmt start (Some (BinaryExpr Add (call_f (BinaryExpr Sub n (IntExpr (pos 1)))) (IntExpr (pos 1)))) End)
 
 abbrev pub countdown : RoutineTree
 countdown = record {

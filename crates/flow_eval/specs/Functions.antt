@@ -9,12 +9,12 @@ use Rattle.flow_base.specs.ErrorNumbers.{out_of_range}
 use Rattle.flow_tree.specs.declared.ty.Ident.{Ident}
 use Rattle.flow_tree.specs.declared.expr.Op.{Op}
 use Rattle.flow_tree.specs.declared.expr.Op.TheVariants.{Add, Sub}
-use Rattle.flow_tree.specs.Tree.{TypeTree, IntType, BoolType, StringType, ExprTree, ExprTrees}
+use Rattle.flow_tree.specs.Tree.{TypeTree, IntType, BoolType, StringType, VectorType, ExprTree, ExprTrees}
 use Rattle.flow_tree.specs.Body.{IntoTree, ChangeTree, PlusChange, MinusChange, UpChange, DownChange, Body, End, BlockStmt, IfStmt, IfElseStmt, WhileStmt, ForStmt, LoopStmt, BreakStmt, ContinueStmt, ReturnStmt, ThrowStmt, TryStmt, ChooseStmt, DeclareStmt, AssignStmt, ModifyStmt, CallStmt, WaitStmt}
 use Rattle.flow_tree.specs.Decls.{ParamTree, RecordTree, RoutineTree}
 use Rattle.flow_ast.specs.TypingNames.{named}
 use Rattle.flow_ast.specs.Typing.{routine_named}
-use Rattle.flow_value.specs.Values.{ValueTree, IntValue, BoolValue, TextValue, ErrorValue, CompositeValue, value_put}
+use Rattle.flow_value.specs.Values.{ValueTree, IntValue, BoolValue, TextValue, ErrorValue, CompositeValue, ListWhole, NoValues, value_put}
 use Rattle.flow_eval.specs.Answers.{bool_of, error_of}
 use Rattle.flow_eval.specs.Operators.{operated}
 use Rattle.flow_eval.specs.Records.{field_place, field}
@@ -105,6 +105,7 @@ abbrev pub default_value : TypeTree → Option ValueTree
 default_value IntType = Some (IntValue (pos 0))
 default_value BoolType = Some (BoolValue false)
 default_value StringType = Some (TextValue [])
+default_value (VectorType t) = Some (CompositeValue ListWhole NoValues)
 default_value _ = None
 
 -- one more variable
@@ -256,8 +257,10 @@ module _ (s : Setting) (run : Runner) where
   call_run xs es vars left =
       valued (eval_all s run (named vars) es left) vars (λ vs left. valued (call_by xs vs left) vars (λ v left. Goes vars left))
 
-  abbrev pub return_run : ExprTree → Locals → ℕ → Run
-  return_run e vars left = valued (evaluated e vars left) vars (λ v left. Returns v left)
+  -- a function returns a value
+  abbrev pub return_run : Option ExprTree → Locals → ℕ → Run
+  return_run None vars left = NoRun
+  return_run (Some e) vars left = valued (evaluated e vars left) vars (λ v left. Returns v left)
 
   -- a body, with the name of the innermost catch's variable
   abbrev pub exec : Body → Option (List ℕ) → Locals → ℕ → Run

@@ -9,10 +9,10 @@ use Rattle.flow_base.specs.Names.{digits_from, are_digits}
 use Rattle.flow_ast.specs.declared.predefined.Predefined as code
 use Rattle.flow_ast.specs.declared.predefined.Predefined.TheVariants.{ToString, ToInt, Now, EndOfStream, TimedOut, BrokenPromise, OperationCancelled, ActorCancelled, Error}
 use Rattle.flow_ast.specs.declared.predefined.Method.{Method}
-use Rattle.flow_ast.specs.declared.predefined.Method.TheVariants.{Code, Size, Substr, IsReady, IsError, Get, GetFuture, IsSet}
+use Rattle.flow_ast.specs.declared.predefined.Method.TheVariants.{Code, Size, Substr, IsReady, IsError, Get, GetFuture, IsSet, At}
 use Rattle.flow_value.specs.declared.value.Kind.{Kind}
 use Rattle.flow_value.specs.declared.value.Kind.TheVariants.{Promise, Future, PromiseStream, FutureStream}
-use Rattle.flow_value.specs.Values.{ValueTree, IntValue, BoolValue, TextValue, ErrorValue, RefValue, OutcomeTree, GoodOutcome, BadOutcome}
+use Rattle.flow_value.specs.Values.{ValueTree, ValueTrees, IntValue, BoolValue, TextValue, ErrorValue, CompositeValue, RefValue, ListWhole, OutcomeTree, GoodOutcome, BadOutcome, value_at, count_of}
 use Rattle.flow_eval.specs.Answers.{Answer, Given, Throws, NoMeaning, if_int, int_of, text_of, arg}
 
 abbrev pub signed : Bool → ℕ → ℤ
@@ -80,6 +80,24 @@ text_method Size t vs = Given (IntValue (pos (length t)))
 text_method Substr t vs = substr t (int_of (arg vs 0)) (int_of (arg vs 1))
 text_method _ t vs = NoMeaning
 
+-- an element, counted from 0
+abbrev pub element : ValueTrees → ℤ → Option ValueTree
+element es (pos n) = value_at es n
+element es (negsuc n) = None
+
+abbrev pub element_got : Option ValueTree → Answer
+element_got None = Throws bad_argument
+element_got (Some v) = Given v
+
+abbrev pub indexed : ValueTrees → Option ℤ → Answer
+indexed es None = NoMeaning
+indexed es (Some z) = element_got (element es z)
+
+abbrev pub list_method : Method → ValueTrees → List ValueTree → Answer
+list_method Size es vs = Given (IntValue (pos (count_of es)))
+list_method At es vs = indexed es (int_of (arg vs 0))
+list_method _ es vs = NoMeaning
+
 abbrev pub is_set : Option OutcomeTree → Bool
 is_set None = false
 is_set (Some o) = true
@@ -124,4 +142,5 @@ abbrev pub method_answer : (ℕ → Option OutcomeTree) → Method → ValueTree
 method_answer cells m (ErrorValue e) vs = error_method m e
 method_answer cells m (TextValue t) vs = text_method m t vs
 method_answer cells m (RefValue k c) vs = reference_method cells m k c
+method_answer cells m (CompositeValue ListWhole es) vs = list_method m es vs
 method_answer cells m _ vs = NoMeaning

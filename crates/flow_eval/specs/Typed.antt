@@ -2,7 +2,7 @@
 use Rattle.std.specs.Prelude.{◌≡◌, ℕ, List, [], ◌∷◌}
 use Rattle.std.specs.declared.option.Option.{Option}
 use Rattle.std.specs.declared.option.Option.TheVariants.{Some}
-use Rattle.flow_tree.specs.Tree.{TypeTree, IntType, BoolType, StringType, VoidType, ErrorType, NamedType, FutureType, FutureStreamType, PromiseType, PromiseStreamType}
+use Rattle.flow_tree.specs.Tree.{TypeTree, IntType, BoolType, StringType, VoidType, ErrorType, NamedType, FutureType, FutureStreamType, PromiseType, PromiseStreamType, VectorType}
 use Rattle.flow_tree.specs.Decls.{ParamTree, RecordTree}
 use Rattle.flow_ast.specs.Typing.{Signature, record_call, param_named}
 use Rattle.flow_value.specs.declared.value.RecordId.{RecordId}
@@ -34,10 +34,15 @@ pub record IsRecordType (rs : List RecordTree) (r : RecordId) (t : TypeTree) (ts
   pub called : record_call rs name ≡ Some call
   pub fields : ts ≡ call.params
 
--- what a whole of a type is made of: parts of these types in order; no type is that of lists
+-- each of these types is that one
+abbrev pub AllAre : TypeTree → List TypeTree → Type 0
+AllAre u [] = Unit {0}
+AllAre u (t ∷ ts) = (t ≡ u) × AllAre u ts
+
+-- what a whole of a type is made of: a record of the types of its fields in order, a list of as many of one type as there are
 abbrev pub IsMadeOf : List RecordTree → Whole → TypeTree → List TypeTree → Type 0
 IsMadeOf rs (RecordWhole r) t ts = IsRecordType rs r t ts
-IsMadeOf rs ListWhole t ts = ⊥
+IsMadeOf rs ListWhole t ts = (u : TypeTree) × (t ≡ VectorType u) × AllAre u ts
 
 -- a value has a type, where cells have these types: a whole by its parts in order, a reference by
 -- its cell

@@ -7,8 +7,15 @@ use Rattle.flow_value.specs.View.{value_of}
 use Rattle.flow_eval.specs.declared.stop.Halt.{Halt}
 use Rattle.flow_eval.specs.declared.stop.Halt.TheVariants as halt
 use Rattle.std.specs.declared.alloc.Global.{Global}
+use Rattle.std.specs.declared.boxed.Box.{Box}
 use Rattle.std.specs.declared.vec.Vec.{Vec}
+use Rattle.std.specs.Option.{option_map}
 use Rattle.std.specs.declared.option.Option.{Option}
+use Rattle.flow_tree.specs.declared.expr.Expr.{Expr}
+use Rattle.flow_tree.specs.declared.stmt.Stmt.{Stmt}
+use Rattle.flow_tree.specs.Tree.{ExprTree}
+use Rattle.flow_tree.specs.View.{expr_of}
+use Rattle.flow_tree.specs.StmtView.{body_of, simple_of}
 use Rattle.flow_tree.specs.DeclView.{record_of, function_of}
 use Rattle.flow_value.specs.Values.{ValueTree, OutcomeTree}
 use Rattle.std.specs.declared.option.Option.TheVariants as option
@@ -19,7 +26,7 @@ use Rattle.flow_eval.specs.Answers.{Answer, Given, Throws, NoMeaning}
 use Rattle.flow_tree.specs.Body.{Body}
 use Rattle.flow_eval.specs.declared.statements.Flow.{Flow}
 use Rattle.flow_eval.specs.declared.statements.Flow.TheVariants as flow
-use Rattle.flow_eval.specs.Functions.{skip, scope, exec, Locals, Run, Goes, Breaks, Continues, Returns, Raises, SpentRun, NoRun}
+use Rattle.flow_eval.specs.Functions.{skip, scope, exec, nested, Locals, Run, Goes, Breaks, Continues, Returns, Raises, SpentRun, NoRun}
 use Rattle.flow_eval.specs.Eval.{Runner, Res, Done, Fails, Spent, Meaningless, Setting}
 
 -- the code gives this answer, or there was no memory
@@ -88,3 +95,10 @@ StmtRan f next (Err halt.OutOfMemory) vars left = Unit {0}
 abbrev pub else_run : Setting → Runner → Option Body → Option (List ℕ) → Locals → ℕ → Run
 else_run s run option.None caught = skip
 else_run s run (option.Some b) caught = scope (exec s run b caught)
+
+-- a loop by its parts: its condition and its step, where it has them, and its body
+abbrev pub by_parts : (loop : Setting → Runner → Option ExprTree → (step body : Locals → ℕ → Run) → Locals → ℕ → Run)
+    → Setting → (nest : ℕ) → (test : Option Expr) → (step : Option (Box Stmt Global)) → (body : List Stmt) → (caught : Option (List ℕ))
+    → Locals → ℕ → Run
+by_parts loop s nest test step body caught =
+    nested loop s nest (option_map expr_of test) (nested exec s nest (simple_of step) caught) (nested exec s nest (body_of body) caught)

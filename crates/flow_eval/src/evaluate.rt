@@ -3,6 +3,7 @@
 ghost use Rattle.std.specs.Prelude.{◌≡◌, ◌≤◌, ◌<◌, map, length, slice_get, IfSome};
 ghost use Rattle.flow_ast.specs.TypingNames.{named, call_names, method_names, constant_names};
 ghost use Rattle.flow_tree.specs.DeclView.{record_of, function_of};
+ghost use Rattle.flow_tree.specs.Tree.{indexed};
 ghost use Rattle.flow_tree.specs.View.{expr_of, exprs_of};
 ghost use Rattle.flow_value.specs.View.{value_of};
 ghost use Rattle.flow_eval.specs.Answers.{bool_of, truth};
@@ -23,7 +24,7 @@ use crate::stop::Halt;
 use crate::variables::{Var, find_var};
 use flow_ast::decl::{FunctionDecl, RecordDecl};
 use flow_ast::expr::{Expr, Op};
-use flow_ast::predefined::{predefined_call, predefined_constant, predefined_method};
+use flow_ast::predefined::{Method, predefined_call, predefined_constant, predefined_method};
 use flow_base::errors::OUT_OF_RANGE;
 use flow_value::value::Value;
 use std::alloc::Global;
@@ -154,6 +155,7 @@ pub fn evaluate<C: CellView>(
             let args = evaluate_all(setting, nest, vars, args, turns)?;
             call_method(setting, name.name.bytes(), &base, &args)
         }
+        Expr::Index(of, index) => evaluate_index(setting, nest, vars, of, index, turns),
         Expr::Not(of) => inverted(&evaluate(setting, nest, vars, of, turns)?),
         Expr::Neg(of) => negated(&evaluate(setting, nest, vars, of, turns)?),
         Expr::Binary(op, left, right) => {
@@ -162,6 +164,26 @@ pub fn evaluate<C: CellView>(
         }
         Expr::Paren(of) => evaluate(setting, nest, vars, of, turns),
     }
+}
+
+// An element of a list. What the base comes to shares the elements of the list.
+#[cycle(evaluate)]
+fn evaluate_index<C: CellView>(
+    setting: &Setting<C>,
+    nest: u32,
+    vars: &[Var],
+    of: &Expr,
+    index: &Expr,
+    turns: &mut Turns,
+) -> Result<Value, Halt>
+    ensures gives { Gives (nested eval (setting_of C.content setting.now) nest
+        (named (map var_of vars.now)) (indexed (expr_of of.now) (expr_of index.now))
+        turns.old.left) result turns.new.left }
+    ensures fewer { turns.new.left ≤ turns.old.left }
+{
+    let base = evaluate(setting, nest, vars, of, turns)?;
+    let index = evaluate(setting, nest, vars, index, turns)?;
+    method_answer(setting.alloc, setting.view, Method::At, &base, &[index])
 }
 
 #[cycle(evaluate)]

@@ -64,7 +64,14 @@ pub fn default_value(alloc: Global, ty: &Ty) -> Result<Value, Halt>
         Ty::Int => Ok(Value::Int(0)),
         Ty::Bool => Ok(Value::Bool(false)),
         Ty::Str => Ok(Value::text(alloc, Text::new(alloc, b"")?)?),
-        _ => Err(Halt::NoMeaning),
+        Ty::Vector(_) => Ok(Value::list(alloc, Vec::new(alloc))?),
+        Ty::Void
+        | Ty::Error
+        | Ty::Named(_)
+        | Ty::Future(_)
+        | Ty::FutureStream(_)
+        | Ty::Promise(_)
+        | Ty::PromiseStream(_) => Err(Halt::NoMeaning),
     }
 }
 

@@ -1,12 +1,13 @@
 // The predefined calls without effects, and the methods of values.
 
-ghost use Rattle.std.specs.Prelude.{◌≡◌, ◌^◌, ◌-◌, ℕ, ◌<◌, map, min, length};
+ghost use Rattle.std.specs.Prelude.{◌≡◌, ◌^◌, ◌-◌, ℕ, pos, ◌<◌, map, min, length};
 ghost use Rattle.std.specs.Option.{option_map, option_copied};
 ghost use Rattle.std.specs.List.{list_all};
 ghost use Rattle.flow_base.specs.Names.{digit, digits_from, are_digits};
-ghost use Rattle.flow_value.specs.View.{value_of, outcome_of};
-ghost use Rattle.flow_eval.specs.Answers.{int_of, text_of, arg, if_int};
-ghost use Rattle.flow_eval.specs.Predefined.{signed, read_digits, read_int, int_read, to_string, to_int, error_number, call_answer, clipped, substr, text_method, got, has_error, future_method, promise_method, stream_method, error_method, reference_method, method_answer};
+ghost use Rattle.flow_value.specs.Values.{IntValue, count_of};
+ghost use Rattle.flow_value.specs.View.{value_of, values_of, outcome_of};
+ghost use Rattle.flow_eval.specs.Answers.{Given, int_of, text_of, arg, if_int};
+ghost use Rattle.flow_eval.specs.Predefined.{signed, read_digits, read_int, int_read, to_string, to_int, error_number, call_answer, clipped, substr, text_method, element, element_got, list_method, got, has_error, future_method, promise_method, stream_method, error_method, reference_method, method_answer};
 ghost use Rattle.flow_eval.specs.View.{GivesAnswer};
 
 use crate::cells::CellView;
@@ -216,6 +217,49 @@ fn text_method(alloc: Global, method: Method, text: &Text, args: &[Value]) -> Re
     }
 }
 
+// The element at an index, counted from 0.
+#[tactic(auto, using(crate::proofs::Elements::element_below))]
+fn element(alloc: Global, items: &[Value], index: i64) -> Result<Value, Halt>
+    ensures { GivesAnswer (element_got (element (values_of items.now) index)) result }
+{
+    let Ok(index) = usize::try_from(index) else {
+        return Err(Halt::Thrown(BAD_ARGUMENT));
+    };
+    match items.get(index) {
+        Some(item) => Ok(item.copy(alloc)?),
+        None => Err(Halt::Thrown(BAD_ARGUMENT)),
+    }
+}
+
+// How many elements there are. No list has so many that there is no number for them.
+fn size(items: &[Value]) -> Result<Value, Halt>
+    ensures { GivesAnswer (Given (IntValue (pos (count_of (values_of items.now))))) result }
+{
+    match i64::try_from(items.len()) {
+        Ok(count) => Ok(Value::Int(count)),
+        Err(_) => Err(Halt::OutOfMemory),
+    }
+}
+
+fn list_method(
+    alloc: Global,
+    method: Method,
+    items: &[Value],
+    args: &[Value],
+) -> Result<Value, Halt>
+    ensures { GivesAnswer (list_method method (values_of items.now) (map value_of args.now))
+        result }
+{
+    match method {
+        Method::Size => size(items),
+        Method::At => match int_arg(args, 0) {
+            Some(index) => element(alloc, items, index),
+            None => Err(Halt::NoMeaning),
+        },
+        _ => Err(Halt::NoMeaning),
+    }
+}
+
 fn has_error(outcome: &Outcome) -> bool
     ensures { result ≡ has_error (Some (outcome_of outcome.now)) }
 {
@@ -318,8 +362,7 @@ pub fn method_answer<C: CellView>(
         Value::Error(code) => error_method(method, *code),
         Value::Text(text) => text_method(alloc, method, text, args),
         Value::Ref(kind, cell) => reference_method(alloc, view, method, *kind, *cell),
-        Value::Int(_) | Value::Bool(_) | Value::Void | Value::Struct(_) | Value::List(_) => {
-            Err(Halt::NoMeaning)
-        }
+        Value::List(items) => list_method(alloc, method, items, args),
+        Value::Int(_) | Value::Bool(_) | Value::Void | Value::Struct(_) => Err(Halt::NoMeaning),
     }
 }

@@ -10,7 +10,7 @@ ghost use Rattle.flow_eval.specs.Answers.{error_of};
 ghost use Rattle.flow_eval.specs.Operators.{operated};
 ghost use Rattle.flow_eval.specs.Functions.{read_path, declared, default_value, Run, Locals, finished, nested, exec, scope, if_run, pass_run, turn_run, loop_run, for_run, try_run, handled, return_run, throw_run, declare_run, assign_run, change_operand, change_sign, modify_run, call_run, assigned, put_path, rethrown};
 ghost use Rattle.flow_eval.specs.Variables.{var_of};
-ghost use Rattle.flow_eval.specs.View.{GivesAnswer, Gives, Ran, StmtRan, else_run, setting_of};
+ghost use Rattle.flow_eval.specs.View.{GivesAnswer, Gives, Ran, StmtRan, by_parts, else_run, setting_of};
 
 use crate::cells::CellView;
 use crate::evaluate::{Setting, Turns, bool_of, call_function, evaluate, evaluate_all};
@@ -354,12 +354,10 @@ fn run_turn<C: CellView>(
     locals: &mut Vec<Var>,
     turns: &mut Turns,
 ) -> Result<Flow, Halt>
-    ensures gives { Ran (nested turn_run (setting_of C.content setting.now) nest
-        (option_map expr_of (option_copied test.entry)) (nested exec
-        (setting_of C.content setting.now) nest (simple_of (option_copied step.entry))
-        (option_copied caught.entry)) (nested exec (setting_of C.content setting.now) nest
-        (body_of body.now.items) (option_copied caught.entry)) (map var_of locals.old.items)
-        turns.old.left) result (map var_of locals.new.items) turns.new.left }
+    ensures gives { Ran (by_parts turn_run (setting_of C.content setting.now) nest
+        (option_copied test.entry) (option_copied step.entry) body.now.items
+        (option_copied caught.entry) (map var_of locals.old.items) turns.old.left) result
+        (map var_of locals.new.items) turns.new.left }
     ensures fewer { turns.new.left ≤ turns.old.left }
 {
     match run_pass(setting, nest, test, body, caught, locals, turns)? {
@@ -383,12 +381,10 @@ fn run_loop<C: CellView>(
     locals: &mut Vec<Var>,
     turns: &mut Turns,
 ) -> Result<Flow, Halt>
-    ensures gives { Ran (nested loop_run (setting_of C.content setting.now) nest
-        (option_map expr_of (option_copied test.entry)) (nested exec
-        (setting_of C.content setting.now) nest (simple_of (option_copied step.entry))
-        (option_copied caught.entry)) (nested exec (setting_of C.content setting.now) nest
-        (body_of body.now.items) (option_copied caught.entry)) (map var_of locals.old.items)
-        turns.old.left) result (map var_of locals.new.items) turns.new.left }
+    ensures gives { Ran (by_parts loop_run (setting_of C.content setting.now) nest
+        (option_copied test.entry) (option_copied step.entry) body.now.items
+        (option_copied caught.entry) (map var_of locals.old.items) turns.old.left) result
+        (map var_of locals.new.items) turns.new.left }
     ensures fewer { turns.new.left ≤ turns.old.left }
 {
     while turns.left > 0 {
@@ -549,22 +545,24 @@ fn run_handler<C: CellView>(
     flow
 }
 
-/// A `return`.
+/// A `return`, which gives a value in a function.
 #[cycle(evaluate)]
 fn run_return<C: CellView>(
     setting: &Setting<C>,
     nest: u32,
-    value: &Expr,
+    value: &Option<Expr>,
     locals: &mut Vec<Var>,
     turns: &mut Turns,
 ) -> Result<Flow, Halt>
     ensures gives { Ran (nested return_run (setting_of C.content setting.now) nest
-        (expr_of value.now) (map var_of locals.old.items) turns.old.left) result
+        (option_map expr_of value.now) (map var_of locals.old.items) turns.old.left) result
         (map var_of locals.new.items) turns.new.left }
     ensures fewer { turns.new.left ≤ turns.old.left }
 {
-    let value = evaluate(setting, nest, locals, value, turns)?;
-    Ok(Flow::Return(value))
+    match value {
+        Some(value) => Ok(Flow::Return(evaluate(setting, nest, locals, value, turns)?)),
+        None => Err(Halt::NoMeaning),
+    }
 }
 
 /// A `throw`, of an error or of the innermost catch's variable.

@@ -87,7 +87,8 @@ ExecWritesAsRun =
     → AsksFor d (run s) → HasFile d s.what text → HasWorld d s.world w → r.frames ≡ s.frames → ears_of e (exec r) ≡ ears_of d (run s)
     → Writes e written → Writes d other → ((e.status ≡ d.status) × (written ≡ other)) ⊎ (IsFault e ⊎ IsFault d)
 
--- At each boundary of the run of such a program, by its text, each unfinished actor is unmarked, and a future refers to its result.
+-- At each boundary of the run of such a program, by its text, each unfinished actor is unmarked, and, unless it is void, a future
+-- refers to its result.
 abbrev pub Referenced : Type 0
 Referenced =
     (text : List ℕ) (p : Program) (w : World) (states : List (meaning.World Actor)) → IsSound text p → IsInRange w

@@ -65,7 +65,7 @@ pub fn one_shown()
     exec_is_run();
 }
 
-/// At each boundary of that run each unfinished actor is unmarked, and a future refers to its result.
+/// At each boundary of that run each unfinished actor is unmarked, and, unless it is void, a future refers to its result.
 pub fn referenced()
     ensures { Referenced }
 {

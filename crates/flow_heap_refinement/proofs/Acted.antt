@@ -13,7 +13,7 @@ use Rattle.flow_numbered.specs.Numbered as stored
 use Rattle.flow_numbered.proofs.Things.{put_same}
 use Rattle.flow_cell.specs.Cells.{CellTree}
 use Rattle.flow_frame.specs.Frames.{FrameTree, fresh, padded}
-use Rattle.flow_cancel.specs.Heap.{HeapTree, cell_id, next_cell, next_actor, new_note, started, promised, promised_at}
+use Rattle.flow_cancel.specs.Heap.{HeapTree, cell_id, next_cell, next_actor, new_note, promised, promised_at, promised_in}
 use Rattle.flow_numbered.specs.Numbered.{Numbered, thing, added, put, removed}
 use Rattle.flow_meaning.specs.Requests.{Spot}
 use Rattle.flow_meaning.specs.Process.{Entry, Proc}
@@ -21,7 +21,7 @@ use Rattle.flow_meaning.specs.Step.{kept_by, entry_of}
 use Rattle.flow_meaning.specs.Views.{spot_at}
 use Rattle.flow_meaning.specs.Frame.{Frame, blanks}
 use Rattle.flow_meaning.proofs.Posture.{each_number, thing_put, thing_put_other, thing_added, thing_removed_other}
-use Rattle.flow_heap_refinement.specs.Representing.{Represents, OneActor, stands, here, wait_spot, spot_of_actor}
+use Rattle.flow_heap_refinement.specs.Representing.{Represents, OneActor, cell_number, stands, here, wait_spot, spot_of_actor}
 use Rattle.flow_heap_refinement.specs.Acting as change
 use Rattle.flow_heap_refinement.specs.Acting.{Free, At, actor_put, put_actor, frame_put, put_frame, blank, with_actor, without_actor}
 use Rattle.flow_heap_refinement.proofs.Tasks.{tasks_aside, tasks_same}
@@ -114,11 +114,15 @@ module _ (r : RawTree) (h : HeapTree) (p : Proc Frame) where
   as_many [] = refl
   as_many (x ∷ xs) = ap suc (as_many xs)
 
-  new_actor : (class places k : ℕ) (c : ClassTree) → slice_get r.classes class ≡ Some c → places ≡ length c.slots + length c.locals
-      → OneActor r (new_note (Some (cell_id k))) (fresh class places) (entry_of class k) (blank c)
-  new_actor class places k c e n = record {
+  result_stands : (result : Option ℕ) → result ≡ option_map cell_number (option_map cell_id result)
+  result_stands None = refl
+  result_stands (Some k) = refl
+
+  new_actor : (class places : ℕ) (result : Option ℕ) (c : ClassTree) → slice_get r.classes class ≡ Some c → places ≡ length c.slots + length c.locals
+      → OneActor r (new_note (option_map cell_id result)) (fresh class places) (entry_of class result) (blank c)
+  new_actor class places result c e n = record {
     class = refl;
-    result = refl;
+    result = result_stands result;
     marked = refl;
     frame = stands (record {
       code = e;
@@ -136,6 +140,12 @@ module _ (r : RawTree) (h : HeapTree) (p : Proc Frame) where
   promise_more k None e all = all
   promise_more k (Some m) e all = single_kept spots h.cells.things h.streams.things p.core.cells all k m (promised m) e refl refl
 
+  -- a result that there is has one promise more
+  promise_counted : (result : Option ℕ) → CellsRepresent spots h.cells.things h.streams.things p.core.cells
+      → CellsRepresent spots (promised_in (option_map cell_id result) h.cells).things h.streams.things p.core.cells
+  promise_counted None all = all
+  promise_counted (Some k) all = promise_more k (stored.thing h.cells.things k) refl all
+
   other_new : (e : Entry) (f : Frame) (j : ℕ) → (suc p.core.started ≡ j → ⊥)
       → (spot_of_actor (added p.actors (suc p.core.started) f) j ≡ spots j) × (kept_by (thing (added p.core.entries (suc p.core.started) e) j) ≡ kept j)
   other_new e f j n = (ap (spot_at wait_spot) (thing_added p.actors (suc p.core.started) j f n), ap kept_by (thing_added p.core.entries (suc p.core.started) j e n))
@@ -144,20 +154,21 @@ module _ (r : RawTree) (h : HeapTree) (p : Proc Frame) where
   next_number a b c d e f = grind arith
 
   pub started_shown : change.Started r h p
-  started_shown class places k c s e n rising free =
+  started_shown class places result c s e n rising free =
       let i = suc p.core.started in
       let f = blank c in
-      let g = entry_of class k in record {
-        cells = cells_aside spots (spot_of_actor (added p.actors i f)) i (λ j d. (other_new g f j d).0) (started class places (Some (cell_id k)) h).cells.things h.streams.things p.core.cells
+      let g = entry_of class result in
+      let note = new_note (option_map cell_id result) in record {
+        cells = cells_aside spots (spot_of_actor (added p.actors i f)) i (λ j d. (other_new g f j d).0) (promised_in (option_map cell_id result) h.cells).things h.streams.things p.core.cells
             free.waits
-            (promise_more k (stored.thing h.cells.things k) refl s.cells);
-        actors = subst (λ x. ActorsRepresent r (stored.added h.actors.things x (new_note (Some (cell_id k)))) (stored.added h.frames.things x (fresh class places)) (added p.core.entries i g)
+            (promise_counted result s.cells);
+        actors = subst (λ x. ActorsRepresent r (stored.added h.actors.things x note) (stored.added h.frames.things x (fresh class places)) (added p.core.entries i g)
             (added p.actors i f)) (sym s.started)
-            (actor_added r h.actors.things h.frames.things p.core.entries p.actors s.actors i (none_above p.core.entries 0 p.core.started i rising (omega arith)) (new_note (Some (cell_id k)))
+            (actor_added r h.actors.things h.frames.things p.core.entries p.actors s.actors i (none_above p.core.entries 0 p.core.started i rising (omega arith)) note
             (fresh class places) g f
-            (new_actor class places k c e n));
+            (new_actor class places result c e n));
         tasks = tasks_aside spots (spot_of_actor (added p.actors i f)) kept (λ j. kept_by (thing (added p.core.entries i g) j)) i (other_new g f) h.tasks p.core.tasks free.keeps s.tasks;
-        made = same_made k (stored.thing h.cells.things k) ∙ s.made;
+        made = same_result result ∙ s.made;
         started = next_number h.actors.greatest h.frames.greatest (next_actor h) p.core.started refl s.started;
         main = s.main;
         ports = s.ports;
@@ -167,6 +178,10 @@ module _ (r : RawTree) (h : HeapTree) (p : Proc Frame) where
       same_made : (k : ℕ) (o : Option (CellTree Outcome)) → suc (max h.made (max (promised_at k o h.cells).greatest h.streams.greatest)) ≡ next_cell h
       same_made k None = refl
       same_made k (Some m) = refl
+
+      same_result : (x : Option ℕ) → suc (max h.made (max (promised_in (option_map cell_id x) h.cells).greatest h.streams.greatest)) ≡ next_cell h
+      same_result None = refl
+      same_result (Some k) = same_made k (stored.thing h.cells.things k)
 
   -- an actor is finished
   other_left : (i j : ℕ) → (i ≡ j → ⊥) → (spot_of_actor (removed p.actors i) j ≡ spots j) × (kept_by (thing (removed p.core.entries i) j) ≡ kept j)

@@ -12,7 +12,7 @@ use Rattle.std.specs.declared.option.Option.TheVariants.{None, Some}
 use Rattle.flow_base.specs.declared.ids.CellId.{CellId}
 use Rattle.flow_class.specs.Classes.{RawTree}
 use Rattle.flow_cancel.specs.Heap.{HeapTree, has_number, with_number, without_number}
-use Rattle.flow_cancel.proofs.Noted.{at_number, either_first, has_with}
+use Rattle.flow_cancel.proofs.Noted.{at_number, has_with}
 use Rattle.flow_numbered.specs.Numbered.{Numbered, thing, added, removed}
 use Rattle.flow_meaning.specs.Cells.{is_some}
 use Rattle.flow_meaning.specs.Process.{Proc}

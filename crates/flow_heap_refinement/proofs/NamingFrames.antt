@@ -1,41 +1,50 @@
 -- A frame asks for values that keep a rule on references, where it and the cells keep it.
 use Rattle.std.proofs.Common.{◌≡◌, ℕ, Bool, true, false, List, [], ◌∷◌, map, drop, ◌⊎◌, inl, inr, refl, subst, nat_eq, length, if◌then◌else◌}
+use Rattle.std.specs.Prelude.{nat_lt, position}
 use Rattle.std.specs.Option.{option_map}
+use Rattle.std.specs.Str.{bytes_eq}
 use Rattle.std.specs.declared.option.Option.{Option}
 use Rattle.std.specs.declared.option.Option.TheVariants.{None, Some}
 use Rattle.flow_tree.specs.declared.ty.Ident.{Ident}
 use Rattle.flow_tree.specs.Decls.{RoutineTree}
-use Rattle.flow_tree.specs.Tree.{ExprTree, ExprTrees}
+use Rattle.flow_tree.specs.declared.limits.TheConstants.{ELEMENTS}
+use Rattle.flow_tree.specs.Tree.{TypeTree, ExprTree, ExprTrees, returned_expr}
 use Rattle.flow_ast.specs.declared.predefined.Predefined.{Predefined}
 use Rattle.flow_ast.specs.declared.predefined.Predefined.TheVariants as code
 use Rattle.flow_ast.specs.declared.predefined.Method.{Method}
 use Rattle.flow_ast.specs.declared.predefined.Method.TheVariants as method
 use Rattle.flow_ast.specs.TypingNames.{named, call_names, method_names}
 use Rattle.flow_ast.specs.Typing.{routine_named}
+use Rattle.flow_value.specs.declared.value.Kind.{Kind}
 use Rattle.flow_value.specs.declared.value.Kind.TheVariants as kind
-use Rattle.flow_value.specs.Values.{ValueTree, IntValue, BoolValue, TextValue, VoidValue, ErrorValue, CompositeValue, RefValue, OutcomeTree, BadOutcome}
+use Rattle.flow_value.specs.Values.{ValueTree, ValueTrees, NoValues, MoreValues, IntValue, BoolValue, TextValue, VoidValue, ErrorValue, CompositeValue, ListWhole, RefValue, OutcomeTree, BadOutcome, count_of, with_last, AllRefsIn}
 use Rattle.flow_class.specs.declared.class.Slotted.{Slotted}
 use Rattle.flow_class.specs.declared.class.Slotted.TheVariants.{Local}
 use Rattle.flow_class.specs.Classes.{CatcherTree, ClassTree, InstrTree, SetInstr, EffectInstr, NewInstr, ActInstr, DropInstr, LastTree, GotoLast, PassLast, TestLast, ChooseLast, ReturnLast, ThrowLast, CallbackTree}
 use Rattle.flow_class.specs.Code.{Fetched, Body, Last, Nothing, fetch, callback_at, type_at, catcher_at}
-use Rattle.flow_eval.specs.Functions.{read_in}
+use Rattle.flow_eval.specs.Functions.{read_in, default_value}
 use Rattle.flow_eval.specs.Eval.{Res, Done, Fails, Spent, Meaningless}
 use Rattle.flow_eval.specs.Eval.{then as goes_on}
 use Rattle.flow_eval.specs.Answers.{bool_of, int_of, text_of, error_of, arg}
-use Rattle.flow_meaning.specs.Requests.{Spot, Act, Goes, Drops, Effects, Operand, Waits, Sends, Returns, Effect, Make, Start, Goal, Stored, Kept, Ask}
+use Rattle.flow_meaning.specs.Requests.{Spot, Act, Goes, Drops, Effects, Starts, Operand, Waits, Sends, Returns, Effect, Start, Goal, Stored, Kept, Ask}
 use Rattle.flow_meaning.specs.Process.{View}
-use Rattle.flow_meaning.specs.Evaluating.{Names, setting, bind, StepOf, asks, given, evaluated, Effectful, World, Actor, effect_in, effect_of, world_effect, value, values, call_act, plain_act, function_act, based_act, method_act, sent, cancelled, done, before_last, last_of}
+use Rattle.flow_meaning.specs.Evaluating.{Names, setting, bind, StepOf, asks, given, evaluated, Effectful, World, Actor, effect_in, effect_of, world_effect, value, values, call_act, plain_act, function_act, started_act, based_act, method_act, sent, cancelled, done, before_last, last_of, Change, Grows, Clears, Storing, grown_by, changed, change_of, base_of, storing, call_by}
 use Rattle.flow_meaning.specs.Frame.{Memory, Frame, look, emptied, reversed, blanks, everything, put_at, assign, spot_of, go, next_instr, over, lose, raised, raise, with_error}
 use Rattle.flow_meaning.specs.Class as class
 use Rattle.flow_meaning.specs.Class.{begun, fresh_from}
 use Rattle.flow_heap_refinement.specs.Evaluation.{Rule, GivesFutures, Named, AllNamed, MaybeNamed, ResNamed, AllResNamed, RefNamed}
 use Rattle.flow_heap_refinement.specs.Evaluation as names
-use Rattle.flow_heap_refinement.proofs.Evaluation.Answering.{read_in_named}
+use Rattle.flow_heap_refinement.proofs.Evaluation.Answering.{default_named, read_in_named}
 use Rattle.flow_heap_refinement.proofs.Evaluation.Names.{eval_names, all_names}
 use Rattle.flow_heap_refinement.proofs.NamingPlaces.{arg_named, joined_named, reversed_named, filled_named, blanks_named, write_named, look_named, held_named, emptied_named, everything_named, PutNamed, put_named, assign_named}
 use Rattle.flow_heap_refinement.specs.Naming.{OutcomeNamed, PlacesNamed, MemoryNamed}
 
 module _ (p : Rule) where
+  -- a part more
+  more_parts : (es : ValueTrees) (u : ValueTree) → AllRefsIn (RefNamed p) es → Named p u → AllRefsIn (RefNamed p) (with_last es u)
+  more_parts NoValues u h n = (n, tt)
+  more_parts (MoreValues e es) u h n = (h.0, more_parts es u h.1 n)
+
   -- asks
   abbrev pub EffectNamed : Effect → Type 0
   EffectNamed (Start class args) = AllNamed p args
@@ -44,6 +53,7 @@ module _ (p : Rule) where
   abbrev pub ActNamed : Act → Type 0
   ActNamed (Drops vs) = AllNamed p vs
   ActNamed (Effects goal eff) = EffectNamed eff
+  ActNamed (Starts class args) = AllNamed p args
   ActNamed (Operand spot r) = RefNamed p r
   ActNamed (Waits spot vs) = AllNamed p vs
   ActNamed (Sends k o) = OutcomeNamed p o × ((p kind.Promise k ≡ true) ⊎ (p kind.PromiseStream k ≡ true))
@@ -136,20 +146,24 @@ module _ (p : Rule) where
     goes_after Spent = tt
     goes_after Meaningless = tt
 
-    function_named : (o : Option RoutineTree) (us : List ValueTree) (left : ℕ) → ActRes (function_act ns v (look f.mem) o us left)
-    function_named None us left = tt
-    function_named (Some g) us left = goes_after _
+    started_named : (o : Option ℕ) (us : List ValueTree) (left : ℕ) → AllNamed p us → ActRes (started_act ns v (look f.mem) o us left)
+    started_named None us left n = tt
+    started_named (Some k) us left n = n
+
+    function_named : (o : Option RoutineTree) (x : List ℕ) (us : List ValueTree) (left : ℕ) → AllNamed p us → ActRes (function_act ns v (look f.mem) o x us left)
+    function_named None x us left n = started_named (position (bytes_eq x) ns.actors) us left n
+    function_named (Some g) x us left n = goes_after _
 
     bind_act : {A : Type 0} (o : Option A) (go : A → Option Act) → ((x : A) → MaybeAct (go x)) → MaybeAct (bind o go)
     bind_act None go k = tt
     bind_act (Some x) go k = k x
 
-    plain_named : (c : Option Predefined) (x : List ℕ) (us : List ValueTree) (left : ℕ) → ActRes (plain_act ns v (look f.mem) c x us left)
-    plain_named (Some code.Trace) x us left = tt
-    plain_named (Some code.SendTo) x us left =
+    plain_named : (c : Option Predefined) (x : List ℕ) (us : List ValueTree) (left : ℕ) → AllNamed p us → ActRes (plain_act ns v (look f.mem) c x us left)
+    plain_named (Some code.Trace) x us left n = tt
+    plain_named (Some code.SendTo) x us left n =
         done_named _ left (bind_act (int_of (arg us 0)) _ (λ q. bind_act (int_of (arg us 1)) _ (λ port. bind_act (text_of (arg us 2)) _ (λ text. tt))))
-    plain_named None x us left = function_named (routine_named ns.functions x) us left
-    plain_named (Some c) x us left = tt
+    plain_named None x us left n = function_named (routine_named ns.functions x) x us left n
+    plain_named (Some c) x us left n = tt
 
     abbrev MaybeOutcome : Option OutcomeTree → Type 0
     MaybeOutcome None = Unit {0}
@@ -191,7 +205,7 @@ module _ (p : Rule) where
 
     call_named : (path : List Ident) (es : ExprTrees) → ActRes (call_act ns v (look f.mem) path es)
     call_named [] es = tt
-    call_named (x ∷ []) es = act_then (values ns v (look f.mem) es) _ (values_of es) (λ us left n. plain_named (named call_names x.name) x.name us left)
+    call_named (x ∷ []) es = act_then (values ns v (look f.mem) es) _ (values_of es) (λ us left n. plain_named (named call_names x.name) x.name us left n)
     call_named (x ∷ y ∷ ys) es =
         act_then (values ns v (look f.mem) es) _ (values_of es)
         (λ us left n. based_named (read_in ns.records (look f.mem x.name) (before_last y ys)) (named method_names (last_of y ys).name) us left
@@ -203,18 +217,70 @@ module _ (p : Rule) where
     act_named Spent n = (tt, h)
     act_named Meaningless n = (tt, h)
 
+    -- changes of vectors
+    abbrev StoringRes : Res Storing → Type 0
+    StoringRes (Done s left) = Named p s.0 × AllNamed p s.1
+    StoringRes _ = Unit {0}
+
+    grown_named : (b : Bool) (es : ValueTrees) (u : ValueTree) (left : ℕ) → AllRefsIn (RefNamed p) es → Named p u → StoringRes (grown_by b es u left)
+    grown_named true es u left h n = (more_parts es u h n, tt)
+    grown_named false es u left h n = tt
+
+    changed_named : (how : Change) (us : List ValueTree) (o : Option ValueTree) (left : ℕ) → AllNamed p us → MaybeNamed p o → StoringRes (changed how us o left)
+    changed_named Grows us (Some (CompositeValue ListWhole es)) left a n = grown_named (nat_lt (count_of es) ELEMENTS) es (arg us 0) left n (arg_named p us 0 a)
+    changed_named Clears us (Some (CompositeValue ListWhole es)) left a n = (tt, (n, tt))
+    changed_named _ us _ left a n = tt
+
+    storing_then : (r : Res (List ValueTree)) (go : List ValueTree → ℕ → Res Storing) → AllResNamed p r
+        → ((us : List ValueTree) (left : ℕ) → AllNamed p us → StoringRes (go us left)) → StoringRes (goes_on r go)
+    storing_then (Done us left) go n k = k us left n
+    storing_then (Fails e left) go n k = tt
+    storing_then Spent go n k = tt
+    storing_then Meaningless go n k = tt
+
+    storing_named : (how : Change) (path : List Ident) (es : ExprTrees) → StoringRes (storing ns v (look f.mem) how path es)
+    storing_named how [] es = tt
+    storing_named how (x ∷ xs) es =
+        storing_then (values ns v (look f.mem) es) _ (values_of es)
+        (λ us left n. changed_named how us (read_in ns.records (look f.mem x.name) xs) left n
+        (read_in_named p ns.records (look f.mem x.name) xs (look_named p f.mem h x.name)))
+
+    -- the vector is put in place, and the next instruction follows
+    put_behind : (o : Option (List ValueTree × Memory)) (left : ℕ) (dropped : List ValueTree) → PutNamed p o → AllNamed p dropped
+        → StepNamed (given f (option_map (λ (q : List ValueTree × Memory). next_instr q.1 f) o) (λ a. asks left (Drops dropped) a))
+    put_behind None left dropped n d = (tt, h)
+    put_behind (Some q) left dropped n d = (d, n.1)
+
+    change_stored : (path : List Ident) (r : Res Storing) → StoringRes r
+        → StepNamed (evaluated f r (λ s left. given f (class.put_path ns v f path s.0) (λ a. asks left (Drops s.1) a)))
+    change_stored path (Done s left) n = put_behind (assign ns.records f.mem path s.0) left s.1 (assign_named p ns.records f.mem path s.0 h n.0) n.1
+    change_stored path (Fails e left) n = (tt, h)
+    change_stored path Spent n = (tt, h)
+    change_stored path Meaningless n = (tt, h)
+
+    statement_named : (o : Option Change) (path : List Ident) (es : ExprTrees)
+        → StepNamed (call_by ns v (look f.mem) o f (next_instr f.mem f) (class.put_path ns v f) path es)
+    statement_named None path es = act_named (call_act ns v (look f.mem) path es) (call_named path es)
+    statement_named (Some how) path es = change_stored (base_of path) (storing ns v (look f.mem) how (base_of path) es) (storing_named how (base_of path) es)
+
     -- instructions
     placed_named : (o : Option (List ValueTree × Memory)) (left : ℕ) → PutNamed p o → StepNamed (given f o (class.placed ns v f left))
     placed_named None left n = (tt, h)
     placed_named (Some x) left n = n
+
+    new_named : (q : Slotted) (t : TypeTree) (o : Option Kind) → StepNamed (class.new_by ns v f q t o)
+    new_named q t (Some k) = (tt, h)
+    new_named q t None =
+        given_named (default_value t) (λ u. given f (put_at ns.records f.mem q [] u) (class.placed ns v f v.left))
+        (λ u e. placed_named (put_at ns.records f.mem q [] u) v.left (put_named p ns.records f.mem q [] u h (subst (MaybeNamed p) e (default_named p t))))
 
     instruction_named : (x : InstrTree) → StepNamed (class.instruction ns v f x)
     instruction_named (SetInstr path e) =
         value_named (value ns v (look f.mem) e) (λ u left. given f (assign ns.records f.mem path u) (class.placed ns v f left)) (value_of e)
         (λ u left n. placed_named (assign ns.records f.mem path u) left (assign_named p ns.records f.mem path u h n))
     instruction_named (EffectInstr path e) = given_named (effect_in ns e) (class.effects ns v f Stored) (λ x q. effects_named Stored x)
-    instruction_named (NewInstr q) = given_named (bind (type_at f.code q) class.promise_kind) (λ k. asks v.left (Effects Stored (Make k)) f) (λ k e. (tt, h))
-    instruction_named (ActInstr path es) = act_named (call_act ns v (look f.mem) path es) (call_named path es)
+    instruction_named (NewInstr q) = given_named (type_at f.code q) (λ t. class.new_by ns v f q t (class.promise_kind t)) (λ t e. new_named q t (class.promise_kind t))
+    instruction_named (ActInstr path es) = statement_named (change_of path) path es
     instruction_named (DropInstr locals) = (held_named p f.mem locals h, emptied_named p locals f.mem h)
 
     test_named : (left : ℕ) (b : Option Bool) (c d : ℕ) → StepNamed (class.test ns v f left b c d)
@@ -243,7 +309,8 @@ module _ (p : Rule) where
     last_named (PassLast b) = (tt, h)
     last_named (TestLast e b c) = value_named (value ns v (look f.mem) e) (λ u left. class.test ns v f left (bool_of u) b c) (value_of e) (λ u left n. test_named left (bool_of u) b c)
     last_named (ChooseLast g) = choose_named (spot_of f.code g) (callback_at f.code g v.kept)
-    last_named (ReturnLast e) = value_named (value ns v (look f.mem) e) (λ u left. asks left (Returns u (everything f.mem)) over) (value_of e)
+    last_named (ReturnLast e) =
+        value_named (value ns v (look f.mem) (returned_expr e)) (λ u left. asks left (Returns u (everything f.mem)) over) (value_of (returned_expr e))
         (λ u left n. ((n, everything_named p f.mem h), record { slots = tt; locals = tt }))
     last_named (ThrowLast e) = value_named (value ns v (look f.mem) e) (λ u left. class.throw_value ns v f left (error_of u)) (value_of e) (λ u left n. throw_named left (error_of u))
 

@@ -14,14 +14,14 @@ use Rattle.flow_class.specs.Classes.{RawTree}
 use Rattle.flow_class.specs.Code.{fetch}
 use Rattle.flow_numbered.specs.Numbered.{Numbered, thing, added, put, removed}
 use Rattle.flow_meaning.specs.Cells.{Ref, Cell, Single, Stream, is_complete, outcome}
-use Rattle.flow_meaning.specs.Requests.{Spot, Act, Goes, Pass, Drops, Effects, Operand, Waits, Sends, Cancels, Prints, SendsTo, Returns, Throws, RunsOut, Stuck, DiskCall, Effect, Make, Start, Draw, Delay, Never, Listen, Disk, Goal, Stored, Kept, Ask, Supply}
+use Rattle.flow_meaning.specs.Requests.{Spot, Act, Goes, Pass, Drops, Effects, Starts, Operand, Waits, Sends, Cancels, Prints, SendsTo, Returns, Throws, RunsOut, Stuck, DiskCall, Effect, Make, Start, Draw, Delay, Never, Listen, Disk, Goal, Stored, Kept, Ask, Supply}
 use Rattle.flow_meaning.specs.Process.{Task, Run, Give, Throw, Catch, Store, Keep, Close, Fire, Drop, Entry, Halt, Core, Raised}
 use Rattle.flow_meaning.specs.Lines.{throw_line, catch_line, print_line}
 use Rattle.flow_meaning.specs.References.{scan_of}
 use Rattle.flow_meaning.specs.Work.{writes, pushed, new_cell, fill, first_ready, is_ready_at, owner}
 use Rattle.flow_meaning.specs.Effects.{Reaction, throws, result_task, push_result, gives, gives_new, gives_open, empty_cell, between, is_port, open_port, judged, ask_disk, effect, send_to}
 use Rattle.flow_meaning.specs.React.{send_by, send_in, print, at_spot, wait_by, wait, react}
-use Rattle.flow_meaning.specs.Step.{proc, Stepped, view, entry_of, enrol, start_core, start, answer_effect, answer, run_next, run, give, store, fate, throw_core, throw, OperandFate, GoesOn, Cancelled, Ready, verdict, with_operand, below, leave_kept, keep_by, keep, close_actor, step_tasks, step_if}
+use Rattle.flow_meaning.specs.Step.{proc, Stepped, view, entry_of, enrol_with, enrol, start_core, start_void, start, start_alone, answer_effect, answer, run_next, run, give, store, fate, throw_core, throw, OperandFate, GoesOn, Cancelled, Ready, verdict, with_operand, below, leave_kept, keep_by, keep, close_actor, step_tasks, step_if}
 use Rattle.flow_meaning.specs.Frame.{Frame, lose}
 use Rattle.flow_meaning.specs.Class.{classes, class_names}
 use Rattle.flow_heap_refinement.specs.Evaluation.{Rule, GivesFutures, Named, AllNamed, RefNamed}
@@ -116,6 +116,7 @@ module _ (p : Rule) where
   react_named s i Pass c above h n = turn_named p c.left c (pushed (Run i)) n (λ m. push_named p (Run i) (record c { left = m }) tt n)
   react_named s i (Drops vs) c above h n = dropping_named p vs (pushed (Run i) c) h (push_named p (Run i) c tt n)
   react_named s i (Effects goal eff) c above h n = effect_named s i goal eff c above n
+  react_named s i (Starts class args) c above h n = n
   react_named s i (Operand spot r) c above h n = push_named p (Keep i spot r) (pushed (Run i) c) h (push_named p (Run i) c tt n)
   react_named s i (Waits spot vs) c above h n = wait_named i spot vs c (thing c.entries i) refl h n
   react_named s i (Sends k o) c above h n = send_in_named (thing c.cells k) i k o c h.0 n
@@ -127,15 +128,23 @@ module _ (p : Rule) where
   react_named s i RunsOut c above h n = n
   react_named s i Stuck c above h n = n
 
+  enrol_with_named : (class : ℕ) (name : List ℕ) (result : Option ℕ) (c : Core) → CoreNamed p c → CoreNamed p (enrol_with class name result c)
+  enrol_with_named class name result c n = (n.0, each_added (λ e. RefsNamed p e.operands) c.entries (suc c.started) (entry_of class result) n.1 tt, (tt, n.2))
+
   pub enrol_named : (class : ℕ) (name : List ℕ) (c : Core) → CoreNamed p c → CoreNamed p (enrol class name c)
   enrol_named class name c n =
-      (each_added (CellNamed p) c.cells (suc c.made) (Single None []) n.0 tt, each_added (λ e. RefsNamed p e.operands) c.entries (suc c.started) (entry_of class (suc c.made)) n.1 tt, (tt, n.2))
+      enrol_with_named class name (Some (suc c.made)) (new_cell (Single None []) c) (each_added (CellNamed p) c.cells (suc c.made) (Single None []) n.0 tt, n.1, n.2)
 
   start_named : (i : ℕ) (goal : Goal) (class : ℕ) (name : List ℕ) (c : Core) → p kind.Future (suc c.made) ≡ true → CoreNamed p c → CoreNamed p (start_core i goal class name c)
   start_named i goal class name c above n =
       turn_named p c.left c (λ d. enrol class name (push_result i (result_task i goal (RefValue kind.Future (suc d.made))) d)) n
       (λ m. enrol_named class name (push_result i (result_task i goal (RefValue kind.Future (suc c.made))) (record c { left = m }))
       (result_named i goal (RefValue kind.Future (suc c.made)) (record c { left = m }) above n))
+
+  void_named : (i class : ℕ) (name : List ℕ) (c : Core) → CoreNamed p c → CoreNamed p (start_void i class name c)
+  void_named i class name c n =
+      turn_named p c.left c (λ d. enrol_with class name None (pushed (Run i) d)) n
+      (λ m. enrol_with_named class name None (pushed (Run i) (record c { left = m })) (push_named p (Run i) (record c { left = m }) tt n))
 
   thrown_named : (i err : ℕ) (x : Raised) (o : Option Entry) (c : Core) → thing c.entries i ≡ o → AllNamed p x.values → CoreNamed p c → CoreNamed p (throw_core i err x o c)
   thrown_named i err x None c at h n = n
@@ -219,6 +228,11 @@ module _ (p : Rule) where
     start_keeps i goal class None c xs above h n m = (n, m)
     start_keeps i goal class (Some f) c xs above h n m = (start_named i goal class ((classes r).label class) c above n, each_added (λ f. MemoryNamed p f.mem) xs (suc c.started) f m h)
 
+    alone_keeps : (i class : ℕ) (x : Option Frame) (c : Core) (xs : Numbered Frame) → MaybeFrame p x → CoreNamed p c → FramesNamed p xs
+        → ProcNamed p (start_alone (classes r) i class x (proc c xs)).0
+    alone_keeps i class None c xs h n m = (n, m)
+    alone_keeps i class (Some f) c xs h n m = (void_named i class ((classes r).label class) c n, each_added (λ f. MemoryNamed p f.mem) xs (suc c.started) f m h)
+
     effect_keeps : (s : Supply) (i : ℕ) (goal : Goal) (eff : Effect) (c : Core) (xs : Numbered Frame) → HoldsNew p c.made eff → EffectNamed p eff → CoreNamed p c → FramesNamed p xs
         → ProcNamed p (answer_effect (classes r) s i goal eff (proc c xs)).0
     effect_keeps s i goal (Start class args) c xs above h n m = start_keeps i goal class ((classes r).fresh class args) c xs above (fresh_named p (slice_get r.classes class) args h) n m
@@ -227,6 +241,7 @@ module _ (p : Rule) where
     answer_keeps : (s : Supply) (i : ℕ) (act : Act) (c : Core) (xs : Numbered Frame) → ActMakes p c.made act → ActNamed p act → CoreNamed p c → FramesNamed p xs
         → ProcNamed p (answer (classes r) s i act (proc c xs)).0
     answer_keeps s i (Effects goal eff) c xs above h n m = effect_keeps s i goal eff c xs above h n m
+    answer_keeps s i (Starts class args) c xs above h n m = alone_keeps i class ((classes r).fresh class args) c xs (fresh_named p (slice_get r.classes class) args h) n m
     answer_keeps s i act c xs above h n m = (react_named s i act c above h n, m)
 
     next_keeps : (s : Supply) (i : ℕ) (ts : List Task) (x : Option Ask × Frame) (c : Core) (xs : Numbered Frame) → AskMakes p c.made x.0 → StepNamed p x → TasksNamed p ts → CoreNamed p c

@@ -1,7 +1,7 @@
 -- A cell is made for one thing at most.
 use Rattle.std.proofs.Common.{◌≡◌, ℕ, ◌<◌, suc, ◌+◌, ◌≤◌, nat_eq, Bool, true, false, List, [], ◌∷◌, ◌++◌, if◌then◌else◌, refl, ap, arith}
 use Rattle.std.proofs.lemmas.Bool.Decides.{nat_tests}
-use Rattle.std.specs.declared.option.Option.TheVariants.{Some}
+use Rattle.std.specs.declared.option.Option.TheVariants.{None, Some}
 use Rattle.flow_numbered.specs.Numbered.{Numbered, thing, added, put, removed}
 use Rattle.flow_meaning.specs.Cells.{PromiseSide}
 use Rattle.flow_meaning.specs.Process.{Entry, Core}
@@ -128,6 +128,14 @@ pub entry_made : (z : Since) (c : Core) (i : ℕ) (new : Entry) → new.result �
 entry_made z c i new e h = (
   let l = h.0 in omega (arith, l),
   λ k. new_few z c.made k (owners_of k c) _ h.0
+      (let a = results_added k c.entries i new in let b = ap (count_maybe PromiseSide k PromiseSide) e in omega (arith, a, b)) (h.1 k),
+)
+
+-- an actor for which no cell is made
+pub entry_alone : (z : Since) (c : Core) (i : ℕ) (new : Entry) → new.result ≡ None → OnceSince z c → OnceSince z (record c { entries = added c.entries i new })
+entry_alone z c i new e h = (
+  h.0,
+  λ k. less_few z c.made k _ (owners_of k c)
       (let a = results_added k c.entries i new in let b = ap (count_maybe PromiseSide k PromiseSide) e in omega (arith, a, b)) (h.1 k),
 )
 

@@ -2,7 +2,7 @@
 use Rattle.std.proofs.Common.{◌≡◌, ℕ, ◌+◌, nat_eq, Bool, true, false, List, [], ◌∷◌, ◌++◌, if◌then◌else◌, refl, sym, ap, ◌∙◌, arith}
 use Rattle.std.proofs.lemmas.Bool.Decides.{nat_tests}
 use Rattle.std.specs.declared.option.Option.TheVariants.{Some}
-use Rattle.flow_value.specs.Values.{ValueTree, refs_of}
+use Rattle.flow_value.specs.Values.{ValueTree, refs_of, ValueTrees, NoValues, MoreValues, refs_of_all, with_last}
 use Rattle.flow_numbered.specs.Numbered.{Numbered, thing, added, put, removed}
 use Rattle.flow_meaning.specs.Cells.{Side, PromiseSide, FutureSide, Ref, Waiter, Cell}
 use Rattle.flow_meaning.specs.Process.{Task, Entry}
@@ -74,6 +74,17 @@ refs_joined s j (v ∷ vs) us =
     let a = count_joined s j (refs_of v) (refs_in (vs ++ us)) in
     let b = count_joined s j (refs_of v) (refs_in vs) in
     let c = refs_joined s j vs us in omega (arith, a, b, c)
+
+-- what a longer vector refers to, and what one value does
+pub longer_refs : (s : Side) (j : ℕ) (es : ValueTrees) (u : ValueTree) → count s j (refs_of_all (with_last es u)) ≡ count s j (refs_of_all es) + count s j (refs_of u)
+longer_refs s j NoValues u = let a = count_joined s j (refs_of u) [] in omega (arith, a)
+longer_refs s j (MoreValues v vs) u =
+    let a = count_joined s j (refs_of v) (refs_of_all (with_last vs u)) in
+    let b = count_joined s j (refs_of v) (refs_of_all vs) in
+    let c = longer_refs s j vs u in omega (arith, a, b, c)
+
+pub one_refs : (s : Side) (j : ℕ) (u : ValueTree) → count s j (refs_in (u ∷ [])) ≡ count s j (refs_of u)
+one_refs s j u = let a = count_joined s j (refs_of u) [] in omega (arith, a)
 
 pub drops_count : (s : Side) (j : ℕ) (rs : List Ref) (ts : List Task) → in_tasks s j (drops rs ts) ≡ count s j rs + in_tasks s j ts
 drops_count s j [] ts = omega arith

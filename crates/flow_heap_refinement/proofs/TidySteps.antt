@@ -12,7 +12,7 @@ use Rattle.flow_eval.specs.Predefined.{natural}
 use Rattle.flow_trace.specs.declared.line.Line.{Line}
 use Rattle.flow_numbered.specs.Numbered.{Numbered, thing, added, put, removed}
 use Rattle.flow_meaning.specs.Cells.{Side, PromiseSide, FutureSide, side_of, Ref, Waiter, Cell, Single, Stream, is_complete, is_ready, waiters}
-use Rattle.flow_meaning.specs.Requests.{Spot, Act, Pass, Effects, Waits, Sends, Cancels, Prints, SendsTo, RunsOut, Stuck, DiskCall, Effect, Make, Start, Draw, Delay, Never, Listen, Disk, Goal, Stored, Kept, Ask, Supply}
+use Rattle.flow_meaning.specs.Requests.{Spot, Act, Pass, Effects, Starts, Waits, Sends, Cancels, Prints, SendsTo, RunsOut, Stuck, DiskCall, Effect, Make, Start, Draw, Delay, Never, Listen, Disk, Goal, Stored, Kept, Ask, Supply}
 use Rattle.flow_meaning.specs.Process.{Task, Run, Give, Throw, Catch, Store, Keep, Close, Fire, Drop, Entry, Halt, Core, Proc, Raised, Engine}
 use Rattle.flow_meaning.specs.Lines.{broken_line, end_line, throw_line, print_line}
 use Rattle.flow_meaning.specs.References.{Scan, reference_count, scan_of}
@@ -21,7 +21,7 @@ use Rattle.flow_meaning.specs.Dropping.{promises_gone, loss, port_of, suffer, lo
 use Rattle.flow_meaning.specs.Effects.{throws, result_task, push_result, gives_new, gives_open, empty_cell, between, is_port, open_port, judged, ask_disk, effect, send_to}
 use Rattle.flow_meaning.specs.React.{send_by, send_in, print, at_spot, wait_by, wait, react}
 use Rattle.flow_meaning.specs.Class.{classes}
-use Rattle.flow_meaning.specs.Step.{proc, Stepped, view, enrol, start_core, start, answer_effect, answer, run_next, run, give, store, fate, throw_core, throw, OperandFate, GoesOn, Cancelled, Ready, verdict, with_operand, below, leave_kept, keep_by, keep, close_actor, step_tasks, step_if, step}
+use Rattle.flow_meaning.specs.Step.{proc, Stepped, view, enrol_with, enrol, start_core, start_void, start, start_alone, answer_effect, answer, run_next, run, give, store, fate, throw_core, throw, OperandFate, GoesOn, Cancelled, Ready, verdict, with_operand, below, leave_kept, keep_by, keep, close_actor, step_tasks, step_if, step}
 use Rattle.flow_meaning.specs.Deliver.{boot_core, deliver, arrive, stop_main, closed_request}
 use Rattle.flow_meaning.specs.Orderly.{Rising, Orderly}
 use Rattle.flow_meaning.proofs.Posture.{Unless, unless, unless_map, after_turn, Awake}
@@ -35,7 +35,7 @@ use Rattle.flow_heap_refinement.specs.Alone.{owners_of}
 use Rattle.flow_heap_refinement.proofs.Owners.{entry_found}
 use Rattle.flow_heap_refinement.proofs.OwnersOnce.{Since, since, once_since, once_of, port_gone, request_gone, port_made, request_made}
 use Rattle.flow_heap_refinement.proofs.Tidy.{Tidy, fill_tidy, gone_tidy, free_tidy, nobody_waits, new_agrees, new_tidy, number_added, numbers_more, ports_more, port_added, port_removed, leave_tidy, branch_tidy, cancel_tidy}
-use Rattle.flow_heap_refinement.proofs.TidyWaits.{suspend_tidy, enrol_tidy, kept_tidy, over_tidy}
+use Rattle.flow_heap_refinement.proofs.TidyWaits.{suspend_tidy, enrol_tidy, enrol_void_tidy, kept_tidy, over_tidy}
 
 -- effects
 push_tidy : (z : Since) → (i : ℕ) (o : Option Task) (c : Core) → Tidy z c → Unless (Tidy z) (push_result i o c)
@@ -127,6 +127,7 @@ react_tidy z s i (Cancels k) c a r t =
     let d = pushed (Run i) c in unless (cancel_owner (owner k c.entries) d).halted (cancel_owner_tidy z k (owner k c.entries) d refl r t)
 react_tidy z s i (Prints v) c a r t = print_tidy z i (print_line i v) c t
 react_tidy z s i (SendsTo q port text) c a r t = send_to_tidy z s i q port text c t
+react_tidy z s i (Starts class args) c a r t = tt
 react_tidy z s i RunsOut c a r t = tt
 react_tidy z s i Stuck c a r t = tt
 react_tidy z s i _ c a r t = unless c.halted t
@@ -139,6 +140,11 @@ start_tidy z i goal class name c r t =
     by_goal : (g : Goal) (n : ℕ) → Unless (Tidy z) (enrol class name (push_result i (result_task i g (RefValue kind.Future (suc c.made))) (record c { left = n })))
     by_goal Stored n = let d = pushed (Store i (RefValue kind.Future (suc c.made))) (pushed (Run i) (record c { left = n })) in unless c.halted (enrol_tidy z class name d r t)
     by_goal (Kept spot) n = let d = pushed (Keep i spot (kind.Future, suc c.made)) (pushed (Run i) (record c { left = n })) in unless c.halted (enrol_tidy z class name d r t)
+
+void_tidy : (z : Since) → (i class : ℕ) (name : List ℕ) (c : Core) → Rising 0 c.started c.entries → Tidy z c → Unless (Tidy z) (start_void i class name c)
+void_tidy z i class name c r t =
+    after_turn (Tidy z) (λ d. enrol_with class name None (pushed (Run i) d)) c c.left
+    (λ n. unless c.halted (enrol_void_tidy z class name (pushed (Run i) (record c { left = n })) r t))
 
 -- drops
 suffer_tidy : (z : Since) → (scan : Scan) (s : Side) (k : ℕ) (cell : Cell) (a b : ℕ) (o : Option (ℕ × Entry)) (q : Option ℕ) (c : Core) → thing c.cells k ≡ Some cell
@@ -263,12 +269,17 @@ module _ {A : Type 0} (z : Since) (e : Engine A) where
   start_keeps i goal class None k xs r t = tt
   start_keeps i goal class (Some x) k xs r t = start_tidy z i goal class (e.label class) k r t
 
+  alone_keeps : (i class : ℕ) (x : Option A) (k : Core) (xs : Numbered A) → Rising 0 k.started k.entries → Tidy z k → Keeps (start_alone e i class x (proc k xs))
+  alone_keeps i class None k xs r t = tt
+  alone_keeps i class (Some x) k xs r t = void_tidy z i class (e.label class) k r t
+
   effect_keeps : (s : Supply) (i : ℕ) (goal : Goal) (eff : Effect) (k : Core) (xs : Numbered A) → Awake i k → Rising 0 k.started k.entries → Tidy z k → Keeps (answer_effect e s i goal eff (proc k xs))
   effect_keeps s i goal (Start class args) k xs a r t = start_keeps i goal class (e.fresh class args) k xs r t
   effect_keeps s i goal eff k xs a r t = react_tidy z s i (Effects goal eff) k a r t
 
   answer_keeps : (s : Supply) (i : ℕ) (act : Act) (k : Core) (xs : Numbered A) → Awake i k → Rising 0 k.started k.entries → Tidy z k → Keeps (answer e s i act (proc k xs))
   answer_keeps s i (Effects goal eff) k xs a r t = effect_keeps s i goal eff k xs a r t
+  answer_keeps s i (Starts class args) k xs a r t = alone_keeps i class (e.fresh class args) k xs r t
   answer_keeps s i act k xs a r t = react_tidy z s i act k a r t
 
   next_keeps : (s : Supply) (i : ℕ) (ts : List Task) (p : Option Ask × A) (c : Core) (xs : Numbered A) → Awake i c → Rising 0 c.started c.entries → Tidy z c → Keeps (run_next e s i ts p (proc c xs))

@@ -9,15 +9,15 @@ use Rattle.flow_meaning.specs.Cells.{Ref, Waiter, Cell, Single, Stream, waiters,
 use Rattle.flow_meaning.specs.Requests.{Spot}
 use Rattle.flow_meaning.specs.Process.{Throw, Entry, Core}
 use Rattle.flow_meaning.specs.Work.{new_cell, Registration, Registered, Refused, Missing, register_at, register_one, register}
-use Rattle.flow_meaning.specs.Step.{entry_of, enrol, with_operand}
+use Rattle.flow_meaning.specs.Step.{entry_of, enrol_with, enrol, with_operand}
 use Rattle.flow_meaning.specs.React.{suspend}
 use Rattle.flow_meaning.specs.Orderly.{is_suspended, Rising}
 use Rattle.flow_meaning.proofs.Posture.{same_number, other_number, each_number, thing_put, thing_put_other, thing_added, thing_removed_other, Unless, unless, Awake}
 use Rattle.flow_meaning.proofs.Order.{rising_put}
-use Rattle.flow_heap_refinement.specs.Counted.{branches_of, branches_at, waiters_at, waiting_by, waiting_of}
+use Rattle.flow_heap_refinement.specs.Counted.{branches_of, branches_at, waiters_at, waiting_by, waiting_of, Agree}
 use Rattle.flow_heap_refinement.proofs.Finds.{none_above, thing_new, thing_removed}
 use Rattle.flow_heap_refinement.proofs.Leaving.{joined, no_more}
-use Rattle.flow_heap_refinement.proofs.OwnersOnce.{Since, entry_once, entry_made, entry_gone}
+use Rattle.flow_heap_refinement.proofs.OwnersOnce.{Since, entry_once, entry_made, entry_alone, entry_gone}
 use Rattle.flow_heap_refinement.proofs.Tidy.{Tidy, agree_by, entry_tidy, leave_tidy, new_tidy}
 
 -- an actor that runs waits nowhere
@@ -133,22 +133,30 @@ suspend_tidy z i spot e e0 vs c awake at same t =
       entry_once z c i e0 asleep at same t.4,
     )
 
--- an actor is made
+-- an actor is made, which waits nowhere
+enrolled_agree : (class : ℕ) (name : List ℕ) (result : Option ℕ) (c : Core) → Rising 0 c.started c.entries → Agree c → Agree (enrol_with class name result c)
+enrolled_agree class name result c rise a =
+    let i = suc c.started in
+    let e = entry_of class result in
+    let none = none_above c.entries 0 c.started i rise (omega arith) in
+    agree_by c (enrol_with class name result c) (λ k. refl)
+    (each_number i (λ j. waiting_of (thing (added c.entries i e) j) ≡ waiting_of (thing c.entries j))
+    (ap waiting_of (thing_new c.entries i e none) ∙ sym (ap waiting_of none)) (λ j d. ap waiting_of (thing_added c.entries i j e d)))
+    a
+
 pub enrol_tidy : (z : Since) → (class : ℕ) (name : List ℕ) (c : Core) → Rising 0 c.started c.entries → Tidy z c → Tidy z (enrol class name c)
 enrol_tidy z class name c rise t =
-    let n = new_tidy z (Single None []) c refl t in
-    let i = suc c.started in
-    let e = entry_of class (suc c.made) in
-    let none = none_above c.entries 0 c.started i rise (omega arith) in (
-      agree_by (new_cell (Single None []) c) (enrol class name c) (λ k. refl)
-          (each_number i (λ j. waiting_of (thing (added c.entries i e) j) ≡ waiting_of (thing c.entries j))
-          (ap waiting_of (thing_new c.entries i e none) ∙ sym (ap waiting_of none)) (λ j d. ap waiting_of (thing_added c.entries i j e d)))
-          n.0,
+    let n = new_tidy z (Single None []) c refl t in (
+      enrolled_agree class name (Some (suc c.made)) (new_cell (Single None []) c) rise n.0,
       n.1,
       n.2,
       n.3,
-      entry_made z c i e refl t.4,
+      entry_made z c (suc c.started) (entry_of class (Some (suc c.made))) refl t.4,
     )
+
+pub enrol_void_tidy : (z : Since) → (class : ℕ) (name : List ℕ) (c : Core) → Rising 0 c.started c.entries → Tidy z c → Tidy z (enrol_with class name None c)
+enrol_void_tidy z class name c rise t =
+    (enrolled_agree class name None c rise t.0, t.1, t.2, t.3, entry_alone z c (suc c.started) (entry_of class None) refl t.4)
 
 -- one operand more
 pub kept_tidy : (z : Since) → (i : ℕ) (spot : Spot) (r : Ref) (e : Entry) (c : Core) → Awake i c → thing c.entries i ≡ Some e → Tidy z c

@@ -1,5 +1,7 @@
 -- Changes of an actor in a heap that are changes of it in the process that the heap shows.
 use Rattle.std.specs.Prelude.{◌≡◌, ℕ, suc, ◌+◌, List, [], ◌∷◌, length, slice_get}
+use Rattle.std.specs.Option.{option_map}
+use Rattle.std.specs.declared.option.Option.{Option}
 use Rattle.std.specs.declared.option.Option.TheVariants.{Some}
 use Rattle.flow_value.specs.declared.value.Value.{Value}
 use Rattle.flow_class.specs.Classes.{ClassTree, RawTree}
@@ -58,12 +60,12 @@ blank c =
     }
 
 -- a process with one actor more, and with one less
-abbrev pub with_actor : (class cell : ℕ) → Frame → Proc Frame → Proc Frame
-with_actor class k f p =
+abbrev pub with_actor : (class : ℕ) → (result : Option ℕ) → Frame → Proc Frame → Proc Frame
+with_actor class result f p =
     proc
     (record p.core {
       entries =
-          added p.core.entries (suc p.core.started) (entry_of class k);
+          added p.core.entries (suc p.core.started) (entry_of class result);
       started = suc p.core.started;
     })
     (added p.actors (suc p.core.started) f)
@@ -102,10 +104,10 @@ module _ (r : RawTree) (h : HeapTree) (p : Proc Frame) where
   -- an actor starts, and is finished
   abbrev pub Started : Type 0
   Started =
-      (class places k : ℕ) (c : ClassTree) → Represents r h p → slice_get r.classes class ≡ Some c
+      (class places : ℕ) (result : Option ℕ) (c : ClassTree) → Represents r h p → slice_get r.classes class ≡ Some c
       → places ≡ length c.slots + length c.locals
       → Rising 0 p.core.started p.core.entries → Free (suc p.core.started) p.core
-      → Represents r (started class places (Some (cell_id k)) h) (with_actor class k (blank c) p)
+      → Represents r (started class places (option_map cell_id result) h) (with_actor class result (blank c) p)
 
   abbrev pub Finished : Type 0
   Finished =

@@ -12,7 +12,7 @@ use flow_tree::decl::{Decl, Param, Program, RecordDecl};
 use flow_tree::stmt::{Stmt, StmtKind, When};
 use flow_tree::ty::{Ident, Ty};
 use flow_types::closing::ways_of;
-use flow_types::program::Routine;
+use flow_types::program::{Returns, Routine};
 use flow_types::top_names::is_predefined;
 use flow_types::type_view::TypeView;
 use std::alloc::Global;
@@ -45,7 +45,16 @@ fn named_in(ty: &Ty) -> Option<&[u8]> {
         Ty::FutureStream(of) => named_in(of),
         Ty::Promise(of) => named_in(of),
         Ty::PromiseStream(of) => named_in(of),
+        Ty::Vector(of) => named_in(of),
         Ty::Int | Ty::Bool | Ty::Str | Ty::Void | Ty::Error => None,
+    }
+}
+
+/// The written type of what is returned, where there is one.
+fn written_type<'a>(returns: Returns<'a>) -> Option<&'a Ty> {
+    match returns {
+        Returns::Function(ty) | Returns::Actor(Some(ty)) => Some(ty),
+        Returns::Actor(None) => None,
     }
 }
 
@@ -187,9 +196,10 @@ impl<'s, 'n, 'a> Explainer<'s, 'n, 'a> {
             return Ok(());
         };
         let mut returns = Vec::new(self.alloc);
-        match routine.returns {
-            Ty::Future(of) => put_type(&mut returns, of)?,
-            of => put_type(&mut returns, of)?,
+        match written_type(routine.returns) {
+            Some(Ty::Future(of)) => put_type(&mut returns, of)?,
+            Some(of) => put_type(&mut returns, of)?,
+            None => return Ok(()),
         }
         let name = routine.name.name.bytes();
         let begin = if self.rule == 10 {
@@ -233,7 +243,9 @@ impl<'s, 'n, 'a> Explainer<'s, 'n, 'a> {
 
     // A name at the top, the types and the names of the parameters.
     fn header(self, routine: Routine<'a>, hint: &mut Hint) -> Result<(), NoMemory> {
-        self.written(routine.returns, routine.at, hint)?;
+        if let Some(ty) = written_type(routine.returns) {
+            self.written(ty, routine.at, hint)?;
+        }
         if self.rule == 2 {
             self.top_taken(routine.name, hint)?;
         }
@@ -328,9 +340,12 @@ impl<'s, 'n, 'a> Explainer<'s, 'n, 'a> {
         if let Some(last) = last_of(routine.body) {
             self.say(hint, last.at, &[passed(&last.kind)])?;
         }
+        let Some(ty) = written_type(routine.returns) else {
+            return Ok(());
+        };
         let mut returns = Vec::new(self.alloc);
-        put_type(&mut returns, routine.returns)?;
-        match routine.returns {
+        put_type(&mut returns, ty)?;
+        match ty {
             Ty::Void => self.advise(hint, &[b"end with `return Void();`"]),
             _ => self.advise(
                 hint,

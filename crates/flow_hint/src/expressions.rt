@@ -9,7 +9,7 @@ use flow_tree::expr::{Expr, Op};
 use flow_tree::stmt::Target;
 use flow_tree::token::Sign;
 use flow_tree::ty::Ident;
-use flow_types::callee::{Callee, Need, called_on};
+use flow_types::callee::{Callee, Need, called_on, indexed_on};
 use flow_types::type_view::{ElementView, TypeView, same_found, takes_both, takes_equality};
 use itoa::Buffer;
 
@@ -111,12 +111,21 @@ impl<'s, 'n, 'a> Explainer<'s, 'n, 'a> {
     ) -> Result<(), NoMemory> {
         let text = self.quoted(expr, token)?;
         let is = self.spelled(found)?;
-        let needed = self.spelled(wanted)?;
+        let needed = self.needed(wanted)?;
         self.say(
             hint,
             self.source.place(token),
-            &[&text, b" is `", &is, b"`, and `", &needed, b"` is needed"],
+            &[&text, b" is `", &is, b"`, and ", &needed, b" is needed"],
         )
+    }
+
+    // A type that is needed, in backquotes; a void actor gives nothing.
+    fn needed(self, ty: TypeView<'_>) -> Result<Vec<u8>, NoMemory> {
+        if let TypeView::Nothing = ty {
+            return words(self.alloc, &[b"nothing"]);
+        }
+        let spelled = self.spelled(ty)?;
+        words(self.alloc, &[b"`", &spelled, b"`"])
     }
 
     // Advises how a value of one type becomes one of another.
@@ -132,6 +141,7 @@ impl<'s, 'n, 'a> Explainer<'s, 'n, 'a> {
             return Ok(());
         };
         match (found, ty) {
+            (_, TypeView::Nothing) => self.advise(hint, &[b"`return;`"]),
             (TypeView::Future(of), TypeView::Future(_)) => {
                 self.mend_wait(b"wait", of, wanted.name, &text, hint)
             }
@@ -230,6 +240,13 @@ impl<'s, 'n, 'a> Explainer<'s, 'n, 'a> {
                     return Ok(());
                 }
                 self.method_called(of, method, hint)
+            }
+            Expr::Index(of, index) => {
+                let behind = token.saturating_add(expr_tokens(of)).saturating_add(1);
+                if self.part(of, token, hint)? || self.part(index, behind, hint)? {
+                    return Ok(());
+                }
+                self.indexed(of, index, token, hint)
             }
             Expr::Not(of) => {
                 if self.part(of, token.saturating_add(1), hint)? {
@@ -431,6 +448,34 @@ impl<'s, 'n, 'a> Explainer<'s, 'n, 'a> {
         self.called(false, method, hint)
     }
 
+    // Says why an index breaks the rule itself: it is no `int`, or stands behind what has no elements.
+    fn indexed(
+        self,
+        of: &'a Expr,
+        index: &'a Expr,
+        token: usize,
+        hint: &mut Hint,
+    ) -> Result<(), NoMemory> {
+        let setting = &self.seeker.setting;
+        let base = setting.judge(false, of);
+        let Some(form) = base.form else {
+            return Ok(());
+        };
+        if let TypeView::Vector(_) = form {
+            let behind = token.saturating_add(expr_tokens(of)).saturating_add(1);
+            let judged = setting.judge(false, index);
+            self.argument(indexed_on(base.form), 0, index, judged.form, behind, hint)?;
+            return Ok(());
+        }
+        let text = self.quoted(of, token)?;
+        let is = self.spelled(form)?;
+        self.say(
+            hint,
+            self.source.place(token),
+            &[&text, b" is `", &is, b"`; a `vector` alone has elements"],
+        )
+    }
+
     // Says which argument breaks the rule; whether one does.
     #[cycle(inside)]
     fn args(
@@ -518,6 +563,7 @@ impl<'s, 'n, 'a> Explainer<'s, 'n, 'a> {
         )?;
         match found {
             TypeView::Named(_) => self.advise(hint, &[b"print its fields, one by one"]),
+            TypeView::Vector(_) => self.advise(hint, &[b"print its elements, one by one"]),
             TypeView::Error => self.advise(hint, &[b"print its number: `trace(e.code());`"]),
             _ => Ok(()),
         }

@@ -7,7 +7,7 @@ use flow_tree::decl::{Decl, Param, RecordDecl};
 use flow_tree::stmt::{Into, Stmt, StmtKind, When};
 use flow_tree::ty::Ident;
 use flow_types::judge::{Setting, Vars};
-use flow_types::program::Routine;
+use flow_types::program::{Returns, Routine};
 use flow_types::top_names::TopNames;
 use flow_types::type_view::TypeView;
 use indexmap::IndexMap;
@@ -42,7 +42,7 @@ pub fn routine_of(decl: &Decl) -> Option<Routine<'_>> {
         Decl::Function(function) => Some(Routine {
             at: function.at,
             plain: true,
-            returns: &function.returns,
+            returns: Returns::Function(&function.returns),
             name: &function.name,
             params: &function.params,
             body: &function.body,
@@ -51,7 +51,7 @@ pub fn routine_of(decl: &Decl) -> Option<Routine<'_>> {
         Decl::Actor(actor) => Some(Routine {
             at: actor.at,
             plain: false,
-            returns: &actor.returns,
+            returns: Returns::Actor(&actor.returns),
             name: &actor.name,
             params: &actor.params,
             body: &actor.body,

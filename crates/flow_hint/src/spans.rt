@@ -12,6 +12,7 @@ pub fn type_tokens(ty: &Ty) -> usize {
         Ty::FutureStream(of) => type_tokens(of).saturating_add(3),
         Ty::Promise(of) => type_tokens(of).saturating_add(3),
         Ty::PromiseStream(of) => type_tokens(of).saturating_add(3),
+        Ty::Vector(of) => type_tokens(of).saturating_add(3),
     }
 }
 
@@ -40,6 +41,11 @@ pub fn expr_tokens(expr: &Expr) -> usize {
             expr_tokens(of)
                 .saturating_add(args_tokens(args))
                 .saturating_add(4)
+        }
+        Expr::Index(of, index) => {
+            expr_tokens(of)
+                .saturating_add(expr_tokens(index))
+                .saturating_add(2)
         }
         Expr::Not(of) => expr_tokens(of).saturating_add(1),
         Expr::Neg(of) => expr_tokens(of).saturating_add(1),

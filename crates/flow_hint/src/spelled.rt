@@ -27,6 +27,7 @@ pub fn put_type(out: &mut Vec<u8>, ty: &Ty) -> Result<(), NoMemory> {
         Ty::FutureStream(of) => put_wrapped(out, b"FutureStream", of)?,
         Ty::Promise(of) => put_wrapped(out, b"Promise", of)?,
         Ty::PromiseStream(of) => put_wrapped(out, b"PromiseStream", of)?,
+        Ty::Vector(of) => put_wrapped(out, b"vector", of)?,
     }
     Ok(())
 }
@@ -58,6 +59,8 @@ pub fn put_found(out: &mut Vec<u8>, ty: TypeView<'_>) -> Result<(), NoMemory> {
         TypeView::FutureStream(of) => put_element(out, b"FutureStream", of)?,
         TypeView::Promise(of) => put_wrapped(out, b"Promise", of)?,
         TypeView::PromiseStream(of) => put_wrapped(out, b"PromiseStream", of)?,
+        TypeView::Vector(of) => put_wrapped(out, b"vector", of)?,
+        TypeView::Nothing => out.extend_from_slice(b"void")?,
     }
     Ok(())
 }

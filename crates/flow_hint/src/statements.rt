@@ -32,11 +32,11 @@ impl<'s, 'n, 'a> Explainer<'s, 'n, 'a> {
                     hint,
                 )
             }
-            StmtKind::Return(value) => {
+            StmtKind::Return(Some(value)) => {
                 let Some(routine) = self.seeker.routine else {
                     return Ok(());
                 };
-                let returns = TypeView::of(routine.returns);
+                let returns = routine.returns.found();
                 self.wanted(value, token.saturating_add(1), Wanted::part(returns), hint)
             }
             StmtKind::Throw(Some(error)) => {

@@ -70,6 +70,10 @@ module _ (i : ℕ) where
       omega (arith, n),
       subst IsMarked (sym (thing_added c.entries (suc c.started) i _ (λ q. omega (arith, q, n)))) h.1,
     );
+    starts_alone = λ c class h. let n = h.0 in (
+      omega (arith, n),
+      subst IsMarked (sym (thing_added c.entries (suc c.started) i _ (λ q. omega (arith, q, n)))) h.1,
+    );
   }
 
   abbrev MarkedIn : Proc Frame → Type 0

@@ -37,7 +37,7 @@ pub record EventInvariant (p : Proc Frame) : Type 0 where
   pub cared : Cared p
   pub referenced : Referenced p
 
--- At rest moreover no unfinished actor is marked, so that a future refers to the result of each.
+-- At rest moreover no unfinished actor is marked, so that a future refers to the result of each that isn't void.
 pub record BoundaryInvariant (r : RawTree) (p : Proc Frame) : Type 0 where
   pub keeps : EventInvariant p
   pub referred : Referred (classes r) p

@@ -69,6 +69,9 @@ pub record KeptByWrites (P : Things → Type 0) : Type 0 where
       → HoldsOfThings P (with_cell (record c { ports = added c.ports port (suc c.made) }) (Stream [] None None))
   pub starts : (c : Core) (class : ℕ) → CellsTied c → HoldsOfThings P c
       → HoldsOfThings P (record (with_cell c (Single None [])) {
-        entries = added c.entries (suc c.started) (entry_of class (suc c.made));
+        entries = added c.entries (suc c.started) (entry_of class (Some (suc c.made)));
         started = suc c.started;
       })
+  -- a void actor starts without one
+  pub starts_alone : (c : Core) (class : ℕ) → HoldsOfThings P c
+      → HoldsOfThings P (record c { entries = added c.entries (suc c.started) (entry_of class None); started = suc c.started })

@@ -58,8 +58,8 @@ is_while s e b k = roll (kind.While e b) (λ at rest. WhileStmt at (expr_of e) (
 pub is_loop : (s : Stmt) (b : Vec Stmt Global) (k : Body) → s.kind ≡ kind.Loop b → stmt_of s k ≡ LoopStmt s.at (body_of b.items) k
 is_loop s b k = roll (kind.Loop b) (λ at rest. LoopStmt at (body_of b.items) rest) s k (kind_loop b)
 
-pub is_return : (s : Stmt) (e : Expr) (k : Body) → s.kind ≡ kind.Return e → stmt_of s k ≡ ReturnStmt s.at (expr_of e) k
-is_return s e k = roll (kind.Return e) (λ at rest. ReturnStmt at (expr_of e) rest) s k (kind_return e)
+pub is_return : (s : Stmt) (e : Option Expr) (k : Body) → s.kind ≡ kind.Return e → stmt_of s k ≡ ReturnStmt s.at (option_map expr_of e) k
+is_return s e k = roll (kind.Return e) (λ at rest. ReturnStmt at (option_map expr_of e) rest) s k (kind_return e)
 
 pub is_throw : (s : Stmt) (e : Option Expr) (k : Body) → s.kind ≡ kind.Throw e → stmt_of s k ≡ ThrowStmt s.at (option_map expr_of e) k
 is_throw s e k = roll (kind.Throw e) (λ at rest. ThrowStmt at (option_map expr_of e) rest) s k (kind_throw e)

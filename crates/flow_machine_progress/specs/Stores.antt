@@ -4,7 +4,7 @@ use Rattle.flow_base.specs.declared.ids.ProcId.{ProcId}
 use Rattle.flow_value.specs.declared.value.Kind.{Kind}
 use Rattle.flow_value.specs.declared.value.Kind.TheVariants as kind
 use Rattle.flow_value.specs.declared.value.Outcome.{Outcome}
-use Rattle.flow_value.specs.Values.{ValueTree, RefValue}
+use Rattle.flow_value.specs.Values.{ValueTree, CompositeValue, ListWhole, RefValue}
 use Rattle.flow_value.specs.View.{value_of}
 use Rattle.flow_code.specs.declared.program.Code.{Code}
 use Rattle.flow_trace.specs.declared.line.Line.{Line}
@@ -19,10 +19,11 @@ use Rattle.flow_steps.specs.Delivering.{brought}
 use Rattle.flow_steps.specs.Tasks.{TopTaken, IsDone, MainCalled}
 use Rattle.flow_machine.specs.Serving.{Served}
 
--- a value is no promise, neither of a single result nor of a stream
+-- a value is no promise, neither of a single result nor of a stream, and no vector, which is put in place like one
 abbrev pub NoPromise : ValueTree → Type 0
 NoPromise (RefValue kind.Promise k) = ⊥
 NoPromise (RefValue kind.PromiseStream k) = ⊥
+NoPromise (CompositeValue ListWhole vs) = ⊥
 NoPromise v = Unit {0}
 
 -- what a task stores, if it stores something, is none; so it is with these tasks, and with those of a heap

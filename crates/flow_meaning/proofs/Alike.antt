@@ -4,18 +4,18 @@ use Rattle.std.proofs.Math.Path.{fun_ext}
 use Rattle.std.specs.declared.option.Option.{Option}
 use Rattle.std.specs.declared.option.Option.TheVariants.{None, Some}
 use Rattle.flow_value.specs.Values.{ValueTree, OutcomeTree, GoodOutcome, BadOutcome}
-use Rattle.flow_numbered.specs.Numbered.{Numbered, thing, put, removed}
+use Rattle.flow_numbered.specs.Numbered.{Numbered, thing, put, removed, added}
 use Rattle.flow_meaning.specs.Cells.{Side, Ref}
-use Rattle.flow_meaning.specs.Requests.{Spot, Act, Effects, Effect, Start, Goal, Supply}
+use Rattle.flow_meaning.specs.Requests.{Spot, Act, Effects, Starts, Effect, Start, Goal, Supply}
 use Rattle.flow_meaning.specs.Process.{Task, Run, Give, Throw, Catch, Store, Keep, Close, Fire, Drop, Entry, Core, Engine}
 use Rattle.flow_meaning.specs.References.{scan_of}
 use Rattle.flow_meaning.specs.Work.{pushed, dropping_values, is_ready_at}
 use Rattle.flow_meaning.specs.Dropping.{drop, fire, close}
 use Rattle.flow_meaning.specs.React.{react}
-use Rattle.flow_meaning.specs.Step.{Stepped, proc, answer, answer_effect, start, start_core, give, store, throw, throw_core, OperandFate, GoesOn, Cancelled, Ready, verdict, with_operand, lost, leave_kept, below, keep_by, keep, handle, close_actor, do_task}
+use Rattle.flow_meaning.specs.Step.{Stepped, proc, answer, answer_effect, start, start_core, start_alone, start_void, give, store, throw, throw_core, OperandFate, GoesOn, Cancelled, Ready, verdict, with_operand, lost, leave_kept, below, keep_by, keep, handle, close_actor, do_task}
 use Rattle.flow_meaning.specs.Orderly.{tasks_of, phase_first, Paired, Orderly, Phase, Free, Risky, Due}
 use Rattle.flow_meaning.specs.Law.{BothOrNone, Simulates, AllRelated, Related, phase_after}
-use Rattle.flow_meaning.proofs.TaskShifts.{Popped, popped_at, popped_shifts, popped_eases, given_shifts, stored_shifts, kept_shifts, leave_kept_shifts, next_below, below_unmoved, throw_core_shifts, handle_shifts, close_shifts, start_shifts}
+use Rattle.flow_meaning.proofs.TaskShifts.{Popped, popped_at, popped_shifts, popped_eases, given_shifts, stored_shifts, kept_shifts, leave_kept_shifts, next_below, below_unmoved, throw_core_shifts, handle_shifts, close_shifts, StartsFor, start_shifts, void_shifts}
 use Rattle.flow_meaning.proofs.Shifts.{give_of, throw_of, catch_of, store_of, keep_of, close_of, throw_shifts, react_shifts, fire_eases, drop_eases}
 use Rattle.flow_meaning.proofs.Posture.{IsOf, shifts_after, eases_on, unmoved_eases, rank, Shifts, Unless, unless, unless_map}
 use Rattle.flow_meaning.proofs.Relating.{related_removed, related_eased, related_shifts, related_gone, related_new}
@@ -208,22 +208,36 @@ module _ {A B : Type 0} (e : Engine A) (d : Engine B) (R : Phase → A → B →
   asked_related i p c k m xs ys a b h s =
       unless_map m.halted (λ s. related_shifts e d R sim i p c m xs ys h.first.0 a h.second.0 b h.first.1 h.second.1 h.rs s h.after) (popped_shifts i (Run i) p c k m h.pop s)
 
+  -- an actor is made, which is fresh for both
+  made_alike : (i : ℕ) (p : Phase) (m : Core) (x : A) (y : B) (c k : Core) (xs : Numbered A) (ys : Numbered B) (a : A) (b : B) → Asked i p c k xs ys a b → R Free x y → Unless (StartsFor i p k) m
+      → Unless (λ m. Related R m (added (put xs i a) (suc k.started) x) (added (put ys i b) (suc k.started) y)) m
+  made_alike i p m x y c k xs ys a b h r =
+      unless_map m.halted
+      (λ s. let both = shifts_after i p c k m h.pop.others s.0 in
+      related_new e d R sim (suc k.started) m m (put xs i a) (put ys i b) x y (related_shifts e d R sim i p c m xs ys h.first.0 a h.second.0 b h.first.1 h.second.1 h.rs both h.after)
+      (λ j. omega arith) s.1 r)
+
   start_alike : (i : ℕ) (goal : Goal) (class : ℕ) (x : Option A) (y : Option B) (c k : Core) (xs : Numbered A) (ys : Numbered B) (a : A) (b : B) → Asked i Due c k xs ys a b → BothOrNone (R Free) x y
       → Matches (start e i goal class x (proc k (put xs i a))) (start d i goal class y (proc k (put ys i b)))
   start_alike i goal class None None c k xs ys a b h r = (refl, refl, tt)
   start_alike i goal class None (Some y) c k xs ys a b h r = absurd r
   start_alike i goal class (Some x) None c k xs ys a b h r = absurd r
-  start_alike i goal class (Some x) (Some y) c k xs ys a b h r =
-      let n = suc k.started in
-      let m = start_core i goal class (e.label class) k in (
-        ap (λ name. start_core i goal class name k) (sim.label class),
-        refl,
-        unless_map m.halted
-            (λ s. let both = shifts_after i Due c k m h.pop.others s.0 in
-            related_new e d R sim n m m (put xs i a) (put ys i b) x y (related_shifts e d R sim i Due c m xs ys h.first.0 a h.second.0 b h.first.1 h.second.1 h.rs both h.after)
-            (λ j. omega arith) s.1 r)
-            (start_shifts i goal class (e.label class) k h.pop.awake h.pop.rises),
-      )
+  start_alike i goal class (Some x) (Some y) c k xs ys a b h r = (
+    ap (λ name. start_core i goal class name k) (sim.label class),
+    refl,
+    made_alike i Due (start_core i goal class (e.label class) k) x y c k xs ys a b h r (start_shifts i goal class (e.label class) k h.pop.awake h.pop.rises),
+  )
+
+  alone_alike : (i class : ℕ) (x : Option A) (y : Option B) (c k : Core) (xs : Numbered A) (ys : Numbered B) (a : A) (b : B) → Asked i Free c k xs ys a b → BothOrNone (R Free) x y
+      → Matches (start_alone e i class x (proc k (put xs i a))) (start_alone d i class y (proc k (put ys i b)))
+  alone_alike i class None None c k xs ys a b h r = (refl, refl, tt)
+  alone_alike i class None (Some y) c k xs ys a b h r = absurd r
+  alone_alike i class (Some x) None c k xs ys a b h r = absurd r
+  alone_alike i class (Some x) (Some y) c k xs ys a b h r = (
+    ap (λ name. start_void i class name k) (sim.label class),
+    refl,
+    made_alike i Free (start_void i class (e.label class) k) x y c k xs ys a b h r (void_shifts i class (e.label class) k h.pop.awake h.pop.rises),
+  )
 
   effect_alike : (s : Supply) (i : ℕ) (goal : Goal) (eff : Effect) (c k : Core) (xs : Numbered A) (ys : Numbered B) (a : A) (b : B) → Asked i Due c k xs ys a b
       → Matches (answer_effect e s i goal eff (proc k (put xs i a))) (answer_effect d s i goal eff (proc k (put ys i b)))
@@ -233,4 +247,5 @@ module _ {A B : Type 0} (e : Engine A) (d : Engine B) (R : Phase → A → B →
   pub answer_alike : (s : Supply) (i : ℕ) (act : Act) (c k : Core) (xs : Numbered A) (ys : Numbered B) (a : A) (b : B) → Asked i (phase_after act) c k xs ys a b
       → Matches (answer e s i act (proc k (put xs i a))) (answer d s i act (proc k (put ys i b)))
   answer_alike s i (Effects goal eff) c k xs ys a b h = effect_alike s i goal eff c k xs ys a b h
+  answer_alike s i (Starts class args) c k xs ys a b h = alone_alike i class (e.fresh class args) (d.fresh class args) c k xs ys a b h (sim.fresh class args)
   answer_alike s i act c k xs ys a b h = (refl, refl, asked_related i (phase_after act) c k (react s i act k).0 xs ys a b h (react_shifts s i act k h.pop.awake h.pop.rises))

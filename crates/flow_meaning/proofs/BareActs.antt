@@ -1,8 +1,9 @@
 -- What a step of either kind of actor evaluates doesn't depend on places.
 use Rattle.std.proofs.Common.{◌≡◌, ℕ, List, [], ◌∷◌, map, refl, ap, ap₂, ◌∙◌}
-use Rattle.std.specs.Prelude.{option_map}
+use Rattle.std.specs.Prelude.{option_map, position}
 use Rattle.std.specs.declared.option.Option.{Option}
 use Rattle.std.specs.declared.option.Option.TheVariants.{None, Some}
+use Rattle.std.specs.Str.{bytes_eq}
 use Rattle.flow_tree.specs.declared.ty.Ident.{Ident}
 use Rattle.flow_tree.specs.Tree.{ExprTree, ExprTrees, CallExpr}
 use Rattle.flow_tree.specs.Decls.{RoutineTree}
@@ -15,9 +16,9 @@ use Rattle.flow_ast.specs.Typing.{routine_named}
 use Rattle.flow_value.specs.Values.{ValueTree}
 use Rattle.flow_eval.specs.Eval.{Res, then, Done}
 use Rattle.flow_eval.specs.Functions.{read_in}
-use Rattle.flow_meaning.specs.Requests.{Goes}
+use Rattle.flow_meaning.specs.Requests.{Goes, Drops}
 use Rattle.flow_meaning.specs.Process.{View}
-use Rattle.flow_meaning.specs.Evaluating.{Names, Look, setting, StepOf, given, evaluated, Effectful, effectful, effect_in, value, values, call_act, function_act, plain_act, based_act, before_last, last_of}
+use Rattle.flow_meaning.specs.Evaluating.{Names, Look, setting, StepOf, given, evaluated, Effectful, effectful, effect_in, value, values, call_act, function_act, plain_act, based_act, before_last, last_of, asks, started_act, Change, change_by, changed, change_of, base_of, storing, call_by, call_statement}
 use Rattle.flow_meaning.proofs.BareParts.{routine_bare, read_in_bare}
 use Rattle.flow_meaning.proofs.BareEval.{then_same, whole_bare, whole_all_bare, call_bare}
 
@@ -62,6 +63,17 @@ last_of_bare : (x : Ident) (xs : List Ident) → (last_of (placeless_ident x) (m
 last_of_bare x [] = refl
 last_of_bare x (y ∷ ys) = last_of_bare y ys
 
+-- how a call statement changes a vector, and of which path
+change_of_bare : (xs : List Ident) → change_of (map placeless_ident xs) ≡ change_of xs
+change_of_bare [] = refl
+change_of_bare (x ∷ []) = refl
+change_of_bare (x ∷ y ∷ ys) = ap (λ z. change_by (named method_names z)) (last_of_bare y ys)
+
+base_of_bare : (xs : List Ident) → base_of (map placeless_ident xs) ≡ map placeless_ident (base_of xs)
+base_of_bare [] = refl
+base_of_bare (x ∷ []) = refl
+base_of_bare (x ∷ y ∷ ys) = ap (λ zs. placeless_ident x ∷ zs) (before_last_bare y ys)
+
 module _ (ns : Names) where
   pub effect_in_bare : (e : ExprTree) → effect_in (placeless_names ns) (placeless_expr e) ≡ option_map placeless_effect (effect_in ns e)
   effect_in_bare (CallExpr f es) = by_name (effectful ns f.name)
@@ -78,13 +90,18 @@ module _ (ns : Names) where
     pub values_bare : (es : ExprTrees) → values (placeless_names ns) v look (placeless_exprs es) ≡ values ns v look es
     values_bare es = whole_all_bare (setting ns v) look es v.left
 
-    function_act_bare : (o : Option RoutineTree) (vs : List ValueTree) (left : ℕ) → function_act (placeless_names ns) v look (option_map placeless_routine o) vs left ≡ function_act ns v look o vs left
-    function_act_bare None vs left = refl
-    function_act_bare (Some f) vs left = ap (λ r. then r (λ u left. Done Goes left)) (call_bare (setting ns v) f vs left)
+    started_act_bare : (o : Option ℕ) (vs : List ValueTree) (left : ℕ) → started_act (placeless_names ns) v look o vs left ≡ started_act ns v look o vs left
+    started_act_bare None vs left = refl
+    started_act_bare (Some k) vs left = refl
+
+    function_act_bare : (o : Option RoutineTree) (f : List ℕ) (vs : List ValueTree) (left : ℕ)
+        → function_act (placeless_names ns) v look (option_map placeless_routine o) f vs left ≡ function_act ns v look o f vs left
+    function_act_bare None f vs left = started_act_bare (position (bytes_eq f) ns.actors) vs left
+    function_act_bare (Some g) f vs left = ap (λ r. then r (λ u left. Done Goes left)) (call_bare (setting ns v) g vs left)
 
     plain_act_bare : (p : Option Predefined) (f : List ℕ) (vs : List ValueTree) (left : ℕ) → plain_act (placeless_names ns) v look p f vs left ≡ plain_act ns v look p f vs left
     plain_act_bare None f vs left =
-        ap (λ o. function_act (placeless_names ns) v look o vs left) (routine_bare ns.functions f) ∙ function_act_bare (routine_named ns.functions f) vs left
+        ap (λ o. function_act (placeless_names ns) v look o f vs left) (routine_bare ns.functions f) ∙ function_act_bare (routine_named ns.functions f) f vs left
     plain_act_bare (Some code.Trace) f vs left = refl
     plain_act_bare (Some p) f vs left = refl
 
@@ -114,3 +131,31 @@ module _ (ns : Names) where
         (named method_names (last_of (placeless_ident y) (map placeless_ident ys)).name) vs left)
         (λ vs left. based_act ns v look (read_in ns.records (look x.name) (before_last y ys)) (named method_names (last_of y ys).name) vs left)
         (values (placeless_names ns) v look (placeless_exprs es)) (values ns v look es) (values_bare es) (path_act_bare x y ys)
+
+    storing_bare : (how : Change) (xs : List Ident) (es : ExprTrees) → storing (placeless_names ns) v look how (map placeless_ident xs) (placeless_exprs es) ≡ storing ns v look how xs es
+    storing_bare how [] es = refl
+    storing_bare how (x ∷ xs) es =
+        then_same (λ vs left. changed how vs (read_in (map placeless_record ns.records) (look x.name) (map placeless_ident xs)) left)
+        (λ vs left. changed how vs (read_in ns.records (look x.name) xs) left) (values (placeless_names ns) v look (placeless_exprs es)) (values ns v look es) (values_bare es)
+        (λ vs left. ap (λ o. changed how vs o left) (read_in_bare ns.records (look x.name) xs))
+
+    -- a call statement, by actors that are equal but for places
+    module _ {A : Type 0} (g : A → A) (now next : A) (put bare_put : List Ident → ValueTree → Option A)
+        (same : (xs : List Ident) (u : ValueTree) → bare_put (map placeless_ident xs) u ≡ option_map g (put xs u)) (path : List Ident) (es : ExprTrees) where
+      call_by_bare : (o : Option Change)
+          → call_by (placeless_names ns) v look o (g now) (g next) bare_put (map placeless_ident path) (placeless_exprs es) ≡ through g (call_by ns v look o now next put path es)
+      call_by_bare None =
+          evaluated_through g now (λ act left. asks left act next) (λ act left. asks left act (g next)) (call_act ns v look path es)
+          (call_act (placeless_names ns) v look (map placeless_ident path) (placeless_exprs es)) (call_act_bare path es) (λ act left. refl)
+      call_by_bare (Some how) =
+          evaluated_through g now (λ s left. given now (put (base_of path) s.0) (λ a. asks left (Drops s.1) a))
+          (λ s left. given (g now) (bare_put (base_of (map placeless_ident path)) s.0) (λ a. asks left (Drops s.1) a)) (storing ns v look how (base_of path) es)
+          (storing (placeless_names ns) v look how (base_of (map placeless_ident path)) (placeless_exprs es))
+          (ap (λ xs. storing (placeless_names ns) v look how xs (placeless_exprs es)) (base_of_bare path) ∙ storing_bare how (base_of path) es)
+          (λ s left. given_through g now (λ a. asks left (Drops s.1) a) (λ a. asks left (Drops s.1) a) g (put (base_of path) s.0) (bare_put (base_of (map placeless_ident path)) s.0)
+          (ap (λ xs. bare_put xs s.0) (base_of_bare path) ∙ same (base_of path) s.0) (λ a. refl))
+
+      pub call_through : call_statement (placeless_names ns) v look (g now) (g next) bare_put (map placeless_ident path) (placeless_exprs es)
+          ≡ through g (call_statement ns v look now next put path es)
+      call_through =
+          ap (λ o. call_by (placeless_names ns) v look o (g now) (g next) bare_put (map placeless_ident path) (placeless_exprs es)) (change_of_bare path) ∙ call_by_bare (change_of path)

@@ -6,11 +6,13 @@ use Rattle.std.specs.declared.option.Option.{Option}
 use Rattle.std.specs.declared.option.Option.TheVariants.{None, Some}
 use Rattle.std.proofs.lemmas.List.{length-map}
 use Rattle.flow_tree.specs.declared.ty.Ident.{Ident}
-use Rattle.flow_tree.specs.Tree.{ExprTree, ExprTrees}
+use Rattle.flow_tree.specs.Tree.{ExprTree, ExprTrees, TypeTree}
 use Rattle.flow_tree.specs.Decls.{RecordTree}
 use Rattle.flow_tree.specs.Canon.{placeless_ident, placeless_expr, placeless_exprs, placeless_record}
 use Rattle.flow_value.specs.Values.{ValueTree, RefValue}
+use Rattle.flow_value.specs.declared.value.Kind.{Kind}
 use Rattle.flow_eval.specs.Answers.{bool_of, error_of}
+use Rattle.flow_eval.specs.Functions.{default_value}
 use Rattle.flow_class.specs.declared.class.Slotted.{Slotted}
 use Rattle.flow_class.specs.declared.class.Slotted.TheVariants.{Slot, Local}
 use Rattle.flow_class.specs.Classes.{CatcherTree, InstrTree, SetInstr, EffectInstr, NewInstr, ActInstr, DropInstr, LastTree, GotoLast, PassLast, TestLast, ChooseLast, ReturnLast, ThrowLast, BlockTree, CallbackTree, ClassTree, RawTree}
@@ -25,7 +27,7 @@ use Rattle.flow_meaning.specs.Class as class
 use Rattle.flow_meaning.specs.Source.{main_of}
 use Rattle.flow_meaning.specs.Placeless.{placeless_instr, placeless_last, placeless_block, placeless_callback, placeless_class, placeless_classes}
 use Rattle.flow_meaning.proofs.BareParts.{get-map, put_in_bare, read_in_bare}
-use Rattle.flow_meaning.proofs.BareActs.{placeless_names, through, placeless_effect, evaluated_through, given_same, given_through, effect_in_bare, value_bare, values_bare, call_act_bare}
+use Rattle.flow_meaning.proofs.BareActs.{placeless_names, through, placeless_effect, evaluated_through, given_same, given_through, effect_in_bare, value_bare, values_bare, call_act_bare, call_through}
 use Rattle.flow_meaning.proofs.Mirrors.{Mirrors}
 
 abbrev pub placeless_frame : Frame → Frame
@@ -122,6 +124,23 @@ module _ (ns : Names) (v : View) (f : Frame) where
       ap (λ o. given (placeless_frame f) o (class.placed b v (placeless_frame f) left)) (assign_bare ns.records f.mem path u)
       ∙ given_same placeless_frame f (class.placed ns v f left) (class.placed b v (placeless_frame f) left) (assign ns.records f.mem path u) (λ p. refl)
 
+  -- a new cell, or the value that a type has at first
+  new_through : (p : Slotted) (t : TypeTree) (o : Option Kind) → class.new_by b v (placeless_frame f) p t o ≡ through placeless_frame (class.new_by ns v f p t o)
+  new_through p t (Some k) = refl
+  new_through p t None =
+      given_same placeless_frame f (λ u. given f (put_at ns.records f.mem p [] u) (class.placed ns v f v.left))
+      (λ u. given (placeless_frame f) (put_at b.records f.mem p [] u) (class.placed b v (placeless_frame f) v.left)) (default_value t)
+      (λ u. ap (λ o. given (placeless_frame f) o (class.placed b v (placeless_frame f) v.left)) (put_bare ns.records f.mem p [] u)
+      ∙ given_same placeless_frame f (class.placed ns v f v.left) (class.placed b v (placeless_frame f) v.left) (put_at ns.records f.mem p [] u) (λ q. refl))
+
+  put_through : (path : List Ident) (u : ValueTree) → class.put_path b v (placeless_frame f) (map placeless_ident path) u ≡ option_map placeless_frame (class.put_path ns v f path u)
+  put_through path u = ap (λ o. option_map (λ (p : List ValueTree × Memory). next_instr p.1 (placeless_frame f)) o) (assign_bare ns.records f.mem path u) ∙ by_thing (assign ns.records f.mem path u)
+    where
+      by_thing : (o : Option (List ValueTree × Memory))
+          → option_map (λ (p : List ValueTree × Memory). next_instr p.1 (placeless_frame f)) o ≡ option_map placeless_frame (option_map (λ (p : List ValueTree × Memory). next_instr p.1 f) o)
+      by_thing None = refl
+      by_thing (Some p) = refl
+
   instr_through : (i : InstrTree) → class.instruction b v (placeless_frame f) (placeless_instr i) ≡ through placeless_frame (class.instruction ns v f i)
   instr_through (SetInstr path e) =
       valued_through (λ u left. given f (assign ns.records f.mem path u) (class.placed ns v f left))
@@ -130,12 +149,11 @@ module _ (ns : Names) (v : View) (f : Frame) where
       given_through placeless_frame f (class.effects ns v f Stored) (class.effects b v (placeless_frame f) Stored) placeless_effect (effect_in ns e) (effect_in b (placeless_expr e))
       (effect_in_bare ns e) (effects_through Stored)
   instr_through (NewInstr p) =
-      ap (λ o. given (placeless_frame f) (bind o class.promise_kind) (λ k. asks v.left (Effects Stored (Make k)) (placeless_frame f))) (type_bare f.code p)
-      ∙ given_same placeless_frame f (λ k. asks v.left (Effects Stored (Make k)) f) (λ k. asks v.left (Effects Stored (Make k)) (placeless_frame f)) (bind (type_at f.code p) class.promise_kind)
-      (λ k. refl)
+      ap (λ o. given (placeless_frame f) o (λ t. class.new_by b v (placeless_frame f) p t (class.promise_kind t))) (type_bare f.code p)
+      ∙ given_same placeless_frame f (λ t. class.new_by ns v f p t (class.promise_kind t)) (λ t. class.new_by b v (placeless_frame f) p t (class.promise_kind t)) (type_at f.code p)
+      (λ t. new_through p t (class.promise_kind t))
   instr_through (ActInstr path es) =
-      evaluated_through placeless_frame f (λ act left. asks left act (next_instr f.mem f)) (λ act left. asks left act (next_instr f.mem (placeless_frame f)))
-      (call_act ns v (look f.mem) path es) (call_act b v (look f.mem) (map placeless_ident path) (placeless_exprs es)) (call_act_bare ns v (look f.mem) path es) (λ act left. refl)
+      call_through ns v (look f.mem) placeless_frame f (next_instr f.mem f) (class.put_path ns v f) (class.put_path b v (placeless_frame f)) put_through path es
   instr_through (DropInstr ls) = refl
 
   test_through : (left : ℕ) (o : Option Bool) (y n : ℕ) → class.test b v (placeless_frame f) left o y n ≡ through placeless_frame (class.test ns v f left o y n)
@@ -168,7 +186,8 @@ module _ (ns : Names) (v : View) (f : Frame) where
       valued_through (λ u left. class.test ns v f left (bool_of u) y n) (λ u left. class.test b v (placeless_frame f) left (bool_of u) y n) e (λ u left. test_through left (bool_of u) y n)
   last_through (ChooseLast g) =
       ap₂ (class.choose b v (placeless_frame f)) (spot_same f.code g) (callback_bare f.code g v.kept) ∙ choose_through (spot_of f.code g) (callback_at f.code g v.kept)
-  last_through (ReturnLast e) =
+  last_through (ReturnLast None) = refl
+  last_through (ReturnLast (Some e)) =
       valued_through (λ u left. asks left (Returns u (everything f.mem)) over) (λ u left. asks left (Returns u (everything f.mem)) over) e (λ u left. refl)
   last_through (ThrowLast e) =
       valued_through (λ u left. class.throw_value ns v f left (error_of u)) (λ u left. class.throw_value b v (placeless_frame f) left (error_of u)) e (λ u left. throw_through left (error_of u))

@@ -187,8 +187,9 @@ module _ (s : Setting) (run other : Runner) (runs : (f : RoutineTree) (vs : List
       vars (eval_all b other (named vars) (placeless_exprs es) left) (eval_all s run (named vars) es left) (all_bare (named vars) es left)
       (λ vs l. ap (λ r. valued r vars (λ v left. Goes vars left)) (call_by_bare xs vs l))
 
-  return_bare : (e : ExprTree) (vars : Locals) (left : ℕ) → return_run b other (placeless_expr e) vars left ≡ return_run s run e vars left
-  return_bare e vars left = ap (λ r. valued r vars (λ v left. Returns v left)) (eval_bare (named vars) e left)
+  return_bare : (e : Option ExprTree) (vars : Locals) (left : ℕ) → return_run b other (option_map placeless_expr e) vars left ≡ return_run s run e vars left
+  return_bare None vars left = refl
+  return_bare (Some e) vars left = ap (λ r. valued r vars (λ v left. Returns v left)) (eval_bare (named vars) e left)
 
   -- statements as a whole
   exec_same : (x : Body) (c : Option (List ℕ)) → ((vars : Locals) (left : ℕ) → exec b other (placeless_body x) c vars left ≡ exec s run x c vars left)

@@ -24,7 +24,7 @@ use Rattle.flow_meaning.specs.SourceStep as step
 use Rattle.flow_meaning.specs.Source as whole
 use Rattle.flow_meaning.specs.Views.{spot_in}
 use Rattle.flow_meaning.proofs.BareParts.{get-map, put_in_bare, read_in_bare}
-use Rattle.flow_meaning.proofs.BareActs.{placeless_names, through, placeless_effect, evaluated_through, given_same, given_through, effect_in_bare, value_bare, values_bare, call_act_bare}
+use Rattle.flow_meaning.proofs.BareActs.{placeless_names, through, placeless_effect, evaluated_through, given_same, given_through, effect_in_bare, value_bare, values_bare, call_act_bare, call_through}
 use Rattle.flow_meaning.proofs.Mirrors.{Mirrors}
 
 abbrev placeless_loop : Loop → Loop
@@ -272,11 +272,25 @@ module _ (ns : Names) (v : View) where
   in_for a s i e t x k r y z = quietly (actor (entered a.vars) (Do s i ∷ Round (record { site = y; condition = e; step = t; inner = x }) ∷ Leave ∷ Do z k ∷ r))
 
   abbrev in_try : Actor → Site → Body → List ℕ → Body → Body → List Item → Site → Site → StepOf Actor
-  in_try a s x n h k r y z = quietly (step.in_scope a.vars s x (Handler n (record { spot = y.spot; caught = Some n }) h ∷ Do z k ∷ r))
+  in_try a s x n h k r y z = quietly (step.in_scope a.vars s x (Handler n (record y { caught = Some n }) h ∷ Do z k ∷ r))
+
+  end_through : (a : Actor) (void : Bool) (r : List Item) → step.end_body b v (placeless_actor a) void (map placeless_item r) ≡ through placeless_actor (step.end_body ns v a void r)
+  end_through a void (i ∷ r) = refl
+  end_through a true [] = refl
+  end_through a false [] = refl
+
+  put_through : (a : Actor) (r : List Item) (xs : List Ident) (u : ValueTree)
+      → step.put_path b v (placeless_actor a) (map placeless_item r) (map placeless_ident xs) u ≡ option_map placeless_actor (step.put_path ns v a r xs u)
+  put_through a r xs u = ap (λ o. option_map (λ (p : List ValueTree × Vars). actor p.1 (map placeless_item r)) o) (assign_bare ns.records xs u a.vars) ∙ by_thing (assign ns.records xs u a.vars)
+    where
+      by_thing : (o : Option (List ValueTree × Vars))
+          → option_map (λ (p : List ValueTree × Vars). actor p.1 (map placeless_item r)) o ≡ option_map placeless_actor (option_map (λ (p : List ValueTree × Vars). actor p.1 r) o)
+      by_thing None = refl
+      by_thing (Some p) = refl
 
   body_through : (a : Actor) (s : Site) (x : Body) (r : List Item)
       → step.do_body b v (placeless_actor a) s (placeless_body x) (map placeless_item r) ≡ through placeless_actor (step.do_body ns v a s x r)
-  body_through a s End r = refl
+  body_through a s End r = end_through a s.is_void r
   body_through a s (BlockStmt at x k) r = ap (λ z. quietly (step.in_scope a.vars s (placeless_body x) (Do z (placeless_body k) ∷ map placeless_item r))) (site_bare x s)
   body_through a s (IfStmt at e x k) r =
       ap (λ z. step.test b v (placeless_actor a) (placeless_expr e) (step.in_scope a.vars s (placeless_body x) (Do z (placeless_body k) ∷ map placeless_item r))
@@ -302,7 +316,8 @@ module _ (ns : Names) (v : View) where
       (site_bare x (site_past t (site_past i s)))
   body_through a s (BreakStmt at k) r = exit_through v.left step.Breaks (Do s (BreakStmt at k)) a r
   body_through a s (ContinueStmt at k) r = exit_through v.left step.Continues (Do s (ContinueStmt at k)) a r
-  body_through a s (ReturnStmt at e k) r =
+  body_through a s (ReturnStmt at None k) r = refl
+  body_through a s (ReturnStmt at (Some e) k) r =
       evaluated_through placeless_actor a (λ u left. asks left (Returns u (everything a.vars)) over) (λ u left. asks left (Returns u (everything a.vars)) over)
       (value ns v (look a.vars) e) (value b v (look a.vars) (placeless_expr e)) (value_bare ns v (look a.vars) e) (λ u left. refl)
   body_through a s (ThrowStmt at e k) r = throws_through a e s.caught
@@ -317,8 +332,8 @@ module _ (ns : Names) (v : View) where
       (λ e. step.store b v (placeless_actor a) (Path (map placeless_ident xs)) e (Do s (placeless_body k) ∷ map placeless_item r)) placeless_expr
       (change xs c) (change (map placeless_ident xs) (placeless_change c)) (change_bare xs c) (λ e. store_through a (Path xs) e (Do s k ∷ r))
   body_through a s (CallStmt at xs es k) r =
-      evaluated_through placeless_actor a (λ act left. asks left act (actor a.vars (Do s k ∷ r))) (λ act left. asks left act (actor a.vars (Do s (placeless_body k) ∷ map placeless_item r)))
-      (call_act ns v (look a.vars) xs es) _ (call_act_bare ns v (look a.vars) xs es) (λ act left. refl)
+      call_through ns v (look a.vars) placeless_actor a (actor a.vars (Do s k ∷ r)) (step.put_path ns v a (Do s k ∷ r))
+      (step.put_path b v (placeless_actor a) (Do s (placeless_body k) ∷ map placeless_item r)) (put_through a (Do s k ∷ r)) xs es
   body_through a s (WaitStmt at w k) r = ap (step.await b v (placeless_actor a) s.spot) (single_bare w v.kept) ∙ await_through a s.spot (operand (Single w) v.kept)
 
   check_through : (a : Actor) (l : Loop) (o : Option ExprTree) (r : List Item)
@@ -414,11 +429,11 @@ args_bare (p ∷ ps) (u ∷ vs) ss = ap (whole.more (p.name.name, Some u)) (args
 fresh_through : (o : Option RoutineTree) (vs : List ValueTree) → whole.fresh_from (option_map placeless_routine o) vs ≡ option_map placeless_actor (whole.fresh_from o vs)
 fresh_through None vs = refl
 fresh_through (Some f) vs =
-    ap (λ z. bind (whole.with_args (map placeless_param f.params) vs (whole.no_values z)) (λ ss. Some (whole.begun (placeless_body f.body) ss))) (slots_bare f.body)
-    ∙ ap (λ z. bind z (λ ss. Some (whole.begun (placeless_body f.body) ss))) (args_bare f.params vs (whole.no_values (body_slots f.body)))
+    ap (λ z. bind (whole.with_args (map placeless_param f.params) vs (whole.no_values z)) (λ ss. Some (whole.begun (placeless_routine f) ss))) (slots_bare f.body)
+    ∙ ap (λ z. bind z (λ ss. Some (whole.begun (placeless_routine f) ss))) (args_bare f.params vs (whole.no_values (body_slots f.body)))
     ∙ by_args (whole.with_args f.params vs (whole.no_values (body_slots f.body)))
   where
-    by_args : (z : Option (List (List ℕ × Option ValueTree))) → bind z (λ ss. Some (whole.begun (placeless_body f.body) ss)) ≡ option_map placeless_actor (bind z (λ ss. Some (whole.begun f.body ss)))
+    by_args : (z : Option (List (List ℕ × Option ValueTree))) → bind z (λ ss. Some (whole.begun (placeless_routine f) ss)) ≡ option_map placeless_actor (bind z (λ ss. Some (whole.begun f ss)))
     by_args None = refl
     by_args (Some ss) = refl
 

@@ -5,11 +5,11 @@ use Rattle.std.specs.declared.option.Option.TheVariants.{None, Some}
 use Rattle.flow_value.specs.Values.{ValueTree, OutcomeTree, GoodOutcome, BadOutcome}
 use Rattle.flow_numbered.specs.Numbered.{Numbered, thing, put, removed}
 use Rattle.flow_meaning.specs.Cells.{Ref}
-use Rattle.flow_meaning.specs.Requests.{Spot, Act, Effects, Effect, Start, Goal, Ask, Request, Supply}
+use Rattle.flow_meaning.specs.Requests.{Spot, Act, Effects, Effect, Start, Goal, Ask, Request, Supply, Starts}
 use Rattle.flow_meaning.specs.Process.{Task, Run, Give, Throw, Catch, Store, Keep, Close, Fire, Drop, Entry, Halt, Core, Proc, Engine}
 use Rattle.flow_meaning.specs.References.{scan_of}
 use Rattle.flow_meaning.specs.Work.{pushed, is_ready_at}
-use Rattle.flow_meaning.specs.Step.{Stepped, proc, view, start, answer_effect, answer, run_next, run, give, store, throw, OperandFate, GoesOn, Cancelled, Ready, verdict, with_operand, below, keep_by, keep, close_actor, step_tasks, step_if, step}
+use Rattle.flow_meaning.specs.Step.{Stepped, proc, view, start, answer_effect, answer, run_next, run, give, store, throw, OperandFate, GoesOn, Cancelled, Ready, verdict, with_operand, below, keep_by, keep, close_actor, step_tasks, step_if, step, start_alone}
 use Rattle.flow_meaning.specs.Deliver.{begin, boot_core, stop, deliver, arrive}
 use Rattle.flow_meaning.specs.Burst.{Host, Live, add_lines, serve, advanced, advance, Burst, rests}
 use Rattle.flow_meaning.specs.Burst as burst
@@ -20,7 +20,7 @@ use Rattle.flow_meaning.proofs.Shifts.{run_of, give_of, throw_of, catch_of, stor
 use Rattle.flow_meaning.proofs.TaskShifts.{next_below}
 use Rattle.flow_meaning.proofs.Order.{Ordered, InHand, ordered, orderly}
 use Rattle.flow_meaning.proofs.OrderWork.{dropping_ordered}
-use Rattle.flow_meaning.proofs.OrderReact.{run_ordered, throw_ordered, react_ordered, start_ordered}
+use Rattle.flow_meaning.proofs.OrderReact.{run_ordered, throw_ordered, react_ordered, start_ordered, void_ordered}
 use Rattle.flow_meaning.proofs.OrderTasks.{drop_ordered, fire_ordered, popped_other, Taken, taken_at, in_hand, step_left, below_in_hand, kept_ordered, leave_kept_ordered, throw_core_ordered, handle_ordered, close_ordered, boot_ordered, stop_ordered, deliver_ordered, arrive_ordered}
 
 module _ {A : Type 0} (e : Engine A) where
@@ -75,8 +75,13 @@ module _ {A : Type 0} (e : Engine A) where
   effect_keeps s i goal (Start class args) k xs h a = start_keeps i goal class (e.fresh class args) k xs h a
   effect_keeps s i goal eff k xs h a = react_ordered s i (Effects goal eff) k h a
 
+  alone_keeps : (i class : ℕ) (x : Option A) (k : Core) (xs : Numbered A) → InHand i k → Awake i k → Keeps (start_alone e i class x (proc k xs))
+  alone_keeps i class None k xs h a = tt
+  alone_keeps i class (Some x) k xs h a = void_ordered i class (e.label class) k h a
+
   answer_keeps : (s : Supply) (i : ℕ) (act : Act) (k : Core) (xs : Numbered A) → InHand i k → Awake i k → Keeps (answer e s i act (proc k xs))
   answer_keeps s i (Effects goal eff) k xs h a = effect_keeps s i goal eff k xs h a
+  answer_keeps s i (Starts class args) k xs h a = alone_keeps i class (e.fresh class args) k xs h a
   answer_keeps s i act k xs h a = react_ordered s i act k h a
 
   next_keeps : (s : Supply) (i : ℕ) (ts : List Task) (p : Option Ask × A) (c : Core) (xs : Numbered A) → Ordered c → Taken i (Run i) ts c → Keeps (run_next e s i ts p (proc c xs))

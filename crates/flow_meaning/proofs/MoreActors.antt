@@ -1,33 +1,37 @@
 -- Actors of the source and frames of classes see of their turns only whether there are enough.
 use Rattle.std.proofs.Common.{◌≡◌, ℕ, ◌+◌, List, [], ◌∷◌, ◌⊎◌, inl, inr, refl, sym, ap, subst}
-use Rattle.std.specs.Prelude.{Bool, true, false}
+use Rattle.std.specs.Prelude.{Bool, true, false, nat_lt, position}
 use Rattle.std.specs.declared.option.Option.{Option}
 use Rattle.std.specs.declared.option.Option.TheVariants.{None, Some}
-use Rattle.flow_base.specs.ErrorNumbers.{operation_cancelled}
+use Rattle.std.specs.Str.{bytes_eq}
+use Rattle.flow_base.specs.ErrorNumbers.{operation_cancelled, too_long}
 use Rattle.flow_tree.specs.declared.ty.Ident.{Ident}
 use Rattle.flow_ast.specs.declared.predefined.Predefined.{Predefined}
 use Rattle.flow_ast.specs.declared.predefined.Predefined.TheVariants as code
 use Rattle.flow_ast.specs.declared.predefined.Method.{Method}
-use Rattle.flow_tree.specs.Tree.{TypeTree, IntType, BoolType, StringType, VoidType, ErrorType, NamedType, FutureType, FutureStreamType, PromiseType, PromiseStreamType, ExprTree, ExprTrees}
-use Rattle.flow_tree.specs.Body.{IntoTree, Body, IfStmt, IfElseStmt, BreakStmt, ContinueStmt, ReturnStmt, ThrowStmt, ChooseStmt, DeclareStmt, AssignStmt, ModifyStmt, CallStmt, WaitStmt}
+use Rattle.flow_tree.specs.Tree.{TypeTree, IntType, BoolType, StringType, VoidType, ErrorType, NamedType, FutureType, FutureStreamType, PromiseType, PromiseStreamType, ExprTree, ExprTrees, VectorType, NothingType, returned_expr}
+use Rattle.flow_tree.specs.Body.{IntoTree, Body, IfStmt, IfElseStmt, BreakStmt, ContinueStmt, ReturnStmt, ThrowStmt, ChooseStmt, DeclareStmt, AssignStmt, ModifyStmt, CallStmt, WaitStmt, End}
 use Rattle.flow_tree.specs.Decls.{RoutineTree, ProgramTree}
+use Rattle.flow_tree.specs.declared.limits.TheConstants.{ELEMENTS}
 use Rattle.flow_ast.specs.TypingNames.{named, call_names, method_names}
 use Rattle.flow_ast.specs.Typing.{routine_named}
-use Rattle.flow_value.specs.Values.{ValueTree, IntValue, BoolValue, TextValue, VoidValue, ErrorValue, RefValue}
+use Rattle.flow_value.specs.Values.{ValueTree, IntValue, BoolValue, TextValue, VoidValue, ErrorValue, RefValue, ValueTrees, CompositeValue, ListWhole, NoValues, count_of, with_last}
+use Rattle.flow_value.specs.declared.value.Kind.{Kind}
 use Rattle.flow_eval.specs.Answers.{bool_of, error_of, int_of, text_of, arg}
 use Rattle.flow_eval.specs.Eval.{Res, Done, Fails, Spent, Meaningless}
 use Rattle.flow_eval.specs.MoreTurns.{Later}
 use Rattle.flow_eval.specs.Functions.{Call, default_value, read_in}
 use Rattle.flow_class.specs.Classes.{InstrTree, SetInstr, EffectInstr, NewInstr, ActInstr, DropInstr, LastTree, GotoLast, PassLast, TestLast, ChooseLast, ReturnLast, ThrowLast, CallbackTree, RawTree}
-use Rattle.flow_meaning.specs.Requests.{Spot, Act, Goes, Make, Goal, Stored, Kept, Pass, Drops, Effects, Operand, Prints, SendsTo, Returns, Throws}
+use Rattle.flow_meaning.specs.Requests.{Spot, Act, Goes, Make, Goal, Stored, Kept, Pass, Drops, Effects, Operand, Prints, SendsTo, Returns, Throws, Starts}
 use Rattle.flow_meaning.specs.Process.{View}
-use Rattle.flow_meaning.specs.Evaluating.{Names, setting, Look, bind, StepOf, asks, quietly, stuck, given, evaluated, Effectful, effect_in, effect_of, value, values, call_act, function_act, plain_act, based_act, method_act, done, before_last, last_of}
+use Rattle.flow_meaning.specs.Evaluating.{Names, setting, Look, bind, StepOf, asks, quietly, stuck, given, evaluated, Effectful, effect_in, effect_of, value, values, call_act, function_act, plain_act, based_act, method_act, done, before_last, last_of, Change, Grows, Clears, grown_by, changed, change_of, base_of, storing, started_act, call_by, call_statement}
 use Rattle.flow_class.specs.Scopes.{scope, outside}
 use Rattle.flow_meaning.specs.Variables.{Vars, look}
 use Rattle.flow_meaning.specs.Items.{Site, Loop, Single, OneOf, Target, Declared, Path, Item, Do, Leave, Round, Check, Made, Handler, Over, Actor, actor, over, leave_scope, left_scope, with_locals, everything, put_goal, change, operand}
 use Rattle.flow_meaning.specs.SourceStep as source_step
 use Rattle.flow_meaning.specs.Source.{names_of, source}
 use Rattle.flow_class.specs.Code as class_code
+use Rattle.flow_class.specs.declared.class.Slotted.{Slotted}
 use Rattle.flow_meaning.specs.Frame as frame
 use Rattle.flow_meaning.specs.Class as class
 use Rattle.flow_meaning.specs.Turns.{later, IsOut, Thrifty}
@@ -66,6 +70,15 @@ act_later : (k : ℕ) (o : Option Act) (left sum : ℕ) → sum ≡ left + k →
 act_later k None left sum e = inl refl
 act_later k (Some act) left sum e = done_later k act left sum e
 
+grown_later : (k : ℕ) (room : Bool) (es : ValueTrees) (u : ValueTree) (l m : ℕ) → m ≡ l + k → Later k (grown_by room es u l) (grown_by room es u m)
+grown_later k true es u l m h = done_later k (CompositeValue ListWhole (with_last es u), []) l m h
+grown_later k false es u l m h = inl (ap (λ z. Fails too_long z) h)
+
+changed_later : (k : ℕ) (how : Change) (vs : List ValueTree) (o : Option ValueTree) (l m : ℕ) → m ≡ l + k → Later k (changed how vs o l) (changed how vs o m)
+changed_later k Grows vs (Some (CompositeValue ListWhole es)) l m h = grown_later k (nat_lt (count_of es) ELEMENTS) es (arg vs 0) l m h
+changed_later k Clears vs (Some (CompositeValue ListWhole es)) l m h = done_later k (CompositeValue ListWhole NoValues, CompositeValue ListWhole es ∷ []) l m h
+changed_later k how vs o l m h = inl refl
+
 module _ (k : ℕ) (ns : Names) (v : View) (sum : ℕ) (e : sum ≡ v.left + k) where
   value_later : (lk : Look) (x : ExprTree) → Later k (value ns v lk x) (value ns (with_left v sum) lk x)
   value_later lk x = whole_later k (setting ns v) lk x v.left sum e
@@ -73,13 +86,18 @@ module _ (k : ℕ) (ns : Names) (v : View) (sum : ℕ) (e : sum ≡ v.left + k) 
   values_later : (lk : Look) (xs : ExprTrees) → Later k (values ns v lk xs) (values ns (with_left v sum) lk xs)
   values_later lk xs = all_later k (setting ns v) lk xs v.left sum e
 
-  function_act_later : (lk : Look) (f : Option RoutineTree) (vs : List ValueTree) (l m : ℕ) → m ≡ l + k → Later k (function_act ns v lk f vs l) (function_act ns (with_left v sum) lk f vs m)
-  function_act_later lk None vs l m h = inl refl
-  function_act_later lk (Some f) vs l m h =
-      then_later k (λ u left. Done Goes left) (Call (setting ns v) f vs l) (Call (setting ns v) f vs m) (call_whole_later k (setting ns v) f vs l m h) (λ u i j g. done_later k Goes i j g)
+  started_act_later : (lk : Look) (o : Option ℕ) (vs : List ValueTree) (l m : ℕ) → m ≡ l + k → Later k (started_act ns v lk o vs l) (started_act ns (with_left v sum) lk o vs m)
+  started_act_later lk None vs l m h = inl refl
+  started_act_later lk (Some c) vs l m h = done_later k (Starts c vs) l m h
+
+  function_act_later : (lk : Look) (g : Option RoutineTree) (f : List ℕ) (vs : List ValueTree) (l m : ℕ) → m ≡ l + k
+      → Later k (function_act ns v lk g f vs l) (function_act ns (with_left v sum) lk g f vs m)
+  function_act_later lk None f vs l m h = started_act_later lk (position (bytes_eq f) ns.actors) vs l m h
+  function_act_later lk (Some g) f vs l m h =
+      then_later k (λ u left. Done Goes left) (Call (setting ns v) g vs l) (Call (setting ns v) g vs m) (call_whole_later k (setting ns v) g vs l m h) (λ u i j g. done_later k Goes i j g)
 
   plain_act_later : (lk : Look) (p : Option Predefined) (f : List ℕ) (vs : List ValueTree) (l m : ℕ) → m ≡ l + k → Later k (plain_act ns v lk p f vs l) (plain_act ns (with_left v sum) lk p f vs m)
-  plain_act_later lk None f vs l m h = function_act_later lk (routine_named ns.functions f) vs l m h
+  plain_act_later lk None f vs l m h = function_act_later lk (routine_named ns.functions f) f vs l m h
   plain_act_later lk (Some code.ToString) f vs l m h = inl refl
   plain_act_later lk (Some code.ToInt) f vs l m h = inl refl
   plain_act_later lk (Some code.Now) f vs l m h = inl refl
@@ -117,6 +135,26 @@ module _ (k : ℕ) (ns : Names) (v : View) (sum : ℕ) (e : sum ≡ v.left + k) 
       then_later k (λ vs left. based_act ns v lk (read_in ns.records (lk x.name) (before_last y ys)) (named method_names (last_of y ys).name) vs left) (values ns v lk es)
       (values ns (with_left v sum) lk es) (values_later lk es)
       (λ vs l m h. based_act_later lk (read_in ns.records (lk x.name) (before_last y ys)) (named method_names (last_of y ys).name) vs l m h)
+
+  storing_later : (lk : Look) (how : Change) (xs : List Ident) (es : ExprTrees) → Later k (storing ns v lk how xs es) (storing ns (with_left v sum) lk how xs es)
+  storing_later lk how [] es = inl refl
+  storing_later lk how (x ∷ xs) es =
+      then_later k (λ vs left. changed how vs (read_in ns.records (lk x.name) xs) left) (values ns v lk es) (values ns (with_left v sum) lk es) (values_later lk es)
+      (λ vs l m h. changed_later k how vs (read_in ns.records (lk x.name) xs) l m h)
+
+  -- a call statement of either kind of actor
+  module _ {A : Type 0} (lk : Look) (now next : A) (put : List Ident → ValueTree → Option A) (path : List Ident) (es : ExprTrees) where
+    call_by_later : (o : Option Change) → LaterStep k (call_by ns v lk o now next put path es) (call_by ns (with_left v sum) lk o now next put path es)
+    call_by_later None =
+        evaluated_later k now (λ act left. asks left act next) (λ act l m h. asks_later k act next l m h)
+        (call_act ns v lk path es) (call_act ns (with_left v sum) lk path es) (call_act_later lk path es)
+    call_by_later (Some how) =
+        evaluated_later k now (λ s left. given now (put (base_of path) s.0) (λ a. asks left (Drops s.1) a))
+        (λ s l m h. given_later k now (put (base_of path) s.0) (λ a. asks l (Drops s.1) a) (λ a. asks m (Drops s.1) a) (λ a. asks_later k (Drops s.1) a l m h))
+        (storing ns v lk how (base_of path) es) (storing ns (with_left v sum) lk how (base_of path) es) (storing_later lk how (base_of path) es)
+
+    call_later : LaterStep k (call_statement ns v lk now next put path es) (call_statement ns (with_left v sum) lk now next put path es)
+    call_later = call_by_later (change_of path)
 
   -- the source
   leave_later : (os : List (Option ValueTree)) (a : Actor) → LaterStep k (leave_scope os v.left a) (leave_scope os sum a)
@@ -175,6 +213,8 @@ module _ (k : ℕ) (ns : Names) (v : View) (sum : ℕ) (e : sum ≡ v.left + k) 
   new_later a i r (NamedType n) = default_later a i r (NamedType n)
   new_later a i r (FutureType t) = default_later a i r (FutureType t)
   new_later a i r (FutureStreamType t) = default_later a i r (FutureStreamType t)
+  new_later a i r (VectorType t) = default_later a i r (VectorType t)
+  new_later a i r NothingType = default_later a i r NothingType
 
   declares_later : (a : Actor) (i : IntoTree) (o : Option ExprTree) (r : List Item) → LaterStep k (source_step.declares ns v a i o r) (source_step.declares ns (with_left v sum) a i o r)
   declares_later a i (Some x) r = store_by_later (effect_in ns x) a (Declared i) x r
@@ -191,9 +231,9 @@ module _ (k : ℕ) (ns : Names) (v : View) (sum : ℕ) (e : sum ≡ v.left + k) 
   throws_later a None None = stuck_later k a _
   throws_later a None (Some x) = throw_value_later a (bind (look a.vars x) error_of) v.left sum e
 
-  changed_later : (a : Actor) (o : Option ExprTree) (xs : List Ident) (r : List Item)
+  modified_later : (a : Actor) (o : Option ExprTree) (xs : List Ident) (r : List Item)
       → LaterStep k (given a o (λ x. source_step.store ns v a (Path xs) x r)) (given a o (λ x. source_step.store ns (with_left v sum) a (Path xs) x r))
-  changed_later a o xs r = given_later k a o _ _ (λ x. store_by_later (effect_in ns x) a (Path xs) x r)
+  modified_later a o xs r = given_later k a o _ _ (λ x. store_by_later (effect_in ns x) a (Path xs) x r)
 
   ref_later : (p : Spot) (a : Actor) (u : ValueTree) (l m : ℕ) → m ≡ l + k → LaterStep k (source_step.operand_ref ns v l p a u) (source_step.operand_ref ns (with_left v sum) m p a u)
   ref_later p a (RefValue kd cell) l m h = asks_later k (Operand p (kd, cell)) a l m h
@@ -209,22 +249,26 @@ module _ (k : ℕ) (ns : Names) (v : View) (sum : ℕ) (e : sum ≡ v.left + k) 
   await_later a p (Some x) = operand_later (effect_in ns x) a p x
   await_later a p None = asks_later k _ _ v.left sum e
 
+  end_later : (a : Actor) (void : Bool) (r : List Item) → LaterStep k (source_step.end_body ns v a void r) (source_step.end_body ns (with_left v sum) a void r)
+  end_later a void (i ∷ r) = quiet_later k _
+  end_later a true [] = asks_later k _ _ v.left sum e
+  end_later a false [] = asks_later k (Throws operation_cancelled) a v.left sum e
+
   body_later : (a : Actor) (s : Site) (b : Body) (r : List Item) → LaterStep k (source_step.do_body ns v a s b r) (source_step.do_body ns (with_left v sum) a s b r)
+  body_later a s End r = end_later a s.is_void r
   body_later a s (IfStmt at x b n) r = test_later a x _ _
   body_later a s (IfElseStmt at x b c n) r = test_later a x _ _
   body_later a s (BreakStmt at n) r = exit_later source_step.Breaks (Do s (BreakStmt at n)) a r
   body_later a s (ContinueStmt at n) r = exit_later source_step.Continues (Do s (ContinueStmt at n)) a r
   body_later a s (ReturnStmt at x n) r =
       evaluated_later k a (λ u left. asks left (Returns u (everything a.vars)) over) (λ u l m h. asks_later k (Returns u (everything a.vars)) over l m h)
-      (value ns v (look a.vars) x) (value ns (with_left v sum) (look a.vars) x) (value_later (look a.vars) x)
+      (value ns v (look a.vars) (returned_expr x)) (value ns (with_left v sum) (look a.vars) (returned_expr x)) (value_later (look a.vars) (returned_expr x))
   body_later a s (ThrowStmt at x n) r = throws_later a x s.caught
   body_later a s (ChooseStmt at bs n) r = await_later a s.spot (operand (OneOf bs) v.kept)
   body_later a s (DeclareStmt at i x n) r = declares_later a i x (Do s n ∷ r)
   body_later a s (AssignStmt at xs x n) r = store_by_later (effect_in ns x) a (Path xs) x (Do s n ∷ r)
-  body_later a s (ModifyStmt at xs c n) r = changed_later a (change xs c) xs (Do s n ∷ r)
-  body_later a s (CallStmt at xs es n) r =
-      evaluated_later k a (λ act left. asks left act (actor a.vars (Do s n ∷ r))) (λ act l m h. asks_later k act (actor a.vars (Do s n ∷ r)) l m h)
-      (call_act ns v (look a.vars) xs es) (call_act ns (with_left v sum) (look a.vars) xs es) (call_act_later (look a.vars) xs es)
+  body_later a s (ModifyStmt at xs c n) r = modified_later a (change xs c) xs (Do s n ∷ r)
+  body_later a s (CallStmt at xs es n) r = call_later (look a.vars) a (actor a.vars (Do s n ∷ r)) (source_step.put_path ns v a (Do s n ∷ r)) xs es
   body_later a s (WaitStmt at w n) r = await_later a s.spot (operand (Single w) v.kept)
   body_later a s _ r = quiet_later k _
 
@@ -233,7 +277,7 @@ module _ (k : ℕ) (ns : Names) (v : View) (sum : ℕ) (e : sum ≡ v.left + k) 
   check_later a l (Some x) r = test_later a x _ _
 
   item_later : (a : Actor) (r : List Item) → LaterStep k (source_step.do_item ns v a r) (source_step.do_item ns (with_left v sum) a r)
-  item_later a [] = asks_later k (Throws operation_cancelled) a v.left sum e
+  item_later a [] = stuck_later k a _
   item_later a (Do s b ∷ r) = body_later a s b r
   item_later a (Leave ∷ r) = scope_later a.vars r
   item_later a (Round l ∷ r) = asks_later k Pass _ v.left sum e
@@ -254,15 +298,20 @@ module _ (k : ℕ) (ns : Names) (v : View) (sum : ℕ) (e : sum ≡ v.left + k) 
         → LaterStep k (evaluated f (value ns v (frame.look f.mem) x) go) (evaluated f (value ns (with_left v sum) (frame.look f.mem) x) go)
     frame_value go h x = evaluated_later k f go h (value ns v (frame.look f.mem) x) (value ns (with_left v sum) (frame.look f.mem) x) (value_later (frame.look f.mem) x)
 
+    new_instr_later : (p : Slotted) (t : TypeTree) (o : Option Kind) → LaterStep k (class.new_by ns v f p t o) (class.new_by ns (with_left v sum) f p t o)
+    new_instr_later p t (Some kd) = asks_later k (Effects Stored (Make kd)) f v.left sum e
+    new_instr_later p t None =
+        given_later k f (default_value t) _ _ (λ u. given_later k f (frame.put_at ns.records f.mem p [] u) (class.placed ns v f v.left) (class.placed ns (with_left v sum) f sum)
+        (λ q. asks_later k (Drops q.0) (frame.next_instr q.1 f) v.left sum e))
+
     instruction_later : (i : InstrTree) → LaterStep k (class.instruction ns v f i) (class.instruction ns (with_left v sum) f i)
     instruction_later (SetInstr path x) =
         frame_value (λ u left. given f (frame.assign ns.records f.mem path u) (class.placed ns v f left))
         (λ u l m h. given_later k f (frame.assign ns.records f.mem path u) (class.placed ns v f l) (class.placed ns v f m) (λ p. asks_later k (Drops p.0) (frame.next_instr p.1 f) l m h)) x
     instruction_later (EffectInstr path x) = given_later k f (effect_in ns x) _ _ (frame_effects Stored)
-    instruction_later (NewInstr p) = given_later k f (bind (class_code.type_at f.code p) class.promise_kind) _ _ (λ kd. asks_later k (Effects Stored (Make kd)) f v.left sum e)
-    instruction_later (ActInstr path es) =
-        evaluated_later k f (λ act left. asks left act (frame.next_instr f.mem f)) (λ act l m h. asks_later k act (frame.next_instr f.mem f) l m h)
-        (call_act ns v (frame.look f.mem) path es) (call_act ns (with_left v sum) (frame.look f.mem) path es) (call_act_later (frame.look f.mem) path es)
+    instruction_later (NewInstr p) =
+        given_later k f (class_code.type_at f.code p) _ _ (λ t. new_instr_later p t (class.promise_kind t))
+    instruction_later (ActInstr path es) = call_later (frame.look f.mem) f (frame.next_instr f.mem f) (class.put_path ns v f) path es
     instruction_later (DropInstr ls) = asks_later k _ _ v.left sum e
 
     frame_test : (b : Option Bool) (y n : ℕ) (l m : ℕ) → m ≡ l + k → LaterStep k (class.test ns v f l b y n) (class.test ns (with_left v sum) f m b y n)
@@ -291,7 +340,8 @@ module _ (k : ℕ) (ns : Names) (v : View) (sum : ℕ) (e : sum ≡ v.left + k) 
     last_later (PassLast b) = asks_later k Pass _ v.left sum e
     last_later (TestLast x b c) = frame_value (λ u left. class.test ns v f left (bool_of u) b c) (λ u l m h. frame_test (bool_of u) b c l m h) x
     last_later (ChooseLast g) = frame_choose (frame.spot_of f.code g) (class_code.callback_at f.code g v.kept)
-    last_later (ReturnLast x) = frame_value (λ u left. asks left (Returns u (frame.everything f.mem)) frame.over) (λ u l m h. asks_later k (Returns u (frame.everything f.mem)) frame.over l m h) x
+    last_later (ReturnLast x) =
+        frame_value (λ u left. asks left (Returns u (frame.everything f.mem)) frame.over) (λ u l m h. asks_later k (Returns u (frame.everything f.mem)) frame.over l m h) (returned_expr x)
     last_later (ThrowLast x) = frame_value (λ u left. class.throw_value ns v f left (error_of u)) (λ u l m h. frame_throw (error_of u) l m h) x
 
     fetched_later : (x : class_code.Fetched) → LaterStep k (class.fetched ns v f x) (class.fetched ns (with_left v sum) f x)

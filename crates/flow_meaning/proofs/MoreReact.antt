@@ -13,6 +13,7 @@ use Rattle.flow_eval.specs.Predefined.{natural}
 use Rattle.flow_numbered.specs.Numbered.{thing, added}
 use Rattle.flow_meaning.specs.Cells.{Cell, Single, Stream, is_complete}
 use Rattle.flow_meaning.specs.Requests.{Spot, Act, Goes, Pass, Drops, Effects, Operand, Waits, Sends, Cancels, Prints, SendsTo, Returns, Throws, RunsOut, Stuck, DiskCall, Effect, Make, Start, Draw, Delay, Never, Listen, Disk, Goal, Request, Drew, Timer, Packet, Disks, Supply}
+use Rattle.flow_meaning.specs.Requests as requests
 use Rattle.flow_meaning.specs.Process.{Task, Run, Throw, Keep, Close, Entry, Spent, NoMeaning, Core}
 use Rattle.flow_meaning.specs.Lines.{wait_line, print_line}
 use Rattle.flow_meaning.specs.References.{refs_in}
@@ -159,6 +160,7 @@ react_fair s i Goes = quiet_fair (pushed (Run i)) (fair _ (pushed_even (Run i)))
 react_fair s i Pass = quiet_fair (λ c. turn c (λ d. pushed (Run i) d)) (after_turn (pushed (Run i)) (fair _ (pushed_even (Run i))))
 react_fair s i (Drops vs) = quiet_fair (λ c. dropping_values vs (pushed (Run i) c)) (fair _ (then_even (pushed (Run i)) (dropping (refs_in vs)) (pushed_even (Run i)) (dropping_even (refs_in vs))))
 react_fair s i (Effects g e) = effect_fair s i g e
+react_fair s i (requests.Starts class args) = quiet_fair (halt NoMeaning) (fair _ (halt_even NoMeaning))
 react_fair s i (Operand spot r) = quiet_fair (λ c. pushed (Keep i spot r) (pushed (Run i) c))
     (fair _ (then_even (pushed (Run i)) (pushed (Keep i spot r)) (pushed_even (Run i)) (pushed_even (Keep i spot r))))
 react_fair s i (Waits spot vs) = quiet_fair (λ c. wait i spot (thing c.entries i) vs c) (own_fair (λ e. wait i spot e vs) (λ c. thing c.entries i) (λ k c. refl) (wait_fair i spot vs))

@@ -9,6 +9,7 @@ use Rattle.flow_value.specs.Values.{ValueTree, RefValue, OutcomeTree, GoodOutcom
 use Rattle.flow_numbered.specs.Numbered.{Numbered, thing, added, put, removed}
 use Rattle.flow_meaning.specs.Cells.{Ref}
 use Rattle.flow_meaning.specs.Requests.{Spot, Act, Goes, Pass, Drops, Effects, Operand, Waits, Sends, Cancels, Prints, SendsTo, Returns, Throws, RunsOut, Stuck, Effect, Make, Start, Draw, Delay, Never, Listen, Disk, Goal, Ask, Request, Supply}
+use Rattle.flow_meaning.specs.Requests as requests
 use Rattle.flow_meaning.specs.Process.{Task, Run, Give, Throw, Catch, Store, Keep, Close, Fire, Drop, Entry, Halt, Spent, NoMeaning, Core, Proc, Raised, Engine}
 use Rattle.flow_meaning.specs.Lines.{start_line, throw_line, catch_line}
 use Rattle.flow_meaning.specs.References.{scan_of, refs_in}
@@ -16,7 +17,7 @@ use Rattle.flow_meaning.specs.Work.{halt, writes, pushed, dropping, leave_for, t
 use Rattle.flow_meaning.specs.Dropping.{drop, fire, close}
 use Rattle.flow_meaning.specs.Effects.{Reaction, result_task, push_result}
 use Rattle.flow_meaning.specs.React.{react}
-use Rattle.flow_meaning.specs.Step.{proc, Stepped, silent, stuck, view, enrol, start_core, start, reacted, answer_effect, answer, run_next, run, replaced, give, store, fate, throw_core, throw, OperandFate, GoesOn, Cancelled, Ready, verdict, with_operand, below, leave_kept, lost, keep_by, keep, handle, close_actor, do_task, step_tasks, step_if, step}
+use Rattle.flow_meaning.specs.Step.{proc, Stepped, silent, stuck, view, enrol, start_core, start, reacted, answer_effect, answer, run_next, run, replaced, give, store, fate, throw_core, throw, OperandFate, GoesOn, Cancelled, Ready, verdict, with_operand, below, leave_kept, lost, keep_by, keep, handle, close_actor, do_task, step_tasks, step_if, step, enrol_with, start_void, start_alone}
 use Rattle.flow_meaning.specs.Burst.{Host, Live, serve, advanced, advance, Burst, rests, steps}
 use Rattle.flow_meaning.specs.Turns.{Starts, more, more_live, later, Asks, IsOut, Thrifty, IsHalted, WritesFirst}
 use Rattle.flow_meaning.proofs.More.{starts_same, starts_on, Ahead, Fair, Even, fair, still, after_turn, then_even, own_fair, same_even, halt_even, writes_even, pushed_even, dropping_even, leave_for_even, take_branch_fair, drop_fair, fire_fair, close_fair}
@@ -25,6 +26,13 @@ use Rattle.flow_meaning.proofs.BurstOnce.{burst_once}
 
 enrol_even : (class : ℕ) (name : List ℕ) → Even (enrol class name)
 enrol_even class name = record { even = λ k c. refl; adds = λ c. (start_line (suc c.started) name ∷ [], refl) }
+
+alone_even : (class : ℕ) (name : List ℕ) (r : Option ℕ) → Even (enrol_with class name r)
+alone_even class name r = record { even = λ k c. refl; adds = λ c. (start_line (suc c.started) name ∷ [], refl) }
+
+void_fair : (i class : ℕ) (name : List ℕ) → Fair (start_void i class name)
+void_fair i class name =
+    after_turn (λ d. enrol_with class name None (pushed (Run i) d)) (fair _ (then_even (pushed (Run i)) (enrol_with class name None) (pushed_even (Run i)) (alone_even class name None)))
 
 start_fair : (i : ℕ) (g : Goal) (class : ℕ) (name : List ℕ) → Fair (start_core i g class name)
 start_fair i g class name =
@@ -91,6 +99,12 @@ module _ {A : Type 0} where
       own_step (λ n c. silent (proc (start_core i g class (e.label class) c) (added xs (suc n) a))) (λ c. c.started) (λ k c. refl)
       (λ n. core_step (start_core i g class (e.label class)) (added xs (suc n) a) (start_fair i g class (e.label class)))
 
+  alone_step : (e : Engine A) (i class : ℕ) (o : Option A) (xs : Numbered A) → FairStep (λ c. start_alone e i class o (proc c xs))
+  alone_step e i class None xs = stuck_step xs
+  alone_step e i class (Some a) xs =
+      own_step (λ n c. silent (proc (start_void i class (e.label class) c) (added xs (suc n) a))) (λ c. c.started) (λ k c. refl)
+      (λ n. core_step (start_void i class (e.label class)) (added xs (suc n) a) (void_fair i class (e.label class)))
+
   effect_step : (e : Engine A) (s : Supply) (i : ℕ) (g : Goal) (f : Effect) (xs : Numbered A) → FairStep (λ c. answer_effect e s i g f (proc c xs))
   effect_step e s i g (Start class args) xs = start_step e i g class (e.fresh class args) xs
   effect_step e s i g (Make kd) xs = asked_step (react s i (Effects g (Make kd))) xs (react_fair s i (Effects g (Make kd)))
@@ -105,6 +119,7 @@ module _ {A : Type 0} where
 
   answer_step : (e : Engine A) (s : Supply) (i : ℕ) (a : Act) (xs : Numbered A) → FairStep (λ c. answer e s i a (proc c xs))
   answer_step e s i (Effects g f) xs = effect_step e s i g f xs
+  answer_step e s i (requests.Starts class args) xs = alone_step e i class (e.fresh class args) xs
   answer_step e s i Goes xs = act_step s i Goes xs
   answer_step e s i Pass xs = act_step s i Pass xs
   answer_step e s i (Drops vs) xs = act_step s i (Drops vs) xs

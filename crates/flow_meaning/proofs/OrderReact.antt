@@ -12,12 +12,12 @@ use Rattle.flow_eval.specs.Predefined.{natural}
 use Rattle.flow_trace.specs.declared.line.Line.{Line}
 use Rattle.flow_numbered.specs.Numbered.{thing, added}
 use Rattle.flow_meaning.specs.Cells.{Ref, Cell, Single, Stream, waiters, is_complete}
-use Rattle.flow_meaning.specs.Requests.{Spot, Act, Goes, Pass, Drops, Effects, Operand, Waits, Sends, Cancels, Prints, SendsTo, Returns, Throws, RunsOut, Stuck, DiskCall, Effect, Make, Start, Draw, Delay, Never, Listen, Disk, Goal, Stored, Kept, Supply}
+use Rattle.flow_meaning.specs.Requests.{Spot, Act, Goes, Pass, Drops, Effects, Operand, Waits, Sends, Cancels, Prints, SendsTo, Returns, Throws, RunsOut, Stuck, DiskCall, Effect, Make, Start, Draw, Delay, Never, Listen, Disk, Goal, Stored, Kept, Supply, Starts}
 use Rattle.flow_meaning.specs.Process.{Task, Run, Throw, Store, Keep, Close, Entry, Core}
 use Rattle.flow_meaning.specs.Work.{pushed, new_cell, fill, first_ready, owner, cancel_owner}
 use Rattle.flow_meaning.specs.Effects.{throws, result_task, push_result, gives, gives_new, gives_open, empty_cell, between, is_port, open_port, judged, ask_disk, effect, send_to}
 use Rattle.flow_meaning.specs.React.{send_by, send_in, print, at_spot, wait_by, wait, react}
-use Rattle.flow_meaning.specs.Step.{entry_of, enrol, start_core}
+use Rattle.flow_meaning.specs.Step.{entry_of, enrol, start_core, enrol_with, start_void}
 use Rattle.flow_meaning.specs.Orderly.{tasks_of, Proceeds, steps, stores, keeps, ends, is_suspended, Stands, AllWait, CellsWait}
 use Rattle.flow_meaning.specs.Orderly as order
 use Rattle.flow_meaning.proofs.Posture.{thing_added, Unless, unless, after_turn, own_task, other_task, Awake}
@@ -113,6 +113,7 @@ react_ordered s i Goes c h a = unless c.halted (run_ordered i c h a)
 react_ordered s i Pass c h a = after_turn Ordered (pushed (Run i)) c c.left (λ n. unless c.halted (run_ordered i (record c { left = n }) h a))
 react_ordered s i (Drops vs) c h a = unless c.halted (dropping_ordered vs (pushed (Run i) c) (run_ordered i c h a))
 react_ordered s i (Effects goal eff) c h a = effect_ordered s i goal eff c h a
+react_ordered s i (Starts class args) c h a = tt
 react_ordered s i (Operand spot r) c h a = unless c.halted (two_ordered i (Keep i spot r) c h a (keep_of i spot r) (run_of i) keeps (refl, h.2))
 react_ordered s i (Waits spot vs) c h a = wait_ordered i spot vs c (thing c.entries i) h a refl
 react_ordered s i (Sends k o) c h a = send_in_ordered (thing c.cells k) i k o c h a
@@ -130,12 +131,12 @@ react_ordered s i RunsOut c h a = tt
 react_ordered s i Stuck c h a = tt
 
 -- an actor is made
-pub enrol_ordered : (class : ℕ) (name : List ℕ) (c : Core) → Ordered c → Ordered (enrol class name c)
-enrol_ordered class name c o = (
+alone_ordered : (class : ℕ) (name : List ℕ) (r : Option ℕ) (c : Core) → Ordered c → Ordered (enrol_with class name r c)
+alone_ordered class name r c o = (
   all_stand n d (stands_new n (is_suspended (thing d.entries n)) (tasks_of n d.tasks) runs only)
       (λ j m. unmoved_stands j c d (ap is_suspended (thing_added c.entries n j e m), other_task n j (Run n) c.tasks (run_of n) m) (o.0 j)),
   o.1,
-  waits_by c.entries d.entries d.cells stay (waits_added c.entries c.cells (suc c.made) (Single None []) tt o.2),
+  waits_by c.entries d.entries c.cells stay o.2,
   rising_added c.entries 0 c.started e (omega arith) o.3,
 )
   where
@@ -143,10 +144,10 @@ enrol_ordered class name c o = (
     n = suc c.started
 
     e : Entry
-    e = entry_of class (suc c.made)
+    e = entry_of class r
 
     d : Core
-    d = enrol class name c
+    d = enrol_with class name r c
 
     none : thing c.entries n ≡ None
     none = beyond_none c.entries 0 c.started n o.3 (omega arith)
@@ -171,6 +172,16 @@ enrol_ordered class name c o = (
 
     stay : (j : ℕ) → is_suspended (thing c.entries j) ≡ Some true → is_suspended (thing d.entries j) ≡ Some true
     stay j s = ap is_suspended (thing_added c.entries n j e (λ f. not_new j f s)) ∙ s
+
+pub enrol_ordered : (class : ℕ) (name : List ℕ) (c : Core) → Ordered c → Ordered (enrol class name c)
+enrol_ordered class name c o =
+    alone_ordered class name (Some (suc c.made)) (new_cell (Single None []) c) (o.0, o.1, waits_added c.entries c.cells (suc c.made) (Single None []) tt o.2, o.3)
+
+-- a void one, whose caller goes on
+pub void_ordered : (i class : ℕ) (name : List ℕ) (c : Core) → InHand i c → Awake i c → Unless Ordered (start_void i class name c)
+void_ordered i class name c h a =
+    after_turn Ordered (λ d. enrol_with class name None (pushed (Run i) d)) c c.left
+    (λ n. let d = record c { left = n } in unless c.halted (alone_ordered class name None (pushed (Run i) d) (run_ordered i d h a)))
 
 pub start_ordered : (i : ℕ) (goal : Goal) (class : ℕ) (name : List ℕ) (c : Core) → InHand i c → Awake i c → Unless Ordered (start_core i goal class name c)
 start_ordered i goal class name c h a =

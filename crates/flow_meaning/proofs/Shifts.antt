@@ -12,7 +12,7 @@ use Rattle.flow_eval.specs.Predefined.{natural}
 use Rattle.flow_trace.specs.declared.line.Line.{Line}
 use Rattle.flow_numbered.specs.Numbered.{Numbered, thing, added, put, removed}
 use Rattle.flow_meaning.specs.Cells.{Side, FutureSide, PromiseSide, side_of, Ref, Waiter, Cell, Single, Stream, is_complete, is_ready, waiters, taken, after_taking}
-use Rattle.flow_meaning.specs.Requests.{Spot, Act, Goes, Pass, Drops, Effects, Operand, Waits, Sends, Cancels, Prints, SendsTo, Returns, Throws, RunsOut, Stuck, DiskCall, Effect, Make, Start, Draw, Delay, Never, Listen, Disk, Goal, Stored, Kept, Supply}
+use Rattle.flow_meaning.specs.Requests.{Spot, Act, Goes, Pass, Drops, Effects, Starts, Operand, Waits, Sends, Cancels, Prints, SendsTo, Returns, Throws, RunsOut, Stuck, DiskCall, Effect, Make, Start, Draw, Delay, Never, Listen, Disk, Goal, Stored, Kept, Supply}
 use Rattle.flow_meaning.specs.Process.{Task, Run, Give, Throw, Catch, Store, Keep, Close, Fire, Entry, Core}
 use Rattle.flow_meaning.specs.Lines.{take_line, cancel_line, broken_line, print_line, wait_line}
 use Rattle.flow_meaning.specs.References.{Scan, reference_count}
@@ -209,6 +209,7 @@ react_shifts s i (Drops vs) c a h =
     let d = pushed (Run i) c in
     unless c.halted (shifts_on i Free c d (dropping_values vs d) (run_shifts i Free c a) (unmoved_eases d (dropping_values vs d) (dropping_unmoved vs d)))
 react_shifts s i (Effects goal eff) c a h = effect_shifts s i goal eff c a
+react_shifts s i (Starts class args) c a h = tt
 react_shifts s i (Operand spot r) c a h = unless c.halted (two_shifts i (Keep i spot r) c (keep_of i spot r) a (λ ts. omega arith))
 react_shifts s i (Waits spot vs) c a h = wait_shifts i spot vs c (thing c.entries i) refl
 react_shifts s i (Sends k o) c a h = send_in_shifts (thing c.cells k) i k o c a

@@ -6,15 +6,15 @@ use Rattle.flow_base.specs.ErrorNumbers.{operation_cancelled}
 use Rattle.flow_value.specs.declared.value.Kind.TheVariants as kind
 use Rattle.flow_value.specs.Values.{ValueTree, RefValue, OutcomeTree, GoodOutcome, BadOutcome}
 use Rattle.flow_numbered.specs.Numbered.{Numbered, thing, added, put, removed}
-use Rattle.flow_meaning.specs.Cells.{Ref, FutureSide}
+use Rattle.flow_meaning.specs.Cells.{Ref, FutureSide, Single}
 use Rattle.flow_meaning.specs.Requests.{Spot, Goal, Stored, Kept}
 use Rattle.flow_meaning.specs.Process.{Task, Run, Throw, Catch, Store, Keep, Close, Drop, Entry, Core, Raised}
 use Rattle.flow_meaning.specs.Lines.{throw_line, catch_line, end_line}
 use Rattle.flow_meaning.specs.References.{Scan, reference_count, value_in}
-use Rattle.flow_meaning.specs.Work.{writes, pushed, dropping_values, fill}
+use Rattle.flow_meaning.specs.Work.{writes, pushed, dropping_values, fill, new_cell}
 use Rattle.flow_meaning.specs.Dropping.{set_result, give_result, close}
 use Rattle.flow_meaning.specs.Effects.{result_task, push_result}
-use Rattle.flow_meaning.specs.Step.{entry_of, enrol, start_core, throw_core, OperandFate, GoesOn, Cancelled, Ready, with_operand, below, leave_kept, handle}
+use Rattle.flow_meaning.specs.Step.{entry_of, enrol_with, enrol, start_void, start_core, throw_core, OperandFate, GoesOn, Cancelled, Ready, with_operand, below, leave_kept, handle}
 use Rattle.flow_meaning.specs.Deliver.{boot_core, stop_main, stop, closed_request, deliver, arrive}
 use Rattle.flow_meaning.specs.Orderly.{tasks_of, is_suspended, Proceeds, steps, stores, keeps, takes, throws, catches, ends, Stands, NextStep, Paired, Rising, Orderly, Phase, Free, Due, phase_first, phase_by, phase_of}
 use Rattle.flow_meaning.proofs.Posture.{same_number, other_number, thing_put_other, thing_put, thing_added, thing_removed_other, removed_none, Unless, unless, unless_map, after_turn, Unmoved, AllUnmoved, dropping_unmoved, fill_unmoved, IsOf, own_task, other_task, rank, same_rank, Shifts, Eases, unmoved_phase, unmoved_eases, shifts_on, shifts_after, Awake, phase_awake, leave_shifts, by_number}
@@ -144,11 +144,11 @@ thing_new (x ∷ xs) i a h = by_test (nat_eq i x.0) h (thing_new xs i a)
     by_test true e k = cc
     by_test false e k = k e
 
-enrol_shifts : (class : ℕ) (name : List ℕ) (c : Core) → Rising 0 c.started c.entries → Shifts (suc c.started) Free c (enrol class name c)
-enrol_shifts class name c h =
+enrol_shifts : (class : ℕ) (name : List ℕ) (r : Option ℕ) (c : Core) → Rising 0 c.started c.entries → Shifts (suc c.started) Free c (enrol_with class name r c)
+enrol_shifts class name r c h =
     let n = suc c.started in
-    let e = entry_of class (suc c.made) in
-    let d = enrol class name c in
+    let e = entry_of class r in
+    let d = enrol_with class name r c in
     let a : Awake n d = ap is_suspended (thing_new c.entries n e (beyond_none c.entries 0 c.started n h (omega arith))) in (
       same_rank (phase_awake n d (Run n) (tasks_of n c.tasks) a (own_task n (Run n) c.tasks (run_of n))),
       λ j m. same_rank (unmoved_phase j c d (ap is_suspended (thing_added c.entries n j e m), other_task n j (Run n) c.tasks (run_of n) m)),
@@ -158,28 +158,32 @@ enrol_shifts class name c h =
 abbrev pub Enrolled : Core → Core → Type 0
 Enrolled c d = Eases c d × (rank (phase_of d (suc c.started)) ≤ 0)
 
-pub enrolled : (class : ℕ) (name : List ℕ) (c : Core) → Rising 0 c.started c.entries → Enrolled c (enrol class name c)
-enrolled class name c h =
-    let d = enrol class name c in
-    let s = enrol_shifts class name c h in
+pub enrolled : (class : ℕ) (name : List ℕ) (r : Option ℕ) (c : Core) → Rising 0 c.started c.entries → Enrolled c (enrol_with class name r c)
+enrolled class name r c h =
+    let d = enrol_with class name r c in
+    let s = enrol_shifts class name r c h in
     (by_number (suc c.started) c d (omega (arith, s.0)) s.1, s.0)
 
--- its caller gets its result
-abbrev pub Starts : (caller : ℕ) → Core → Core → Type 0
-Starts i c d = Shifts i Due c d × (rank (phase_of d (suc c.started)) ≤ 0)
+-- the new actor with its result, which is a new cell
+result_enrolled : (class : ℕ) (name : List ℕ) (c : Core) → Rising 0 c.started c.entries → Enrolled c (enrol class name c)
+result_enrolled class name c h = enrolled class name (Some (suc c.made)) (new_cell (Single None []) c) h
+
+-- its caller is in this phase then
+abbrev pub StartsFor : (caller : ℕ) → Phase → Core → Core → Type 0
+StartsFor i p c d = Shifts i p c d × (rank (phase_of d (suc c.started)) ≤ 0)
 
 starts_by : (i : ℕ) (t : Task) (class : ℕ) (name : List ℕ) (c : Core) → IsOf i t → Awake i c → Rising 0 c.started c.entries → ((ts : List Task) → rank (phase_first (t ∷ ts)) ≤ 2)
-    → Starts i c (enrol class name (pushed t (pushed (Run i) c)))
+    → StartsFor i Due c (enrol class name (pushed t (pushed (Run i) c)))
 starts_by i t class name c o a h r =
     let m = pushed t (pushed (Run i) c) in
-    let n = enrolled class name m h in
+    let n = result_enrolled class name m h in
     (shifts_on i Due c m (enrol class name m) (two_shifts i t c o a r) n.0, n.1)
 
-pub start_shifts : (i : ℕ) (goal : Goal) (class : ℕ) (name : List ℕ) (c : Core) → Awake i c → Rising 0 c.started c.entries → Unless (Starts i c) (start_core i goal class name c)
+pub start_shifts : (i : ℕ) (goal : Goal) (class : ℕ) (name : List ℕ) (c : Core) → Awake i c → Rising 0 c.started c.entries → Unless (StartsFor i Due c) (start_core i goal class name c)
 start_shifts i goal class name c a h =
-    after_turn (Starts i c) (λ d. enrol class name (push_result i (result_task i goal (RefValue kind.Future (suc d.made))) d)) c c.left (by_goal goal)
+    after_turn (StartsFor i Due c) (λ d. enrol class name (push_result i (result_task i goal (RefValue kind.Future (suc d.made))) d)) c c.left (by_goal goal)
   where
-    by_goal : (g : Goal) (n : ℕ) → Unless (Starts i c) (enrol class name (push_result i (result_task i g (RefValue kind.Future (suc c.made))) (record c { left = n })))
+    by_goal : (g : Goal) (n : ℕ) → Unless (StartsFor i Due c) (enrol class name (push_result i (result_task i g (RefValue kind.Future (suc c.made))) (record c { left = n })))
     by_goal Stored n =
         let t = Store i (RefValue kind.Future (suc c.made)) in
         unless c.halted (starts_by i t class name (record c { left = n }) (store_of i (RefValue kind.Future (suc c.made))) a h (λ ts. omega arith))
@@ -187,13 +191,21 @@ start_shifts i goal class name c a h =
         let r : Ref = (kind.Future, suc c.made) in
         unless c.halted (starts_by i (Keep i spot r) class name (record c { left = n }) (keep_of i spot r) a h (λ ts. omega arith))
 
+-- nothing comes back of a void actor, and its caller goes on
+pub void_shifts : (i class : ℕ) (name : List ℕ) (c : Core) → Awake i c → Rising 0 c.started c.entries → Unless (StartsFor i Free c) (start_void i class name c)
+void_shifts i class name c a h =
+    after_turn (StartsFor i Free c) (λ d. enrol_with class name None (pushed (Run i) d)) c c.left (λ n.
+    let m = pushed (Run i) (record c { left = n }) in
+    let e = enrolled class name None m h in
+    unless c.halted (shifts_on i Free c m (enrol_with class name None m) (run_shifts i Free c a) e.0, e.1))
+
 filled_eases : (k : ℕ) (o : OutcomeTree) (c : Core) → Unless (Eases c) (fill k o c)
 filled_eases k o c = unless_map (fill k o c).halted (unmoved_eases c (fill k o c)) (fill_unmoved k o c (thing c.cells k))
 
 -- what is delivered at the begin of an event
 pub booted_enrolled : (class : ℕ) (name : List ℕ) (c : Core) → Rising 0 c.started c.entries → Unless (Enrolled c) (boot_core class name c)
 booted_enrolled class name c h =
-    after_turn (Enrolled c) (λ d. record (enrol class name d) { main = Some (suc d.made) }) c c.left (λ n. unless c.halted (enrolled class name c h))
+    after_turn (Enrolled c) (λ d. record (enrol class name d) { main = Some (suc d.made) }) c c.left (λ n. unless c.halted (result_enrolled class name c h))
 
 stop_main_eases : (m : Option ℕ) (c : Core) → Eases c (stop_main m c)
 stop_main_eases None c j = omega arith

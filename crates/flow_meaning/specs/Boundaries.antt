@@ -21,6 +21,6 @@ FramesIn w = map (λ p. Frames p.proc) w.places
 abbrev pub CallbacksIn : World Frame → List (List WaitingBranch)
 CallbacksIn w = map (λ p. Callbacks p.proc) w.places
 
--- each unfinished actor of the world is uncancelled and still referred to
+-- each unfinished actor of the world is uncancelled and, unless it is void, still referred to
 abbrev pub ReferredIn : {A : Type 0} → Engine A → World A → Type 0
 ReferredIn e w = AllByRecursion (λ p. Referred e p.proc) w.places

@@ -1,5 +1,6 @@
 -- A class carries an actor: the recursion over the actor's text.
 use Rattle.std.specs.Prelude.{◌≡◌, ℕ, true, List, [], ◌∷◌}
+use Rattle.std.specs.Option.{option_map}
 use Rattle.std.specs.declared.option.Option.{Option}
 use Rattle.std.specs.declared.option.Option.TheVariants.{None, Some}
 use Rattle.flow_tree.specs.declared.ty.Ident.{Ident}
@@ -12,16 +13,16 @@ use Rattle.flow_class.specs.Classes.{ActInstr, TestLast, ChooseLast, ReturnLast,
 use Rattle.flow_meaning.specs.Requests.{Spot}
 use Rattle.flow_meaning.specs.Evaluating.{Names}
 use Rattle.flow_class.specs.Scopes.{Mark, Var, scope, outside}
-use Rattle.flow_meaning.specs.Text.{first_spot, next_spot, branch_count, past_branches}
+use Rattle.flow_meaning.specs.Text.{next_spot, branch_count, past_branches}
 use Rattle.flow_meaning.specs.Items.{Site, Loop, Item, Do, Leave, Round, Made, Handler, change, site_past, site_at}
 use Rattle.flow_meaning.specs.SourceStep.{Exit, Breaks, Continues}
-use Rattle.flow_meaning.specs.Source.{names_of, actors_in}
+use Rattle.flow_meaning.specs.Source.{names_of, actors_in, first_site}
 use Rattle.flow_class.specs.Places.{place_named}
 use Rattle.flow_class.specs.Code.{Last, group_at}
 use Rattle.flow_meaning.specs.Frame.{spot_of}
 use Rattle.flow_class.specs.Code as frame
 use Rattle.flow_class.specs.Scopes.{Scope, place_of, over, over_all, path_over, act_over}
-use Rattle.flow_meaning.specs.Carry.{Pos, entry, after, Target, At, Again, Hand, EndsScope, at, JumpsTo, NewLocal, CaughtAt, AssignAt, ChangeAt, DeclareAt, DeclaredAs, SimpleAt, PassAt, DropThen, GoesOn}
+use Rattle.flow_meaning.specs.Carry.{Pos, entry, after, Target, At, Again, Hand, EndsScope, at, JumpsTo, NewLocal, CaughtAt, AssignAt, ChangeAt, DeclareAt, DeclaredAs, SimpleAt, PassAt, DropThen, GoesOn, EndsAt}
 
 module _ (ns : Names) (c : ClassTree) where
   -- a break or a continue: the scopes up to the loop are left, each with its drop, and then the loop
@@ -64,7 +65,7 @@ module _ (ns : Names) (c : ClassTree) where
   -- somewhere.
   abbrev mutual
     pub BodyAt : Scope → List Item → List Target → Site → Body → Pos → Type 0
-    BodyAt s r ts x End p = GoesOn ns c s r ts p
+    BodyAt s r ts x End p = EndsAt ns c x.is_void s r ts p
     BodyAt s r ts x (BlockStmt place b k) p =
         (q : Pos) × BodyAt (Mark ∷ s) (Leave ∷ Do (site_past b x) k ∷ r) (At q ∷ ts) x b p × BodyAt s r ts (site_past b x) k q
     BodyAt s r ts x (IfStmt place e b k) p =
@@ -101,13 +102,13 @@ module _ (ns : Names) (c : ClassTree) where
     BodyAt s r ts x (BreakStmt place k) p = ExitAt Breaks s r ts p × (has_statement k ≡ true → (q : Pos) × BodyAt s r ts x k q)
     BodyAt s r ts x (ContinueStmt place k) p = ExitAt Continues s r ts p × (has_statement k ≡ true → (q : Pos) × BodyAt s r ts x k q)
     BodyAt s r ts x (ReturnStmt place e k) p =
-        CaughtAt ns c s r ts p × (at ns c p ≡ Last (ReturnLast (over c.slots s e)))
+        CaughtAt ns c s r ts p × (at ns c p ≡ Last (ReturnLast (option_map (over c.slots s) e)))
         × (has_statement k ≡ true → (q : Pos) × BodyAt s r ts x k q)
     BodyAt s r ts x (ThrowStmt place e k) p =
         CaughtAt ns c s r ts p × ThrowAt s e x.caught p × (has_statement k ≡ true → (q : Pos) × BodyAt s r ts x k q)
     BodyAt s r ts x (TryStmt place b w v d k) p =
         let y = site_past b x in
-        let z : Site = record { spot = y.spot; caught = Some v.name } in
+        let z : Site = record y { caught = Some v.name } in
         (m : Pos) × (h : ℕ) × (n : ℕ) × (q : Pos) × JumpsTo ns c p m
         × BodyAt (Mark ∷ s) (Leave ∷ Handler v.name z d ∷ Do (site_past d y) k ∷ r) (Hand h n ∷ At q ∷ ts) x b m
         × NewLocal ns c n s
@@ -142,7 +143,7 @@ module _ (ns : Names) (c : ClassTree) where
 
 -- a class carries an actor, from the begin of its text and the begin of its first block
 abbrev pub Carries : Names → RoutineTree → ClassTree → Type 0
-Carries ns a c = BodyAt ns c [] [] [] (record { spot = first_spot; caught = None }) a.body (entry 0)
+Carries ns a c = BodyAt ns c [] [] [] (first_site a) a.body (entry 0)
 
 -- each actor of a program is carried by the class in its place
 abbrev pub AllCarried : Names → List RoutineTree → List ClassTree → Type 0

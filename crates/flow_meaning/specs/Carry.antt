@@ -1,6 +1,6 @@
 -- A class carries an actor: what stands where in the blocks of a class, for each point of the actor's text. A point has a
 -- position only where control comes back to it; everything else is said by recursion over the text.
-use Rattle.std.specs.Prelude.{◌≡◌, ℕ, suc, ◌<◌, pos, true, false, List, [], ◌∷◌, length, codes}
+use Rattle.std.specs.Prelude.{◌≡◌, ℕ, suc, ◌<◌, pos, true, false, List, [], ◌∷◌, length, codes, Bool}
 use Rattle.std.specs.declared.option.Option.{Option}
 use Rattle.std.specs.declared.option.Option.TheVariants.{None, Some}
 use Rattle.flow_tree.specs.declared.ty.Ident.{Ident}
@@ -8,7 +8,7 @@ use Rattle.flow_tree.specs.Tree.{TypeTree, IntType, BoolType, StringType, ExprTr
 use Rattle.flow_tree.specs.Body.{IntoTree, Body, End, DeclareStmt, AssignStmt, ModifyStmt}
 use Rattle.flow_class.specs.declared.class.Slotted.{Slotted}
 use Rattle.flow_class.specs.declared.class.Slotted.TheVariants as place
-use Rattle.flow_class.specs.Classes.{SetInstr, EffectInstr, NewInstr, DropInstr, GotoLast, PassLast, ThrowLast, ClassTree}
+use Rattle.flow_class.specs.Classes.{SetInstr, EffectInstr, NewInstr, DropInstr, GotoLast, PassLast, ReturnLast, ThrowLast, ClassTree}
 use Rattle.flow_meaning.specs.Evaluating.{Names, Effectful, effect_in}
 use Rattle.flow_class.specs.Scopes.{Var, scope, outside, Scope, Above, Covers, place_of, over, path_over}
 use Rattle.flow_meaning.specs.Items.{Item, Do, Leave, Round, Made, Handler, Unwound, unwind, change}
@@ -123,14 +123,23 @@ module _ (ns : Names) (c : ClassTree) where
   DropThen [] p follows = follows p
   DropThen (n ∷ ns) p follows = (h : Pos) × JumpsTo p h × (at h ≡ frame.Body (DropInstr (n ∷ ns))) × follows (after h)
 
-  -- from p the class goes on with the items; the end of a text, which nothing reaches, throws, and nothing catches that
+  -- from p the class goes on with the items
   abbrev pub GoesOn : Scope → List Item → List Target → Pos → Type 0
-  GoesOn s [] ts p = (h : Pos) × (f : Ident) × JumpsTo p h × (at h ≡ Last (ThrowLast (CallExpr f NoExprs)))
-      × (f.name ≡ codes "operation_cancelled")
-      × (catcher_at c h.block ≡ None)
   GoesOn s (Leave ∷ r) ts p = DropThen (scope s) p (GoesOn (outside s) r ts)
   GoesOn s (Do site k ∷ r) (At q ∷ ts) p = JumpsTo p q
   GoesOn s (Made l ∷ r) (Again b ∷ ts) p = (h : Pos) × (q : Pos) × JumpsTo p h × SimpleAt s (Round l ∷ r) (Again b ∷ ts) l.step h q s
       × PassAt q b
   GoesOn s (Handler x site k ∷ r) (Hand b n ∷ ts) p = GoesOn s r ts p
   GoesOn s _ ts p = ⊥
+
+  -- The end of a text: that of a void actor is `return;`, and that of another, which nothing reaches, throws, and nothing catches that.
+  abbrev pub TextEndsAt : (is_void : Bool) → Pos → Type 0
+  TextEndsAt true p = (h : Pos) × JumpsTo p h × (at h ≡ Last (ReturnLast None))
+  TextEndsAt false p = (h : Pos) × (f : Ident) × JumpsTo p h × (at h ≡ Last (ThrowLast (CallExpr f NoExprs)))
+      × (f.name ≡ codes "operation_cancelled")
+      × (catcher_at c h.block ≡ None)
+
+  -- the end of a body, over the items that follow
+  abbrev pub EndsAt : (is_void : Bool) → Scope → List Item → List Target → Pos → Type 0
+  EndsAt void s [] ts p = TextEndsAt void p
+  EndsAt void s (i ∷ r) ts p = GoesOn s (i ∷ r) ts p

@@ -2,16 +2,19 @@
 use Rattle.std.specs.Prelude.{ℕ, nat_eq, Bool, true, false, List, [], ◌∷◌, ◌++◌, map, length, drop, slice_get, unwrap_or, if◌then◌else◌}
 use Rattle.std.specs.declared.option.Option.{Option}
 use Rattle.std.specs.declared.option.Option.TheVariants.{None, Some}
-use Rattle.flow_tree.specs.Tree.{TypeTree, PromiseType, PromiseStreamType, ExprTree, ExprTrees}
+use Rattle.std.specs.Option.{option_map}
+use Rattle.flow_tree.specs.declared.ty.Ident.{Ident}
+use Rattle.flow_tree.specs.Tree.{TypeTree, PromiseType, PromiseStreamType, ExprTree, ExprTrees, returned_expr}
 use Rattle.flow_value.specs.declared.value.Kind.{Kind}
 use Rattle.flow_value.specs.declared.value.Kind.TheVariants as kind
 use Rattle.flow_value.specs.Values.{ValueTree, RefValue}
 use Rattle.flow_eval.specs.Answers.{bool_of, error_of}
+use Rattle.flow_eval.specs.Functions.{default_value}
 use Rattle.flow_class.specs.declared.class.Slotted.{Slotted}
 use Rattle.flow_class.specs.Classes.{InstrTree, SetInstr, EffectInstr, NewInstr, ActInstr, DropInstr, LastTree, GotoLast, PassLast, TestLast, ChooseLast, ReturnLast, ThrowLast, CallbackTree, ClassTree, RawTree}
 use Rattle.flow_meaning.specs.Requests.{Spot, Make, Goal, Stored, Kept, Goes, Pass, Drops, Effects, Operand, Waits, Returns, Throws}
 use Rattle.flow_meaning.specs.Process.{View, Engine}
-use Rattle.flow_meaning.specs.Evaluating.{Names, bind, StepOf, asks, quietly, stuck, given, evaluated, Effectful, effect_in, effect_of, value, values, call_statement}
+use Rattle.flow_meaning.specs.Evaluating.{Names, StepOf, asks, quietly, stuck, given, evaluated, Effectful, effect_in, effect_of, value, values, call_statement}
 use Rattle.flow_meaning.specs.Source.{main_of}
 use Rattle.flow_class.specs.Code.{type_at, Fetched, Body, Last, Nothing, fetch, callback_at}
 use Rattle.flow_meaning.specs.Frame.{Memory, Frame, look, held_in, emptied, blanks, everything, occ_memory, put_at, assign, spot_of, go, next_instr, over, lose, raise}
@@ -32,11 +35,20 @@ module _ (ns : Names) (v : View) (f : Frame) where
   effects goal e = evaluated f (values ns v (look f.mem) e.1)
       (λ vs left. given f (effect_of e.0 vs) (λ eff. asks left (Effects goal eff) f))
 
+  -- `new` puts a new cell in place, or the value that the type has at first
+  abbrev pub new_by : Slotted → TypeTree → Option Kind → StepOf Frame
+  new_by p t (Some k) = asks v.left (Effects Stored (Make k)) f
+  new_by p t None = given f (default_value t) (λ u. given f (put_at ns.records f.mem p [] u) (placed v.left))
+
+  -- a call statement changes what a path leads to, and the next instruction follows
+  abbrev pub put_path : List Ident → ValueTree → Option Frame
+  put_path xs u = option_map (λ (p : List ValueTree × Memory). next_instr p.1 f) (assign ns.records f.mem xs u)
+
   abbrev pub instruction : InstrTree → StepOf Frame
   instruction (SetInstr path e) = evaluated f (value ns v (look f.mem) e) (λ u left. given f (assign ns.records f.mem path u) (placed left))
   instruction (EffectInstr path e) = given f (effect_in ns e) (effects Stored)
-  instruction (NewInstr p) = given f (bind (type_at f.code p) promise_kind) (λ k. asks v.left (Effects Stored (Make k)) f)
-  instruction (ActInstr path es) = call_statement ns v (look f.mem) f (next_instr f.mem f) path es
+  instruction (NewInstr p) = given f (type_at f.code p) (λ t. new_by p t (promise_kind t))
+  instruction (ActInstr path es) = call_statement ns v (look f.mem) f (next_instr f.mem f) put_path path es
   instruction (DropInstr locals) = asks v.left (Drops (held_in f.mem locals)) (next_instr (emptied locals f.mem) f)
 
   abbrev pub test : (left : ℕ) → Option Bool → (yes no : ℕ) → StepOf Frame
@@ -69,7 +81,7 @@ module _ (ns : Names) (v : View) (f : Frame) where
   last (PassLast b) = asks v.left Pass (go b f.mem f)
   last (TestLast e b c) = evaluated f (value ns v (look f.mem) e) (λ u left. test left (bool_of u) b c)
   last (ChooseLast g) = choose (spot_of f.code g) (callback_at f.code g v.kept)
-  last (ReturnLast e) = evaluated f (value ns v (look f.mem) e) (λ u left. asks left (Returns u (everything f.mem)) over)
+  last (ReturnLast e) = evaluated f (value ns v (look f.mem) (returned_expr e)) (λ u left. asks left (Returns u (everything f.mem)) over)
   last (ThrowLast e) = evaluated f (value ns v (look f.mem) e) (λ u left. throw_value left (error_of u))
 
   abbrev pub fetched : Fetched → StepOf Frame

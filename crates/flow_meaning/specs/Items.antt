@@ -17,10 +17,12 @@ use Rattle.flow_class.specs.Scopes.{Local, Mark, Var, scope, all_locals, outside
 use Rattle.flow_meaning.specs.Variables.{Vars, emptied, filled, backwards, look, place_in, set_var}
 use Rattle.flow_meaning.specs.Text.{past}
 
--- where a body stands in its text: the next wait, and the variable of the innermost catch body around it
+-- where a body stands in its text: the next wait, the variable of the innermost catch body around it, and whether the text is that
+-- of a void actor
 pub record Site : Type 0 where
   pub spot : Spot
   pub caught : Option (List ℕ)
+  pub is_void : Bool
 
 -- a loop; one without a condition goes on for ever
 pub record Loop : Type 0 where

@@ -1,5 +1,6 @@
 -- Classes and evaluation with every place the first one, as `bare` makes programs; and that places don't matter.
 use Rattle.std.specs.Prelude.{◌≡◌, ℕ, List, map}
+use Rattle.std.specs.Option.{option_map}
 use Rattle.std.specs.declared.option.Option.{Option}
 use Rattle.flow_tree.specs.Tree.{ExprTree}
 use Rattle.flow_tree.specs.Canon.{bare, placeless_ident, placeless_expr, placeless_exprs, placeless_record, placeless_routine}
@@ -24,7 +25,7 @@ placeless_last (GotoLast b) = GotoLast b
 placeless_last (PassLast b) = PassLast b
 placeless_last (TestLast e b c) = TestLast (placeless_expr e) b c
 placeless_last (ChooseLast g) = ChooseLast g
-placeless_last (ReturnLast e) = ReturnLast (placeless_expr e)
+placeless_last (ReturnLast e) = ReturnLast (option_map placeless_expr e)
 placeless_last (ThrowLast e) = ThrowLast (placeless_expr e)
 
 abbrev pub placeless_block : BlockTree → BlockTree

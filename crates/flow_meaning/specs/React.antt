@@ -8,7 +8,7 @@ use Rattle.flow_trace.specs.declared.line.Line.{Line}
 use Rattle.flow_base.specs.ErrorNumbers.{second_waiter, already_set}
 use Rattle.flow_numbered.specs.Numbered.{thing, put}
 use Rattle.flow_meaning.specs.Cells.{Cell, is_complete}
-use Rattle.flow_meaning.specs.Requests.{Spot, Act, Goes, Pass, Drops, Effects, Operand, Waits, Sends, Cancels, Prints, SendsTo, Returns, Throws, RunsOut, Stuck, Supply}
+use Rattle.flow_meaning.specs.Requests.{Spot, Act, Goes, Pass, Drops, Effects, Starts, Operand, Waits, Sends, Cancels, Prints, SendsTo, Returns, Throws, RunsOut, Stuck, Supply}
 use Rattle.flow_meaning.specs.Process.{Run, Throw, Keep, Close, Entry, Spent, NoMeaning, Core}
 use Rattle.flow_meaning.specs.Lines.{wait_line, print_line}
 use Rattle.flow_meaning.specs.Work.{halt, turn, writes, pushed, dropping_values, fill, leave_for, take_branch, first_ready, Registration, Registered, Refused, Missing, register, owner, cancel_owner}
@@ -47,12 +47,13 @@ abbrev pub wait : (actor : ℕ) → Spot → Option Entry → List ValueTree →
 wait i spot None vs c = halt NoMeaning c
 wait i spot (Some e) vs c = wait_by i spot (at_spot spot e) vs (first_ready c.cells 0 e.operands) c
 
--- what a process does for an ask of the actor with this number
+-- what a process does for an ask of the actor with this number; the call of a void actor is done where actors are made
 abbrev pub react : Supply → (actor : ℕ) → Act → Core → Reaction
 react s i Goes c = quiet (pushed (Run i) c)
 react s i Pass c = quiet (turn c (λ d. pushed (Run i) d))
 react s i (Drops vs) c = quiet (dropping_values vs (pushed (Run i) c))
 react s i (Effects goal eff) c = effect s i goal eff c
+react s i (Starts class args) c = quiet (halt NoMeaning c)
 react s i (Operand spot r) c = quiet (pushed (Keep i spot r) (pushed (Run i) c))
 react s i (Waits spot vs) c = quiet (wait i spot (thing c.entries i) vs c)
 react s i (Sends k o) c = quiet (send_in (thing c.cells k) i k o c)

@@ -37,6 +37,8 @@ pub data Act : Type 0 where
   Drops : List ValueTree → Act
   -- an effect, and where its result goes
   Effects : Goal → Effect → Act
+  -- a void actor is called, the one at a place among the declared actors: nothing comes back
+  Starts : (class : ℕ) (args : List ValueTree) → Act
   -- the next operand of a wait
   Operand : Spot → Ref → Act
   -- all operands are kept; the locals have left the variables, newest first

@@ -3,9 +3,10 @@ use Rattle.std.specs.Prelude.{ℕ, zero, suc, Bool, true, false, List, [], ◌�
 use Rattle.std.specs.Str.{bytes_eq}
 use Rattle.std.specs.declared.option.Option.{Option}
 use Rattle.std.specs.declared.option.Option.TheVariants.{None, Some}
-use Rattle.flow_tree.specs.Body.{IntoTree, Branches, NoBranches, MoreBranches, Body, ChooseStmt, DeclareStmt, AssignStmt, WaitStmt}
+use Rattle.flow_tree.specs.Body.{IntoTree, Branches, NoBranches, MoreBranches, ChooseStmt, DeclareStmt, AssignStmt, WaitStmt}
 use Rattle.flow_tree.specs.Decls.{ParamTree, SlotTree, RoutineTree, RecordTree, DeclTree, StructDecl, FunctionDecl, ActorDecl, ProgramTree}
 use Rattle.flow_ast.specs.Slots.{body_slots}
+use Rattle.flow_ast.specs.Typing.{is_nothing}
 use Rattle.flow_tree.specs.Tree.{TypeTree, PromiseType, PromiseStreamType, ExprTree}
 use Rattle.flow_value.specs.Values.{ValueTree}
 use Rattle.flow_meaning.specs.Cells.{is_some}
@@ -60,13 +61,16 @@ with_args [] (v ∷ vs) rest = None
 with_args (p ∷ ps) [] rest = None
 with_args (p ∷ ps) (v ∷ vs) rest = more (p.name.name, Some v) (with_args ps vs rest)
 
--- an actor at the begin of its text
-abbrev pub begun : Body → List (List ℕ × Option ValueTree) → Actor
-begun b ss = actor (record { states = ss; locals = [] }) (Do (record { spot = first_spot; caught = None }) b ∷ [])
+-- the begin of an actor's text, and the actor there
+abbrev pub first_site : RoutineTree → Site
+first_site a = record { spot = first_spot; caught = None; is_void = is_nothing a.returns }
+
+abbrev pub begun : RoutineTree → List (List ℕ × Option ValueTree) → Actor
+begun a ss = actor (record { states = ss; locals = [] }) (Do (first_site a) a.body ∷ [])
 
 abbrev pub fresh_from : Option RoutineTree → List ValueTree → Option Actor
 fresh_from None vs = None
-fresh_from (Some a) vs = bind (with_args a.params vs (no_values (body_slots a.body))) (λ ss. Some (begun a.body ss))
+fresh_from (Some a) vs = bind (with_args a.params vs (no_values (body_slots a.body))) (λ ss. Some (begun a ss))
 
 -- the result of an effect comes to the statement that asked for it, and the actor goes on behind it
 abbrev pub stored : Actor → List Item → Option (List ValueTree × Vars) → List ValueTree × Actor

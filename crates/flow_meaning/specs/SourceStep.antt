@@ -3,17 +3,19 @@ use Rattle.std.specs.Prelude.{ℕ, Bool, true, false, List, [], ◌∷◌}
 use Rattle.std.specs.declared.option.Option.{Option}
 use Rattle.std.specs.declared.option.Option.TheVariants.{None, Some}
 use Rattle.flow_base.specs.ErrorNumbers.{operation_cancelled}
-use Rattle.flow_tree.specs.Tree.{TypeTree, PromiseType, PromiseStreamType, ExprTree, ExprTrees}
+use Rattle.std.specs.Option.{option_map}
+use Rattle.flow_tree.specs.Tree.{TypeTree, PromiseType, PromiseStreamType, ExprTree, ExprTrees, returned_expr}
+use Rattle.flow_tree.specs.declared.ty.Ident.{Ident}
 use Rattle.flow_tree.specs.Body.{IntoTree, Body, End, BlockStmt, IfStmt, IfElseStmt, WhileStmt, ForStmt, LoopStmt, BreakStmt, ContinueStmt, ReturnStmt, ThrowStmt, TryStmt, ChooseStmt, DeclareStmt, AssignStmt, ModifyStmt, CallStmt, WaitStmt}
 use Rattle.flow_value.specs.declared.value.Kind.TheVariants as kind
-use Rattle.flow_value.specs.Values.{ValueTree, RefValue}
+use Rattle.flow_value.specs.Values.{ValueTree, VoidValue, RefValue}
 use Rattle.flow_eval.specs.Answers.{bool_of, error_of}
 use Rattle.flow_eval.specs.Functions.{default_value}
 use Rattle.flow_meaning.specs.Requests.{Spot, Make, Goal, Stored, Kept, Goes, Pass, Drops, Effects, Operand, Waits, Returns, Throws}
 use Rattle.flow_meaning.specs.Process.{View}
 use Rattle.flow_meaning.specs.Evaluating.{Names, bind, StepOf, asks, quietly, stuck, given, evaluated, Effectful, effect_in, effect_of, value, values, call_statement}
 use Rattle.flow_meaning.specs.Variables.{Vars, look}
-use Rattle.flow_meaning.specs.Items.{Site, Loop, Single, OneOf, Target, Declared, Path, Item, Do, Leave, Round, Check, Made, Handler, Over, Actor, actor, over, site_past, entered, left_scope, everything, put_goal, change, operand, lose}
+use Rattle.flow_meaning.specs.Items.{Site, Loop, Single, OneOf, Target, Declared, Path, Item, Do, Leave, Round, Check, Made, Handler, Over, Actor, actor, over, site_past, entered, left_scope, everything, assign, put_goal, change, operand, lose}
 
 -- A break goes up to the innermost loop and past it; a continue goes up to it, and a pass was made. Each scope on the
 -- way ends by itself.
@@ -105,9 +107,20 @@ module _ (ns : Names) (v : View) where
   await a spot (Some e) = operand_by (effect_in ns e) a spot e
   await a spot None = waits spot (lose a)
 
+  -- a call statement changes what a path leads to, and the actor goes on
+  abbrev pub put_path : Actor → List Item → List Ident → ValueTree → Option Actor
+  put_path a r xs u = option_map (λ (p : List ValueTree × Vars). actor p.1 r) (assign ns.records xs u a.vars)
+
+  -- The end of a body. That of the text of a void actor is `return;`; no other actor of a checked program comes to the end of its
+  -- text, and one that does throws `operation_cancelled`, as its class does.
+  abbrev pub end_body : Actor → (is_void : Bool) → List Item → StepOf Actor
+  end_body a void (i ∷ r) = quietly (actor a.vars (i ∷ r))
+  end_body a true [] = asks v.left (Returns VoidValue (everything a.vars)) over
+  end_body a false [] = asks v.left (Throws operation_cancelled) a
+
   -- the first statement of a body, before the items r
   abbrev pub do_body : Actor → Site → Body → List Item → StepOf Actor
-  do_body a s End r = quietly (actor a.vars r)
+  do_body a s End r = end_body a s.is_void r
   do_body a s (BlockStmt at b k) r = quietly (in_scope a.vars s b (Do (site_past b s) k ∷ r))
   do_body a s (IfStmt at e b k) r =
       test a e (in_scope a.vars s b (Do (site_past b s) k ∷ r)) (actor a.vars (Do (site_past b s) k ∷ r))
@@ -126,17 +139,18 @@ module _ (ns : Names) (v : View) where
       ∷ Do (site_past b s_b) k ∷ r))
   do_body a s (BreakStmt at k) r = exit v.left Breaks (Do s (BreakStmt at k)) a r
   do_body a s (ContinueStmt at k) r = exit v.left Continues (Do s (ContinueStmt at k)) a r
-  do_body a s (ReturnStmt at e k) r = evaluated a (value ns v (look a.vars) e) (λ u left. asks left (Returns u (everything a.vars)) over)
+  do_body a s (ReturnStmt at e k) r =
+      evaluated a (value ns v (look a.vars) (returned_expr e)) (λ u left. asks left (Returns u (everything a.vars)) over)
   do_body a s (ThrowStmt at e k) r = throws a e s.caught
   do_body a s (TryStmt at b q x h k) r =
       let s_h = site_past b s in
-      let handler = Handler x.name (record { spot = s_h.spot; caught = Some x.name }) h in
+      let handler = Handler x.name (record s_h { caught = Some x.name }) h in
       quietly (in_scope a.vars s b (handler ∷ Do (site_past h s_h) k ∷ r))
   do_body a s (ChooseStmt at bs k) r = await a s.spot (operand (OneOf bs) v.kept)
   do_body a s (DeclareStmt at i e k) r = declares a i e (Do s k ∷ r)
   do_body a s (AssignStmt at xs e k) r = store a (Path xs) e (Do s k ∷ r)
   do_body a s (ModifyStmt at xs c k) r = given a (change xs c) (λ e. store a (Path xs) e (Do s k ∷ r))
-  do_body a s (CallStmt at xs es k) r = call_statement ns v (look a.vars) a (actor a.vars (Do s k ∷ r)) xs es
+  do_body a s (CallStmt at xs es k) r = call_statement ns v (look a.vars) a (actor a.vars (Do s k ∷ r)) (put_path a (Do s k ∷ r)) xs es
   do_body a s (WaitStmt at w k) r = await a s.spot (operand (Single w) v.kept)
 
   -- a pass of a loop, if the condition holds
@@ -147,10 +161,9 @@ module _ (ns : Names) (v : View) where
   check a l None r = quietly (pass a l r)
   check a l (Some e) r = test a e (pass a l r) (actor a.vars r)
 
-  -- The first item of the rest decides. An actor of a checked program never comes to the end of its text; one that does
-  -- throws `operation_cancelled`, as its class does.
+  -- The first item of the rest decides; the end of a text is that of its body.
   abbrev pub do_item : Actor → List Item → StepOf Actor
-  do_item a [] = asks v.left (Throws operation_cancelled) a
+  do_item a [] = stuck a
   do_item a (Do s b ∷ r) = do_body a s b r
   do_item a (Leave ∷ r) = left_scope v.left a.vars r
   do_item a (Round l ∷ r) = asks v.left Pass (actor a.vars (Check l ∷ r))

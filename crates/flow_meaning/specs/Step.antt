@@ -7,7 +7,7 @@ use Rattle.flow_value.specs.declared.value.Kind.TheVariants as kind
 use Rattle.flow_value.specs.Values.{ValueTree, RefValue, OutcomeTree, GoodOutcome, BadOutcome}
 use Rattle.flow_numbered.specs.Numbered.{Numbered, thing, added, put, removed}
 use Rattle.flow_meaning.specs.Cells.{Ref, Single, outcome}
-use Rattle.flow_meaning.specs.Requests.{Spot, Act, Effects, Effect, Start, Goal, Ask, Request, Supply}
+use Rattle.flow_meaning.specs.Requests.{Spot, Act, Effects, Effect, Start, Starts, Goal, Ask, Request, Supply}
 use Rattle.flow_meaning.specs.Process.{Task, Run, Give, Throw, Catch, Store, Keep, Close, Fire, Drop, Entry, Halt, NoMeaning, Core, Proc, View, Raised, Engine}
 use Rattle.flow_meaning.specs.Lines.{start_line, throw_line, catch_line}
 use Rattle.flow_meaning.specs.References.{Scan, scan_of}
@@ -37,32 +37,44 @@ kept_by (Some e) = length e.operands
 abbrev pub view : Supply → (actor : ℕ) → Core → View
 view s i c = record { cells = λ k. outcome (thing c.cells k); now = s.now; left = c.left; kept = kept_by (thing c.entries i) }
 
--- An actor is made: its result and the actor get their numbers, the line is written, and its task comes on top.
-abbrev pub entry_of : (class cell : ℕ) → Entry
-entry_of class cell = record {
+-- An actor is made: its result, which a void one has none of, and the actor get their numbers, the line is written, and its task
+-- comes on top.
+abbrev pub entry_of : (class : ℕ) → (result : Option ℕ) → Entry
+entry_of class result = record {
   class = class;
-  result = Some cell;
+  result = result;
   marked = false;
   suspended = false;
   spot = record { group = 0; first = 0 };
   operands = [];
 }
 
-abbrev pub enrol : (class : ℕ) → List ℕ → Core → Core
-enrol class name c =
-    record (writes (start_line (suc c.started) name) (new_cell (Single None []) c)) {
-      entries = added c.entries (suc c.started) (entry_of class (suc c.made));
+abbrev pub enrol_with : (class : ℕ) → List ℕ → (result : Option ℕ) → Core → Core
+enrol_with class name result c =
+    record (writes (start_line (suc c.started) name) c) {
+      entries = added c.entries (suc c.started) (entry_of class result);
       started = suc c.started;
       tasks = Run (suc c.started) ∷ c.tasks;
     }
+
+abbrev pub enrol : (class : ℕ) → List ℕ → Core → Core
+enrol class name c = enrol_with class name (Some (suc c.made)) (new_cell (Single None []) c)
 
 -- The call of an actor: a turn, and the new actor runs; its result is then stored or kept, and the caller goes on.
 abbrev pub start_core : (actor : ℕ) → Goal → (class : ℕ) → List ℕ → Core → Core
 start_core i goal class name c = turn c (λ d. enrol class name (push_result i (result_task i goal (RefValue kind.Future (suc d.made))) d))
 
+-- The call of a void actor: a turn, and the new actor runs; then the caller goes on.
+abbrev pub start_void : (actor class : ℕ) → List ℕ → Core → Core
+start_void i class name c = turn c (λ d. enrol_with class name None (pushed (Run i) d))
+
 abbrev pub start : {A : Type 0} → Engine A → (actor : ℕ) → Goal → (class : ℕ) → Option A → Proc A → Stepped A
 start e i goal class None p = stuck p
 start e i goal class (Some a) p = silent (proc (start_core i goal class (e.label class) p.core) (added p.actors (suc p.core.started) a))
+
+abbrev pub start_alone : {A : Type 0} → Engine A → (actor class : ℕ) → Option A → Proc A → Stepped A
+start_alone e i class None p = stuck p
+start_alone e i class (Some a) p = silent (proc (start_void i class (e.label class) p.core) (added p.actors (suc p.core.started) a))
 
 -- the process answers an ask
 abbrev pub reacted : {A : Type 0} → Numbered A → Reaction → Stepped A
@@ -74,6 +86,7 @@ answer_effect e s i goal eff p = reacted p.actors (react s i (Effects goal eff) 
 
 abbrev pub answer : {A : Type 0} → Engine A → Supply → (actor : ℕ) → Act → Proc A → Stepped A
 answer e s i (Effects goal eff) p = answer_effect e s i goal eff p
+answer e s i (Starts class args) p = start_alone e i class (e.fresh class args) p
 answer e s i act p = reacted p.actors (react s i act p.core)
 
 -- The task Run: the actor asks for nothing and goes on, or the process answers.

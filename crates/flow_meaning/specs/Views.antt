@@ -72,9 +72,9 @@ Frames p = unfinished frame_spot p.actors p.core.entries
 abbrev pub Callbacks : Proc Frame → List WaitingBranch
 Callbacks p = waiting frame_spot p.actors p.core.entries
 
--- Each unfinished actor is uncancelled, and a future refers to its result.
+-- Each unfinished actor is uncancelled, and a future refers to its result, which a void one has none of.
 abbrev pub IsReferred : Option ℕ → (ℕ → ℕ) → Type 0
-IsReferred None futures = ⊥
+IsReferred None futures = Unit {0}
 IsReferred (Some k) futures = 0 < futures k
 
 abbrev pub AllReferred : (ℕ → ℕ) → Numbered Entry → Type 0

@@ -25,7 +25,7 @@ overflow_caught_program = record {
     params = ((record { ty = IntType; name = (id (codes "p")) }) ∷ []);
     body = (TryStmt nowhere (DeclareStmt nowhere (record { state = false; ty = IntType; name = (id (codes "x")) }) (Some (IntExpr (pos 9223372036854775807)))
         (CallStmt nowhere ((id (codes "trace")) ∷ []) (MoreExprs (BinaryExpr Add (VarExpr (id (codes "x"))) (IntExpr (pos 1))) NoExprs) End)) nowhere (id (codes "e"))
-        (CallStmt nowhere ((id (codes "trace")) ∷ []) (MoreExprs (MethodExpr (VarExpr (id (codes "e"))) (ByName (id (codes "code"))) NoExprs) NoExprs) End) (ReturnStmt nowhere VoidExpr End));
+        (CallStmt nowhere ((id (codes "trace")) ∷ []) (MoreExprs (MethodExpr (VarExpr (id (codes "e"))) (ByName (id (codes "code"))) NoExprs) NoExprs) End) (ReturnStmt nowhere (Some VoidExpr) End));
     close = nowhere;
   }))
       ∷ []);
@@ -53,7 +53,7 @@ overflow_caught_classes = record {
           catcher = None;
           body = ((ActInstr ((id (codes "trace")) ∷ []) (MoreExprs (MethodExpr (VarExpr (id (codes "l1"))) (ByName (id (codes "code"))) NoExprs) NoExprs)) ∷ (DropInstr (1 ∷ [])) ∷ []);
           last = (GotoLast 3);
-        }) ∷ (record { catcher = None; body = []; last = (ReturnLast VoidExpr) }) ∷ []);
+        }) ∷ (record { catcher = None; body = []; last = (ReturnLast (Some VoidExpr)) }) ∷ []);
     groups = [];
   }) ∷ []);
 }
@@ -70,7 +70,7 @@ state_in_loop_program = record {
         (DeclareStmt nowhere (record { state = true; ty = IntType; name = (id (codes "i")) }) (Some (BinaryExpr Mul (VarExpr (id (codes "n"))) (IntExpr (pos 10))))
         (WaitStmt nowhere (record { into = None; next = false; operand = (CallExpr (id (codes "delay")) (MoreExprs (IntExpr (pos 1)) NoExprs)) })
         (CallStmt nowhere ((id (codes "trace")) ∷ []) (MoreExprs (VarExpr (id (codes "i"))) NoExprs)
-        (AssignStmt nowhere ((id (codes "n")) ∷ []) (BinaryExpr Add (VarExpr (id (codes "n"))) (IntExpr (pos 1))) End)))) (ReturnStmt nowhere VoidExpr End)));
+        (AssignStmt nowhere ((id (codes "n")) ∷ []) (BinaryExpr Add (VarExpr (id (codes "n"))) (IntExpr (pos 1))) End)))) (ReturnStmt nowhere (Some VoidExpr) End)));
     close = nowhere;
   })) ∷ []);
   end = nowhere;
@@ -96,7 +96,7 @@ state_in_loop_classes = record {
               ∷ (SetInstr ((id (codes "s1")) ∷ []) (BinaryExpr Add (VarExpr (id (codes "s1"))) (IntExpr (pos 1)))) ∷ []);
           last = (PassLast 1);
         })
-        ∷ (record { catcher = None; body = []; last = (ReturnLast VoidExpr) }) ∷ []);
+        ∷ (record { catcher = None; body = []; last = (ReturnLast (Some VoidExpr)) }) ∷ []);
     groups = (((record { next = false; operand = (CallExpr (id (codes "delay")) (MoreExprs (IntExpr (pos 1)) NoExprs)); into = None; block = 3 }) ∷ []) ∷ []);
   }) ∷ []);
 }
@@ -109,7 +109,7 @@ second_operand_never_starts_program = record {
         returns = IntType;
         name = (id (codes "one"));
         params = ((record { ty = IntType; name = (id (codes "v")) }) ∷ []);
-        body = (ReturnStmt nowhere (VarExpr (id (codes "v"))) End);
+        body = (ReturnStmt nowhere (Some (VarExpr (id (codes "v")))) End);
         close = nowhere;
       }))
       ∷ (ActorDecl (record {
@@ -127,7 +127,7 @@ second_operand_never_starts_program = record {
               next = false;
               operand = (CallExpr (id (codes "one")) (MoreExprs (IntExpr (pos 8)) NoExprs));
             }) (CallStmt nowhere ((id (codes "trace")) ∷ []) (MoreExprs (VarExpr (id (codes "y"))) NoExprs) End) NoBranches))
-            (ReturnStmt nowhere VoidExpr End));
+            (ReturnStmt nowhere (Some VoidExpr) End));
         close = nowhere;
       })) ∷ []);
   end = nowhere;
@@ -143,7 +143,7 @@ second_operand_never_starts_classes = record {
     params = 1;
     slots = ((record { ty = IntType; name = (codes "v") }) ∷ []);
     locals = [];
-    blocks = ((record { catcher = None; body = []; last = (ReturnLast (VarExpr (id (codes "s0")))) }) ∷ []);
+    blocks = ((record { catcher = None; body = []; last = (ReturnLast (Some (VarExpr (id (codes "s0"))))) }) ∷ []);
     groups = [];
   })
       ∷ (record {
@@ -155,7 +155,7 @@ second_operand_never_starts_classes = record {
         blocks = ((record { catcher = None; body = []; last = (ChooseLast 1) })
             ∷ (record { catcher = None; body = ((ActInstr ((id (codes "trace")) ∷ []) (MoreExprs (VarExpr (id (codes "l0"))) NoExprs)) ∷ (DropInstr (0 ∷ [])) ∷ []); last = (GotoLast 3) })
             ∷ (record { catcher = None; body = ((ActInstr ((id (codes "trace")) ∷ []) (MoreExprs (VarExpr (id (codes "l1"))) NoExprs)) ∷ (DropInstr (1 ∷ [])) ∷ []); last = (GotoLast 3) })
-            ∷ (record { catcher = None; body = []; last = (ReturnLast VoidExpr) }) ∷ []);
+            ∷ (record { catcher = None; body = []; last = (ReturnLast (Some VoidExpr)) }) ∷ []);
         groups = (((record { next = false; operand = (CallExpr (id (codes "one")) (MoreExprs (IntExpr (pos 7)) NoExprs)); into = (Some (Local 0)); block = 1 })
             ∷ (record { next = false; operand = (CallExpr (id (codes "one")) (MoreExprs (IntExpr (pos 8)) NoExprs)); into = (Some (Local 1)); block = 2 }) ∷ []) ∷ []);
       }) ∷ []);

@@ -28,7 +28,7 @@ break_out_of_try_program = record {
         (IfStmt nowhere (BinaryExpr Eq (VarExpr (id (codes "a"))) (IntExpr (pos 2)))
         (DeclareStmt nowhere (record { state = false; ty = IntType; name = (id (codes "b")) }) (Some (VarExpr (id (codes "a")))) (BreakStmt nowhere End))
         (AssignStmt nowhere ((id (codes "n")) ∷ []) (BinaryExpr Add (VarExpr (id (codes "a"))) (IntExpr (pos 1))) (ContinueStmt nowhere End)))) nowhere (id (codes "e"))
-        (CallStmt nowhere ((id (codes "trace")) ∷ []) (MoreExprs (MethodExpr (VarExpr (id (codes "e"))) (ByName (id (codes "code"))) NoExprs) NoExprs) End) End) (ReturnStmt nowhere VoidExpr End)));
+        (CallStmt nowhere ((id (codes "trace")) ∷ []) (MoreExprs (MethodExpr (VarExpr (id (codes "e"))) (ByName (id (codes "code"))) NoExprs) NoExprs) End) End) (ReturnStmt nowhere (Some VoidExpr) End)));
     close = nowhere;
   })) ∷ []);
   end = nowhere;
@@ -67,7 +67,7 @@ break_out_of_try_classes = record {
           catcher = None;
           body = ((ActInstr ((id (codes "trace")) ∷ []) (MoreExprs (MethodExpr (VarExpr (id (codes "l2"))) (ByName (id (codes "code"))) NoExprs) NoExprs)) ∷ (DropInstr (2 ∷ [])) ∷ []);
           last = (GotoLast 8);
-        }) ∷ (record { catcher = None; body = []; last = (PassLast 1) }) ∷ (record { catcher = None; body = []; last = (ReturnLast VoidExpr) }) ∷ []);
+        }) ∷ (record { catcher = None; body = []; last = (PassLast 1) }) ∷ (record { catcher = None; body = []; last = (ReturnLast (Some VoidExpr)) }) ∷ []);
     groups = [];
   }) ∷ []);
 }
@@ -146,7 +146,7 @@ nested_chooses_program = record {
         (MoreBranches nowhere (record { into = None; next = false; operand = (CallExpr (id (codes "delay")) (MoreExprs (IntExpr (pos 2)) NoExprs)) })
         (CallStmt nowhere ((id (codes "trace")) ∷ []) (MoreExprs (TextExpr (codes "inner")) NoExprs) End) NoBranches)) End)
         (MoreBranches nowhere (record { into = None; next = false; operand = (VarExpr (id (codes "slow"))) })
-        (CallStmt nowhere ((id (codes "trace")) ∷ []) (MoreExprs (TextExpr (codes "outer")) NoExprs) End) NoBranches)) (ReturnStmt nowhere VoidExpr End)));
+        (CallStmt nowhere ((id (codes "trace")) ∷ []) (MoreExprs (TextExpr (codes "outer")) NoExprs) End) NoBranches)) (ReturnStmt nowhere (Some VoidExpr) End)));
     close = nowhere;
   })) ∷ []);
   end = nowhere;
@@ -168,7 +168,7 @@ nested_chooses_classes = record {
         ∷ (record { catcher = None; body = ((ActInstr ((id (codes "trace")) ∷ []) (MoreExprs (TextExpr (codes "inner")) NoExprs)) ∷ []); last = (GotoLast 4) })
         ∷ (record { catcher = None; body = []; last = (GotoLast 6) }) ∷
         (record { catcher = None; body = ((ActInstr ((id (codes "trace")) ∷ []) (MoreExprs (TextExpr (codes "outer")) NoExprs)) ∷ []); last = (GotoLast 6) })
-        ∷ (record { catcher = None; body = []; last = (ReturnLast VoidExpr) }) ∷ []);
+        ∷ (record { catcher = None; body = []; last = (ReturnLast (Some VoidExpr)) }) ∷ []);
     groups = (((record { next = false; operand = (CallExpr (id (codes "delay")) (MoreExprs (IntExpr (pos 1)) NoExprs)); into = None; block = 1 })
         ∷ (record { next = false; operand = (VarExpr (id (codes "s1"))); into = None; block = 5 }) ∷ [])
         ∷ ((record { next = false; operand = (VarExpr (id (codes "s1"))); into = None; block = 2 })
@@ -223,7 +223,7 @@ effect_as_step_program = record {
     returns = IntType;
     name = (id (codes "one"));
     params = ((record { ty = IntType; name = (id (codes "v")) }) ∷ []);
-    body = (ReturnStmt nowhere (VarExpr (id (codes "v"))) End);
+    body = (ReturnStmt nowhere (Some (VarExpr (id (codes "v")))) End);
     close = nowhere;
   }))
       ∷ (ActorDecl (record {
@@ -236,7 +236,7 @@ effect_as_step_program = record {
             (Some (BinaryExpr Lt (MethodExpr (VarExpr (id (codes "f"))) (ByName (id (codes "get"))) NoExprs) (IntExpr (pos 2))))
             (AssignStmt nowhere ((id (codes "f")) ∷ []) (CallExpr (id (codes "one")) (MoreExprs (VarExpr (id (codes "i"))) NoExprs)) End)
             (ModifyStmt nowhere ((id (codes "i")) ∷ []) (PlusChange (IntExpr (pos 1)))
-            (CallStmt nowhere ((id (codes "trace")) ∷ []) (MoreExprs (MethodExpr (VarExpr (id (codes "f"))) (ByName (id (codes "get"))) NoExprs) NoExprs) End)) (ReturnStmt nowhere VoidExpr End)));
+            (CallStmt nowhere ((id (codes "trace")) ∷ []) (MoreExprs (MethodExpr (VarExpr (id (codes "f"))) (ByName (id (codes "get"))) NoExprs) NoExprs) End)) (ReturnStmt nowhere (Some VoidExpr) End)));
         close = nowhere;
       }))
       ∷ []);
@@ -253,7 +253,7 @@ effect_as_step_classes = record {
     params = 1;
     slots = ((record { ty = IntType; name = (codes "v") }) ∷ []);
     locals = [];
-    blocks = ((record { catcher = None; body = []; last = (ReturnLast (VarExpr (id (codes "s0")))) }) ∷ []);
+    blocks = ((record { catcher = None; body = []; last = (ReturnLast (Some (VarExpr (id (codes "s0"))))) }) ∷ []);
     groups = [];
   })
       ∷ (record {
@@ -276,7 +276,7 @@ effect_as_step_classes = record {
                   ∷ (EffectInstr ((id (codes "l0")) ∷ []) (CallExpr (id (codes "one")) (MoreExprs (VarExpr (id (codes "l1"))) NoExprs))) ∷ []);
               last = (PassLast 1);
             })
-            ∷ (record { catcher = None; body = ((DropInstr (1 ∷ [])) ∷ []); last = (GotoLast 4) }) ∷ (record { catcher = None; body = []; last = (ReturnLast VoidExpr) }) ∷ []);
+            ∷ (record { catcher = None; body = ((DropInstr (1 ∷ [])) ∷ []); last = (GotoLast 4) }) ∷ (record { catcher = None; body = []; last = (ReturnLast (Some VoidExpr)) }) ∷ []);
         groups = [];
       }) ∷ []);
 }
@@ -328,7 +328,7 @@ dead_code_program = record {
     params = ((record { ty = IntType; name = (id (codes "p")) }) ∷ []);
     body = (WhileStmt nowhere (BoolExpr true) (CallStmt nowhere ((id (codes "trace")) ∷ []) (MoreExprs (TextExpr (codes "once")) NoExprs)
         (BreakStmt nowhere (WaitStmt nowhere (record { into = None; next = false; operand = (CallExpr (id (codes "delay")) (MoreExprs (IntExpr (pos 1)) NoExprs)) }) End)))
-        (ReturnStmt nowhere VoidExpr (WaitStmt nowhere (record { into = None; next = false; operand = (CallExpr (id (codes "delay")) (MoreExprs (IntExpr (pos 2)) NoExprs)) })
+        (ReturnStmt nowhere (Some VoidExpr) (WaitStmt nowhere (record { into = None; next = false; operand = (CallExpr (id (codes "delay")) (MoreExprs (IntExpr (pos 2)) NoExprs)) })
         (CallStmt nowhere ((id (codes "trace")) ∷ []) (MoreExprs (TextExpr (codes "never")) NoExprs) End))));
     close = nowhere;
   })) ∷ []);
@@ -348,7 +348,7 @@ dead_code_classes = record {
     blocks = ((record { catcher = None; body = []; last = (PassLast 1) }) ∷ (record { catcher = None; body = []; last = (TestLast (BoolExpr true) 2 5) })
         ∷ (record { catcher = None; body = ((ActInstr ((id (codes "trace")) ∷ []) (MoreExprs (TextExpr (codes "once")) NoExprs)) ∷ []); last = (GotoLast 5) })
         ∷ (record { catcher = None; body = []; last = (ChooseLast 1) }) ∷ (record { catcher = None; body = []; last = (PassLast 1) })
-        ∷ (record { catcher = None; body = []; last = (ReturnLast VoidExpr) })
+        ∷ (record { catcher = None; body = []; last = (ReturnLast (Some VoidExpr)) })
         ∷ (record { catcher = None; body = []; last = (ChooseLast 2) })
         ∷ (record {
           catcher = None;
@@ -431,7 +431,7 @@ catch_around_loop_program = record {
         (DeclareStmt nowhere (record { state = false; ty = IntType; name = (id (codes "after")) }) (Some (VarExpr (id (codes "n"))))
         (IfStmt nowhere (BinaryExpr Gt (VarExpr (id (codes "after"))) (IntExpr (pos 2))) (ThrowStmt nowhere (Some (CallExpr (id (codes "timed_out")) NoExprs)) End) End))))) End) nowhere
         (id (codes "e"))
-        (CallStmt nowhere ((id (codes "trace")) ∷ []) (MoreExprs (MethodExpr (VarExpr (id (codes "e"))) (ByName (id (codes "code"))) NoExprs) NoExprs) End) (ReturnStmt nowhere VoidExpr End)));
+        (CallStmt nowhere ((id (codes "trace")) ∷ []) (MoreExprs (MethodExpr (VarExpr (id (codes "e"))) (ByName (id (codes "code"))) NoExprs) NoExprs) End) (ReturnStmt nowhere (Some VoidExpr) End)));
     close = nowhere;
   }))
       ∷ []);
@@ -465,7 +465,7 @@ catch_around_loop_classes = record {
           catcher = None;
           body = ((ActInstr ((id (codes "trace")) ∷ []) (MoreExprs (MethodExpr (VarExpr (id (codes "l2"))) (ByName (id (codes "code"))) NoExprs) NoExprs)) ∷ (DropInstr (2 ∷ [])) ∷ []);
           last = (GotoLast 8);
-        }) ∷ (record { catcher = None; body = []; last = (ReturnLast VoidExpr) }) ∷ []);
+        }) ∷ (record { catcher = None; body = []; last = (ReturnLast (Some VoidExpr)) }) ∷ []);
     groups = (((record { next = false; operand = (CallExpr (id (codes "delay")) (MoreExprs (IntExpr (pos 1)) NoExprs)); into = None; block = 3 }) ∷ []) ∷ []);
   }) ∷ []);
 }

@@ -37,7 +37,7 @@ coded is = record {
   params = 0;
   slots = [];
   locals = IntType ∷ [];
-  blocks = record { catcher = None; body = is; last = ChooseLast 1 } ∷ record { catcher = None; body = []; last = ReturnLast VoidExpr } ∷ [];
+  blocks = record { catcher = None; body = is; last = ChooseLast 1 } ∷ record { catcher = None; body = []; last = ReturnLast (Some VoidExpr) } ∷ [];
   groups = (record { next = false; operand = VarExpr (id (codes "l0")); into = None; block = 1 } ∷ []) ∷ [];
 }
 
@@ -59,7 +59,7 @@ twice_dropped_step v = refl
 abbrev waiting : Actor
 waiting =
     actor (record { states = []; locals = [] })
-    (Do (record { spot = record { group = 1; first = 0 }; caught = None }) (WaitStmt nowhere (record { into = None; next = false; operand = VoidExpr }) End) ∷ [])
+    (Do (record { spot = record { group = 1; first = 0 }; caught = None; is_void = false }) (WaitStmt nowhere (record { into = None; next = false; operand = VoidExpr }) End) ∷ [])
 
 no_other_branch : (n : ℕ) (u : ValueTree) → source.take_at (suc n) u waiting waiting.rest ≡ ([], waiting)
 no_other_branch n u = refl
@@ -71,7 +71,7 @@ no_other_callback n u m = refl
 abbrev assigning : Actor
 assigning =
     actor (record { states = (codes "a", Some (IntValue (pos 1))) ∷ []; locals = [] })
-    (Do (record { spot = record { group = 1; first = 0 }; caught = None }) (AssignStmt nowhere (id (codes "b") ∷ []) (IntExpr (pos 2)) End) ∷ [])
+    (Do (record { spot = record { group = 1; first = 0 }; caught = None; is_void = false }) (AssignStmt nowhere (id (codes "b") ∷ []) (IntExpr (pos 2)) End) ∷ [])
 
 no_variable : (v : View) → text.next_step no_names v assigning ≡ stuck assigning
 no_variable v = refl

@@ -34,7 +34,7 @@ abbrev waited : ExprTree → WaitTree
 waited e = record { into = None; next = false; operand = e }
 
 abbrev returning : Body
-returning = ReturnStmt nowhere VoidExpr End
+returning = ReturnStmt nowhere (Some VoidExpr) End
 
 abbrev branches : Branches
 branches = MoreBranches nowhere (waited (VarExpr (id (codes "slow")))) End (MoreBranches nowhere (waited (delay 9)) End NoBranches)
@@ -75,7 +75,7 @@ small_class = record {
       ∷ record { catcher = None; body = []; last = ChooseLast 2 }
       ∷ record { catcher = None; body = []; last = GotoLast 7 }
       ∷ record { catcher = None; body = []; last = GotoLast 7 }
-      ∷ record { catcher = None; body = []; last = ReturnLast VoidExpr }
+      ∷ record { catcher = None; body = []; last = ReturnLast (Some VoidExpr) }
       ∷ [];
   groups = (callback (delay 1) 2 ∷ []) ∷ (callback (VarExpr (id (codes "s1"))) 5 ∷ callback (delay 9) 6 ∷ []) ∷ [];
 }
@@ -103,10 +103,10 @@ data Stage : Type 0 where
   Ended : Stage
 
 abbrev site : (group first : ℕ) → Site
-site g n = record { spot = record { group = g; first = n }; caught = None }
+site g n = record { spot = record { group = g; first = n }; caught = None; is_void = false }
 
 abbrev handled : List Item → List Item
-handled r = Handler (codes "e") (record { spot = record { group = 2; first = 1 }; caught = Some (codes "e") }) End ∷ r
+handled r = Handler (codes "e") (record { spot = record { group = 2; first = 1 }; caught = Some (codes "e"); is_void = false }) End ∷ r
 
 abbrev with_vars : Option ValueTree → Option ValueTree → List (Local (Option ValueTree)) → List Item → Actor
 with_vars x y ls r = actor (record { states = (codes "p", x) ∷ (codes "slow", y) ∷ []; locals = ls }) r
@@ -124,7 +124,7 @@ source_at Leaves x y err = with_vars x y (Mark ∷ []) (Leave ∷ handled (Do (s
 source_at Past x y err = with_vars x y [] (handled (Do (site 2 1) choosing ∷ []))
 source_at Behind x y err = with_vars x y [] (Do (site 2 1) choosing ∷ [])
 source_at Caught x y err =
-    with_vars x y (caught_error err) (Do (record { spot = record { group = 2; first = 1 }; caught = Some (codes "e") }) End ∷ Leave ∷ Do (site 2 1) choosing ∷ [])
+    with_vars x y (caught_error err) (Do (record { spot = record { group = 2; first = 1 }; caught = Some (codes "e"); is_void = false }) End ∷ Leave ∷ Do (site 2 1) choosing ∷ [])
 source_at Dropping x y err = with_vars x y (caught_error err) (Leave ∷ Do (site 2 1) choosing ∷ [])
 source_at Dropped x y err = with_vars x y [] (Do (site 2 1) choosing ∷ [])
 source_at Chooses x y err = with_vars x y [] (Do (site 2 1) choosing ∷ [])

@@ -4,6 +4,8 @@ pub mod RowsWaits
 pub mod RowsCancel
 pub mod RowsStreams
 pub mod RowsWorld
+pub mod RowsVectors
+pub mod RowsVoid
 pub mod RowsViews
 pub mod RowsOrder
 mod CarriedExamples

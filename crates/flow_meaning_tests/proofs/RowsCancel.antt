@@ -26,7 +26,7 @@ dropped_while_running_program = record {
     body = (WaitStmt nowhere (record { into = None; next = false; operand = (CallExpr (id (codes "delay")) (MoreExprs (IntExpr (pos 1)) NoExprs)) })
         (CallStmt nowhere ((id (codes "go")) ∷ (id (codes "send")) ∷ []) (MoreExprs VoidExpr NoExprs)
         (CallStmt nowhere ((id (codes "trace")) ∷ []) (MoreExprs (TextExpr (codes "still running")) NoExprs)
-        (WaitStmt nowhere (record { into = None; next = false; operand = (CallExpr (id (codes "Never")) NoExprs) }) (ReturnStmt nowhere VoidExpr End)))));
+        (WaitStmt nowhere (record { into = None; next = false; operand = (CallExpr (id (codes "Never")) NoExprs) }) (ReturnStmt nowhere (Some VoidExpr) End)))));
     close = nowhere;
   }))
       ∷ (ActorDecl (record {
@@ -38,7 +38,7 @@ dropped_while_running_program = record {
             (DeclareStmt nowhere (record { state = true; ty = (FutureType VoidType); name = (id (codes "f")) }) (Some (CallExpr (id (codes "a")) (MoreExprs (VarExpr (id (codes "go"))) NoExprs)))
             (WaitStmt nowhere (record { into = None; next = false; operand = (MethodExpr (VarExpr (id (codes "go"))) (ByName (id (codes "getFuture"))) NoExprs) })
             (AssignStmt nowhere ((id (codes "f")) ∷ []) (CallExpr (id (codes "Never")) NoExprs)
-            (CallStmt nowhere ((id (codes "trace")) ∷ []) (MoreExprs (TextExpr (codes "dropped")) NoExprs) (ReturnStmt nowhere VoidExpr End))))));
+            (CallStmt nowhere ((id (codes "trace")) ∷ []) (MoreExprs (TextExpr (codes "dropped")) NoExprs) (ReturnStmt nowhere (Some VoidExpr) End))))));
         close = nowhere;
       })) ∷ []);
   end = nowhere;
@@ -87,7 +87,7 @@ dropped_while_running_classes = record {
               ∷ (ActInstr ((id (codes "trace")) ∷ []) (MoreExprs (TextExpr (codes "still running")) NoExprs)) ∷ []);
           last = (ChooseLast 2);
         })
-        ∷ (record { catcher = None; body = []; last = (ReturnLast VoidExpr) }) ∷ []);
+        ∷ (record { catcher = None; body = []; last = (ReturnLast (Some VoidExpr)) }) ∷ []);
     groups = (((record { next = false; operand = (CallExpr (id (codes "delay")) (MoreExprs (IntExpr (pos 1)) NoExprs)); into = None; block = 1 }) ∷ [])
         ∷ ((record { next = false; operand = (CallExpr (id (codes "Never")) NoExprs); into = None; block = 2 }) ∷ []) ∷ []);
   })
@@ -106,7 +106,7 @@ dropped_while_running_classes = record {
           catcher = None;
           body = ((EffectInstr ((id (codes "s2")) ∷ []) (CallExpr (id (codes "Never")) NoExprs))
               ∷ (ActInstr ((id (codes "trace")) ∷ []) (MoreExprs (TextExpr (codes "dropped")) NoExprs)) ∷ []);
-          last = (ReturnLast VoidExpr);
+          last = (ReturnLast (Some VoidExpr));
         }) ∷ []);
         groups = (((record { next = false; operand = (MethodExpr (VarExpr (id (codes "s1"))) (ByName (id (codes "getFuture"))) NoExprs); into = None; block = 1 }) ∷ []) ∷ []);
       }) ∷ []);
@@ -124,7 +124,7 @@ stop_cancels_in_order_program = record {
     returns = VoidType;
     name = (id (codes "leaf"));
     params = ((record { ty = IntType; name = (id (codes "n")) }) ∷ []);
-    body = (WaitStmt nowhere (record { into = None; next = false; operand = (CallExpr (id (codes "Never")) NoExprs) }) (ReturnStmt nowhere VoidExpr End));
+    body = (WaitStmt nowhere (record { into = None; next = false; operand = (CallExpr (id (codes "Never")) NoExprs) }) (ReturnStmt nowhere (Some VoidExpr) End));
     close = nowhere;
   }))
       ∷ (ActorDecl (record {
@@ -135,7 +135,7 @@ stop_cancels_in_order_program = record {
         body = (DeclareStmt nowhere (record { state = true; ty = (FutureType VoidType); name = (id (codes "x")) }) (Some (CallExpr (id (codes "leaf")) (MoreExprs (IntExpr (pos 1)) NoExprs)))
             (DeclareStmt nowhere (record { state = true; ty = (FutureType VoidType); name = (id (codes "y")) }) (Some (CallExpr (id (codes "leaf")) (MoreExprs (IntExpr (pos 2)) NoExprs)))
             (DeclareStmt nowhere (record { state = true; ty = (FutureType VoidType); name = (id (codes "z")) }) (Some (CallExpr (id (codes "leaf")) (MoreExprs (IntExpr (pos 3)) NoExprs)))
-            (WaitStmt nowhere (record { into = None; next = false; operand = (CallExpr (id (codes "Never")) NoExprs) }) (ReturnStmt nowhere VoidExpr End)))));
+            (WaitStmt nowhere (record { into = None; next = false; operand = (CallExpr (id (codes "Never")) NoExprs) }) (ReturnStmt nowhere (Some VoidExpr) End)))));
         close = nowhere;
       })) ∷ []);
   end = nowhere;
@@ -185,7 +185,7 @@ stop_cancels_in_order_classes = record {
     params = 1;
     slots = ((record { ty = IntType; name = (codes "n") }) ∷ []);
     locals = [];
-    blocks = ((record { catcher = None; body = []; last = (ChooseLast 1) }) ∷ (record { catcher = None; body = []; last = (ReturnLast VoidExpr) }) ∷ []);
+    blocks = ((record { catcher = None; body = []; last = (ChooseLast 1) }) ∷ (record { catcher = None; body = []; last = (ReturnLast (Some VoidExpr)) }) ∷ []);
     groups = (((record { next = false; operand = (CallExpr (id (codes "Never")) NoExprs); into = None; block = 1 }) ∷ []) ∷ []);
   })
       ∷ (record {
@@ -202,7 +202,7 @@ stop_cancels_in_order_classes = record {
               ∷ (EffectInstr ((id (codes "s3")) ∷ []) (CallExpr (id (codes "leaf")) (MoreExprs (IntExpr (pos 3)) NoExprs))) ∷ []);
           last = (ChooseLast 1);
         })
-            ∷ (record { catcher = None; body = []; last = (ReturnLast VoidExpr) }) ∷ []);
+            ∷ (record { catcher = None; body = []; last = (ReturnLast (Some VoidExpr)) }) ∷ []);
         groups = (((record { next = false; operand = (CallExpr (id (codes "Never")) NoExprs); into = None; block = 1 }) ∷ []) ∷ []);
       }) ∷ []);
 }
@@ -219,7 +219,7 @@ cancel_by_name_program = record {
     returns = VoidType;
     name = (id (codes "leaf"));
     params = ((record { ty = IntType; name = (id (codes "n")) }) ∷ []);
-    body = (WaitStmt nowhere (record { into = None; next = false; operand = (CallExpr (id (codes "Never")) NoExprs) }) (ReturnStmt nowhere VoidExpr End));
+    body = (WaitStmt nowhere (record { into = None; next = false; operand = (CallExpr (id (codes "Never")) NoExprs) }) (ReturnStmt nowhere (Some VoidExpr) End));
     close = nowhere;
   }))
       ∷ (ActorDecl (record {
@@ -229,7 +229,7 @@ cancel_by_name_program = record {
         params = ((record { ty = IntType; name = (id (codes "p")) }) ∷ []);
         body = (DeclareStmt nowhere (record { state = true; ty = (FutureType VoidType); name = (id (codes "f")) }) (Some (CallExpr (id (codes "leaf")) (MoreExprs (IntExpr (pos 1)) NoExprs)))
             (CallStmt nowhere ((id (codes "f")) ∷ (id (codes "cancel")) ∷ []) NoExprs
-            (CallStmt nowhere ((id (codes "trace")) ∷ []) (MoreExprs (MethodExpr (VarExpr (id (codes "f"))) (ByName (id (codes "isError"))) NoExprs) NoExprs) (ReturnStmt nowhere VoidExpr End))));
+            (CallStmt nowhere ((id (codes "trace")) ∷ []) (MoreExprs (MethodExpr (VarExpr (id (codes "f"))) (ByName (id (codes "isError"))) NoExprs) NoExprs) (ReturnStmt nowhere (Some VoidExpr) End))));
         close = nowhere;
       }))
       ∷ []);

@@ -23,7 +23,7 @@ timer_turns_5_program = record {
     returns = VoidType;
     name = (id (codes "main"));
     params = ((record { ty = IntType; name = (id (codes "p")) }) ∷ []);
-    body = (WaitStmt nowhere (record { into = None; next = false; operand = (CallExpr (id (codes "delay")) (MoreExprs (IntExpr (pos 1)) NoExprs)) }) (ReturnStmt nowhere VoidExpr End));
+    body = (WaitStmt nowhere (record { into = None; next = false; operand = (CallExpr (id (codes "delay")) (MoreExprs (IntExpr (pos 1)) NoExprs)) }) (ReturnStmt nowhere (Some VoidExpr) End));
     close = nowhere;
   })) ∷ []);
   end = nowhere;
@@ -55,7 +55,7 @@ timer_turns_6_program = record {
     returns = VoidType;
     name = (id (codes "main"));
     params = ((record { ty = IntType; name = (id (codes "p")) }) ∷ []);
-    body = (WaitStmt nowhere (record { into = None; next = false; operand = (CallExpr (id (codes "delay")) (MoreExprs (IntExpr (pos 1)) NoExprs)) }) (ReturnStmt nowhere VoidExpr End));
+    body = (WaitStmt nowhere (record { into = None; next = false; operand = (CallExpr (id (codes "delay")) (MoreExprs (IntExpr (pos 1)) NoExprs)) }) (ReturnStmt nowhere (Some VoidExpr) End));
     close = nowhere;
   })) ∷ []);
   end = nowhere;
@@ -88,7 +88,7 @@ second_test_program = record {
     name = (id (codes "starter"));
     params = ((record { ty = (PromiseType VoidType); name = (id (codes "q")) }) ∷ []);
     body = (CallStmt nowhere ((id (codes "q")) ∷ (id (codes "send")) ∷ []) (MoreExprs VoidExpr NoExprs)
-        (WaitStmt nowhere (record { into = None; next = false; operand = (CallExpr (id (codes "Never")) NoExprs) }) (ReturnStmt nowhere VoidExpr End)));
+        (WaitStmt nowhere (record { into = None; next = false; operand = (CallExpr (id (codes "Never")) NoExprs) }) (ReturnStmt nowhere (Some VoidExpr) End)));
     close = nowhere;
   }))
       ∷ (ActorDecl (record {
@@ -100,7 +100,7 @@ second_test_program = record {
             (ChooseStmt nowhere (MoreBranches nowhere (record { into = None; next = false; operand = (MethodExpr (VarExpr (id (codes "q"))) (ByName (id (codes "getFuture"))) NoExprs) })
             (CallStmt nowhere ((id (codes "trace")) ∷ []) (MoreExprs (TextExpr (codes "first")) NoExprs) End)
             (MoreBranches nowhere (record { into = None; next = false; operand = (CallExpr (id (codes "starter")) (MoreExprs (VarExpr (id (codes "q"))) NoExprs)) })
-            (CallStmt nowhere ((id (codes "trace")) ∷ []) (MoreExprs (TextExpr (codes "second")) NoExprs) End) NoBranches)) (ReturnStmt nowhere VoidExpr End)));
+            (CallStmt nowhere ((id (codes "trace")) ∷ []) (MoreExprs (TextExpr (codes "second")) NoExprs) End) NoBranches)) (ReturnStmt nowhere (Some VoidExpr) End)));
         close = nowhere;
       })) ∷ []);
   end = nowhere;
@@ -136,7 +136,7 @@ own_test_before_second_program = record {
     returns = VoidType;
     name = (id (codes "quick"));
     params = ((record { ty = (PromiseType VoidType); name = (id (codes "q")) }) ∷ []);
-    body = (CallStmt nowhere ((id (codes "q")) ∷ (id (codes "send")) ∷ []) (MoreExprs VoidExpr NoExprs) (ReturnStmt nowhere VoidExpr End));
+    body = (CallStmt nowhere ((id (codes "q")) ∷ (id (codes "send")) ∷ []) (MoreExprs VoidExpr NoExprs) (ReturnStmt nowhere (Some VoidExpr) End));
     close = nowhere;
   }))
       ∷ (ActorDecl (record {
@@ -148,7 +148,7 @@ own_test_before_second_program = record {
             (ChooseStmt nowhere (MoreBranches nowhere (record { into = None; next = false; operand = (MethodExpr (VarExpr (id (codes "q"))) (ByName (id (codes "getFuture"))) NoExprs) })
             (CallStmt nowhere ((id (codes "trace")) ∷ []) (MoreExprs (TextExpr (codes "first")) NoExprs) End)
             (MoreBranches nowhere (record { into = None; next = false; operand = (CallExpr (id (codes "quick")) (MoreExprs (VarExpr (id (codes "q"))) NoExprs)) })
-            (CallStmt nowhere ((id (codes "trace")) ∷ []) (MoreExprs (TextExpr (codes "second")) NoExprs) End) NoBranches)) (ReturnStmt nowhere VoidExpr End)));
+            (CallStmt nowhere ((id (codes "trace")) ∷ []) (MoreExprs (TextExpr (codes "second")) NoExprs) End) NoBranches)) (ReturnStmt nowhere (Some VoidExpr) End)));
         close = nowhere;
       })) ∷ []);
   end = nowhere;
@@ -181,7 +181,7 @@ error_in_second_operand_program = record {
     returns = VoidType;
     name = (id (codes "leaf"));
     params = ((record { ty = IntType; name = (id (codes "n")) }) ∷ []);
-    body = (WaitStmt nowhere (record { into = None; next = false; operand = (CallExpr (id (codes "Never")) NoExprs) }) (ReturnStmt nowhere VoidExpr End));
+    body = (WaitStmt nowhere (record { into = None; next = false; operand = (CallExpr (id (codes "Never")) NoExprs) }) (ReturnStmt nowhere (Some VoidExpr) End));
     close = nowhere;
   }))
       ∷ (ActorDecl (record {
@@ -196,7 +196,7 @@ error_in_second_operand_program = record {
             (MoreBranches nowhere (record { into = None; next = false; operand = (CallExpr (id (codes "delay")) (MoreExprs (BinaryExpr Div (IntExpr (pos 1)) (VarExpr (id (codes "p")))) NoExprs)) })
             End
             NoBranches)) End)) nowhere (id (codes "e")) (CallStmt nowhere ((id (codes "trace")) ∷ []) (MoreExprs (MethodExpr (VarExpr (id (codes "e"))) (ByName (id (codes "code"))) NoExprs) NoExprs) End)
-            (ReturnStmt nowhere VoidExpr End)));
+            (ReturnStmt nowhere (Some VoidExpr) End)));
         close = nowhere;
       })) ∷ []);
   end = nowhere;
@@ -243,7 +243,7 @@ refused_registration_program = record {
     returns = VoidType;
     name = (id (codes "leaf"));
     params = ((record { ty = IntType; name = (id (codes "n")) }) ∷ []);
-    body = (WaitStmt nowhere (record { into = None; next = false; operand = (CallExpr (id (codes "Never")) NoExprs) }) (ReturnStmt nowhere VoidExpr End));
+    body = (WaitStmt nowhere (record { into = None; next = false; operand = (CallExpr (id (codes "Never")) NoExprs) }) (ReturnStmt nowhere (Some VoidExpr) End));
     close = nowhere;
   }))
       ∷ (ActorDecl (record {
@@ -264,7 +264,7 @@ refused_registration_program = record {
               next = true;
               operand = (MethodExpr (VarExpr (id (codes "q"))) (ByName (id (codes "getFuture"))) NoExprs);
             }) End NoBranches))) End) nowhere (id (codes "e"))
-            (CallStmt nowhere ((id (codes "trace")) ∷ []) (MoreExprs (MethodExpr (VarExpr (id (codes "e"))) (ByName (id (codes "code"))) NoExprs) NoExprs) End) (ReturnStmt nowhere VoidExpr End))));
+            (CallStmt nowhere ((id (codes "trace")) ∷ []) (MoreExprs (MethodExpr (VarExpr (id (codes "e"))) (ByName (id (codes "code"))) NoExprs) NoExprs) End) (ReturnStmt nowhere (Some VoidExpr) End))));
         close = nowhere;
       }))
       ∷ []);
@@ -310,7 +310,7 @@ cancelled_while_starting_program = record {
     body = (WaitStmt nowhere (record { into = None; next = false; operand = (VarExpr (id (codes "go"))) })
         (ChooseStmt nowhere (MoreBranches nowhere (record { into = None; next = false; operand = (CallExpr (id (codes "leaf")) (MoreExprs (IntExpr (pos 1)) NoExprs)) }) End
         (MoreBranches nowhere (record { into = None; next = false; operand = (CallExpr (id (codes "poke")) (MoreExprs (VarExpr (id (codes "tell"))) NoExprs)) }) End NoBranches))
-        (ReturnStmt nowhere VoidExpr End)));
+        (ReturnStmt nowhere (Some VoidExpr) End)));
     close = nowhere;
   })) ∷ (ActorDecl
       (record {
@@ -319,7 +319,7 @@ cancelled_while_starting_program = record {
         name = (id (codes "poke"));
         params = ((record { ty = (PromiseType VoidType); name = (id (codes "tell")) }) ∷ []);
         body = (CallStmt nowhere ((id (codes "tell")) ∷ (id (codes "send")) ∷ []) (MoreExprs VoidExpr NoExprs)
-            (WaitStmt nowhere (record { into = None; next = false; operand = (CallExpr (id (codes "Never")) NoExprs) }) (ReturnStmt nowhere VoidExpr End)));
+            (WaitStmt nowhere (record { into = None; next = false; operand = (CallExpr (id (codes "Never")) NoExprs) }) (ReturnStmt nowhere (Some VoidExpr) End)));
         close = nowhere;
       }))
       ∷ (ActorDecl (record {
@@ -327,7 +327,7 @@ cancelled_while_starting_program = record {
         returns = VoidType;
         name = (id (codes "leaf"));
         params = ((record { ty = IntType; name = (id (codes "n")) }) ∷ []);
-        body = (WaitStmt nowhere (record { into = None; next = false; operand = (CallExpr (id (codes "Never")) NoExprs) }) (ReturnStmt nowhere VoidExpr End));
+        body = (WaitStmt nowhere (record { into = None; next = false; operand = (CallExpr (id (codes "Never")) NoExprs) }) (ReturnStmt nowhere (Some VoidExpr) End));
         close = nowhere;
       }))
       ∷ (ActorDecl (record {
@@ -343,7 +343,7 @@ cancelled_while_starting_program = record {
             (Some (CallExpr (id (codes "killer")) (MoreExprs (MethodExpr (VarExpr (id (codes "tell"))) (ByName (id (codes "getFuture"))) NoExprs) (MoreExprs (VarExpr (id (codes "v"))) NoExprs))))
             (AssignStmt nowhere ((id (codes "v")) ∷ []) (CallExpr (id (codes "Never")) NoExprs)
             (CallStmt nowhere ((id (codes "go")) ∷ (id (codes "send")) ∷ []) (MoreExprs VoidExpr NoExprs)
-            (CallStmt nowhere ((id (codes "trace")) ∷ []) (MoreExprs (TextExpr (codes "after")) NoExprs) (ReturnStmt nowhere VoidExpr End))))))));
+            (CallStmt nowhere ((id (codes "trace")) ∷ []) (MoreExprs (TextExpr (codes "after")) NoExprs) (ReturnStmt nowhere (Some VoidExpr) End))))))));
         close = nowhere;
       }))
       ∷ (ActorDecl (record {
@@ -353,7 +353,7 @@ cancelled_while_starting_program = record {
         params = ((record { ty = (FutureType VoidType); name = (id (codes "told")) }) ∷ (record { ty = (FutureType VoidType); name = (id (codes "v")) }) ∷ []);
         body = (WaitStmt nowhere (record { into = None; next = false; operand = (VarExpr (id (codes "told"))) })
             (AssignStmt nowhere ((id (codes "v")) ∷ []) (CallExpr (id (codes "Never")) NoExprs)
-            (CallStmt nowhere ((id (codes "trace")) ∷ []) (MoreExprs (TextExpr (codes "dropped")) NoExprs) (ReturnStmt nowhere VoidExpr End))));
+            (CallStmt nowhere ((id (codes "trace")) ∷ []) (MoreExprs (TextExpr (codes "dropped")) NoExprs) (ReturnStmt nowhere (Some VoidExpr) End))));
         close = nowhere;
       })) ∷ []);
   end = nowhere;
@@ -405,7 +405,7 @@ promise_again_in_loop_program = record {
     name = (id (codes "watch"));
     params = ((record { ty = (FutureType VoidType); name = (id (codes "f")) }) ∷ []);
     body = (TryStmt nowhere (WaitStmt nowhere (record { into = None; next = false; operand = (VarExpr (id (codes "f"))) }) End) nowhere (id (codes "e"))
-        (CallStmt nowhere ((id (codes "trace")) ∷ []) (MoreExprs (MethodExpr (VarExpr (id (codes "e"))) (ByName (id (codes "code"))) NoExprs) NoExprs) End) (ReturnStmt nowhere VoidExpr End));
+        (CallStmt nowhere ((id (codes "trace")) ∷ []) (MoreExprs (MethodExpr (VarExpr (id (codes "e"))) (ByName (id (codes "code"))) NoExprs) NoExprs) End) (ReturnStmt nowhere (Some VoidExpr) End));
     close = nowhere;
   }))
       ∷ (ActorDecl (record {
@@ -418,7 +418,7 @@ promise_again_in_loop_program = record {
             (WhileStmt nowhere (BinaryExpr Lt (VarExpr (id (codes "i"))) (IntExpr (pos 2)))
             (DeclareStmt nowhere (record { state = true; ty = (PromiseType VoidType); name = (id (codes "q")) }) None
             (AssignStmt nowhere ((id (codes "w")) ∷ []) (CallExpr (id (codes "watch")) (MoreExprs (MethodExpr (VarExpr (id (codes "q"))) (ByName (id (codes "getFuture"))) NoExprs) NoExprs))
-            (ModifyStmt nowhere ((id (codes "i")) ∷ []) UpChange End))) (ReturnStmt nowhere VoidExpr End))));
+            (ModifyStmt nowhere ((id (codes "i")) ∷ []) UpChange End))) (ReturnStmt nowhere (Some VoidExpr) End))));
         close = nowhere;
       })) ∷ []);
   end = nowhere;
@@ -465,7 +465,7 @@ own_future_in_a_local_program = record {
     params = ((record { ty = (FutureStreamType (FutureType VoidType)); name = (id (codes "box")) }) ∷ []);
     body = (WaitStmt nowhere (record { into = (Some (record { state = false; ty = (FutureType VoidType); name = (id (codes "me")) })); next = true; operand = (VarExpr (id (codes "box"))) })
         (CallStmt nowhere ((id (codes "trace")) ∷ []) (MoreExprs (MethodExpr (VarExpr (id (codes "me"))) (ByName (id (codes "isReady"))) NoExprs) NoExprs)
-        (WaitStmt nowhere (record { into = None; next = false; operand = (CallExpr (id (codes "Never")) NoExprs) }) (ReturnStmt nowhere VoidExpr End))));
+        (WaitStmt nowhere (record { into = None; next = false; operand = (CallExpr (id (codes "Never")) NoExprs) }) (ReturnStmt nowhere (Some VoidExpr) End))));
     close = nowhere;
   }))
       ∷ (ActorDecl (record {
@@ -479,7 +479,7 @@ own_future_in_a_local_program = record {
             (CallStmt nowhere ((id (codes "box")) ∷ (id (codes "send")) ∷ []) (MoreExprs (VarExpr (id (codes "f"))) NoExprs)
             (CallStmt nowhere ((id (codes "trace")) ∷ []) (MoreExprs (TextExpr (codes "sent")) NoExprs)
             (WaitStmt nowhere (record { into = None; next = false; operand = (CallExpr (id (codes "delay")) (MoreExprs (IntExpr (pos 1)) NoExprs)) })
-            (CallStmt nowhere ((id (codes "trace")) ∷ []) (MoreExprs (TextExpr (codes "later")) NoExprs) (ReturnStmt nowhere VoidExpr End)))))));
+            (CallStmt nowhere ((id (codes "trace")) ∷ []) (MoreExprs (TextExpr (codes "later")) NoExprs) (ReturnStmt nowhere (Some VoidExpr) End)))))));
         close = nowhere;
       })) ∷ []);
   end = nowhere;
@@ -521,7 +521,7 @@ withdrawal_before_branch_program = record {
     returns = VoidType;
     name = (id (codes "leaf"));
     params = ((record { ty = IntType; name = (id (codes "n")) }) ∷ []);
-    body = (WaitStmt nowhere (record { into = None; next = false; operand = (CallExpr (id (codes "Never")) NoExprs) }) (ReturnStmt nowhere VoidExpr End));
+    body = (WaitStmt nowhere (record { into = None; next = false; operand = (CallExpr (id (codes "Never")) NoExprs) }) (ReturnStmt nowhere (Some VoidExpr) End));
     close = nowhere;
   }))
       ∷ (ActorDecl (record {
@@ -533,7 +533,7 @@ withdrawal_before_branch_program = record {
             (MoreBranches nowhere (record { into = None; next = false; operand = (CallExpr (id (codes "delay")) (MoreExprs (IntExpr (pos 1)) NoExprs)) })
             (CallStmt nowhere ((id (codes "trace")) ∷ []) (MoreExprs (TextExpr (codes "branch")) NoExprs) End)
             (MoreBranches nowhere (record { into = None; next = false; operand = (CallExpr (id (codes "leaf")) (MoreExprs (IntExpr (pos 2)) NoExprs)) }) End NoBranches)))
-            (ReturnStmt nowhere VoidExpr End));
+            (ReturnStmt nowhere (Some VoidExpr) End));
         close = nowhere;
       })) ∷ []);
   end = nowhere;
@@ -577,7 +577,7 @@ cancelled_while_closing_program = record {
     name = (id (codes "noisy"));
     params = ((record { ty = (PromiseType VoidType); name = (id (codes "tell")) }) ∷ []);
     body = (TryStmt nowhere (WaitStmt nowhere (record { into = None; next = false; operand = (CallExpr (id (codes "Never")) NoExprs) }) End) nowhere (id (codes "e"))
-        (CallStmt nowhere ((id (codes "tell")) ∷ (id (codes "send")) ∷ []) (MoreExprs VoidExpr NoExprs) End) (ReturnStmt nowhere VoidExpr End));
+        (CallStmt nowhere ((id (codes "tell")) ∷ (id (codes "send")) ∷ []) (MoreExprs VoidExpr NoExprs) End) (ReturnStmt nowhere (Some VoidExpr) End));
     close = nowhere;
   }))
       ∷ (ActorDecl (record {
@@ -587,7 +587,7 @@ cancelled_while_closing_program = record {
         params = ((record { ty = (FutureType VoidType); name = (id (codes "go")) }) ∷ (record { ty = (PromiseType VoidType); name = (id (codes "tell")) }) ∷ []);
         body = (DeclareStmt nowhere (record { state = true; ty = (FutureType VoidType); name = (id (codes "n")) })
             (Some (CallExpr (id (codes "noisy")) (MoreExprs (VarExpr (id (codes "tell"))) NoExprs)))
-            (WaitStmt nowhere (record { into = None; next = false; operand = (VarExpr (id (codes "go"))) }) (ReturnStmt nowhere (IntExpr (pos 7)) End)));
+            (WaitStmt nowhere (record { into = None; next = false; operand = (VarExpr (id (codes "go"))) }) (ReturnStmt nowhere (Some (IntExpr (pos 7))) End)));
         close = nowhere;
       }))
       ∷ (ActorDecl (record {
@@ -597,7 +597,7 @@ cancelled_while_closing_program = record {
         params = ((record { ty = (FutureType VoidType); name = (id (codes "told")) }) ∷ (record { ty = (FutureType IntType); name = (id (codes "c")) }) ∷ []);
         body = (WaitStmt nowhere (record { into = None; next = false; operand = (VarExpr (id (codes "told"))) })
             (AssignStmt nowhere ((id (codes "c")) ∷ []) (CallExpr (id (codes "never")) (MoreExprs (IntExpr (pos 1)) NoExprs))
-            (CallStmt nowhere ((id (codes "trace")) ∷ []) (MoreExprs (TextExpr (codes "gone")) NoExprs) (ReturnStmt nowhere VoidExpr End))));
+            (CallStmt nowhere ((id (codes "trace")) ∷ []) (MoreExprs (TextExpr (codes "gone")) NoExprs) (ReturnStmt nowhere (Some VoidExpr) End))));
         close = nowhere;
       }))
       ∷ (ActorDecl (record {
@@ -605,7 +605,7 @@ cancelled_while_closing_program = record {
         returns = IntType;
         name = (id (codes "never"));
         params = ((record { ty = IntType; name = (id (codes "n")) }) ∷ []);
-        body = (WaitStmt nowhere (record { into = None; next = false; operand = (CallExpr (id (codes "Never")) NoExprs) }) (ReturnStmt nowhere (VarExpr (id (codes "n"))) End));
+        body = (WaitStmt nowhere (record { into = None; next = false; operand = (CallExpr (id (codes "Never")) NoExprs) }) (ReturnStmt nowhere (Some (VarExpr (id (codes "n")))) End));
         close = nowhere;
       }))
       ∷ (ActorDecl (record {
@@ -621,7 +621,7 @@ cancelled_while_closing_program = record {
             (Some (CallExpr (id (codes "holder")) (MoreExprs (MethodExpr (VarExpr (id (codes "tell"))) (ByName (id (codes "getFuture"))) NoExprs) (MoreExprs (VarExpr (id (codes "c"))) NoExprs))))
             (AssignStmt nowhere ((id (codes "c")) ∷ []) (CallExpr (id (codes "never")) (MoreExprs (IntExpr (pos 2)) NoExprs))
             (CallStmt nowhere ((id (codes "go")) ∷ (id (codes "send")) ∷ []) (MoreExprs VoidExpr NoExprs)
-            (CallStmt nowhere ((id (codes "trace")) ∷ []) (MoreExprs (TextExpr (codes "end")) NoExprs) (ReturnStmt nowhere VoidExpr End))))))));
+            (CallStmt nowhere ((id (codes "trace")) ∷ []) (MoreExprs (TextExpr (codes "end")) NoExprs) (ReturnStmt nowhere (Some VoidExpr) End))))))));
         close = nowhere;
       })) ∷ []);
   end = nowhere;
@@ -682,7 +682,7 @@ argument_before_9004_program = record {
         (TryStmt nowhere (CallStmt nowhere ((id (codes "q")) ∷ (id (codes "send")) ∷ []) (MoreExprs (BinaryExpr Div (IntExpr (pos 1)) (VarExpr (id (codes "p")))) NoExprs) End) nowhere (id (codes "e"))
         (CallStmt nowhere ((id (codes "trace")) ∷ []) (MoreExprs (MethodExpr (VarExpr (id (codes "e"))) (ByName (id (codes "code"))) NoExprs) NoExprs) End)
         (TryStmt nowhere (CallStmt nowhere ((id (codes "q")) ∷ (id (codes "send")) ∷ []) (MoreExprs (IntExpr (pos 2)) NoExprs) End) nowhere (id (codes "e"))
-        (CallStmt nowhere ((id (codes "trace")) ∷ []) (MoreExprs (MethodExpr (VarExpr (id (codes "e"))) (ByName (id (codes "code"))) NoExprs) NoExprs) End) (ReturnStmt nowhere VoidExpr End)))));
+        (CallStmt nowhere ((id (codes "trace")) ∷ []) (MoreExprs (MethodExpr (VarExpr (id (codes "e"))) (ByName (id (codes "code"))) NoExprs) NoExprs) End) (ReturnStmt nowhere (Some VoidExpr) End)))));
     close = nowhere;
   })) ∷ []);
   end = nowhere;
@@ -730,7 +730,7 @@ listen_while_firing_program = record {
         (WaitStmt nowhere (record { into = None; next = false; operand = (CallExpr (id (codes "delay")) (MoreExprs (IntExpr (pos 1)) NoExprs)) })
         (DeclareStmt nowhere (record { state = true; ty = (FutureStreamType (NamedType (codes "Packet"))); name = (id (codes "later")) })
         (Some (CallExpr (id (codes "listen")) (MoreExprs (IntExpr (pos 7)) NoExprs)))
-        (CallStmt nowhere ((id (codes "trace")) ∷ []) (MoreExprs (TextExpr (codes "later")) NoExprs) (ReturnStmt nowhere VoidExpr End))))))));
+        (CallStmt nowhere ((id (codes "trace")) ∷ []) (MoreExprs (TextExpr (codes "later")) NoExprs) (ReturnStmt nowhere (Some VoidExpr) End))))))));
     close = nowhere;
   })) ∷ []);
   end = nowhere;
@@ -787,7 +787,7 @@ stream_fire_takes_more_program = record {
             (DeclareStmt nowhere (record { state = true; ty = (FutureType VoidType); name = (id (codes "e")) })
             (Some (CallExpr (id (codes "eat")) (MoreExprs (MethodExpr (VarExpr (id (codes "q"))) (ByName (id (codes "getFuture"))) NoExprs) (MoreExprs (VarExpr (id (codes "q"))) NoExprs))))
             (CallStmt nowhere ((id (codes "q")) ∷ (id (codes "send")) ∷ []) (MoreExprs (IntExpr (pos 2)) NoExprs)
-            (CallStmt nowhere ((id (codes "trace")) ∷ []) (MoreExprs (TextExpr (codes "sent")) NoExprs) (ReturnStmt nowhere VoidExpr End)))));
+            (CallStmt nowhere ((id (codes "trace")) ∷ []) (MoreExprs (TextExpr (codes "sent")) NoExprs) (ReturnStmt nowhere (Some VoidExpr) End)))));
         close = nowhere;
       })) ∷ []);
   end = nowhere;
@@ -837,7 +837,7 @@ waiter_cancels_the_next_waiter_program = record {
         body = (WaitStmt nowhere (record { into = None; next = false; operand = (VarExpr (id (codes "go"))) })
             (DeclareStmt nowhere (record { state = false; ty = (FutureType VoidType); name = (id (codes "victim")) }) (Some (MethodExpr (VarExpr (id (codes "box"))) (ByName (id (codes "get"))) NoExprs))
             (CallStmt nowhere ((id (codes "victim")) ∷ (id (codes "cancel")) ∷ []) NoExprs
-            (CallStmt nowhere ((id (codes "trace")) ∷ []) (MoreExprs (TextExpr (codes "cancelled")) NoExprs) (ReturnStmt nowhere VoidExpr End)))));
+            (CallStmt nowhere ((id (codes "trace")) ∷ []) (MoreExprs (TextExpr (codes "cancelled")) NoExprs) (ReturnStmt nowhere (Some VoidExpr) End)))));
         close = nowhere;
       }))
       ∷ (ActorDecl (record {
@@ -846,7 +846,7 @@ waiter_cancels_the_next_waiter_program = record {
         name = (id (codes "second"));
         params = ((record { ty = (FutureType VoidType); name = (id (codes "go")) }) ∷ []);
         body = (WaitStmt nowhere (record { into = None; next = false; operand = (VarExpr (id (codes "go"))) })
-            (CallStmt nowhere ((id (codes "trace")) ∷ []) (MoreExprs (TextExpr (codes "never")) NoExprs) (ReturnStmt nowhere VoidExpr End)));
+            (CallStmt nowhere ((id (codes "trace")) ∷ []) (MoreExprs (TextExpr (codes "never")) NoExprs) (ReturnStmt nowhere (Some VoidExpr) End)));
         close = nowhere;
       }))
       ∷ (ActorDecl (record {
@@ -863,7 +863,7 @@ waiter_cancels_the_next_waiter_program = record {
             (Some (CallExpr (id (codes "second")) (MoreExprs (MethodExpr (VarExpr (id (codes "go"))) (ByName (id (codes "getFuture"))) NoExprs) NoExprs)))
             (CallStmt nowhere ((id (codes "box")) ∷ (id (codes "send")) ∷ []) (MoreExprs (VarExpr (id (codes "b"))) NoExprs)
             (CallStmt nowhere ((id (codes "go")) ∷ (id (codes "send")) ∷ []) (MoreExprs VoidExpr NoExprs)
-            (CallStmt nowhere ((id (codes "trace")) ∷ []) (MoreExprs (TextExpr (codes "sent")) NoExprs) (ReturnStmt nowhere VoidExpr End))))))));
+            (CallStmt nowhere ((id (codes "trace")) ∷ []) (MoreExprs (TextExpr (codes "sent")) NoExprs) (ReturnStmt nowhere (Some VoidExpr) End))))))));
         close = nowhere;
       })) ∷ []);
   end = nowhere;
@@ -916,7 +916,7 @@ size_after_cut_to_nothing_program = record {
           next = false;
           operand = (CallExpr (id (codes "fileSize")) (MoreExprs (TextExpr (codes "f")) NoExprs));
         }) (CallStmt nowhere ((id (codes "trace")) ∷ []) (MoreExprs (VarExpr (id (codes "n"))) NoExprs) End))
-        (ReturnStmt nowhere VoidExpr End));
+        (ReturnStmt nowhere (Some VoidExpr) End));
     close = nowhere;
   })) ∷ []);
   end = nowhere;
@@ -967,7 +967,7 @@ stop_then_boot_program = record {
     returns = VoidType;
     name = (id (codes "leaf"));
     params = ((record { ty = IntType; name = (id (codes "n")) }) ∷ []);
-    body = (WaitStmt nowhere (record { into = None; next = false; operand = (CallExpr (id (codes "Never")) NoExprs) }) (ReturnStmt nowhere VoidExpr End));
+    body = (WaitStmt nowhere (record { into = None; next = false; operand = (CallExpr (id (codes "Never")) NoExprs) }) (ReturnStmt nowhere (Some VoidExpr) End));
     close = nowhere;
   }))
       ∷ (ActorDecl (record {
@@ -977,7 +977,7 @@ stop_then_boot_program = record {
         params = ((record { ty = IntType; name = (id (codes "p")) }) ∷ []);
         body = (DeclareStmt nowhere (record { state = true; ty = (FutureStreamType (NamedType (codes "Packet"))); name = (id (codes "in")) })
             (Some (CallExpr (id (codes "listen")) (MoreExprs (IntExpr (pos 7)) NoExprs)))
-            (WaitStmt nowhere (record { into = None; next = false; operand = (CallExpr (id (codes "Never")) NoExprs) }) (ReturnStmt nowhere VoidExpr End)));
+            (WaitStmt nowhere (record { into = None; next = false; operand = (CallExpr (id (codes "Never")) NoExprs) }) (ReturnStmt nowhere (Some VoidExpr) End)));
         close = nowhere;
       })) ∷ []);
   end = nowhere;
@@ -1033,7 +1033,7 @@ promise_in_a_dropped_stream_program = record {
             (CallStmt nowhere ((id (codes "q")) ∷ (id (codes "send")) ∷ [])
             (MoreExprs (CallExpr (id (codes "Ask")) (MoreExprs (IntExpr (pos 1)) (MoreExprs (VarExpr (id (codes "r"))) NoExprs))) NoExprs)
             (WaitStmt nowhere (record { into = (Some (record { state = false; ty = IntType; name = (id (codes "x")) })); next = false; operand = (VarExpr (id (codes "f"))) })
-            (CallStmt nowhere ((id (codes "trace")) ∷ []) (MoreExprs (VarExpr (id (codes "x"))) NoExprs) (ReturnStmt nowhere VoidExpr End)))))));
+            (CallStmt nowhere ((id (codes "trace")) ∷ []) (MoreExprs (VarExpr (id (codes "x"))) NoExprs) (ReturnStmt nowhere (Some VoidExpr) End)))))));
         close = nowhere;
       })) ∷ []);
   end = nowhere;

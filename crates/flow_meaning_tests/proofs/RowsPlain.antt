@@ -22,7 +22,7 @@ hello_program = record {
     returns = VoidType;
     name = (id (codes "main"));
     params = ((record { ty = IntType; name = (id (codes "p")) }) ∷ []);
-    body = (CallStmt nowhere ((id (codes "trace")) ∷ []) (MoreExprs (TextExpr (codes "hello")) NoExprs) (ReturnStmt nowhere VoidExpr End));
+    body = (CallStmt nowhere ((id (codes "trace")) ∷ []) (MoreExprs (TextExpr (codes "hello")) NoExprs) (ReturnStmt nowhere (Some VoidExpr) End));
     close = nowhere;
   })) ∷ []);
   end = nowhere;
@@ -54,7 +54,7 @@ hello_classes = record {
     params = 1;
     slots = ((record { ty = IntType; name = (codes "p") }) ∷ []);
     locals = [];
-    blocks = ((record { catcher = None; body = ((ActInstr ((id (codes "trace")) ∷ []) (MoreExprs (TextExpr (codes "hello")) NoExprs)) ∷ []); last = (ReturnLast VoidExpr) }) ∷ []);
+    blocks = ((record { catcher = None; body = ((ActInstr ((id (codes "trace")) ∷ []) (MoreExprs (TextExpr (codes "hello")) NoExprs)) ∷ []); last = (ReturnLast (Some VoidExpr)) }) ∷ []);
     groups = [];
   }) ∷ []);
 }
@@ -76,7 +76,7 @@ state_in_loop_program = record {
         (DeclareStmt nowhere (record { state = true; ty = IntType; name = (id (codes "i")) }) (Some (BinaryExpr Mul (VarExpr (id (codes "n"))) (IntExpr (pos 10))))
         (WaitStmt nowhere (record { into = None; next = false; operand = (CallExpr (id (codes "delay")) (MoreExprs (IntExpr (pos 1)) NoExprs)) })
         (CallStmt nowhere ((id (codes "trace")) ∷ []) (MoreExprs (VarExpr (id (codes "i"))) NoExprs)
-        (AssignStmt nowhere ((id (codes "n")) ∷ []) (BinaryExpr Add (VarExpr (id (codes "n"))) (IntExpr (pos 1))) End)))) (ReturnStmt nowhere VoidExpr End)));
+        (AssignStmt nowhere ((id (codes "n")) ∷ []) (BinaryExpr Add (VarExpr (id (codes "n"))) (IntExpr (pos 1))) End)))) (ReturnStmt nowhere (Some VoidExpr) End)));
     close = nowhere;
   })) ∷ []);
   end = nowhere;
@@ -125,7 +125,7 @@ state_in_loop_classes = record {
               ∷ (SetInstr ((id (codes "s1")) ∷ []) (BinaryExpr Add (VarExpr (id (codes "s1"))) (IntExpr (pos 1)))) ∷ []);
           last = (PassLast 1);
         })
-        ∷ (record { catcher = None; body = []; last = (ReturnLast VoidExpr) }) ∷ []);
+        ∷ (record { catcher = None; body = []; last = (ReturnLast (Some VoidExpr)) }) ∷ []);
     groups = (((record { next = false; operand = (CallExpr (id (codes "delay")) (MoreExprs (IntExpr (pos 1)) NoExprs)); into = None; block = 3 }) ∷ []) ∷ []);
   }) ∷ []);
 }
@@ -144,7 +144,7 @@ overflow_caught_program = record {
     params = ((record { ty = IntType; name = (id (codes "p")) }) ∷ []);
     body = (TryStmt nowhere (DeclareStmt nowhere (record { state = false; ty = IntType; name = (id (codes "x")) }) (Some (IntExpr (pos 9223372036854775807)))
         (CallStmt nowhere ((id (codes "trace")) ∷ []) (MoreExprs (BinaryExpr Add (VarExpr (id (codes "x"))) (IntExpr (pos 1))) NoExprs) End)) nowhere (id (codes "e"))
-        (CallStmt nowhere ((id (codes "trace")) ∷ []) (MoreExprs (MethodExpr (VarExpr (id (codes "e"))) (ByName (id (codes "code"))) NoExprs) NoExprs) End) (ReturnStmt nowhere VoidExpr End));
+        (CallStmt nowhere ((id (codes "trace")) ∷ []) (MoreExprs (MethodExpr (VarExpr (id (codes "e"))) (ByName (id (codes "code"))) NoExprs) NoExprs) End) (ReturnStmt nowhere (Some VoidExpr) End));
     close = nowhere;
   }))
       ∷ []);
@@ -190,7 +190,7 @@ overflow_caught_classes = record {
           catcher = None;
           body = ((ActInstr ((id (codes "trace")) ∷ []) (MoreExprs (MethodExpr (VarExpr (id (codes "l1"))) (ByName (id (codes "code"))) NoExprs) NoExprs)) ∷ (DropInstr (1 ∷ [])) ∷ []);
           last = (GotoLast 3);
-        }) ∷ (record { catcher = None; body = []; last = (ReturnLast VoidExpr) }) ∷ []);
+        }) ∷ (record { catcher = None; body = []; last = (ReturnLast (Some VoidExpr)) }) ∷ []);
     groups = [];
   }) ∷ []);
 }
@@ -208,7 +208,7 @@ waits_for_a_doubled_value_program = record {
     name = (id (codes "twice"));
     params = ((record { ty = IntType; name = (id (codes "v")) }) ∷ []);
     body = (WaitStmt nowhere (record { into = None; next = false; operand = (CallExpr (id (codes "delay")) (MoreExprs (IntExpr (pos 2)) NoExprs)) })
-        (ReturnStmt nowhere (BinaryExpr Mul (VarExpr (id (codes "v"))) (IntExpr (pos 2))) End));
+        (ReturnStmt nowhere (Some (BinaryExpr Mul (VarExpr (id (codes "v"))) (IntExpr (pos 2)))) End));
     close = nowhere;
   }))
       ∷ (ActorDecl (record {
@@ -223,7 +223,7 @@ waits_for_a_doubled_value_program = record {
         })
             (CallStmt nowhere ((id (codes "trace")) ∷ []) (MoreExprs (VarExpr (id (codes "x"))) NoExprs)
             (WaitStmt nowhere (record { into = None; next = false; operand = (CallExpr (id (codes "delay")) (MoreExprs (NegExpr (IntExpr (pos 3))) NoExprs)) })
-            (CallStmt nowhere ((id (codes "trace")) ∷ []) (MoreExprs (TextExpr (codes "end")) NoExprs) (ReturnStmt nowhere VoidExpr End)))));
+            (CallStmt nowhere ((id (codes "trace")) ∷ []) (MoreExprs (TextExpr (codes "end")) NoExprs) (ReturnStmt nowhere (Some VoidExpr) End)))));
         close = nowhere;
       })) ∷ []);
   end = nowhere;

@@ -49,7 +49,7 @@ request_server_program = record {
               into = (Some (record { state = false; ty = IntType; name = (id (codes "got")) }));
               next = false;
               operand = (MethodExpr (VarExpr (id (codes "r"))) (ByName (id (codes "getFuture"))) NoExprs);
-            }) (ReturnStmt nowhere (VarExpr (id (codes "got"))) End))));
+            }) (ReturnStmt nowhere (Some (VarExpr (id (codes "got")))) End))));
         close = nowhere;
       }))
       ∷ (ActorDecl (record {
@@ -72,7 +72,7 @@ request_server_program = record {
               operand = (CallExpr (id (codes "client")) (MoreExprs (VarExpr (id (codes "asks"))) (MoreExprs (IntExpr (pos 0)) NoExprs)));
             })
             (CallStmt nowhere ((id (codes "trace")) ∷ []) (MoreExprs (VarExpr (id (codes "bad"))) NoExprs) End)) nowhere (id (codes "e"))
-            (CallStmt nowhere ((id (codes "trace")) ∷ []) (MoreExprs (MethodExpr (VarExpr (id (codes "e"))) (ByName (id (codes "code"))) NoExprs) NoExprs) End) (ReturnStmt nowhere VoidExpr End))))));
+            (CallStmt nowhere ((id (codes "trace")) ∷ []) (MoreExprs (MethodExpr (VarExpr (id (codes "e"))) (ByName (id (codes "code"))) NoExprs) NoExprs) End) (ReturnStmt nowhere (Some VoidExpr) End))))));
         close = nowhere;
       })) ∷ []);
   end = nowhere;
@@ -154,7 +154,7 @@ request_server_classes = record {
               (MoreExprs (CallExpr (id (codes "Ask")) (MoreExprs (VarExpr (id (codes "s1"))) (MoreExprs (VarExpr (id (codes "l0"))) NoExprs))) NoExprs)) ∷ []);
           last = (ChooseLast 1);
         })
-            ∷ (record { catcher = None; body = []; last = (ReturnLast (VarExpr (id (codes "l1")))) }) ∷ []);
+            ∷ (record { catcher = None; body = []; last = (ReturnLast (Some (VarExpr (id (codes "l1"))))) }) ∷ []);
         groups = (((record { next = false; operand = (MethodExpr (VarExpr (id (codes "l0"))) (ByName (id (codes "getFuture"))) NoExprs); into = (Some (Local 1)); block = 1 }) ∷ []) ∷ []);
       })
       ∷ (record {
@@ -180,7 +180,7 @@ request_server_classes = record {
               catcher = None;
               body = ((ActInstr ((id (codes "trace")) ∷ []) (MoreExprs (MethodExpr (VarExpr (id (codes "l2"))) (ByName (id (codes "code"))) NoExprs) NoExprs)) ∷ (DropInstr (2 ∷ [])) ∷ []);
               last = (GotoLast 5);
-            }) ∷ (record { catcher = None; body = []; last = (ReturnLast VoidExpr) }) ∷ []);
+            }) ∷ (record { catcher = None; body = []; last = (ReturnLast (Some VoidExpr)) }) ∷ []);
         groups = (((record {
           next = false;
           operand = (CallExpr (id (codes "client")) (MoreExprs (VarExpr (id (codes "s1"))) (MoreExprs (IntExpr (pos 21)) NoExprs)));
@@ -217,7 +217,7 @@ stream_with_end_program = record {
         (TryStmt nowhere (LoopStmt nowhere (WaitStmt nowhere (record
         { into = (Some (record { state = false; ty = IntType; name = (id (codes "x")) })); next = true; operand = (VarExpr (id (codes "s"))) })
         (CallStmt nowhere ((id (codes "trace")) ∷ []) (MoreExprs (VarExpr (id (codes "x"))) NoExprs) End)) End) nowhere (id (codes "e"))
-        (CallStmt nowhere ((id (codes "trace")) ∷ []) (MoreExprs (MethodExpr (VarExpr (id (codes "e"))) (ByName (id (codes "code"))) NoExprs) NoExprs) End) (ReturnStmt nowhere VoidExpr End)))))));
+        (CallStmt nowhere ((id (codes "trace")) ∷ []) (MoreExprs (MethodExpr (VarExpr (id (codes "e"))) (ByName (id (codes "code"))) NoExprs) NoExprs) End) (ReturnStmt nowhere (Some VoidExpr) End)))))));
     close = nowhere;
   })) ∷ []);
   end = nowhere;
@@ -274,7 +274,7 @@ stream_with_end_classes = record {
         ∷ (record {
           catcher = None;
           body = ((ActInstr ((id (codes "trace")) ∷ []) (MoreExprs (MethodExpr (VarExpr (id (codes "l1"))) (ByName (id (codes "code"))) NoExprs) NoExprs)) ∷ (DropInstr (1 ∷ [])) ∷ []);
-          last = (ReturnLast VoidExpr);
+          last = (ReturnLast (Some VoidExpr));
         }) ∷ []);
     groups = (((record { next = true; operand = (VarExpr (id (codes "s2"))); into = (Some (Local 0)); block = 3 }) ∷ []) ∷ []);
   }) ∷ []);

@@ -17,6 +17,8 @@ use Rattle.flow_meaning_tests.proofs.RowsPlain.{state_in_loop_program, state_in_
 use Rattle.flow_meaning_tests.proofs.RowsWaits.{choose_twice_on_one_future_program, choose_twice_on_one_future_world, choose_twice_on_one_future_classes}
 use Rattle.flow_meaning_tests.proofs.RowsCancel.{stop_cancels_in_order_program, stop_cancels_in_order_world, stop_cancels_in_order_classes}
 use Rattle.flow_meaning_tests.proofs.RowsStreams.{request_server_program, request_server_world, request_server_classes}
+use Rattle.flow_meaning_tests.proofs.RowsVectors.{clear_cancels_program, clear_cancels_world, clear_cancels_classes}
+use Rattle.flow_meaning_tests.proofs.RowsVoid.{void_actor_outlives_main_program, void_actor_outlives_main_world, void_actor_outlives_main_classes}
 use Rattle.flow_meaning_tests.proofs.RowsWorld.{packets_out_of_order_program, packets_out_of_order_world, packets_out_of_order_classes}
 
 -- at each boundary, process by process: the unfinished actors, and the branches at which they wait
@@ -62,3 +64,19 @@ request_server_views = refl
 packets_out_of_order_views : of_program packets_out_of_order_program packets_out_of_order_world ≡ of_classes packets_out_of_order_classes packets_out_of_order_world
 unfolding packets_out_of_order_program packets_out_of_order_world packets_out_of_order_classes
 packets_out_of_order_views = refl
+
+-- a void actor is there at the boundary of the event in which `main` ended
+void_actor_outlives_main_seen : of_program void_actor_outlives_main_program void_actor_outlives_main_world ≡ Some (
+    ((actor 2 0 1 ∷ []) ∷ [], (waits 2 0 2 ∷ []) ∷ [])
+    ∷ ([] ∷ [], [] ∷ [])
+    ∷ [])
+unfolding void_actor_outlives_main_program void_actor_outlives_main_world
+void_actor_outlives_main_seen = refl
+
+void_actor_outlives_main_views : of_program void_actor_outlives_main_program void_actor_outlives_main_world ≡ of_classes void_actor_outlives_main_classes void_actor_outlives_main_world
+unfolding void_actor_outlives_main_program void_actor_outlives_main_world void_actor_outlives_main_classes
+void_actor_outlives_main_views = refl
+
+clear_cancels_views : of_program clear_cancels_program clear_cancels_world ≡ of_classes clear_cancels_classes clear_cancels_world
+unfolding clear_cancels_program clear_cancels_world clear_cancels_classes
+clear_cancels_views = refl

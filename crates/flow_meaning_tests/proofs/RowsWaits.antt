@@ -24,7 +24,7 @@ second_operand_never_starts_program = record {
         returns = IntType;
         name = (id (codes "one"));
         params = ((record { ty = IntType; name = (id (codes "v")) }) ∷ []);
-        body = (ReturnStmt nowhere (VarExpr (id (codes "v"))) End);
+        body = (ReturnStmt nowhere (Some (VarExpr (id (codes "v")))) End);
         close = nowhere;
       }))
       ∷ (ActorDecl (record {
@@ -42,7 +42,7 @@ second_operand_never_starts_program = record {
               next = false;
               operand = (CallExpr (id (codes "one")) (MoreExprs (IntExpr (pos 8)) NoExprs));
             }) (CallStmt nowhere ((id (codes "trace")) ∷ []) (MoreExprs (VarExpr (id (codes "y"))) NoExprs) End) NoBranches))
-            (ReturnStmt nowhere VoidExpr End));
+            (ReturnStmt nowhere (Some VoidExpr) End));
         close = nowhere;
       })) ∷ []);
   end = nowhere;
@@ -77,7 +77,7 @@ second_operand_never_starts_classes = record {
     params = 1;
     slots = ((record { ty = IntType; name = (codes "v") }) ∷ []);
     locals = [];
-    blocks = ((record { catcher = None; body = []; last = (ReturnLast (VarExpr (id (codes "s0")))) }) ∷ []);
+    blocks = ((record { catcher = None; body = []; last = (ReturnLast (Some (VarExpr (id (codes "s0"))))) }) ∷ []);
     groups = [];
   })
       ∷ (record {
@@ -89,7 +89,7 @@ second_operand_never_starts_classes = record {
         blocks = ((record { catcher = None; body = []; last = (ChooseLast 1) })
             ∷ (record { catcher = None; body = ((ActInstr ((id (codes "trace")) ∷ []) (MoreExprs (VarExpr (id (codes "l0"))) NoExprs)) ∷ (DropInstr (0 ∷ [])) ∷ []); last = (GotoLast 3) })
             ∷ (record { catcher = None; body = ((ActInstr ((id (codes "trace")) ∷ []) (MoreExprs (VarExpr (id (codes "l1"))) NoExprs)) ∷ (DropInstr (1 ∷ [])) ∷ []); last = (GotoLast 3) })
-            ∷ (record { catcher = None; body = []; last = (ReturnLast VoidExpr) }) ∷ []);
+            ∷ (record { catcher = None; body = []; last = (ReturnLast (Some VoidExpr)) }) ∷ []);
         groups = (((record { next = false; operand = (CallExpr (id (codes "one")) (MoreExprs (IntExpr (pos 7)) NoExprs)); into = (Some (Local 0)); block = 1 })
             ∷ (record { next = false; operand = (CallExpr (id (codes "one")) (MoreExprs (IntExpr (pos 8)) NoExprs)); into = (Some (Local 1)); block = 2 }) ∷ []) ∷ []);
       }) ∷ []);
@@ -110,7 +110,7 @@ choose_twice_on_one_future_program = record {
     body = (ChooseStmt nowhere (MoreBranches nowhere (record { into = (Some (record { state = false; ty = IntType; name = (id (codes "x")) })); next = false; operand = (VarExpr (id (codes "f"))) })
         (CallStmt nowhere ((id (codes "trace")) ∷ []) (MoreExprs (VarExpr (id (codes "x"))) NoExprs) End)
         (MoreBranches nowhere (record { into = (Some (record { state = false; ty = IntType; name = (id (codes "y")) })); next = false; operand = (VarExpr (id (codes "f"))) })
-        (CallStmt nowhere ((id (codes "trace")) ∷ []) (MoreExprs (BinaryExpr Add (VarExpr (id (codes "y"))) (IntExpr (pos 100))) NoExprs) End) NoBranches)) (ReturnStmt nowhere (IntExpr (pos 0)) End));
+        (CallStmt nowhere ((id (codes "trace")) ∷ []) (MoreExprs (BinaryExpr Add (VarExpr (id (codes "y"))) (IntExpr (pos 100))) NoExprs) End) NoBranches)) (ReturnStmt nowhere (Some (IntExpr (pos 0))) End));
     close = nowhere;
   })) ∷ (ActorDecl (record {
     at = nowhere;
@@ -120,7 +120,7 @@ choose_twice_on_one_future_program = record {
     body = (DeclareStmt nowhere (record { state = true; ty = (PromiseType IntType); name = (id (codes "q")) }) None
         (DeclareStmt nowhere (record { state = true; ty = (FutureType IntType); name = (id (codes "b")) })
         (Some (CallExpr (id (codes "both")) (MoreExprs (MethodExpr (VarExpr (id (codes "q"))) (ByName (id (codes "getFuture"))) NoExprs) NoExprs)))
-        (CallStmt nowhere ((id (codes "q")) ∷ (id (codes "send")) ∷ []) (MoreExprs (IntExpr (pos 5)) NoExprs) (ReturnStmt nowhere VoidExpr End))));
+        (CallStmt nowhere ((id (codes "q")) ∷ (id (codes "send")) ∷ []) (MoreExprs (IntExpr (pos 5)) NoExprs) (ReturnStmt nowhere (Some VoidExpr) End))));
     close = nowhere;
   })) ∷ []);
   end = nowhere;
@@ -162,7 +162,7 @@ choose_twice_on_one_future_classes = record {
           catcher = None;
           body = ((ActInstr ((id (codes "trace")) ∷ []) (MoreExprs (BinaryExpr Add (VarExpr (id (codes "l1"))) (IntExpr (pos 100))) NoExprs)) ∷ (DropInstr (1 ∷ [])) ∷ []);
           last = (GotoLast 3);
-        }) ∷ (record { catcher = None; body = []; last = (ReturnLast (IntExpr (pos 0))) }) ∷ []);
+        }) ∷ (record { catcher = None; body = []; last = (ReturnLast (Some (IntExpr (pos 0)))) }) ∷ []);
     groups = (((record { next = false; operand = (VarExpr (id (codes "s0"))); into = (Some (Local 0)); block = 1 })
         ∷ (record { next = false; operand = (VarExpr (id (codes "s0"))); into = (Some (Local 1)); block = 2 }) ∷ []) ∷ []);
   })
@@ -177,7 +177,7 @@ choose_twice_on_one_future_classes = record {
           body = ((NewInstr (Slot 1))
               ∷ (EffectInstr ((id (codes "s2")) ∷ []) (CallExpr (id (codes "both")) (MoreExprs (MethodExpr (VarExpr (id (codes "s1"))) (ByName (id (codes "getFuture"))) NoExprs) NoExprs)))
               ∷ (ActInstr ((id (codes "s1")) ∷ (id (codes "send")) ∷ []) (MoreExprs (IntExpr (pos 5)) NoExprs)) ∷ []);
-          last = (ReturnLast VoidExpr);
+          last = (ReturnLast (Some VoidExpr));
         }) ∷ []);
         groups = [];
       }) ∷ []);
@@ -200,7 +200,7 @@ promise_broken_at_wait_program = record {
           into = (Some (record { state = false; ty = IntType; name = (id (codes "x")) }));
           next = false;
           operand = (MethodExpr (VarExpr (id (codes "q"))) (ByName (id (codes "getFuture"))) NoExprs);
-        }) (ReturnStmt nowhere (VarExpr (id (codes "x"))) End)));
+        }) (ReturnStmt nowhere (Some (VarExpr (id (codes "x")))) End)));
     close = nowhere;
   }))
       ∷ (ActorDecl (record {
@@ -214,7 +214,7 @@ promise_broken_at_wait_program = record {
           operand = (CallExpr (id (codes "hold")) (MoreExprs (IntExpr (pos 1)) NoExprs));
         }) (CallStmt nowhere ((id (codes "trace")) ∷ []) (MoreExprs (VarExpr (id (codes "v"))) NoExprs) End)) nowhere
             (id (codes "e")) (CallStmt nowhere ((id (codes "trace")) ∷ []) (MoreExprs (MethodExpr (VarExpr (id (codes "e"))) (ByName (id (codes "code"))) NoExprs) NoExprs) End)
-            (ReturnStmt nowhere VoidExpr End));
+            (ReturnStmt nowhere (Some VoidExpr) End));
         close = nowhere;
       })) ∷ []);
   end = nowhere;
@@ -255,7 +255,7 @@ promise_broken_at_wait_classes = record {
     params = 1;
     slots = ((record { ty = IntType; name = (codes "n") }) ∷ []);
     locals = ((PromiseType IntType) ∷ IntType ∷ []);
-    blocks = ((record { catcher = None; body = ((NewInstr (Local 0)) ∷ []); last = (ChooseLast 1) }) ∷ (record { catcher = None; body = []; last = (ReturnLast (VarExpr (id (codes "l1")))) }) ∷ []);
+    blocks = ((record { catcher = None; body = ((NewInstr (Local 0)) ∷ []); last = (ChooseLast 1) }) ∷ (record { catcher = None; body = []; last = (ReturnLast (Some (VarExpr (id (codes "l1"))))) }) ∷ []);
     groups = (((record { next = false; operand = (MethodExpr (VarExpr (id (codes "l0"))) (ByName (id (codes "getFuture"))) NoExprs); into = (Some (Local 1)); block = 1 }) ∷ []) ∷ []);
   })
       ∷ (record {
@@ -274,7 +274,7 @@ promise_broken_at_wait_classes = record {
               catcher = None;
               body = ((ActInstr ((id (codes "trace")) ∷ []) (MoreExprs (MethodExpr (VarExpr (id (codes "l1"))) (ByName (id (codes "code"))) NoExprs) NoExprs)) ∷ (DropInstr (1 ∷ [])) ∷ []);
               last = (GotoLast 4);
-            }) ∷ (record { catcher = None; body = []; last = (ReturnLast VoidExpr) }) ∷ []);
+            }) ∷ (record { catcher = None; body = []; last = (ReturnLast (Some VoidExpr)) }) ∷ []);
         groups = (((record { next = false; operand = (CallExpr (id (codes "hold")) (MoreExprs (IntExpr (pos 1)) NoExprs)); into = (Some (Local 0)); block = 2 }) ∷ []) ∷ []);
       }) ∷ []);
 }
@@ -301,7 +301,7 @@ second_waiter_on_a_stream_program = record {
           operand = (MethodExpr (VarExpr (id (codes "q"))) (ByName (id (codes "getFuture"))) NoExprs);
         }) (CallStmt nowhere ((id (codes "trace")) ∷ []) (MoreExprs (VarExpr (id (codes "b"))) NoExprs) End) NoBranches))
         End) nowhere (id (codes "e")) (CallStmt nowhere ((id (codes "trace")) ∷ []) (MoreExprs (MethodExpr (VarExpr (id (codes "e"))) (ByName (id (codes "code"))) NoExprs) NoExprs) End)
-        (ReturnStmt nowhere VoidExpr End)));
+        (ReturnStmt nowhere (Some VoidExpr) End)));
     close = nowhere;
   })) ∷ []);
   end = nowhere;

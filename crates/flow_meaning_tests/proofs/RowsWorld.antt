@@ -38,7 +38,7 @@ lost_ping_times_out_program = record {
         (WaitStmt nowhere (record { into = (Some (record { state = false; ty = (NamedType (codes "Packet")); name = (id (codes "k")) })); next = true; operand = (VarExpr (id (codes "in"))) })
         (CallStmt nowhere ((id (codes "sendTo")) ∷ []) (MoreExprs (FieldExpr (VarExpr (id (codes "k"))) (id (codes "from")))
         (MoreExprs (IntExpr (pos 7)) (MoreExprs (TextExpr (codes "pong")) NoExprs)))
-        End)) (ReturnStmt nowhere VoidExpr End)));
+        End)) (ReturnStmt nowhere (Some VoidExpr) End)));
     close = nowhere;
   })) ∷ []);
   end = nowhere;
@@ -107,7 +107,7 @@ lost_ping_times_out_classes = record {
           body = ((ActInstr ((id (codes "sendTo")) ∷ [])
               (MoreExprs (FieldExpr (VarExpr (id (codes "l2"))) (id (codes "from"))) (MoreExprs (IntExpr (pos 7)) (MoreExprs (TextExpr (codes "pong")) NoExprs)))) ∷ (DropInstr (2 ∷ [])) ∷ []);
           last = (GotoLast 10);
-        }) ∷ (record { catcher = None; body = []; last = (ReturnLast VoidExpr) }) ∷ []);
+        }) ∷ (record { catcher = None; body = []; last = (ReturnLast (Some VoidExpr)) }) ∷ []);
     groups = (((record { next = true; operand = (VarExpr (id (codes "s1"))); into = (Some (Local 0)); block = 3 })
         ∷ (record { next = false; operand = (CallExpr (id (codes "delay")) (MoreExprs (IntExpr (pos 10)) NoExprs)); into = None; block = 4 }) ∷ [])
         ∷ ((record { next = true; operand = (VarExpr (id (codes "s1"))); into = (Some (Local 2)); block = 9 }) ∷ []) ∷ []);
@@ -129,14 +129,14 @@ packets_out_of_order_program = record {
     body = (IfStmt nowhere (BinaryExpr Eq (VarExpr (id (codes "p"))) (IntExpr (pos 0)))
         (CallStmt nowhere ((id (codes "sendTo")) ∷ []) (MoreExprs (IntExpr (pos 1)) (MoreExprs (IntExpr (pos 7)) (MoreExprs (TextExpr (codes "a")) NoExprs)))
         (CallStmt nowhere ((id (codes "sendTo")) ∷ []) (MoreExprs (IntExpr (pos 1)) (MoreExprs (IntExpr (pos 7)) (MoreExprs (TextExpr (codes "b")) NoExprs)))
-        (CallStmt nowhere ((id (codes "sendTo")) ∷ []) (MoreExprs (IntExpr (pos 1)) (MoreExprs (IntExpr (pos 7)) (MoreExprs (TextExpr (codes "c")) NoExprs))) (ReturnStmt nowhere VoidExpr End))))
+        (CallStmt nowhere ((id (codes "sendTo")) ∷ []) (MoreExprs (IntExpr (pos 1)) (MoreExprs (IntExpr (pos 7)) (MoreExprs (TextExpr (codes "c")) NoExprs))) (ReturnStmt nowhere (Some VoidExpr) End))))
         (DeclareStmt nowhere (record { state = true; ty = (FutureStreamType (NamedType (codes "Packet"))); name = (id (codes "in")) })
         (Some (CallExpr (id (codes "listen")) (MoreExprs (IntExpr (pos 7)) NoExprs)))
         (DeclareStmt nowhere (record { state = true; ty = IntType; name = (id (codes "i")) }) (Some (IntExpr (pos 0)))
         (ForStmt nowhere (AssignStmt nowhere ((id (codes "i")) ∷ []) (IntExpr (pos 0)) End) (Some (BinaryExpr Lt (VarExpr (id (codes "i"))) (IntExpr (pos 3))))
         (ModifyStmt nowhere ((id (codes "i")) ∷ []) UpChange End) (WaitStmt nowhere
         (record { into = (Some (record { state = false; ty = (NamedType (codes "Packet")); name = (id (codes "k")) })); next = true; operand = (VarExpr (id (codes "in"))) })
-        (CallStmt nowhere ((id (codes "trace")) ∷ []) (MoreExprs (FieldExpr (VarExpr (id (codes "k"))) (id (codes "text"))) NoExprs) End)) (ReturnStmt nowhere VoidExpr End)))));
+        (CallStmt nowhere ((id (codes "trace")) ∷ []) (MoreExprs (FieldExpr (VarExpr (id (codes "k"))) (id (codes "text"))) NoExprs) End)) (ReturnStmt nowhere (Some VoidExpr) End)))));
     close = nowhere;
   })) ∷ []);
   end = nowhere;
@@ -192,7 +192,7 @@ packets_out_of_order_classes = record {
           body = ((ActInstr ((id (codes "sendTo")) ∷ []) (MoreExprs (IntExpr (pos 1)) (MoreExprs (IntExpr (pos 7)) (MoreExprs (TextExpr (codes "a")) NoExprs))))
               ∷ (ActInstr ((id (codes "sendTo")) ∷ []) (MoreExprs (IntExpr (pos 1)) (MoreExprs (IntExpr (pos 7)) (MoreExprs (TextExpr (codes "b")) NoExprs))))
               ∷ (ActInstr ((id (codes "sendTo")) ∷ []) (MoreExprs (IntExpr (pos 1)) (MoreExprs (IntExpr (pos 7)) (MoreExprs (TextExpr (codes "c")) NoExprs)))) ∷ []);
-          last = (ReturnLast VoidExpr);
+          last = (ReturnLast (Some VoidExpr));
         })
         ∷ (record {
           catcher = None;
@@ -207,7 +207,7 @@ packets_out_of_order_classes = record {
               ∷ (SetInstr ((id (codes "s2")) ∷ []) (BinaryExpr Add (VarExpr (id (codes "s2"))) (IntExpr (pos 1)))) ∷ []);
           last = (PassLast 3);
         })
-        ∷ (record { catcher = None; body = []; last = (ReturnLast VoidExpr) }) ∷ []);
+        ∷ (record { catcher = None; body = []; last = (ReturnLast (Some VoidExpr)) }) ∷ []);
     groups = (((record { next = true; operand = (VarExpr (id (codes "s1"))); into = (Some (Local 0)); block = 5 }) ∷ []) ∷ []);
   }) ∷ []);
 }
@@ -224,7 +224,7 @@ packet_discarded_program = record {
     returns = VoidType;
     name = (id (codes "main"));
     params = ((record { ty = IntType; name = (id (codes "p")) }) ∷ []);
-    body = (CallStmt nowhere ((id (codes "sendTo")) ∷ []) (MoreExprs (IntExpr (pos 0)) (MoreExprs (IntExpr (pos 7)) (MoreExprs (TextExpr (codes "x")) NoExprs))) (ReturnStmt nowhere VoidExpr End));
+    body = (CallStmt nowhere ((id (codes "sendTo")) ∷ []) (MoreExprs (IntExpr (pos 0)) (MoreExprs (IntExpr (pos 7)) (MoreExprs (TextExpr (codes "x")) NoExprs))) (ReturnStmt nowhere (Some VoidExpr) End));
     close = nowhere;
   })) ∷ []);
   end = nowhere;
@@ -261,7 +261,7 @@ disk_request_fails_program = record {
       next = false;
       operand = (CallExpr (id (codes "writeFile")) (MoreExprs (TextExpr (codes "f")) (MoreExprs (IntExpr (pos 0)) (MoreExprs (TextExpr (codes "a")) NoExprs))));
     }) End) nowhere (id (codes "e"))
-        (CallStmt nowhere ((id (codes "trace")) ∷ []) (MoreExprs (MethodExpr (VarExpr (id (codes "e"))) (ByName (id (codes "code"))) NoExprs) NoExprs) End) (ReturnStmt nowhere VoidExpr End));
+        (CallStmt nowhere ((id (codes "trace")) ∷ []) (MoreExprs (MethodExpr (VarExpr (id (codes "e"))) (ByName (id (codes "code"))) NoExprs) NoExprs) End) (ReturnStmt nowhere (Some VoidExpr) End));
     close = nowhere;
   }))
       ∷ []);
@@ -323,7 +323,7 @@ disk_after_power_loss_program = record {
           operand = (CallExpr (id (codes "writeFile"))
               (MoreExprs (TextExpr (codes "f")) (MoreExprs (IntExpr (pos 4)) (MoreExprs (TextExpr (codes "ef")) NoExprs))));
         })
-        (WaitStmt nowhere (record { into = None; next = false; operand = (CallExpr (id (codes "Never")) NoExprs) }) (ReturnStmt nowhere VoidExpr End))))))));
+        (WaitStmt nowhere (record { into = None; next = false; operand = (CallExpr (id (codes "Never")) NoExprs) }) (ReturnStmt nowhere (Some VoidExpr) End))))))));
     close = nowhere;
   })) ∷ []);
   end = nowhere;
@@ -392,7 +392,7 @@ disk_after_power_loss_classes = record {
     blocks = ((record { catcher = None; body = []; last = (ChooseLast 1) })
         ∷ (record { catcher = None; body = ((ActInstr ((id (codes "trace")) ∷ []) (MoreExprs (VarExpr (id (codes "l0"))) NoExprs)) ∷ []); last = (ChooseLast 2) })
         ∷ (record { catcher = None; body = []; last = (ChooseLast 3) }) ∷ (record { catcher = None; body = []; last = (ChooseLast 4) }) ∷ (record { catcher = None; body = []; last = (ChooseLast 5) })
-        ∷ (record { catcher = None; body = []; last = (ChooseLast 6) }) ∷ (record { catcher = None; body = []; last = (ReturnLast VoidExpr) }) ∷ []);
+        ∷ (record { catcher = None; body = []; last = (ChooseLast 6) }) ∷ (record { catcher = None; body = []; last = (ReturnLast (Some VoidExpr)) }) ∷ []);
     groups = (((record {
       next = false;
       operand = (CallExpr (id (codes "readFile")) (MoreExprs (TextExpr (codes "f")) (MoreExprs (IntExpr (pos 0)) (MoreExprs (IntExpr (pos 10)) NoExprs))));
@@ -456,7 +456,7 @@ disk_after_power_loss_cut_program = record {
           operand = (CallExpr (id (codes "writeFile"))
               (MoreExprs (TextExpr (codes "f")) (MoreExprs (IntExpr (pos 4)) (MoreExprs (TextExpr (codes "ef")) NoExprs))));
         })
-        (WaitStmt nowhere (record { into = None; next = false; operand = (CallExpr (id (codes "Never")) NoExprs) }) (ReturnStmt nowhere VoidExpr End))))))));
+        (WaitStmt nowhere (record { into = None; next = false; operand = (CallExpr (id (codes "Never")) NoExprs) }) (ReturnStmt nowhere (Some VoidExpr) End))))))));
     close = nowhere;
   })) ∷ []);
   end = nowhere;
@@ -525,7 +525,7 @@ drawn_words_program = record {
         (CallStmt nowhere ((id (codes "trace")) ∷ []) (MoreExprs (VarExpr (id (codes "x"))) NoExprs)
         (DeclareStmt nowhere (record { state = false; ty = IntType; name = (id (codes "y")) })
         (Some (CallExpr (id (codes "randomInt")) (MoreExprs (IntExpr (pos 0)) (MoreExprs (IntExpr (pos 10)) NoExprs))))
-        (CallStmt nowhere ((id (codes "trace")) ∷ []) (MoreExprs (VarExpr (id (codes "y"))) NoExprs) (ReturnStmt nowhere VoidExpr End)))));
+        (CallStmt nowhere ((id (codes "trace")) ∷ []) (MoreExprs (VarExpr (id (codes "y"))) NoExprs) (ReturnStmt nowhere (Some VoidExpr) End)))));
     close = nowhere;
   })) ∷ []);
   end = nowhere;

@@ -55,7 +55,7 @@ Form (Some word.Loop) actor d c w o = Formed (Then (Tok (token.Word word.Loop)) 
 Form (Some word.Break) actor d c w o = Formed (Then (Tok (token.Word word.Break)) (λ p. Tok (token.Sign sign.Semicolon))) (λ x. closed (BreakStmt x.0 End) c) w o
 Form (Some word.Continue) actor d c w o = Formed (Then (Tok (token.Word word.Continue)) (λ p. Tok (token.Sign sign.Semicolon))) (λ x. closed (ContinueStmt x.0 End) c) w o
 Form (Some word.Return) actor d c w o = Formed (Then (Tok (token.Word word.Return)) (λ p. Then (ExprRule 0 (suc d)) (λ e. Tok (token.Sign sign.Semicolon))))
-    (λ x. closed (ReturnStmt x.0 x.1.0 End) c) w o
+    (λ x. closed (ReturnStmt x.0 (Some x.1.0) End) c) w o
 Form (Some word.Throw) actor d c w o = Formed (Then (Tok (token.Word word.Throw)) (λ p. MaybeExpr (suc d))) (λ x. closed (ThrowStmt x.0 x.1 End) c) w o
 Form (Some word.Try) actor d c w o = Formed (Then (Tok (token.Word word.Try)) (λ p. Then (Block actor (suc d) c) (λ o. Then Catch (λ x. Block actor (suc d) o.counts))))
     (λ x. closed (TryStmt x.0 x.1.0.body x.1.1.0.0 x.1.1.0.1 x.1.1.1.body End) x.1.1.1.counts) w o

@@ -377,7 +377,7 @@ alone_plain (for_stmt {start = v} {next = x} {inner = y} {e = t} at p q r s init
 alone_plain (loop_stmt {inner = i} at body b f) = (LoopStmt at i End, loop_stmt at body b f, refl)
 alone_plain (break_stmt at p) = (BreakStmt at End, break_stmt at p, refl)
 alone_plain (continue_stmt at p) = (ContinueStmt at End, continue_stmt at p, refl)
-alone_plain (return_stmt {e = t} at p of e f) = (ReturnStmt at t End, return_stmt at p of e f, refl)
+alone_plain (return_stmt {e = t} at p of e f) = (ReturnStmt at (Some t) End, return_stmt at p of e f, refl)
 alone_plain (throw_stmt {e = t} at p of e f) = (ThrowStmt at t End, throw_stmt at p of e f, refl)
 alone_plain (try_stmt {inner = i} {handler = j} at p q r s u x body caught b h f) = (TryStmt at i p x j End, try_stmt at p q r s u x body caught b h f, refl)
 alone_plain (choose_stmt {b = b} at p q first more w ws f) = (ChooseStmt at b End, choose_stmt at p q first more w ws f, refl)

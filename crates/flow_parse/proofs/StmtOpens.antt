@@ -179,7 +179,7 @@ module _ (limits : Limits) (m : ℕ) (low : m < 5) (actor : Bool) (d : ℕ) (c :
   plain_word word.Continue p ts h = word_with word.Continue p ts (sign_at sign.Semicolon nowhere ∷ []) (record { body = ContinueStmt p End; counts = c; ends_if = false }) (p, continue_stmt p nowhere)
   plain_word word.Return p ts h =
       let e = some_expr (suc d) in
-      word_with word.Return p ts _ (record { body = ReturnStmt p e.tree End; counts = c; ends_if = false }) (p, return_stmt p nowhere e.marked e.rule refl)
+      word_with word.Return p ts _ (record { body = ReturnStmt p (Some e.tree) End; counts = c; ends_if = false }) (p, return_stmt p nowhere e.marked e.rule refl)
   plain_word word.Throw p ts h = word_with word.Throw p ts _ (record { body = ThrowStmt p None End; counts = c; ends_if = false }) (p, throw_stmt p nowhere [] no_expr refl)
   plain_word word.Try p ts h =
       let b = sign_at sign.OpenCurly nowhere ∷ sign_at sign.CloseCurly nowhere ∷ [] in

@@ -221,7 +221,7 @@ module _ (limits : Limits) (t : Tokens) (at : ℕ) (actor : Bool) (d : ℕ) (c :
 
   pub return_left : token_at t.spots.items at ≡ Some (token.Word word.Return)
       → Leaves limits (Plain actor d c) NoElse (Then (Tok (token.Word word.Return)) (λ p. Then (ExprRule 0 (suc d)) (λ e. Tok (token.Sign sign.Semicolon)))) Any
-      (λ x. closed (ReturnStmt x.0 x.1.0 End) c) t.spots.items at at
+      (λ x. closed (ReturnStmt x.0 (Some x.1.0) End) c) t.spots.items at at
   return_left e = narrow limits t.spots.items e (record {
     back = λ w z b r f l. let q = keyword_back z word.Return (λ h. h) r.1 l in record { tree = q.tree; rule = q.rule; is = q.is; follows = tt };
     forth = λ u x r. (x.0, return_stmt x.0 x.1.1 r.back.first r.back.front (behind r.is r.front (glue _ r.back.is r.back.back)));

@@ -144,7 +144,7 @@ module _ (k : ℕ) (all : AllUniq k) (actor : Bool) (d : ℕ) (c : Counts) where
       (λ w z b r f l. let q = keyword_back z word.Continue (λ h. h) r.1 l in record { tree = q.tree; rule = q.rule; is = q.is; follows = tt })
       (seq_tok [] (token.Word word.Continue) (λ p. Tok (token.Sign sign.Semicolon)) Any k (λ p. uniq_opening [] (token.Sign sign.Semicolon) k))
   by_word word.Return h = at_narrow (Plain actor d c) NoElse (Then (Tok (token.Word word.Return)) (λ p. Then (ExprRule 0 (suc d)) (λ e. Tok (token.Sign sign.Semicolon)))) Any
-      (λ x. closed (ReturnStmt x.0 x.1.0 End) c) (suc k) (Some (token.Word word.Return))
+      (λ x. closed (ReturnStmt x.0 (Some x.1.0) End) c) (suc k) (Some (token.Word word.Return))
       (λ w z b r f l. let q = keyword_back z word.Return (λ h. h) r.1 l in record { tree = q.tree; rule = q.rule; is = q.is; follows = tt })
       (seq_tok [] (token.Word word.Return) (λ p. Then (ExprRule 0 (suc d)) (λ e. Tok (token.Sign sign.Semicolon))) Any k
       (λ p. seq (ExprRule 0 (suc d)) ExprEnds (λ e. Tok (token.Sign sign.Semicolon)) Any k (λ a b v z r f. ends_is a (sign_at sign.Semicolon b) v [] z r tt) (uniq_expr (suc d) k)

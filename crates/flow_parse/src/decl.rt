@@ -228,7 +228,7 @@ fn actor(
     let read = routine(alloc, tokens, at, true, limits)?;
     let actor = ActorDecl {
         at: here,
-        returns,
+        returns: Some(returns),
         name: read.name,
         params: read.params,
         body: read.body,

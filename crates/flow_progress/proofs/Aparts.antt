@@ -1,5 +1,5 @@
 -- The value that an actor ends with doesn't refer to its own result.
-use Rattle.std.proofs.Common.{◌≡◌, ℕ, nat_eq, Bool, true, false, List, [], ◌∷◌, refl, sym, ap, ◌∙◌, arith}
+use Rattle.std.proofs.Common.{◌≡◌, ℕ, nat_eq, Bool, true, false, List, [], ◌∷◌, refl, sym, ap, ◌∙◌, arith, subst}
 use Rattle.std.specs.declared.option.Option.TheVariants.{Some}
 use Rattle.flow_tree.specs.Tree.{TypeTree, FutureType}
 use Rattle.flow_value.specs.declared.value.Kind.{Kind}
@@ -16,11 +16,12 @@ use Rattle.flow_meaning.specs.Orderly.{Orderly}
 use Rattle.flow_meaning.specs.Frame.{Frame}
 use Rattle.flow_meaning.proofs.Shifts.{close_of}
 use Rattle.flow_progress.specs.Asking.{OutcomeFits}
-use Rattle.flow_progress.specs.Fitting.{CellTypes, typed_by, ProcessFits}
+use Rattle.flow_progress.specs.Fitting.{CellTypes, typed_by, ProcessFits, OwnsResult}
 use Rattle.flow_progress.proofs.Retyped.{Seen, Sees}
 use Rattle.flow_progress.proofs.StepFits.{actor_here}
 use Rattle.flow_progress.proofs.Unseen.{Off, mark, count_append}
 use Rattle.flow_progress.proofs.Depths.{apart}
+use Rattle.flow_progress.proofs.Given.{end_given}
 
 module _ (k : ℕ) where
   not_marked : (n : ℕ) → Off k n → mark (nat_eq k n) ≡ 0
@@ -50,9 +51,6 @@ module _ (k : ℕ) where
       let a = value_zero v (apart r valid types k v t g h) in
       let c = count_append FutureSide k (refs_of v) [] in omega (arith, a, c)
 
-some_number : (m n : ℕ) → Some m ≡ Some n → m ≡ n
-some_number m n e = cc
-
 some_entry : (d e : Entry) → Some d ≡ Some e → d ≡ e
 some_entry d e h = cc
 
@@ -61,5 +59,6 @@ pub ends_apart : (r : RawTree) → IsValid r → (types : CellTypes) (c : Core) 
     → thing c.entries i ≡ Some e → e.result ≡ Some k → count FutureSide k (refs_in (value_in o)) ≡ 0
 ends_apart r valid types c xs p order i k e o ts top at own =
     let a = actor_here r types i (Close i o) ts c xs order top (close_of i o) p in
-    let same : a.owner.result ≡ k = some_number a.owner.result k (sym a.owner.owns ∙ ap (λ (e : Entry). e.result) (some_entry a.entry e (sym a.at ∙ at)) ∙ own) in
-    outcome_zero k r valid types o a.class.returns (ap types (sym same) ∙ a.owner.gives) a.doing.0
+    let here : a.entry.result ≡ Some k = ap (λ (e : Entry). e.result) (some_entry a.entry e (sym a.at ∙ at)) ∙ own in
+    let owns = subst (λ x. OwnsResult r types x a.class.returns) here a.owner.owns in
+    outcome_zero k r valid types o a.class.returns owns.1 (subst (OutcomeFits r.records (typed_by types) o) (end_given a.class.returns owns.0) a.doing.0)

@@ -1,25 +1,28 @@
 -- A frame that fits asks for what fits, and never comes to what has no meaning.
 use Rattle.std.proofs.Common.{◌≡◌, ℕ, zero, suc, Bool, true, false, ◌||◌, List, [], ◌∷◌, ◌++◌, length, ◌⊎◌, inl, inr, refl, sym, ap, ◌∙◌, subst, arith}
-use Rattle.std.specs.Prelude.{slice_get, Contains}
+use Rattle.std.specs.Prelude.{slice_get, Contains, nat_lt}
 use Rattle.std.specs.Str.{bytes_eq}
 use Rattle.std.specs.Option.{option_map, option_and_then}
 use Rattle.std.specs.declared.option.Option.{Option}
 use Rattle.std.specs.declared.option.Option.TheVariants.{None, Some}
 use Rattle.flow_ast.specs.declared.predefined.Predefined.{Predefined}
 use Rattle.flow_ast.specs.declared.predefined.Predefined.TheVariants as code
-use Rattle.flow_ast.specs.Typing.{param_named}
+use Rattle.flow_ast.specs.Typing.{param_named, is_nothing}
 use Rattle.flow_ast.specs.TypingNames.{named, call_names, method_names}
 use Rattle.flow_ast.specs.Fits.{fields_type, path_type, FunctionsFit}
+use Rattle.flow_ast.specs.declared.predefined.Method.{Method}
+use Rattle.flow_ast.specs.declared.predefined.Method.TheVariants as method
 use Rattle.flow_tree.specs.declared.ty.Ident.{Ident}
-use Rattle.flow_tree.specs.Tree.{TypeTree, IntType, StringType, BoolType, ErrorType, PromiseType, PromiseStreamType, ExprTree, ExprTrees, CallExpr}
+use Rattle.flow_tree.specs.Tree.{TypeTree, IntType, StringType, BoolType, ErrorType, PromiseType, PromiseStreamType, ExprTree, ExprTrees, CallExpr, VectorType, NothingType, VoidType}
 use Rattle.flow_tree.specs.Decls.{ParamTree, SlotTree, RecordTree, RoutineTree}
+use Rattle.flow_tree.specs.declared.limits.TheConstants.{ELEMENTS}
 use Rattle.flow_value.specs.declared.value.Kind.{Kind}
 use Rattle.flow_value.specs.declared.value.Kind.TheVariants as kind
-use Rattle.flow_value.specs.Values.{ValueTree, RefValue, values_of_list}
+use Rattle.flow_value.specs.Values.{ValueTree, RefValue, values_of_list, ValueTrees, NoValues, MoreValues, IntValue, BoolValue, TextValue, VoidValue, ErrorValue, CompositeValue, RecordWhole, ListWhole, with_last, count_of}
 use Rattle.flow_eval.specs.Eval.{Res, Done, Fails, Spent, Meaningless, Setting}
 use Rattle.flow_eval.specs.Answers.{int_of, text_of, bool_of, error_of, arg}
-use Rattle.flow_eval.specs.Functions.{Call, read_in, deepest}
-use Rattle.flow_eval.specs.Typed.{reference_type, HasType, HaveTypes, CellsFit}
+use Rattle.flow_eval.specs.Functions.{Call, read_in, deepest, default_value}
+use Rattle.flow_eval.specs.Typed.{reference_type, HasType, HaveTypes, CellsFit, AllAre}
 use Rattle.flow_eval.specs.WellTyped.{Safe}
 use Rattle.flow_eval.proofs.TypedValues.{some_same, none_some, first_there, is_bool_value, is_error_value}
 use Rattle.flow_eval.proofs.TypedExprs.{then_good}
@@ -30,23 +33,23 @@ use Rattle.flow_class.specs.Classes.{InstrTree, SetInstr, EffectInstr, NewInstr,
 use Rattle.flow_class.specs.Places.{place_named}
 use Rattle.flow_class.specs.Code.{type_at, Fetched, Body, Last, Nothing, fetch, group_at, callback_at}
 use Rattle.flow_valid.specs.Named.{listed, expr_places, exprs_places, base_place, targets}
-use Rattle.flow_valid.specs.Filling.{among, instr_reads, instr_fills, operands, group_reads, reads}
+use Rattle.flow_valid.specs.Filling.{among, instr_reads, instr_fills, operands, group_reads, reads, same_place}
 use Rattle.flow_valid.specs.Validity.{operand_type}
 use Rattle.flow_meaning.specs.Variables.{flat, filled}
-use Rattle.flow_meaning.specs.Requests.{Act, Goes, Effects, Sends, Cancels, SendsTo, Returns, Spot, Make, Goal, Stored, Kept}
+use Rattle.flow_meaning.specs.Requests.{Act, Goes, Effects, Sends, Cancels, SendsTo, Returns, Spot, Make, Goal, Stored, Kept, Starts, Drops}
 use Rattle.flow_meaning.specs.Process.{View}
-use Rattle.flow_meaning.specs.Evaluating.{Names, effectful, setting, bind, StepOf, asks, given, evaluated, Effectful, effect_in, effect_of, done, before_last, last_of, value, values, function_act, plain_act, based_act, call_act}
-use Rattle.flow_meaning.specs.Frame.{Memory, Frame, read, write, look, held_in, emptied, reversed, everything, assign, spot_of, go, next_instr, over, lose}
-use Rattle.flow_meaning.specs.Class.{promise_kind, placed, effects, instruction, test, operand_ref as asks_operand, operand_by, choose, throw_value, last, fetched, next_step, class_names}
+use Rattle.flow_meaning.specs.Evaluating.{Names, effectful, setting, bind, StepOf, asks, given, evaluated, Effectful, effect_in, effect_of, done, before_last, last_of, value, values, function_act, plain_act, based_act, call_act, Change, Grows, Clears, change_by, change_of, changed, grown_by, Storing, storing, call_by, started_act}
+use Rattle.flow_meaning.specs.Frame.{Memory, Frame, read, write, look, held_in, emptied, reversed, everything, assign, spot_of, go, next_instr, over, lose, put_at}
+use Rattle.flow_meaning.specs.Class.{promise_kind, placed, effects, instruction, test, operand_ref as asks_operand, operand_by, choose, throw_value, last, fetched, next_step, class_names, new_by, put_path}
 use Rattle.flow_progress.specs.Places.{Filled, HoldsTypes}
 use Rattle.flow_progress.specs.FramesAtPoints.{Stands, StandsWaiting}
-use Rattle.flow_progress.specs.Rules.{EffectFits, InstrFits, SayFits, CallFits, BranchFits, LastFits, KeepsRules, Typed, AllTyped}
-use Rattle.flow_progress.specs.Asking.{Stores, NextOperand, HaveSome, Wanted, ActFits, StaysIn, AsksFit}
+use Rattle.flow_progress.specs.Rules.{EffectFits, InstrFits, SayFits, CallFits, BranchFits, LastFits, KeepsRules, Typed, AllTyped, MessageFits}
+use Rattle.flow_progress.specs.Asking.{Stores, NextOperand, HaveSome, Wanted, ActFits, StaysIn, AsksFit, end_type}
 use Rattle.flow_progress.proofs.Evaluates.{AllFilled, readable_by, all_readable_by, among_left, among_right, same_self, value_safe, values_safe}
-use Rattle.flow_progress.proofs.Memories.{blank_at, emptied_holds, emptied_other, lost_holds}
+use Rattle.flow_progress.proofs.Memories.{blank_at, emptied_holds, emptied_other, lost_holds, place_eq}
 use Rattle.flow_progress.proofs.Stood.{read_filled, next_there, reached_next, full_next, reached_jump, full_jump}
 use Rattle.flow_progress.proofs.Assigned.{Assigned, assigns, written_next, untouched_next, reads_typed}
-use Rattle.flow_progress.proofs.Given.{arg_typed, int_arg, text_arg, operand_ref, prints, Message, message_told, effect_is, effect_made}
+use Rattle.flow_progress.proofs.Given.{arg_typed, int_arg, text_arg, operand_ref, prints, Message, message_told, effect_is, effect_made, list_value}
 
 -- values that a memory holds have types
 module _ (rs : List RecordTree) (typed : ℕ → TypeTree → Type 0) where
@@ -201,12 +204,16 @@ module _ (r : RawTree) (actors : List RoutineTree) (vars : List ParamTree) (type
       let there = ap (λ o. bind o (λ p. bind (int_of (arg us 1)) (λ q. bind (text_of (arg us 2)) (λ t. Some (SendsTo p q t))))) p.1
       ∙ ap (λ o. bind o (λ q. bind (text_of (arg us 2)) (λ t. Some (SendsTo p.0 q t)))) q.1 ∙ ap (λ o. bind o (λ t. Some (SendsTo p.0 q.0 t))) t.1 in
       subst (λ o. Safe CallFit (done o left)) (sym there) (n, refl)
-  plain_fits None x ts us left n h a =
+  plain_fits None x ts us left n (inl h) a =
       let args = subst (HaveTypes r.records typed (values_of_list us)) (sym h.2) a in
-      subst (λ o. Safe CallFit (function_act (class_names r) v (look f.mem) o us left)) (sym h.1)
+      subst (λ o. Safe CallFit (function_act (class_names r) v (look f.mem) o x.name us left)) (sym h.1)
       (then_good (λ u. Is u h.0.returns) CallFit (Call now h.0 us left) (λ u left. Done Goes left)
       (let at = first_there (λ (g : RoutineTree). bytes_eq g.name.name x.name) r.functions h.0 h.1 in function_good now typed actors cells functions deepest h.0 us left (functions at.0 h.0 at.2) args)
       (λ u left k. (n, refl)))
+  plain_fits None x ts us left n (inr w) a =
+      subst (λ o. Safe CallFit (function_act (class_names r) v (look f.mem) o x.name us left)) (sym w.no_function)
+      (subst (λ o. Safe CallFit (started_act (class_names r) v (look f.mem) o us left)) (sym w.named)
+      ((n, (w.class, (w.is, subst (HaveTypes r.records typed (values_of_list us)) (sym w.takes) a), w.is_void)), refl))
   plain_fits (Some p) x ts us left n h a = absurd h
 
   -- a path is read where its base is filled
@@ -229,19 +236,19 @@ module _ (r : RawTree) (actors : List RoutineTree) (vars : List ParamTree) (type
 
   call_fits : (path : List Ident) (es : ExprTrees) (ts : List TypeTree) → Stands r.records typed (next_instr f.mem f)
       → ((q : Slotted) → among (instr_reads (ActInstr path es)) q ≡ true → Filled f.mem q)
-      → AllTyped r actors f.code vars es ts → CallFits r actors f.code vars path ts → Safe CallFit (call_act (class_names r) v (look f.mem) path es)
-  call_fits [] es ts n full y h = absurd h
-  call_fits (x ∷ []) es ts n full y h =
+      → AllTyped r actors f.code vars es ts → CallFits r actors f.code vars path ts → change_of path ≡ None → Safe CallFit (call_act (class_names r) v (look f.mem) path es)
+  call_fits [] es ts n full y h none = absurd h
+  call_fits (x ∷ []) es ts n full y h none =
       then_good (λ us. HaveTypes r.records typed (values_of_list us) ts) CallFit (values (class_names r) v (look f.mem) es)
       (λ vs left. plain_act (class_names r) v (look f.mem) (named call_names x.name) x.name vs left)
       (values_fit es ts full y) (λ us left a. plain_fits (named call_names x.name) x ts us left n h a)
-  call_fits (x ∷ (z ∷ zs)) es ts n full y h =
+  call_fits (x ∷ (z ∷ zs)) es ts n full y h none =
       let base = listed (place_named x.name) in
       let got = path_read x (before_last z zs) h.0 h.2 (λ q e. full q (among_left base (exprs_places es) q (ap (λ o. among (listed o) q) e ∙ ap (λ b. b || false) (same_self q)))) in
       then_good (λ us. HaveTypes r.records typed (values_of_list us) ts) CallFit (values (class_names r) v (look f.mem) es)
       (λ vs left. based_act (class_names r) v (look f.mem) (read_in r.records (look f.mem x.name) (before_last z zs)) (named method_names (last_of z zs).name) vs left)
       (values_fit es ts (λ q a. full q (among_right base (exprs_places es) q a)) y)
-      (λ us left a. let told = message_told r.records typed h.1 h.0 ts got.0 us got.2 h.4 a in
+      (λ us left a. let told = message_told r.records typed h.1 h.0 ts got.0 us (sym (ap change_by h.3) ∙ none) got.2 h.4 a in
       subst (λ o. Safe CallFit (based_act (class_names r) v (look f.mem) o (named method_names (last_of z zs).name) us left)) (sym got.1)
       (subst (λ o. Safe CallFit (based_act (class_names r) v (look f.mem) (Some got.0) o us left)) (sym h.3)
       (subst (λ o. Safe CallFit (done o left)) (sym told.1) (told_fits told.0 n told.2))))
@@ -258,6 +265,117 @@ module _ (r : RawTree) (actors : List RoutineTree) (vars : List ParamTree) (type
       subst (λ o. Fit (given f o (placed (class_names r) v f left))) (sym a.is)
       ((written_next r.records typed f i a.place a.type a.value s here a.at a.fits (only a), a.dropped), refl)
 
+  among_one : (p q : Slotted) → among (p ∷ []) q ≡ true → q ≡ p
+  among_one p q h = place_eq q p (first (same_place q p) h)
+    where
+      first : (b : Bool) → b || false ≡ true → b ≡ true
+      first true h = refl
+      first false h = h
+
+  -- and what a call statement changes in place does
+  put_fits : (i : InstrTree) (path : List Ident) (t : TypeTree) (u : ValueTree) (ds : List ValueTree) (left : ℕ) → Here (Body i) → path_type r.records vars path ≡ Some t → Is u t
+      → HaveSome r.records typed ds → ((q : Slotted) → among (base_place path) q ≡ true → Filled f.mem q)
+      → ((a : Assigned r.records typed f.code f.mem path u) (q : Slotted) → among (instr_fills i) q ≡ true → q ≡ a.place)
+      → Fit (given f (put_path (class_names r) v f path u) (λ g. asks left (Drops ds) g))
+  put_fits i path t u ds left here e k some full only =
+      let a = assigns r.records typed f.code vars rules.places f.mem s.holds path t u e k full in
+      subst (λ o. Fit (given f (option_map (λ (p : List ValueTree × Memory). next_instr p.1 f) o) (λ g. asks left (Drops ds) g))) (sym a.is)
+      ((written_next r.records typed f i a.place a.type a.value s here a.at a.fits (only a), some), refl)
+
+  -- a new cell, or an empty vector
+  made_fits : (p : Slotted) (t u : TypeTree) (kd : Kind) → Here (Body (NewInstr p)) → type_at f.code p ≡ Some t → promise_kind t ≡ Some kd → t ≡ reference_type kd u
+      → Fit (new_by (class_names r) v f p t (promise_kind t))
+  made_fits p t u kd here at kinds e =
+      subst (λ o. Fit (new_by (class_names r) v f p t o)) (sym kinds) ((s, (t, subst (λ o. Stores r f.code vars o t) (sym here) at, (u, e))), refl)
+
+  new_fits : (p : Slotted) (t u : TypeTree) → Here (Body (NewInstr p)) → type_at f.code p ≡ Some t → (t ≡ PromiseType u) ⊎ ((t ≡ PromiseStreamType u) ⊎ (t ≡ VectorType u))
+      → Fit (new_by (class_names r) v f p t (promise_kind t))
+  new_fits p t u here at (inl e) = made_fits p t u kind.Promise here at (ap promise_kind e) e
+  new_fits p t u here at (inr (inl e)) = made_fits p t u kind.PromiseStream here at (ap promise_kind e) e
+  new_fits p t u here at (inr (inr e)) =
+      let empty = CompositeValue ListWhole NoValues in
+      let has : Is empty t = subst (Is empty) (sym e) ([], (u, refl, tt), refl) in
+      subst (λ o. Fit (new_by (class_names r) v f p t o)) (sym (ap promise_kind e))
+      (subst (λ o. Fit (given f o (λ w. given f (put_at r.records f.mem p [] w) (placed (class_names r) v f v.left)))) (sym (ap default_value e))
+      ((written_next r.records typed f (NewInstr p) p t empty s here at has (among_one p), old_some (read f.mem p) refl), refl))
+    where
+      old_some : (o : Option ValueTree) → read f.mem p ≡ o → HaveSome r.records typed (filled (o ∷ []))
+      old_some None q = tt
+      old_some (Some w) q = (held_some r.records typed f.code f.mem p w s.holds q, tt)
+
+  -- how a call statement changes a vector
+  abbrev Changed : TypeTree → Storing → Type 0
+  Changed t st = Is st.0 t × HaveSome r.records typed st.1
+
+  grown_fits : (room : Bool) (es : ValueTrees) (w : ValueTree) (u : TypeTree) (ts : List TypeTree) (left : ℕ) → AllAre u ts → HaveTypes r.records typed es ts → Is w u
+      → Safe (Changed (VectorType u)) (grown_by room es w left)
+  grown_fits true es w u ts left all have is = ((ts ++ u ∷ [], (u, refl, more_are u ts all), more_have es w u ts have is), tt)
+    where
+      more_are : (u : TypeTree) (ts : List TypeTree) → AllAre u ts → AllAre u (ts ++ u ∷ [])
+      more_are u [] a = (refl, tt)
+      more_are u (t ∷ ts) a = (a.0, more_are u ts a.1)
+
+      more_have : (es : ValueTrees) (w : ValueTree) (u : TypeTree) (ts : List TypeTree) → HaveTypes r.records typed es ts → Is w u → HaveTypes r.records typed (with_last es w) (ts ++ u ∷ [])
+      more_have NoValues w u ts h k = (u, [], ap (λ l. l ++ u ∷ []) h, k, refl)
+      more_have (MoreValues e es) w u ts h k = (h.0, h.1 ++ u ∷ [], ap (λ l. l ++ u ∷ []) h.2, h.3, more_have es w u h.1 h.4 k)
+  grown_fits false es w u ts left all have is = tt
+
+  vector_fits : (how : Change) (m : Method) (t : TypeTree) (ts : List TypeTree) (us : List ValueTree) (w : ValueTree) (left : ℕ) → change_by (Some m) ≡ Some how → MessageFits m t ts → Is w t
+      → HaveTypes r.records typed (values_of_list us) ts → Safe (Changed t) (changed how us (Some w) left)
+  vector_fits Grows method.PushBack (VectorType u) ts us w left e f h a =
+      let k = list_value r.records typed w u h in
+      let x = subst (HaveTypes r.records typed (values_of_list us)) f a in
+      subst (λ z. Safe (Changed (VectorType u)) (changed Grows us (Some z) left)) (sym k.is)
+      (grown_fits (nat_lt (count_of k.parts) ELEMENTS) k.parts (arg us 0) u k.types left k.all k.have (arg_typed r.records typed us (u ∷ []) 0 u x refl))
+  vector_fits Clears method.Clear (VectorType u) ts us w left e f h a =
+      let k = list_value r.records typed w u h in
+      subst (λ z. Safe (Changed (VectorType u)) (changed Clears us (Some z) left)) (sym k.is)
+      (([], (u, refl, tt), refl), ((VectorType u, (k.types, (u, refl, k.all), k.have)), tt))
+  vector_fits Clears method.PushBack t ts us w left e f h a = absurd cc
+  vector_fits Grows method.PushBack t ts us w left e f h a = absurd f
+  vector_fits Grows method.Clear t ts us w left e f h a = absurd cc
+  vector_fits Clears method.Clear t ts us w left e f h a = absurd f
+  vector_fits how m t ts us w left e f h a = absurd cc
+
+  statement_fits : (path : List Ident) (es : ExprTrees) → Here (Body (ActInstr path es)) → InstrOk (ActInstr path es) → (o : Option Change) → change_of path ≡ o
+      → Fit (call_by (class_names r) v (look f.mem) o f (next_instr f.mem f) (put_path (class_names r) v f) path es)
+  statement_fits path es here h None none =
+      let n = untouched_next r.records typed f (ActInstr path es) s here (λ p a. no_fill a) in
+      evaluated_fits CallFit (call_act (class_names r) v (look f.mem) path es) (λ act left. asks left act (next_instr f.mem f))
+      (call_fits path es h.0 n (λ q a. filled_here (Body (ActInstr path es)) here q a) h.1 h.2 none) (λ act left k. k)
+    where
+      no_fill : false ≡ true → ⊥
+      no_fill h = cc
+  statement_fits [] es here h (Some how) some = absurd h.2
+  statement_fits (x ∷ []) es here h (Some how) some = absurd cc
+  statement_fits (x ∷ (z ∷ zs)) es here h (Some how) some =
+      let c = h.2 in
+      let bs = before_last z zs in
+      let base = listed (place_named x.name) in
+      let full : (q : Slotted) → among (instr_reads (ActInstr (x ∷ (z ∷ zs)) es)) q ≡ true → Filled f.mem q = (λ q a. filled_here (Body (ActInstr (x ∷ (z ∷ zs)) es)) here q a) in
+      let based : (q : Slotted) → place_named x.name ≡ Some q → Filled f.mem q =
+      (λ q e. full q (among_left base (exprs_places es) q (ap (λ o. among (listed o) q) e ∙ ap (λ b. b || false) (same_self q)))) in
+      let got = path_read x bs c.0 c.2 based in
+      evaluated_fits (Changed c.0) (storing (class_names r) v (look f.mem) how (x ∷ bs) es)
+      (λ st left. given f (put_path (class_names r) v f (x ∷ bs) st.0) (λ g. asks left (Drops st.1) g))
+      (then_good (λ us. HaveTypes r.records typed (values_of_list us) h.0) (Changed c.0) (values (class_names r) v (look f.mem) es)
+      (λ vs left. changed how vs (read_in r.records (look f.mem x.name) bs) left)
+      (values_fit es h.0 (λ q a. full q (among_right base (exprs_places es) q a)) h.1)
+      (λ us left a. subst (λ o. Safe (Changed c.0) (changed how us o left)) (sym got.1)
+      (vector_fits how c.1 c.0 h.0 us got.0 left (sym (ap change_by c.3) ∙ some) c.4 got.2 a)))
+      (λ st left k. put_fits (ActInstr (x ∷ (z ∷ zs)) es) (x ∷ bs) c.0 st.0 st.1 left here c.2 k.0 k.1 (λ q a. based_place x bs q based a) (λ a q b. no_fill b))
+    where
+      no_fill : {X : Type 0} → false ≡ true → X
+      no_fill h = absurd cc
+
+      based_place : (x : Ident) (bs : List Ident) (q : Slotted) → ((q : Slotted) → place_named x.name ≡ Some q → Filled f.mem q) → among (base_place (x ∷ bs)) q ≡ true → Filled f.mem q
+      based_place x [] q h a = no_fill a
+      based_place x (y ∷ ys) q h a = by_place (place_named x.name) refl a
+        where
+          by_place : (o : Option Slotted) → place_named x.name ≡ o → among (listed o) q ≡ true → Filled f.mem q
+          by_place None e a = no_fill a
+          by_place (Some p) e a = subst (Filled f.mem) (sym (among_one p q a)) (h p e)
+
   instruction_fits : (i : InstrTree) → Here (Body i) → InstrOk i → Fit (instruction (class_names r) v f i)
   instruction_fits (SetInstr path e) here h =
       evaluated_fits (λ u. Is u h.0) (value (class_names r) v (look f.mem) e) (λ u left. given f (assign r.records f.mem path u) (placed (class_names r) v f left))
@@ -270,21 +388,8 @@ module _ (r : RawTree) (actors : List RoutineTree) (vars : List ParamTree) (type
       (λ q a. filled_here (Body (EffectInstr path e)) here q (among_right (base_place path) (expr_places e) q (effect_places (class_names r) e k.effect k.args k.is q a))) k.is k
       (subst (λ o. Stores r f.code vars o h.0) (sym here) h.1))
   instruction_fits (NewInstr p) here h =
-      let kinds = made_kind h.0 h.2.0 h.2.1 in
-      let there = ap (λ o. bind o promise_kind) h.1 ∙ kinds.1 in
-      subst (λ o. Fit (given f o (λ k. asks v.left (Effects Stored (Make k)) f))) (sym there)
-      ((s, (h.0, subst (λ o. Stores r f.code vars o h.0) (sym here) h.1, (h.2.0, kinds.2))), refl)
-    where
-      made_kind : (t u : TypeTree) → (t ≡ PromiseType u) ⊎ (t ≡ PromiseStreamType u) → (k : Kind) × (promise_kind t ≡ Some k) × (t ≡ reference_type k u)
-      made_kind t u (inl e) = (kind.Promise, ap promise_kind e, e)
-      made_kind t u (inr e) = (kind.PromiseStream, ap promise_kind e, e)
-  instruction_fits (ActInstr path es) here h =
-      let n = untouched_next r.records typed f (ActInstr path es) s here (λ p a. no_fill a) in
-      evaluated_fits CallFit (call_act (class_names r) v (look f.mem) path es) (λ act left. asks left act (next_instr f.mem f))
-      (call_fits path es h.0 n (λ q a. filled_here (Body (ActInstr path es)) here q a) h.1 h.2) (λ act left k. k)
-    where
-      no_fill : false ≡ true → ⊥
-      no_fill h = cc
+      subst (λ o. Fit (given f o (λ t. new_by (class_names r) v f p t (promise_kind t)))) (sym h.1) (new_fits p h.0 h.2.0 here h.1 h.2.1)
+  instruction_fits (ActInstr path es) here h = statement_fits path es here h (change_of path) refl
   instruction_fits (DropInstr ns) here h = ((stood, dropped_some r.records typed f.code ns f.mem s.holds), refl)
     where
       no_fill : {X : Type 0} → false ≡ true → X
@@ -368,9 +473,29 @@ module _ (r : RawTree) (actors : List RoutineTree) (vars : List ParamTree) (type
       (value_fits e BoolType (filled_here (Last (TestLast e x y)) here) h.0)
       (λ u left k. test_fits left u x y k (jumped (TestLast e x y) x here (0, omega arith, refl) h.1) (jumped (TestLast e x y) y here (1, omega arith, refl) h.2))
   last_fits (ChooseLast g) here h = choose_fits g (callback_at f.code g v.kept) here refl h
-  last_fits (ReturnLast e) here h =
+  last_fits (ReturnLast None) here h = ((nothing_is f.code.returns h, everything_some r.records typed f.code f.mem s.holds, refl), tt)
+    where
+      nothing_is : (t : TypeTree) → is_nothing t ≡ true → end_type t ≡ VoidType
+      nothing_is NothingType e = refl
+      nothing_is t e = absurd cc
+  last_fits (ReturnLast (Some e)) here h =
       evaluated_fits (λ u. Is u f.code.returns) (value (class_names r) v (look f.mem) e) (λ u left. asks left (Returns u (everything f.mem)) over)
-      (value_fits e f.code.returns (filled_here (Last (ReturnLast e)) here) h) (λ u left k. ((k, everything_some r.records typed f.code f.mem s.holds, refl), tt))
+      (value_fits e f.code.returns (filled_here (Last (ReturnLast (Some e))) here) h)
+      (λ u left k. ((end_typed u f.code.returns k, everything_some r.records typed f.code f.mem s.holds, refl), tt))
+    where
+      end_typed : (u : ValueTree) (t : TypeTree) → Is u t → Is u (end_type t)
+      end_typed (IntValue n) NothingType h = absurd cc
+      end_typed (BoolValue b) NothingType h = absurd cc
+      end_typed (TextValue b) NothingType h = absurd cc
+      end_typed VoidValue NothingType h = absurd cc
+      end_typed (ErrorValue n) NothingType h = absurd cc
+      end_typed (CompositeValue (RecordWhole i) vs) NothingType h = let e = h.1.named in absurd cc
+      end_typed (CompositeValue ListWhole vs) NothingType h = let e = h.1.1 in absurd cc
+      end_typed (RefValue kind.Promise n) NothingType h = let e = h.1 in absurd cc
+      end_typed (RefValue kind.Future n) NothingType h = let e = h.1 in absurd cc
+      end_typed (RefValue kind.PromiseStream n) NothingType h = let e = h.1 in absurd cc
+      end_typed (RefValue kind.FutureStream n) NothingType h = let e = h.1 in absurd cc
+      end_typed u t h = h
   last_fits (ThrowLast e) here h =
       evaluated_fits (λ u. Is u ErrorType) (value (class_names r) v (look f.mem) e) (λ u left. throw_value (class_names r) v f left (error_of u))
       (value_fits e ErrorType (filled_here (Last (ThrowLast e)) here) h)

@@ -1,10 +1,10 @@
 -- A boot of `main` keeps a process fitting.
-use Rattle.std.proofs.Common.{◌≡◌, ℕ, suc, nat_eq, List, [], ◌∷◌, length, if◌then◌else◌, true, refl, sym, ap, ◌∙◌, subst, arith}
+use Rattle.std.proofs.Common.{◌≡◌, ℕ, suc, nat_eq, List, [], ◌∷◌, length, if◌then◌else◌, true, refl, sym, ap, ◌∙◌, subst, arith, false}
 use Rattle.std.specs.Prelude.{pos, slice_get, codes}
 use Rattle.std.specs.Option.{unwrap_or}
 use Rattle.std.specs.declared.option.Option.{Option}
 use Rattle.std.specs.declared.option.Option.TheVariants.{None, Some}
-use Rattle.flow_tree.specs.Tree.{TypeTree, IntType, BoolType, StringType, VoidType, ErrorType, NamedType, FutureType, FutureStreamType, PromiseType, PromiseStreamType}
+use Rattle.flow_tree.specs.Tree.{TypeTree, IntType, BoolType, StringType, VoidType, ErrorType, NamedType, FutureType, FutureStreamType, PromiseType, PromiseStreamType, VectorType, NothingType}
 use Rattle.flow_tree.specs.Decls.{RoutineTree}
 use Rattle.flow_value.specs.Values.{ValueTree, IntValue, values_of_list}
 use Rattle.flow_eval.specs.Typed.{HaveTypes}
@@ -33,6 +33,7 @@ use Rattle.flow_progress.proofs.States.{Fine, fine_same, fine_since, fine_turn, 
 use Rattle.flow_progress.proofs.NewCells.{with_type, new_type, kept_types, new_but}
 use Rattle.flow_progress.proofs.StepFits.{add_actor}
 use Rattle.flow_progress.proofs.Tops.{class_of}
+use Rattle.flow_ast.specs.Typing.{is_nothing}
 
 -- `main` is a class with one int and the result `Void`
 record IsMain (r : RawTree) : Type 0 where
@@ -54,6 +55,8 @@ ints (FutureType t ∷ ts) h = absurd cc
 ints (FutureStreamType t ∷ ts) h = absurd cc
 ints (PromiseType t ∷ ts) h = absurd cc
 ints (PromiseStreamType t ∷ ts) h = absurd cc
+ints (VectorType t ∷ ts) h = absurd cc
+ints (NothingType ∷ ts) h = absurd cc
 
 main_means : (o : Option Meaning) → is_main o ≡ true → o ≡ Some (ActorOf (IntType ∷ []) VoidType)
 main_means None h = absurd cc
@@ -69,6 +72,8 @@ main_means (Some (ActorOf ts (FutureType t))) h = absurd cc
 main_means (Some (ActorOf ts (FutureStreamType t))) h = absurd cc
 main_means (Some (ActorOf ts (PromiseType t))) h = absurd cc
 main_means (Some (ActorOf ts (PromiseStreamType t))) h = absurd cc
+main_means (Some (ActorOf ts (VectorType t))) h = absurd cc
+main_means (Some (ActorOf ts NothingType)) h = absurd cc
 
 main_is : (r : RawTree) → IsValid r → IsMain r
 main_is r valid =
@@ -111,11 +116,11 @@ module _ (r : RawTree) (valid : IsValid r) (actors : List RoutineTree) (rules : 
       no_entry : (o : Option Entry) (e : Entry) → o ≡ None → o ≡ Some e → ⊥
       no_entry o e f g = cc
 
-  booted : (vs : List ValueTree) (d : ClassTree) (class : ℕ) (name : List ℕ) → slice_get r.classes class ≡ Some d
+  booted : (vs : List ValueTree) (d : ClassTree) (class : ℕ) (name : List ℕ) → slice_get r.classes class ≡ Some d → is_nothing d.returns ≡ false
       → ((ts : CellTypes) → HaveTypes r.records (typed_by ts) (values_of_list vs) (first_types d.params d.slots))
       → (m : ℕ)
       → (let e = record (enrol class name (record c { left = m })) { main = Some (suc c.made) } in Fine r types e.halted e (added xs (suc c.started) (begun d vs)))
-  booted vs d class name is fits m =
+  booted vs d class name is some fits m =
       let k = record c { left = m } in
       let future = FutureType d.returns in
       let ts = with_type types (suc c.made) future in
@@ -135,7 +140,7 @@ module _ (r : RawTree) (valid : IsValid r) (actors : List RoutineTree) (rules : 
         registered = q.registered;
       } in
       let st = begun_fits r actors (class_vars d) (typed_by ts) d (rules.classes class d is) vs (fits ts) in
-      let w = add_actor r actors rules (record { now = 0; processes = 0; word = 0 }) ts k4 xs class (suc c.made) d a up p4 is (new_type types (suc c.made) future) refl st in
+      let w = add_actor r actors rules (record { now = 0; processes = 0; word = 0 }) ts k4 xs class (Some (suc c.made)) d a up p4 is (some, new_type types (suc c.made) future) refl st in
       let e = record (enrol class name k) { main = Some (suc c.made) } in
       let ys = added xs (suc c.started) a in
       let b = all_but r types (suc c.started) c xs p in
@@ -170,4 +175,4 @@ boots_fit r valid actors rules types me p fits up go =
     let name = e.label e.main in
     subst (λ o. Fine r types (boot_with e o p).core.halted (boot_with e o p).core (boot_with e o p).actors) (sym fresh)
     (fine_turn r types (λ z. record (enrol e.main name z) { main = Some (suc z.made) }) p.core (added p.actors (suc p.core.started) (begun d vs))
-    (booted r valid actors rules types p.core p.actors fits up go vs d e.main name m.is ok))
+    (booted r valid actors rules types p.core p.actors fits up go vs d e.main name m.is (ap is_nothing m.gives) ok))

@@ -2,6 +2,8 @@
 use Rattle.std.proofs.Common.{ℕ, List, [], ◌∷◌}
 use Rattle.std.specs.declared.option.Option.{Option}
 use Rattle.std.specs.declared.option.Option.TheVariants.{None, Some}
+use Rattle.std.specs.Prelude.{position}
+use Rattle.std.specs.Str.{bytes_eq}
 use Rattle.flow_ast.specs.declared.predefined.Predefined.{Predefined}
 use Rattle.flow_ast.specs.declared.predefined.Predefined.TheVariants as code
 use Rattle.flow_ast.specs.declared.predefined.Method.{Method}
@@ -16,9 +18,9 @@ use Rattle.flow_value.specs.Values.{ValueTree, RefValue, OutcomeTree}
 use Rattle.flow_eval.specs.Answers.{int_of, text_of, arg}
 use Rattle.flow_eval.specs.Eval.{Res, Done, Fails, Spent, Meaningless, then}
 use Rattle.flow_eval.specs.Functions.{Call, read_in}
-use Rattle.flow_meaning.specs.Requests.{Act, Goes, Cancels, Prints, Sends, SendsTo}
+use Rattle.flow_meaning.specs.Requests.{Act, Goes, Cancels, Prints, Sends, SendsTo, Starts}
 use Rattle.flow_meaning.specs.Process.{View}
-use Rattle.flow_meaning.specs.Evaluating.{Names, Look, bind, setting, sent, cancelled, method_act, done, before_last, last_of, values, function_act, plain_act, based_act, call_act}
+use Rattle.flow_meaning.specs.Evaluating.{Names, Look, bind, setting, sent, cancelled, method_act, done, before_last, last_of, values, function_act, plain_act, based_act, call_act, started_act}
 
 -- what a call statement may ask
 abbrev pub IsCalled : Act → Type 0
@@ -27,6 +29,7 @@ IsCalled (Sends k o) = Unit {0}
 IsCalled (Cancels k) = Unit {0}
 IsCalled (Prints v) = Unit {0}
 IsCalled (SendsTo q port text) = Unit {0}
+IsCalled (Starts class args) = Unit {0}
 IsCalled _ = ⊥
 
 abbrev pub Comes : {A : Type 0} → (A → Type 0) → Res A → Type 0
@@ -68,9 +71,13 @@ method_called m (RefValue kind.Future cell) vs = cancel_called m cell
 method_called m v vs = tt
 
 module _ (ns : Names) (v : View) (look : Look) where
-  function_called : (o : Option RoutineTree) (vs : List ValueTree) (left : ℕ) → Comes IsCalled (function_act ns v look o vs left)
-  function_called None vs left = tt
-  function_called (Some f) vs left = then_comes IsCalled (Call (setting ns v) f vs left) (λ u left. Done Goes left) (λ u left. tt)
+  started_called : (o : Option ℕ) (vs : List ValueTree) (left : ℕ) → Comes IsCalled (started_act ns v look o vs left)
+  started_called None vs left = tt
+  started_called (Some k) vs left = tt
+
+  function_called : (o : Option RoutineTree) (f : List ℕ) (vs : List ValueTree) (left : ℕ) → Comes IsCalled (function_act ns v look o f vs left)
+  function_called None f vs left = started_called (position (bytes_eq f) ns.actors) vs left
+  function_called (Some g) f vs left = then_comes IsCalled (Call (setting ns v) g vs left) (λ u left. Done Goes left) (λ u left. tt)
 
   plain_called : (o : Option Predefined) (f : List ℕ) (vs : List ValueTree) (left : ℕ) → Comes IsCalled (plain_act ns v look o f vs left)
   plain_called (Some code.Trace) f vs left = tt
@@ -80,7 +87,7 @@ module _ (ns : Names) (v : View) (look : Look) where
       (λ q. bind_called (int_of (arg vs 1)) (λ port. bind (text_of (arg vs 2)) (λ text. Some (SendsTo q port text)))
       (λ port. bind_called (text_of (arg vs 2)) (λ text. Some (SendsTo q port text)) (λ text. tt))))
   plain_called (Some p) f vs left = tt
-  plain_called None f vs left = function_called (routine_named ns.functions f) vs left
+  plain_called None f vs left = function_called (routine_named ns.functions f) f vs left
 
   based_called : (u : Option ValueTree) (m : Option Method) (vs : List ValueTree) (left : ℕ) → Comes IsCalled (based_act ns v look u m vs left)
   based_called (Some u) (Some m) vs left = done_called (method_act m u vs) left (method_called m u vs)

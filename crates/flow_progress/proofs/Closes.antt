@@ -18,18 +18,19 @@ use Rattle.flow_meaning.specs.Frame.{Frame}
 use Rattle.flow_meaning.proofs.Posture.{each_number, thing_removed_other, removed_none, Awake}
 use Rattle.flow_meaning.proofs.Order.{rising_removed}
 use Rattle.flow_meaning.proofs.Shifts.{cell_waits}
-use Rattle.flow_progress.specs.Asking.{HaveSome, OutcomeFits}
+use Rattle.flow_progress.specs.Asking.{HaveSome, OutcomeFits, end_type}
 use Rattle.flow_progress.specs.Registering.{IsRegistered}
-use Rattle.flow_progress.specs.Fitting.{CellTypes, typed_by, AllWaitFor, WaitersAt, ActorAt, ProcessFits}
+use Rattle.flow_progress.specs.Fitting.{CellTypes, typed_by, AllWaitFor, WaitersAt, ActorAt, ProcessFits, OwnsResult}
 use Rattle.flow_progress.specs.Alone.{frames_scan}
 use Rattle.flow_progress.proofs.Ones.{ResultsGone}
 use Rattle.flow_progress.specs.Keeping.{Fine}
 use Rattle.flow_progress.proofs.Retyped.{outcome_retyped}
-use Rattle.flow_progress.proofs.States.{fine_of, all_still, fine_turn, FitsBut, dropping_fits}
+use Rattle.flow_progress.proofs.States.{fine_of, all_still, fine_turn, FitsBut, dropping_fits, fine_same}
 use Rattle.flow_progress.proofs.CellStates.{fill_fits}
 use Rattle.flow_progress.proofs.StepFits.{Actor}
 use Rattle.flow_progress.proofs.Unseen.{Off, outcome_off}
 use Rattle.flow_progress.proofs.Removing.{unseen, others, moves, removed_state}
+use Rattle.flow_progress.proofs.Given.{end_given}
 
 first_task : (q a b t d p e f : ℕ) → q + (a + b + (t + d) + p + e + f) ≡ 0 → t ≡ 0
 first_task q a b t d p e f h = omega (arith, h)
@@ -127,21 +128,14 @@ module _ (r : RawTree) (types : CellTypes) (i : ℕ) (o : OutcomeTree) (ts : Lis
   close_fits a =
       fine_turn r types (λ d. give_result (frames_scan (removed xs i)) a.entry.result o (writes (end_line i o) d)) (record c { tasks = ts; entries = removed c.entries i }) (removed xs i) by_turns
     where
-      result : ℕ
-      result = a.owner.result
-
-      -- before the task is off
-      all_zero : reference_count (frames_scan (removed xs i)) PromiseSide result (record c { entries = removed c.entries i; tasks = Close i o ∷ ts }) ≡ 0
-      all_zero = subst (λ us. reference_count (frames_scan (removed xs i)) PromiseSide result (record c { entries = removed c.entries i; tasks = us }) ≡ 0) top
-          (alone.alone i result a.entry a.at a.owner.owns)
-
-      by_turns : (n : ℕ) → Fine r types (give_result (frames_scan (removed xs i)) a.entry.result o (writes (end_line i o) (record c { tasks = ts; entries = removed c.entries i; left = n }))).halted
-          (give_result (frames_scan (removed xs i)) a.entry.result o (writes (end_line i o) (record c { tasks = ts; entries = removed c.entries i; left = n }))) (removed xs i)
-      by_turns n =
+      -- a result that is given
+      given : (result n : ℕ) → a.entry.result ≡ Some result → types result ≡ Some (FutureType a.class.returns) → OutcomeFits r.records (typed_by types) o a.class.returns
+          → Fine r types (give_result (frames_scan (removed xs i)) (Some result) o (writes (end_line i o) (record c { tasks = ts; entries = removed c.entries i; left = n }))).halted
+          (give_result (frames_scan (removed xs i)) (Some result) o (writes (end_line i o) (record c { tasks = ts; entries = removed c.entries i; left = n }))) (removed xs i)
+      given result n own gives fits =
           let d = writes (end_line i o) (record c { tasks = ts; entries = removed c.entries i; left = n }) in
-          let ys = removed xs i in
           let state = closed r types i c xs ts n d.lines a.running order a.rest in
-          let q = frames_scan ys PromiseSide result in
+          let q = frames_scan (removed xs i) PromiseSide result in
           let ca = in_cells PromiseSide result c.cells in
           let ea = in_entries PromiseSide result (removed c.entries i) in
           let va = count PromiseSide result (refs_in (value_in o)) in
@@ -149,7 +143,23 @@ module _ (r : RawTree) (types : CellTypes) (i : ℕ) (o : OutcomeTree) (ts : Lis
           let pa = in_ports PromiseSide result c.ports in
           let ra = in_requests PromiseSide result c.requests in
           let ma = count_maybe PromiseSide result FutureSide c.main in
-          subst (λ x. Fine r types (give_result (frames_scan ys) x o d).halted (give_result (frames_scan ys) x o d) ys) (sym a.owner.owns)
-          (result_set r types result o a.class.returns d ys state go a.owner.gives a.doing.0 (reference_count (frames_scan ys) FutureSide result d) refl (other_tasks q ca ea va ta pa ra ma all_zero)
-          (first_task q ca ea va ta pa ra ma all_zero)
-          (alone.apart i result a.entry o ts top a.at a.owner.owns))
+          let all_zero : reference_count (frames_scan (removed xs i)) PromiseSide result (record c { entries = removed c.entries i; tasks = Close i o ∷ ts }) ≡ 0 =
+          subst (λ us. reference_count (frames_scan (removed xs i)) PromiseSide result (record c { entries = removed c.entries i; tasks = us }) ≡ 0) top
+          (alone.alone i result a.entry a.at own) in
+          result_set r types result o a.class.returns d (removed xs i) state go gives fits (reference_count (frames_scan (removed xs i)) FutureSide result d) refl
+          (other_tasks q ca ea va ta pa ra ma all_zero) (first_task q ca ea va ta pa ra ma all_zero) (alone.apart i result a.entry o ts top a.at own)
+
+      -- a void actor gives none
+      by_result : (x : Option ℕ) (n : ℕ) → a.entry.result ≡ x → OwnsResult r types x a.class.returns
+          → Fine r types (give_result (frames_scan (removed xs i)) x o (writes (end_line i o) (record c { tasks = ts; entries = removed c.entries i; left = n }))).halted
+          (give_result (frames_scan (removed xs i)) x o (writes (end_line i o) (record c { tasks = ts; entries = removed c.entries i; left = n }))) (removed xs i)
+      by_result None n own h =
+          let d = writes (end_line i o) (record c { tasks = ts; entries = removed c.entries i; left = n }) in
+          fine_same r types d.halted (dropping_values (value_in o) d) (removed xs i) go
+          (dropping_fits r types (value_in o) d (removed xs i) (value_some r types o (end_type a.class.returns) a.doing.0) (closed r types i c xs ts n d.lines a.running order a.rest))
+      by_result (Some result) n own h =
+          given result n own h.1 (subst (OutcomeFits r.records (typed_by types) o) (end_given a.class.returns h.0) a.doing.0)
+
+      by_turns : (n : ℕ) → Fine r types (give_result (frames_scan (removed xs i)) a.entry.result o (writes (end_line i o) (record c { tasks = ts; entries = removed c.entries i; left = n }))).halted
+          (give_result (frames_scan (removed xs i)) a.entry.result o (writes (end_line i o) (record c { tasks = ts; entries = removed c.entries i; left = n }))) (removed xs i)
+      by_turns n = by_result a.entry.result n refl a.owner.owns

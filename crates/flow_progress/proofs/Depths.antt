@@ -1,11 +1,11 @@
 -- A value of a type refers to no cell of futures of that type: records are declared before their use.
-use Rattle.std.proofs.Common.{◌≡◌, ◌<◌, ℕ, suc, ◌+◌, Bool, true, false, not, cond, List, [], ◌∷◌, ◌++◌, map, length, refl, sym, ap, subst, ◌∙◌, arith, if◌then◌else◌}
+use Rattle.std.proofs.Common.{◌≡◌, ◌<◌, ℕ, suc, ◌+◌, Bool, true, false, not, cond, List, [], ◌∷◌, ◌++◌, map, length, refl, sym, ap, subst, ◌∙◌, arith, if◌then◌else◌, ◌⊎◌, inl, inr}
 use Rattle.std.specs.Str.{bytes_eq}
 use Rattle.std.specs.Option.{option_map}
 use Rattle.std.proofs.lemmas.Bool.{false≢true, true≢false}
 use Rattle.std.specs.declared.option.Option.{Option}
 use Rattle.std.specs.declared.option.Option.TheVariants.{None, Some}
-use Rattle.flow_tree.specs.Tree.{TypeTree, NamedType, FutureType, FutureStreamType, PromiseType, PromiseStreamType}
+use Rattle.flow_tree.specs.Tree.{TypeTree, NamedType, FutureType, FutureStreamType, PromiseType, PromiseStreamType, VectorType}
 use Rattle.flow_tree.specs.Decls.{ParamTree, RecordTree, DeclTree, StructDecl, FunctionDecl}
 use Rattle.flow_ast.specs.TypingNames.{named}
 use Rattle.flow_ast.specs.Typing.{Signature, is_there, is_packet, packet_fields, param_types, record_named, record_call}
@@ -13,7 +13,7 @@ use Rattle.flow_value.specs.declared.value.Kind.{Kind}
 use Rattle.flow_value.specs.declared.value.Kind.TheVariants as kind
 use Rattle.flow_value.specs.Values.{ValueTree, CompositeValue, RefValue, Whole, RecordWhole, ListWhole}
 use Rattle.flow_value.proofs.References.{parts_map}
-use Rattle.flow_eval.specs.Typed.{IsMadeOf, reference_type, future_side}
+use Rattle.flow_eval.specs.Typed.{IsMadeOf, reference_type, future_side, AllAre}
 use Rattle.flow_eval.proofs.TypedReferences.{AllTypes, LeadsBy, typed_parts}
 use Rattle.flow_rules.specs.declared.rule.SemanticRule.TheVariants.{UnknownName, TakenName}
 use Rattle.flow_rules.specs.Least.{lesser, unless}
@@ -45,6 +45,7 @@ level rs (FutureType t) = level rs t
 level rs (FutureStreamType t) = level rs t
 level rs (PromiseType t) = level rs t
 level rs (PromiseStreamType t) = level rs t
+level rs (VectorType t) = level rs t
 level rs _ = 0
 
 abbrev Below : List RecordTree → ℕ → TypeTree → Type 0
@@ -80,6 +81,7 @@ level_known done more (FutureType t) h = level_known done more t h
 level_known done more (FutureStreamType t) h = level_known done more t h
 level_known done more (PromiseType t) h = level_known done more t h
 level_known done more (PromiseStreamType t) h = level_known done more t h
+level_known done more (VectorType t) h = level_known done more t h
 level_known done more _ h = omega arith
 
 fields_known : (done more : List RecordTree) (taken : List ℕ → Bool) (fs : List ParamTree) → fields_fault (known (map StructDecl done)) taken fs ≡ None
@@ -137,6 +139,7 @@ depth (FutureType t) = suc (depth t)
 depth (FutureStreamType t) = suc (depth t)
 depth (PromiseType t) = suc (depth t)
 depth (PromiseStreamType t) = suc (depth t)
+depth (VectorType t) = suc (depth t)
 depth _ = 0
 
 no_loop : (kd : Kind) (u : TypeTree) → u ≡ reference_type kd u → ⊥
@@ -156,6 +159,39 @@ inner_level rs kind.Promise u = refl
 inner_level rs kind.Future u = refl
 inner_level rs kind.PromiseStream u = refl
 inner_level rs kind.FutureStream u = refl
+
+-- One type is less than another: its records are declared before, or it is less deep.
+abbrev Less : List RecordTree → TypeTree → TypeTree → Type 0
+Less rs u t = (level rs u < level rs t) ⊎ ((level rs u ≡ level rs t) × (depth u < depth t))
+
+less_on : (rs : List RecordTree) (u s t : TypeTree) → Less rs u s → Less rs s t → Less rs u t
+less_on rs u s t (inl a) (inl b) = inl (omega (arith, a, b))
+less_on rs u s t (inl a) (inr b) = let e = b.0 in inl (omega (arith, a, e))
+less_on rs u s t (inr a) (inl b) = let e = a.0 in inl (omega (arith, b, e))
+less_on rs u s t (inr a) (inr b) = inr (a.0 ∙ b.0, omega (arith, a.1, b.1))
+
+-- a reference to a cell of futures of a type has no less type
+no_less : (rs : List RecordTree) (kd : Kind) (t : TypeTree) → Less rs (reference_type kd t) t → ⊥
+no_less rs kind.Promise t (inl a) = omega (arith, a)
+no_less rs kind.Future t (inl a) = omega (arith, a)
+no_less rs kind.PromiseStream t (inl a) = omega (arith, a)
+no_less rs kind.FutureStream t (inl a) = omega (arith, a)
+no_less rs kind.Promise t (inr a) = let l = a.1 in omega (arith, l)
+no_less rs kind.Future t (inr a) = let l = a.1 in omega (arith, l)
+no_less rs kind.PromiseStream t (inr a) = let l = a.1 in omega (arith, l)
+no_less rs kind.FutureStream t (inr a) = let l = a.1 in omega (arith, l)
+
+all_of : (rs : List RecordTree) (u : TypeTree) (ts : List TypeTree) → AllAre u ts → AllTypes (λ z. Less rs z (VectorType u)) ts
+all_of rs u [] h = tt
+all_of rs u (t ∷ ts) h = (subst (λ z. Less rs z (VectorType u)) (sym h.0) (inr (refl, omega arith)), all_of rs u ts h.1)
+
+below_less : (rs : List RecordTree) (t : TypeTree) (ts : List TypeTree) → AllBelow rs (level rs t) ts → AllTypes (λ u. Less rs u t) ts
+below_less rs t [] h = tt
+below_less rs t (u ∷ us) h = (inl h.0, below_less rs t us h.1)
+
+all_less : (rs : List RecordTree) (s t : TypeTree) (ts : List TypeTree) → Less rs s t → AllTypes (λ u. Less rs u s) ts → AllTypes (λ u. Less rs u t) ts
+all_less rs s t [] l h = tt
+all_less rs s t (u ∷ us) l h = (less_on rs u s t h.0 l, all_less rs s t us l h.1)
 
 module _ (r : RawTree) (valid : IsValid r) (types : CellTypes) where
   some_params : (s : Signature) (ts : List TypeTree) (t : TypeTree) → Some (record { params = ts; gives = t }) ≡ Some s → ts ≡ s.params
@@ -181,40 +217,29 @@ module _ (r : RawTree) (valid : IsValid r) (types : CellTypes) where
       by_test true e = subst (AllBelow r.records 1) (some_params s (map (λ (f : List ℕ × TypeTree). f.1) packet_fields) (NamedType x) e) (omega arith, (omega arith, (omega arith, tt)))
       by_test false e = rows (record_named r.records x) refl e
 
-  -- a cell of futures of a type of no less a level
-  abbrev Lower : ℕ → ℕ → Type 0
-  Lower n k = (w : TypeTree) → types k ≡ Some (FutureType w) → level r.records w < n
-
   some_type : (t u : TypeTree) → Some t ≡ Some u → t ≡ u
   some_type t u e = cc
 
-  below_all : (m n : ℕ) (ts : List TypeTree) → m < suc n → AllBelow r.records m ts → AllBelow r.records n ts
-  below_all m n [] l h = tt
-  below_all m n (t ∷ ts) l h = (let a = h.0 in omega (arith, a, l), below_all m n ts l h.1)
+  -- the types of which the values of a type are made are less
+  parts_less : (w : Whole) (t : TypeTree) (ts : List TypeTree) → IsMadeOf r.records w t ts → AllTypes (λ u. Less r.records u t) ts
+  parts_less (RecordWhole d) t ts h =
+      below_less r.records t ts
+      (subst (λ u. AllBelow r.records (level r.records u) ts) (sym h.named)
+      (subst (AllBelow r.records (level r.records (NamedType h.name))) (sym h.fields) (params_before h.name h.call h.called)))
+  parts_less ListWhole t ts h = subst (λ z. AllTypes (λ u. Less r.records u z) ts) (sym h.1) (all_of r.records h.0 ts h.2)
 
-  -- the types of which the values of a type are made are of a lower level
-  parts_below : (w : Whole) (t : TypeTree) (ts : List TypeTree) → IsMadeOf r.records w t ts → AllBelow r.records (level r.records t) ts
-  parts_below (RecordWhole d) t ts h =
-      subst (λ u. AllBelow r.records (level r.records u) ts) (sym h.named)
-      (subst (AllBelow r.records (level r.records (NamedType h.name))) (sym h.fields) (params_before h.name h.call h.called))
-  parts_below ListWhole t ts h = absurd h
-
-  parts_lower : (n : ℕ) (w : Whole) (t : TypeTree) (ts : List TypeTree) → IsMadeOf r.records w t ts → Below r.records n t → AllBelow r.records n ts
-  parts_lower n w t ts h l = let m : level r.records t < n = l in below_all (level r.records t) n ts (omega (arith, m)) (parts_below w t ts h)
-
-  -- a reference by a type of a level below leads to no cell of futures of a type that isn't
-  lower_ref : (n : ℕ) (q : Ref) → LeadsBy (typed_by types) (Below r.records n) q → Seen (Lower n) q
-  lower_ref n q h = λ w e.
-      let same : h.0 ≡ w = same_inner q.0 h.0 w (some_type (future_side q.0 h.0) (FutureType w) (sym h.1 ∙ e)) in
-      subst (λ u. level r.records u < n) same (subst (λ m. m < n) (inner_level r.records q.0 h.0) h.2)
+  -- a reference of a type less than another leads to no cell of its futures
+  lower_ref : (t : TypeTree) (q : Ref) → LeadsBy (typed_by types) (λ u. Less r.records u t) q → types q.1 ≡ Some (FutureType t) → ⊥
+  lower_ref t q h e =
+      let same : h.0 ≡ t = same_inner q.0 h.0 t (some_type (future_side q.0 h.0) (FutureType t) (sym h.1 ∙ e)) in
+      no_less r.records q.0 t (subst (λ u. Less r.records (reference_type q.0 u) t) same h.2)
 
   -- no value of a type refers to a cell of its futures
   pub apart : (k : ℕ) (v : ValueTree) (t : TypeTree) → types k ≡ Some (FutureType t) → Fits r types v t → Sees (Off k) v
   apart k (CompositeValue w vs) t e h =
-      let n = level r.records t in
-      parts_map (LeadsBy (typed_by types) (Below r.records n)) (Seen (Off k))
-      (λ q l j. let less = lower_ref n q l t (ap types j ∙ e) in omega (arith, less)) vs
-      (typed_parts r.records (typed_by types) (Below r.records n) (parts_lower n) vs h.0 h.2 (parts_below w t h.0 h.1))
+      parts_map (LeadsBy (typed_by types) (λ u. Less r.records u t)) (Seen (Off k)) (λ q l j. lower_ref t q l (ap types j ∙ e)) vs
+      (typed_parts r.records (typed_by types) (λ u. Less r.records u t) (λ x s ts m l. all_less r.records s t ts l (parts_less x s ts m)) vs h.0 h.2
+      (parts_less w t h.0 h.1))
   apart k (RefValue kd j) t e h = λ q.
       let same : h.0 ≡ t = same_inner kd h.0 t (some_type (future_side kd h.0) (FutureType t) (sym h.2 ∙ ap types q ∙ e)) in
       no_loop kd h.0 (same ∙ h.1)

@@ -7,18 +7,18 @@ use Rattle.std.proofs.lemmas.Bool.{false≢true, true≢false}
 use Rattle.std.specs.declared.option.Option.{Option}
 use Rattle.std.specs.declared.option.Option.TheVariants.{None, Some}
 use Rattle.flow_tree.specs.declared.ty.Ident.{Ident}
-use Rattle.flow_tree.specs.Tree.{TypeTree, FutureType, ExprTree, ExprTrees, CallExpr}
+use Rattle.flow_tree.specs.Tree.{TypeTree, FutureType, ExprTree, ExprTrees, CallExpr, NothingType}
 use Rattle.flow_tree.specs.Decls.{ParamTree}
 use Rattle.flow_ast.specs.declared.predefined.Predefined.{Predefined}
 use Rattle.flow_ast.specs.declared.predefined.Predefined.TheVariants as predefined
 use Rattle.flow_ast.specs.TypingNames.{named, call_names}
-use Rattle.flow_ast.specs.Typing.{Signature, signature, is_effect, same_type, same_types, types_in, all_without_effects}
+use Rattle.flow_ast.specs.Typing.{Signature, signature, is_effect, same_type, same_types, types_in, all_without_effects, is_nothing}
 use Rattle.flow_rules.specs.declared.rule.SemanticRule.{SemanticRule}
-use Rattle.flow_rules.specs.declared.rule.SemanticRule.TheVariants.{WrongCount}
+use Rattle.flow_rules.specs.declared.rule.SemanticRule.TheVariants.{WrongCount, WrongType}
 use Rattle.flow_rules.specs.Least.{lesser, unless}
 use Rattle.flow_rules.specs.Known.{Meaning, RecordOf, FunctionOf, ActorOf, known}
 use Rattle.flow_rules.specs.Judged as judged
-use Rattle.flow_rules.specs.Judged.{Setting, Kind, Need, Exactly, Callee, predefined_kind, predefined_callee, declared_callee, called_as, called, needs_of, gives_of, wants, placed, as_many, calls, faults, wanted}
+use Rattle.flow_rules.specs.Judged.{Setting, Kind, Need, Exactly, Callee, predefined_kind, predefined_callee, declared_callee, called_as, called, needs_of, gives_of, wants, placed, as_many, calls, faults, wanted, callee, actor_callee, not_here}
 use Rattle.flow_rules.proofs.Lesser.{no_first, no_second, holds}
 use Rattle.flow_class.specs.Classes.{ClassTree, RawTree}
 use Rattle.flow_valid.specs.Heads.{all_decls}
@@ -115,6 +115,28 @@ module _ (r : RawTree) (valid : IsValid r) (c : ClassTree) (vars : List ParamTre
     gives = (g, e, refl, wanted_is (Some g.gives) g.gives t refl w);
   }
 
+  -- an actor whose call is an effect gives a result
+  a_future : (ts : List TypeTree) (u : TypeTree) → calls_effect (Some (actor_callee ts u)) ≡ true → (actor_callee ts u ≡ callee ts (FutureType u) judged.Effect) × (is_nothing u ≡ false)
+  a_future ts NothingType b = absurd (false≢true b)
+  a_future ts u b = (refl, refl)
+
+  actor_given : (xs : ExprTrees) (x : List ℕ) (ts : List TypeTree) (u t : TypeTree) (d : Callee) → known (all_decls r) x ≡ Some (ActorOf ts u)
+      → d ≡ callee ts (FutureType u) judged.Effect → is_nothing u ≡ false → faults here 0 (needs_of (Some d)) xs ≡ None → calls xs (Some d) (placed here true) ≡ None
+      → wants (gives_of (Some d)) t ≡ None → IsGiven xs (effectful_of None (position (bytes_eq x) (map class_name r.classes))) t
+  actor_given xs x ts u t d e same some f n w =
+      let k = class_of r x ts u e in
+      let c = callee ts (FutureType u) judged.Effect in
+      let f2 : faults here 0 (needs_of (Some c)) xs ≡ None = subst (λ z. faults here 0 (needs_of (Some z)) xs ≡ None) same f in
+      let n2 : calls xs (Some c) (placed here true) ≡ None = subst (λ z. calls xs (Some z) (placed here true) ≡ None) same n in
+      let w2 : wants (gives_of (Some c)) t ≡ None = subst (λ z. wants (gives_of (Some z)) t ≡ None) same w in
+      record {
+        effect = Actor k.place;
+        is = ap (effectful_of None) k.found;
+        types = ts;
+        typed = have_types (map Exactly ts) ts xs refl (many xs (map Exactly ts) (placed here true judged.Effect) n2) f2;
+        gives = (k.class, k.is, k.takes, subst (λ z. is_nothing z ≡ false) (sym k.gives) some, ap FutureType k.gives ∙ wanted_is (Some (FutureType u)) (FutureType u) t refl w2);
+      }
+
   declared_given : (xs : ExprTrees) (x : List ℕ) (m : Option Meaning) (t : TypeTree) → known (all_decls r) x ≡ m → calls_effect (option_map (declared_callee x) m) ≡ true
       → faults here 0 (needs_of (option_map (declared_callee x) m)) xs ≡ None
       → calls xs (option_map (declared_callee x) m) (placed here true) ≡ None → wants (gives_of (option_map (declared_callee x) m)) t ≡ None
@@ -122,15 +144,7 @@ module _ (r : RawTree) (valid : IsValid r) (c : ClassTree) (vars : List ParamTre
   declared_given xs x None t e b f n w = absurd (false≢true b)
   declared_given xs x (Some (RecordOf fs)) t e b f n w = absurd (false≢true b)
   declared_given xs x (Some (FunctionOf ts u)) t e b f n w = absurd (false≢true b)
-  declared_given xs x (Some (ActorOf ts u)) t e b f n w =
-      let k = class_of r x ts u e in
-      record {
-        effect = Actor k.place;
-        is = ap (effectful_of None) k.found;
-        types = ts;
-        typed = have_types (map Exactly ts) ts xs refl (many xs (map Exactly ts) (placed here true judged.Effect) n) f;
-        gives = (k.class, k.is, k.takes, ap FutureType k.gives ∙ wanted_is (Some (FutureType u)) (FutureType u) t refl w);
-      }
+  declared_given xs x (Some (ActorOf ts u)) t e b f n w = let a = a_future ts u b in actor_given xs x ts u t (actor_callee ts u) e a.0 a.1 f n w
 
   name_given : (xs : ExprTrees) (x : List ℕ) (p : Option Predefined) (t : TypeTree) → calls_effect (called_as here x p) ≡ true → faults here 0 (needs_of (called_as here x p)) xs ≡ None
       → calls xs (called_as here x p) (placed here true) ≡ None → wants (gives_of (called_as here x p)) t ≡ None → IsGiven xs (effectful_of p (position (bytes_eq x) (map class_name r.classes))) t
@@ -153,11 +167,20 @@ module _ (r : RawTree) (valid : IsValid r) (c : ClassTree) (vars : List ParamTre
   effect_fits e t b h = absurd (false≢true b)
 
   -- what is an effect by its name is one by its kind
-  effect_called : (x : List ℕ) (p : Option Predefined) (k : Option ℕ) (g : Effectful) → position (bytes_eq x) (map class_name r.classes) ≡ k → effectful_of p k ≡ Some g
-      → calls_effect (called_as here x p) ≡ true
-  effect_called x (Some p) k g q e = effect_kind p (world_is (is_effect p) p g e)
-  effect_called x None None g q e = absurd (none_some e)
-  effect_called x None (Some k) g q e = let m = class_means r valid x k q in ap (λ o. calls_effect (option_map (declared_callee x) o)) m.2
+  only_effect : (xs : ExprTrees) (ts : List TypeTree) (t : TypeTree) → calls xs (Some (actor_callee ts t)) (placed here true) ≡ None → calls_effect (Some (actor_callee ts t)) ≡ true
+  only_effect xs ts NothingType n =
+      let e : Some WrongType ≡ None = no_second (not_here here) (Some WrongType) (no_second (unless (as_many xs (map Exactly ts)) WrongCount) (placed here true judged.Statement) n) in
+      absurd cc
+  only_effect xs ts t n = refl
+
+  effect_called : (xs : ExprTrees) (x : List ℕ) (p : Option Predefined) (k : Option ℕ) (g : Effectful) → position (bytes_eq x) (map class_name r.classes) ≡ k → effectful_of p k ≡ Some g
+      → calls xs (called_as here x p) (placed here true) ≡ None → calls_effect (called_as here x p) ≡ true
+  effect_called xs x (Some p) k g q e n = effect_kind p (world_is (is_effect p) p g e)
+  effect_called xs x None None g q e n = absurd (none_some e)
+  effect_called xs x None (Some k) g q e n =
+      let m = class_means r valid x k q in
+      subst (λ o. calls_effect (option_map (declared_callee x) o) ≡ true) (sym m.2)
+      (only_effect xs m.0 m.1 (subst (λ o. calls xs (option_map (declared_callee x) o) (placed here true) ≡ None) m.2 n))
 
   there_of : {A B : Type 0} (f : A → B) (o : Option A) (b : B) → option_map f o ≡ Some b → (a : A) × (o ≡ Some a)
   there_of f None b e = absurd (none_some e)
@@ -166,7 +189,10 @@ module _ (r : RawTree) (valid : IsValid r) (c : ClassTree) (vars : List ParamTre
   pub operand_effect : (e : ExprTree) (t : TypeTree) (g : Effectful × ExprTrees) → effect_in (class_names r) e ≡ Some g → wanted here true e t ≡ None → EffectFits r (heads r) c vars e t
   operand_effect (CallExpr f xs) t g q h =
       let k = there_of (λ (g : Effectful). (g, xs)) (effectful (class_names r) f.name) g q in
-      effect_fits (CallExpr f xs) t (effect_called f.name (named call_names f.name) (position (bytes_eq f.name) (map class_name r.classes)) k.0 refl k.1) h
+      let fs = faults here 0 (needs_of (called here f.name)) xs in
+      let cs = calls xs (called here f.name) (placed here true) in
+      let n = no_second fs cs (no_first (lesser fs cs) (wants (gives_of (called here f.name)) t) h) in
+      effect_fits (CallExpr f xs) t (effect_called xs f.name (named call_names f.name) (position (bytes_eq f.name) (map class_name r.classes)) k.0 refl k.1 n) h
   operand_effect e t g q h = absurd (none_some q)
 
   -- and what is none stands as a value

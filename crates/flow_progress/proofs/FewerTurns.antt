@@ -258,8 +258,9 @@ module _ (n : ℕ) (s : Setting) (run : Runner) (runs : RunnerFewer n run) where
       valued_fewer (eval_all s run (named vars) es left) vars (λ vs left. valued (call_by s run xs vs left) vars (λ v left. Goes vars left)) (eval_all_fewer (named vars) es left le)
       (λ vs l m. valued_fewer (call_by s run xs vs l) vars (λ v left. Goes vars left) (call_by_fewer xs vs l m) (λ v i j. j))
 
-  return_fewer : (e : ExprTree) → FewerRuns n (return_run s run e)
-  return_fewer e vars left le = valued_fewer (evaluated s run e vars left) vars (λ v left. Returns v left) (evaluated_fewer e vars left le) (λ v l m. m)
+  return_fewer : (o : Option ExprTree) → FewerRuns n (return_run s run o)
+  return_fewer None vars left le = tt
+  return_fewer (Some e) vars left le = valued_fewer (evaluated s run e vars left) vars (λ v left. Returns v left) (evaluated_fewer e vars left le) (λ v l m. m)
 
   try_fewer : (body : Locals → ℕ → Run) (x : List ℕ) (handler : Locals → ℕ → Run) → FewerRuns n body → FewerRuns n handler → FewerRuns n (try_run body x handler)
   try_fewer body x handler f g vars left le =

@@ -122,7 +122,7 @@ module _ (r : RawTree) (types : CellTypes) (c : Core) (xs : Numbered Frame) (p :
       subst (λ x. Ok (fire_to k cell w x (record c { tasks = ts }))) (sym en.1)
       (subst (λ x. Ok (take_branch w.actor w.branch k en.0 [] x d)) at
       (branch_fits r types w.actor w.branch k en.0 en.0 [] d xs f.frame a.class t cell at ready go en.1 f.stands (all_but r types w.actor d xs state)
-      (record { is = a.is; result = a.result; owns = a.owns; gives = a.gives }) post.0 post.1 f.operand e post.2 tt))
+      (record { is = a.is; owns = a.owns }) post.0 post.1 f.operand e post.2 tt))
 
   fire_by : (k : ℕ) (cell : Cell) (t : TypeTree) (ts : List Task) → c.tasks ≡ Fire k ∷ ts → thing c.cells k ≡ Some cell → types k ≡ Some t → (b : Bool) → is_ready cell ≡ b → (ws : List Waiter)
       → waiters cell ≡ ws

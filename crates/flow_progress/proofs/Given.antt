@@ -5,27 +5,27 @@ use Rattle.std.specs.Option.{option_map}
 use Rattle.std.specs.Str.{bytes_eq}
 use Rattle.std.specs.declared.option.Option.{Option}
 use Rattle.std.specs.declared.option.Option.TheVariants.{None, Some}
-use Rattle.flow_tree.specs.Tree.{TypeTree, IntType, BoolType, StringType, VoidType, ErrorType, NamedType, FutureType, FutureStreamType, PromiseType, PromiseStreamType, ExprTree, ExprTrees, CallExpr}
+use Rattle.flow_tree.specs.Tree.{TypeTree, IntType, BoolType, StringType, VoidType, ErrorType, NamedType, FutureType, FutureStreamType, PromiseType, PromiseStreamType, ExprTree, ExprTrees, CallExpr, VectorType, NothingType}
 use Rattle.flow_tree.specs.Decls.{ParamTree, RecordTree, RoutineTree}
 use Rattle.flow_ast.specs.declared.predefined.Predefined.{Predefined}
 use Rattle.flow_ast.specs.declared.predefined.Predefined.TheVariants as code
 use Rattle.flow_ast.specs.declared.predefined.Method.{Method}
 use Rattle.flow_ast.specs.declared.predefined.Method.TheVariants as method
-use Rattle.flow_ast.specs.Typing.{Signature, signature, is_effect, equality_type, is_there}
+use Rattle.flow_ast.specs.Typing.{Signature, signature, is_effect, equality_type, is_there, is_nothing}
 use Rattle.flow_ast.specs.TypingNames.{named, call_names}
 use Rattle.flow_value.specs.declared.value.Kind.{Kind}
 use Rattle.flow_value.specs.declared.value.Kind.TheVariants as kind
-use Rattle.flow_value.specs.Values.{ValueTree, IntValue, BoolValue, TextValue, VoidValue, ErrorValue, CompositeValue, RefValue, GoodOutcome, BadOutcome, values_of_list}
+use Rattle.flow_value.specs.Values.{ValueTree, IntValue, BoolValue, TextValue, VoidValue, ErrorValue, CompositeValue, RefValue, GoodOutcome, BadOutcome, values_of_list, ValueTrees, RecordWhole, ListWhole}
 use Rattle.flow_eval.specs.Answers.{int_of, text_of, error_of, arg}
-use Rattle.flow_eval.specs.Typed.{HasType, HaveTypes}
+use Rattle.flow_eval.specs.Typed.{HasType, HaveTypes, AllAre}
 use Rattle.flow_eval.proofs.TypedValues.{some_same, none_some, is_int_value, is_bool_value, is_text_value, is_error_value, no_parts}
 use Rattle.flow_class.specs.Classes.{ClassTree, RawTree}
 use Rattle.flow_valid.specs.Validity.{operand_type}
 use Rattle.flow_meaning.specs.Lines.{print_line}
 use Rattle.flow_meaning.specs.Requests.{ReadCall, WriteCall, SyncCall, SizeCall, Effect, Start, Draw, Delay, Never, Listen, Disk, Act, Sends, Cancels}
-use Rattle.flow_meaning.specs.Evaluating.{Names, bind, Effectful, World, Actor, world_if, effectful_of, effectful, effect_in, world_effect, effect_of, sent, method_act}
+use Rattle.flow_meaning.specs.Evaluating.{Names, bind, Effectful, World, Actor, world_if, effectful_of, effectful, effect_in, world_effect, effect_of, sent, method_act, Grows, Clears, change_by}
 use Rattle.flow_progress.specs.Rules.{EffectGives, MessageFits}
-use Rattle.flow_progress.specs.Asking.{SentFits, CanPrint, Gives}
+use Rattle.flow_progress.specs.Asking.{SentFits, CanPrint, Gives, end_type}
 
 module _ (rs : List RecordTree) (typed : ℕ → TypeTree → Type 0) where
   abbrev Is : ValueTree → TypeTree → Type 0
@@ -102,6 +102,25 @@ module _ (rs : List RecordTree) (typed : ℕ → TypeTree → Type 0) where
   operand_ref false v u h = let k = future_ref v u h in ((kind.Future, k.0), k.1)
   operand_ref true v u h = let k = next_ref v u h in ((kind.FutureStream, k.0), k.1)
 
+  -- a vector is a list of elements of its type
+  pub record IsList (v : ValueTree) (u : TypeTree) : Type 0 where
+    pub parts : ValueTrees
+    pub is : v ≡ CompositeValue ListWhole parts
+    pub types : List TypeTree
+    pub all : AllAre u types
+    pub have : HaveTypes rs typed parts types
+
+  pub list_value : (v : ValueTree) (u : TypeTree) → Is v (VectorType u) → IsList v u
+  list_value (CompositeValue ListWhole es) u h =
+      let same : h.1.0 ≡ u = let e = h.1.1 in cc in
+      record { parts = es; is = refl; types = h.0; all = subst (λ z. AllAre z h.0) same h.1.2; have = h.2 }
+  list_value (CompositeValue (RecordWhole i) es) u h = let e = h.1.named in absurd cc
+  list_value (RefValue kind.Promise n) u h = let e = h.1 in absurd cc
+  list_value (RefValue kind.Future n) u h = let e = h.1 in absurd cc
+  list_value (RefValue kind.PromiseStream n) u h = let e = h.1 in absurd cc
+  list_value (RefValue kind.FutureStream n) u h = let e = h.1 in absurd cc
+  list_value v u h = absurd cc
+
   -- what prints
   pub prints : (v : ValueTree) (t : TypeTree) → Is v t → is_there (equality_type t) ≡ true → CanPrint v
   prints v IntType h e = let n = is_int_value rs typed v h in λ i. (_, ap (print_line i) n.1)
@@ -131,18 +150,32 @@ module _ (rs : List RecordTree) (typed : ℕ → TypeTree → Type 0) where
       let n = error_arg vs (ErrorType ∷ []) 0 h refl in
       (Sends k (BadOutcome n.0), ap (λ x. method_act method.SendError x vs) e ∙ acts vs ∙ ap (λ o. option_map (Sends k) (option_map BadOutcome o)) n.1, (u, cell, tt))
 
-  pub message_told : (m : Method) (t : TypeTree) (ts : List TypeTree) (v : ValueTree) (vs : List ValueTree) → Is v t → MessageFits m t ts → HaveTypes rs typed (values_of_list vs) ts
+  pub message_told : (m : Method) (t : TypeTree) (ts : List TypeTree) (v : ValueTree) (vs : List ValueTree) → change_by (Some m) ≡ None → Is v t → MessageFits m t ts
+      → HaveTypes rs typed (values_of_list vs) ts
       → Told (method_act m v vs)
-  message_told method.Send (PromiseType u) ts v vs h f a =
+  message_told method.Send (PromiseType u) ts v vs n h f a =
       let k = promise_ref v u h in send_told u u v vs k.0 kind.Promise k.1 (λ us. refl) (inl k.2) (subst (HaveTypes rs typed (values_of_list vs)) f a)
-  message_told method.Send (PromiseStreamType u) ts v vs h f a =
+  message_told method.Send (PromiseStreamType u) ts v vs n h f a =
       let k = stream_ref v u h in send_told u u v vs k.0 kind.PromiseStream k.1 (λ us. refl) (inr k.2) (subst (HaveTypes rs typed (values_of_list vs)) f a)
-  message_told method.SendError (PromiseType u) ts v vs h f a =
+  message_told method.SendError (PromiseType u) ts v vs n h f a =
       let k = promise_ref v u h in error_told u v vs k.0 kind.Promise k.1 (λ us. refl) (inl k.2) (subst (HaveTypes rs typed (values_of_list vs)) f a)
-  message_told method.SendError (PromiseStreamType u) ts v vs h f a =
+  message_told method.SendError (PromiseStreamType u) ts v vs n h f a =
       let k = stream_ref v u h in error_told u v vs k.0 kind.PromiseStream k.1 (λ us. refl) (inr k.2) (subst (HaveTypes rs typed (values_of_list vs)) f a)
-  message_told method.Cancel (FutureType u) ts v vs h f a = let k = future_ref v u h in (Cancels k.0, ap (λ x. method_act method.Cancel x vs) k.1, tt)
-  message_told m t ts v vs h f a = absurd f
+  message_told method.Cancel (FutureType u) ts v vs n h f a = let k = future_ref v u h in (Cancels k.0, ap (λ x. method_act method.Cancel x vs) k.1, tt)
+  message_told method.PushBack t ts v vs n h f a = absurd (not_there n)
+    where
+      not_there : Some Grows ≡ None → ⊥
+      not_there n = cc
+  message_told method.Clear t ts v vs n h f a = absurd (not_there n)
+    where
+      not_there : Some Clears ≡ None → ⊥
+      not_there n = cc
+  message_told m t ts v vs n h f a = absurd f
+
+-- what an actor with a result ends with has the type of the result
+pub end_given : (t : TypeTree) → is_nothing t ≡ false → end_type t ≡ t
+end_given NothingType e = absurd cc
+end_given t e = refl
 
 -- an effect is one that is said to be
 world_is : (b : Bool) (p q : Predefined) → world_if b p ≡ Some (World q) → b ≡ is_effect p → is_effect q ≡ true
@@ -221,4 +254,4 @@ module _ (r : RawTree) (typed : ℕ → TypeTree → Type 0) (vs : List ValueTre
   effect_made actors c vars (World p) ts t w k h =
       subst (Made (effect_of (World p) vs)) k.3 (world_made p k.0 (w p refl) k.1 (subst (HaveTypes r.records typed (values_of_list vs)) (sym k.2) h))
   effect_made actors c vars (Actor n) ts t w k h =
-      (Start n vs, refl, (k.0, k.1, subst (HaveTypes r.records typed (values_of_list vs)) (sym k.2) h, sym k.3))
+      (Start n vs, refl, (k.0, (k.1, subst (HaveTypes r.records typed (values_of_list vs)) (sym k.2) h), k.3, sym k.4))

@@ -1,19 +1,23 @@
 -- Frames go on as they are known by their phases.
-use Rattle.std.proofs.Common.{◌≡◌, ℕ, nat_eq, Bool, true, false, List, length, if◌then◌else◌, inl, inr, refl, sym, subst}
-use Rattle.std.specs.Prelude.{slice_get}
+use Rattle.std.proofs.Common.{◌≡◌, ℕ, nat_eq, Bool, true, false, List, length, if◌then◌else◌, inl, inr, refl, sym, subst, []}
+use Rattle.std.specs.Prelude.{slice_get, option_map}
 use Rattle.std.specs.declared.option.Option.{Option}
 use Rattle.std.specs.declared.option.Option.TheVariants.{None, Some}
 use Rattle.flow_value.specs.Values.{ValueTree, RefValue}
-use Rattle.flow_tree.specs.Tree.{ExprTree, ExprTrees}
+use Rattle.flow_value.specs.declared.value.Kind.{Kind}
+use Rattle.flow_tree.specs.Tree.{ExprTree, ExprTrees, TypeTree, returned_expr}
+use Rattle.flow_tree.specs.declared.ty.Ident.{Ident}
 use Rattle.flow_eval.specs.Eval.{Res, Done, Fails, Spent, Meaningless}
 use Rattle.flow_eval.specs.Answers.{bool_of, error_of}
+use Rattle.flow_eval.specs.Functions.{default_value}
 use Rattle.flow_class.specs.Classes.{CatcherTree, InstrTree, SetInstr, EffectInstr, NewInstr, ActInstr, DropInstr, LastTree, GotoLast, PassLast, TestLast, ChooseLast, ReturnLast, ThrowLast, CallbackTree, ClassTree, RawTree}
 use Rattle.flow_class.specs.Code.{type_at, Fetched, Body, Last, Nothing, fetch, catcher_at, callback_at}
-use Rattle.flow_meaning.specs.Requests.{Act, Goes, Effects, Sends, Cancels, Prints, SendsTo, Returns, Spot, Make, Goal, Stored, Kept}
+use Rattle.flow_class.specs.declared.class.Slotted.{Slotted}
+use Rattle.flow_meaning.specs.Requests.{Act, Goes, Effects, Sends, Cancels, Prints, SendsTo, Returns, Spot, Make, Goal, Stored, Kept, Drops, Starts}
 use Rattle.flow_meaning.specs.Process.{View}
-use Rattle.flow_meaning.specs.Evaluating.{Names, bind, StepOf, asks, given, evaluated, Effectful, effect_in, effect_of, value, values, call_act}
-use Rattle.flow_meaning.specs.Frame.{Memory, Frame, look, assign, spot_of, next_instr, over, raised}
-use Rattle.flow_meaning.specs.Class.{promise_kind, placed, effects, instruction, test, operand_ref, operand_by, choose, throw_value, last, fetched, next_step, stored, store_at, bound, onward, take_callback, take_at, begun, fresh_from, class_names, classes}
+use Rattle.flow_meaning.specs.Evaluating.{Names, bind, StepOf, asks, given, evaluated, Effectful, effect_in, effect_of, value, values, call_act, Change, change_of, base_of, storing, call_by}
+use Rattle.flow_meaning.specs.Frame.{Memory, Frame, look, assign, spot_of, next_instr, over, raised, put_at}
+use Rattle.flow_meaning.specs.Class.{promise_kind, placed, effects, instruction, test, operand_ref, operand_by, choose, throw_value, last, fetched, next_step, stored, store_at, bound, onward, take_callback, take_at, begun, fresh_from, class_names, classes, new_by, put_path}
 use Rattle.flow_progress.specs.Phases.{KnownAfter, KeepsPhases}
 use Rattle.flow_progress.specs.FramesByRequest.{IsOf, AsksHere, WaitsHere, Going}
 use Rattle.flow_progress.proofs.Calls.{IsCalled, Comes, act_called}
@@ -57,7 +61,29 @@ module _ (r : RawTree) (v : View) (f : Frame) (own : IsOf r f.code) where
     asked_known left (Cancels k) h = own
     asked_known left (Prints u) h = own
     asked_known left (SendsTo q port text) h = own
+    asked_known left (Starts class args) h = own
     asked_known left _ h = absurd h
+
+    new_known : (p : Slotted) (t : TypeTree) (o : Option Kind) → here ≡ Body (NewInstr p) → Known (new_by ns v f p t o)
+    unfolding here
+    new_known p t (Some k) q = (own, subst AsksHere (sym q) tt)
+    new_known p t None q = given_known (default_value t) (λ u. given f (put_at ns.records f.mem p [] u) (placed ns v f v.left))
+        (λ u. given_known (put_at ns.records f.mem p [] u) (placed ns v f v.left) (λ p. own))
+
+    statement_known : (path : List Ident) (es : ExprTrees) (o : Option Change) → Known (call_by ns v (look f.mem) o f (next_instr f.mem f) (put_path ns v f) path es)
+    statement_known path es None =
+        evaluated_known IsCalled (call_act ns v (look f.mem) path es) (λ act left. asks left act (next_instr f.mem f)) (act_called ns v (look f.mem) path es) asked
+      where
+        asked : (act : Act) (left : ℕ) → IsCalled act → Known (asks left act (next_instr f.mem f))
+        asked act left h = asked_known left act h
+    statement_known path es (Some how) =
+        valued_known (storing ns v (look f.mem) how (base_of path) es) (λ s left. given f (put_path ns v f (base_of path) s.0) (λ g. asks left (Drops s.1) g))
+        (λ s left. path_known left s.1 (assign ns.records f.mem (base_of path) s.0))
+      where
+        path_known : (left : ℕ) (ds : List ValueTree) (o : Option (List ValueTree × Memory))
+            → Known (given f (option_map (λ (p : List ValueTree × Memory). next_instr p.1 f) o) (λ g. asks left (Drops ds) g))
+        path_known left ds None = own
+        path_known left ds (Some p) = own
 
     instruction_known : (i : InstrTree) → here ≡ Body i → Known (instruction ns v f i)
     unfolding here
@@ -67,12 +93,8 @@ module _ (r : RawTree) (v : View) (f : Frame) (own : IsOf r f.code) where
     instruction_known (EffectInstr path e) q =
         given_known (effect_in ns e) (effects ns v f Stored) (λ g. effects_known Stored g (subst AsksHere (sym q) tt))
     instruction_known (NewInstr p) q =
-        given_known (bind (type_at f.code p) promise_kind) (λ k. asks v.left (Effects Stored (Make k)) f) (λ k. (own, subst AsksHere (sym q) tt))
-    instruction_known (ActInstr path es) q =
-        evaluated_known IsCalled (call_act ns v (look f.mem) path es) (λ act left. asks left act (next_instr f.mem f)) (act_called ns v (look f.mem) path es) asked
-      where
-        asked : (act : Act) (left : ℕ) → IsCalled act → Known (asks left act (next_instr f.mem f))
-        asked act left h = asked_known left act h
+        given_known (type_at f.code p) (λ t. new_by ns v f p t (promise_kind t)) (λ t. new_known p t (promise_kind t) q)
+    instruction_known (ActInstr path es) q = statement_known path es (change_of path)
     instruction_known (DropInstr locals) q = own
 
     test_known : (left : ℕ) (o : Option Bool) (b c : ℕ) → Known (test ns v f left o b c)
@@ -103,7 +125,7 @@ module _ (r : RawTree) (v : View) (f : Frame) (own : IsOf r f.code) where
     last_known (PassLast b) q = own
     last_known (TestLast e b c) q = valued_known (value ns v (look f.mem) e) (λ u left. test ns v f left (bool_of u) b c) (λ u left. test_known left (bool_of u) b c)
     last_known (ChooseLast g) q = choose_known g (callback_at f.code g v.kept) q
-    last_known (ReturnLast e) q = valued_known (value ns v (look f.mem) e) (λ u left. asks left (Returns u _) over) (λ u left. inl refl)
+    last_known (ReturnLast e) q = valued_known (value ns v (look f.mem) (returned_expr e)) (λ u left. asks left (Returns u _) over) (λ u left. inl refl)
     last_known (ThrowLast e) q = valued_known (value ns v (look f.mem) e) (λ u left. throw_value ns v f left (error_of u)) (λ u left. throw_known left (error_of u))
 
     fetched_known : (o : Fetched) → here ≡ o → Known (fetched ns v f o)

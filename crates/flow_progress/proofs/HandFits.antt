@@ -24,7 +24,7 @@ use Rattle.flow_meaning.proofs.Posture.{thing_put_other, thing_put, IsOf, other_
 use Rattle.flow_meaning.proofs.Shifts.{run_of, give_of, throw_of, store_of, keep_of}
 use Rattle.flow_progress.specs.Places.{class_vars}
 use Rattle.flow_progress.specs.Asking.{NextOperand, HaveSome, OutcomeFits, Wanted}
-use Rattle.flow_progress.specs.Fitting.{CellTypes, typed_by, Fits, CellFits, CellAt, OperandsFit, Standing, Waiting, GivenFits, DoingFits, PostureFits, ActorFits, ActorAt, ProcessFits}
+use Rattle.flow_progress.specs.Fitting.{CellTypes, typed_by, Fits, CellFits, CellAt, OperandsFit, Standing, Waiting, GivenFits, DoingFits, PostureFits, ActorFits, ActorAt, ProcessFits, OwnsResult}
 use Rattle.flow_progress.specs.Keeping.{AskFits, FineAsking}
 use Rattle.flow_progress.proofs.Given.{operand_ref}
 use Rattle.flow_progress.proofs.States.{Fine, fine_of, fine_same, still_same, fine_turn, FitsBut, put_back, all_but, push_fits, actor_at, actor_of, operands_exist}
@@ -34,9 +34,7 @@ use Rattle.flow_progress.proofs.Registered.{awake_registered, entry_registered}
 -- an unfinished actor, but for what is to be done for it
 pub record Owner (r : RawTree) (types : CellTypes) (e : Entry) (c : ClassTree) : Type 0 where
   pub is : slice_get r.classes e.class ≡ Some c
-  pub result : ℕ
-  pub owns : e.result ≡ Some result
-  pub gives : types result ≡ Some (FutureType c.returns)
+  pub owns : OwnsResult r types e.result c.returns
 
 pub record HandFits (r : RawTree) (types : CellTypes) (i : ℕ) (k : Core) (xs : Numbered Frame) (e : Entry) (g : Frame) (c : ClassTree) : Type 0 where
   pub entry : thing k.entries i ≡ Some e
@@ -50,9 +48,7 @@ module _ (r : RawTree) (types : CellTypes) where
   doing_actor e f c ts o a h = record {
     class = c;
     is = o.is;
-    result = o.result;
     owns = o.owns;
-    gives = o.gives;
     posture = subst (λ b. PostureFits r types b c e f ts) (sym a) h;
   }
 
@@ -140,7 +136,7 @@ module _ (r : RawTree) (types : CellTypes) where
       let a = actor_of r types e f (thing c.entries i) (thing xs i) (tasks_of i c.tasks) at fr (p.actors i) in
       let parked = subst (λ b. PostureFits r types b a.class e f (tasks_of i c.tasks)) s a.posture in
       leave_state r types i (marked e) e [] (Throw i operation_cancelled) c xs f (all_but r types i c xs p) at fr (throw_of i operation_cancelled) (operands_exist r types f 0 e.operands parked.2) tt
-      (λ ts. record { class = a.class; is = a.is; result = a.result; owns = a.owns; gives = a.gives; posture = (parked.0, inr parked.1, tt) })
+      (λ ts. record { class = a.class; is = a.is; owns = a.owns; posture = (parked.0, inr parked.1, tt) })
   cancelled_state false i e c xs (Some f) at fr s p =
       let a = actor_of r types e f (thing c.entries i) (thing xs i) (tasks_of i c.tasks) at fr (p.actors i) in
       let h = all_but r types i c xs p in
@@ -156,7 +152,7 @@ module _ (r : RawTree) (types : CellTypes) where
         framed = h.framed;
         registered = λ j n. entry_registered i j c.entries c.cells (marked e) n (h.registered j n);
       }) (actor_at r types (marked e) f (thing (put c.entries i (marked e)) i) (thing xs i) (tasks_of i c.tasks) (thing_put c.entries i e (marked e) at) fr
-      (record { class = a.class; is = a.is; result = a.result; owns = a.owns; gives = a.gives; posture = marked_posture e.suspended a.class (tasks_of i c.tasks) a.posture }))
+      (record { class = a.class; is = a.is; owns = a.owns; posture = marked_posture e.suspended a.class (tasks_of i c.tasks) a.posture }))
       (awake_registered i (put c.entries i (marked e)) c.cells (marked e) (thing_put c.entries i e (marked e) at) s)
     where
       marked_doing : (c : ClassTree) (ts : List Task) → DoingFits r types c e f ts → DoingFits r types c (marked e) f ts

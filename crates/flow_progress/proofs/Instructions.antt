@@ -7,25 +7,26 @@ use Rattle.std.proofs.lemmas.Bool.{false≢true}
 use Rattle.std.specs.declared.option.Option.{Option}
 use Rattle.std.specs.declared.option.Option.TheVariants.{None, Some}
 use Rattle.flow_tree.specs.declared.ty.Ident.{Ident}
-use Rattle.flow_tree.specs.Tree.{TypeTree, IntType, BoolType, StringType, ErrorType, FutureType, PromiseType, PromiseStreamType, ExprTree, ExprTrees}
+use Rattle.flow_tree.specs.Tree.{TypeTree, IntType, BoolType, StringType, ErrorType, FutureType, PromiseType, PromiseStreamType, ExprTree, ExprTrees, VectorType}
 use Rattle.flow_tree.specs.Decls.{ParamTree}
 use Rattle.flow_ast.specs.declared.predefined.Predefined.{Predefined}
 use Rattle.flow_ast.specs.declared.predefined.Predefined.TheVariants as code
 use Rattle.flow_ast.specs.declared.predefined.Method.{Method}
 use Rattle.flow_ast.specs.declared.predefined.Method.TheVariants as method
 use Rattle.flow_ast.specs.TypingNames.{named, call_names, constant_names}
-use Rattle.flow_ast.specs.Typing.{is_there, param_named, param_types, routine_named, variable_in, type_in, types_in, without_effects, all_without_effects}
+use Rattle.flow_ast.specs.Typing.{is_there, param_named, param_types, routine_named, variable_in, type_in, types_in, without_effects, all_without_effects, is_nothing}
 use Rattle.flow_ast.specs.Fits.{fields_type, path_type}
 use Rattle.flow_rules.specs.Least.{lesser}
-use Rattle.flow_rules.specs.Judged.{Setting, form, fault, wants, wanted}
+use Rattle.flow_rules.specs.Judged.{Setting, form, fault, wants, wanted, returned}
 use Rattle.flow_rules.specs.Items.{target_form, target_fault, assigned, call_fault, ends_of}
-use Rattle.flow_rules.proofs.Lesser.{no_first, no_second, no_lesser}
+use Rattle.flow_rules.proofs.Lesser.{no_first, no_second, no_lesser, holds}
+use Rattle.flow_rules.specs.declared.rule.SemanticRule.TheVariants.{WrongType}
 use Rattle.flow_class.specs.declared.class.Slotted.{Slotted}
 use Rattle.flow_class.specs.Classes.{InstrTree, SetInstr, EffectInstr, NewInstr, ActInstr, DropInstr, LastTree, GotoLast, PassLast, TestLast, ChooseLast, ReturnLast, ThrowLast, CallbackTree, ClassTree, RawTree}
 use Rattle.flow_class.specs.Code.{Nothing, fetch_in, fetch_at, callback_at, type_at}
 use Rattle.flow_valid.specs.Heads.{all_decls}
 use Rattle.flow_valid.specs.Named.{has_place, has_block, has_group, has_last, targets, last_places}
-use Rattle.flow_valid.specs.Validity.{IsValid, put_fault, is_promise, operand_type, is_effect, instr_fits, last_fits, operand_fits, callback_fits, taken_type}
+use Rattle.flow_valid.specs.Validity.{IsValid, put_fault, is_made, operand_type, is_effect, instr_fits, last_fits, operand_fits, callback_fits, taken_type}
 use Rattle.flow_meaning.specs.Source.{records_in}
 use Rattle.flow_meaning.specs.Evaluating.{before_last, last_of}
 use Rattle.flow_tree.specs.Formed.{IsPath}
@@ -38,18 +39,20 @@ use Rattle.flow_typing_laws.proofs.Typing.CallsFitting.{call_stands}
 use Rattle.flow_progress.specs.Places.{class_vars}
 use Rattle.flow_progress.specs.Rules.{takes_type, MessageFits, Typed, AllTyped, SayFits, CallFits, InstrFits, BranchFits, IsBlock, LastFits}
 use Rattle.flow_progress.specs.Written.{HasPath, heads}
-use Rattle.flow_progress.proofs.Tops.{first_true, second_true, none_is, all_records, all_functions, scope_same, all_distinct}
+use Rattle.flow_progress.proofs.Tops.{first_true, second_true, none_is, all_records, all_functions, scope_same, all_distinct, actor_class}
 use Rattle.flow_progress.proofs.EffectsTyped.{effect_fits, operand_effect, operand_value}
 
 ends_same : (x : Ident) (xs : List Ident) → ends_of x xs ≡ (before_last x xs, last_of x xs)
 ends_same x [] = refl
 ends_same x (y ∷ ys) = ap (λ (q : List Ident × Ident). (x ∷ q.0, q.1)) (ends_same y ys)
 
-promise_there : (o : Option TypeTree) → is_promise o ≡ true → (t : TypeTree) × (o ≡ Some t) × ((u : TypeTree) × ((t ≡ PromiseType u) ⊎ (t ≡ PromiseStreamType u)))
-promise_there None h = absurd (false≢true h)
-promise_there (Some (PromiseType u)) h = (PromiseType u, refl, (u, inl refl))
-promise_there (Some (PromiseStreamType u)) h = (PromiseStreamType u, refl, (u, inr refl))
-promise_there (Some t) h = absurd (false≢true h)
+made_there : (o : Option TypeTree) → is_made o ≡ true
+    → (t : TypeTree) × (o ≡ Some t) × ((u : TypeTree) × ((t ≡ PromiseType u) ⊎ ((t ≡ PromiseStreamType u) ⊎ (t ≡ VectorType u))))
+made_there None h = absurd (false≢true h)
+made_there (Some (PromiseType u)) h = (PromiseType u, refl, (u, inl refl))
+made_there (Some (PromiseStreamType u)) h = (PromiseStreamType u, refl, (u, inr (inl refl)))
+made_there (Some (VectorType u)) h = (VectorType u, refl, (u, inr (inr refl)))
+made_there (Some t) h = absurd (false≢true h)
 
 -- what is at a number below the length
 there_at : {A : Type 0} (xs : List A) (n : ℕ) → n < length xs → (x : A) × (slice_get xs n ≡ Some x)
@@ -97,7 +100,21 @@ module _ (r : RawTree) (valid : IsValid r) (c : ClassTree) where
   name_says x es (Some code.Trace) h = (h.0 ∷ [], all_yield es (h.0 ∷ []) h.2, (h.0, refl, ap is_there h.1))
   name_says x es (Some code.SendTo) h = (IntType ∷ IntType ∷ StringType ∷ [], all_yield es (IntType ∷ IntType ∷ StringType ∷ []) h, refl)
   name_says x es (Some p) h = absurd h
-  name_says x es None h = (param_types h.0.params, all_yield es (param_types h.0.params) h.2, (h.0, ap (λ fs. routine_named fs x.name) (sym (all_functions r)) ∙ h.1, refl))
+  name_says x es None (inl h) = (param_types h.0.params, all_yield es (param_types h.0.params) h.2, inl (h.0, ap (λ fs. routine_named fs x.name) (sym (all_functions r)) ∙ h.1, refl))
+  name_says x es None (inr h) =
+      let k = actor_class r x.name h.0 h.2 in (
+        param_types h.0.params,
+        all_yield es (param_types h.0.params) h.4,
+        inr (record {
+          place = k.place;
+          class = k.class;
+          no_function = ap (λ fs. routine_named fs x.name) (sym (all_functions r)) ∙ h.1;
+          named = k.found;
+          is = k.is;
+          takes = k.takes;
+          is_void = ap is_nothing k.gives ∙ h.3;
+        }),
+      )
 
   -- a call of a method
   send_says : (t : TypeTree) (m : Method) (es : ExprTrees) → MethodFits (all_decls r) vars (PromiseType t) es m
@@ -117,10 +134,17 @@ module _ (r : RawTree) (valid : IsValid r) (c : ClassTree) where
   cancel_says t method.Cancel es h = ([], all_yield es [] h, refl)
   cancel_says t m es h = absurd h
 
+  grow_says : (t : TypeTree) (m : Method) (es : ExprTrees) → MethodFits (all_decls r) vars (VectorType t) es m
+      → (ts : List TypeTree) × AllTyped r (heads r) c vars es ts × MessageFits m (VectorType t) ts
+  grow_says t method.PushBack es h = (t ∷ [], all_yield es (t ∷ []) h, refl)
+  grow_says t method.Clear es h = ([], all_yield es [] h, refl)
+  grow_says t m es h = absurd h
+
   method_says : (t : TypeTree) (m : Method) (es : ExprTrees) → MethodFits (all_decls r) vars t es m → (ts : List TypeTree) × AllTyped r (heads r) c vars es ts × MessageFits m t ts
   method_says (PromiseType t) m es h = send_says t m es h
   method_says (PromiseStreamType t) m es h = stream_says t m es h
   method_says (FutureType t) m es h = cancel_says t m es h
+  method_says (VectorType t) m es h = grow_says t m es h
   method_says t m es h = absurd h
 
   -- which is never called on a constant
@@ -149,7 +173,7 @@ module _ (r : RawTree) (valid : IsValid r) (c : ClassTree) where
   instr_typed (EffectInstr path e) p h =
       let k = put_typed true path e p (none_is (put_fault here true path e) (second_true (is_effect here e) (is_none (put_fault here true path e)) h)) in
       (k.0, k.1, effect_fits r valid c vars e k.0 (first_true (is_effect here e) (is_none (put_fault here true path e)) h) k.2)
-  instr_typed (NewInstr q) p h = promise_there (type_at c q) h
+  instr_typed (NewInstr q) p h = made_there (type_at c q) h
   instr_typed (ActInstr path es) p h = call_says path es (call_stands (all_decls r) apart vars path es p (none_is (call_fault here path es) h))
   instr_typed (DropInstr ns) p h = tt
 
@@ -194,5 +218,6 @@ module _ (r : RawTree) (valid : IsValid r) (c : ClassTree) where
             (first_true (has_block c b) true (second_true (has_block c a) (has_block c b && true) bs)),
       )
   last_typed (ChooseLast g) f h k = k g
-  last_typed (ReturnLast e) f h k = to_yields e c.returns (none_is (wanted here false e c.returns) f)
+  last_typed (ReturnLast None) f h k = holds (is_nothing c.returns) WrongType (none_is (returned here None c.returns) f)
+  last_typed (ReturnLast (Some e)) f h k = to_yields e c.returns (none_is (wanted here false e c.returns) f)
   last_typed (ThrowLast e) f h k = to_yields e ErrorType (none_is (wanted here false e ErrorType) f)

@@ -28,7 +28,7 @@ use Rattle.flow_progress.specs.Places.{class_vars}
 use Rattle.flow_progress.specs.Asking.{OutcomeFits, SentFits, Wanted, Gives, reply_type}
 use Rattle.flow_progress.specs.Keeping.{AskFits, FineAsking}
 use Rattle.flow_progress.specs.Fitting.{CellTypes, typed_by, Exists, CellFits, OperandsFit, Standing, AllExist, ProcessFits}
-use Rattle.flow_progress.proofs.Retyped.{standing_retyped, operands_retyped, sees_any, operands_any}
+use Rattle.flow_progress.proofs.Retyped.{standing_retyped, operands_retyped, sees_any, operands_any, owns_retyped}
 use Rattle.flow_progress.proofs.States.{Fine, fine_same, fine_since, fine_turn, FitsBut}
 use Rattle.flow_progress.proofs.CellStates.{cell_there, IsOfType, fill_fits}
 use Rattle.flow_progress.proofs.NewCells.{with_type, Any, new_type, kept_types, new_but}
@@ -96,7 +96,7 @@ module _ (r : RawTree) (i : ℕ) (xs : Numbered Frame) (e : Entry) (g : Frame) (
     keeps_more = operands_retyped r types grown Any keeps g 0 e.operands (operands_any Any (λ n. tt) e.operands) o
 
     owner_more : Owner r grown e c
-    owner_more = record { is = h.owner.is; result = h.owner.result; owns = h.owner.owns; gives = keeps h.owner.result (FutureType c.returns) tt h.owner.gives }
+    owner_more = record { is = h.owner.is; owns = owns_retyped r types grown Any keeps e.result c.returns (λ n q. tt) h.owner.owns }
 
     pub hand_more : (cell : Cell) → CellFits r grown cell t → waiters cell ≡ [] → Hand grown (new_cell cell k)
     hand_more cell f w = record { entry = h.entry; awake = h.awake; frame = h.frame; owner = owner_more; rest = new_but r types t k xs i h.rest cell f w }

@@ -13,7 +13,7 @@ use Rattle.flow_trace.specs.declared.line.Line.{Line}
 use Rattle.flow_class.specs.Code.{fetch}
 use Rattle.flow_numbered.specs.Numbered.{Numbered, thing, added, put}
 use Rattle.flow_meaning.specs.Cells.{Cell, Single, Stream, is_complete}
-use Rattle.flow_meaning.specs.Requests.{Spot, Act, Goes, Pass, Drops, Effects, Operand, Waits, Sends, Cancels, Prints, SendsTo, Returns, Throws, RunsOut, Stuck, DiskCall, Effect, Make, Start, Draw, Delay, Never, Listen, Disk, Goal, Stored, Kept, Supply}
+use Rattle.flow_meaning.specs.Requests.{Spot, Act, Goes, Pass, Drops, Effects, Operand, Waits, Sends, Cancels, Prints, SendsTo, Returns, Throws, RunsOut, Stuck, DiskCall, Effect, Make, Start, Draw, Delay, Never, Listen, Disk, Goal, Stored, Kept, Supply, Starts}
 use Rattle.flow_meaning.specs.Process.{Run, Throw, Store, Keep, Close, Entry, Core}
 use Rattle.flow_meaning.specs.Lines.{wait_line, print_line, cancel_line}
 use Rattle.flow_meaning.specs.Work.{turn, writes, pushed, dropping_values, new_cell, fill, leave_for, take_branch, first_ready, Registration, Registered, Refused, Missing, register, owner, marked, cancel_by, cancel, cancel_owner}
@@ -38,6 +38,7 @@ abbrev pub Room : Act → Frame → (kept n : ℕ) → Type 0
 Room Goes f kept n = ahead f.code f.block f.instr kept < n
 Room Pass f kept n = Unit {0}
 Room (Drops vs) f kept n = ahead f.code f.block f.instr kept < n
+Room (Starts class args) f kept n = Unit {0}
 Room (Effects goal eff) f kept n = (goal_room goal f kept < n) × (3 + behind f.code f.block < n)
 Room (Operand spot r) f kept n = 1 + ahead f.code f.block f.instr (suc kept) < n
 Room (Waits spot vs) f kept n = 4 + behind f.code f.block < n
@@ -217,6 +218,7 @@ module _ (i n : ℕ) (xs : Numbered Frame) (e : Entry) (f : Frame) where
       let r = turn c (pushed (Run i)) in
       unless_map r.halted (λ lt. inl lt) (took (λ d. d.left < c.left) (pushed (Run i)) c (λ m lt. unless c.halted lt))
   react_falls s (Drops vs) c o h room = unless c.halted (dropped vs c (pushed (Run i) c) (runs c h room))
+  react_falls s (Starts class args) c o h room = tt
   react_falls s (Effects goal eff) c o h room = effect_at s goal eff c h room
   react_falls s (Operand spot r) c o h room = unless c.halted (two_falls i n (Keep i spot r) c xs e f h (keep_of i spot r) (run_of i) (λ ts. room))
   react_falls s (Waits spot vs) c o h room = wait_at spot vs c h room

@@ -1,5 +1,5 @@
 -- What fits fits with other types of cells, where those that it refers to keep theirs.
-use Rattle.std.proofs.Common.{◌≡◌, ℕ, suc, Bool, true, false, List, [], ◌∷◌, ◌++◌, ◌⊎◌, inl, inr}
+use Rattle.std.proofs.Common.{◌≡◌, ℕ, suc, Bool, true, false, List, [], ◌∷◌, ◌++◌, ◌⊎◌, inl, inr, refl}
 use Rattle.std.specs.declared.option.Option.{Option}
 use Rattle.std.specs.declared.option.Option.TheVariants.{None, Some}
 use Rattle.flow_tree.specs.Tree.{TypeTree, FutureType}
@@ -14,8 +14,8 @@ use Rattle.flow_meaning.specs.Cells.{Ref, Cell, Single, Stream}
 use Rattle.flow_meaning.specs.Process.{Task, Run, Give, Throw, Catch, Store, Keep, Close, Fire, Drop, Entry}
 use Rattle.flow_meaning.specs.Frame.{Memory, Frame, read}
 use Rattle.flow_progress.specs.Places.{HoldsTypes}
-use Rattle.flow_progress.specs.Asking.{OutcomeFits}
-use Rattle.flow_progress.specs.Fitting.{CellTypes, typed_by, Fits, Exists, Leads, ContentFits, QueueFits, CellFits, OperandsFit, Standing, Waiting, GivenFits, DoingFits, PostureFits, ActorFits, TasksFit, AllExist}
+use Rattle.flow_progress.specs.Asking.{OutcomeFits, end_type}
+use Rattle.flow_progress.specs.Fitting.{CellTypes, typed_by, Fits, Exists, Leads, ContentFits, QueueFits, CellFits, OperandsFit, Standing, Waiting, GivenFits, DoingFits, PostureFits, ActorFits, TasksFit, AllExist, OwnsResult}
 
 -- the cells to which things refer
 module _ (P : ℕ → Type 0) where
@@ -131,7 +131,7 @@ module _ (r : RawTree) (types others : CellTypes) (P : ℕ → Type 0) (moves : 
   doing_retyped c e f (Give i b v ∷ ts) s o k h = (h.0, given_retyped f b v s k h.1, h.2)
   doing_retyped c e f (Throw i err ∷ ts) s o k h = (h.0, either_retyped f s h.1, operands_retyped f 0 e.operands o h.2)
   doing_retyped c e f (Catch i err ∷ ts) s o k h = (h.0, standing_retyped f s h.1, h.2)
-  doing_retyped c e f (Close i v ∷ ts) s o k h = (outcome_retyped v c.returns k h.0, h.1, h.2)
+  doing_retyped c e f (Close i v ∷ ts) s o k h = (outcome_retyped v (end_type c.returns) k h.0, h.1, h.2)
   doing_retyped c e f (Fire n ∷ ts) s o k h = h
   doing_retyped c e f (Drop kd n ∷ ts) s o k h = h
 
@@ -140,14 +140,16 @@ module _ (r : RawTree) (types others : CellTypes) (P : ℕ → Type 0) (moves : 
   posture_retyped true c e f ts s o k h = (h.0, waiting_retyped f s h.1, operands_retyped f 0 e.operands o h.2)
   posture_retyped false c e f ts s o k h = doing_retyped c e f ts s o k h
 
+  pub owns_retyped : (o : Option ℕ) (t : TypeTree) → ((k : ℕ) → o ≡ Some k → P k) → OwnsResult r types o t → OwnsResult r others o t
+  owns_retyped None t own h = h
+  owns_retyped (Some k) t own h = (h.0, moves k (FutureType t) (own k refl) h.1)
+
   pub actor_retyped : (e : Entry) (f : Frame) (ts : List Task) → MemorySees P f.mem → OperandsSee P e.operands → FirstSees ts → ((k : ℕ) → e.result ≡ Some k → P k) → ActorFits r types e f ts
       → ActorFits r others e f ts
   actor_retyped e f ts s o k own h = record {
     class = h.class;
     is = h.is;
-    result = h.result;
-    owns = h.owns;
-    gives = moves h.result (FutureType h.class.returns) (own h.result h.owns) h.gives;
+    owns = owns_retyped e.result h.class.returns own h.owns;
     posture = posture_retyped e.suspended h.class e f ts s o k h.posture;
   }
 

@@ -2,26 +2,31 @@
 use Rattle.std.proofs.Common.{◌≡◌, ℕ, suc, ◌+◌, ◌<◌, ◌≤◌, Bool, true, false, List, [], ◌∷◌, refl, sym, subst, arith}
 use Rattle.std.specs.declared.option.Option.{Option}
 use Rattle.std.specs.declared.option.Option.TheVariants.{None, Some}
+use Rattle.std.specs.Prelude.{nat_lt, position, option_map}
+use Rattle.std.specs.Str.{bytes_eq}
 use Rattle.flow_ast.specs.declared.predefined.Predefined.{Predefined}
 use Rattle.flow_ast.specs.declared.predefined.Predefined.TheVariants as code
 use Rattle.flow_ast.specs.declared.predefined.Method.{Method}
 use Rattle.flow_ast.specs.Typing.{routine_named}
 use Rattle.flow_ast.specs.TypingNames.{named, call_names, method_names}
 use Rattle.flow_tree.specs.declared.ty.Ident.{Ident}
-use Rattle.flow_tree.specs.Tree.{ExprTree, ExprTrees}
+use Rattle.flow_tree.specs.Tree.{ExprTree, ExprTrees, TypeTree, returned_expr}
 use Rattle.flow_tree.specs.Decls.{RoutineTree}
-use Rattle.flow_value.specs.Values.{ValueTree, RefValue}
+use Rattle.flow_tree.specs.declared.limits.TheConstants.{ELEMENTS}
+use Rattle.flow_value.specs.Values.{ValueTree, RefValue, CompositeValue, ListWhole, count_of}
+use Rattle.flow_value.specs.declared.value.Kind.{Kind}
 use Rattle.flow_eval.specs.Eval.{Res, Done, Fails, Spent, Meaningless}
 use Rattle.flow_eval.specs.Answers.{int_of, text_of, bool_of, error_of, arg}
-use Rattle.flow_eval.specs.Functions.{Call, read_in}
+use Rattle.flow_eval.specs.Functions.{Call, read_in, default_value}
 use Rattle.flow_class.specs.Classes.{InstrTree, SetInstr, EffectInstr, NewInstr, ActInstr, DropInstr, LastTree, GotoLast, PassLast, TestLast, ChooseLast, ReturnLast, ThrowLast, CallbackTree}
 use Rattle.flow_class.specs.Code.{type_at, Fetched, Body, Last, Nothing, fetch, callback_at}
+use Rattle.flow_class.specs.declared.class.Slotted.{Slotted}
 use Rattle.flow_valid.specs.Validity.{leads_forward}
-use Rattle.flow_meaning.specs.Requests.{Act, Goes, Effects, Sends, Cancels, Prints, SendsTo, Returns, Spot, Make, Goal, Stored, Kept}
+use Rattle.flow_meaning.specs.Requests.{Act, Goes, Effects, Sends, Cancels, Prints, SendsTo, Returns, Spot, Make, Goal, Stored, Kept, Drops, Starts}
 use Rattle.flow_meaning.specs.Process.{View}
-use Rattle.flow_meaning.specs.Evaluating.{Names, Look, setting, bind, StepOf, asks, given, evaluated, Effectful, effect_in, effect_of, method_act, done, before_last, last_of, value, values, function_act, plain_act, based_act, call_act}
-use Rattle.flow_meaning.specs.Frame.{Frame, look, assign, spot_of, next_instr, over}
-use Rattle.flow_meaning.specs.Class.{promise_kind, placed, effects, instruction, test, operand_ref, operand_by, choose, throw_value, last, fetched, next_step}
+use Rattle.flow_meaning.specs.Evaluating.{Names, Look, setting, bind, StepOf, asks, given, evaluated, Effectful, effect_in, effect_of, method_act, done, before_last, last_of, value, values, function_act, plain_act, based_act, call_act, started_act, Change, Grows, Clears, changed, grown_by, change_of, base_of, storing, call_by}
+use Rattle.flow_meaning.specs.Frame.{Frame, look, assign, spot_of, next_instr, over, put_at, Memory}
+use Rattle.flow_meaning.specs.Class.{promise_kind, placed, effects, instruction, test, operand_ref, operand_by, choose, throw_value, last, fetched, next_step, new_by, put_path}
 use Rattle.flow_progress.proofs.FewerTurns.{AtMost, then_fewer, whole_fewer, all_fewer, call_fewer_whole}
 use Rattle.flow_progress.proofs.Calls.{IsCalled, Comes, act_called}
 use Rattle.flow_progress.proofs.Ahead.{behind, ahead, ahead_behind, ahead_next, ahead_kept, ahead_jump, Leads, leads_at}
@@ -34,17 +39,21 @@ done_fewer n None left h = tt
 done_fewer n (Some act) left h = h
 
 module _ (ns : Names) (v : View) (look : Look) where
-  function_act_fewer : (o : Option RoutineTree) (vs : List ValueTree) (left : ℕ) → left ≤ v.left → AtMost v.left (function_act ns v look o vs left)
-  function_act_fewer None vs left h = tt
-  function_act_fewer (Some f) vs left h =
-      then_fewer v.left (Call (setting ns v) f vs left) (λ u left. Done Goes left) (call_fewer_whole v.left (setting ns v) f vs left h) (λ u left le. le)
+  started_fewer : (o : Option ℕ) (vs : List ValueTree) (left : ℕ) → left ≤ v.left → AtMost v.left (started_act ns v look o vs left)
+  started_fewer None vs left h = tt
+  started_fewer (Some k) vs left h = h
+
+  function_act_fewer : (o : Option RoutineTree) (f : List ℕ) (vs : List ValueTree) (left : ℕ) → left ≤ v.left → AtMost v.left (function_act ns v look o f vs left)
+  function_act_fewer None f vs left h = started_fewer (position (bytes_eq f) ns.actors) vs left h
+  function_act_fewer (Some g) f vs left h =
+      then_fewer v.left (Call (setting ns v) g vs left) (λ u left. Done Goes left) (call_fewer_whole v.left (setting ns v) g vs left h) (λ u left le. le)
 
   plain_fewer : (o : Option Predefined) (f : List ℕ) (vs : List ValueTree) (left : ℕ) → left ≤ v.left → AtMost v.left (plain_act ns v look o f vs left)
   plain_fewer (Some code.Trace) f vs left h = h
   plain_fewer (Some code.SendTo) f vs left h =
       done_fewer v.left (bind (int_of (arg vs 0)) (λ q. bind (int_of (arg vs 1)) (λ port. bind (text_of (arg vs 2)) (λ text. Some (SendsTo q port text))))) left h
   plain_fewer (Some p) f vs left h = tt
-  plain_fewer None f vs left h = function_act_fewer (routine_named ns.functions f) vs left h
+  plain_fewer None f vs left h = function_act_fewer (routine_named ns.functions f) f vs left h
 
   based_fewer : (u : Option ValueTree) (m : Option Method) (vs : List ValueTree) (left : ℕ) → left ≤ v.left → AtMost v.left (based_act ns v look u m vs left)
   based_fewer (Some u) (Some m) vs left h = done_fewer v.left (method_act m u vs) left h
@@ -61,6 +70,22 @@ module _ (ns : Names) (v : View) (look : Look) where
       then_fewer v.left (values ns v look es) (λ vs left. based_act ns v look (read_in ns.records (look x.name) (before_last y ys)) (named method_names (last_of y ys).name) vs left)
       (all_fewer (setting ns v) look es v.left)
       (λ vs left le. based_fewer (read_in ns.records (look x.name) (before_last y ys)) (named method_names (last_of y ys).name) vs left le)
+
+-- neither does a change of a vector
+changed_fewer : (n : ℕ) (how : Change) (vs : List ValueTree) (o : Option ValueTree) (left : ℕ) → left ≤ n → AtMost n (changed how vs o left)
+changed_fewer n Grows vs (Some (CompositeValue ListWhole es)) left h = by_room (nat_lt (count_of es) ELEMENTS)
+  where
+    by_room : (b : Bool) → AtMost n (grown_by b es (arg vs 0) left)
+    by_room true = h
+    by_room false = h
+changed_fewer n Clears vs (Some (CompositeValue ListWhole es)) left h = h
+changed_fewer n how vs o left h = tt
+
+storing_fewer : (ns : Names) (v : View) (look : Look) (how : Change) (xs : List Ident) (es : ExprTrees) → AtMost v.left (storing ns v look how xs es)
+storing_fewer ns v look how [] es = tt
+storing_fewer ns v look how (x ∷ xs) es =
+    then_fewer v.left (values ns v look es) (λ vs left. changed how vs (read_in ns.records (look x.name) xs) left) (all_fewer (setting ns v) look es v.left)
+    (λ vs left le. changed_fewer v.left how vs (read_in ns.records (look x.name) xs) left le)
 
 module _ (v : View) (f : Frame) where
   -- what is ahead of the frame
@@ -107,11 +132,36 @@ module _ (v : View) (f : Frame) where
     act_leaves left (Cancels k) le h b a = (le, a)
     act_leaves left (Prints u) le h b a = (le, a)
     act_leaves left (SendsTo q port text) le h b a = (le, (a, omega (arith, b)))
+    act_leaves left (Starts class args) le h b a = (le, tt)
     act_leaves left _ le h b a = absurd h
 
     -- at an instruction the result of its effect leads to the next one
     result_room : (i : InstrTree) → fetch f.code f.block f.instr ≡ Body i → ahead f.code f.block (suc f.instr) v.kept + 2 ≤ now → goal_room Stored f v.kept < now
     result_room i q a = subst (λ o. 1 + stored_room o f v.kept < now) (sym q) (omega (arith, a))
+
+    new_leaves : (p : Slotted) (t : TypeTree) (o : Option Kind) → fetch f.code f.block f.instr ≡ Body (NewInstr p) → behind f.code f.block + 6 ≤ now
+        → ahead f.code f.block (suc f.instr) v.kept + 2 ≤ now → Leaves (new_by ns v f p t o)
+    new_leaves p t (Some k) q b a = (omega arith, (result_room (NewInstr p) q a, omega (arith, b)))
+    new_leaves p t None q b a = given_leaves (default_value t) (λ u. given f (put_at ns.records f.mem p [] u) (placed ns v f v.left))
+        (λ u. given_leaves (put_at ns.records f.mem p [] u) (placed ns v f v.left) (λ p. (omega arith, omega (arith, a))))
+
+    statement_leaves : (path : List Ident) (es : ExprTrees) → behind f.code f.block + 6 ≤ now → ahead f.code f.block (suc f.instr) v.kept + 2 ≤ now → (o : Option Change)
+        → Leaves (call_by ns v (look f.mem) o f (next_instr f.mem f) (put_path ns v f) path es)
+    statement_leaves path es b a None =
+        evaluated_leaves IsCalled (call_act ns v (look f.mem) path es) (λ act left. asks left act (next_instr f.mem f)) b (act_fewer ns v (look f.mem) path es)
+        (act_called ns v (look f.mem) path es) asked
+      where
+        asked : (act : Act) (left : ℕ) → left ≤ v.left → IsCalled act → Leaves (asks left act (next_instr f.mem f))
+        asked act left le h = act_leaves left act le h b (omega (arith, a))
+    statement_leaves path es b a (Some how) =
+        valued_leaves (storing ns v (look f.mem) how (base_of path) es) (λ s left. given f (put_path ns v f (base_of path) s.0) (λ g. asks left (Drops s.1) g)) b
+        (storing_fewer ns v (look f.mem) how (base_of path) es)
+        (λ s left le. path_leaves left s.1 le (assign ns.records f.mem (base_of path) s.0))
+      where
+        path_leaves : (left : ℕ) (ds : List ValueTree) → left ≤ v.left → (o : Option (List ValueTree × Memory))
+            → Leaves (given f (option_map (λ (p : List ValueTree × Memory). next_instr p.1 f) o) (λ g. asks left (Drops ds) g))
+        path_leaves left ds le None = (omega arith, tt)
+        path_leaves left ds le (Some p) = (le, omega (arith, a))
 
     instruction_leaves : (i : InstrTree) → fetch f.code f.block f.instr ≡ Body i → behind f.code f.block + 6 ≤ now → ahead f.code f.block (suc f.instr) v.kept + 2 ≤ now → Leaves (instruction ns v f i)
     instruction_leaves (SetInstr path e) q b a =
@@ -119,13 +169,8 @@ module _ (v : View) (f : Frame) where
         (λ u left le. given_leaves (assign ns.records f.mem path u) (placed ns v f left) (λ p. (le, omega (arith, a))))
     instruction_leaves (EffectInstr path e) q b a = given_leaves (effect_in ns e) (effects ns v f Stored) (λ g. effects_leaves Stored g b (result_room (EffectInstr path e) q a))
     instruction_leaves (NewInstr p) q b a =
-        given_leaves (bind (type_at f.code p) promise_kind) (λ k. asks v.left (Effects Stored (Make k)) f) (λ k. (omega arith, (result_room (NewInstr p) q a, omega (arith, b))))
-    instruction_leaves (ActInstr path es) q b a =
-        evaluated_leaves IsCalled (call_act ns v (look f.mem) path es) (λ act left. asks left act (next_instr f.mem f)) b (act_fewer ns v (look f.mem) path es)
-        (act_called ns v (look f.mem) path es) asked
-      where
-        asked : (act : Act) (left : ℕ) → left ≤ v.left → IsCalled act → Leaves (asks left act (next_instr f.mem f))
-        asked act left le h = act_leaves left act le h b (omega (arith, a))
+        given_leaves (type_at f.code p) (λ t. new_by ns v f p t (promise_kind t)) (λ t. new_leaves p t (promise_kind t) q b a)
+    instruction_leaves (ActInstr path es) q b a = statement_leaves path es b a (change_of path)
     instruction_leaves (DropInstr locals) q b a = (omega arith, omega (arith, a))
 
     test_leaves : (left : ℕ) (o : Option Bool) (x y : ℕ) → left ≤ v.left → behind f.code f.block + 6 ≤ now → f.block < x → f.block < y → Leaves (test ns v f left o x y)
@@ -159,7 +204,7 @@ module _ (v : View) (f : Frame) where
     last_leaves (TestLast e x y) q h b =
         valued_leaves (value ns v (look f.mem) e) (λ u left. test ns v f left (bool_of u) x y) b (value_fewer e) (λ u left le. test_leaves left (bool_of u) x y le b h.0 h.1)
     last_leaves (ChooseLast g) q h b = choose_leaves g (callback_at f.code g v.kept) refl q b
-    last_leaves (ReturnLast e) q h b = valued_leaves (value ns v (look f.mem) e) (λ u left. asks left (Returns u _) over) b (value_fewer e) (λ u left le. (le, omega (arith, b)))
+    last_leaves (ReturnLast e) q h b = valued_leaves (value ns v (look f.mem) (returned_expr e)) (λ u left. asks left (Returns u _) over) b (value_fewer (returned_expr e)) (λ u left le. (le, omega (arith, b)))
     last_leaves (ThrowLast e) q h b =
         valued_leaves (value ns v (look f.mem) e) (λ u left. throw_value ns v f left (error_of u)) b (value_fewer e) (λ u left le. throw_leaves left (error_of u) le b)
 

@@ -1,5 +1,5 @@
 -- An actor's step keeps a process fitting, and has a meaning.
-use Rattle.std.proofs.Common.{◌≡◌, ℕ, suc, nat_eq, true, List, [], ◌∷◌, length, if◌then◌else◌, refl, sym, ap, ◌∙◌, subst, arith}
+use Rattle.std.proofs.Common.{◌≡◌, ℕ, suc, nat_eq, true, List, [], ◌∷◌, length, if◌then◌else◌, refl, sym, ap, ◌∙◌, subst, arith, false}
 use Rattle.std.specs.Prelude.{slice_get}
 use Rattle.std.specs.declared.option.Option.{Option}
 use Rattle.std.specs.declared.option.Option.TheVariants.{None, Some}
@@ -13,12 +13,12 @@ use Rattle.flow_eval.proofs.TypedReferences.{types_move}
 use Rattle.flow_class.specs.Classes.{ClassTree, RawTree}
 use Rattle.flow_numbered.specs.Numbered.{Numbered, thing, added, put}
 use Rattle.flow_meaning.specs.Cells.{Single}
-use Rattle.flow_meaning.specs.Requests.{Act, Effects, Returns, Effect, Start, Goal, Stored, Kept, Ask, Supply}
+use Rattle.flow_meaning.specs.Requests.{Act, Effects, Returns, Effect, Start, Goal, Stored, Kept, Ask, Supply, Starts}
 use Rattle.flow_meaning.specs.Process.{Task, Run, Close, Entry, Core}
 use Rattle.flow_meaning.specs.Lines.{start_line}
 use Rattle.flow_meaning.specs.Work.{writes, pushed, dropping_values, new_cell}
 use Rattle.flow_meaning.specs.Effects.{result_task, push_result}
-use Rattle.flow_meaning.specs.Step.{proc, kept_by, view, enrol, start, answer_effect, answer, run_next, run}
+use Rattle.flow_meaning.specs.Step.{proc, kept_by, view, enrol, start, answer_effect, answer, run_next, run, start_alone, enrol_with}
 use Rattle.flow_meaning.specs.Orderly.{tasks_of, Rising, Orderly}
 use Rattle.flow_meaning.specs.Frame.{Frame, over}
 use Rattle.flow_meaning.specs.Class.{begun, fresh_from, next_step, classes, class_names}
@@ -26,7 +26,7 @@ use Rattle.flow_meaning.proofs.Posture.{thing_put, own_task}
 use Rattle.flow_meaning.proofs.Shifts.{run_of, close_of}
 use Rattle.flow_progress.specs.Places.{class_vars}
 use Rattle.flow_progress.specs.Rules.{first_types, ClassRules}
-use Rattle.flow_progress.specs.Asking.{HaveSome, OutcomeFits, Gives, Wanted, ActFits, StaysIn, AsksFit}
+use Rattle.flow_progress.specs.Asking.{HaveSome, OutcomeFits, Gives, Wanted, ActFits, StaysIn, AsksFit, Called, end_type}
 use Rattle.flow_progress.specs.Fitting.{CellTypes, typed_by, OperandsFit, Standing, ActorFits, ProcessFits}
 use Rattle.flow_progress.proofs.Asks.{next_fits}
 use Rattle.flow_progress.proofs.Handed.{args_many, begun_fits}
@@ -39,6 +39,7 @@ use Rattle.flow_progress.proofs.ReactFits.{hand_more, stands_more, keeps_more, w
 use Rattle.flow_progress.proofs.WaitFits.{react_fits}
 use Rattle.flow_progress.proofs.StepFits.{Actor, actor_here, cells_seen, After, frame_rules, add_actor}
 use Rattle.flow_progress.proofs.Registered.{awake_registered}
+use Rattle.flow_ast.specs.Typing.{is_nothing}
 
 module _ (r : RawTree) (actors : List RoutineTree) (rules : ClassRules r actors) (s : Supply) where
   -- the call of an actor
@@ -46,9 +47,9 @@ module _ (r : RawTree) (actors : List RoutineTree) (rules : ClassRules r actors)
       (st : Standing r types g) (o : OperandsFit r types g 0 e.operands) (up : Rising 0 k.started k.entries) where
     started_fits : (goal : Goal) (class : ℕ) (args : List ValueTree) (t : TypeTree) (d : ClassTree) → (goal ≡ Stored → e.operands ≡ [])
         → Wanted r (class_vars g.code) (typed_by types) goal g (length e.operands) t
-        → slice_get r.classes class ≡ Some d → HaveTypes r.records (typed_by types) (values_of_list args) (first_types d.params d.slots) → t ≡ FutureType d.returns
+        → slice_get r.classes class ≡ Some d → HaveTypes r.records (typed_by types) (values_of_list args) (first_types d.params d.slots) → is_nothing d.returns ≡ false → t ≡ FutureType d.returns
         → After r actors rules s types (start (classes r) i goal class (Some (begun d args)) (proc k xs))
-    started_fits goal class args t d none w is fits q =
+    started_fits goal class args t d none w is fits some q =
         let name = (classes r).label class in
         let a = begun d args in
         fine_turn r types (λ z. enrol class name (push_result i (result_task i goal (RefValue kind.Future (suc z.made))) z)) k (added xs (suc k.started) a)
@@ -99,7 +100,7 @@ module _ (r : RawTree) (actors : List RoutineTree) (rules : ClassRules r actors)
         subst (λ z. Fine r types (enrol class name (push_result i z k2)).halted (enrol class name (push_result i z k2)) (added xs (suc k.started) a)) (sym x.1)
         (fine_since r types ts None k.halted (enrol class name (pushed x.0 (pushed (Run i) k2))) (added xs (suc k.started) a) (λ n v q. keeps n v tt q)
         (fine_same r ts k.halted (enrol class name (pushed x.0 (pushed (Run i) k2))) (added xs (suc k.started) a) go
-        (add_actor r actors rules s ts k4 xs class (suc k.made) d a up p4 is (new_type types (suc k.made) future) refl st4))))
+        (add_actor r actors rules s ts k4 xs class (Some (suc k.made)) d a up p4 is (some, new_type types (suc k.made) future) refl st4))))
 
     abbrev starts : Goal → ℕ → List ValueTree → Type 0
     starts goal class args = After r actors rules s types (start (classes r) i goal class ((classes r).fresh class args) (proc k xs))
@@ -109,15 +110,70 @@ module _ (r : RawTree) (actors : List RoutineTree) (rules : ClassRules r actors)
         → starts goal class args
     start_fits goal class args t none w y =
         let d = y.0 in
-        let many = args_many r actors (class_vars d) (typed_by types) args d.slots d.params (rules.classes class d y.1).params y.2 in
+        let many = args_many r actors (class_vars d) (typed_by types) args d.slots d.params (rules.classes class d y.1.0).params y.1.1 in
         let same : nat_eq (length args) d.params ≡ true = grind (arith, many) in
-        let fresh : (classes r).fresh class args ≡ Some (begun d args) = ap (λ o. fresh_from o args) y.1 ∙ ap (λ b. if b then Some (begun d args) else None) same in
-        subst (λ o. After r actors rules s types (start (classes r) i goal class o (proc k xs))) (sym fresh) (started_fits goal class args t d none w y.1 y.2 y.3)
+        let fresh : (classes r).fresh class args ≡ Some (begun d args) = ap (λ o. fresh_from o args) y.1.0 ∙ ap (λ b. if b then Some (begun d args) else None) same in
+        subst (λ o. After r actors rules s types (start (classes r) i goal class o (proc k xs))) (sym fresh) (started_fits goal class args t d none w y.1.0 y.1.1 y.2 y.3)
+
+    -- the call of a void actor
+    alone_fits : (class : ℕ) (args : List ValueTree) (d : ClassTree) → slice_get r.classes class ≡ Some d
+        → HaveTypes r.records (typed_by types) (values_of_list args) (first_types d.params d.slots) → is_nothing d.returns ≡ true
+        → After r actors rules s types (start_alone (classes r) i class (Some (begun d args)) (proc k xs))
+    alone_fits class args d is fits void =
+        let name = (classes r).label class in
+        let a = begun d args in
+        fine_turn r types (λ z. enrol_with class name None (pushed (Run i) z)) k (added xs (suc k.started) a)
+        (λ m. let k2 = record k { left = m } in
+        let p = h.rest in
+        let h2 : HandFits r types i k2 xs e g c = record {
+          entry = h.entry;
+          awake = h.awake;
+          frame = h.frame;
+          owner = h.owner;
+          rest = record {
+            cells = p.cells;
+            waiting = p.waiting;
+            actors = p.actors;
+            work = p.work;
+            ports = p.ports;
+            main = p.main;
+            requests = p.requests;
+            numbered = p.numbered;
+            framed = p.framed;
+            registered = p.registered;
+          };
+        } in
+        let q = goes_by r types i (Run i) k2 xs e g c h2 (run_of i) (λ ts. (code, st, o)) in
+        let k4 = writes (start_line (suc k.started) name) (pushed (Run i) k2) in
+        let p4 : ProcessFits r types k4 xs = record {
+          cells = q.cells;
+          waiting = q.waiting;
+          actors = q.actors;
+          work = q.work;
+          ports = q.ports;
+          main = q.main;
+          requests = q.requests;
+          numbered = q.numbered;
+          framed = q.framed;
+          registered = q.registered;
+        } in
+        let st4 = begun_fits r actors (class_vars d) (typed_by types) d (rules.classes class d is) args fits in
+        fine_same r types k.halted (enrol_with class name None (pushed (Run i) k2)) (added xs (suc k.started) a) go
+        (add_actor r actors rules s types k4 xs class None d a up p4 is void refl st4))
+
+    pub void_fits : (class : ℕ) (args : List ValueTree) → (d : ClassTree) × Called r (typed_by types) class d args × (is_nothing d.returns ≡ true)
+        → After r actors rules s types (start_alone (classes r) i class ((classes r).fresh class args) (proc k xs))
+    void_fits class args y =
+        let d = y.0 in
+        let many = args_many r actors (class_vars d) (typed_by types) args d.slots d.params (rules.classes class d y.1.0).params y.1.1 in
+        let same : nat_eq (length args) d.params ≡ true = grind (arith, many) in
+        let fresh : (classes r).fresh class args ≡ Some (begun d args) = ap (λ o. fresh_from o args) y.1.0 ∙ ap (λ b. if b then Some (begun d args) else None) same in
+        subst (λ o. After r actors rules s types (start_alone (classes r) i class o (proc k xs))) (sym fresh) (alone_fits class args d y.1.0 y.1.1 y.2)
 
   -- an actor asks
   module _ (types : CellTypes) (i : ℕ) (k : Core) (xs : Numbered Frame) (e : Entry) (g : Frame) (c : ClassTree) (go : k.halted ≡ None) (h : HandFits r types i k xs e g c)
       (up : Rising 0 k.started k.entries) where
-    end_fits : (v : ValueTree) (vs : List ValueTree) → OutcomeFits r.records (typed_by types) (GoodOutcome v) c.returns → HaveSome r.records (typed_by types) vs → g ≡ over → e.operands ≡ []
+    end_fits : (v : ValueTree) (vs : List ValueTree) → OutcomeFits r.records (typed_by types) (GoodOutcome v) (end_type c.returns) → HaveSome r.records (typed_by types) vs → g ≡ over → e.operands ≡ []
         → After r actors rules s types (answer (classes r) s i (Returns v vs) (proc k xs))
     end_fits v vs f some ended none =
         let t = Close i (GoodOutcome v) in
@@ -133,14 +189,15 @@ module _ (r : RawTree) (actors : List RoutineTree) (rules : ClassRules r actors)
         stored_waits : (goal : Goal) (eff : Effect) → goal ≡ Stored → OfWait (Effects goal eff) → ⊥
         stored_waits Stored eff q w = w
         stored_waits (Kept spot) eff q w = cc
-    effect_asked goal eff code f o none = react_fits r i xs e g c code types s (Effects goal eff) k go h up f o none (λ z class args q. cc) (λ v vs q. cc)
+    effect_asked goal eff code f o none = react_fits r i xs e g c code types s (Effects goal eff) k go h up f o none (λ z class args q. cc) (λ v vs q. cc) (λ class args q. cc)
 
     pub asked_fits : (act : Act) → StaysIn r (class_vars g.code) (typed_by types) c act g → ActFits r (class_vars g.code) (typed_by types) c (length e.operands) act g
         → OperandsFit r types g 0 e.operands → ((OfWait act → ⊥) → e.operands ≡ [])
         → After r actors rules s types (answer (classes r) s i act (proc k xs))
     asked_fits (Returns v vs) stays f o none = end_fits v vs f.0 f.1 f.2 (none (λ w. w))
     asked_fits (Effects goal eff) stays f o none = effect_asked goal eff stays f o none
-    asked_fits act stays f o none = react_fits r i xs e g c stays types s act k go h up f o none (λ z class args q. cc) (λ v vs q. cc)
+    asked_fits (Starts class args) stays f o none = void_fits types i k xs e g c go h stays f.0 o up class args f.1
+    asked_fits act stays f o none = react_fits r i xs e g c stays types s act k go h up f o none (λ z class args q. cc) (λ v vs q. cc) (λ class args q. cc)
 
   -- what is asked for fits the frame that is there afterwards
   acts_after : (types : CellTypes) (f g : Frame) (c : ClassTree) (kept n : ℕ) (act : Act) → f.code ≡ c → kept ≡ n → StaysIn r (class_vars f.code) (typed_by types) f.code act g

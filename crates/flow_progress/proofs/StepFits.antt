@@ -23,7 +23,7 @@ use Rattle.flow_progress.specs.Places.{class_vars}
 use Rattle.flow_progress.specs.Rules.{KeepsRules, ClassRules}
 use Rattle.flow_progress.specs.Asking.{OutcomeFits}
 use Rattle.flow_progress.specs.Keeping.{FineAsking}
-use Rattle.flow_progress.specs.Fitting.{CellTypes, typed_by, Fits, CellFits, AllWaitFor, WaitersAt, Standing, DoingFits, PostureFits, ActorFits, ActorAt, ProcessFits}
+use Rattle.flow_progress.specs.Fitting.{CellTypes, typed_by, Fits, CellFits, AllWaitFor, WaitersAt, Standing, DoingFits, PostureFits, ActorFits, ActorAt, ProcessFits, OwnsResult}
 use Rattle.flow_progress.proofs.States.{FitsBut, popped_but, actor_at, actor_of}
 use Rattle.flow_progress.proofs.CellStates.{cell_there}
 use Rattle.flow_progress.proofs.HandFits.{Owner}
@@ -62,7 +62,7 @@ module _ (r : RawTree) (types : CellTypes) (i : ℕ) (t : Task) (ts : List Task)
             at = at;
             awake = a;
             stands = fr;
-            owner = record { is = fits.is; result = fits.result; owns = fits.owns; gives = fits.gives };
+            owner = record { is = fits.is; owns = fits.owns };
             doing = subst (DoingFits r types fits.class e f) all (subst (λ b. PostureFits r types b fits.class e f (tasks_of i c.tasks)) a fits.posture);
             rest = popped_but r types i c.left t ts c xs p top pop.others;
             running = pop.awake;
@@ -91,13 +91,13 @@ module _ (r : RawTree) (actors : List RoutineTree) (rules : ClassRules r actors)
   frame_rules types e c f o q = subst (λ d. KeepsRules r actors d (class_vars d)) (sym q) (rules.classes e.class c o.is)
 
   -- a new actor
-  pub add_actor : (types : CellTypes) (k : Core) (xs : Numbered Frame) (class cell : ℕ) (d : ClassTree) (a : Frame) → Rising 0 k.started k.entries → ProcessFits r types k xs
-      → slice_get r.classes class ≡ Some d → types cell ≡ Some (FutureType d.returns)
+  pub add_actor : (types : CellTypes) (k : Core) (xs : Numbered Frame) (class : ℕ) (result : Option ℕ) (d : ClassTree) (a : Frame) → Rising 0 k.started k.entries → ProcessFits r types k xs
+      → slice_get r.classes class ≡ Some d → OwnsResult r types result d.returns
       → a.code ≡ d → Standing r types a
-      → ProcessFits r types (record k { entries = added k.entries (suc k.started) (entry_of class cell); started = suc k.started; tasks = Run (suc k.started) ∷ k.tasks }) (added xs (suc k.started) a)
-  add_actor types k xs class cell d a up p is has code st =
+      → ProcessFits r types (record k { entries = added k.entries (suc k.started) (entry_of class result); started = suc k.started; tasks = Run (suc k.started) ∷ k.tasks }) (added xs (suc k.started) a)
+  add_actor types k xs class result d a up p is has code st =
       let n = suc k.started in
-      let e = entry_of class cell in
+      let e = entry_of class result in
       let none = beyond_none k.entries 0 k.started n up (omega arith) in
       let no_frame = beyond_none xs 0 k.started n p.framed (omega arith) in record {
         cells = p.cells;
@@ -105,7 +105,7 @@ module _ (r : RawTree) (actors : List RoutineTree) (rules : ClassRules r actors)
         actors = each_number n (λ j. ActorAt r types (thing (added k.entries n e) j) (thing (added xs n a) j) (tasks_of j (Run n ∷ k.tasks)))
             (actor_at r types e a (thing (added k.entries n e) n) (thing (added xs n a) n) (tasks_of n (Run n ∷ k.tasks)) (thing_new k.entries n e none) (thing_new xs n a no_frame)
             (subst (ActorFits r types e a) (sym (own_task n (Run n) k.tasks (run_of n)))
-            (record { class = d; is = is; result = cell; owns = refl; gives = has; posture = (code, st, tt) })))
+            (record { class = d; is = is; owns = has; posture = (code, st, tt) })))
             (λ j m. subst (λ o. ActorAt r types o (thing (added xs n a) j) (tasks_of j (Run n ∷ k.tasks))) (sym (thing_added k.entries n j e m))
             (subst (λ o. ActorAt r types (thing k.entries j) o (tasks_of j (Run n ∷ k.tasks))) (sym (thing_added xs n j a m))
             (subst (ActorAt r types (thing k.entries j) (thing xs j)) (sym (other_task n j (Run n) k.tasks (run_of n) m)) (p.actors j))));

@@ -11,14 +11,14 @@ use Rattle.flow_class.specs.Code.{Fetched, Body, Last, Nothing, fetch, catcher_a
 use Rattle.flow_valid.specs.Validity.{catchers_kept}
 use Rattle.flow_numbered.specs.Numbered.{Numbered, thing, put, removed}
 use Rattle.flow_meaning.specs.Cells.{Ref}
-use Rattle.flow_meaning.specs.Requests.{Spot, Act, Effects, Effect, Start, Goal, Ask, Supply}
+use Rattle.flow_meaning.specs.Requests.{Spot, Act, Effects, Effect, Start, Goal, Ask, Supply, Starts}
 use Rattle.flow_meaning.specs.Process.{Task, Run, Give, Throw, Catch, Store, Keep, Close, Fire, Drop, Entry, Halt, Core}
 use Rattle.flow_meaning.specs.Lines.{throw_line, catch_line}
 use Rattle.flow_meaning.specs.References.{scan_of}
 use Rattle.flow_meaning.specs.Work.{writes, pushed, dropping_values, leave_for, take_branch, is_ready_at}
 use Rattle.flow_meaning.specs.Dropping.{drop, fire, close}
 use Rattle.flow_meaning.specs.React.{react}
-use Rattle.flow_meaning.specs.Step.{Stepped, proc, kept_by, view, start, start_core, answer_effect, answer, run_next, run, give, store, throw, throw_core, OperandFate, GoesOn, Cancelled, Ready, verdict, with_operand, below, keep_by, keep, handle, close_actor, step_tasks, step_if}
+use Rattle.flow_meaning.specs.Step.{Stepped, proc, kept_by, view, start, start_core, answer_effect, answer, run_next, run, give, store, throw, throw_core, OperandFate, GoesOn, Cancelled, Ready, verdict, with_operand, below, keep_by, keep, handle, close_actor, step_tasks, step_if, start_void, start_alone}
 use Rattle.flow_meaning.specs.Orderly.{tasks_of, is_suspended, Stands, Paired, Orderly, UnlessStopped, Phase, Free, Risky, Due, Waiting, phase_of}
 use Rattle.flow_meaning.specs.Variables.{filled}
 use Rattle.flow_meaning.specs.Frame.{Memory, Frame, read, write, next_instr, assign, lose, raise, raised}
@@ -31,7 +31,7 @@ use Rattle.flow_progress.specs.FramesByRequest.{IsOf as OfClasses, AsksHere, Goi
 use Rattle.flow_progress.specs.Ending.{LeadOn, NoPlace}
 use Rattle.flow_progress.proofs.Ahead.{behind, ahead, whole, ahead_whole, behind_whole, ahead_behind, ahead_jump, catches_at}
 use Rattle.flow_progress.proofs.Weights.{fires, stored_room, busy, weigh, weight, load, Less, Falls, falls_on, still_weight, still_less, dropping_lighter, Hand, weight_at, hand_weight, push_falls, leave_falls, fallen, eased_less}
-use Rattle.flow_progress.proofs.TurnsTaken.{branch_turns, drop_turns, close_turns, start_turns}
+use Rattle.flow_progress.proofs.TurnsTaken.{branch_turns, drop_turns, close_turns, start_turns, alone_turns}
 use Rattle.flow_progress.proofs.Reacts.{Room, react_falls}
 use Rattle.flow_progress.proofs.Rooms.{Leaves, next_leaves}
 use Rattle.flow_progress.proofs.StepFalls.{leads_of_frame, fire_cell_easy, take_code, below_fires, one_more, Off, off_by, same_others, Shrinks, turned, shrinks, shrinks_same}
@@ -71,6 +71,12 @@ module _ (r : RawTree) (leads : LeadOn r) (s : Supply) where
       let d = start_core i goal class ((classes r).label class) k in
       unless_map d.halted (λ lt. inl (omega (arith, lt, le))) (start_turns i goal class ((classes r).label class) k)
 
+  alone_less : (i class : ℕ) (o : Option Frame) (c k : Core) (xs ys : Numbered Frame) → k.left ≤ c.left → After c xs (start_alone (classes r) i class o (proc k ys))
+  alone_less i class None c k xs ys le = tt
+  alone_less i class (Some a) c k xs ys le =
+      let d = start_void i class ((classes r).label class) k in
+      unless_map d.halted (λ lt. inl (omega (arith, lt, le))) (alone_turns i class ((classes r).label class) k)
+
   module _ (i : ℕ) (ts : List Task) (c : Core) (xs : Numbered Frame) (e : Entry) (f g : Frame) (left : ℕ) where
     -- the process, with the actor as it is after its step
     abbrev asking : Core
@@ -92,6 +98,7 @@ module _ (r : RawTree) (leads : LeadOn r) (s : Supply) where
     answer_less : Off i (Run i) ts c xs e → thing xs i ≡ Some f → left ≤ c.left → (act : Act) → Room act g (length e.operands) (ahead f.code f.block f.instr (length e.operands))
         → After c xs (answer (classes r) s i act (proc asking (put xs i g)))
     answer_less h fr le (Effects goal eff) room = effect_less h fr le goal eff room
+    answer_less h fr le (Starts class args) room = alone_less i class ((classes r).fresh class args) c asking xs (put xs i g) le
     answer_less h fr le act room = reacted_less h fr le act room
 
   next_less : (i : ℕ) (ts : List Task) (c : Core) (xs : Numbered Frame) (e : Entry) (f : Frame) (p : Option Ask × Frame) → Orderly c → c.tasks ≡ Run i ∷ ts → Off i (Run i) ts c xs e

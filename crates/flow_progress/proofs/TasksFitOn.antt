@@ -165,7 +165,7 @@ module _ (r : RawTree) (actors : List RoutineTree) (rules : ClassRules r actors)
           } in
           fine_same r types c.halted (leave_for i a.entry vs t k) (put xs i g) go
           (leave_state r types i a.entry a.entry vs t k (put xs i g) g rest a.at h.frame own (operands_exist r types a.frame 0 a.entry.operands a.doing.2) some
-          (λ us. doing_actor r types (running a.entry) g a.class (t ∷ us) (record { is = a.owner.is; result = a.owner.result; owns = a.owner.owns; gives = a.owner.gives }) refl (d us)))
+          (λ us. doing_actor r types (running a.entry) g a.class (t ∷ us) (record { is = a.owner.is; owns = a.owner.owns }) refl (d us)))
 
       caught : (a : Actor r types i (Throw i err) ts c xs) (x : CatcherTree) → catcher_at a.frame.code a.frame.block ≡ Some x → Standing r types a.frame ⊎ Waiting r types a.frame
           → Onward r actors (class_vars a.frame.code) (typed_by types) a.frame.code ((raised err a.frame (Some x)).0.values, (raised err a.frame (Some x)).1)
@@ -246,7 +246,7 @@ module _ (r : RawTree) (actors : List RoutineTree) (rules : ClassRules r actors)
           fine_same r types c.halted d xs go (put_back r types i d xs rest
           (actor_at r types e a.frame (thing (put c.entries i e) i) (thing xs i) (tasks_of i ts) (thing_put c.entries i a.entry e a.at) a.stands
           (subst (ActorFits r types e a.frame) (sym pop.rest) (doing_actor r types e a.frame a.class (Run i ∷ [])
-          (record { is = a.owner.is; result = a.owner.result; owns = a.owner.owns; gives = a.owner.gives }) a.awake a.doing)))
+          (record { is = a.owner.is; owns = a.owner.owns }) a.awake a.doing)))
           (awake_registered i (put c.entries i e) c.cells e (thing_put c.entries i a.entry e a.at) a.awake))
       by_verdict a Cancelled ready =
           let g = (lose a.frame).1 in
@@ -257,7 +257,7 @@ module _ (r : RawTree) (actors : List RoutineTree) (rules : ClassRules r actors)
           fine_same r types c.halted (leave_for i e (lose a.frame).0 t k) (put xs i g) go
           (leave_state r types i e a.entry (lose a.frame).0 t k (put xs i g) g (stepless a g) a.at (thing_put xs i a.frame g a.stands) (throw_of i operation_cancelled)
           (operands_exist r types a.frame 0 e.operands a.doing.2) z.1
-          (λ us. doing_actor r types (running e) g a.class (t ∷ us) (record { is = a.owner.is; result = a.owner.result; owns = a.owner.owns; gives = a.owner.gives }) refl (a.doing.0, inr z.0, tt)))
+          (λ us. doing_actor r types (running e) g a.class (t ∷ us) (record { is = a.owner.is; owns = a.owner.owns }) refl (a.doing.0, inr z.0, tt)))
       by_verdict a Ready ready =
           let g = (lose a.frame).1 in
           let e = with_operand spot q a.entry in
@@ -269,6 +269,6 @@ module _ (r : RawTree) (actors : List RoutineTree) (rules : ClassRules r actors)
           let next = next_moved a.frame g (length a.entry.operands) last.0 same (subst (λ m. NextOperand a.frame m last.0) zero_plus last.1) in
           let cell = ready_cell (thing c.cells q.1) (ready refl) in
           branch_fits r types i (length a.entry.operands) q.1 e a.entry (lose a.frame).0 k (put xs i g) g a.class last.0 cell.0 cell.1 cell.2 go a.at (thing_put xs i a.frame g a.stands) (stepless a g)
-          (record { is = a.owner.is; result = a.owner.result; owns = a.owner.owns; gives = a.owner.gives }) a.doing.0 z.0 next
+          (record { is = a.owner.is; owns = a.owner.owns }) a.doing.0 z.0 next
           (operand_typed r types a.frame (0 + length a.entry.operands) q last.0 last.1 last.2)
           (operands_moved r types a.frame g 0 e.operands same a.doing.2) z.1

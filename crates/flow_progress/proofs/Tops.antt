@@ -11,14 +11,16 @@ use Rattle.std.specs.declared.option.Option.{Option}
 use Rattle.std.specs.declared.option.Option.TheVariants.{None, Some}
 use Rattle.flow_tree.specs.Tree.{TypeTree}
 use Rattle.flow_tree.specs.Decls.{ParamTree, SlotTree, RecordTree, RoutineTree, DeclTree, StructDecl, FunctionDecl}
+use Rattle.flow_tree.specs.Canon.{first_place}
+use Rattle.flow_tree.specs.Body.{End}
 use Rattle.flow_ast.specs.TypingNames.{named}
-use Rattle.flow_ast.specs.Typing.{is_there, is_packet, packet_fields, param_types}
+use Rattle.flow_ast.specs.Typing.{is_there, is_packet, packet_fields, param_types, routine_named}
 use Rattle.flow_rules.specs.Known.{Meaning, RecordOf, ActorOf, row_of, packet_row, known, type_known, is_predefined}
 use Rattle.flow_rules.specs.Rules.{setting_of, decls_refusal}
 use Rattle.flow_class.specs.Classes.{ClassTree, RawTree}
-use Rattle.flow_valid.specs.Heads.{slot_param, head_of, plain_decls, all_decls, head_kept, first_head}
+use Rattle.flow_valid.specs.Heads.{slot_param, head_of, plain_decls, all_decls, head_kept, first_head, ident}
 use Rattle.flow_valid.specs.Validity.{IsValid}
-use Rattle.flow_meaning.specs.Source.{records_in, functions_in}
+use Rattle.flow_meaning.specs.Source.{records_in, functions_in, actors_in}
 use Rattle.flow_meaning.specs.Class.{class_name}
 use Rattle.flow_ast.specs.Fits.{scope_over}
 use Rattle.flow_typing_laws.specs.Typing.Scopes.{scope_in}
@@ -266,6 +268,55 @@ class_in (c ∷ cs) x ts t e = by_test (bytes_eq x c.name) refl e (class_in cs x
           takes = k.takes;
           gives = k.gives;
         }
+
+-- the head of a class as an actor
+abbrev head_routine : ClassTree → RoutineTree
+head_routine c = record {
+  at = first_place;
+  returns = c.returns;
+  name = ident c.name;
+  params = map slot_param (take c.params c.slots);
+  body = End;
+  close = first_place;
+}
+
+-- the class that is found among the actors by its name
+routine_class : (cs : List ClassTree) (x : List ℕ) (a : RoutineTree) → routine_named (actors_in (map head_of cs)) x ≡ Some a → IsClass cs x (param_types a.params) a.returns
+routine_class [] x a e = absurd (none_some e)
+routine_class (c ∷ cs) x a e = by_test (bytes_eq c.name x) refl e (routine_class cs x a)
+  where
+    by_test : (b : Bool) → bytes_eq c.name x ≡ b → cond b (Some (head_routine c)) (routine_named (actors_in (map head_of cs)) x) ≡ Some a
+        → (routine_named (actors_in (map head_of cs)) x ≡ Some a → IsClass cs x (param_types a.params) a.returns) → IsClass (c ∷ cs) x (param_types a.params) a.returns
+    by_test true q e f =
+        let same : head_routine c ≡ a = some_same (head_routine c) a e in
+        record {
+          place = 0;
+          class = c;
+          found = position_step (bytes_eq x) c.name (map class_name cs)
+              ∙ ap (λ b. if b then Some 0 else option_map suc (position (bytes_eq x) (map class_name cs))) (bytes_sym x c.name ∙ q);
+          is = refl;
+          takes = taken_types c.params c.slots ∙ ap (λ (z : RoutineTree). param_types z.params) same;
+          gives = ap (λ (z : RoutineTree). z.returns) same;
+        }
+    by_test false q e f =
+        let k = f e in
+        record {
+          place = suc k.place;
+          class = k.class;
+          found = position_step (bytes_eq x) c.name (map class_name cs)
+              ∙ ap (λ b. if b then Some 0 else option_map suc (position (bytes_eq x) (map class_name cs))) (bytes_sym x c.name ∙ q) ∙ ap (option_map suc) k.found;
+          is = k.is;
+          takes = k.takes;
+          gives = k.gives;
+        }
+
+actors_skip : (rs : List RecordTree) (fs : List RoutineTree) (ds : List DeclTree) → actors_in ((map StructDecl rs ++ map FunctionDecl fs) ++ ds) ≡ actors_in ds
+actors_skip [] [] ds = refl
+actors_skip [] (f ∷ fs) ds = actors_skip [] fs ds
+actors_skip (r ∷ rs) fs ds = actors_skip rs fs ds
+
+pub actor_class : (r : RawTree) (x : List ℕ) (a : RoutineTree) → routine_named (actors_in (all_decls r)) x ≡ Some a → IsClass r.classes x (param_types a.params) a.returns
+actor_class r x a e = routine_class r.classes x a (ap (λ fs. routine_named fs x) (sym (actors_skip r.records r.functions (map head_of r.classes))) ∙ e)
 
 -- records and functions are no actors
 structs_skip : (rs : List RecordTree) (ds es : List DeclTree) (x : List ℕ) (ts : List TypeTree) (t : TypeTree) → named (map row_of ((map StructDecl rs ++ ds) ++ es)) x ≡ Some (ActorOf ts t)

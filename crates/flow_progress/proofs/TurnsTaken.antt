@@ -9,14 +9,14 @@ use Rattle.flow_value.specs.Values.{ValueTree, IntValue, BoolValue, TextValue, V
 use Rattle.flow_numbered.specs.Numbered.{thing, put, removed}
 use Rattle.flow_meaning.specs.Cells.{Side, FutureSide, PromiseSide, side_of, Cell, taken, after_taking}
 use Rattle.flow_meaning.specs.Requests.{Goal, Stored, Kept}
-use Rattle.flow_meaning.specs.Process.{Entry, Core}
+use Rattle.flow_meaning.specs.Process.{Entry, Core, Run}
 use Rattle.flow_meaning.specs.Lines.{take_line, cancel_line, broken_line, end_line}
 use Rattle.flow_meaning.specs.References.{Scan, reference_count}
-use Rattle.flow_meaning.specs.Work.{writes, fill_cell, fill, free_cell, free, give, take_branch, owner, cancel_by, cancel}
+use Rattle.flow_meaning.specs.Work.{writes, fill_cell, fill, free_cell, free, give, take_branch, owner, cancel_by, cancel, pushed}
 use Rattle.flow_meaning.specs.Dropping.{Loss, Freed, Broken, Orphan, Unheard, loss, port_of, suffer, lose_cell, lose_ref, drop, set_result, give_result, close}
 use Rattle.flow_meaning.specs.Dropping as dropping
 use Rattle.flow_meaning.specs.Effects.{result_task, push_result}
-use Rattle.flow_meaning.specs.Step.{enrol, start_core}
+use Rattle.flow_meaning.specs.Step.{enrol, start_core, enrol_with, start_void}
 use Rattle.flow_meaning.proofs.Posture.{Unless, unless, unless_map}
 use Rattle.flow_progress.proofs.Weights.{took}
 
@@ -115,3 +115,7 @@ start_turns i goal class name c =
     (λ n lt. let k = record c { left = n } in
     let r = enrol class name (push_result i (result_task i goal (RefValue kind.Future (suc c.made))) k) in
     unless_map r.halted (λ le. omega (arith, le, lt)) (push_left n i goal class name (RefValue kind.Future (suc c.made)) k (omega arith)))
+
+pub alone_turns : (i class : ℕ) (name : List ℕ) (c : Core) → Unless (λ d. d.left < c.left) (start_void i class name c)
+alone_turns i class name c =
+    took (λ d. d.left < c.left) (λ d. enrol_with class name None (pushed (Run i) d)) c (λ n lt. unless c.halted (omega (arith, lt)))

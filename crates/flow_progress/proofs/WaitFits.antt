@@ -10,7 +10,7 @@ use Rattle.flow_eval.specs.Predefined.{natural}
 use Rattle.flow_class.specs.Classes.{ClassTree, RawTree}
 use Rattle.flow_numbered.specs.Numbered.{Numbered, thing, put}
 use Rattle.flow_meaning.specs.Cells.{Ref, Waiter, Cell, Single, Stream, is_ready, is_busy, waiters, with_waiter}
-use Rattle.flow_meaning.specs.Requests.{Spot, Act, Goes, Pass, Drops, Effects, Operand, Waits, Sends, Cancels, Prints, SendsTo, Returns, Throws, RunsOut, Stuck, Effect, Start, Goal, Stored, Kept, Packet, Supply}
+use Rattle.flow_meaning.specs.Requests.{Spot, Act, Goes, Pass, Drops, Effects, Operand, Waits, Sends, Cancels, Prints, SendsTo, Returns, Throws, RunsOut, Stuck, Effect, Start, Goal, Stored, Kept, Packet, Supply, Starts}
 use Rattle.flow_meaning.specs.Process.{Run, Throw, Keep, Entry, Core}
 use Rattle.flow_meaning.specs.Lines.{wait_line, print_line}
 use Rattle.flow_meaning.specs.Work.{writes, pushed, running, dropping_values, leave_for, is_ready_at, first_ready, Registration, Registered, Refused, Missing, register_at, register_one, register, owner}
@@ -126,7 +126,7 @@ module _ (r : RawTree) (i : ℕ) (xs : Numbered Frame) (e : Entry) (g : Frame) (
   suspend_fits spot vs Refused k go h s o some ok keep now =
       fine_same r types k.halted (leave_for i (at_spot spot e) vs (Throw i second_waiter) k) xs go
       (leave_state r types i (at_spot spot e) e vs (Throw i second_waiter) k xs g h.rest h.entry h.frame (throw_of i second_waiter) (operands_exist r types g 0 e.operands o) some
-      (λ ts. doing_actor r types (running (at_spot spot e)) g c (Throw i second_waiter ∷ ts) (record { is = h.owner.is; result = h.owner.result; owns = h.owner.owns; gives = h.owner.gives }) refl
+      (λ ts. doing_actor r types (running (at_spot spot e)) g c (Throw i second_waiter ∷ ts) (record { is = h.owner.is; owns = h.owner.owns }) refl
       (code, inr s, tt)))
   suspend_fits spot vs (Registered cells) k go h s o some ok keep now =
       let asleep = record (at_spot spot e) { suspended = true } in
@@ -144,7 +144,7 @@ module _ (r : RawTree) (i : ℕ) (xs : Numbered Frame) (e : Entry) (g : Frame) (
         framed = p.framed;
         registered = λ j n. entry_registered i j k.entries cells asleep n (cells_registered j k.entries k.cells cells (keep j) (p.registered j n));
       }) (actor_at r types asleep g (thing (put k.entries i asleep) i) (thing xs i) (tasks_of i k.tasks) (thing_put k.entries i e asleep h.entry) h.frame
-      (record { class = c; is = h.owner.is; result = h.owner.result; owns = h.owner.owns; gives = h.owner.gives; posture = (code, s, o) }))
+      (record { class = c; is = h.owner.is; owns = h.owner.owns; posture = (code, s, o) }))
       (λ x at q. subst (λ (z : Entry). AtEach i cells z.operands) (same_entry (sym (thing_put k.entries i e asleep h.entry) ∙ at)) now) in
       fine_same r types k.halted (dropping_values vs d) xs go (dropping_fits r types vs d xs some state)
 
@@ -154,7 +154,7 @@ module _ (r : RawTree) (i : ℕ) (xs : Numbered Frame) (e : Entry) (g : Frame) (
   wait_by_fits spot vs (Some x) k go h s o some q =
       let f = first_ready_fits r types g k.cells 0 e.operands x o q in
       branch_fits r types i x.0 x.1 (at_spot spot e) e vs k xs g c f.type f.cell f.at f.ready go h.entry h.frame h.rest
-      (record { is = h.owner.is; result = h.owner.result; owns = h.owner.owns; gives = h.owner.gives }) code s f.next f.has o some
+      (record { is = h.owner.is; owns = h.owner.owns }) code s f.next f.has o some
   wait_by_fits spot vs None k go h s o some q =
       suspend_fits spot vs (register i 0 e.operands (Registered k.cells)) k go h s o some
       (all_ok r types g i k.made xs h.frame k 0 e.operands (Registered k.cells) o (h.rest.cells, h.rest.waiting, h.rest.numbered))
@@ -169,9 +169,10 @@ module _ (r : RawTree) (i : ℕ) (xs : Numbered Frame) (e : Entry) (g : Frame) (
   pub react_fits : (s : Supply) (act : Act) (k : Core) → k.halted ≡ None → HandFits r types i k xs e g c → Rising 0 k.started k.entries
       → ActFits r (class_vars g.code) (typed_by types) c (length e.operands) act g
       → OperandsFit r types g 0 e.operands → ((OfWait act → ⊥) → e.operands ≡ []) → ((goal : Goal) (class : ℕ) (args : List ValueTree) → act ≡ Effects goal (Start class args) → ⊥)
-      → ((v : ValueTree) (vs : List ValueTree) → act ≡ Returns v vs → ⊥) → OkAsking r i xs e g c code types (react s i act k)
-  react_fits s Goes k go h up f o none no_start no_end = fine_same r types k.halted (pushed (Run i) k) xs go (runs r i xs e g c code types k h f o)
-  react_fits s Pass k go h up f o none no_start no_end =
+      → ((v : ValueTree) (vs : List ValueTree) → act ≡ Returns v vs → ⊥) → ((class : ℕ) (args : List ValueTree) → act ≡ Starts class args → ⊥)
+      → OkAsking r i xs e g c code types (react s i act k)
+  react_fits s Goes k go h up f o none no_start no_end no_alone = fine_same r types k.halted (pushed (Run i) k) xs go (runs r i xs e g c code types k h f o)
+  react_fits s Pass k go h up f o none no_start no_end no_alone =
       fine_turn r types (pushed (Run i)) k xs
       (λ m. let d = record k { left = m } in
       let p = h.rest in
@@ -188,30 +189,31 @@ module _ (r : RawTree) (i : ℕ) (xs : Numbered Frame) (e : Entry) (g : Frame) (
         registered = p.registered;
       } in
       fine_same r types k.halted (pushed (Run i) d) xs go (runs r i xs e g c code types d (rehand r i xs e g c code types k d h.entry rest h) f o))
-  react_fits s (Drops vs) k go h up f o none no_start no_end =
+  react_fits s (Drops vs) k go h up f o none no_start no_end no_alone =
       fine_same r types k.halted (dropping_values vs (pushed (Run i) k)) xs go (dropping_fits r types vs (pushed (Run i) k) xs f.1 (runs r i xs e g c code types k h f.0 o))
-  react_fits s (Effects goal eff) k go h up f o none no_start no_end =
+  react_fits s (Effects goal eff) k go h up f o none no_start no_end no_alone =
       effect_fits r i xs e g c code types s k goal eff f.1.0 go h f.0 o (λ q. none (λ w. stored_waits goal eff q w)) f.1.1 f.1.2 (λ class args q. no_start goal class args (ap (Effects goal) q))
     where
       stored_waits : (goal : Goal) (eff : Effect) → goal ≡ Stored → OfWait (Effects goal eff) → ⊥
       stored_waits Stored eff q w = w
       stored_waits (Kept spot) eff q w = cc
-  react_fits s (Operand spot q) k go h up f o none no_start no_end =
+  react_fits s (Starts class args) k go h up f o none no_start no_end no_alone = absurd (no_alone class args refl)
+  react_fits s (Operand spot q) k go h up f o none no_start no_end no_alone =
       let zero_plus : 0 + length e.operands ≡ length e.operands = omega arith in
       fine_same r types k.halted (pushed (Keep i spot q) (pushed (Run i) k)) xs go (goes_by_two r types i (Keep i spot q) k xs e g c h (keep_of i spot q)
       (λ ts. (code, f.0, operands_more r types g 0 e.operands q f.1.0 o (subst (λ m. NextOperand g m f.1.0) (sym zero_plus) f.1.1) f.1.2)))
-  react_fits s (Waits spot vs) k go h up f o none no_start no_end = wait_fits spot vs k go h f.0 o f.1
-  react_fits s (Sends n v) k go h up f o none no_start no_end = send_in_fits r i xs e g c code types n v k go h f.0 o f.1
-  react_fits s (Cancels n) k go h up f o none no_start no_end =
+  react_fits s (Waits spot vs) k go h up f o none no_start no_end no_alone = wait_fits spot vs k go h f.0 o f.1
+  react_fits s (Sends n v) k go h up f o none no_start no_end no_alone = send_in_fits r i xs e g c code types n v k go h f.0 o f.1
+  react_fits s (Cancels n) k go h up f o none no_start no_end no_alone =
       let d = pushed (Run i) k in
       owner_fits r i xs e g c code types (owner n k.entries) d go (owned n k (owner n k.entries) up refl) (runs r i xs e g c code types k h f o)
-  react_fits s (Prints v) k go h up f o none no_start no_end = print_fits r i xs e g c code types (print_line i v) k (f.1 i) go h f.0 o
-  react_fits s (SendsTo q port text) k go h up f o none no_start no_end =
+  react_fits s (Prints v) k go h up f o none no_start no_end no_alone = print_fits r i xs e g c code types (print_line i v) k (f.1 i) go h f.0 o
+  react_fits s (SendsTo q port text) k go h up f o none no_start no_end no_alone =
       either_fits r i xs e g c code types (int_le (pos 0) q && nat_lt (natural q) s.processes && is_port port) _ (throws i bad_argument k)
       (fine_asking r types (Some (Packet (natural q) (natural port) text)) k.halted (pushed (Run i) k) xs (λ z. tt)
       (fine_same r types k.halted (pushed (Run i) k) xs go (runs r i xs e g c code types k h f o)))
       (throws_fit r i xs e g c code types bad_argument k go h f o)
-  react_fits s (Returns v vs) k go h up f o none no_start no_end = absurd (no_end v vs refl)
-  react_fits s (Throws err) k go h up f o none no_start no_end = throws_fit r i xs e g c code types err k go h f o
-  react_fits s RunsOut k go h up f o none no_start no_end = tt
-  react_fits s Stuck k go h up f o none no_start no_end = absurd f
+  react_fits s (Returns v vs) k go h up f o none no_start no_end no_alone = absurd (no_end v vs refl)
+  react_fits s (Throws err) k go h up f o none no_start no_end no_alone = throws_fit r i xs e g c code types err k go h f o
+  react_fits s RunsOut k go h up f o none no_start no_end no_alone = tt
+  react_fits s Stuck k go h up f o none no_start no_end no_alone = absurd f

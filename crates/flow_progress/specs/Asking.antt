@@ -1,9 +1,10 @@
 -- What a frame that fits asks for: each value that it hands out has a type, and the frame stands where it is afterwards.
-use Rattle.std.specs.Prelude.{◌≡◌, ◌⊎◌, ℕ, List, [], ◌∷◌, codes, slice_get}
+use Rattle.std.specs.Prelude.{◌≡◌, ◌⊎◌, ℕ, true, false, List, [], ◌∷◌, codes, slice_get}
 use Rattle.std.specs.declared.option.Option.{Option}
 use Rattle.std.specs.declared.option.Option.TheVariants.{None, Some}
-use Rattle.flow_tree.specs.Tree.{TypeTree, IntType, StringType, VoidType, NamedType, FutureType, FutureStreamType}
+use Rattle.flow_tree.specs.Tree.{TypeTree, IntType, StringType, VoidType, NamedType, FutureType, FutureStreamType, NothingType}
 use Rattle.flow_tree.specs.Decls.{ParamTree, RecordTree}
+use Rattle.flow_ast.specs.Typing.{is_nothing}
 use Rattle.flow_ast.specs.Fits.{path_type}
 use Rattle.flow_trace.specs.declared.line.Line.{Line}
 use Rattle.flow_value.specs.Values.{ValueTree, RefValue, OutcomeTree, GoodOutcome, BadOutcome, values_of_list}
@@ -12,7 +13,7 @@ use Rattle.flow_class.specs.Classes.{EffectInstr, NewInstr, ChooseLast, Callback
 use Rattle.flow_class.specs.Code.{Fetched, Body, Last, fetch, callback_at, type_at}
 use Rattle.flow_valid.specs.Validity.{operand_type}
 use Rattle.flow_meaning.specs.Lines.{print_line}
-use Rattle.flow_meaning.specs.Requests.{DiskCall, ReadCall, WriteCall, SyncCall, SizeCall, Effect, Make, Start, Draw, Delay, Never, Listen, Disk, Goal, Stored, Kept, Ask, Act, Goes, Pass, Drops, Effects, Operand, Waits, Sends, Cancels, Prints, SendsTo, Returns, Throws, RunsOut, Stuck}
+use Rattle.flow_meaning.specs.Requests.{DiskCall, ReadCall, WriteCall, SyncCall, SizeCall, Effect, Make, Start, Draw, Delay, Never, Listen, Disk, Goal, Stored, Kept, Ask, Act, Goes, Pass, Drops, Effects, Starts, Operand, Waits, Sends, Cancels, Prints, SendsTo, Returns, Throws, RunsOut, Stuck}
 use Rattle.flow_meaning.specs.Frame.{Frame, over}
 use Rattle.flow_progress.specs.Rules.{first_types, takes_type}
 use Rattle.flow_progress.specs.FramesAtPoints.{Stands, StandsWaiting}
@@ -57,14 +58,21 @@ module _ (rs : List RecordTree) (typed : ℕ → TypeTree → Type 0) where
 abbrev pub CanPrint : ValueTree → Type 0
 CanPrint v = (i : ℕ) → (l : Line) × (print_line i v ≡ Some l)
 
+-- the type of what an actor ends with: a void one, which gives nothing, ends with `Void()`
+abbrev pub end_type : TypeTree → TypeTree
+end_type NothingType = VoidType
+end_type t = t
+
 module _ (r : RawTree) (typed : ℕ → TypeTree → Type 0) where
+  -- a class with these parameters is called
+  abbrev pub Called : (class : ℕ) → ClassTree → List ValueTree → Type 0
+  Called class d args =
+      (slice_get r.classes class ≡ Some d) × HaveTypes r.records typed (values_of_list args) (first_types d.params d.slots)
+
   -- an effect gives a value of this type
   abbrev pub Gives : Effect → TypeTree → Type 0
   Gives (Make k) t = (u : TypeTree) × (t ≡ reference_type k u)
-  Gives (Start class args) t =
-      (d : ClassTree) × (slice_get r.classes class ≡ Some d)
-      × HaveTypes r.records typed (values_of_list args) (first_types d.params d.slots)
-      × (t ≡ FutureType d.returns)
+  Gives (Start class args) t = (d : ClassTree) × Called class d args × (is_nothing d.returns ≡ false) × (t ≡ FutureType d.returns)
   Gives (Draw lo hi) t = t ≡ IntType
   Gives (Delay ticks) t = t ≡ FutureType VoidType
   Gives Never t = t ≡ FutureType VoidType
@@ -86,6 +94,7 @@ module _ (r : RawTree) (vars : List ParamTree) (typed : ℕ → TypeTree → Typ
   ActFits c kept Pass g = Standing g
   ActFits c kept (Drops vs) g = Standing g × HaveSome r.records typed vs
   ActFits c kept (Effects goal eff) g = Standing g × ((t : TypeTree) × Wanted goal g kept t × Gives r typed eff t)
+  ActFits c kept (Starts class args) g = Standing g × ((d : ClassTree) × Called r typed class d args × (is_nothing d.returns ≡ true))
   ActFits c kept (Operand spot q) g = Standing g × ((t : TypeTree) × NextOperand g kept t × HasType r.records typed (RefValue q.0 q.1) t)
   ActFits c kept (Waits spot vs) g =
       StandsWaiting r.records typed g × HaveSome r.records typed vs
@@ -95,7 +104,7 @@ module _ (r : RawTree) (vars : List ParamTree) (typed : ℕ → TypeTree → Typ
   ActFits c kept (Prints v) g = Standing g × CanPrint v
   ActFits c kept (SendsTo q port text) g = Standing g
   ActFits c kept (Returns v vs) g =
-      HasType r.records typed v c.returns × HaveSome r.records typed vs × (g ≡ over)
+      HasType r.records typed v (end_type c.returns) × HaveSome r.records typed vs × (g ≡ over)
   ActFits c kept (Throws e) g = Standing g
   ActFits c kept RunsOut g = Unit {0}
   ActFits c kept Stuck g = ⊥

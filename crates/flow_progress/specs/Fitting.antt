@@ -6,6 +6,7 @@ use Rattle.flow_tree.specs.Tree.{TypeTree, NamedType, FutureType, FutureStreamTy
 use Rattle.flow_value.specs.declared.value.Kind as reference
 use Rattle.flow_value.specs.declared.value.Kind.TheVariants.{Future}
 use Rattle.flow_value.specs.Values.{ValueTree, RefValue, OutcomeTree}
+use Rattle.flow_ast.specs.Typing.{is_nothing}
 use Rattle.flow_eval.specs.Typed.{future_side, HasType}
 use Rattle.flow_class.specs.Classes.{CallbackTree, ClassTree, RawTree}
 use Rattle.flow_class.specs.Code.{fetch, callback_at}
@@ -18,7 +19,7 @@ use Rattle.flow_progress.specs.Places.{class_vars}
 use Rattle.flow_progress.specs.FramesAtPoints.{Stands, StandsWaiting}
 use Rattle.flow_progress.specs.Rules.{takes_type}
 use Rattle.flow_progress.specs.Registering.{IsRegistered}
-use Rattle.flow_progress.specs.Asking.{Stores, NextOperand, OutcomeFits}
+use Rattle.flow_progress.specs.Asking.{Stores, NextOperand, OutcomeFits, end_type}
 
 -- The type of a cell is that of its futures.
 abbrev pub CellTypes : Type 0
@@ -104,20 +105,23 @@ module _ (r : RawTree) (types : CellTypes) where
   DoingFits c e f (Throw i err ∷ ts) = (f.code ≡ c) × (Standing f ⊎ Waiting f) × OperandsFit f 0 e.operands
   DoingFits c e f (Catch i err ∷ ts) = (f.code ≡ c) × Standing f × (e.operands ≡ [])
   DoingFits c e f (Close i o ∷ ts) =
-      OutcomeFits r.records (typed_by types) o c.returns × (f ≡ over) × (e.operands ≡ [])
+      OutcomeFits r.records (typed_by types) o (end_type c.returns) × (f ≡ over) × (e.operands ≡ [])
   DoingFits c e f ts = ⊥
 
   abbrev pub PostureFits : Bool → ClassTree → Entry → Frame → List Task → Type 0
   PostureFits true c e f ts = (f.code ≡ c) × Waiting f × OperandsFit f 0 e.operands
   PostureFits false c e f ts = DoingFits c e f ts
 
+  -- an actor owns its result, and a void one has none
+  abbrev pub OwnsResult : Option ℕ → TypeTree → Type 0
+  OwnsResult None t = is_nothing t ≡ true
+  OwnsResult (Some k) t = (is_nothing t ≡ false) × (types k ≡ Some (FutureType t))
+
   -- an unfinished actor: its class, its result, and what is to be done for it
   pub record ActorFits (e : Entry) (f : Frame) (ts : List Task) : Type 0 where
     pub class : ClassTree
     pub is : slice_get r.classes e.class ≡ Some class
-    pub result : ℕ
-    pub owns : e.result ≡ Some result
-    pub gives : types result ≡ Some (FutureType class.returns)
+    pub owns : OwnsResult e.result class.returns
     pub posture : PostureFits e.suspended class e f ts
 
   abbrev pub ActorAt : Option Entry → Option Frame → List Task → Type 0

@@ -1,16 +1,17 @@
 -- What the instructions of a class have to do with types and with each other: the rules on classes, instruction by instruction.
-use Rattle.std.specs.Prelude.{◌≡◌, ◌≤◌, ◌⊎◌, ℕ, zero, suc, length, true, List, [], ◌∷◌, slice_get}
+use Rattle.std.specs.Prelude.{◌≡◌, ◌≤◌, ◌⊎◌, ℕ, zero, suc, length, true, false, List, [], ◌∷◌, position, slice_get}
+use Rattle.std.specs.Str.{bytes_eq}
 use Rattle.std.specs.declared.option.Option.{Option}
 use Rattle.std.specs.declared.option.Option.TheVariants.{None, Some}
 use Rattle.flow_tree.specs.declared.ty.Ident.{Ident}
-use Rattle.flow_tree.specs.Tree.{TypeTree, BoolType, VoidType, StringType, IntType, ErrorType, FutureType, PromiseType, PromiseStreamType, ExprTree, ExprTrees}
+use Rattle.flow_tree.specs.Tree.{TypeTree, BoolType, VoidType, StringType, IntType, ErrorType, FutureType, PromiseType, PromiseStreamType, VectorType, ExprTree, ExprTrees}
 use Rattle.flow_tree.specs.Decls.{ParamTree, SlotTree, RoutineTree}
 use Rattle.flow_ast.specs.declared.predefined.Predefined.{Predefined}
 use Rattle.flow_ast.specs.declared.predefined.Predefined.TheVariants as code
 use Rattle.flow_ast.specs.declared.predefined.Method.{Method}
 use Rattle.flow_ast.specs.declared.predefined.Method.TheVariants as method
 use Rattle.flow_ast.specs.TypingNames.{named, call_names, method_names}
-use Rattle.flow_ast.specs.Typing.{Signature, signature, equality_type, is_there, types_in, all_without_effects, param_types, routine_named}
+use Rattle.flow_ast.specs.Typing.{Signature, signature, equality_type, is_there, is_nothing, types_in, all_without_effects, param_types, routine_named}
 use Rattle.flow_ast.specs.Fits.{scope_over, path_type, Yields, FunctionsFit}
 use Rattle.flow_class.specs.declared.class.Slotted.{Slotted}
 use Rattle.flow_class.specs.declared.class.Slotted.TheVariants.{Local}
@@ -33,13 +34,15 @@ abbrev pub takes_type : ClassTree → Option Slotted → Option TypeTree
 takes_type c None = Some VoidType
 takes_type c (Some p) = type_at c p
 
--- what a method sends, or prints, by the types of its arguments
+-- what a method sends, or makes of a vector, by the types of its arguments; and what is printed
 abbrev pub MessageFits : Method → TypeTree → List TypeTree → Type 0
 MessageFits method.Send (PromiseType t) ts = ts ≡ t ∷ []
 MessageFits method.Send (PromiseStreamType t) ts = ts ≡ t ∷ []
 MessageFits method.SendError (PromiseType t) ts = ts ≡ ErrorType ∷ []
 MessageFits method.SendError (PromiseStreamType t) ts = ts ≡ ErrorType ∷ []
 MessageFits method.Cancel (FutureType t) ts = ts ≡ []
+MessageFits method.PushBack (VectorType t) ts = ts ≡ t ∷ []
+MessageFits method.Clear (VectorType t) ts = ts ≡ []
 MessageFits _ _ ts = ⊥
 
 abbrev pub Printable : List TypeTree → Type 0
@@ -58,7 +61,8 @@ module _ (r : RawTree) (actors : List RoutineTree) (c : ClassTree) (vars : List 
   abbrev pub EffectGives : Effectful → List TypeTree → TypeTree → Type 0
   EffectGives (World p) ts t = (s : Signature) × (signature p ≡ Some s) × (s.params ≡ ts) × (s.gives ≡ t)
   EffectGives (Actor k) ts t =
-      (d : ClassTree) × (slice_get r.classes k ≡ Some d) × (first_types d.params d.slots ≡ ts) × (FutureType d.returns ≡ t)
+      (d : ClassTree) × (slice_get r.classes k ≡ Some d) × (first_types d.params d.slots ≡ ts) × (is_nothing d.returns ≡ false)
+      × (FutureType d.returns ≡ t)
 
   pub record EffectFits (e : ExprTree) (t : TypeTree) : Type 0 where
     pub effect : Effectful
@@ -68,12 +72,24 @@ module _ (r : RawTree) (actors : List RoutineTree) (c : ClassTree) (vars : List 
     pub typed : AllTyped args types
     pub gives : EffectGives effect types t
 
-  -- a call by a name
+  -- a call by a name: a predefined one, of a function, or else of a void class
+  abbrev pub FunctionFits : Ident → List TypeTree → Type 0
+  FunctionFits f ts = (g : RoutineTree) × (routine_named r.functions f.name ≡ Some g) × (param_types g.params ≡ ts)
+
+  pub record VoidFits (f : Ident) (ts : List TypeTree) : Type 0 where
+    pub place : ℕ
+    pub class : ClassTree
+    pub no_function : routine_named r.functions f.name ≡ None
+    pub named : position (bytes_eq f.name) (class_names r).actors ≡ Some place
+    pub is : slice_get r.classes place ≡ Some class
+    pub takes : first_types class.params class.slots ≡ ts
+    pub is_void : is_nothing class.returns ≡ true
+
   abbrev pub SayFits : Option Predefined → Ident → List TypeTree → Type 0
   SayFits (Some code.Trace) f ts = Printable ts
   SayFits (Some code.SendTo) f ts = ts ≡ IntType ∷ IntType ∷ StringType ∷ []
   SayFits (Some _) f ts = ⊥
-  SayFits None f ts = (g : RoutineTree) × (routine_named r.functions f.name ≡ Some g) × (param_types g.params ≡ ts)
+  SayFits None f ts = FunctionFits f ts ⊎ VoidFits f ts
 
   abbrev pub CallFits : List Ident → List TypeTree → Type 0
   CallFits [] ts = ⊥
@@ -86,7 +102,8 @@ module _ (r : RawTree) (actors : List RoutineTree) (c : ClassTree) (vars : List 
   InstrFits (SetInstr path e) = (t : TypeTree) × (path_type r.records vars path ≡ Some t) × Typed e t
   InstrFits (EffectInstr path e) = (t : TypeTree) × (path_type r.records vars path ≡ Some t) × EffectFits e t
   InstrFits (NewInstr p) =
-      (t : TypeTree) × (type_at c p ≡ Some t) × ((u : TypeTree) × ((t ≡ PromiseType u) ⊎ (t ≡ PromiseStreamType u)))
+      (t : TypeTree) × (type_at c p ≡ Some t)
+      × ((u : TypeTree) × ((t ≡ PromiseType u) ⊎ ((t ≡ PromiseStreamType u) ⊎ (t ≡ VectorType u))))
   InstrFits (ActInstr path es) = (ts : List TypeTree) × AllTyped es ts × CallFits path ts
   InstrFits (DropInstr ns) = Unit {0}
 
@@ -102,12 +119,17 @@ module _ (r : RawTree) (actors : List RoutineTree) (c : ClassTree) (vars : List 
   abbrev pub IsBlock : ℕ → Type 0
   IsBlock b = fetch c b 0 ≡ Nothing → ⊥
 
+  -- a result of the class's type is given, and none by a void class
+  abbrev pub ResultGiven : Option ExprTree → Type 0
+  ResultGiven None = is_nothing c.returns ≡ true
+  ResultGiven (Some e) = Typed e c.returns
+
   abbrev pub LastFits : LastTree → Type 0
   LastFits (GotoLast b) = IsBlock b
   LastFits (PassLast b) = IsBlock b
   LastFits (TestLast e a b) = Typed e BoolType × IsBlock a × IsBlock b
   LastFits (ChooseLast g) = (n : ℕ) (k : CallbackTree) → callback_at c g n ≡ Some k → BranchFits k
-  LastFits (ReturnLast e) = Typed e c.returns
+  LastFits (ReturnLast e) = ResultGiven e
   LastFits (ThrowLast e) = Typed e ErrorType
 
   -- A class keeps the rules.

@@ -22,7 +22,7 @@ use Rattle.flow_rules.specs.declared.rule.SemanticRule.{SemanticRule}
 use Rattle.flow_rules.specs.declared.rule.SemanticRule.TheVariants.{UnknownName, TakenName, NotInFunction, NeedsValue, BreakOutside, WaitInFunction}
 use Rattle.flow_rules.specs.Least.{number, lesser, unless}
 use Rattle.flow_rules.specs.Known.{type_known, is_predefined}
-use Rattle.flow_rules.specs.Judged.{Setting, field_form, variable_form, of_field, form, fault, faults, wanted, wants, operands, not_here, called, called_on, needs_of, calls, said}
+use Rattle.flow_rules.specs.Judged.{Setting, field_form, variable_form, of_field, form, fault, faults, wanted, returned, wants, operands, not_here, called, called_on, needs_of, calls, said}
 
 -- what is in force at an item: its setting, the result that is wanted, the names of the parameters and
 -- of the state variables so far, and whether it stands in a loop, and in the body of a catch
@@ -218,7 +218,7 @@ abbrev mutual
   body_refusal e (LoopStmt at b k) = or_else (body_refusal (in_loop e) b) (body_refusal (behind e b) k)
   body_refusal e (BreakStmt at k) = or_else (item at (unless e.looped BreakOutside)) (body_refusal e k)
   body_refusal e (ContinueStmt at k) = or_else (item at (unless e.looped BreakOutside)) (body_refusal e k)
-  body_refusal e (ReturnStmt at v k) = or_else (item at (wanted e.setting false v e.returns)) (body_refusal e k)
+  body_refusal e (ReturnStmt at v k) = or_else (item at (returned e.setting v e.returns)) (body_refusal e k)
   body_refusal e (ThrowStmt at v k) = or_else (item at (throw_fault e.setting e.caught v)) (body_refusal e k)
   body_refusal e (TryStmt at b q x h k) =
       or_else (body_refusal e b)

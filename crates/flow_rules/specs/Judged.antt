@@ -1,7 +1,7 @@
 -- The least of the rules K1 to K6 that fails in an expression. A type is read by the form of an
 -- expression as far as the form gives one: a call has its result's type even where its arguments are
 -- wrong. What stands on an unknown name has none, and nothing that would need that type is judged.
-use Rattle.std.specs.Prelude.{ℕ, suc, Bool, true, false, not, List, [], ◌∷◌, map, slice_get}
+use Rattle.std.specs.Prelude.{ℕ, suc, Bool, true, false, not, ◌&&◌, List, [], ◌∷◌, map, slice_get}
 use Rattle.std.specs.Option.{option_map}
 use Rattle.std.specs.declared.option.Option.{Option}
 use Rattle.std.specs.declared.option.Option.TheVariants.{None, Some}
@@ -11,9 +11,9 @@ use Rattle.flow_ast.specs.declared.predefined.Predefined.{Predefined}
 use Rattle.flow_ast.specs.declared.predefined.Predefined.TheVariants as predefined
 use Rattle.flow_ast.specs.declared.predefined.Method.{Method}
 use Rattle.flow_ast.specs.declared.predefined.Method.TheVariants as method
-use Rattle.flow_tree.specs.Tree.{Selector, ByName, ByIndex, TypeTree, IntType, BoolType, StringType, VoidType, ErrorType, NamedType, FutureType, PromiseType, PromiseStreamType, ExprTree, ExprTrees, IntExpr, TextExpr, BoolExpr, VoidExpr, VarExpr, CallExpr, FieldExpr, MethodExpr, NotExpr, NegExpr, BinaryExpr, ParenExpr, NoExprs, MoreExprs}
-use Rattle.flow_ast.specs.TypingNames.{named, call_names, method_names, constant_names}
-use Rattle.flow_ast.specs.Typing.{Signature, signature, same_type, sign_type, binary_type, equality_type, method_in, with_type, is_there}
+use Rattle.flow_tree.specs.Tree.{Selector, ByName, ByIndex, TypeTree, IntType, BoolType, StringType, VoidType, ErrorType, NamedType, FutureType, PromiseType, PromiseStreamType, VectorType, NothingType, ExprTree, ExprTrees, IntExpr, TextExpr, BoolExpr, VoidExpr, VarExpr, CallExpr, FieldExpr, MethodExpr, NotExpr, NegExpr, BinaryExpr, ParenExpr, NoExprs, MoreExprs}
+use Rattle.flow_ast.specs.TypingNames.{named, selected, call_names, method_names, constant_names}
+use Rattle.flow_ast.specs.Typing.{Signature, signature, same_type, sign_type, binary_type, equality_type, method_in, with_type, is_there, is_nothing}
 use Rattle.flow_rules.specs.declared.rule.SemanticRule.{SemanticRule}
 use Rattle.flow_rules.specs.declared.rule.SemanticRule.TheVariants.{UnknownName, WrongType, WrongCount, EffectInside, NotInFunction, LostValue}
 use Rattle.flow_rules.specs.Least.{lesser, unless}
@@ -77,10 +77,15 @@ abbrev pub predefined_callee : Predefined → Option Signature → Callee
 predefined_callee p None = statement (stated p)
 predefined_callee p (Some g) = callee g.params g.gives (predefined_kind p)
 
+-- the call of an actor is an effect; that of a void one has no type, as a statement call
+abbrev pub actor_callee : List TypeTree → TypeTree → Callee
+actor_callee ts NothingType = statement (map Exactly ts)
+actor_callee ts t = callee ts (FutureType t) Effect
+
 abbrev pub declared_callee : List ℕ → Meaning → Callee
 declared_callee f (RecordOf fs) = callee (map (λ (r : List ℕ × TypeTree). r.1) fs) (NamedType f) Value
 declared_callee f (FunctionOf ts t) = callee ts t OfFunction
-declared_callee f (ActorOf ts t) = callee ts (FutureType t) Effect
+declared_callee f (ActorOf ts t) = actor_callee ts t
 
 -- what a name without a base calls
 abbrev pub called_as : Setting → List ℕ → Option Predefined → Option Callee
@@ -90,7 +95,7 @@ called_as s f None = option_map (declared_callee f) (s.known f)
 abbrev pub called : Setting → List ℕ → Option Callee
 called s f = called_as s f (named call_names f)
 
--- the statement calls on what sends, and on a future
+-- the statement calls on what sends, on a future, and on a vector
 abbrev pub sends : TypeTree → Method → Option Callee
 sends t method.Send = Some (statement (Exactly t ∷ []))
 sends t method.SendError = Some (statement (Exactly ErrorType ∷ []))
@@ -100,10 +105,16 @@ abbrev pub cancels : Method → Option Callee
 cancels method.Cancel = Some (statement [])
 cancels _ = None
 
+abbrev pub grows : TypeTree → Method → Option Callee
+grows t method.PushBack = Some (statement (Exactly t ∷ []))
+grows t method.Clear = Some (statement [])
+grows t _ = None
+
 abbrev pub stated_on : TypeTree → Method → Option Callee
 stated_on (PromiseType t) m = sends t m
 stated_on (PromiseStreamType t) m = sends t m
 stated_on (FutureType t) m = cancels m
+stated_on (VectorType t) m = grows t m
 stated_on _ m = None
 
 abbrev pub method_callee : TypeTree → Method → Option Signature → Option Callee
@@ -119,10 +130,14 @@ abbrev pub called_on : Option TypeTree → List ℕ → Option Callee
 called_on None m = None
 called_on (Some t) m = called_by t (named method_names m)
 
--- an index takes an int; no type has elements, so it has no type, as a statement call has none
+-- an index takes an int; on what is no vector it has no type, as a statement call has none
+abbrev pub index_callee : Option Signature → Callee
+index_callee (Some g) = callee g.params g.gives Value
+index_callee None = statement (Exactly IntType ∷ [])
+
 abbrev pub indexed_on : Option TypeTree → Option Callee
 indexed_on None = None
-indexed_on (Some t) = Some (statement (Exactly IntType ∷ []))
+indexed_on (Some t) = Some (index_callee (method_in t (selected ByIndex)))
 
 -- what a selector behind a base of this type calls
 abbrev pub selected_on : Option TypeTree → Selector → Option Callee
@@ -271,3 +286,12 @@ abbrev mutual
 -- an expression of which this type is wanted
 abbrev pub wanted : Setting → Bool → ExprTree → TypeTree → Option SemanticRule
 wanted s whole e t = lesser (fault s whole e) (wants (form s e) t)
+
+-- whether that is the result of a void actor
+abbrev pub is_void : Setting → TypeTree → Bool
+is_void s t = not s.plain && is_nothing t
+
+-- a `return` gives a value of the result's type, and none in a void actor
+abbrev pub returned : Setting → Option ExprTree → TypeTree → Option SemanticRule
+returned s None t = unless (is_void s t) WrongType
+returned s (Some e) t = wanted s false e t

@@ -2,7 +2,7 @@
 use Rattle.std.specs.Prelude.{ℕ, zero, suc, Bool, true, false, ◌||◌, List, [], ◌∷◌, map, codes}
 use Rattle.std.specs.declared.option.Option.{Option}
 use Rattle.std.specs.declared.option.Option.TheVariants.{Some}
-use Rattle.flow_tree.specs.Tree.{TypeTree, NamedType, FutureType, FutureStreamType, PromiseType, PromiseStreamType}
+use Rattle.flow_tree.specs.Tree.{TypeTree, NamedType, FutureType, FutureStreamType, PromiseType, PromiseStreamType, VectorType}
 use Rattle.flow_tree.specs.Decls.{ParamTree, DeclTree, StructDecl, FunctionDecl, ActorDecl}
 use Rattle.flow_ast.specs.TypingNames.{named, call_names, constant_names}
 use Rattle.flow_ast.specs.Typing.{packet_fields, is_packet, param_types, is_there}
@@ -41,14 +41,16 @@ type_known k (FutureType t) = type_known k t
 type_known k (FutureStreamType t) = type_known k t
 type_known k (PromiseType t) = type_known k t
 type_known k (PromiseStreamType t) = type_known k t
+type_known k (VectorType t) = type_known k t
 type_known k _ = true
 
--- a type holds a reference where it is one, or names a record that does
+-- a type holds a reference where it is one, or a part of it does
 abbrev pub holds_by : (List ℕ → Bool) → TypeTree → Bool
 holds_by p (FutureType t) = true
 holds_by p (FutureStreamType t) = true
 holds_by p (PromiseType t) = true
 holds_by p (PromiseStreamType t) = true
+holds_by p (VectorType t) = holds_by p t
 holds_by p (NamedType x) = p x
 holds_by p _ = false
 

@@ -14,7 +14,7 @@ use Rattle.flow_rules.specs.declared.rule.SemanticRule.{SemanticRule}
 use Rattle.flow_rules.specs.declared.rule.SemanticRule.TheVariants.{UnknownName, TakenName, FallsOff, NoMain}
 use Rattle.flow_rules.specs.Least.{lesser, unless}
 use Rattle.flow_rules.specs.Known.{Meaning, ActorOf, field_row, known, type_known, holds, is_predefined}
-use Rattle.flow_rules.specs.Judged.{Setting}
+use Rattle.flow_rules.specs.Judged.{Setting, is_void}
 use Rattle.flow_rules.specs.Items.{Env, Refusal, item, written, body_refusal}
 use Rattle.flow_rules.specs.Closing.{ways}
 
@@ -65,11 +65,11 @@ body_env s f = record {
   caught = false;
 }
 
--- its header, its body, and the closing brace, which the control graph doesn't reach
+-- its header, its body, and the closing brace, which the control graph doesn't reach, but for a void actor
 abbrev pub routine_refusal : (List ℕ → Option Meaning) → Setting → RoutineTree → Option Refusal
 routine_refusal before s f =
     or_else (item f.at (header_fault before s f))
-    (or_else (body_refusal (body_env s f) f.body) (item f.close (unless (not (ways f.body).end) FallsOff)))
+    (or_else (body_refusal (body_env s f) f.body) (item f.close (unless (is_void s f.returns || not (ways f.body).end) FallsOff)))
 
 -- a declaration, in a program in whose functions and in whose actors this is in force
 abbrev pub decl_refusal : (Bool → Setting) → (List ℕ → Option Meaning) → DeclTree → Option Refusal

@@ -5,13 +5,18 @@ use Rattle.std.specs.Prelude.{codes}
 use Rattle.flow_base.specs.declared.place.Place.{Place}
 use Rattle.flow_tree.specs.declared.token.Word.TheVariants as word
 use Rattle.flow_tree.specs.declared.token.Sign.TheVariants as sign
+use Rattle.flow_tree.specs.declared.ty.Ty.{Ty}
+use Rattle.flow_tree.specs.declared.ty.Ty.TheOpen as layer
+use Rattle.flow_tree.specs.declared.ty.Ty.TheOpen.{Ty-F}
 use Rattle.flow_tree.specs.Tree.{TypeTree}
+use Rattle.flow_tree.specs.View.{type_of, type_step}
+use Rattle.flow_tree.proofs.Views.{by_layer}
 use Rattle.flow_tree.specs.Decls.{ParamTree, RecordTree, RoutineTree, DeclTree, StructDecl, FunctionDecl, ActorDecl}
 use Rattle.flow_tree.specs.GrammarToken.{Declaration, Node, Variable, Marked, begin}
-use Rattle.flow_tree.specs.Grammar.{sign_at, word_at, name_at}
+use Rattle.flow_tree.specs.Grammar.{sign_at, word_at, name_at, FutureOf, FutureStreamOf, PromiseOf, PromiseStreamOf, TypeRule, int_type, bool_type, string_type, void_type, error_type, named_type, wrapped_type}
 use Rattle.flow_tree.specs.GrammarStmt.{StmtsRule}
 use Rattle.flow_tree.specs.GrammarDecl.{ParamRule, param, FieldsRule, no_fields, more_fields, MoreParamsRule, end_params, more_params, ParamsRule, no_params, some_params, RecordRule, fields, RoutineRule, routine, DeclRule, record_decl, function_decl, actor_decl, DeclsRule, no_decls, more_decls}
-use Rattle.flow_tree.specs.Canon.{type_text, named_text, line, fields_text, more_params_text, params_text, routine_text, decl_text, decls_text, body_text, first_place, placeless_ident, placeless_param, placeless_record, placeless_routine, placeless_decl}
+use Rattle.flow_tree.specs.Canon.{type_text, actor_text, named_text, line, fields_text, more_params_text, params_text, routine_text, decl_text, decls_text, body_text, first_place, placeless_ident, placeless_param, placeless_record, placeless_routine, placeless_decl}
 use Rattle.flow_show.proofs.Going.{Piece, Any, nothing, both, as_rule, begun, begin_some, behind, spaced, lined, under, blank}
 use Rattle.flow_show.proofs.TokenPieces.{Apart, name_piece, word_piece, sign_piece, Ends, comma_ends, space_ends}
 use Rattle.flow_show.proofs.Valid.{AllValid, valid_head, valid_tail, valid_left, valid_right, valid_begun}
@@ -172,6 +177,35 @@ routine_piece {actor} {at} {t} (routine {c = c} {ps = ps} p q r close x params x
     })
     (λ y. refl) e refl
 
+-- what has a text, and each type of the code, is a value's, and an actor gives its future
+pub future_text : (t : Ty) → actor_text (type_of t) ≡ codes "ACTOR Future<" ++ type_text (type_of t) ++ codes ">"
+future_text = by_layer (λ t. actor_text t ≡ codes "ACTOR Future<" ++ type_text t ++ codes ">") layer_text
+  where
+    layer_text : (l : Ty-F TypeTree) → actor_text (type_step l) ≡ codes "ACTOR Future<" ++ type_text (type_step l) ++ codes ">"
+    layer_text layer.Int = refl
+    layer_text layer.Bool = refl
+    layer_text layer.Str = refl
+    layer_text layer.Void = refl
+    layer_text layer.Error = refl
+    layer_text (layer.Named n) = refl
+    layer_text (layer.Future t) = refl
+    layer_text (layer.FutureStream t) = refl
+    layer_text (layer.Promise t) = refl
+    layer_text (layer.PromiseStream t) = refl
+    layer_text (layer.Vector t) = refl
+
+read_text : {d : ℕ} {m : List Marked} {t : TypeTree} → TypeRule d m t → actor_text t ≡ codes "ACTOR Future<" ++ type_text t ++ codes ">"
+read_text (int_type p) = refl
+read_text (bool_type p) = refl
+read_text (string_type p) = refl
+read_text (void_type p) = refl
+read_text (error_type p) = refl
+read_text (named_type x) = refl
+read_text (wrapped_type FutureOf p q r of k e) = refl
+read_text (wrapped_type FutureStreamOf p q r of k e) = refl
+read_text (wrapped_type PromiseOf p q r of k e) = refl
+read_text (wrapped_type PromiseStreamOf p q r of k e) = refl
+
 returns_is : {actor : Bool} {at : Place} {t : TypeTree} {m : List Marked} {r : RoutineTree} → RoutineRule actor at t m r → r.returns ≡ t
 returns_is (routine p q r close x params xs pr sr e) = refl
 
@@ -223,7 +257,7 @@ decl_piece (actor_decl {t = t} {f = f} at p q r of xs tr rr e) v =
       some = omega arith;
     })
     (λ y. refl) e
-    (routine_is (codes "ACTOR Future<" ++ type_text f.returns ++ codes ">") f ∙ ap (λ u. line 0 (codes "ACTOR Future<" ++ type_text u ++ codes ">" ++ (32 ∷ tail_text f))) (returns_is rr)
+    (routine_is (actor_text f.returns) f ∙ ap (λ u. line 0 (actor_text u ++ (32 ∷ tail_text f))) (returns_is rr) ∙ ap (λ w. line 0 (w ++ (32 ∷ tail_text f))) (read_text tr)
     ∙ ap (λ l. line 0 (codes "ACTOR Future<" ++ l)) (append_assoc (type_text t) (codes ">") (32 ∷ tail_text f)))
 
 pub record DeclsKept (n : ℕ) (xs : List DeclTree) : Type 0 where

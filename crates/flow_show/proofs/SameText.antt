@@ -10,7 +10,7 @@ use Rattle.flow_tree.specs.Grammar.{op_sign}
 use Rattle.flow_tree.specs.Tree.{ByName, ByIndex, ExprTree, ExprTrees, IntExpr, TextExpr, BoolExpr, VoidExpr, VarExpr, CallExpr, FieldExpr, MethodExpr, NotExpr, NegExpr, BinaryExpr, ParenExpr, NoExprs, MoreExprs}
 use Rattle.flow_tree.specs.Body.{IntoTree, WaitTree, ChangeTree, PlusChange, MinusChange, UpChange, DownChange, Body, End, BlockStmt, IfStmt, IfElseStmt, WhileStmt, ForStmt, LoopStmt, BreakStmt, ContinueStmt, ReturnStmt, ThrowStmt, TryStmt, ChooseStmt, DeclareStmt, AssignStmt, ModifyStmt, CallStmt, WaitStmt, Branches, NoBranches, MoreBranches}
 use Rattle.flow_tree.specs.Decls.{ParamTree, RoutineTree, DeclTree, StructDecl, FunctionDecl, ActorDecl, ProgramTree}
-use Rattle.flow_tree.specs.Canon.{type_text, minus_gap, selected_text, expr_text, args_text, more_args_text, path_text, named_text, into_text, into_part, waiting_text, maybe_text, declare_text, assign_text, change_text, modify_text, call_text, part_text, line, body_text, branches_text, fields_text, more_params_text, params_text, routine_text, decl_text, decls_text, Canon, placeless_ident, placeless_expr, placeless_exprs, placeless_into, placeless_wait, placeless_change, placeless_body, placeless_branches, placeless_param, placeless_routine, placeless_decl, bare}
+use Rattle.flow_tree.specs.Canon.{type_text, minus_gap, selected_text, expr_text, args_text, more_args_text, path_text, named_text, into_text, into_part, waiting_text, maybe_text, declare_text, assign_text, change_text, modify_text, call_text, part_text, line, body_text, branches_text, fields_text, more_params_text, params_text, routine_text, actor_text, decl_text, decls_text, Canon, placeless_ident, placeless_expr, placeless_exprs, placeless_into, placeless_wait, placeless_change, placeless_body, placeless_branches, placeless_param, placeless_routine, placeless_decl, bare}
 
 gap_same : (e : ExprTree) → minus_gap e ≡ minus_gap (placeless_expr e)
 gap_same (NegExpr e) = refl
@@ -96,7 +96,7 @@ mutual
   body_same k (LoopStmt at inner rest) = ap₂ (λ a b. line k (codes "loop {") ++ a ++ line k (codes "}") ++ b) (body_same (suc k) inner) (body_same k rest)
   body_same k (BreakStmt at rest) = ap (λ b. line k (codes "break;") ++ b) (body_same k rest)
   body_same k (ContinueStmt at rest) = ap (λ b. line k (codes "continue;") ++ b) (body_same k rest)
-  body_same k (ReturnStmt at e rest) = λ i. line k (codes "return " ++ expr_same e i ++ codes ";") ++ body_same k rest i
+  body_same k (ReturnStmt at e rest) = λ i. line k (codes "return" ++ maybe_same (codes " ") e i ++ codes ";") ++ body_same k rest i
   body_same k (ThrowStmt at e rest) = λ i. line k (codes "throw" ++ maybe_same (codes " ") e i ++ codes ";") ++ body_same k rest i
   body_same k (TryStmt at inner p x handler rest) = λ i. line k (codes "try {") ++ body_same (suc k) inner i ++ line k (codes "} catch (Error& " ++ x.name ++ codes ") {")
       ++ body_same (suc k) handler i ++ line k (codes "}") ++ body_same k rest i
@@ -129,7 +129,7 @@ routine_same w r = λ i. line 0 (w ++ codes " " ++ r.name.name ++ codes "(" ++ p
 decl_same : (d : DeclTree) → decl_text d ≡ decl_text (placeless_decl d)
 decl_same (StructDecl r) = ap (λ l. line 0 (codes "struct " ++ r.name.name ++ codes " {") ++ l ++ line 0 (codes "};")) (fields_same r.fields)
 decl_same (FunctionDecl f) = routine_same (type_text f.returns) f
-decl_same (ActorDecl a) = routine_same (codes "ACTOR Future<" ++ type_text a.returns ++ codes ">") a
+decl_same (ActorDecl a) = routine_same (actor_text a.returns) a
 
 decls_same : (ds : List DeclTree) → decls_text ds ≡ decls_text (map placeless_decl ds)
 decls_same [] = refl

@@ -295,10 +295,10 @@ mutual
             (λ y. record {
               marked = _;
               at = y.0;
-              make = λ r. ReturnStmt y.0 y.1.0.tree r;
+              make = λ r. ReturnStmt y.0 (Some y.1.0.tree) r;
               ends = false;
               rule = λ r. return_stmt y.0 y.1.1 y.1.0.marked y.1.0.rule refl;
-              like = λ r h. ap₂ (ReturnStmt first_place) y.1.0.like h;
+              like = λ r h. ap₂ (λ x. ReturnStmt first_place (Some x)) y.1.0.like h;
               some = omega arith;
             })
             (λ y. refl) e refl;

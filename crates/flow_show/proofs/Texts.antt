@@ -7,6 +7,7 @@ use Rattle.flow_tree.specs.declared.expr.Expr.{Expr}
 use Rattle.flow_tree.specs.declared.stmt.Stmt.{Stmt}
 use Rattle.flow_tree.specs.declared.stmt.When.{When}
 use Rattle.flow_tree.specs.declared.decl.Param.{Param}
+use Rattle.flow_tree.specs.Tree.{ExprTree, indexed}
 use Rattle.flow_tree.specs.Decls.{RoutineTree}
 use Rattle.flow_tree.specs.View.{type_of, expr_of, exprs_of}
 use Rattle.flow_tree.specs.StmtView.{stmt_of, body_of, branch_of, branches_of}
@@ -177,6 +178,14 @@ seven old s1 s2 s3 s4 s5 s6 s7 a b c d e f g e1 e2 e3 e4 e5 e6 e7 = rw (e7, e6, 
 
 pub one_by_one : (old s1 s2 s3 a b c : List ℕ) → s1 ≡ old ++ a → s2 ≡ s1 ++ b → s3 ≡ s2 ++ c → s3 ≡ old ++ (a ++ b ++ c)
 one_by_one old s1 s2 s3 a b c e1 e2 e3 = rw (e3, e2, e1) (simp append_assoc refl)
+
+-- an element of an operand
+pub index_text : (e i : ExprTree) (old s1 s2 s3 s4 : List ℕ) → s1 ≡ old ++ expr_text e → s2 ≡ s1 ++ codes "[" → s3 ≡ s2 ++ expr_text i → s4 ≡ s3 ++ codes "]"
+    → s4 ≡ old ++ expr_text (indexed e i)
+index_text e i old s1 s2 s3 s4 e1 e2 e3 e4 = rw (e4, e3, e2, e1) (between (expr_text e) (expr_text i))
+  where
+    between : (a b : List ℕ) → (old ++ a ++ codes "[" ++ b) ++ codes "]" ≡ old ++ (a ++ codes "[" ++ (b ++ []) ++ codes "]")
+    between a b = simp (append_assoc, append-nil) refl
 
 -- the texts of operands with what stands between them
 pub method_text : (old s1 s2 e f n a b : List ℕ) → s1 ≡ old ++ (e ++ codes "." ++ n) → e ≡ f → s2 ≡ s1 ++ codes "(" ++ a ++ codes ")" → a ≡ b

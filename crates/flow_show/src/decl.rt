@@ -1,18 +1,18 @@
 // The texts of declarations.
 
 ghost use Rattle.std.specs.Prelude.{◌≡◌, ◌++◌, codes, IfOk};
-ghost use Rattle.flow_tree.specs.View.{type_of};
+ghost use Rattle.flow_tree.specs.View.{type_of, result_of};
 ghost use Rattle.flow_tree.specs.StmtView.{body_of};
 ghost use Rattle.flow_tree.specs.DeclView.{params_of, record_of, function_of, actor_of, decl_of};
 ghost use Rattle.flow_tree.specs.Decls.{StructDecl};
 ghost use Rattle.flow_show.specs.Lines.{behind_result};
-ghost use Rattle.flow_tree.specs.Canon.{type_text, fields_text, more_params_text, params_text, routine_text, decl_text};
+ghost use Rattle.flow_tree.specs.Canon.{type_text, fields_text, more_params_text, params_text, routine_text, actor_text, decl_text};
 
 use crate::source::Source;
 use flow_base::memory::NoMemory;
 use flow_tree::decl::{ActorDecl, Decl, FunctionDecl, Param, RecordDecl};
 use flow_tree::stmt::Stmt;
-use flow_tree::ty::Ident;
+use flow_tree::ty::{Ident, Ty};
 
 impl Source {
     fn put_fields(&mut self, fields: &[Param]) -> Result<(), NoMemory>
@@ -92,14 +92,27 @@ impl Source {
         Ok(())
     }
 
+    // What stands before the name of an actor.
+    #[tactic(auto, using(crate::proofs::DeclPieces::future_text))]
+    fn put_actor_result(&mut self, gives: &Option<Ty>) -> Result<(), NoMemory>
+        ensures { IfOk result (λ _. self.new ≡ self.old ++ actor_text (result_of gives.now)) }
+    {
+        match gives {
+            Some(ty) => {
+                self.put(b"ACTOR Future<")?;
+                self.put_type(ty)?;
+                self.put(b">")
+            }
+            None => self.put(b"ACTOR void"),
+        }
+    }
+
     fn put_actor(&mut self, actor: &ActorDecl) -> Result<(), NoMemory>
         ensures { IfOk result (λ _. self.new
-            ≡ self.old ++ routine_text (codes "ACTOR Future<" ++ type_text
-            (type_of actor.now.returns) ++ codes ">") (actor_of actor.now)) }
+            ≡ self.old ++ routine_text (actor_text (result_of actor.now.returns))
+            (actor_of actor.now)) }
     {
-        self.put(b"ACTOR Future<")?;
-        self.put_type(&actor.returns)?;
-        self.put(b">")?;
+        self.put_actor_result(&actor.returns)?;
         self.put_routine(&actor.name, &actor.params, &actor.body)?;
         Ok(())
     }

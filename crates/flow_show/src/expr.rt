@@ -1,7 +1,8 @@
 // The texts of types and expressions.
 
 ghost use Rattle.std.specs.Prelude.{◌≡◌, ◌++◌, codes, IfOk};
-ghost use Rattle.flow_tree.specs.View.{type_of, expr_of, exprs_of};
+ghost use Rattle.flow_tree.specs.Tree.{indexed};
+ghost use Rattle.flow_tree.specs.View.{type_of, result_of, expr_of, exprs_of};
 ghost use Rattle.flow_tree.specs.Grammar.{op_sign};
 ghost use Rattle.flow_tree.specs.Spelling.{sign_bytes};
 ghost use Rattle.flow_tree.specs.Canon.{type_text, bool_text, minus_gap, expr_text, args_text, more_args_text};
@@ -51,6 +52,17 @@ impl Source {
             Ty::FutureStream(of) => self.put_wrapped(b"FutureStream<", of),
             Ty::Promise(of) => self.put_wrapped(b"Promise<", of),
             Ty::PromiseStream(of) => self.put_wrapped(b"PromiseStream<", of),
+            Ty::Vector(of) => self.put_wrapped(b"vector<", of),
+        }
+    }
+
+    /// The result of a class, which a void one has none of.
+    pub fn put_result(&mut self, gives: &Option<Ty>) -> Result<(), NoMemory>
+        ensures { IfOk result (λ _. self.new ≡ self.old ++ type_text (result_of gives.now)) }
+    {
+        match gives {
+            Some(ty) => self.put_type(ty),
+            None => self.put(b"void"),
         }
     }
 
@@ -103,6 +115,7 @@ impl Source {
                 self.put_field(of, name)?;
                 self.put_args(args)
             }
+            Expr::Index(of, index) => self.put_index(of, index),
             Expr::Not(of) => self.put_not(of),
             Expr::Neg(of) => self.put_negated(of),
             Expr::Binary(op, left, right) => {
@@ -115,6 +128,18 @@ impl Source {
                 self.put(b")")
             }
         }
+    }
+
+    // An element of an operand.
+    #[cycle(expr)]
+    fn put_index(&mut self, of: &Expr, index: &Expr) -> Result<(), NoMemory>
+        ensures { IfOk result (λ _. self.new
+            ≡ self.old ++ expr_text (indexed (expr_of of.now) (expr_of index.now))) }
+    {
+        self.put_expr(of)?;
+        self.put(b"[")?;
+        self.put_expr(index)?;
+        self.put(b"]")
     }
 
     // A name and arguments.

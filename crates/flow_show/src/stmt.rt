@@ -273,15 +273,15 @@ impl Source {
         Ok(())
     }
 
-    // The line of a `throw`.
-    fn put_throw(&mut self, level: usize, error: &Option<Expr>) -> Result<(), NoMemory>
+    // The line of a `return` or a `throw`, behind which an expression may stand.
+    fn put_exit(&mut self, level: usize, word: &[u8], value: &Option<Expr>) -> Result<(), NoMemory>
         ensures { IfOk result (λ _. self.new
-            ≡ self.old ++ line level (codes "throw" ++ maybe_text (codes " ")
-            (option_map expr_of error.now) ++ codes ";")) }
+            ≡ self.old ++ line level (word.now ++ maybe_text (codes " ")
+            (option_map expr_of value.now) ++ codes ";")) }
     {
         self.put_indent(level)?;
-        self.put(b"throw")?;
-        self.put_maybe(b" ", error)?;
+        self.put(word)?;
+        self.put_maybe(b" ", value)?;
         self.put(b";")?;
         self.put(b"\n")?;
         Ok(())
@@ -391,11 +391,11 @@ impl Source {
                 Ok(())
             }
             StmtKind::Return(value) => {
-                self.put_around(level, b"return ", value, b";")?;
+                self.put_exit(level, b"return", value)?;
                 Ok(())
             }
             StmtKind::Throw(error) => {
-                self.put_throw(level, error)?;
+                self.put_exit(level, b"throw", error)?;
                 Ok(())
             }
             StmtKind::Declare(into, value) => {

@@ -84,8 +84,9 @@ module _ (ns : Names) (slots : List SlotTree) (w : Around) (s : Stmt) (e new : E
   pub of_continue : s.kind ≡ kind.Continue → e.is_open ≡ true → new ≡ shut_by w w.looped.again e → Emits ns slots w (stmt_of s) e new
   of_continue h o a = as_stmt (ContinueStmt s.at) (λ k. is_continue s k h) (continue_emits ns slots w e new s.at o a)
 
-  pub of_return : (x : Expr) → s.kind ≡ kind.Return x → e.is_open ≡ true → new ≡ closed w (ReturnLast (over slots e.scopes (expr_of x))) (acted [] e) → Emits ns slots w (stmt_of s) e new
-  of_return x h o a = as_stmt (ReturnStmt s.at (expr_of x)) (λ k. is_return s x k h) (return_emits ns slots w e new s.at (expr_of x) o a)
+  pub of_return : (x : Option Expr) → s.kind ≡ kind.Return x → e.is_open ≡ true
+      → new ≡ closed w (ReturnLast (option_map (over slots e.scopes) (option_map expr_of x))) (acted [] e) → Emits ns slots w (stmt_of s) e new
+  of_return x h o a = as_stmt (ReturnStmt s.at (option_map expr_of x)) (λ k. is_return s x k h) (return_emits ns slots w e new s.at (option_map expr_of x) o a)
 
   pub of_throw : (x : Option Expr) → s.kind ≡ kind.Throw x → e.is_open ≡ true → new ≡ closed w (ThrowLast (thrown ns slots e.scopes s.at (option_map expr_of x) w.caught)) (acted [] e)
       → Emits ns slots w (stmt_of s) e new

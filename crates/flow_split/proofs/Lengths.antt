@@ -1,5 +1,6 @@
 -- A lowered body takes as many blocks and groups as were counted beforehand.
 use Rattle.std.proofs.Common.{◌≡◌, ℕ, suc, ◌+◌, Bool, true, false, List, [], ◌∷◌, length, if◌then◌else◌, refl, sym, ◌∙◌, arith}
+use Rattle.std.specs.Option.{option_map}
 use Rattle.std.specs.declared.option.Option.{Option}
 use Rattle.std.specs.declared.option.Option.TheVariants.{None, Some}
 use Rattle.flow_tree.specs.Tree.{ExprTree}
@@ -168,7 +169,7 @@ module _ (ns : Names) (slots : List SlotTree) where
         rest_sizes w.hand (exits w.looped.tried w s n w.looped.again) (lowered ns slots s w (begun m) k) k (exit_blocks w.looped.tried) (blocks_in w.looped.tried k)
         (exits_sizes w.looped.tried w s n w.looped.again) (lowered_sizes s w (begun m) k)
     lowered_sizes s w n (ReturnStmt at e k) =
-        first_rest w.hand (ends w s true [] (ReturnLast (over slots s e))) (lowered ns slots s w (begun n) k) k (blocks_in w.looped.tried k) (none w s true [] (ReturnLast (over slots s e)))
+        first_rest w.hand (ends w s true [] (ReturnLast (option_map (over slots s) e))) (lowered ns slots s w (begun n) k) k (blocks_in w.looped.tried k) (none w s true [] (ReturnLast (option_map (over slots s) e)))
         (lowered_sizes s w (begun n) k)
     lowered_sizes s w n (ThrowStmt at e k) =
         first_rest w.hand (ends w s true [] (ThrowLast (thrown ns slots s at e w.caught))) (lowered ns slots s w (begun n) k) k (blocks_in w.looped.tried k)

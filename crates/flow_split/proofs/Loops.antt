@@ -17,7 +17,7 @@ use Rattle.flow_class.specs.Scopes.{Mark, Var, scope, outside}
 use Rattle.flow_meaning.specs.Evaluating.{Names}
 use Rattle.flow_split.specs.Around.{Exit, Text, Scoped, Part, Around}
 use Rattle.flow_split.specs.Counts.{locals_in}
-use Rattle.flow_split.specs.Lowered.{drop_of, cancelled, finished}
+use Rattle.flow_split.specs.Lowered.{drop_of, text_end, finished}
 use Rattle.flow_split.specs.Emitting.{Emitted, At, Fresh, opened, closed_by, ended_if, ended_by, taking, in_scope, with_rest, with_rest_if, rest_of, Emits, EmitsAll, EmitsPart, EmitsScope, EmitsBranch, EmitsHandler}
 use Rattle.flow_split.proofs.Steps.{ended, ended_plain}
 use Rattle.flow_split.proofs.Bodies.{outside_later, outside_taken}
@@ -94,7 +94,7 @@ module _ (ns : Names) (slots : List SlotTree) (w : Around) where
     pub scopes : new.scopes ≡ now.scopes
 
   finished_at : (x : Exit) (e : Emitted) → At w.hand e (finished w e.scopes x) (closed_by w e x)
-  finished_at (Text close) e = (ended_plain w (cancelled close) e _ refl).at
+  finished_at (Text close) e = (ended_plain w (text_end close) e _ refl).at
   finished_at (Scoped last) e = (ended w (drop_of (scope e.scopes)) last e _ refl).at
   finished_at (Part last) e = (ended_plain w last e _ refl).at
 

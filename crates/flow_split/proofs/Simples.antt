@@ -1,5 +1,6 @@
 -- What the code emits for a statement without bodies.
 use Rattle.std.proofs.Common.{◌≡◌, ℕ, ◌+◌, true, List, [], ◌∷◌, pos, refl, ap, ap₂, sym, subst, ◌∙◌, arith}
+use Rattle.std.specs.Option.{option_map}
 use Rattle.std.specs.declared.option.Option.{Option}
 use Rattle.flow_base.specs.declared.place.Place.{Place}
 use Rattle.flow_tree.specs.declared.ty.Ident.{Ident}
@@ -40,9 +41,9 @@ modified_by ns slots s xs path x rest d value old xe pe ve oe =
     ap₂ (λ p v. SetInstr p v ∷ []) (pe ∙ ap (path_over slots s) xe) (ve ∙ ap (change_over slots s d) oe) ∙ sym (changed_is ns slots s x rest d) ∙ ap (λ z. changed ns slots s z (change z d)) (sym xe)
 
 module _ (ns : Names) (slots : List SlotTree) (w : Around) (e f : Emitted) (at : Place) where
-  pub return_emits : (x : ExprTree) → e.is_open ≡ true → f ≡ closed w (ReturnLast (over slots e.scopes x)) (acted [] e) → Emits ns slots w (ReturnStmt at x) e f
+  pub return_emits : (x : Option ExprTree) → e.is_open ≡ true → f ≡ closed w (ReturnLast (option_map (over slots e.scopes) x)) (acted [] e) → Emits ns slots w (ReturnStmt at x) e f
   return_emits x o h =
-      let r = ended_acting w [] (ReturnLast (over slots e.scopes x)) e f h in
+      let r = ended_acting w [] (ReturnLast (option_map (over slots e.scopes) x)) e f h in
       stop ns slots w e f _ (going e) (ReturnStmt at x) o (ap (λ z. z.is_open) h) r.at r.stands (λ k. refl) (λ k. refl) refl
 
   pub throw_emits : (x : Option ExprTree) → e.is_open ≡ true → f ≡ closed w (ThrowLast (thrown ns slots e.scopes at x w.caught)) (acted [] e) → Emits ns slots w (ThrowStmt at x) e f

@@ -5,10 +5,10 @@ use Rattle.std.specs.declared.option.Option.TheVariants.{None, Some}
 use Rattle.flow_base.specs.declared.place.Place.{Place}
 use Rattle.flow_class.specs.Classes.{LastTree, GotoLast}
 
--- How a body goes on at its end: it is the whole text, which ends at a brace; its locals are dropped and a jump follows;
--- or it is a part of a `for`, whose locals stay, and a jump follows.
+-- How a body goes on at its end: it is the whole text, which ends at a brace that nothing reaches, or else returns, as that of a void
+-- actor does; its locals are dropped and a jump follows; or it is a part of a `for`, whose locals stay, and a jump follows.
 pub data Exit : Type 0 where
-  Text : (close : Place) → Exit
+  Text : (close : Option Place) → Exit
   Scoped : LastTree → Exit
   Part : LastTree → Exit
 
@@ -35,7 +35,7 @@ pub record Around : Type 0 where
   pub caught : Option (List ℕ)
 
 -- The text of an actor. A break or a continue outside of all loops, which no text has, goes to the first block.
-abbrev pub whole : Place → Around
+abbrev pub whole : Option Place → Around
 whole close = record {
   exit = Text close;
   hand = None;

@@ -15,7 +15,7 @@ use Rattle.flow_tree.specs.Tree.{ExprTree}
 use Rattle.flow_split.specs.declared.emitter.Emitter.{Emitter}
 use Rattle.flow_split.specs.Around.{Exit, Text, Scoped, Part, Hand, Around}
 use Rattle.flow_split.specs.Counts.{locals_in, branch_local_count, local_count, into_count, Next, begun}
-use Rattle.flow_split.specs.Lowered.{Chunk, catch_part, blocks_of, drop_of, cancelled, with_into, with_taken, later, lowered, branches}
+use Rattle.flow_split.specs.Lowered.{Chunk, catch_part, blocks_of, drop_of, text_end, with_into, with_taken, later, lowered, branches}
 
 -- the locals in force and the number of the next one; the blocks and groups so far; whether a block is open, whether a
 -- statement stands in it, and its instructions
@@ -74,7 +74,7 @@ in_catch x e = record e { scopes = Var x e.next ∷ Mark ∷ e.scopes; next = su
 
 -- the end of a body
 abbrev pub closed_by : Around → Emitted → Exit → Emitted
-closed_by w e (Text close) = closed w (cancelled close) e
+closed_by w e (Text close) = closed w (text_end close) e
 closed_by w e (Scoped last) = closed w last (put (drop_of (scope e.scopes)) e)
 closed_by w e (Part last) = closed w last e
 

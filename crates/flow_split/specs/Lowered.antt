@@ -1,6 +1,6 @@
 -- The class that an actor is lowered to.
 use Rattle.std.specs.Prelude.{ℕ, suc, Bool, true, false, pos, List, [], ◌∷◌, ◌++◌, map, length, codes, if◌then◌else◌}
-use Rattle.std.specs.Option.{option_and_then}
+use Rattle.std.specs.Option.{option_map, option_and_then}
 use Rattle.std.specs.declared.option.Option.{Option}
 use Rattle.std.specs.declared.option.Option.TheVariants.{None, Some}
 use Rattle.flow_base.specs.declared.place.Place.{Place}
@@ -9,7 +9,7 @@ use Rattle.flow_tree.specs.Tree.{TypeTree, IntType, BoolType, StringType, ExprTr
 use Rattle.flow_tree.specs.Body.{IntoTree, WaitTree, ChangeTree, PlusChange, MinusChange, UpChange, DownChange, Body, End, BlockStmt, IfStmt, IfElseStmt, WhileStmt, ForStmt, LoopStmt, BreakStmt, ContinueStmt, ReturnStmt, ThrowStmt, TryStmt, ChooseStmt, DeclareStmt, AssignStmt, ModifyStmt, CallStmt, WaitStmt, Branches, NoBranches, MoreBranches}
 use Rattle.flow_tree.specs.declared.expr.Op.TheVariants.{Add, Sub}
 use Rattle.flow_tree.specs.Decls.{SlotTree, RoutineTree}
-use Rattle.flow_ast.specs.Typing.{is_there}
+use Rattle.flow_ast.specs.Typing.{is_there, is_nothing}
 use Rattle.flow_ast.specs.Leaving.{has_statement}
 use Rattle.flow_class.specs.declared.class.Slotted.{Slotted}
 use Rattle.flow_class.specs.declared.class.Slotted.TheVariants as place
@@ -69,9 +69,13 @@ dropping ns c = record c { body = drop_of ns ++ c.body }
 abbrev pub cancelled : Place → LastTree
 cancelled at = ThrowLast (CallExpr (record { name = codes "operation_cancelled"; at = at }) NoExprs)
 
+abbrev pub text_end : Option Place → LastTree
+text_end None = ReturnLast None
+text_end (Some close) = cancelled close
+
 -- the end of a body
 abbrev pub finished : Around → Scope → Exit → Chunk
-finished w s (Text close) = ends w s false [] (cancelled close)
+finished w s (Text close) = ends w s false [] (text_end close)
 finished w s (Scoped last) = ends w s false (drop_of (scope s)) last
 finished w s (Part last) = ends w s false [] last
 
@@ -240,7 +244,7 @@ module _ (ns : Names) (slots : List SlotTree) where
         let m = exited w.looped.tried n in
         before_rest w.hand (exits w.looped.tried w s n w.looped.again) k (lowered s w (begun m) k)
     lowered s w n (ReturnStmt at e k) =
-        before_rest w.hand (ends w s true [] (ReturnLast (over slots s e))) k (lowered s w (begun n) k)
+        before_rest w.hand (ends w s true [] (ReturnLast (option_map (over slots s) e))) k (lowered s w (begun n) k)
     lowered s w n (ThrowStmt at e k) =
         before_rest w.hand (ends w s true [] (ThrowLast (thrown s at e w.caught))) k (lowered s w (begun n) k)
     lowered s w n (TryStmt at b p x c k) =
@@ -282,10 +286,14 @@ module _ (ns : Names) (slots : List SlotTree) where
         let m = taken v.into (begun n) in
         branches (joined w.hand c (lowered (with_taken v.into n.local (Mark ∷ s)) w m b)) s w (past w.looped.tried b m) bs
 
+-- the brace that nothing reaches
+abbrev pub close_of : RoutineTree → Option Place
+close_of a = if is_nothing a.returns then None else Some a.close
+
 -- the class of an actor with this layout
 abbrev pub lowered_class : Names → LayoutTree → RoutineTree → ClassTree
 lowered_class ns l a =
-    let c = lowered ns l.slots [] (whole a.close) (record { block = 1; local = 0; group = 1 }) a.body in
+    let c = lowered ns l.slots [] (whole (close_of a)) (record { block = 1; local = 0; group = 1 }) a.body in
     record {
       name = a.name.name;
       returns = a.returns;

@@ -15,11 +15,12 @@ pub enum Jump {
     Pass(u32),
 }
 
-/// How a body goes on at its end: it is the whole text, which ends at a brace; or its locals are
-/// dropped and a jump follows; or it is a part of a `for`, whose locals stay.
+/// How a body goes on at its end: it is the whole text, which ends at a brace that nothing reaches, or
+/// else returns, as that of a void actor; or its locals are dropped and a jump follows; or it is a part
+/// of a `for`, whose locals stay.
 #[derive(Clone, Copy)]
 pub enum Exit {
-    Text(Place),
+    Text(Option<Place>),
     Scope(Jump),
     Part(Jump),
 }
@@ -78,8 +79,8 @@ impl Looped {
 }
 
 impl<'a> Around<'a> {
-    /// What is around the text of an actor, which ends at this brace.
-    pub fn text(close: Place) -> Around<'a>
+    /// What is around the text of an actor, which ends at this brace, or returns there.
+    pub fn text(close: Option<Place>) -> Around<'a>
         ensures { around_of result ≡ whole close }
     {
         Around {

@@ -70,6 +70,7 @@ pub fn is_effect(program: &Program, expr: &Expr) -> bool
         Expr::Var(_) => false,
         Expr::Field(_, _) => false,
         Expr::Method(_, _, _) => false,
+        Expr::Index(_, _) => false,
         Expr::Not(_) => false,
         Expr::Neg(_) => false,
         Expr::Binary(_, _, _) => false,

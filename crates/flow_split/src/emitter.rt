@@ -9,7 +9,7 @@ ghost use Rattle.flow_catch.specs.Inner.{inner_locals, left_lists};
 ghost use Rattle.std.specs.Option.{option_map};
 ghost use Rattle.std.specs.declared.option.Option.TheVariants.{Some};
 ghost use Rattle.flow_split.specs.Contexts.{names_in, slots_in, jump_of, around_of};
-ghost use Rattle.flow_split.specs.Lowered.{catch_part, drop_of, cancelled, place_in, taken_in};
+ghost use Rattle.flow_split.specs.Lowered.{catch_part, drop_of, cancelled, text_end, place_in, taken_in};
 ghost use Rattle.flow_split.specs.Emitting.{emitted, in_scope, out_of_scope, in_catch, opened, put, acted, closed, closed_end, ended_by, left_loop, shut_by, declaring, taking};
 
 use crate::around::{Around, Exit, Handler, Jump};
@@ -63,6 +63,16 @@ fn cancelled(alloc: Global, close: Place) -> Result<Last, NoMemory>
         },
         Vec::new(alloc),
     )))
+}
+
+// The end of a text: of one that ends at a brace, or of that of a void actor.
+fn text_end(alloc: Global, close: Option<Place>) -> Result<Last, NoMemory>
+    ensures { IfOk result (λ l. last_of l ≡ text_end close) }
+{
+    match close {
+        Some(close) => cancelled(alloc, close),
+        None => Ok(Last::Return(None)),
+    }
 }
 
 // The number of a thing behind so many. No memory holds so many that there is none.
@@ -262,7 +272,7 @@ impl Emitter {
     {
         match around.exit {
             Exit::Text(close) => {
-                let last = cancelled(self.alloc, close)?;
+                let last = text_end(self.alloc, close)?;
                 self.close(around, last)
             }
             Exit::Scope(jump) => {

@@ -7,16 +7,17 @@ ghost use Rattle.flow_class.specs.View.{class_of, block_of, group_of};
 ghost use Rattle.flow_layout.specs.Laying.{laid};
 ghost use Rattle.flow_meaning.specs.Source.{names_of};
 ghost use Rattle.flow_split.specs.Contexts.{names_in};
-ghost use Rattle.flow_split.specs.Lowered.{lowered_class};
+ghost use Rattle.flow_split.specs.Lowered.{close_of, lowered_class};
 
 use crate::around::Around;
 use crate::context::Context;
 use crate::emitter::Emitter;
 use flow_base::memory::NoMemory;
+use flow_base::place::Place;
 use flow_class::class::{Block, Class, Group};
 use flow_layout::places::Layout;
 use flow_tree::decl::{ActorDecl, Program, Slot};
-use flow_tree::ty::Ty;
+use flow_tree::ty::{Ty, copy_result};
 use std::alloc::Global;
 
 // Equal slots in the same order.
@@ -61,9 +62,20 @@ fn text(context: &Context, actor: &ActorDecl) -> Result<Emitter, NoMemory>
         (actor_of actor.now)).groups) }
 {
     let mut emitter = Emitter::new(context.alloc);
-    match emitter.put_body(context, &Around::text(actor.close), &actor.body) {
+    match emitter.put_body(context, &Around::text(close_of(actor)), &actor.body) {
         Ok(()) => Ok(emitter),
         Err(error) => Err(error),
+    }
+}
+
+// The brace that nothing reaches, at the end of an actor that gives something.
+#[tactic(auto, using(crate::proofs::Whole::close_there))]
+fn close_of(actor: &ActorDecl) -> Option<Place>
+    ensures { result ≡ close_of (actor_of actor.now) }
+{
+    match &actor.returns {
+        Some(_) => Some(actor.close),
+        None => None,
     }
 }
 
@@ -89,7 +101,7 @@ fn class_with(
     let locals = copy_types(context.alloc, &context.layout.locals)?;
     let name = actor.name.name.copy(context.alloc)?;
     Ok(Class {
-        returns: actor.returns.copy(context.alloc)?,
+        returns: copy_result(context.alloc, &actor.returns)?,
         name,
         params,
         slots,

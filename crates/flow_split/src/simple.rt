@@ -42,6 +42,7 @@ fn first_value(alloc: Global, ty: &Ty) -> Result<Option<Expr>, NoMemory>
         Ty::FutureStream(_) => Ok(None),
         Ty::Promise(_) => Ok(None),
         Ty::PromiseStream(_) => Ok(None),
+        Ty::Vector(_) => Ok(None),
     }
 }
 

@@ -167,19 +167,22 @@ impl Emitter {
         }
     }
 
-    // A statement that ends the block at hand with this expression.
+    // A statement that ends the block at hand, with this expression or without one.
     fn put_return(
         &mut self,
         context: &Context,
         around: &Around,
-        value: &Expr,
+        value: &Option<Expr>,
     ) -> Result<(), NoMemory>
         ensures { OnOk result (emitted self.new
-            ≡ closed (around_of around.now)
-            (ReturnLast (over (slots_in context.now) self.old.scopes (expr_of value.now)))
+            ≡ closed (around_of around.now) (ReturnLast (option_map
+            (over (slots_in context.now) self.old.scopes) (option_map expr_of value.now)))
             (acted [] (emitted self.old))) }
     {
-        let value = context.over(&self.scopes, value)?;
+        let value = match value {
+            Some(value) => Some(context.over(&self.scopes, value)?),
+            None => None,
+        };
         self.close_with(around, Last::Return(value))
     }
 

@@ -128,11 +128,13 @@ pub after_continue : (f : Finder) (h : Here) (s : Stmt) → s.kind ≡ kind.Cont
 after_continue f h s is = after f f h s (ContinueStmt s.at) (in_force f.variables) [] (λ k. is_continue s k is) (sym (append-nil f.uses.items)) refl
     (λ k. simple h (in_force f.variables) (in_force f.variables) _ k) refl
 
-pub after_return : (f g : Finder) (h : Here) (s : Stmt) (e : Expr) → s.kind ≡ kind.Return e → g.uses.items ≡ f.uses.items ++ expr_uses (in_force f.variables) h.point (expr_of e)
+pub after_return : (f g : Finder) (h : Here) (s : Stmt) (e : Option Expr) → s.kind ≡ kind.Return e
+    → g.uses.items ≡ f.uses.items ++ maybe_uses (in_force f.variables) h.point (option_map expr_of e)
     → g.variables.list.items ≡ f.variables.list.items → Finds f g h (stmt_of s)
 after_return f g h s e is us vs =
-    after f g h s (ReturnStmt s.at (expr_of e)) (in_force f.variables) (expr_uses (in_force f.variables) h.point (expr_of e)) (λ k. is_return s e k is) us (same_force f.variables g.variables vs)
-    (λ k. ap (λ l. expr_uses (in_force f.variables) h.point (expr_of e) ++ l) (simple h (in_force f.variables) (in_force f.variables) _ k)) refl
+    let inner = maybe_uses (in_force f.variables) h.point (option_map expr_of e) in
+    after f g h s (ReturnStmt s.at (option_map expr_of e)) (in_force f.variables) inner (λ k. is_return s e k is) us (same_force f.variables g.variables vs)
+    (λ k. ap (λ l. inner ++ l) (simple h (in_force f.variables) (in_force f.variables) _ k)) refl
 
 pub after_throw : (f g : Finder) (h : Here) (s : Stmt) (e : Option Expr) → s.kind ≡ kind.Throw e
     → g.uses.items ≡ f.uses.items ++ thrown_uses h.point h.caught s.at (option_map expr_of e) (in_force f.variables)

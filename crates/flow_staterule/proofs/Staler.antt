@@ -185,7 +185,7 @@ mutual
       (uses_more (left n f) (left m f) vs (beyond n vs p f) (beyond m vs q f) c k (left_less f le) (beyond_staler n m vs p q f le s))
   uses_more n m vs p q c (BreakStmt at k) le s = uses_more n m vs _ _ c k le (never_staler (length vs) p q s)
   uses_more n m vs p q c (ContinueStmt at k) le s = uses_more n m vs _ _ c k le (never_staler (length vs) p q s)
-  uses_more n m vs p q c (ReturnStmt at v k) le s = then_more _ _ _ _ (expr_more (length vs) vs p q v s) (uses_more n m vs _ _ c k le (never_staler (length vs) p q s))
+  uses_more n m vs p q c (ReturnStmt at v k) le s = then_more _ _ _ _ (maybe_more (length vs) vs p q v s) (uses_more n m vs _ _ c k le (never_staler (length vs) p q s))
   uses_more n m vs p q c (ThrowStmt at v k) le s = then_more _ _ _ _ (thrown_more (length vs) vs p q c at v s) (uses_more n m vs _ _ c k le (never_staler (length vs) p q s))
   uses_more n m vs p q c (TryStmt at b o x h k) le s =
       let f = TryStmt at b o x h End in

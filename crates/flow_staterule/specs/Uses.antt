@@ -132,7 +132,7 @@ abbrev mutual
       uses n vs (behind (length vs) p (head (ways n b))) c b ++ uses (left n s) vs (beyond n vs p s) c k
   uses n vs p c (BreakStmt at k) = uses n vs (behind (length vs) p never) c k
   uses n vs p c (ContinueStmt at k) = uses n vs (behind (length vs) p never) c k
-  uses n vs p c (ReturnStmt at v k) = expr_uses vs p v ++ uses n vs (behind (length vs) p never) c k
+  uses n vs p c (ReturnStmt at v k) = maybe_uses vs p v ++ uses n vs (behind (length vs) p never) c k
   uses n vs p c (ThrowStmt at v k) = thrown_uses p c at v vs ++ uses n vs (behind (length vs) p never) c k
   uses n vs p c (TryStmt at b q x h k) =
       let s = TryStmt at b q x h End in

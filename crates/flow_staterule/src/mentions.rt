@@ -62,6 +62,10 @@ pub fn add_expr(
             add_expr(variables, point, base, found)?;
             add_exprs(variables, point, args, found)
         }
+        Expr::Index(base, index) => {
+            add_expr(variables, point, base, found)?;
+            add_expr(variables, point, index, found)
+        }
         Expr::Not(operand) => add_expr(variables, point, operand, found),
         Expr::Neg(operand) => add_expr(variables, point, operand, found),
         Expr::Binary(_, left, right) => {

@@ -214,7 +214,7 @@ impl<'a> Finder<'a> {
             StmtKind::Break => Ok(()),
             StmtKind::Continue => Ok(()),
             StmtKind::Return(value) => {
-                self.expr(here, value)?;
+                self.maybe(here, value)?;
                 Ok(())
             }
             StmtKind::Throw(value) => {

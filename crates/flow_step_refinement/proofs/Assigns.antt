@@ -9,7 +9,9 @@ use Rattle.flow_value.specs.declared.value.Value.{Value}
 use Rattle.flow_value.specs.declared.value.Value.TheVariants.{Ref}
 use Rattle.flow_value.specs.declared.value.Kind.{Kind}
 use Rattle.flow_value.specs.declared.value.Kind.TheVariants as kind
-use Rattle.flow_value.specs.Values.{ValueTree, RefValue}
+use Rattle.flow_tree.specs.Tree.{TypeTree}
+use Rattle.flow_value.specs.Values.{ValueTree, NoValues, CompositeValue, ListWhole, RefValue, refs_of}
+use Rattle.flow_eval.specs.Eval.{Done}
 use Rattle.flow_value.specs.View.{value_of}
 use Rattle.flow_class.specs.declared.class.Slotted.{Slotted}
 use Rattle.flow_class.specs.Classes.{NewInstr, RawTree}
@@ -29,8 +31,8 @@ use Rattle.flow_meaning.specs.Work.{pushed, new_cell}
 use Rattle.flow_meaning.specs.Effects.{empty_cell}
 use Rattle.flow_meaning.specs.Step.{view, silent, replaced, store, step_if, step, proc, on_core}
 use Rattle.flow_meaning.specs.Variables.{filled}
-use Rattle.flow_meaning.specs.Class.{promise_kind, placed, store_at, fetched, next_step, class_names, classes}
-use Rattle.flow_meaning.specs.Frame.{Memory, Frame, read, write, assign, next_instr}
+use Rattle.flow_meaning.specs.Class.{promise_kind, new_by, placed, store_at, fetched, next_step, class_names, classes}
+use Rattle.flow_meaning.specs.Frame.{Memory, Frame, read, write, put_at, assign, next_instr}
 use Rattle.flow_meaning.proofs.Posture.{each_number, thing_put, thing_added}
 use Rattle.flow_heap_refinement.specs.Counted.{branches_of, waiters_at}
 use Rattle.flow_heap_refinement.proofs.Finds.{none_above, thing_new}
@@ -125,6 +127,28 @@ module _ (r : RawTree) (ls : List Line) (m : Process) (p : Proc Frame) (i : ℕ)
           (can (value_of g.value) g.left g.done) g.goes
       by_case (inr a) = a
 
+  -- the empty vector refers to nothing, and a place takes any value
+  pub empty_step : law.EmptyStep r ls m p i e f
+  empty_step x s w code q u name aim pace n st there typed named aims evaluates =
+      by_case (evaluation_follows r ls m p i e f x s w value_of (Done (CompositeValue ListWhole NoValues) m.left) (assigned w (name ∷ [])) (IsSet code s aim) pace n st next evaluates)
+    where
+      next : next_step (class_names r) (view w i p.core) f ≡ evaluated f (Done (CompositeValue ListWhole NoValues) m.left) (assigned w (name ∷ []))
+      next =
+          ap (fetched (class_names r) (view w i p.core) f) there
+          ∙ ap (λ o. given f o (λ t. new_by (class_names r) (view w i p.core) f q t (promise_kind t))) typed
+          ∙ ap (λ o. given f (bind o (λ y. put_at r.records f.mem y [] (CompositeValue ListWhole NoValues))) (placed (class_names r) (view w i p.core) f p.core.left)) (sym named)
+          ∙ ap (λ l. assigned w (name ∷ []) (CompositeValue ListWhole NoValues) l) st.stood.shown.left
+
+      can : (v : ValueTree) → CanAssign r.records f (name ∷ []) v
+      can v k = let a = ap (λ o. bind o (λ y. put_at r.records f.mem y [] v)) named in cc (a, k)
+
+      by_case : GivesValue value_of (Done (CompositeValue ListWhole NoValues) m.left) m (IsSet code s aim) pace n ⊎ StepsAs r ls x w p i e pace n → StepsAs r ls x w p i e pace n
+      by_case (inl g) =
+          let same : CompositeValue ListWhole NoValues ≡ value_of g.value = let d = g.done in cc (d) in
+          sets x s w code (name ∷ []) aim g.value g.left pace n st (next ∙ ap (λ k. evaluated f k (assigned w (name ∷ []))) g.done) (subst (λ v. AllThere p (refs_of v)) same tt) aims
+          (can (value_of g.value)) g.goes
+      by_case (inr a) = a
+
 -- nobody waits at a new cell
 nobody_new : (i : ℕ) (kd : Kind) → branches_of i (waiters_at (Some (empty_cell kd))) ≡ []
 nobody_new i kind.Promise = refl
@@ -185,11 +209,12 @@ module _ (r : RawTree) (ls : List Line) (m : Process) (p : Proc Frame) (i : ℕ)
   abbrev storing : Proc Frame
   storing = proc (work.dropping_values replaces (pushed (Run i) (new_cell (empty_cell kd) p.core))) (put (put p.actors i f) i then_on_frame)
 
-  first_step : p.core.halted ≡ None → thing p.actors i ≡ Some f → fetch f.code f.block f.instr ≡ Body (NewInstr q) → bind (type_at f.code q) promise_kind ≡ Some kd
+  first_step : (u : TypeTree) → p.core.halted ≡ None → thing p.actors i ≡ Some f → fetch f.code f.block f.instr ≡ Body (NewInstr q) → type_at f.code q ≡ Some u → promise_kind u ≡ Some kd
       → step (classes r) w (on_core (pushed (Run i)) p) ≡ Some (silent making)
-  first_step goes acting there kind =
+  first_step u goes acting there typed kind =
       asked r ls m p i e f w (asks p.core.left (Effects Stored (Make kd)) f) goes acting
-      (ap (fetched (class_names r) (view w i p.core) f) there ∙ ap (λ o. given f o (λ k. asks p.core.left (Effects Stored (Make k)) f)) kind)
+      (ap (fetched (class_names r) (view w i p.core) f) there
+      ∙ ap (λ o. given f o (λ t. new_by (class_names r) (view w i p.core) f q t (promise_kind t))) typed ∙ ap (new_by (class_names r) (view w i p.core) f q u) kind)
 
   second_step : p.core.halted ≡ None → thing p.actors i ≡ Some f → fetch f.code f.block f.instr ≡ Body (NewInstr q)
       → step (classes r) w making ≡ Some (silent storing)
@@ -199,10 +224,10 @@ module _ (r : RawTree) (ls : List Line) (m : Process) (p : Proc Frame) (i : ℕ)
       ∙ ap (λ a. Some (store (classes r) i new_ref a after)) (thing_put p.actors i f f acting)
       ∙ ap (λ k. Some (replaced i (store_at (class_names r) new_ref f k) after)) there
 
-  pub new_steps : p.core.halted ≡ None → thing p.actors i ≡ Some f → fetch f.code f.block f.instr ≡ Body (NewInstr q) → bind (type_at f.code q) promise_kind ≡ Some kd
+  pub new_steps : (u : TypeTree) → p.core.halted ≡ None → thing p.actors i ≡ Some f → fetch f.code f.block f.instr ≡ Body (NewInstr q) → type_at f.code q ≡ Some u → promise_kind u ≡ Some kd
       → Silent r w (on_core (pushed (Run i)) p) storing
-  new_steps goes acting there kind =
-      then_on (on_core (pushed (Run i)) p) making storing (first_step goes acting there kind)
+  new_steps u goes acting there typed kind =
+      then_on (on_core (pushed (Run i)) p) making storing (first_step u goes acting there typed kind)
       (then_on making storing storing (second_step goes acting there) (no_more storing))
 
 module _ (r : RawTree) (ls : List Line) (m : Process) (p : Proc Frame) (i : ℕ) (e : Entry) (f : Frame) (x : Scan) (s : ControlPoint) (q : Slotted) (kd : Kind)
@@ -267,7 +292,7 @@ module _ (r : RawTree) (ls : List Line) (m : Process) (p : Proc Frame) (i : ℕ)
 
 module _ (r : RawTree) (ls : List Line) (m : Process) (p : Proc Frame) (i : ℕ) (e : Entry) (f : Frame) where
   pub new_step : law.NewStep r ls m p i e f
-  new_step x s w q kd pace n st there has kind rising is =
+  new_step x s w q u kd pace n st there has typed kind rising is =
       let number : ℕ = number_in (length f.code.slots) q in
       let us : List ValueTree = filled (read f.mem q ∷ []) in
       let core : Core = work.dropping_values us (pushed (Run i) (new_cell (empty_cell kd) p.core)) in
@@ -277,7 +302,7 @@ module _ (r : RawTree) (ls : List Line) (m : Process) (p : Proc Frame) (i : ℕ)
       let carries = new_carries r ls m p i e f x s q kd st rising is.cell is.number has pace n after in
       let there_then = subst (λ y. Carries r ls x i e pace n (proc core (put p.actors i (next_instr y f)))) (written_is r ls m p i e f x s q kd st rising is.cell is.number) carries in record {
         after = storing r ls m p i e f w q kd;
-        steps = new_steps r ls m p i e f w q kd st.stood.shown.goes st.acting there kind;
+        steps = new_steps r ls m p i e f w q kd u st.stood.shown.goes st.acting there typed kind;
         onward = carried r ls x w p i e pace n (storing r ls m p i e f w q kd) (λ t on. later_after s t _ _ n pace after on)
             (subst (λ xs. Carries r ls x i e pace n (proc core xs)) (sym (put_over p.actors i f g)) there_then);
       }

@@ -103,7 +103,7 @@ module _ (r : RawTree) (ls : List Line) (m : Process) (p : Proc Frame) (i : ℕ)
     function_next : (vs : List ValueTree) (left : ℕ) → called w name vs left ≡ evaluated f (Call set function vs left) forgotten
     function_next vs left =
         ap (λ o. evaluated f (plain_act (class_names r) (view w i p.core) (look f.mem) o name.name vs left) go) calls.own
-        ∙ ap (λ o. evaluated f (function_act (class_names r) (view w i p.core) (look f.mem) o vs left) go) (calls.same ∙ is)
+        ∙ ap (λ o. evaluated f (function_act (class_names r) (view w i p.core) (look f.mem) o name.name vs left) go) (calls.same ∙ is)
         ∙ then_evaluated f (Call set function vs left) (λ u l. Done Goes l) go
 
     result_is : (vs : Values) (left : ℕ) → function_result code k vs (with_left left m) ≡ Call set function (args_of vs) left

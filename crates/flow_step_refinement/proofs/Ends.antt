@@ -42,6 +42,7 @@ use Rattle.flow_step_refinement.proofs.Stays.{instruction_later, end_later}
 use Rattle.flow_step_refinement.proofs.Choices.{choice_begins}
 use Rattle.flow_step_refinement.proofs.Chooses.{choice_follows}
 use Rattle.flow_step_refinement.proofs.Executes.{by, coding_now, value_is, does_follows}
+use Rattle.flow_tree.specs.Tree.{returned_expr}
 
 module _ (r : RawTree) (ls : List Line) (m : Process) (p : Proc Frame) (i : ℕ) (e : Entry) (f : Frame) (x : Scan) (s : ControlPoint) (w : Supply) (code : Code)
     (inp : InProgram r code s f) (time : program_time m.time ≡ pos w.now) (none : m.asked ≡ None) (pace : Pace) (n : Process) where
@@ -82,8 +83,8 @@ module _ (r : RawTree) (ls : List Line) (m : Process) (p : Proc Frame) (i : ℕ)
         let at = choice_begins r ls m p i e f x s g st wait fits.go zero_state in
         choice_follows r ls m p i e f x s w code inp time none at g fetched is fits pace n does
     by_end (last.Return res) (ReturnLast t) is there same does =
-        let node : node_of res ≡ resolved (coding_now r ls m p i e f x s w code st inp time).names t = cc (same) in
-        let v = value_now t res node in
+        let node : node_of res ≡ resolved (coding_now r ls m p i e f x s w code st inp time).names (returned_expr t) = cc (same) in
+        let v = value_now (returned_expr t) res node in
         let fits = subst (MayDoNext r w p i e f) there may in
         one (λ t on. end_later code s inp.standing.block t (last.Return res) m n pace on does)
         (return_step r ls m p i e f x s w t (value_for code s.actor.0 res m) pace n st there v (λ u left done. fits u left (sym v ∙ done)) does)

@@ -2,6 +2,7 @@ pub mod Onward
 pub mod Decisions
 pub mod Paths
 pub mod Assigns
+pub mod Changes
 pub mod Calls
 pub mod Breaking
 pub mod Choices

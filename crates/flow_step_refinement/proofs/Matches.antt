@@ -25,7 +25,7 @@ use Rattle.flow_heap_refinement.specs.FrameChanges.{HasPlace}
 use Rattle.flow_steps.specs.declared.process.Process.{Process}
 use Rattle.flow_operation_refinement.specs.Continuing.{SameInto}
 use Rattle.flow_operation_refinement.proofs.Stands.{both_mapped}
-use Rattle.flow_step_refinement.specs.Decoding.{CodedFrom, from_set, from_effect, from_new, from_act, from_method, from_drop, from_none}
+use Rattle.flow_step_refinement.specs.Decoding.{CodedFrom, from_set, from_effect, from_new, from_act, from_method, from_drop, from_none, from_vector}
 use Rattle.flow_step_refinement.specs.Matching as law
 use Rattle.flow_step_refinement.proofs.Decodes.{both_there, placed, the_instruction, the_wait, group_there, aim_there}
 use Rattle.flow_step_refinement.proofs.Froms.{instruction_from}
@@ -38,7 +38,8 @@ effect_from k f path from a g ns text is (from_effect xs e b h text_is aims eff 
     let paths : xs ≡ path = cc (both) in
     let aim : a ≡ b = cc (same) in ap (aimed k) (sym paths) ∙ aims ∙ ap (λ y. Some y) (sym aim)
 effect_from k f path from a g ns text is (from_set xs e b text_is aims same) = absurd (cc (same))
-effect_from k f path from a g ns text is (from_new q n kd text_is place kind same) = absurd (cc (same))
+effect_from k f path from a g ns text is (from_new q n u kd text_is place typed kind same) = absurd (cc (same))
+effect_from k f path from a g ns text is (from_vector q n u text_is place typed same) = absurd (cc (same))
 effect_from k f path from a g ns text is (from_act x es b text_is named same) = absurd (cc (same))
 effect_from k f path from a g ns text is (from_method x y ys es b h text_is aims named same) = absurd (cc (same))
 effect_from k f path from a g ns text is (from_drop xs text_is same) = absurd (cc (same))

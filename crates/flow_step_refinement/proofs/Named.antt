@@ -51,7 +51,7 @@ first_place : (n : ℕ) (ys : List (List ℕ)) (x : List ℕ)
 first_place n [] x = refl
 first_place n (y ∷ ys) x = grind (arith, first_place (suc n) ys x)
 
-class_place : (cs : List ClassTree) (x : List ℕ) → class_named cs x ≡ position (bytes_eq x) (map class_name cs)
+pub class_place : (cs : List ClassTree) (x : List ℕ) → class_named cs x ≡ position (bytes_eq x) (map class_name cs)
 class_place cs x =
     let none : 0 + position_or_len (bytes_eq x) (map class_name cs) ≡ position_or_len (bytes_eq x) (map class_name cs) = omega arith in
     first_place 0 (map class_name cs) x

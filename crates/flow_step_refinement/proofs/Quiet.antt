@@ -1,5 +1,7 @@
 -- A step after which an actor goes on at once asks for nothing, and takes no time.
 use Rattle.std.proofs.Common.{◌≡◌, ℕ, ◌-◌, nat_lt, Bool, true, false, List, [], ◌∷◌, if◌then◌else◌, refl, sym, ap, ◌∙◌}
+use Rattle.std.specs.declared.option.Option.{Option}
+use Rattle.std.specs.declared.option.Option.TheVariants.{None, Some}
 use Rattle.flow_value.specs.declared.value.Value.{Value}
 use Rattle.flow_value.specs.Values.{ValueTree, IntValue, BoolValue, TextValue, VoidValue, ErrorValue, CompositeValue, RefValue}
 use Rattle.flow_value.specs.View.{value_of}
@@ -13,6 +15,7 @@ use Rattle.flow_code.specs.declared.class.Last.TheVariants as last
 use Rattle.flow_code.specs.declared.class.Operand.{Operand}
 use Rattle.flow_code.specs.declared.class.Operand.TheVariants as operand
 use Rattle.flow_code.specs.declared.program.Code.{Code}
+use Rattle.flow_code.specs.declared.class.Aim.{Aim}
 use Rattle.flow_frame.specs.declared.held.Held.{Held}
 use Rattle.flow_steps.specs.declared.frames.ControlPoint.{ControlPoint}
 use Rattle.flow_steps.specs.declared.next.Pace.{Pace}
@@ -21,9 +24,11 @@ use Rattle.flow_steps.specs.declared.process.Process.{Process}
 use Rattle.flow_steps.specs.Doing.{turned}
 use Rattle.flow_steps.specs.Acting.{Values}
 use Rattle.flow_steps.specs.Points.{noted_stand}
-use Rattle.flow_steps.specs.Stepping.{OnAfter, IsAct, Does, GoesOnAt, Passes, no_pass, pass_begins, IsTest, ReferenceKept, OperandStep, Chooses, asks_operand, all_kept, Ends, StepsOn, by_instruction, by_last}
+use Rattle.flow_steps.specs.Stepping.{OnAfter, IsAct, Does, GoesOnAt, Passes, no_pass, pass_begins, IsTest, ReferenceKept, OperandStep, Chooses, asks_operand, all_kept, Ends, StepsOn, by_instruction, by_last, grown, is_full, IsChange}
 use Rattle.flow_steps.specs.Waiting.{KeepsOperand, kept_marked, kept_unready, kept_ready}
-use Rattle.flow_step_refinement.proofs.Stays.{never, evaluated_on, by_method, by_effect, by_throw}
+use Rattle.flow_step_refinement.proofs.Stays.{never, evaluated_on, by_argument, by_method, by_effect, by_throw}
+use Rattle.flow_meaning.specs.Evaluating.{Change, Grows, Clears, change_by}
+use Rattle.flow_ast.specs.declared.predefined.Method.{Method}
 
 -- the same time, and nothing more asked for
 pub record Quiet (m n : Process) : Type 0 where
@@ -48,7 +53,16 @@ turned_quiet m = by_test (nat_lt 0 m.left)
 module _ (code : Code) (s : ControlPoint) (m n : Process) (t : ControlPoint) where
   act_quiet : (a : Act) (args : Values) (k : Process) (pace : Pace) → pace ≡ On t → IsAct code s a args k pace n → k.asked ≡ m.asked → k.time ≡ m.time → Quiet m n
   act_quiet (act.World called) args k pace on does a b = absurd (never t (sym does.0 ∙ on))
+  act_quiet (act.Actor class) args k pace on does a b = absurd (never t (sym does.0 ∙ on))
   act_quiet (act.Function f) args k pace on does a b = let c = evaluated_on s _ _ k _ t pace n on does in quiet_by m _ n c.1.1.1 a b
+
+  change_quiet : (aim : Aim) (how : Change) (sent : Option Value) (k : Process) (pace : Pace) → pace ≡ On t → IsChange code s aim how sent k pace n → k.asked ≡ m.asked → k.time ≡ m.time
+      → Quiet m n
+  change_quiet aim Grows (Some v) k pace on (grown es old _ room is) a b = quiet_by m _ n is.assigns.put a b
+  change_quiet aim Grows (Some v) k pace on (is_full es _ aimed full is) a b = absurd (never t on)
+  change_quiet aim Grows None k pace on is a b = absurd is
+  change_quiet aim Clears sent k pace on is a b =
+      after_quiet m is.between _ t _ pace n on is.after (ap (λ (z : Process). z.asked) is.changed.assigns.put ∙ a) (ap (λ (z : Process). z.time) is.changed.assigns.put ∙ b)
 
   does_quiet : (y : Instruction) (pace : Pace) → pace ≡ On t → Does code s y m pace n → Quiet m n
   does_quiet (instruction.Set aim e) pace on does =
@@ -57,7 +71,12 @@ module _ (code : Code) (s : ControlPoint) (m n : Process) (t : ControlPoint) whe
   does_quiet (instruction.Effect aim e args) pace on does = absurd (by_effect code s t _ e args.items m n pace s on does)
   does_quiet (instruction.New place kd) pace on does = after_quiet m _ _ t _ pace n on does.after refl refl
   does_quiet (instruction.Act a args) pace on does = let c = evaluated_on s _ _ m _ t pace n on does in act_quiet a c.0 _ pace on c.1.1 refl refl
-  does_quiet (instruction.Method aim g args) pace on does = absurd (by_method code s t aim g args.items m n pace on does)
+  does_quiet (instruction.Method aim g args) pace on does = by_how (change_by (Some g)) refl
+    where
+      by_how : (o : Option Change) → change_by (Some g) ≡ o → Quiet m n
+      by_how None is = absurd (by_method code s t aim g args.items m n pace is on does)
+      by_how (Some how) is =
+          let a = by_argument code s t aim g (Some how) args.items m n pace is on does in change_quiet aim how a.0 a.1.0 pace on a.1.1.0 a.1.1.1.0 a.1.1.1.1
   does_quiet (instruction.Drop places) pace on does = after_quiet m _ _ t _ pace n on does refl refl
   does_quiet instruction.Invalid pace on does = absurd does
 

@@ -25,7 +25,7 @@ use Rattle.flow_operation_refinement.specs.Matching.{Matches}
 use Rattle.flow_operation_refinement.specs.Seeing.{IsCodeOf}
 use Rattle.flow_step_refinement.specs.Continuing as going
 use Rattle.flow_step_refinement.specs.Continuing.{Silent, no_more, then_on, MayStep, moves, chooses, GoesBy, Leads, InClass, GoesFurther}
-use Rattle.flow_step_refinement.specs.Executing.{coded_by, InProgram, Asks, by_effect, by_act, by_method, by_operand}
+use Rattle.flow_step_refinement.specs.Executing.{coded_by, InProgram, Asks, by_effect, by_act, by_start, by_method, by_operand}
 use Rattle.flow_step_refinement.specs.Running as law
 use Rattle.flow_step_refinement.specs.Running.{Allows, AsksAtLast, RanOff}
 use Rattle.flow_step_refinement.proofs.Decodes.{in_code_of}
@@ -39,7 +39,8 @@ use Rattle.flow_step_refinement.proofs.Telling.{step_told}
 pub asks_off : (code : Code) (s : ControlPoint) (m : Process) (pace : Pace) (n : Process) (t : ControlPoint) → pace ≡ On t → Asks code s m pace n → ⊥
 asks_off code s m pace n t on (by_effect aim eff args at does) = stays.by_effect code s t _ eff args.items m n pace s on does
 asks_off code s m pace n t on (by_act called args at does) = let a = evaluated_on s _ _ m _ t pace n on does in never t (sym a.1.1.0 ∙ on)
-asks_off code s m pace n t on (by_method aim g args at does) = stays.by_method code s t aim g args.items m n pace on does
+asks_off code s m pace n t on (by_start class args at does) = let a = evaluated_on s _ _ m _ t pace n on does in never t (sym a.1.1.0 ∙ on)
+asks_off code s m pace n t on (by_method aim g args at change does) = stays.by_method code s t aim g args.items m n pace change on does
 asks_off code s m pace n t on (by_operand number group b eff args end last of at is does) = stays.by_effect code s t _ eff args.items _ n pace _ on does
 
 module _ (r : RawTree) (w : Supply) where

@@ -1,7 +1,8 @@
 -- An actor that goes on stands in the code of its class.
 use Rattle.std.proofs.Common.{◌≡◌, Bool, true, false, List, [], ◌∷◌, refl, sym, ap, ◌∙◌, subst}
 use Rattle.std.specs.Prelude.{ℕ, slice_get}
-use Rattle.std.specs.declared.option.Option.TheVariants.{Some}
+use Rattle.std.specs.declared.option.Option.TheVariants.{Some, None}
+use Rattle.std.specs.declared.option.Option.{Option}
 use Rattle.flow_ast.specs.declared.predefined.Method.{Method}
 use Rattle.flow_value.specs.declared.value.Value.{Value}
 use Rattle.flow_value.specs.Values.{ValueTree, IntValue, BoolValue, TextValue, VoidValue, ErrorValue, CompositeValue, RefValue}
@@ -31,9 +32,10 @@ use Rattle.flow_steps.specs.declared.process.Process.{Process}
 use Rattle.flow_steps.specs.Acting.{Values, IsEffect}
 use Rattle.flow_steps.specs.Evaluating.{Evaluates, gives, throws, runs_out, with_left}
 use Rattle.flow_steps.specs.Points.{GoesTo, next_stand, noted_stand}
-use Rattle.flow_steps.specs.Stepping.{OnAfter, IsAct, MethodStep, Does, GoesOnAt, Passes, no_pass, pass_begins, IsTest, ReferenceKept, OperandStep, Chooses, asks_operand, all_kept, ErrorThrown, Ends, StepsOn, by_instruction, by_last}
+use Rattle.flow_steps.specs.Stepping.{OnAfter, IsAct, MethodStep, Does, GoesOnAt, Passes, no_pass, pass_begins, IsTest, ReferenceKept, OperandStep, Chooses, asks_operand, all_kept, ErrorThrown, Ends, StepsOn, by_instruction, by_last, grown, is_full, IsChange, IsMethodBy}
 use Rattle.flow_steps.specs.Waiting.{KeepsOperand, kept_marked, kept_unready, kept_ready}
 use Rattle.flow_step_refinement.specs.Decoding as law
+use Rattle.flow_meaning.specs.Evaluating.{Change, Grows, Clears, change_by}
 
 -- a stand of the same class, at a block of it, of which the frame is told or not
 record SameClass (s : ControlPoint) (told : Bool) (t : ControlPoint) : Type 0 where
@@ -58,10 +60,18 @@ evaluated_on s seen c p goal t pace n on (runs_out q spent halted) = absurd (nev
 
 -- what asks something, and what throws, doesn't go on at once
 module _ (code : Code) (s : ControlPoint) where
-  pub by_method : (t : ControlPoint) (aim : Aim) (m : Method) (es : List Resolved) (p n : Process) (pace : Pace) → pace ≡ On t → MethodStep code s aim m es p pace n → ⊥
-  by_method t aim m [] p n pace on does = never t (sym does.off ∙ on)
-  by_method t aim m (e ∷ []) p n pace on does = let a = evaluated_on s _ _ p _ t pace n on does in never t (sym a.1.1.off ∙ on)
-  by_method t aim m (e ∷ d ∷ es) p n pace on does = absurd does
+  -- what a method of a vector or of a reference does, with its argument known
+  pub by_argument : (t : ControlPoint) (aim : Aim) (m : Method) (how : Option Change) (es : List Resolved) (p n : Process) (pace : Pace) → change_by (Some m) ≡ how → pace ≡ On t
+      → MethodStep code s aim m es p pace n → (sent : Option Value) × ((k : Process) × (IsMethodBy how code s aim m sent k pace n × ((k.asked ≡ p.asked) × (k.time ≡ p.time))))
+  by_argument t aim m how [] p n pace is on does = (None, (p, (subst (λ o. IsMethodBy o code s aim m None p pace n) is does, (refl, refl))))
+  by_argument t aim m how (e ∷ []) p n pace is on does =
+      let a = evaluated_on s _ _ p _ t pace n on does in
+      let k : Process = with_left a.1.0 p in
+      (Some a.0, (k, (subst (λ o. IsMethodBy o code s aim m (Some a.0) k pace n) is a.1.1, (refl, refl))))
+  by_argument t aim m how (e ∷ d ∷ es) p n pace is on does = absurd does
+
+  pub by_method : (t : ControlPoint) (aim : Aim) (m : Method) (es : List Resolved) (p n : Process) (pace : Pace) → change_by (Some m) ≡ None → pace ≡ On t → MethodStep code s aim m es p pace n → ⊥
+  by_method t aim m es p n pace is on does = let a = by_argument t aim m None es p n pace is on does in never t (sym a.1.1.0.off ∙ on)
 
   pub by_effect : (t : ControlPoint) (g : Goal) (e : Effect) (es : List Resolved) (p n : Process) (pace : Pace) (u : ControlPoint) → pace ≡ On t → IsEffect code u g e es p pace n → ⊥
   by_effect t g e es p n pace u on does = let a = evaluated_on u _ _ p _ t pace n on does in never t (sym a.1.1.0 ∙ on)
@@ -106,14 +116,25 @@ module _ (code : Code) (s : ControlPoint) (here : slice_get s.class.now.blocks.i
 
   by_act : (t : ControlPoint) (a : Act) (args : Values) (p n : Process) (pace : Pace) → pace ≡ On t → IsAct code s a args p pace n → SameClass s false t
   by_act t (act.World called) args p n pace on does = absurd (never t (sym does.0 ∙ on))
+  by_act t (act.Actor class) args p n pace on does = absurd (never t (sym does.0 ∙ on))
   by_act t (act.Function k) args p n pace on does = let a = evaluated_on s _ _ p _ t pace n on does in onward t pace on a.1.1.0
+
+  by_change : (t : ControlPoint) (aim : Aim) (how : Change) (sent : Option Value) (p n : Process) (pace : Pace) → pace ≡ On t → IsChange code s aim how sent p pace n → SameClass s false t
+  by_change t aim Grows (Some v) p n pace on (grown es old q room is) = onward t (On (next_stand s)) on refl
+  by_change t aim Grows (Some v) p n pace on (is_full es q aimed full is) = absurd (never t on)
+  by_change t aim Grows None p n pace on is = absurd is
+  by_change t aim Clears sent p n pace on is = after_values t _ _ n pace on is.after
 
   by_does : (t : ControlPoint) (x : Instruction) (p n : Process) (pace : Pace) → pace ≡ On t → Does code s x p pace n → SameClass s false t
   by_does t (instruction.Set aim e) p n pace on does = let a = evaluated_on s _ _ p _ t pace n on does in after_values t _ _ n pace on a.1.1.after
   by_does t (instruction.Effect aim e args) p n pace on does = absurd (by_effect code s t _ e args.items p n pace s on does)
   by_does t (instruction.New place kd) p n pace on does = after_values t _ _ n pace on does.after
   by_does t (instruction.Act a args) p n pace on does = let b = evaluated_on s _ _ p _ t pace n on does in by_act t a b.0 _ n pace on b.1.1
-  by_does t (instruction.Method aim m args) p n pace on does = absurd (by_method code s t aim m args.items p n pace on does)
+  by_does t (instruction.Method aim m args) p n pace on does = by_how (change_by (Some m)) refl
+    where
+      by_how : (o : Option Change) → change_by (Some m) ≡ o → SameClass s false t
+      by_how None is = absurd (by_method code s t aim m args.items p n pace is on does)
+      by_how (Some how) is = let a = by_argument code s t aim m (Some how) args.items p n pace is on does in by_change t aim how a.0 a.1.0 n pace on a.1.1.0
   by_does t (instruction.Drop places) p n pace on does = after_values t _ _ n pace on does
   by_does t instruction.Invalid p n pace on does = absurd does
 

@@ -28,6 +28,7 @@ use Rattle.flow_code.specs.declared.class.Operand.{Operand}
 use Rattle.flow_code.specs.declared.class.Operand.TheVariants as operand
 use Rattle.flow_code.specs.declared.program.Code.{Code}
 use Rattle.flow_code.specs.View.{group_numbered}
+use Rattle.flow_code.specs.declared.expr.expr.Resolved.{Resolved}
 use Rattle.flow_cancel.specs.Heap.{finished}
 use Rattle.flow_cancel.specs.Dropping.{Lost, dropped}
 use Rattle.flow_cancel.specs.declared.task.Dropped.TheVariants as after
@@ -41,11 +42,13 @@ use Rattle.flow_steps.specs.Delivering.{end_line, ended_with, closing}
 use Rattle.flow_steps.specs.Points.{noted, noted_stand}
 use Rattle.flow_steps.specs.Waiting.{TakesBranch, no_turn, takes_branch, KeepsOperand, kept_marked, kept_unready, kept_ready, Waits, waits_ready, waits_refused, waits_suspended}
 use Rattle.flow_steps.specs.Evaluating.{Evaluates, gives, throws, runs_out}
-use Rattle.flow_steps.specs.Stepping.{OnAfter, IsSet, Does, Passes, no_pass, pass_begins, IsTest, ReferenceKept, OperandStep, Chooses, asks_operand, all_kept, ErrorThrown, Ends, by_instruction, by_last, kept_by, StepsOn}
+use Rattle.flow_steps.specs.Stepping.{OnAfter, IsSet, Does, Passes, no_pass, pass_begins, IsTest, ReferenceKept, OperandStep, Chooses, asks_operand, all_kept, ErrorThrown, Ends, by_instruction, by_last, kept_by, StepsOn, grown, is_full, IsChange, IsMethodBy, MethodStep}
 use Rattle.flow_steps.specs.Tasks.{FiresAt, drops_one, IsDone, Stored}
 use Rattle.flow_operation_refinement.specs.Stepped.{OnlyTells}
 use Rattle.flow_operation_refinement.proofs.Takings.{turned_asked}
-use Rattle.flow_step_refinement.specs.Executing.{Asks, by_effect, by_act, by_method, by_operand}
+use Rattle.flow_step_refinement.specs.Executing.{Asks, by_effect, by_act, by_method, by_operand, by_start}
+use Rattle.flow_meaning.specs.Evaluating.{Change, Grows, Clears, change_by}
+use Rattle.flow_ast.specs.declared.predefined.Method.{Method}
 
 -- nothing is asked
 pub quiet : (n : Process) → n.asked ≡ None → OnlyTells n.asked
@@ -117,6 +120,21 @@ passes_told : (s : ControlPoint) (b : ℕ) (m n : Process) (pace : Pace) → m.a
 passes_told s b m n pace none (no_pass t _ to left e) = quiet n (ap (λ (z : Process). z.asked) e ∙ turned_asked m ∙ none)
 passes_told s b m n pace none (pass_begins t _ to left e) = turned_told m n none e
 
+-- changes of vectors
+change_told : (code : Code) (s : ControlPoint) (aim : Aim) (how : Change) (sent : Option Value) (m n : Process) (pace : Pace) → m.asked ≡ None → IsChange code s aim how sent m pace n
+    → OnlyTells n.asked
+change_told code s aim Grows (Some v) m n pace none (grown es old _ room is) = quiet n (ap (λ (z : Process). z.asked) is.assigns.put ∙ none)
+change_told code s aim Grows (Some v) m n pace none (is_full es _ aimed full e) = quiet n (ap (λ (z : Process). z.asked) e ∙ none)
+change_told code s aim Grows None m n pace none h = absurd h
+change_told code s aim Clears sent m n pace none h = over_told _ _ h.between n pace (ap (λ (z : Process). z.asked) h.changed.assigns.put ∙ none) h.after
+
+changes_told : (code : Code) (s : ControlPoint) (aim : Aim) (called : Method) (how : Change) (es : List Resolved) (m n : Process) (pace : Pace) → m.asked ≡ None → change_by (Some called) ≡ Some how
+    → MethodStep code s aim called es m pace n → OnlyTells n.asked
+changes_told code s aim called how [] m n pace none is h = change_told code s aim how None m n pace none (subst (λ o. IsMethodBy o code s aim called None m pace n) is h)
+changes_told code s aim called how (e ∷ []) m n pace none is h =
+    evaluates_told s value_of _ m n _ pace none (λ v k n pace none h. change_told code s aim how (Some v) k n pace none (subst (λ o. IsMethodBy o code s aim called (Some v) k pace n) is h)) h
+changes_told code s aim called how (e ∷ f ∷ es) m n pace none is h = absurd h
+
 module _ (code : Code) (s : ControlPoint) (m n : Process) (pace : Pace) (none : m.asked ≡ None) where
   -- an instruction
   by_instruction_told : (x : Instruction) → slice_get s.block.now.body.items s.instruction ≡ Some x → Does code s x m pace n → OnlyTells n.asked ⊎ Asks code s m pace n
@@ -124,9 +142,14 @@ module _ (code : Code) (s : ControlPoint) (m n : Process) (pace : Pace) (none : 
   by_instruction_told (instruction.Effect aim e args) at h = inr (by_effect aim e args at h)
   by_instruction_told (instruction.New place kd) at h = inl (over_told _ _ _ n pace none h.after)
   by_instruction_told (instruction.Act (act.World called) args) at h = inr (by_act called args at h)
+  by_instruction_told (instruction.Act (act.Actor class) args) at h = inr (by_start class args at h)
   by_instruction_told (instruction.Act (act.Function f) args) at h =
       inl (evaluates_told s _ _ m n _ pace none (λ v k n pace none h. evaluates_told s value_of _ k n _ pace none (λ u k n pace none h. quiet n (ap (λ (z : Process). z.asked) h.1 ∙ none)) h) h)
-  by_instruction_told (instruction.Method aim called args) at h = inr (by_method aim called args at h)
+  by_instruction_told (instruction.Method aim called args) at h = by_how (change_by (Some called)) refl
+    where
+      by_how : (o : Option Change) → change_by (Some called) ≡ o → OnlyTells n.asked ⊎ Asks code s m pace n
+      by_how None is = inr (by_method aim called args at is h)
+      by_how (Some how) is = inl (changes_told code s aim called how args.items m n pace none is h)
   by_instruction_told (instruction.Drop places) at h = inl (over_told _ _ _ n pace none h)
   by_instruction_told instruction.Invalid at h = absurd h
 

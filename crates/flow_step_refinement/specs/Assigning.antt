@@ -5,11 +5,11 @@ use Rattle.std.specs.Option.{option_map}
 use Rattle.std.specs.declared.option.Option.{Option}
 use Rattle.std.specs.declared.option.Option.TheVariants.{None, Some}
 use Rattle.flow_tree.specs.declared.ty.Ident.{Ident}
-use Rattle.flow_tree.specs.Tree.{ExprTree}
+use Rattle.flow_tree.specs.Tree.{TypeTree, VectorType, ExprTree}
 use Rattle.flow_tree.specs.Decls.{RecordTree}
 use Rattle.flow_value.specs.declared.value.Value.{Value}
 use Rattle.flow_value.specs.declared.value.Kind.{Kind}
-use Rattle.flow_value.specs.Values.{ValueTree}
+use Rattle.flow_value.specs.Values.{ValueTree, CompositeValue, NoValues, ListWhole}
 use Rattle.flow_value.specs.View.{value_of}
 use Rattle.flow_eval.specs.Eval.{Res, Done}
 use Rattle.flow_code.specs.Resolved.Resolving.{IsNumbering}
@@ -24,7 +24,7 @@ use Rattle.flow_code.specs.Coding.{fields_of}
 use Rattle.flow_trace.specs.declared.line.Line.{Line}
 use Rattle.flow_cancel.specs.Heap.{actor_id}
 use Rattle.flow_meaning.specs.Requests.{Supply}
-use Rattle.flow_meaning.specs.Evaluating.{bind, value}
+use Rattle.flow_meaning.specs.Evaluating.{value}
 use Rattle.flow_meaning.specs.Process.{Run, Entry, Proc}
 use Rattle.flow_meaning.specs.References.{Scan, refs_in}
 use Rattle.flow_meaning.specs.Orderly.{Rising}
@@ -98,11 +98,20 @@ module _ (r : RawTree) (ls : List Line) (m : Process) (p : Proc Frame) (i : ℕ)
       → AimsAt r.records code f path aim → CanAssignAll r.records f path comes_to
       → Evaluates s value_of comes_to m (IsSet code s aim) pace n → StepsAs r ls x w p i e pace n
 
+  -- the empty vector goes into a place
+  abbrev pub EmptyStep : Type 0
+  EmptyStep =
+      (x : Scan) (s : ControlPoint) (w : Supply) (code : Code) (q : Slotted) (u : TypeTree) (name : Ident) (aim : Aim) (pace : Pace)
+      (n : Process)
+      → MayBeStale r ls x s m p i e f → fetch f.code f.block f.instr ≡ Body (NewInstr q) → type_at f.code q ≡ Some (VectorType u)
+      → place_named name.name ≡ Some q → AimsAt r.records code f (name ∷ []) aim
+      → Evaluates s value_of (Done (CompositeValue ListWhole NoValues) m.left) m (IsSet code s aim) pace n → StepsAs r ls x w p i e pace n
+
   -- A new cell goes into a place: in the class machine it is made by one step, and stored by the next.
   abbrev pub NewStep : Type 0
   NewStep =
-      (x : Scan) (s : ControlPoint) (w : Supply) (q : Slotted) (kd : Kind) (pace : Pace) (n : Process)
+      (x : Scan) (s : ControlPoint) (w : Supply) (q : Slotted) (u : TypeTree) (kd : Kind) (pace : Pace) (n : Process)
       → MayBeStale r ls x s m p i e f → fetch f.code f.block f.instr ≡ Body (NewInstr q) → HasPlace f q
-      → bind (type_at f.code q) promise_kind ≡ Some kd → Rising 0 p.core.made p.core.cells
+      → type_at f.code q ≡ Some u → promise_kind u ≡ Some kd → Rising 0 p.core.made p.core.cells
       → IsNew s (number_in (length f.code.slots) q) kd m pace n
       → GoesBy r ls x w i e.class (on_core (pushed (Run i)) p) pace n

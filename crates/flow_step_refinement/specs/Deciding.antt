@@ -2,7 +2,8 @@
 use Rattle.std.specs.Prelude.{◌≡◌, ℕ, List}
 use Rattle.flow_value.specs.Values.{ValueTree, refs_of}
 use Rattle.flow_value.specs.View.{value_of}
-use Rattle.flow_tree.specs.Tree.{ExprTree}
+use Rattle.std.specs.declared.option.Option.{Option}
+use Rattle.flow_tree.specs.Tree.{ExprTree, returned_expr}
 use Rattle.flow_eval.specs.Eval.{Res, Done, truth_of}
 use Rattle.flow_class.specs.Classes.{TestLast, ReturnLast, RawTree}
 use Rattle.flow_class.specs.Code.{Last, fetch}
@@ -41,8 +42,8 @@ module _ (r : RawTree) (ls : List Line) (m : Process) (p : Proc Frame) (i : ℕ)
   -- the actor ends with a value, which refers to what is there
   abbrev pub ReturnStep : Type 0
   ReturnStep =
-      (x : Scan) (s : ControlPoint) (w : Supply) (t : ExprTree) (comes_to : Res ValueTree) (pace : Pace)
+      (x : Scan) (s : ControlPoint) (w : Supply) (t : Option ExprTree) (comes_to : Res ValueTree) (pace : Pace)
       (n : Process)
       → MayBeStale r ls x s m p i e f → fetch f.code f.block f.instr ≡ Last (ReturnLast t)
-      → comes_to ≡ value (class_names r) (view w i p.core) (look f.mem) t → GivesThere p comes_to
+      → comes_to ≡ value (class_names r) (view w i p.core) (look f.mem) (returned_expr t) → GivesThere p comes_to
       → Evaluates s value_of comes_to m (IsReturn s) pace n → StepsAs r ls x w p i e pace n

@@ -6,13 +6,13 @@ use Rattle.std.specs.declared.option.Option.TheVariants.{None, Some}
 use Rattle.flow_ast.specs.declared.predefined.Method.{Method}
 use Rattle.flow_ast.specs.TypingNames.{named, call_names, method_names}
 use Rattle.flow_tree.specs.declared.ty.Ident.{Ident}
-use Rattle.flow_tree.specs.Tree.{ExprTree, ExprTrees}
+use Rattle.flow_tree.specs.Tree.{TypeTree, VectorType, ExprTree, ExprTrees}
 use Rattle.flow_value.specs.declared.value.Kind.{Kind}
 use Rattle.flow_class.specs.declared.class.Slotted.{Slotted}
 use Rattle.flow_class.specs.Classes.{InstrTree, SetInstr, EffectInstr, NewInstr, ActInstr, DropInstr, LastTree, ChooseLast, CallbackTree, ClassTree, RawTree}
-use Rattle.flow_class.specs.Code.{Body, Last, fetch, group_at, callbacks_before}
+use Rattle.flow_class.specs.Code.{Body, Last, fetch, group_at, callbacks_before, type_at}
 use Rattle.flow_class.specs.Places.{place_named}
-use Rattle.flow_code.specs.Resolved.Tree.{Nodes}
+use Rattle.flow_code.specs.Resolved.Tree.{Nodes, EmptyNode}
 use Rattle.flow_code.specs.Resolved.Resolving.{IsNumbering, resolved, resolved_all}
 use Rattle.flow_code.specs.Resolved.View.{places_in}
 use Rattle.flow_code.specs.declared.class.Act.{Act}
@@ -27,12 +27,12 @@ use Rattle.flow_code.specs.declared.class.Instruction.{Instruction}
 use Rattle.flow_code.specs.declared.class.Last as code
 use Rattle.flow_code.specs.declared.program.Code.{Code}
 use Rattle.flow_code.specs.View.{code_of, aim_of, instruction_of, end_of, branch_of, group_numbered}
-use Rattle.flow_code.specs.Coding.{Coding, kind_at, act_named, last_name, before_last, effect_in, places, aimed, coded_instruction, ended, coded_branch}
+use Rattle.flow_code.specs.Coding.{Coding, act_named, last_name, before_last, effect_in, places, aimed, coded_instruction, ended, coded_branch}
 use Rattle.flow_code.specs.Coded.{coding, coded, class_named}
 use Rattle.flow_cancel.specs.Heap.{actor_id}
 use Rattle.flow_meaning.specs.Evaluating as effects
 use Rattle.flow_meaning.specs.Process.{Entry, Proc}
-use Rattle.flow_meaning.specs.Class.{class_names}
+use Rattle.flow_meaning.specs.Class.{class_names, promise_kind}
 use Rattle.flow_meaning.specs.Frame.{Frame}
 use Rattle.flow_heap_refinement.specs.FrameChanges.{HasPlace}
 use Rattle.flow_steps.specs.declared.frames.ControlPoint.{ControlPoint}
@@ -70,11 +70,14 @@ pub data CodedFrom (c : Coding) (t : ClassTree) (text : InstrTree) (code : Instr
   from_effect : (xs : List Ident) (e : ExprTree) (a : AimTree) (f : Effect × Nodes) → text
       ≡ EffectInstr xs e → aimed c xs ≡ Some a
       → effect_in c e ≡ Some f → code ≡ EffectCode a f.0 f.1 → CodedFrom c t text code
-  from_new : (q : Slotted) (n : ℕ) (k : Kind) → text ≡ NewInstr q → place_of c.slots q ≡ Some n
-      → kind_at t q ≡ Some k
+  from_new : (q : Slotted) (n : ℕ) (u : TypeTree) (k : Kind) → text ≡ NewInstr q → place_of c.slots q ≡ Some n
+      → type_at t q ≡ Some u → promise_kind u ≡ Some k
       → code ≡ NewCode n k → CodedFrom c t text code
+  from_vector : (q : Slotted) (n : ℕ) (u : TypeTree) → text ≡ NewInstr q → place_of c.slots q ≡ Some n
+      → type_at t q ≡ Some (VectorType u)
+      → code ≡ SetCode (record { place = n; path = [] }) EmptyNode → CodedFrom c t text code
   from_act : (f : Ident) (es : ExprTrees) (a : Act) → text ≡ ActInstr (f ∷ []) es
-      → act_named (named call_names f.name) (c.names.function f.name) ≡ Some a
+      → act_named (named call_names f.name) (c.names.function f.name) (c.class f.name) ≡ Some a
       → code ≡ ActCode a (resolved_all c.names es) → CodedFrom c t text code
   from_method : (x y : Ident) (ys : List Ident) (es : ExprTrees) (a : AimTree) (m : Method) → text
       ≡ ActInstr (x ∷ y ∷ ys) es

@@ -7,11 +7,11 @@ use Rattle.std.specs.declared.alloc.Global.{Global}
 use Rattle.flow_ast.specs.declared.predefined.Predefined.{Predefined}
 use Rattle.flow_ast.specs.declared.predefined.Method.{Method}
 use Rattle.flow_tree.specs.declared.ty.Ident.{Ident}
-use Rattle.flow_tree.specs.Tree.{ExprTree}
+use Rattle.flow_tree.specs.Tree.{ExprTree, ExprTrees, NoExprs, MoreExprs, returned_expr}
 use Rattle.flow_value.specs.Values.{ValueTree, OutcomeTree}
 use Rattle.flow_eval.specs.Eval.{Res}
 use Rattle.flow_code.specs.declared.expr.expr.Resolved.{Resolved}
-use Rattle.flow_class.specs.Classes.{SetInstr, NewInstr, DropInstr, ReturnLast, ChooseLast, CallbackTree, RawTree}
+use Rattle.flow_class.specs.Classes.{SetInstr, NewInstr, ActInstr, DropInstr, ReturnLast, ChooseLast, CallbackTree, RawTree}
 use Rattle.flow_class.specs.Code.{Fetched, Body, Last, fetch, callback_at}
 use Rattle.flow_code.specs.declared.class.Act.TheVariants as act
 use Rattle.flow_code.specs.declared.class.Aim.{Aim}
@@ -27,7 +27,7 @@ use Rattle.flow_trace.specs.declared.line.Line.{Line}
 use Rattle.flow_numbered.specs.Numbered.{thing}
 use Rattle.flow_meaning.specs.Requests.{Supply}
 use Rattle.flow_meaning.specs.Cells.{Ref, Cell, taken}
-use Rattle.flow_meaning.specs.Evaluating.{effect_in, value}
+use Rattle.flow_meaning.specs.Evaluating.{effect_in, value, change_by, base_of}
 use Rattle.flow_meaning.specs.Process.{Run, Entry, Proc}
 use Rattle.flow_meaning.specs.References.{Scan, refs_in, value_in}
 use Rattle.flow_meaning.specs.Orderly.{Rising}
@@ -83,11 +83,17 @@ module _ (r : RawTree) (w : Supply) (p : Proc Frame) (i : ℕ) (e : Entry) (f : 
         → effect_in (class_names r) b.operand ≡ None → GivesOperand p (value_now b.operand)
     pub kept : callback_at f.code group (length e.operands) ≡ None → AllKept
 
+  -- where a method is called its path begins with a place of the frame, and what it gets refers to what is there
+  pub record MayChange (path : List Ident) (es : ExprTrees) : Type 0 where
+    pub rooted : Rooted f (base_of path)
+    pub there : (t : ExprTree) → es ≡ MoreExprs t NoExprs → GivesThere p (value_now t)
+
   abbrev pub MayDoNext : Fetched → Type 0
   MayDoNext (Body (SetInstr path t)) = MaySet path t
   MayDoNext (Body (NewInstr q)) = HasPlace f q × Rising 0 p.core.made p.core.cells
   MayDoNext (Body (DropInstr ns)) = HasLocals f ns
-  MayDoNext (Last (ReturnLast t)) = GivesThere p (value_now t)
+  MayDoNext (Body (ActInstr path es)) = MayChange path es
+  MayDoNext (Last (ReturnLast t)) = GivesThere p (value_now (returned_expr t))
   MayDoNext (Last (ChooseLast g)) = MayChoose g
   MayDoNext _ = Unit {0}
 
@@ -100,8 +106,8 @@ pub record InProgram (r : RawTree) (code : Code) (s : ControlPoint) (f : Frame) 
   pub standing : InCode (coded_by program) s f
   pub few : length f.code.slots + length f.mem.locals ≤ 2 ^ 32
 
--- A step that asks something of the process or of the world: an effect, a call statement, a method, or an
--- operand by an effect.
+-- A step that asks something of the process or of the world: an effect, a call statement, one that starts a void actor, a
+-- method of a reference, or an operand by an effect.
 pub data Asks (code : Code) (s : ControlPoint) (m : Process) (pace : Pace) (n : Process) : Type 0 where
   by_effect : (aim : Aim) (effect : Effect) (args : Vec Resolved Global)
       → slice_get s.block.now.body.items s.instruction ≡ Some (instruction.Effect aim effect args)
@@ -109,8 +115,11 @@ pub data Asks (code : Code) (s : ControlPoint) (m : Process) (pace : Pace) (n : 
   by_act : (called : Predefined) (args : Vec Resolved Global)
       → slice_get s.block.now.body.items s.instruction ≡ Some (instruction.Act (act.World called) args)
       → Does code s (instruction.Act (act.World called) args) m pace n → Asks code s m pace n
+  by_start : (class : ℕ) (args : Vec Resolved Global)
+      → slice_get s.block.now.body.items s.instruction ≡ Some (instruction.Act (act.Actor class) args)
+      → Does code s (instruction.Act (act.Actor class) args) m pace n → Asks code s m pace n
   by_method : (aim : Aim) (method : Method) (args : Vec Resolved Global)
-      → slice_get s.block.now.body.items s.instruction ≡ Some (instruction.Method aim method args)
+      → slice_get s.block.now.body.items s.instruction ≡ Some (instruction.Method aim method args) → change_by (Some method) ≡ None
       → Does code s (instruction.Method aim method args) m pace n → Asks code s m pace n
   by_operand : (number : ℕ) (group : Group) (b : Branch) (effect : Effect) (args : Vec Resolved Global)
       → s.instruction ≡ length s.block.now.body.items → s.block.now.last ≡ last.Choose number

@@ -8,5 +8,6 @@ ghost use Rattle.flow_step_refinement.specs.Assigning as law;
 pub fn assignments_refine()
     ensures path { ForActors law.PathPut }
     ensures set { ForActors law.SetStep }
+    ensures empty { ForActors law.EmptyStep }
     ensures cell { ForActors law.NewStep }
 {}

@@ -3,7 +3,7 @@ use Rattle.std.proofs.Common.{◌≡◌, ℕ, ℤ, true, false, nat_lt, List, []
 use Rattle.std.proofs.lemmas.Option.{same_Some}
 use Rattle.std.proofs.lemmas.Result.{IfOk-weaker}
 use Rattle.std.specs.declared.option.Option.{Option}
-use Rattle.std.specs.declared.option.Option.TheVariants.{Some}
+use Rattle.std.specs.declared.option.Option.TheVariants.{None, Some}
 use Rattle.flow_base.specs.declared.ids.ActorId.{ActorId}
 use Rattle.flow_base.specs.declared.ids.CellId.{CellId}
 use Rattle.flow_ast.specs.declared.predefined.Predefined.TheVariants as predefined
@@ -38,7 +38,7 @@ use Rattle.flow_steps.specs.Doing.{turned, doing, asking, telling}
 use Rattle.flow_steps.specs.Holding.{on_heap, value_refs, Gives}
 use Rattle.flow_steps.specs.Delivering.{made, sending}
 use Rattle.flow_steps.specs.Points.{noted, values}
-use Rattle.flow_steps.specs.Acting.{Values, NewGiven, some_values, with_args, Enrols, StartTold, Starts, ActorCalled, not_called, actor_starts, EffectMade, EffectDone, Printed, IsMessage, MessageAsked, Sends}
+use Rattle.flow_steps.specs.Acting.{Values, NewGiven, some_values, with_args, Enrols, StartTold, Starts, ActorCalled, not_called, actor_starts, EnrolsAlone, StartsAlone, VoidCalled, void_not_called, void_starts, EffectMade, EffectDone, Printed, IsMessage, MessageAsked, Sends}
 use Rattle.flow_steps.proofs.Holding.{hold_append, value_alone}
 
 -- the references of arguments up to one
@@ -131,6 +131,33 @@ pub called_by : (code : Code) (caller : ActorId) (g : Goal) (class : ℕ) (args 
     → three ≡ doing (task.Run i) two → OnOk r (StartTold code class i three q) → OnOk r (ActorCalled code caller g class args p q)
 called_by code caller g class args i k r p mid one two three q t e enrols f d s =
     IfOk-weaker r _ _ (λ _ is. actor_starts (sym t) (subst (λ x. Starts code caller g class args x q) e (starts_by code caller g class args i k mid one two three q enrols f d is))) s
+
+-- a void actor is made
+pub enrols_alone_by : (code : Code) (class : ℕ) (args : List Value) (xs : List (Option Value)) (i : ActorId) (of : Class) (p held q : Process)
+    → Some of ≡ slice_get code.classes.items class → length args ≡ of.params → held ≡ on_heap (hold_all (refs_in args)) p
+    → xs ≡ some_values args → i.0 ≡ next_actor held.heap → q ≡ on_heap (started_holding class of.places xs None) held
+    → EnrolsAlone code class args i p q
+enrols_alone_by code class args xs i of p held q at params e is actor s = record {
+  of = of;
+  at = sym at;
+  params = params;
+  actor = actor ∙ ap (λ (x : Process). next_actor x.heap) e;
+  made = s ∙ ap (on_heap (started_holding class of.places xs None)) e
+      ∙ ap (λ l. on_heap (λ h. started_holding class of.places l None (hold_all (refs_in args) h)) p) is;
+}
+
+-- a void actor that is called, or isn't for want of a turn
+pub void_uncalled : (code : Code) (caller : ActorId) (class : ℕ) (args : List Value) (p q : Process) → false ≡ nat_lt 0 p.left → q ≡ turned p
+    → VoidCalled code caller class args p q
+void_uncalled code caller class args p q t e = void_not_called (sym t) e
+
+pub void_called : (code : Code) (caller : ActorId) (class : ℕ) (args : List Value) (i : ActorId) (r : Result (Unit {0}) Fault) (p mid one two three q : Process)
+    → true ≡ nat_lt 0 p.left → mid ≡ turned p → EnrolsAlone code class args i mid one → two ≡ doing (task.Run caller) one → three ≡ doing (task.Run i) two
+    → OnOk r (StartTold code class i three q) → OnOk r (VoidCalled code caller class args p q)
+void_called code caller class args i r p mid one two three q t e enrols d f s =
+    let running = f ∙ ap (doing (task.Run i)) d in
+    IfOk-weaker r _ _ (λ _ is. void_starts (sym t) (subst (λ x. StartsAlone code caller class args x q) e
+    (record { actor = i; enrolled = one; enrols = enrols; starts = subst (λ x. StartTold code class i x q) running is }))) s
 
 -- requests to a disk
 pub read_asked : (vs : List ValueTree) (file : List ℕ) (offset count : ℤ) → text_of (arg vs 0) ≡ Some file → int_of (arg vs 1) ≡ Some offset → int_of (arg vs 2) ≡ Some count

@@ -21,6 +21,7 @@ use Rattle.flow_code.specs.Resolved.View.{places_in}
 use Rattle.flow_numbered.specs.Numbered.{Store, thing}
 use Rattle.flow_frame.specs.Frames.{FrameTree, with_place}
 use Rattle.flow_code.specs.declared.class.Act.{Act}
+use Rattle.flow_code.specs.declared.class.Act.TheVariants as act
 use Rattle.flow_code.specs.declared.class.Aim.{Aim}
 use Rattle.flow_code.specs.declared.class.Branch.{Branch}
 use Rattle.flow_code.specs.declared.class.Group.{Group}
@@ -45,7 +46,7 @@ use Rattle.flow_steps.specs.Stepping.{kept_by, value_for, truth_for, values_for,
 use Rattle.flow_steps.specs.Stuck.{IfStuck, OnStuck, HasNoPoint, Missing, FrameMissing, PlaceMissing, NoPlace, PartMissing, AimsStuck, no_place, no_part}
 use Rattle.flow_steps.specs.StuckRequests.{MethodStuck}
 use Rattle.flow_steps.specs.StuckWaits.{KeepsStuck, WaitsStuck}
-use Rattle.flow_steps.specs.StuckCalls.{EvaluatesStuck}
+use Rattle.flow_steps.specs.StuckCalls.{EvaluatesStuck, EnrolsAloneStuck}
 use Rattle.flow_steps.specs.StuckSteps.{SetStuck, ActStuck, NoReferenceAt, CallsStuck, method_stuck, CallsStuckOf, MethodStepStuck, DoesStuck, TestStuck, LastStuck, ReferenceStuck, ValueKeptStuck, AsksStuck, ChoosesStuck, operand_stuck, wait_stuck, StepStuck, behind_all, by_instruction, RunsStuck, RunsNowStuck, nowhere, runs_stuck}
 use Rattle.flow_steps.proofs.Before.{with_frame_still, hold_frames, held_frames, path_nowhere}
 use Rattle.flow_steps.proofs.Amiss.{turned_heap}
@@ -147,6 +148,12 @@ pub method_gets_stuck : (code : Code) (s : ControlPoint) (aim : Aim) (m : Method
     → field_path (places_in code.fields) aim.path.items (option_map value_of (place_held s.actor.0 aim.place p.heap)) ≡ Some (RefValue kd k.0)
     → told ≡ noted (next_stand s) p → MethodStuck m kd k sent told.heap → CallsStuck code s aim m sent p
 method_gets_stuck code s aim m sent kd k p told at e x = method_stuck kd k at (subst (λ (y : Process). MethodStuck m kd k sent y.heap) e x)
+
+-- a void actor that isn't made
+pub void_gets_stuck : (code : Code) (s : ControlPoint) (a : Act) (class : ℕ) (args : Vec Value Global) (p told : Process) → a ≡ act.Actor class
+    → told ≡ noted (next_stand s) p → EnrolsAloneStuck code class args.items told.heap → ActStuck code s a args p
+void_gets_stuck code s a class args p told is e m =
+    subst (λ (x : Act). ActStuck code s x args p) (sym is) (inr (subst (λ (x : Process). EnrolsAloneStuck code class args.items x.heap) e m))
 
 -- instructions by their kinds
 pub acts_get_stuck : {T : Type 0} (code : Code) (s : ControlPoint) (x : Instruction) (a : Act) (args : Vec Resolved Global) (es : List Resolved) (r : Result T Fault) (p : Process)

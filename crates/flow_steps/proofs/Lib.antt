@@ -16,3 +16,4 @@ pub mod Amiss
 pub mod Called
 pub mod TasksAmiss
 pub mod Going
+pub mod InPlace

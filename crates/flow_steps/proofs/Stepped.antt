@@ -43,7 +43,7 @@ use Rattle.flow_steps.specs.Points.{noted, noted_stand, GoesTo, next_stand, plac
 use Rattle.flow_steps.specs.Waiting.{Waits}
 use Rattle.flow_steps.specs.Acting.{args_of, MethodCalled}
 use Rattle.flow_steps.specs.Evaluating.{Evaluates}
-use Rattle.flow_steps.specs.Stepping.{value_for, truth_for, values_for, truth_value, IsAct, IsMethodOf, MethodStep, Does, IsTest, Ends, StepsOn, by_instruction, OnAfter, IsSet, made_in_place, IsNew, IsMethod, GoesOnAt, Passes, no_pass, pass_begins, OperandStep, Chooses, asks_operand, all_kept, IsChoose, kept_by, IsClose, ended, IsReturn}
+use Rattle.flow_steps.specs.Stepping.{value_for, truth_for, values_for, truth_value, IsAct, IsMethodOf, MethodStep, Does, IsTest, Ends, StepsOn, by_instruction, OnAfter, IsSet, made_in_place, IsNew, IsCall, GoesOnAt, Passes, no_pass, pass_begins, OperandStep, Chooses, asks_operand, all_kept, IsChoose, kept_by, IsClose, ended, IsReturn}
 
 -- values are left over, or one
 pub after_values : (s : ControlPoint) (vs : List Value) (p told on q : Process) → 0 < length vs → told ≡ noted s p → on ≡ doing (task.Run s.actor) told
@@ -90,7 +90,7 @@ new_by s t place kd k old r p one two three q n e f g held m after =
 -- a method of a reference
 pub method_by : (code : Code) (s : ControlPoint) (aim : Aim) (m : Method) (sent : Option Value) (kd : Kind) (k : CellId) (p told q : Process)
     → field_path (places_in code.fields) aim.path.items (option_map value_of (place_held s.actor.0 aim.place p.heap)) ≡ Some (RefValue kd k.0)
-    → told ≡ noted (next_stand s) p → MethodCalled s.actor m kd k sent told q → IsMethod code s aim m sent p Off q
+    → told ≡ noted (next_stand s) p → MethodCalled s.actor m kd k sent told q → IsCall code s aim m sent p Off q
 method_by code s aim m sent kd k p told q a n c =
     record { kind = kd; cell = k; aims = a; off = refl; calls = subst (λ x. MethodCalled s.actor m kd k sent x q) n c }
 

@@ -1,7 +1,7 @@
 -- Effects and call statements of actors.
 use Rattle.std.specs.Prelude.{◌≡◌, ℕ, ℤ, true, false, nat_lt, List, map, length, slice_get}
 use Rattle.std.specs.declared.option.Option.{Option}
-use Rattle.std.specs.declared.option.Option.TheVariants.{Some}
+use Rattle.std.specs.declared.option.Option.TheVariants.{None, Some}
 use Rattle.std.specs.declared.vec.Vec.{Vec}
 use Rattle.std.specs.declared.alloc.Global.{Global}
 use Rattle.flow_base.specs.declared.ids.ActorId.{ActorId}
@@ -125,6 +125,29 @@ pub record Starts (code : Code) (caller : ActorId) (g : Goal) (class : ℕ) (arg
 pub data ActorCalled (code : Code) (caller : ActorId) (g : Goal) (class : ℕ) (args : List Value) (p q : Process) : Type 0 where
   not_called : nat_lt 0 p.left ≡ false → q ≡ turned p → ActorCalled code caller g class args p q
   actor_starts : nat_lt 0 p.left ≡ true → Starts code caller g class args (turned p) q → ActorCalled code caller g class args p q
+
+-- A void actor of the class at a place is made, with these arguments: its number and its frame.
+abbrev pub enrolled_alone : (class places : ℕ) → List Value → HeapTree → HeapTree
+enrolled_alone class places args h = started_holding class places (some_values args) None (hold_all (refs_in args) h)
+
+pub record EnrolsAlone (code : Code) (class : ℕ) (args : List Value) (i : ActorId) (p q : Process) : Type 0 where
+  pub of : Class
+  pub at : slice_get code.classes.items class ≡ Some of
+  pub params : length args ≡ of.params
+  pub actor : i.0 ≡ next_actor (hold_all (refs_in args) p.heap)
+  pub made : q ≡ on_heap (enrolled_alone class of.places args) p
+
+-- The call of a void actor: the new actor runs, and then the caller goes on.
+pub record StartsAlone (code : Code) (caller : ActorId) (class : ℕ) (args : List Value) (p q : Process) : Type 0 where
+  pub actor : ActorId
+  pub enrolled : Process
+  pub enrols : EnrolsAlone code class args actor p enrolled
+  pub starts : StartTold code class actor (doing (task.Run actor) (doing (task.Run caller) enrolled)) q
+
+-- where a turn is left
+pub data VoidCalled (code : Code) (caller : ActorId) (class : ℕ) (args : List Value) (p q : Process) : Type 0 where
+  void_not_called : nat_lt 0 p.left ≡ false → q ≡ turned p → VoidCalled code caller class args p q
+  void_starts : nat_lt 0 p.left ≡ true → StartsAlone code caller class args (turned p) q → VoidCalled code caller class args p q
 
 -- An effect with its arguments known; the frame of the actor says where it stands.
 abbrev pub EffectMade : Code → ActorId → Goal → Effect → Values → Process → Process → Type 0

@@ -5,14 +5,15 @@ use Rattle.std.specs.declared.option.Option.{Option}
 use Rattle.std.specs.declared.option.Option.TheVariants.{None, Some}
 use Rattle.flow_base.specs.declared.ids.ActorId.{ActorId}
 use Rattle.flow_base.specs.declared.ids.CellId.{CellId}
-use Rattle.flow_tree.specs.declared.limits.TheConstants.{CALL_DEPTH}
+use Rattle.flow_base.specs.declared.errors.TheConstants.{TOO_LONG}
+use Rattle.flow_tree.specs.declared.limits.TheConstants.{CALL_DEPTH, ELEMENTS}
 use Rattle.flow_ast.specs.declared.predefined.Method.{Method}
 use Rattle.flow_value.specs.declared.value.Value.{Value}
 use Rattle.flow_value.specs.declared.value.Value.TheVariants as value
 use Rattle.flow_value.specs.declared.value.Outcome.{Outcome}
 use Rattle.flow_value.specs.declared.value.Outcome.TheVariants as outcome
 use Rattle.flow_value.specs.declared.value.Kind.{Kind}
-use Rattle.flow_value.specs.Values.{ValueTree, BoolValue, ErrorValue, RefValue}
+use Rattle.flow_value.specs.Values.{ValueTree, ValueTrees, NoValues, BoolValue, ErrorValue, CompositeValue, ListWhole, RefValue, count_of, with_last}
 use Rattle.flow_value.specs.View.{value_of}
 use Rattle.flow_eval.specs.Eval.{Res, truth_of, function_called}
 use Rattle.flow_eval.specs.Functions.{run_function}
@@ -48,7 +49,9 @@ use Rattle.flow_steps.specs.Delivering.{made}
 use Rattle.flow_steps.specs.Points.{noted, noted_stand, GoesTo, next_stand, place_held, place_put, places_taken, places_emptied, referring, lost_from, field_path, Assigns}
 use Rattle.flow_steps.specs.Waiting.{KeepsOperand, Waits, callbacks_of}
 use Rattle.flow_steps.specs.Evaluating.{setting_in, sight_in, Evaluates}
-use Rattle.flow_steps.specs.Acting.{Values, args_of, IsEffect, PredefinedCalled, MethodCalled}
+use Rattle.flow_meaning.specs.Evaluating.{Change, change_by}
+use Rattle.flow_meaning.specs.Evaluating as change
+use Rattle.flow_steps.specs.Acting.{Values, args_of, IsEffect, VoidCalled, PredefinedCalled, MethodCalled}
 
 -- an expression of an actor, one that is a truth value, and arguments in order
 abbrev pub value_for : Code → (actor : ℕ) → Resolved → Process → Res ValueTree
@@ -82,6 +85,10 @@ pub record IsNew (s : ControlPoint) (place : ℕ) (kd : Kind) (p : Process) (pac
   pub after : OnAfter (next_stand s) (referring (place_held s.actor.0 place (hold kd cell.0 (made kd p.heap))))
       (on_heap (made_in_place s.actor.0 place kd cell) p) pace q
 
+-- what an actor aims at
+abbrev pub aimed_value : Code → (actor : ℕ) → Aim → Process → Option ValueTree
+aimed_value code i aim p = field_path (places_in code.fields) aim.path.items (option_map value_of (place_held i aim.place p.heap))
+
 -- A plain function is called, and its value forgotten.
 abbrev pub GoesNext : {A : Type 0} → ControlPoint → A → Process → Pace → Process → Type 0
 GoesNext s a p pace q = (pace ≡ On (next_stand s)) × (q ≡ p)
@@ -98,9 +105,10 @@ FunctionCalled code s f args p pace q = Evaluates s value_of (function_result co
 abbrev pub IsAct : Code → ControlPoint → Act → Values → Process → Pace → Process → Type 0
 IsAct code s (act.World called) args p pace q = (pace ≡ Off) × PredefinedCalled s.actor called args (noted (next_stand s) p) q
 IsAct code s (act.Function f) args p pace q = FunctionCalled code s f args p pace q
+IsAct code s (act.Actor class) args p pace q = (pace ≡ Off) × VoidCalled code s.actor class args.items (noted (next_stand s) p) q
 
 -- A method of the reference at which an actor aims, with what is sent known.
-pub record IsMethod (code : Code) (s : ControlPoint) (aim : Aim) (m : Method) (sent : Option Value) (p : Process) (pace : Pace)
+pub record IsCall (code : Code) (s : ControlPoint) (aim : Aim) (m : Method) (sent : Option Value) (p : Process) (pace : Pace)
     (q : Process) : Type 0 where
   pub kind : Kind
   pub cell : CellId
@@ -108,6 +116,43 @@ pub record IsMethod (code : Code) (s : ControlPoint) (aim : Aim) (m : Method) (s
       ≡ Some (RefValue kind cell.0)
   pub off : pace ≡ Off
   pub calls : MethodCalled s.actor m kind cell sent (noted (next_stand s) p) q
+
+-- A change of the vector at which an actor aims: another value is put in its place.
+pub record IsChanged (code : Code) (i : ActorId) (aim : Aim) (es new : ValueTrees) (p : Process) (old : Option Value)
+    (q : Process) : Type 0 where
+  pub vector : Value
+  pub is : value_of vector ≡ CompositeValue ListWhole new
+  pub was : option_map value_of old ≡ Some (CompositeValue ListWhole es)
+  pub assigns : Assigns code.fields i aim vector p old q
+
+-- A vector grows by an element, of which what it refers to counts, and nothing is dropped; or it is full, and an error is thrown.
+pub data Grows (code : Code) (s : ControlPoint) (aim : Aim) (v : Value) (p : Process) : Pace → Process → Type 0 where
+  grown : (es : ValueTrees) (old : Option Value) (q : Process) → nat_lt (count_of es) ELEMENTS ≡ true
+      → IsChanged code s.actor aim es (with_last es (value_of v)) (on_heap (hold_all (value_refs v)) p) old q
+      → Grows code s aim v p (On (next_stand s)) q
+  is_full : (es : ValueTrees) (q : Process) → aimed_value code s.actor.0 aim p ≡ Some (CompositeValue ListWhole es)
+      → nat_lt (count_of es) ELEMENTS ≡ false → q ≡ doing (task.Throw s.actor TOO_LONG) (noted s p) → Grows code s aim v p Off q
+
+-- A vector is cleared: the empty one stands in its place, and then what the old one refers to is dropped.
+pub record Clears (code : Code) (s : ControlPoint) (aim : Aim) (p : Process) (pace : Pace) (q : Process) : Type 0 where
+  pub elements : ValueTrees
+  pub old : Option Value
+  pub between : Process
+  pub changed : IsChanged code s.actor aim elements NoValues p old between
+  pub after : OnAfter (next_stand s) (referring old) between pace q
+
+abbrev pub IsChange : Code → ControlPoint → Aim → Change → Option Value → Process → Pace → Process → Type 0
+IsChange code s aim change.Grows (Some v) p pace q = Grows code s aim v p pace q
+IsChange code s aim change.Grows None p pace q = ⊥
+IsChange code s aim change.Clears sent p pace q = Clears code s aim p pace q
+
+-- a method of a reference or of a vector
+abbrev pub IsMethodBy : Option Change → Code → ControlPoint → Aim → Method → Option Value → Process → Pace → Process → Type 0
+IsMethodBy None code s aim m sent p pace q = IsCall code s aim m sent p pace q
+IsMethodBy (Some how) code s aim m sent p pace q = IsChange code s aim how sent p pace q
+
+abbrev pub IsMethod : Code → ControlPoint → Aim → Method → Option Value → Process → Pace → Process → Type 0
+IsMethod code s aim m sent p pace q = IsMethodBy (change_by (Some m)) code s aim m sent p pace q
 
 abbrev pub IsMethodOf : Code → ControlPoint → Aim → Method → Value → Process → Pace → Process → Type 0
 IsMethodOf code s aim m v p pace q = IsMethod code s aim m (Some v) p pace q

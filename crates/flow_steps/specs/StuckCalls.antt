@@ -43,6 +43,13 @@ pub data EnrolsStuck (code : Code) (class : ℕ) (args : List Value) (h : HeapTr
   args_missing : SomeMissing (refs_in args) (with_result (next_cell h) h) → EnrolsStuck code class args h
   no_result : may_start (Some (cell_id (next_cell h))) (with_args args h) ≡ false → EnrolsStuck code class args h
 
+-- no void actor is made
+pub data EnrolsAloneStuck (code : Code) (class : ℕ) (args : List Value) (h : HeapTree) : Type 0 where
+  no_void_class : slice_get code.classes.items class ≡ None → EnrolsAloneStuck code class args h
+  other_void_params : (c : Class) → slice_get code.classes.items class ≡ Some c → (length args ≡ c.params → ⊥)
+      → EnrolsAloneStuck code class args h
+  void_args_missing : SomeMissing (refs_in args) h → EnrolsAloneStuck code class args h
+
 -- an effect has no meaning, or no actor is made
 abbrev pub MakesStuck : Code → Effect → Values → HeapTree → Type 0
 MakesStuck code (effect.World called) args h = world_effect called (args_of args) ≡ None

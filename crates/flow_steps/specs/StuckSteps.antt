@@ -8,7 +8,7 @@ use Rattle.flow_base.specs.declared.ids.CellId.{CellId}
 use Rattle.flow_ast.specs.declared.predefined.Method.{Method}
 use Rattle.flow_value.specs.declared.value.Value.{Value}
 use Rattle.flow_value.specs.declared.value.Kind.{Kind}
-use Rattle.flow_value.specs.Values.{ValueTree, ErrorValue, RefValue}
+use Rattle.flow_value.specs.Values.{ValueTree, ValueTrees, ErrorValue, CompositeValue, ListWhole, RefValue}
 use Rattle.flow_value.specs.View.{value_of}
 use Rattle.flow_code.specs.declared.expr.expr.Resolved.{Resolved}
 use Rattle.flow_code.specs.Resolved.View.{places_in}
@@ -34,11 +34,13 @@ use Rattle.flow_steps.specs.declared.process.Process.{Process}
 use Rattle.flow_steps.specs.Holding.{value_refs}
 use Rattle.flow_steps.specs.Points.{IsAtPoint, noted, noted_stand, next_stand, place_held, field_path}
 use Rattle.flow_steps.specs.Acting.{Values, args_of}
-use Rattle.flow_steps.specs.Stepping.{StepsOn, kept_by, function_result, value_for, truth_for, values_for, truth_value}
+use Rattle.flow_meaning.specs.Evaluating.{Change, change_by}
+use Rattle.flow_meaning.specs.Evaluating as change
+use Rattle.flow_steps.specs.Stepping.{StepsOn, kept_by, aimed_value, function_result, value_for, truth_for, values_for, truth_value}
 use Rattle.flow_steps.specs.Stuck.{Missing, SomeMissing, FrameMissing, NoPlace, SomePlaceMissing, BlockMissing, HasNoPoint, AimsStuck}
 use Rattle.flow_steps.specs.StuckWaits.{KeepsStuck, WaitsStuck}
 use Rattle.flow_steps.specs.StuckRequests.{PredefinedStuck, MethodStuck}
-use Rattle.flow_steps.specs.StuckCalls.{EvaluatesStuck, EffectStuck}
+use Rattle.flow_steps.specs.StuckCalls.{EvaluatesStuck, EnrolsAloneStuck, EffectStuck}
 
 -- a value isn't assigned: it refers to what isn't there, or the actor aims at nothing
 abbrev pub SetStuck : Code → ControlPoint → Aim → Value → Process → Type 0
@@ -58,6 +60,8 @@ FunctionStuck code s f args p = EvaluatesStuck s value_of (function_result code 
 abbrev pub ActStuck : Code → ControlPoint → Act → Values → Process → Type 0
 ActStuck code s (act.World called) args p = FrameMissing s.actor.0 p.heap ⊎ PredefinedStuck s.actor called args
 ActStuck code s (act.Function f) args p = FunctionStuck code s f args p
+ActStuck code s (act.Actor class) args p =
+    FrameMissing s.actor.0 p.heap ⊎ EnrolsAloneStuck code class args.items (noted (next_stand s) p).heap
 
 -- where an actor aims there is no reference
 abbrev pub NoReferenceAt : Code → (actor : ℕ) → Aim → HeapTree → Type 0
@@ -73,11 +77,29 @@ pub data CallsStuck (code : Code) (s : ControlPoint) (aim : Aim) (m : Method) (s
       ≡ Some (RefValue kd k.0)
       → MethodStuck m kd k sent (noted (next_stand s) p).heap → CallsStuck code s aim m sent p
 
+-- where an actor aims there is no vector
+abbrev pub NoVectorAt : Code → (actor : ℕ) → Aim → Process → Type 0
+NoVectorAt code i aim p = (es : ValueTrees) → aimed_value code i aim p ≡ Some (CompositeValue ListWhole es) → ⊥
+
+-- a vector isn't changed: there is none, or the actor has no frame, or an element refers to what isn't there
+abbrev pub ChangeStuck : Code → ControlPoint → Aim → Change → Option Value → Process → Type 0
+ChangeStuck code s aim change.Grows None p = Unit {0}
+ChangeStuck code s aim change.Grows (Some v) p =
+    NoVectorAt code s.actor.0 aim p ⊎ FrameMissing s.actor.0 p.heap ⊎ SomeMissing (value_refs v) p.heap
+ChangeStuck code s aim change.Clears sent p = NoVectorAt code s.actor.0 aim p ⊎ FrameMissing s.actor.0 p.heap
+
+abbrev pub MethodStuckBy : Option Change → Code → ControlPoint → Aim → Method → Option Value → Process → Type 0
+MethodStuckBy None code s aim m sent p = CallsStuck code s aim m sent p
+MethodStuckBy (Some how) code s aim m sent p = ChangeStuck code s aim how sent p
+
+abbrev pub MethodDoneStuck : Code → ControlPoint → Aim → Method → Option Value → Process → Type 0
+MethodDoneStuck code s aim m sent p = MethodStuckBy (change_by (Some m)) code s aim m sent p
+
 abbrev pub CallsStuckOf : Code → ControlPoint → Aim → Method → Value → Process → Type 0
-CallsStuckOf code s aim m v p = CallsStuck code s aim m (Some v) p
+CallsStuckOf code s aim m v p = MethodDoneStuck code s aim m (Some v) p
 
 abbrev pub MethodStepStuck : Code → ControlPoint → Aim → Method → List Resolved → Process → Type 0
-MethodStepStuck code s aim m [] p = CallsStuck code s aim m None p
+MethodStepStuck code s aim m [] p = MethodDoneStuck code s aim m None p
 MethodStepStuck code s aim m (e ∷ []) p = EvaluatesStuck s value_of (value_for code s.actor.0 e p) p (CallsStuckOf code s aim m)
 MethodStepStuck code s aim m _ p = Unit {0}
 

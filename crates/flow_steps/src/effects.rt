@@ -10,13 +10,13 @@ ghost use Rattle.flow_cancel.specs.Dropping.{refs_in};
 ghost use Rattle.flow_meaning.specs.Requests.{Disk};
 ghost use Rattle.flow_meaning.specs.Evaluating.{world_effect};
 ghost use Rattle.flow_heap_refinement.specs.Holds.{hold_all};
-ghost use Rattle.flow_steps.specs.Acting.{args_of, disk_of, some_values, Enrols, StartTold, ActorCalled, WorldAsked, EffectMade, EffectDone, IsEffect};
+ghost use Rattle.flow_steps.specs.Acting.{args_of, disk_of, some_values, Enrols, StartTold, ActorCalled, EnrolsAlone, VoidCalled, WorldAsked, EffectMade, EffectDone, IsEffect};
 ghost use Rattle.flow_value.specs.declared.value.Value.TheVariants.{Ref};
 ghost use Rattle.flow_cancel.specs.Heap.{next_cell};
 ghost use Rattle.flow_steps.specs.Holding.{on_heap, Gives};
 ghost use Rattle.flow_steps.specs.Delivering.{made, OpenGiven, PortGiven};
 ghost use Rattle.flow_steps.specs.Stuck.{OnStuck, SomeMissing};
-ghost use Rattle.flow_steps.specs.StuckCalls.{EnrolsStuck, MakesStuck, EffectDoneStuck, EffectStuck};
+ghost use Rattle.flow_steps.specs.StuckCalls.{EnrolsStuck, EnrolsAloneStuck, MakesStuck, EffectDoneStuck, EffectStuck};
 
 use crate::call::{Call, DiskCall, Goal};
 use crate::errors::Fault;
@@ -322,6 +322,47 @@ impl Process {
         }
         let (actor, cell) = self.enrol(code, number, args)?;
         self.gives(caller, goal, Value::Ref(Kind::Future, cell))?;
+        self.heap.push(Task::Run(actor))?;
+        self.tell_start(code, number, actor)
+    }
+
+    // A void actor of the class at a place is made, with these arguments: its number and its frame.
+    fn enrol_alone(&mut self, code: &Code, number: u32, args: Vec<Value>) -> Result<ActorId, Fault>
+        ensures done { IfOk result (λ i. EnrolsAlone code.now number args.items i self.old
+            self.new) }
+        ensures stuck { OnStuck result (EnrolsAloneStuck code.now number args.items
+            self.old.heap) }
+    {
+        let Some(class) = code.class(number) else {
+            return Err(Fault::Stuck);
+        };
+        if args.len() != class.params as usize {
+            return Err(Fault::Stuck);
+        }
+        let filled = self.fill_places(args, class.places)?;
+        let actor = self.heap.start_holding(number, class.places, filled, None)?;
+        Ok(actor)
+    }
+
+    /// A turn, and a void actor is made and runs; then the caller goes on.
+    #[tactic(auto, using(crate::proofs::Acts::void_uncalled, crate::proofs::Acts::void_called))]
+    pub(crate) fn call_void(
+        &mut self,
+        code: &Code,
+        caller: ActorId,
+        number: u32,
+        args: Vec<Value>,
+    ) -> Result<(), Fault>
+        ensures done { OnOk result (VoidCalled code.now caller number args.items self.old
+            self.new) }
+        ensures stuck { OnStuck result (EnrolsAloneStuck code.now number args.items
+            self.old.heap) }
+    {
+        if !self.turn() {
+            return Ok(());
+        }
+        let actor = self.enrol_alone(code, number, args)?;
+        self.heap.push(Task::Run(caller))?;
         self.heap.push(Task::Run(actor))?;
         self.tell_start(code, number, actor)
     }

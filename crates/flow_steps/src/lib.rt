@@ -16,5 +16,6 @@ pub mod process;
 pub mod resting;
 mod seen;
 mod steps;
+mod vectors;
 pub mod views;
 mod work;

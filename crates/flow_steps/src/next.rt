@@ -19,11 +19,11 @@ ghost use Rattle.flow_steps.specs.Seen.{contents_seen};
 ghost use Rattle.flow_steps.specs.Points.{noted, place_held, places_taken, places_emptied, referring, field_path, next_stand};
 ghost use Rattle.flow_steps.specs.Holding.{on_heap};
 ghost use Rattle.flow_steps.specs.Acting.{args_of};
-ghost use Rattle.flow_steps.specs.Stepping.{OnAfter, Does, Ends, StepsOn, Runs, GoesOn, IsSet, IsNew, IsAct, IsChoose, IsMethod, MethodStep, function_result, FunctionCalled, Passes, IsTest, OperandStep, OperandKept, IsReturn, IsThrow, value_for, truth_for, values_for, truth_value};
+ghost use Rattle.flow_steps.specs.Stepping.{OnAfter, Does, Ends, StepsOn, Runs, GoesOn, IsSet, IsNew, IsAct, IsChoose, IsCall, IsMethod, MethodStep, function_result, FunctionCalled, Passes, IsTest, OperandStep, OperandKept, IsReturn, IsThrow, value_for, truth_for, values_for, truth_value};
 ghost use Rattle.flow_steps.specs.Tasks.{RunsNow};
 ghost use Rattle.flow_steps.specs.Stuck.{OnStuck, FrameMissing, NoPlace, BlockMissing};
 ghost use Rattle.flow_steps.specs.StuckCalls.{HaltsStuck, EvaluatesStuck};
-ghost use Rattle.flow_steps.specs.StuckSteps.{SetStuck, EmptiesStuck, FunctionStuck, ActStuck, NoReferenceAt, CallsStuck, MethodStepStuck, DoesStuck, TestStuck, ValueKeptStuck, AsksStuck, ChoosesStuck, ReturnStuck, ThrowStuck, LastStuck, StepStuck, RunsStuck, GoesStuck, RunsNowStuck};
+ghost use Rattle.flow_steps.specs.StuckSteps.{SetStuck, EmptiesStuck, FunctionStuck, ActStuck, NoReferenceAt, CallsStuck, MethodDoneStuck, MethodStepStuck, DoesStuck, TestStuck, ValueKeptStuck, AsksStuck, ChoosesStuck, ReturnStuck, ThrowStuck, LastStuck, StepStuck, RunsStuck, GoesStuck, RunsNowStuck};
 
 use crate::branches::branch_in;
 use crate::call::Goal;
@@ -56,7 +56,7 @@ pub enum Pace<'a> {
 }
 
 /// The part of a value to which fields with names of these numbers lead.
-fn part<'a>(fields: &FieldNames, value: &'a Value, path: &[usize]) -> Option<&'a Value>
+pub(crate) fn part<'a>(fields: &FieldNames, value: &'a Value, path: &[usize]) -> Option<&'a Value>
     ensures done { IfSome result (λ v. field_path (places_in fields.now) path.now
         (Some (value_of value.now)) ≡ Some (value_of v.now)) }
     ensures none { IsNone result → field_path (places_in fields.now) path.now
@@ -416,7 +416,7 @@ impl Process {
         self.on_after(next, old)
     }
 
-    // A call statement without a base: a predefined one, or a function of the program, whose value is forgotten.
+    // A call statement without a base: a predefined one, a function of the program, whose value is forgotten, or a void actor.
     fn act<'a>(
         &mut self,
         code: &Code,
@@ -456,11 +456,16 @@ impl Process {
                 Ok(Pace::Off)
             }
             Act::Function(function) => self.call_function(code, stand, function, args),
+            Act::Actor(class) => {
+                self.go_on(stand)?;
+                self.call_void(code, stand.actor, class, args)?;
+                Ok(Pace::Off)
+            }
         }
     }
 
+    // A method of what an actor aims at.
     #[tactic(auto, using(crate::proofs::Going::more_stuck))]
-    // A method of the reference at which an actor aims.
     fn method<'a>(
         &mut self,
         code: &Code,
@@ -484,8 +489,7 @@ impl Process {
         }
     }
 
-    #[tactic(auto, using(crate::proofs::Stepped::method_by))]
-    // That, with what is sent known.
+    // That, with its argument known: a vector changes, or what is sent goes to a reference.
     fn method_with<'a>(
         &mut self,
         code: &Code,
@@ -495,6 +499,39 @@ impl Process {
         sent: Option<Value>,
     ) -> Result<Pace<'a>, Fault>
         ensures done { IfOk result (λ pace. IsMethod code.now stand.now aim.now method sent self.old
+            pace self.new) }
+        ensures stuck { OnStuck result (MethodDoneStuck code.now stand.now aim.now method sent
+            self.old) }
+    {
+        match method {
+            Method::PushBack => match sent {
+                Some(element) => self.grow(code, stand, aim, element),
+                None => Err(Fault::Stuck),
+            },
+            Method::Clear => self.clear(code, stand, aim),
+            Method::Code | Method::Size | Method::Substr | Method::At => {
+                self.call_reference(code, stand, aim, method, sent)
+            }
+            Method::IsReady | Method::IsError | Method::Get | Method::GetFuture | Method::IsSet => {
+                self.call_reference(code, stand, aim, method, sent)
+            }
+            Method::Send | Method::SendError | Method::Cancel => {
+                self.call_reference(code, stand, aim, method, sent)
+            }
+        }
+    }
+
+    // A method of the reference at which an actor aims.
+    #[tactic(auto, using(crate::proofs::Stepped::method_by))]
+    fn call_reference<'a>(
+        &mut self,
+        code: &Code,
+        stand: &ControlPoint<'a>,
+        aim: &Aim,
+        method: Method,
+        sent: Option<Value>,
+    ) -> Result<Pace<'a>, Fault>
+        ensures done { IfOk result (λ pace. IsCall code.now stand.now aim.now method sent self.old
             pace self.new) }
         ensures stuck { OnStuck result (CallsStuck code.now stand.now aim.now method sent
             self.old) }

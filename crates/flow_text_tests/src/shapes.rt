@@ -43,6 +43,10 @@ pub fn shape(expr: &Expr, out: &mut String) -> Result<(), NoMemory> {
             shapes(args, out)?;
             put("]", out)
         }
+        Expr::Index(of, index) => {
+            node("[at", of, "", out)?;
+            node("", index, "]", out)
+        }
         Expr::Not(of) => node("[!", of, "]", out),
         Expr::Neg(of) => node("[-", of, "]", out),
         Expr::Binary(op, left, right) => {
@@ -90,6 +94,7 @@ pub fn type_shape(ty: &Ty, out: &mut String) -> Result<(), NoMemory> {
         Ty::FutureStream(of) => type_node("[FS ", of, out),
         Ty::Promise(of) => type_node("[P ", of, out),
         Ty::PromiseStream(of) => type_node("[PS ", of, out),
+        Ty::Vector(of) => type_node("[V ", of, out),
     }
 }
 

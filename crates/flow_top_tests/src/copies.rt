@@ -9,6 +9,7 @@ use flow_tree::fault::SourceFault;
 use flow_tree::limits::PROGRAM_BYTES;
 use flow_tree::stmt::Stmt;
 use flow_tree::token::Tokens;
+use flow_tree::ty::copy_result;
 use std::alloc::Global;
 
 // Each parameter, copied by way of a slot.
@@ -62,7 +63,7 @@ fn made_of_copies(alloc: Global, decl: &Decl) -> Result<Decl, NoMemory> {
         })),
         Decl::Actor(actor) => Ok(Decl::Actor(ActorDecl {
             at: actor.at,
-            returns: actor.returns.copy(alloc)?,
+            returns: copy_result(alloc, &actor.returns)?,
             name: actor.name.copy(alloc)?,
             params: copied_params(alloc, &actor.params)?,
             body: copied_stmts(alloc, &actor.body)?,

@@ -1,5 +1,5 @@
 -- The mirror of each node of the code's trees.
-use Rattle.std.proofs.Common.{◌≡◌, sym, ap, ap₂, ◌∙◌}
+use Rattle.std.proofs.Common.{◌≡◌, sym, ap, ap₂, subst, ◌∙◌}
 use Rattle.std.specs.Option.{option_map}
 use Rattle.std.specs.declared.option.Option.{Option}
 use Rattle.std.specs.declared.option.Option.TheVariants.{None, Some}
@@ -10,8 +10,9 @@ use Rattle.flow_base.specs.declared.place.Place.{Place}
 use Rattle.flow_tree.specs.declared.ty.Ident.{Ident}
 use Rattle.flow_tree.specs.declared.ty.Ty.{Ty}
 use Rattle.flow_tree.specs.declared.ty.Ty.TheOpen as type_layer
+use Rattle.flow_tree.specs.declared.ty.Ty.TheOpen.{Ty-F}
 use Rattle.flow_tree.specs.declared.ty.Ty.TheVariants as type
-use Rattle.flow_tree.specs.declared.ty.Ty.TheFolds.{fold-roll-Ty}
+use Rattle.flow_tree.specs.declared.ty.Ty.TheFolds.{fold-roll-Ty, fold_out-Ty}
 use Rattle.flow_tree.specs.declared.expr.Op.{Op}
 use Rattle.flow_tree.specs.declared.expr.Expr.{Expr}
 use Rattle.flow_tree.specs.declared.expr.Expr.TheOpen as expr_layer
@@ -28,7 +29,7 @@ use Rattle.flow_tree.specs.declared.stmt.StmtKind.TheOpen as layer
 use Rattle.flow_tree.specs.declared.stmt.StmtKind.TheVariants as kind
 use Rattle.flow_tree.specs.View.{type_of, type_step, expr_of, expr_step, exprs_of}
 use Rattle.flow_tree.specs.StmtView.{into_of, waiting_of, change_of, kind_of, kind_step, stmt_of, stmt_step, branch_step, simple_of, body_of, branches_of}
-use Rattle.flow_tree.specs.Tree.{ByName, TypeTree, ExprTree, FutureType, FutureStreamType, PromiseType, PromiseStreamType, CallExpr, FieldExpr, MethodExpr, NotExpr, NegExpr, BinaryExpr, ParenExpr}
+use Rattle.flow_tree.specs.Tree.{ByName, TypeTree, ExprTree, FutureType, FutureStreamType, PromiseType, PromiseStreamType, VectorType, CallExpr, FieldExpr, MethodExpr, NotExpr, NegExpr, BinaryExpr, ParenExpr, indexed}
 use Rattle.flow_tree.specs.Body.{Body, Branches, BlockStmt, IfStmt, IfElseStmt, WhileStmt, ForStmt, LoopStmt, BreakStmt, ContinueStmt, ReturnStmt, ThrowStmt, TryStmt, ChooseStmt, DeclareStmt, AssignStmt, ModifyStmt, CallStmt, WaitStmt}
 
 pub type_future : (t : Box Ty Global) → type_of (type.Future t) ≡ FutureType (type_of t.value)
@@ -43,6 +44,13 @@ type_promise t = ap type_of (sym (type.rolls-Promise t)) ∙ fold-roll-Ty TypeTr
 pub type_promise_stream : (t : Box Ty Global) → type_of (type.PromiseStream t) ≡ PromiseStreamType (type_of t.value)
 type_promise_stream t = ap type_of (sym (type.rolls-PromiseStream t)) ∙ fold-roll-Ty TypeTree type_step (type_layer.PromiseStream t)
 
+pub type_vector : (t : Box Ty Global) → type_of (type.Vector t) ≡ VectorType (type_of t.value)
+type_vector t = ap type_of (sym (type.rolls-Vector t)) ∙ fold-roll-Ty TypeTree type_step (type_layer.Vector t)
+
+-- what holds of each layer of types holds of each type of the code
+pub by_layer : (P : TypeTree → Type 0) → ((l : Ty-F TypeTree) → P (type_step l)) → (t : Ty) → P (type_of t)
+by_layer P h t = subst P (sym (fold_out-Ty TypeTree type_step t)) (h _)
+
 pub expr_call : (f : Ident) (xs : Vec Expr Global) → expr_of (expr.Call f xs) ≡ CallExpr f (exprs_of xs.items)
 expr_call f xs = ap expr_of (sym (expr.rolls-Call f xs)) ∙ fold-roll-Expr ExprTree expr_step (expr_layer.Call f xs)
 
@@ -51,6 +59,9 @@ expr_field e x = ap expr_of (sym (expr.rolls-Field e x)) ∙ fold-roll-Expr Expr
 
 pub expr_method : (e : Box Expr Global) (f : Ident) (xs : Vec Expr Global) → expr_of (expr.Method e f xs) ≡ MethodExpr (expr_of e.value) (ByName f) (exprs_of xs.items)
 expr_method e f xs = ap expr_of (sym (expr.rolls-Method e f xs)) ∙ fold-roll-Expr ExprTree expr_step (expr_layer.Method e f xs)
+
+pub expr_index : (e i : Box Expr Global) → expr_of (expr.Index e i) ≡ indexed (expr_of e.value) (expr_of i.value)
+expr_index e i = ap expr_of (sym (expr.rolls-Index e i)) ∙ fold-roll-Expr ExprTree expr_step (expr_layer.Index e i)
 
 pub expr_not : (e : Box Expr Global) → expr_of (expr.Not e) ≡ NotExpr (expr_of e.value)
 expr_not e = ap expr_of (sym (expr.rolls-Not e)) ∙ fold-roll-Expr ExprTree expr_step (expr_layer.Not e)
@@ -93,7 +104,7 @@ kind_if e b = ap kind_of (sym (kind.rolls-If e b None)) ∙ fold-roll-StmtKind P
 pub kind_if_else : (e : Expr) (b o : Vec Stmt Global) → kind_of (kind.If e b (Some o)) ≡ (λ at rest. IfElseStmt at (expr_of e) (body_of b.items) (body_of o.items) rest)
 kind_if_else e b o = ap kind_of (sym (kind.rolls-If e b (Some o))) ∙ fold-roll-StmtKind Puts (Body → Body) (Branches → Branches) kind_step stmt_step branch_step (layer.If e b (Some o))
 
-pub kind_return : (e : Expr) → kind_of (kind.Return e) ≡ (λ at rest. ReturnStmt at (expr_of e) rest)
+pub kind_return : (e : Option Expr) → kind_of (kind.Return e) ≡ (λ at rest. ReturnStmt at (option_map expr_of e) rest)
 kind_return e = ap kind_of (sym (kind.rolls-Return e)) ∙ fold-roll-StmtKind Puts (Body → Body) (Branches → Branches) kind_step stmt_step branch_step (layer.Return e)
 
 pub kind_throw : (e : Option Expr) → kind_of (kind.Throw e) ≡ (λ at rest. ThrowStmt at (option_map expr_of e) rest)

@@ -38,7 +38,7 @@ mutual
     LoopStmt : Place → (inner rest : Body) → Body
     BreakStmt : Place → (rest : Body) → Body
     ContinueStmt : Place → (rest : Body) → Body
-    ReturnStmt : Place → ExprTree → (rest : Body) → Body
+    ReturnStmt : Place → Option ExprTree → (rest : Body) → Body
     ThrowStmt : Place → Option ExprTree → (rest : Body) → Body
     TryStmt : Place → (inner : Body) → (catch : Place) → Ident → (handler rest : Body) → Body
     ChooseStmt : Place → Branches → (rest : Body) → Body

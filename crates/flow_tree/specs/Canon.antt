@@ -8,7 +8,7 @@ use Rattle.flow_base.specs.declared.place.Place.{Place}
 use Rattle.flow_base.specs.Quote.{quoted}
 use Rattle.flow_tree.specs.declared.ty.Ident.{Ident}
 use Rattle.flow_tree.specs.Spelling.{sign_bytes}
-use Rattle.flow_tree.specs.Tree.{Selector, ByName, ByIndex, TypeTree, IntType, BoolType, StringType, VoidType, ErrorType, NamedType, FutureType, FutureStreamType, PromiseType, PromiseStreamType, ExprTree, ExprTrees, IntExpr, TextExpr, BoolExpr, VoidExpr, VarExpr, CallExpr, FieldExpr, MethodExpr, NotExpr, NegExpr, BinaryExpr, ParenExpr, NoExprs, MoreExprs}
+use Rattle.flow_tree.specs.Tree.{Selector, ByName, ByIndex, TypeTree, IntType, BoolType, StringType, VoidType, ErrorType, NamedType, FutureType, FutureStreamType, PromiseType, PromiseStreamType, VectorType, NothingType, ExprTree, ExprTrees, IntExpr, TextExpr, BoolExpr, VoidExpr, VarExpr, CallExpr, FieldExpr, MethodExpr, NotExpr, NegExpr, BinaryExpr, ParenExpr, NoExprs, MoreExprs}
 use Rattle.flow_tree.specs.Grammar.{op_sign}
 use Rattle.flow_tree.specs.Body.{IntoTree, WaitTree, ChangeTree, PlusChange, MinusChange, UpChange, DownChange, Body, End, BlockStmt, IfStmt, IfElseStmt, WhileStmt, ForStmt, LoopStmt, BreakStmt, ContinueStmt, ReturnStmt, ThrowStmt, TryStmt, ChooseStmt, DeclareStmt, AssignStmt, ModifyStmt, CallStmt, WaitStmt, Branches, NoBranches, MoreBranches}
 use Rattle.flow_tree.specs.Decls.{ParamTree, RecordTree, RoutineTree, DeclTree, StructDecl, FunctionDecl, ActorDecl, ProgramTree}
@@ -25,6 +25,8 @@ type_text (FutureType t) = codes "Future<" ++ type_text t ++ codes ">"
 type_text (FutureStreamType t) = codes "FutureStream<" ++ type_text t ++ codes ">"
 type_text (PromiseType t) = codes "Promise<" ++ type_text t ++ codes ">"
 type_text (PromiseStreamType t) = codes "PromiseStream<" ++ type_text t ++ codes ">"
+type_text (VectorType t) = codes "vector<" ++ type_text t ++ codes ">"
+type_text NothingType = codes "void"
 
 abbrev pub bool_text : Bool → List ℕ
 bool_text true = codes "true"
@@ -147,7 +149,7 @@ abbrev mutual
       line k (codes "loop {") ++ body_text (suc k) inner ++ line k (codes "}") ++ body_text k rest
   body_text k (BreakStmt at rest) = line k (codes "break;") ++ body_text k rest
   body_text k (ContinueStmt at rest) = line k (codes "continue;") ++ body_text k rest
-  body_text k (ReturnStmt at e rest) = line k (codes "return " ++ expr_text e ++ codes ";") ++ body_text k rest
+  body_text k (ReturnStmt at e rest) = line k (codes "return" ++ maybe_text (codes " ") e ++ codes ";") ++ body_text k rest
   body_text k (ThrowStmt at e rest) = line k (codes "throw" ++ maybe_text (codes " ") e ++ codes ";") ++ body_text k rest
   body_text k (TryStmt at inner p x handler rest) =
       line k (codes "try {") ++ body_text (suc k) inner
@@ -185,10 +187,15 @@ routine_text returns r =
     line 0 (returns ++ codes " " ++ r.name.name ++ codes "(" ++ params_text r.params ++ codes ") {")
     ++ body_text 1 r.body ++ line 0 (codes "}")
 
+-- what stands before the name of an actor that gives this
+abbrev pub actor_text : TypeTree → List ℕ
+actor_text NothingType = codes "ACTOR void"
+actor_text t = codes "ACTOR Future<" ++ type_text t ++ codes ">"
+
 abbrev pub decl_text : DeclTree → List ℕ
 decl_text (StructDecl r) = line 0 (codes "struct " ++ r.name.name ++ codes " {") ++ fields_text r.fields ++ line 0 (codes "};")
 decl_text (FunctionDecl f) = routine_text (type_text f.returns) f
-decl_text (ActorDecl a) = routine_text (codes "ACTOR Future<" ++ type_text a.returns ++ codes ">") a
+decl_text (ActorDecl a) = routine_text (actor_text a.returns) a
 
 abbrev pub decls_text : List DeclTree → List ℕ
 decls_text [] = []
@@ -256,7 +263,7 @@ abbrev mutual
   placeless_body (LoopStmt at inner rest) = LoopStmt first_place (placeless_body inner) (placeless_body rest)
   placeless_body (BreakStmt at rest) = BreakStmt first_place (placeless_body rest)
   placeless_body (ContinueStmt at rest) = ContinueStmt first_place (placeless_body rest)
-  placeless_body (ReturnStmt at e rest) = ReturnStmt first_place (placeless_expr e) (placeless_body rest)
+  placeless_body (ReturnStmt at e rest) = ReturnStmt first_place (option_map placeless_expr e) (placeless_body rest)
   placeless_body (ThrowStmt at e rest) = ThrowStmt first_place (option_map placeless_expr e) (placeless_body rest)
   placeless_body (TryStmt at inner p x handler rest) =
       TryStmt first_place (placeless_body inner) first_place (placeless_ident x) (placeless_body handler) (placeless_body rest)

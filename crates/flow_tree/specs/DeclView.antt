@@ -8,7 +8,7 @@ use Rattle.flow_tree.specs.declared.decl.ActorDecl as actor
 use Rattle.flow_tree.specs.declared.decl.Decl.{Decl}
 use Rattle.flow_tree.specs.declared.decl.Decl.TheVariants.{Struct, Function, Actor}
 use Rattle.flow_tree.specs.declared.decl.Program.{Program}
-use Rattle.flow_tree.specs.View.{type_of}
+use Rattle.flow_tree.specs.View.{type_of, result_of}
 use Rattle.flow_tree.specs.StmtView.{body_of}
 use Rattle.flow_tree.specs.Decls.{ParamTree, SlotTree, RecordTree, RoutineTree, DeclTree, StructDecl, FunctionDecl, ActorDecl, ProgramTree}
 
@@ -37,7 +37,7 @@ function_of f = record {
 abbrev pub actor_of : actor.ActorDecl → RoutineTree
 actor_of a = record {
   at = a.at;
-  returns = type_of a.returns;
+  returns = result_of a.returns;
   name = a.name;
   params = params_of a.params.items;
   body = body_of a.body.items;

@@ -20,8 +20,8 @@ pub record RecordTree : Type 0 where
   pub name : Ident
   pub fields : List ParamTree
 
--- a function or an actor: the place of its first token, its result, its name, its parameters, its
--- body, and the place of its closing brace
+-- a function or an actor: the place of its first token, its result, which a void actor gives none of, its name, its parameters,
+-- its body, and the place of its closing brace
 pub record RoutineTree : Type 0 where
   pub at : Place
   pub returns : TypeTree

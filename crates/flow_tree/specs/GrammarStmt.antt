@@ -187,7 +187,7 @@ mutual
     return_stmt : {actor : Bool} {d : ℕ} {c : Counts} {rest : Body} {e : ExprTree} {all : List Marked} (at p : Place) (value : List Marked)
         → ExprRule 0 (suc d) value e
         → all ≡ word_at word.Return at ∷ (value ++ sign_at sign.Semicolon p ∷ [])
-        → PlainRule actor d c c all at rest (ReturnStmt at e rest) false
+        → PlainRule actor d c c all at rest (ReturnStmt at (Some e) rest) false
     -- "throw" [ expr ] ";"
     throw_stmt : {actor : Bool} {d : ℕ} {c : Counts} {rest : Body} {e : Option ExprTree} {all : List Marked}
         (at p : Place) (value : List Marked)

@@ -4,7 +4,7 @@ ghost use Rattle.std.specs.Prelude.{◌≡◌, IfOk, map};
 ghost use Rattle.flow_tree.specs.DeclView.{param_of, slot_of, record_of, function_of, actor_of};
 
 use crate::stmt::{Stmt, copy_stmts};
-use crate::ty::{Ident, Ty};
+use crate::ty::{Ident, Ty, copy_result};
 use flow_base::memory::NoMemory;
 use flow_base::name::Name;
 use flow_base::place::Place;
@@ -43,12 +43,12 @@ pub struct FunctionDecl {
     pub close: Place,
 }
 
-/// An actor. `returns` is the type between the angle brackets of its result, and `close` is the
-/// place of its closing brace.
+/// An actor. `returns` is the type between the angle brackets of its result, which a void actor doesn't
+/// have, and `close` is the place of its closing brace.
 #[derive(Drop)]
 pub struct ActorDecl {
     pub at: Place,
-    pub returns: Ty,
+    pub returns: Option<Ty>,
     pub name: Ident,
     pub params: Vec<Param>,
     pub body: Vec<Stmt>,
@@ -147,7 +147,7 @@ impl ActorDecl {
         let body = copy_stmts(alloc, &self.body)?;
         Ok(ActorDecl {
             at: self.at,
-            returns: self.returns.copy(alloc)?,
+            returns: copy_result(alloc, &self.returns)?,
             name,
             params,
             body,

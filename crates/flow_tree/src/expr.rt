@@ -38,6 +38,7 @@ pub enum Expr {
     Call(Ident, Vec<Expr>),
     Field(Box<Expr>, Ident),
     Method(Box<Expr>, Ident, Vec<Expr>),
+    Index(Box<Expr>, Box<Expr>),
     Not(Box<Expr>),
     Neg(Box<Expr>),
     Binary(Op, Box<Expr>, Box<Expr>),
@@ -67,6 +68,10 @@ impl Expr {
                 boxed(alloc, of.copy(alloc)?)?,
                 name.copy(alloc)?,
                 copy_exprs(alloc, args)?,
+            )),
+            Expr::Index(of, index) => Ok(Expr::Index(
+                boxed(alloc, of.copy(alloc)?)?,
+                boxed(alloc, index.copy(alloc)?)?,
             )),
             Expr::Not(of) => Ok(Expr::Not(boxed(alloc, of.copy(alloc)?)?)),
             Expr::Neg(of) => Ok(Expr::Neg(boxed(alloc, of.copy(alloc)?)?)),

@@ -34,6 +34,9 @@ pub const WEIGHT: u32 = 60_000;
 /// How deep calls of plain functions may be nested.
 pub const CALL_DEPTH: u32 = 64;
 
+/// The most elements of a vector.
+pub const ELEMENTS: usize = 65_535;
+
 /// How much of each thing a text may hold, where these limits differ by the kind of text: L3, L4, L6
 /// and L7. The greatest depth is the same in all texts.
 #[derive(Clone, Copy)]

@@ -72,7 +72,7 @@ pub enum StmtKind {
     Loop(Vec<Stmt>),
     Break,
     Continue,
-    Return(Expr),
+    Return(Option<Expr>),
     Throw(Option<Expr>),
     Try(Vec<Stmt>, Place, Ident, Vec<Stmt>),
     Choose(Vec<When>),
@@ -198,7 +198,7 @@ impl StmtKind {
             StmtKind::Loop(body) => Ok(StmtKind::Loop(copy_stmts(alloc, body)?)),
             StmtKind::Break => Ok(StmtKind::Break),
             StmtKind::Continue => Ok(StmtKind::Continue),
-            StmtKind::Return(value) => Ok(StmtKind::Return(value.copy(alloc)?)),
+            StmtKind::Return(value) => Ok(StmtKind::Return(copy_maybe(alloc, value)?)),
             StmtKind::Throw(error) => Ok(StmtKind::Throw(copy_maybe(alloc, error)?)),
             StmtKind::Try(body, catch_at, error, handler) => Ok(StmtKind::Try(
                 copy_stmts(alloc, body)?,

@@ -1,7 +1,7 @@
 // Types, and names with their places.
 
 ghost use Rattle.std.specs.Prelude.{◌≡◌, IfOk};
-ghost use Rattle.flow_tree.specs.View.{type_of};
+ghost use Rattle.flow_tree.specs.View.{type_of, result_of};
 
 use flow_base::memory::NoMemory;
 use flow_base::name::Name;
@@ -28,6 +28,7 @@ pub enum Ty {
     FutureStream(Box<Ty>),
     Promise(Box<Ty>),
     PromiseStream(Box<Ty>),
+    Vector(Box<Ty>),
 }
 
 impl Ident {
@@ -58,6 +59,17 @@ impl Ty {
             Ty::FutureStream(of) => Ok(Ty::FutureStream(Box::new(alloc, of.copy(alloc)?)?)),
             Ty::Promise(of) => Ok(Ty::Promise(Box::new(alloc, of.copy(alloc)?)?)),
             Ty::PromiseStream(of) => Ok(Ty::PromiseStream(Box::new(alloc, of.copy(alloc)?)?)),
+            Ty::Vector(of) => Ok(Ty::Vector(Box::new(alloc, of.copy(alloc)?)?)),
         }
+    }
+}
+
+/// The equal result of an actor, where there is one: a void actor has none.
+pub fn copy_result(alloc: Global, gives: &Option<Ty>) -> Result<Option<Ty>, NoMemory>
+    ensures { IfOk result (λ t. result_of t ≡ result_of gives.now) }
+{
+    match gives {
+        None => Ok(None),
+        Some(ty) => Ok(Some(ty.copy(alloc)?)),
     }
 }

@@ -18,14 +18,15 @@ pub call_is : (s : Setting) (whole : Bool) (f : List ℕ) (es : ExprTrees) (c : 
 call_is s whole f es c ns judged r hc hn hj hr =
     hr ∙ ap (λ j. lesser j (calls es c (placed s whole))) (hj ∙ ap (λ n. faults s 0 n es) hn) ∙ ap (λ k. lesser (faults s 0 (needs_of k) es) (calls es k (placed s whole))) hc
 
-pub method_is : (s : Setting) (t : Option TypeTree) (m : List ℕ) (es : ExprTrees) (c : Option Callee) (ns : List Need) (b judged r e : Option SemanticRule) (u : Option TypeTree) → t ≡ u → b ≡ e
-    → c ≡ called_on t m → ns ≡ needs_of c
+-- what stands behind a base: a method, or an index
+pub method_is : (s : Setting) (t : Option TypeTree) (f : Option TypeTree → Option Callee) (es : ExprTrees) (c : Option Callee) (ns : List Need) (b judged r e : Option SemanticRule) (u : Option TypeTree) → t ≡ u → b ≡ e
+    → c ≡ f t → ns ≡ needs_of c
     → judged ≡ faults s 0 ns es → r ≡ lesser b (lesser judged (calls_on t es c (placed s false)))
-    → r ≡ lesser e (lesser (faults s 0 (needs_of (called_on u m)) es) (calls_on u es (called_on u m) (placed s false)))
-method_is s t m es c ns b judged r e u ht hb hc hn hj hr =
+    → r ≡ lesser e (lesser (faults s 0 (needs_of (f u)) es) (calls_on u es (f u) (placed s false)))
+method_is s t f es c ns b judged r e u ht hb hc hn hj hr =
     hr ∙ ap₂ (λ x j. lesser x (lesser j (calls_on t es c (placed s false)))) hb (hj ∙ ap (λ n. faults s 0 n es) hn)
     ∙ ap (λ k. lesser e (lesser (faults s 0 (needs_of k) es) (calls_on t es k (placed s false)))) hc
-    ∙ ap (λ v. lesser e (lesser (faults s 0 (needs_of (called_on v m)) es) (calls_on v es (called_on v m) (placed s false)))) ht
+    ∙ ap (λ v. lesser e (lesser (faults s 0 (needs_of (f v)) es) (calls_on v es (f v) (placed s false)))) ht
 
 -- an operand of which a type is wanted
 pub wanted_is : (u : TypeTree) (a w r x : Option SemanticRule) (t v : Option TypeTree) → a ≡ x → t ≡ v → w ≡ wants t u → r ≡ lesser a w → r ≡ lesser x (wants v u)

@@ -13,7 +13,7 @@ use Rattle.flow_ast.specs.Slots.{body_slots, branch_slots}
 use Rattle.flow_ast.specs.Typing.{or_else}
 use Rattle.flow_rules.specs.declared.rule.SemanticRule.TheVariants.{WaitInFunction, BreakOutside}
 use Rattle.flow_rules.specs.Least.{unless}
-use Rattle.flow_rules.specs.Judged.{wanted}
+use Rattle.flow_rules.specs.Judged.{returned}
 use Rattle.flow_rules.specs.Items.{Env, Refusal, item, with_states, with_var, in_loop, in_catch, declared, waited, behind, started, slot_names, fresh, test_fault, maybe_test, throw_fault, assign_fault, modify_fault, call_fault, declare_fault, wait_fault, body_refusal, branch_refusal}
 use Rattle.flow_types.specs.WalkView.{bare, Grows, Says, Steps, StmtAnswer, PartAnswer, Leads, else_refusal, else_slots}
 use Rattle.flow_types.proofs.Arms.{Shape, shape_answer, shape_block, shape_while, shape_loop, shape_choose, shape_item, then_answer, item_answer}
@@ -208,8 +208,8 @@ module _ (e : Env) (at : Place) (r : Result (Unit {0}) SourceFault) where
   pub continue_is : Says (item at (unless e.looped BreakOutside)) r → StmtAnswer e e (ContinueStmt at) r
   continue_is h = only_item e (ContinueStmt at) (item at (unless e.looped BreakOutside)) r (λ k. refl) (λ k. refl) refl h
 
-  pub return_is : (v : ExprTree) → Says (item at (wanted e.setting false v e.returns)) r → StmtAnswer e e (ReturnStmt at v) r
-  return_is v h = only_item e (ReturnStmt at v) (item at (wanted e.setting false v e.returns)) r (λ k. refl) (λ k. refl) refl h
+  pub return_is : (v : Option ExprTree) → Says (item at (returned e.setting v e.returns)) r → StmtAnswer e e (ReturnStmt at v) r
+  return_is v h = only_item e (ReturnStmt at v) (item at (returned e.setting v e.returns)) r (λ k. refl) (λ k. refl) refl h
 
   pub throw_is : (v : Option ExprTree) → Says (item at (throw_fault e.setting e.caught v)) r → StmtAnswer e e (ThrowStmt at v) r
   throw_is v h = only_item e (ThrowStmt at v) (item at (throw_fault e.setting e.caught v)) r (λ k. refl) (λ k. refl) refl h

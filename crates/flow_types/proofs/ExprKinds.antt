@@ -14,13 +14,16 @@ use Rattle.flow_tree.specs.declared.expr.Expr.TheOpen as layer
 use Rattle.flow_tree.specs.declared.expr.Expr.TheVariants as expr
 use Rattle.flow_tree.specs.declared.expr.Expr.TheFolds.{fold-roll-Expr}
 use Rattle.flow_tree.specs.View.{type_of, type_step, expr_of, expr_step, exprs_of}
-use Rattle.flow_tree.specs.Tree.{ByName, TypeTree, NamedType, ExprTree, CallExpr, MethodExpr, NotExpr, NegExpr, BinaryExpr}
+use Rattle.flow_tree.specs.Tree.{ByName, TypeTree, NamedType, VectorType, ExprTree, CallExpr, MethodExpr, NotExpr, NegExpr, BinaryExpr, indexed}
 
 pub is_call : (x : Expr) (f : Ident) (xs : Vec Expr Global) → x ≡ expr.Call f xs → expr_of x ≡ CallExpr f (exprs_of xs.items)
 is_call x f xs is = ap expr_of is ∙ ap expr_of (sym (expr.rolls-Call f xs)) ∙ fold-roll-Expr ExprTree expr_step (layer.Call f xs)
 
 pub is_method : (x : Expr) (e : Box Expr Global) (f : Ident) (xs : Vec Expr Global) → x ≡ expr.Method e f xs → expr_of x ≡ MethodExpr (expr_of e.value) (ByName f) (exprs_of xs.items)
 is_method x e f xs is = ap expr_of is ∙ ap expr_of (sym (expr.rolls-Method e f xs)) ∙ fold-roll-Expr ExprTree expr_step (layer.Method e f xs)
+
+pub is_index : (x : Expr) (e i : Box Expr Global) → x ≡ expr.Index e i → expr_of x ≡ indexed (expr_of e.value) (expr_of i.value)
+is_index x e i is = ap expr_of is ∙ ap expr_of (sym (expr.rolls-Index e i)) ∙ fold-roll-Expr ExprTree expr_step (layer.Index e i)
 
 pub is_not : (x : Expr) (e : Box Expr Global) → x ≡ expr.Not e → expr_of x ≡ NotExpr (expr_of e.value)
 is_not x e is = ap expr_of is ∙ ap expr_of (sym (expr.rolls-Not e)) ∙ fold-roll-Expr ExprTree expr_step (layer.Not e)
@@ -33,3 +36,6 @@ is_binary x op a b is = ap expr_of is ∙ ap expr_of (sym (expr.rolls-Binary op 
 
 pub is_named : (t : Ty) (n : List ℕ) → t ≡ type.Named n → type_of t ≡ NamedType n
 is_named t n is = ap type_of is ∙ ap type_of (sym (type.rolls-Named n)) ∙ fold-roll-Ty TypeTree type_step (type_layer.Named n)
+
+pub is_vector : (t : Ty) (u : Box Ty Global) → t ≡ type.Vector u → type_of t ≡ VectorType (type_of u.value)
+is_vector t u is = ap type_of is ∙ ap type_of (sym (type.rolls-Vector u)) ∙ fold-roll-Ty TypeTree type_step (type_layer.Vector u)

@@ -3,7 +3,7 @@ use Rattle.std.specs.Prelude.{◌≡◌, ℕ, Bool, List, [], ◌∷◌, ◌++�
 use Rattle.std.specs.declared.option.Option.{Option}
 use Rattle.std.specs.declared.option.Option.TheVariants.{None}
 use Rattle.flow_tree.specs.Tree.{TypeTree}
-use Rattle.flow_tree.specs.View.{type_of}
+use Rattle.flow_tree.specs.View.{type_of, result_of}
 use Rattle.flow_tree.specs.StmtView.{body_of}
 use Rattle.flow_tree.specs.DeclView.{params_of}
 use Rattle.flow_tree.specs.Decls.{ParamTree, RoutineTree}
@@ -12,6 +12,8 @@ use Rattle.flow_ast.specs.Typing.{is_there}
 use Rattle.flow_types.specs.declared.top_names.TopNames.{TopNames}
 use Rattle.flow_types.specs.declared.walk.Walk.{Walk}
 use Rattle.flow_types.specs.declared.program.Routine.{Routine}
+use Rattle.flow_types.specs.declared.program.Returns.{Returns}
+use Rattle.flow_types.specs.declared.program.Returns.TheVariants as returns
 use Rattle.flow_rules.specs.declared.rule.SemanticRule.{SemanticRule}
 use Rattle.flow_rules.specs.Known.{field_row, holds_by}
 use Rattle.flow_rules.specs.Judged.{Setting}
@@ -21,10 +23,14 @@ use Rattle.flow_types.specs.View.{found_of}
 use Rattle.flow_types.specs.MapView.{known_by, flag_of, vars_of}
 use Rattle.flow_types.specs.WalkView.{texts_of}
 
+abbrev pub returned_type : Returns → TypeTree
+returned_type (returns.Function t) = type_of t.now
+returned_type (returns.Actor t) = result_of t.now
+
 abbrev pub routine_of : Routine → RoutineTree
 routine_of f = record {
   at = f.at;
-  returns = type_of f.returns.now;
+  returns = returned_type f.returns;
   name = f.name.now;
   params = params_of f.params.now;
   body = body_of f.body.now;

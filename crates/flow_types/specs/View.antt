@@ -1,8 +1,8 @@
 -- What the code finds, seen as plain data.
 use Rattle.std.specs.Prelude.{ℕ, List, [], ◌∷◌, map, codes}
 use Rattle.std.specs.Option.{option_map}
-use Rattle.flow_tree.specs.Tree.{TypeTree, IntType, BoolType, StringType, VoidType, ErrorType, NamedType, FutureType, FutureStreamType, PromiseType, PromiseStreamType}
-use Rattle.flow_tree.specs.View.{type_of}
+use Rattle.flow_tree.specs.Tree.{TypeTree, IntType, BoolType, StringType, VoidType, ErrorType, NamedType, FutureType, FutureStreamType, PromiseType, PromiseStreamType, VectorType, NothingType}
+use Rattle.flow_tree.specs.View.{type_of, result_of}
 use Rattle.flow_tree.specs.DeclView.{params_of}
 use Rattle.flow_tree.specs.Decls.{ParamTree}
 use Rattle.flow_ast.specs.Typing.{param_types}
@@ -42,11 +42,13 @@ found_of (found.Future t) = FutureType (inner_of t)
 found_of (found.FutureStream t) = FutureStreamType (inner_of t)
 found_of (found.Promise t) = PromiseType (type_of t.now)
 found_of (found.PromiseStream t) = PromiseStreamType (type_of t.now)
+found_of (found.Vector t) = VectorType (type_of t.now)
+found_of found.Nothing = NothingType
 
 abbrev pub meaning_of : meant.Meaning → Meaning
 meaning_of (meaning.Record ps) = RecordOf (map field_row (params_of ps.now))
 meaning_of (meaning.Function ps t) = FunctionOf (param_types (params_of ps.now)) (type_of t.now)
-meaning_of (meaning.Actor ps t) = ActorOf (param_types (params_of ps.now)) (type_of t.now)
+meaning_of (meaning.Actor ps t) = ActorOf (param_types (params_of ps.now)) (result_of t.now)
 
 abbrev pub basic_need : Basic → Need
 basic_need basic.Int = Exactly IntType

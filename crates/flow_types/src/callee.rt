@@ -4,9 +4,9 @@ ghost use Rattle.flow_tree.specs.DeclView.{params_of};
 ghost use Rattle.std.specs.Prelude.{◌≡◌, ◌∷◌, [], length, map, slice_get};
 ghost use Rattle.std.specs.Option.{option_map};
 ghost use Rattle.flow_tree.specs.View.{type_of, exprs_of};
-ghost use Rattle.flow_tree.specs.Tree.{ErrorType, StringType, FutureType, PromiseType, PromiseStreamType};
+ghost use Rattle.flow_tree.specs.Tree.{ErrorType, StringType, FutureType, PromiseType, PromiseStreamType, VectorType};
 ghost use Rattle.flow_ast.specs.Typing.{signature, param_types};
-ghost use Rattle.flow_rules.specs.Judged.{Value, Effect, Statement, predefined_callee, declared_callee, called_by, called_on, sends, as_many, Exactly};
+ghost use Rattle.flow_rules.specs.Judged.{Value, Effect, Statement, predefined_callee, declared_callee, called_by, called_on, index_callee, indexed_on, sends, as_many, Exactly};
 ghost use Rattle.flow_types.specs.View.{found_of, inner_of, meaning_of, need_of, basic_need, needs_view, callee_of};
 
 use crate::type_view::{ElementView, TypeView};
@@ -22,7 +22,7 @@ use flow_tree::ty::Ty;
 pub enum Meaning<'a> {
     Record(&'a [Param]),
     Function(&'a [Param], &'a Ty),
-    Actor(&'a [Param], &'a Ty),
+    Actor(&'a [Param], &'a Option<Ty>),
 }
 
 /// What an argument of a predefined call is. `Traced` is what `trace` takes.
@@ -218,7 +218,7 @@ pub fn predefined_callee<'a>(call: Predefined) -> Callee<'a>
 }
 
 /// What a name of the program calls.
-#[tactic(auto, using(crate::proofs::Needed::row_types))]
+#[tactic(auto, using(crate::proofs::Needed::row_types, crate::proofs::Needed::actor_effect))]
 pub fn declared_callee<'a>(name: &'a Name, meaning: Meaning<'a>) -> Callee<'a>
     ensures { callee_of result ≡ declared_callee name.now (meaning_of meaning.entry) }
 {
@@ -233,11 +233,12 @@ pub fn declared_callee<'a>(name: &'a Name, meaning: Meaning<'a>) -> Callee<'a>
             gives: Some(TypeView::of(returns)),
             kind: Kind::Function,
         },
-        Meaning::Actor(params, returns) => Callee {
+        Meaning::Actor(params, Some(returns)) => Callee {
             needs: Needs::Params(params),
             gives: Some(TypeView::Future(ElementView::Written(returns))),
             kind: Kind::Effect,
         },
+        Meaning::Actor(params, None) => statement(Needs::Params(params)),
     }
 }
 
@@ -304,6 +305,18 @@ fn stream_callee<'a>(of: &'a Ty, method: Method) -> Option<Callee<'a>>
     }
 }
 
+fn vector_callee<'a>(of: &'a Ty, method: Method) -> Option<Callee<'a>>
+    ensures { option_map callee_of result ≡ called_by (VectorType (type_of of.now)) (Some method) }
+{
+    match method {
+        Method::Size => Some(value(&[], TypeView::Int)),
+        Method::At => Some(value(&[Basic::Int], TypeView::of(of))),
+        Method::PushBack => Some(statement(Needs::One(of))),
+        Method::Clear => Some(statement(Needs::Fixed(&[]))),
+        _ => None,
+    }
+}
+
 fn method_callee<'a>(base: TypeView<'a>, method: Method) -> Option<Callee<'a>>
     ensures { option_map callee_of result ≡ called_by (found_of base.entry) (Some method) }
 {
@@ -313,9 +326,11 @@ fn method_callee<'a>(base: TypeView<'a>, method: Method) -> Option<Callee<'a>>
         TypeView::Future(of) => future_callee(of, method),
         TypeView::Promise(of) => promise_callee(of, method),
         TypeView::PromiseStream(of) => stream_callee(of, method),
+        TypeView::Vector(of) => vector_callee(of, method),
         TypeView::Int
         | TypeView::Bool
         | TypeView::Void
+        | TypeView::Nothing
         | TypeView::Named(_)
         | TypeView::FutureStream(_) => None,
     }
@@ -328,4 +343,24 @@ pub fn called_on<'a>(base: Option<TypeView<'a>>, name: &[u8]) -> Option<Callee<'
     let base = base?;
     let method = predefined_method(name)?;
     method_callee(base, method)
+}
+
+// What an index calls on what is no vector.
+fn index_statement<'a>() -> Callee<'a>
+    ensures { callee_of result ≡ index_callee None }
+{
+    statement(Needs::Fixed(&[Basic::Int]))
+}
+
+/// What an index behind a base of this type calls, where there is one.
+pub fn indexed_on<'a>(base: Option<TypeView<'a>>) -> Option<Callee<'a>>
+    ensures { option_map callee_of result ≡ indexed_on (option_map found_of base.entry) }
+{
+    match base? {
+        TypeView::Vector(of) => Some(value(&[Basic::Int], TypeView::of(of))),
+        TypeView::Int | TypeView::Bool | TypeView::Str | TypeView::Void => Some(index_statement()),
+        TypeView::Error | TypeView::Named(_) | TypeView::Nothing => Some(index_statement()),
+        TypeView::Future(_) | TypeView::FutureStream(_) => Some(index_statement()),
+        TypeView::Promise(_) | TypeView::PromiseStream(_) => Some(index_statement()),
+    }
 }

@@ -2,21 +2,22 @@
 
 ghost use Rattle.std.specs.Prelude.{◌≡◌, false, map, if◌then◌else◌};
 ghost use Rattle.std.specs.Option.{option_map};
-ghost use Rattle.flow_tree.specs.View.{type_of, expr_of, exprs_of};
+ghost use Rattle.flow_tree.specs.Tree.{indexed};
+ghost use Rattle.flow_tree.specs.View.{type_of, result_of, expr_of, exprs_of};
 ghost use Rattle.flow_tree.specs.DeclView.{params_of};
 ghost use Rattle.flow_ast.specs.Typing.{is_there, with_type};
 ghost use Rattle.flow_ast.specs.TypingNames.{named};
 ghost use Rattle.flow_rules.specs.declared.rule.SemanticRule.TheVariants.{UnknownName};
 ghost use Rattle.flow_rules.specs.Least.{lesser, unless};
 ghost use Rattle.flow_rules.specs.Known.{field_row};
-ghost use Rattle.flow_rules.specs.Judged.{Traced, wants, fits, operands, sum_form, sign_form, needs_of, gives_of, not_here, placed, said, calls, calls_on, called, called_on, variable_form, field_form, field_of, of_field, form, fault, faults, wanted};
+ghost use Rattle.flow_rules.specs.Judged.{Traced, wants, fits, operands, sum_form, sign_form, needs_of, gives_of, not_here, placed, said, calls, calls_on, called, called_on, variable_form, field_form, field_of, of_field, form, fault, faults, wanted, returned, is_void};
 ghost use Rattle.flow_rules.specs.Items.{path_form, path_fault, target_form, target_fault, base_form, base_fault, call_by_name, call_on, call_fault, written};
 ghost use Rattle.flow_types.specs.View.{found_of, need_of, needs_view, kind_of, callee_of};
 ghost use Rattle.flow_types.specs.MapView.{known_by, vars_of};
 ghost use Rattle.flow_types.specs.SettingView.{setting_view};
 
 use crate::callee::{
-    Callee, Kind, Meaning, Need, Needs, called_on, declared_callee, predefined_callee,
+    Callee, Kind, Meaning, Need, Needs, called_on, declared_callee, indexed_on, predefined_callee,
 };
 use crate::top_names::TopNames;
 use crate::type_view::{TypeView, same_found, takes_both, takes_equality, takes_sign};
@@ -493,6 +494,7 @@ impl<'n, 'a> Setting<'n, 'a> {
             }
             Expr::Field(of, name) => self.field(self.judge(false, of), &name.name),
             Expr::Method(of, name, args) => self.judge_method(of, name, args),
+            Expr::Index(of, index) => self.judge_index(of, index),
             Expr::Not(of) => {
                 let of = self.judge(false, of);
                 Judged {
@@ -534,6 +536,21 @@ impl<'n, 'a> Setting<'n, 'a> {
         self.method_judged(base, args, callee, judged)
     }
 
+    // An index behind a base.
+    #[cycle(judge)]
+    fn judge_index(&self, of: &'a Expr, index: &'a Expr) -> Judged<'a>
+        ensures form { option_map found_of result.form
+            ≡ form (setting_view self.now) (indexed (expr_of of.now) (expr_of index.now)) }
+        ensures fault { result.fault ≡ fault (setting_view self.now) false
+            (indexed (expr_of of.now) (expr_of index.now)) }
+    {
+        let base = self.judge(false, of);
+        let callee = indexed_on(base.form);
+        let args = std::slice::from_ref(index);
+        let judged = self.judge_args(needs_of(callee), args);
+        self.method_judged(base, args, callee, judged)
+    }
+
     // Arguments, each judged, and compared as far as something is needed.
     #[cycle(judge)]
     fn judge_args(&self, needs: Needs<'a>, args: &'a [Expr]) -> Option<SemanticRule>
@@ -549,6 +566,24 @@ impl<'n, 'a> Setting<'n, 'a> {
             );
         }
         fault
+    }
+
+    /// What a `return` gives fits the result, and a void actor gives nothing.
+    pub fn returned(&self, given: &'a Option<Expr>, ty: TypeView<'a>) -> Option<SemanticRule>
+        ensures { result ≡ returned (setting_view self.now) (option_map expr_of given.now)
+            (found_of ty.entry) }
+    {
+        match given {
+            Some(expr) => self.wanted(false, expr, ty),
+            None => unless(self.is_void(ty), SemanticRule::WrongType),
+        }
+    }
+
+    /// Whether this is the result of a void actor.
+    pub fn is_void(&self, ty: TypeView<'_>) -> bool
+        ensures { result ≡ is_void (setting_view self.now) (found_of ty.entry) }
+    {
+        !self.plain && matches!(ty, TypeView::Nothing)
     }
 
     /// An expression of which this type is wanted.

@@ -3,20 +3,20 @@
 ghost use Rattle.std.specs.Prelude.{◌≡◌, ◌∷◌, [], ◌++◌, ◌||◌, not, true, false, map, None, IfOk};
 ghost use Rattle.std.specs.Option.{option_map};
 ghost use Rattle.flow_tree.specs.Tree.{IntType, VoidType};
-ghost use Rattle.flow_tree.specs.View.{type_of};
+ghost use Rattle.flow_tree.specs.View.{type_of, result_of};
 ghost use Rattle.flow_tree.specs.DeclView.{param_of, params_of, record_of, function_of, actor_of, decl_of, program_of};
 ghost use Rattle.flow_ast.specs.Typing.{is_there, packet_fields, param_types, same_type};
 ghost use Rattle.flow_ast.specs.TypingNames.{named};
 ghost use Rattle.flow_rules.specs.declared.rule.SemanticRule.TheVariants.{TakenName, UnknownName};
 ghost use Rattle.flow_rules.specs.Least.{lesser, unless};
 ghost use Rattle.flow_rules.specs.Known.{field_row, row_of, type_known, is_predefined};
-ghost use Rattle.flow_rules.specs.Items.{item, among};
+ghost use Rattle.flow_rules.specs.Items.{item, among, written};
 ghost use Rattle.flow_rules.specs.Rules.{name_fault, fields_fault, record_fault, param_fault, params_fault, header_fault, routine_refusal, decl_refusal, decls_refusal, one_int, is_main, refusal_of};
 ghost use Rattle.flow_types.specs.View.{found_of, meaning_of};
 ghost use Rattle.flow_types.specs.MapView.{rows_of, vars_of};
 ghost use Rattle.flow_types.specs.SettingView.{setting_view};
 ghost use Rattle.flow_types.specs.WalkView.{texts_of, Says};
-ghost use Rattle.flow_types.specs.ProgramView.{routine_of, setting_by, taken_in, ParamsOnly, NewParam, ParamsIn};
+ghost use Rattle.flow_types.specs.ProgramView.{returned_type, routine_of, setting_by, taken_in, ParamsOnly, NewParam, ParamsIn};
 
 use crate::callee::Meaning;
 use crate::closing::ways_of;
@@ -158,16 +158,46 @@ fn params_fault<'a>(
     Ok(fault)
 }
 
+/// What a function returns, and what an actor gives, which is nothing if it is void.
+#[derive(Clone, Copy)]
+pub enum Returns<'a> {
+    Function(&'a Ty),
+    Actor(&'a Option<Ty>),
+}
+
+impl<'a> Returns<'a> {
+    /// The type that is found of it.
+    pub fn found(self) -> TypeView<'a>
+        ensures { found_of result ≡ returned_type self.entry }
+    {
+        match self {
+            Returns::Function(ty) => TypeView::of(ty),
+            Returns::Actor(gives) => TypeView::of_result(gives),
+        }
+    }
+}
+
 /// A function or an actor.
 #[derive(Clone, Copy)]
 pub struct Routine<'a> {
     pub at: Place,
     pub plain: bool,
-    pub returns: &'a Ty,
+    pub returns: Returns<'a>,
     pub name: &'a Ident,
     pub params: &'a [Param],
     pub body: &'a [Stmt],
     pub close: Place,
+}
+
+// What a routine returns is a written type, or nothing.
+#[tactic(auto, using(crate::proofs::Needed::nothing_written))]
+fn written_result(setting: &Setting<'_, '_>, returns: Returns<'_>) -> Option<SemanticRule>
+    ensures { result ≡ written (setting_view setting.now) (returned_type returns.entry) }
+{
+    match returns {
+        Returns::Function(ty) | Returns::Actor(Some(ty)) => setting.written(ty),
+        Returns::Actor(None) => None,
+    }
 }
 
 // A routine's header.
@@ -184,7 +214,7 @@ fn header_fault<'a>(
         → ParamsIn walk.old walk.new (params_of routine.entry.params.now)) }
 {
     let name = name_fault(before, &routine.name.name);
-    let returns = walk.setting.written(routine.returns);
+    let returns = written_result(&walk.setting, routine.returns);
     let params = params_fault(walk, routine.params)?;
     Ok(lesser(name, lesser(returns, params)))
 }
@@ -192,7 +222,7 @@ fn header_fault<'a>(
 // What is in force in a routine before its parameters.
 fn start<'n, 'a>(alloc: Global, names: &'n TopNames<'a>, routine: Routine<'a>) -> Walk<'n, 'a>
     ensures setting { setting_view result.setting ≡ setting_by names.now routine.entry.plain }
-    ensures returns { found_of result.returns ≡ type_of routine.entry.returns.now }
+    ensures returns { found_of result.returns ≡ returned_type routine.entry.returns }
     ensures empty { (vars_of result.setting.vars ≡ []) × (texts_of result.states ≡ []) }
 {
     let vars: Vars<'a> = IndexMap::new(alloc);
@@ -203,7 +233,7 @@ fn start<'n, 'a>(alloc: Global, names: &'n TopNames<'a>, routine: Routine<'a>) -
     };
     Walk {
         setting,
-        returns: TypeView::of(routine.returns),
+        returns: routine.returns.found(),
         states: IndexSet::new(alloc),
     }
 }
@@ -215,10 +245,11 @@ fn judge_inside<'a>(
     routine: Routine<'a>,
 ) -> Result<(), SourceFault>
     requires empty { (vars_of walk.old.setting.vars ≡ []) × (texts_of walk.old.states ≡ []) }
-    requires returns { found_of walk.old.returns ≡ type_of routine.returns.now }
+    requires returns { found_of walk.old.returns ≡ returned_type routine.returns }
     ensures { Says (routine_refusal (named (rows_of before.now)) (setting_view walk.old.setting)
         (routine_of routine.entry)) result }
 {
+    let is_void = walk.setting.is_void(walk.returns);
     let header = header_fault(before, walk, routine)?;
     item(routine.at, header)?;
     let around = Around {
@@ -226,9 +257,10 @@ fn judge_inside<'a>(
         caught: false,
     };
     walk.body(around, routine.body)?;
+    let ways = ways_of(routine.body);
     item(
         routine.close,
-        unless(!ways_of(routine.body).end, SemanticRule::FallsOff),
+        unless(is_void || !ways.end, SemanticRule::FallsOff),
     )
 }
 
@@ -253,7 +285,7 @@ fn function_routine(function: &FunctionDecl) -> Routine<'_>
     Routine {
         at: function.at,
         plain: true,
-        returns: &function.returns,
+        returns: Returns::Function(&function.returns),
         name: &function.name,
         params: &function.params,
         body: &function.body,
@@ -268,7 +300,7 @@ fn actor_routine(actor: &ActorDecl) -> Routine<'_>
     Routine {
         at: actor.at,
         plain: false,
-        returns: &actor.returns,
+        returns: Returns::Actor(&actor.returns),
         name: &actor.name,
         params: &actor.params,
         body: &actor.body,
@@ -334,13 +366,14 @@ pub fn is_main(meaning: Option<Meaning<'_>>) -> bool
     }
 }
 
-fn returns_void(returns: &Ty) -> bool
-    ensures { result ≡ same_type (type_of returns.now) VoidType }
+fn returns_void(returns: &Option<Ty>) -> bool
+    ensures { result ≡ same_type (result_of returns.now) VoidType }
 {
     match returns {
-        Ty::Void => true,
-        Ty::Int | Ty::Bool | Ty::Str | Ty::Error | Ty::Named(_) => false,
-        Ty::Future(_) | Ty::FutureStream(_) | Ty::Promise(_) | Ty::PromiseStream(_) => false,
+        Some(Ty::Void) => true,
+        None => false,
+        Some(Ty::Int | Ty::Bool | Ty::Str | Ty::Error | Ty::Named(_) | Ty::Vector(_)) => false,
+        Some(Ty::Future(_) | Ty::FutureStream(_) | Ty::Promise(_) | Ty::PromiseStream(_)) => false,
     }
 }
 
@@ -349,7 +382,7 @@ fn is_int(ty: &Ty) -> bool
 {
     match ty {
         Ty::Int => true,
-        Ty::Void | Ty::Bool | Ty::Str | Ty::Error | Ty::Named(_) => false,
+        Ty::Void | Ty::Bool | Ty::Str | Ty::Error | Ty::Named(_) | Ty::Vector(_) => false,
         Ty::Future(_) | Ty::FutureStream(_) | Ty::Promise(_) | Ty::PromiseStream(_) => false,
     }
 }

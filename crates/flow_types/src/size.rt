@@ -67,6 +67,7 @@ fn type_size(sizes: &Sizes<'_>, ty: &Ty) -> Size
         Ty::Named(name) => named_size(sizes, name.bytes()),
         Ty::Int | Ty::Bool | Ty::Str | Ty::Void | Ty::Error => LEAF,
         Ty::Future(_) | Ty::FutureStream(_) | Ty::Promise(_) | Ty::PromiseStream(_) => LEAF,
+        Ty::Vector(_) => LEAF,
     }
 }
 

@@ -123,6 +123,7 @@ pub fn type_known(meanings: &Meanings<'_>, ty: &Ty) -> bool
         Ty::FutureStream(of) => type_known(meanings, of),
         Ty::Promise(of) => type_known(meanings, of),
         Ty::PromiseStream(of) => type_known(meanings, of),
+        Ty::Vector(of) => type_known(meanings, of),
         Ty::Int | Ty::Bool | Ty::Str | Ty::Void | Ty::Error => true,
     }
 }
@@ -148,6 +149,7 @@ fn note_field(meanings: &Meanings<'_>, ty: &Ty, uses: &mut Uses) -> Result<(), N
         Ty::Future(_) | Ty::FutureStream(_) | Ty::Promise(_) | Ty::PromiseStream(_) => {
             uses.direct = true;
         }
+        Ty::Vector(of) => note_field(meanings, of, uses)?,
         Ty::Int | Ty::Bool | Ty::Str | Ty::Void | Ty::Error => {}
     }
     Ok(())
@@ -296,6 +298,7 @@ impl<'a> TopNames<'a> {
         match ty {
             Ty::Future(_) | Ty::FutureStream(_) | Ty::Promise(_) | Ty::PromiseStream(_) => true,
             Ty::Named(name) => self.flag(name.bytes()),
+            Ty::Vector(of) => self.holds(of),
             Ty::Int | Ty::Bool | Ty::Str | Ty::Void | Ty::Error => false,
         }
     }

@@ -1,7 +1,7 @@
 // Types as they are found by the form of an expression.
 
 ghost use Rattle.std.specs.Prelude.{◌≡◌};
-ghost use Rattle.flow_tree.specs.View.{type_of};
+ghost use Rattle.flow_tree.specs.View.{type_of, result_of};
 ghost use Rattle.flow_ast.specs.Typing.{is_there, same_type, sign_type, equality_type, binary_type};
 ghost use Rattle.std.specs.Prelude.{codes};
 ghost use Rattle.flow_tree.specs.Tree.{NamedType};
@@ -34,6 +34,9 @@ pub enum TypeView<'a> {
     FutureStream(ElementView<'a>),
     Promise(&'a Ty),
     PromiseStream(&'a Ty),
+    Vector(&'a Ty),
+    /// What a void actor gives.
+    Nothing,
 }
 
 impl<'a> TypeView<'a> {
@@ -52,6 +55,17 @@ impl<'a> TypeView<'a> {
             Ty::FutureStream(of) => TypeView::FutureStream(ElementView::Written(of)),
             Ty::Promise(of) => TypeView::Promise(of),
             Ty::PromiseStream(of) => TypeView::PromiseStream(of),
+            Ty::Vector(of) => TypeView::Vector(of),
+        }
+    }
+
+    /// The result of an actor, or nothing where it is void.
+    pub fn of_result(gives: &'a Option<Ty>) -> TypeView<'a>
+        ensures { found_of result ≡ result_of gives.now }
+    {
+        match gives {
+            Some(ty) => TypeView::of(ty),
+            None => TypeView::Nothing,
         }
     }
 }
@@ -84,6 +98,7 @@ fn inner_is(inner: ElementView<'_>, ty: &Ty) -> bool
             Ty::Named(name) => b"Packet".as_slice() == name.bytes(),
             Ty::Int | Ty::Bool | Ty::Str | Ty::Void | Ty::Error => false,
             Ty::Future(_) | Ty::FutureStream(_) | Ty::Promise(_) | Ty::PromiseStream(_) => false,
+            Ty::Vector(_) => false,
         },
     }
 }
@@ -96,6 +111,7 @@ fn is_packet_type(ty: &Ty) -> bool
         Ty::Named(name) => name.bytes() == b"Packet".as_slice(),
         Ty::Int | Ty::Bool | Ty::Str | Ty::Void | Ty::Error => false,
         Ty::Future(_) | Ty::FutureStream(_) | Ty::Promise(_) | Ty::PromiseStream(_) => false,
+        Ty::Vector(_) => false,
     }
 }
 
@@ -152,6 +168,11 @@ pub fn same_found(left: TypeView<'_>, right: TypeView<'_>) -> bool
             TypeView::PromiseStream(other) => same_type(of, other),
             _ => false,
         },
+        TypeView::Vector(of) => match right {
+            TypeView::Vector(other) => same_type(of, other),
+            _ => false,
+        },
+        TypeView::Nothing => matches!(right, TypeView::Nothing),
     }
 }
 

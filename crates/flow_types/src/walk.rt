@@ -69,7 +69,7 @@ fn has_default(ty: &Ty) -> bool
 {
     match ty {
         Ty::Int | Ty::Bool | Ty::Str => true,
-        Ty::Promise(_) | Ty::PromiseStream(_) => true,
+        Ty::Promise(_) | Ty::PromiseStream(_) | Ty::Vector(_) => true,
         Ty::Void | Ty::Error | Ty::Named(_) | Ty::Future(_) | Ty::FutureStream(_) => false,
     }
 }
@@ -436,7 +436,7 @@ impl<'n, 'a> Walk<'n, 'a> {
             StmtKind::Break | StmtKind::Continue => {
                 item(at, unless(around.looped, SemanticRule::BreakOutside))
             }
-            StmtKind::Return(value) => { item(at, self.setting.wanted(false, value, self.returns)) }
+            StmtKind::Return(value) => item(at, self.setting.returned(value, self.returns)),
             StmtKind::Throw(error) => item(at, self.thrown(around.caught, error)),
             StmtKind::Try(body, catch_at, error, handler) => {
                 self.scoped(around, body)?;

@@ -38,6 +38,10 @@ abbrev mutual
   exprs_places NoExprs = []
   exprs_places (MoreExprs e es) = expr_places e ++ exprs_places es
 
+abbrev pub maybe_places : Option ExprTree → List Slotted
+maybe_places None = []
+maybe_places (Some e) = expr_places e
+
 -- the place that a path begins with; that of a call with a single name begins with none
 abbrev pub path_place : List Ident → List Slotted
 path_place [] = []
@@ -56,7 +60,7 @@ instr_places (DropInstr ns) = map Local ns
 
 abbrev pub last_places : LastTree → List Slotted
 last_places (TestLast e b c) = expr_places e
-last_places (ReturnLast e) = expr_places e
+last_places (ReturnLast e) = maybe_places e
 last_places (ThrowLast e) = expr_places e
 last_places _ = []
 

@@ -4,12 +4,12 @@ use Rattle.std.specs.List.{list_all, list_any}
 use Rattle.std.specs.declared.option.Option.{Option}
 use Rattle.std.specs.declared.option.Option.TheVariants.{None, Some}
 use Rattle.flow_tree.specs.declared.ty.Ident.{Ident}
-use Rattle.flow_tree.specs.Tree.{TypeTree, BoolType, VoidType, ErrorType, FutureType, FutureStreamType, PromiseType, PromiseStreamType, ExprTree, CallExpr}
+use Rattle.flow_tree.specs.Tree.{TypeTree, BoolType, VoidType, ErrorType, FutureType, FutureStreamType, PromiseType, PromiseStreamType, VectorType, ExprTree, CallExpr}
 use Rattle.flow_tree.specs.Decls.{SlotTree}
 use Rattle.flow_ast.specs.Typing.{same_type}
 use Rattle.flow_rules.specs.declared.rule.SemanticRule.{SemanticRule}
 use Rattle.flow_rules.specs.Least.{lesser}
-use Rattle.flow_rules.specs.Judged.{Setting, Callee, Kind, Effect, form, fault, wanted, called}
+use Rattle.flow_rules.specs.Judged.{Setting, Callee, Kind, Effect, form, fault, wanted, returned, called}
 use Rattle.flow_rules.specs.Items.{target_form, target_fault, assigned, call_fault}
 use Rattle.flow_rules.specs.Rules.{setting_of}
 use Rattle.flow_class.specs.declared.class.Slotted.{Slotted}
@@ -102,10 +102,12 @@ is_effect s _ = false
 abbrev pub put_fault : Setting → (effect : Bool) → List Ident → ExprTree → Option SemanticRule
 put_fault s effect path e = lesser (lesser (target_fault s path) (fault s effect e)) (assigned (form s e) (target_form s path))
 
-abbrev pub is_promise : Option TypeTree → Bool
-is_promise (Some (PromiseType t)) = true
-is_promise (Some (PromiseStreamType t)) = true
-is_promise _ = false
+-- what `new` can put in place
+abbrev pub is_made : Option TypeTree → Bool
+is_made (Some (PromiseType t)) = true
+is_made (Some (PromiseStreamType t)) = true
+is_made (Some (VectorType t)) = true
+is_made _ = false
 
 -- what a branch waits for: a future, or the next of a stream, of what its place takes, or of `Void`
 abbrev pub operand_type : (next : Bool) → TypeTree → TypeTree
@@ -119,13 +121,13 @@ module _ (c : ClassTree) (s : Setting) where
   abbrev pub instr_fits : InstrTree → Bool
   instr_fits (SetInstr path e) = is_none (put_fault s false path e)
   instr_fits (EffectInstr path e) = is_effect s e && is_none (put_fault s true path e)
-  instr_fits (NewInstr p) = is_promise (type_at c p)
+  instr_fits (NewInstr p) = is_made (type_at c p)
   instr_fits (ActInstr path es) = is_none (call_fault s path es)
   instr_fits (DropInstr ns) = true
 
   abbrev pub last_fits : LastTree → Bool
   last_fits (TestLast e b n) = has_type s false e BoolType
-  last_fits (ReturnLast e) = has_type s false e c.returns
+  last_fits (ReturnLast e) = is_none (returned s e c.returns)
   last_fits (ThrowLast e) = has_type s false e ErrorType
   last_fits _ = true
 
@@ -143,8 +145,9 @@ module _ (c : ClassTree) (s : Setting) where
   abbrev pub block_fits : BlockTree → Bool
   block_fits b = list_all instr_fits b.body && last_fits b.last
 
--- Expressions, targets, arguments, operands and results fit their types; an effect stands only in `do`, which takes nothing
--- else, and as a whole operand; `act` calls a function of the program or is a statement call.
+-- Expressions, targets, arguments, operands and results fit their types, and a void class has no result; an effect stands only in
+-- `do`, which takes nothing else, and as a whole operand; `act` calls a function of the program or a void class, or is a statement
+-- call.
 abbrev pub types_fit : RawTree → ClassTree → Bool
 types_fit r c = list_all (block_fits c (class_setting r c)) c.blocks && list_all (list_all (callback_fits c (class_setting r c))) c.groups
 

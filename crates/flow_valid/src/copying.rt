@@ -7,8 +7,8 @@ ghost use Rattle.flow_class.specs.View.{catcher_of, instr_of, last_of, block_of,
 use flow_base::memory::NoMemory;
 use flow_class::class::{Block, Callback, Catcher, Class, Group, Instr, Last, RawClasses};
 use flow_tree::decl::{FunctionDecl, RecordDecl, Slot};
-use flow_tree::expr::copy_exprs;
-use flow_tree::ty::Ty;
+use flow_tree::expr::{copy_exprs, copy_maybe};
+use flow_tree::ty::{Ty, copy_result};
 use std::alloc::Global;
 
 // What is copied in lists, and what an equal copy has in common with it.
@@ -61,7 +61,7 @@ fn copy_last(alloc: Global, last: &Last) -> Result<Last, NoMemory>
         Last::Pass(block) => Ok(Last::Pass(*block)),
         Last::Test(condition, yes, no) => Ok(Last::Test(condition.copy(alloc)?, *yes, *no)),
         Last::Choose(group) => Ok(Last::Choose(*group)),
-        Last::Return(value) => Ok(Last::Return(value.copy(alloc)?)),
+        Last::Return(value) => Ok(Last::Return(copy_maybe(alloc, value)?)),
         Last::Throw(error) => Ok(Last::Throw(error.copy(alloc)?)),
     }
 }
@@ -199,7 +199,7 @@ impl Copied for Class {
     fn copied(&self, alloc: Global) -> Result<Class, NoMemory> {
         Ok(Class {
             name: self.name.copy(alloc)?,
-            returns: self.returns.copy(alloc)?,
+            returns: copy_result(alloc, &self.returns)?,
             params: self.params,
             slots: copy_all(alloc, &self.slots)?,
             locals: copy_all(alloc, &self.locals)?,

@@ -15,7 +15,7 @@ use Rattle.flow_class.specs.Classes.{InstrTree, SetInstr, EffectInstr, NewInstr,
 use Rattle.flow_class.specs.Code.{group_at}
 use Rattle.flow_validate.specs.declared.touch.Touch.{Touch}
 use Rattle.flow_validate.specs.declared.touch.Touch.TheVariants.{Throws, Reads, Fills, Empties, Waits}
-use Rattle.flow_valid.specs.Named.{listed, expr_places, path_place, base_place, instr_places, last_places, has_place, has_group, has_last, has_named, has_operand, has_block, has_catcher, targets, names_exist}
+use Rattle.flow_valid.specs.Named.{listed, expr_places, maybe_places, path_place, base_place, instr_places, last_places, has_place, has_group, has_last, has_named, has_operand, has_block, has_catcher, targets, names_exist}
 use Rattle.flow_valid.specs.Filling.{filled_path, instr_reads, instr_fills, operands, group_reads}
 use Rattle.flow_validate.specs.Following.{emptied_by, instr_touches, body_touches, last_touches, block_touches}
 use Rattle.flow_validate.specs.Small.{is_small, small_places, reads_of, small_fills, small_instr, small_body, small_last, small_block}
@@ -138,7 +138,7 @@ module _ (c : ClassTree) (few : HasFewPlaces c) where
   plain_last g (TestLast e a b) h = ap (λ (r : List Touch). Throws ∷ r) (all_read (expr_places e) (last_there (TestLast e a b) h))
   plain_last g (ChooseLast n) h =
       ap (λ (r : List Touch). Throws ∷ r ++ Waits ∷ Throws ∷ []) (all_read (group_reads (group_at c.groups n)) (group_there g n))
-  plain_last g (ReturnLast e) h = ap (λ (r : List Touch). Throws ∷ r) (all_read (expr_places e) (last_there (ReturnLast e) h))
+  plain_last g (ReturnLast e) h = ap (λ (r : List Touch). Throws ∷ r) (all_read (maybe_places e) (last_there (ReturnLast e) h))
   plain_last g (ThrowLast e) h = ap (λ (r : List Touch). Throws ∷ r) (all_read (expr_places e) (last_there (ThrowLast e) h))
 
   -- the parts of a block that exists

@@ -144,7 +144,7 @@ fn is_error(ty: &Ty) -> bool
 {
     match ty {
         Ty::Error => true,
-        Ty::Int | Ty::Bool | Ty::Str | Ty::Void | Ty::Named(_) => false,
+        Ty::Int | Ty::Bool | Ty::Str | Ty::Void | Ty::Named(_) | Ty::Vector(_) => false,
         Ty::Future(_) | Ty::FutureStream(_) | Ty::Promise(_) | Ty::PromiseStream(_) => false,
     }
 }

@@ -12,7 +12,7 @@ use flow_base::name::Name;
 use flow_base::place::Place;
 use flow_class::class::Class;
 use flow_tree::decl::{ActorDecl, Decl, FunctionDecl, Param, RecordDecl, Slot};
-use flow_tree::ty::Ident;
+use flow_tree::ty::{Ident, copy_result};
 use std::alloc::Global;
 
 // The place of what stands in no text.
@@ -65,7 +65,7 @@ pub fn head_of(alloc: Global, class: &Class) -> Result<Decl, NoMemory>
 {
     Ok(Decl::Actor(ActorDecl {
         at: FIRST_PLACE,
-        returns: class.returns.copy(alloc)?,
+        returns: copy_result(alloc, &class.returns)?,
         name: ident(alloc, &class.name)?,
         params: slot_params(alloc, first_slots(&class.slots, class.params))?,
         body: Vec::new(alloc),

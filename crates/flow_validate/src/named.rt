@@ -86,7 +86,9 @@ fn has_all_in(class: &Class, expr: &Expr) -> bool
         Expr::Field(of, _) | Expr::Not(of) | Expr::Neg(of) | Expr::Paren(of) => {
             has_all_in(class, of)
         }
-        Expr::Binary(_, left, right) => has_all_in(class, left) && has_all_in(class, right),
+        Expr::Binary(_, left, right) | Expr::Index(left, right) => {
+            has_all_in(class, left) && has_all_in(class, right)
+        }
     }
 }
 
@@ -197,7 +199,8 @@ fn has_last(class: &Class, last: &Last) -> bool
             has_block(class, *holds) && has_block(class, *fails) && has_all_in(class, test)
         }
         Last::Choose(group) => has_group(class, *group),
-        Last::Return(value) | Last::Throw(value) => has_all_in(class, value),
+        Last::Return(Some(value)) | Last::Throw(value) => has_all_in(class, value),
+        Last::Return(None) => true,
     }
 }
 

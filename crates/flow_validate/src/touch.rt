@@ -60,7 +60,7 @@ fn add_reads(touches: &mut Vec<Touch>, expr: &Expr) -> Result<(), NoMemory>
         Expr::Field(of, _) | Expr::Not(of) | Expr::Neg(of) | Expr::Paren(of) => {
             add_reads(touches, of)
         }
-        Expr::Binary(_, left, right) => {
+        Expr::Binary(_, left, right) | Expr::Index(left, right) => {
             add_reads(touches, left)?;
             add_reads(touches, right)
         }
@@ -197,7 +197,8 @@ fn add_last(touches: &mut Vec<Touch>, class: &Class, last: &Last) -> Result<(), 
         Last::Goto(_) | Last::Pass(_) => Ok(()),
         Last::Test(test, _, _) => add_reads(touches, test),
         Last::Choose(group) => add_wait(touches, class, *group),
-        Last::Return(value) | Last::Throw(value) => add_reads(touches, value),
+        Last::Return(Some(value)) | Last::Throw(value) => add_reads(touches, value),
+        Last::Return(None) => Ok(()),
     }
 }
 

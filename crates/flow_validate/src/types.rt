@@ -17,7 +17,7 @@ ghost use Rattle.flow_class.specs.View.{class_of, block_of, instr_of, last_of, c
 ghost use Rattle.flow_validate.specs.Apart.{types_fit_in};
 ghost use Rattle.flow_validate.specs.Sizes.{HasFewPlaces, AreFew};
 ghost use Rattle.flow_class.specs.Classes.{ClassTree};
-ghost use Rattle.flow_valid.specs.Validity.{slot_rows, local_rows, is_effect_kind, calls_effect, is_effect, put_fault, is_promise, operand_type, has_type, instr_fits, last_fits, operand_fits, taken_type, callback_fits, block_fits};
+ghost use Rattle.flow_valid.specs.Validity.{slot_rows, local_rows, is_effect_kind, calls_effect, is_effect, put_fault, is_made, operand_type, has_type, instr_fits, last_fits, operand_fits, taken_type, callback_fits, block_fits};
 ghost use Rattle.flow_validate.specs.PlaceNames.{place_of, AreNames, AreEnough, AreEnoughFor};
 ghost use Rattle.flow_validate.specs.Rows.{AreSlotRows};
 
@@ -135,22 +135,22 @@ fn type_at(class: &Class, place: Slotted) -> Option<&Ty>
     }
 }
 
-fn is_promise_type(ty: &Ty) -> bool
-    ensures { result ≡ is_promise (Some (type_of ty.now)) }
+fn is_made_type(ty: &Ty) -> bool
+    ensures { result ≡ is_made (Some (type_of ty.now)) }
 {
     match ty {
-        Ty::Promise(_) | Ty::PromiseStream(_) => true,
+        Ty::Promise(_) | Ty::PromiseStream(_) | Ty::Vector(_) => true,
         Ty::Int | Ty::Bool | Ty::Str | Ty::Void | Ty::Error | Ty::Named(_) => false,
         Ty::Future(_) | Ty::FutureStream(_) => false,
     }
 }
 
-// A place for a promise or for a stream of promises.
-fn is_promise(class: &Class, place: Slotted) -> bool
-    ensures { result ≡ is_promise (type_at (class_of class.now) place) }
+// A place for a promise, for a stream of promises or for a vector.
+fn is_made(class: &Class, place: Slotted) -> bool
+    ensures { result ≡ is_made (type_at (class_of class.now) place) }
 {
     match type_at(class, place) {
-        Some(ty) => is_promise_type(ty),
+        Some(ty) => is_made_type(ty),
         None => false,
     }
 }
@@ -164,7 +164,7 @@ fn instr_fits<'a>(class: &'a Class, setting: &Setting<'_, 'a>, instr: &'a Instr)
         Instr::Effect(target, value) => {
             is_effect(setting, value) && put_fault(setting, true, target, value).is_none()
         }
-        Instr::New(place) => is_promise(class, *place),
+        Instr::New(place) => is_made(class, *place),
         Instr::Act(target, args) => setting.call(&target.path, args).is_none(),
         Instr::Drop(_) => true,
     }
@@ -176,7 +176,11 @@ fn last_fits<'a>(class: &'a Class, setting: &Setting<'_, 'a>, last: &'a Last) ->
 {
     match last {
         Last::Test(test, _, _) => has_type(setting, false, test, TypeView::Bool),
-        Last::Return(value) => has_type(setting, false, value, TypeView::of(&class.returns)),
+        Last::Return(value) => {
+            setting
+                .returned(value, TypeView::of_result(&class.returns))
+                .is_none()
+        }
         Last::Throw(value) => has_type(setting, false, value, TypeView::Error),
         Last::Goto(_) | Last::Pass(_) | Last::Choose(_) => true,
     }

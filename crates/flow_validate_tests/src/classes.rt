@@ -119,7 +119,7 @@ fn test(alloc: Global, text: &mut Reader) -> Result<Last, SourceFault> {
 }
 
 fn returned(alloc: Global, text: &mut Reader) -> Result<Last, SourceFault> {
-    Ok(Last::Return(text.expr(alloc)?))
+    Ok(Last::Return(Some(text.expr(alloc)?)))
 }
 
 fn thrown(alloc: Global, text: &mut Reader) -> Result<Last, SourceFault> {
@@ -341,7 +341,7 @@ fn head(alloc: Global, text: &mut Reader) -> Result<Class, SourceFault> {
     let returns = text.ty(alloc)?;
     Ok(Class {
         name,
-        returns,
+        returns: Some(returns),
         params: params(text),
         slots: Vec::new(alloc),
         locals: Vec::new(alloc),

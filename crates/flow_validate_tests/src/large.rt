@@ -86,7 +86,7 @@ fn returning(alloc: Global) -> Block {
     Block {
         catcher: None,
         body: Vec::new(alloc),
-        last: Last::Return(Expr::VoidValue),
+        last: Last::Return(Some(Expr::VoidValue)),
     }
 }
 
@@ -122,7 +122,7 @@ fn main_class(alloc: Global, count: u32) -> Result<Class, SourceFault> {
     let slots = parameter(alloc)?;
     Ok(Class {
         name: name(alloc, b"main")?,
-        returns: Ty::Void,
+        returns: Some(Ty::Void),
         params: 1,
         slots,
         locals,

@@ -12,7 +12,7 @@ use Rattle.flow_ast.specs.Slots.{body_groups}
 use Rattle.flow_ast.specs.TypingNames.{named}
 use Rattle.flow_ast.specs.Typing.{is_there}
 use Rattle.flow_class.specs.declared.class.Slotted.{Slotted}
-use Rattle.flow_class.specs.Classes.{InstrTree, ActInstr, ClassTree}
+use Rattle.flow_class.specs.Classes.{InstrTree, ActInstr, ClassTree, ReturnLast}
 use Rattle.flow_class.specs.Places.{place_name, place_named}
 use Rattle.flow_class.specs.Scopes.{Scope, Mark, scope, place_of, over, over_all, path_over, act_over, Above}
 use Rattle.flow_layout.specs.Locals.{body_locals, declared_locals}
@@ -52,9 +52,10 @@ use Rattle.flow_validity_laws.proofs.Entries.{Entries, catches, Live}
 use Rattle.flow_validity_laws.proofs.Surroundings.{Aims, EndWay, end_onward, Sides, sides_first, sides_second, hand_fact, drop_kept}
 use Rattle.flow_validity_laws.proofs.Reading.{IsNamed, covers_after, covers_new, keeps_assigned, whole_in, assign_in, change_in, act_in, declared_by}
 use Rattle.flow_validity_laws.proofs.Grounds.{Ground, ground_past, ground_into, live_to, leaf, acting_live, Rest, rest_of}
+use Rattle.flow_validity_laws.proofs.Agreeing.{EffectsAgree}
 
 module _ (base : Setting) (ns : Names) (c : ClassTree) (few_slots : length c.slots < 2 ^ 64) (few_locals : length c.locals < 2 ^ 64)
-    (agree : (f : List ℕ) → is_there (effectful ns f) ≡ calls_effect (called base f)) where
+    (agree : EffectsAgree base ns) where
   abbrev pub Rows : Type 0
   Rows = List (List ℕ × TypeTree)
 
@@ -160,8 +161,11 @@ module _ (base : Setting) (ns : Names) (c : ClassTree) (few_slots : length c.slo
       (omega arith) (by_exit w.exit)
     where
       by_exit : (x : Exit) → Live c w.hand a.hand gs p.stale (EndNear l w a p x) n.block n.block n.group n.group (finished w s x)
-      by_exit (Text close) =
-          leaf base ns c few_slots few_locals w s gs p a (EndNear l w a p (Text close)) n.block n.group false [] (cancelled close) g.hand.from (λ z en o. absurd (false≢true z))
+      by_exit (Text None) =
+          leaf base ns c few_slots few_locals w s gs p a (EndNear l w a p (Text None)) n.block n.group false [] (ReturnLast None) g.hand.from (λ z en o. absurd (false≢true z))
+          (λ en o kc z cover guard. (in_none z, catches c en w.hand a.hand kc p.stale z g.hand.below guard (covers_sub z gs a.hand.places p.stale g.hand.sub cover), tt))
+      by_exit (Text (Some close)) =
+          leaf base ns c few_slots few_locals w s gs p a (EndNear l w a p (Text (Some close))) n.block n.group false [] (cancelled close) g.hand.from (λ z en o. absurd (false≢true z))
           (λ en o kc z cover guard. (in_none z, catches c en w.hand a.hand kc p.stale z g.hand.below guard (covers_sub z gs a.hand.places p.stale g.hand.sub cover), tt))
       by_exit (Scoped last) =
           leaf base ns c few_slots few_locals w s gs p a (EndNear l w a p (Scoped last)) n.block n.group false (drop_of (scope s)) last g.hand.from (λ z en o. absurd (false≢true z))

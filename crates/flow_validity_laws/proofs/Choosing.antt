@@ -2,6 +2,7 @@
 use Rattle.std.proofs.Common.{◌≡◌, ℕ, suc, ◌+◌, ◌<◌, ◌≤◌, Bool, true, false, nat_eq, nat_lt, List, [], ◌∷◌, ◌++◌, length, if◌then◌else◌, refl, ap, sym, subst, ◌∙◌, arith}
 use Rattle.std.specs.declared.option.Option.{Option}
 use Rattle.std.specs.declared.option.Option.TheVariants.{None, Some}
+use Rattle.std.specs.Option.{option_map}
 use Rattle.flow_tree.specs.Tree.{ExprTree}
 use Rattle.flow_tree.specs.Body.{Body, End, BlockStmt, IfStmt, IfElseStmt, WhileStmt, ForStmt, LoopStmt, BreakStmt, ContinueStmt, ReturnStmt, ThrowStmt, TryStmt, ChooseStmt, DeclareStmt, AssignStmt, ModifyStmt, CallStmt, WaitStmt, Branches, NoBranches, MoreBranches}
 use Rattle.flow_tree.specs.Decls.{SlotTree, RoutineTree}
@@ -13,7 +14,7 @@ use Rattle.flow_layout.specs.Laying.{layout_of}
 use Rattle.flow_meaning.specs.Evaluating.{Names}
 use Rattle.flow_split.specs.Around.{Exit, Text, Scoped, Part, Hand, Around, whole, inner, pass, guarded, handling}
 use Rattle.flow_split.specs.Counts.{Next, begun, taken, grouped, past, past_branches, groups_in, branch_group_count}
-use Rattle.flow_split.specs.Lowered.{Chunk, blocks_of, joined, ends, before_rest, dropping, exits, exited, finished, thrown, with_into, with_taken, later, tested, callback, callbacks, test_before, lowered, branches, lowered_class}
+use Rattle.flow_split.specs.Lowered.{Chunk, blocks_of, joined, ends, before_rest, dropping, exits, exited, finished, thrown, with_into, with_taken, later, tested, callback, callbacks, test_before, lowered, branches, lowered_class, close_of}
 use Rattle.flow_split.proofs.Lengths.{lowered_groups}
 use Rattle.flow_split.proofs.Lengths.{none_behind}
 use Rattle.flow_lowering_laws.proofs.Actors.Further.{exited_group}
@@ -119,7 +120,8 @@ pub record IsQuiet (w : Around) : Type 0 where
   pub again : Quiet w.looped.again
 
 quiet_finished : (n : ℕ) (w : Around) (s : Scope) (x : Exit) → QuietExit x → Once n n (named_in (finished w s x))
-quiet_finished n w s (Text close) q = none_named n (named_in (finished w s (Text close))) (λ g. refl)
+quiet_finished n w s (Text None) q = none_named n (named_in (finished w s (Text None))) (λ g. refl)
+quiet_finished n w s (Text (Some close)) q = none_named n (named_in (finished w s (Text (Some close)))) (λ g. refl)
 quiet_finished n w s (Scoped l) q = none_named n (named_in (finished w s (Scoped l))) (λ g. ap (λ b. once b + 0) (q g))
 quiet_finished n w s (Part l) q = none_named n (named_in (finished w s (Part l))) (λ g. ap (λ b. once b + 0) (q g))
 
@@ -233,7 +235,7 @@ module _ (ns : Names) (slots : List SlotTree) where
         rest_named k n.group w.hand (exits w.looped.tried w s n w.looped.again) d (quiet_exits n.group w.looped.tried w s n w.looped.again q.again)
         (subst (λ z. Once z (z + groups_in k) (named_in d)) (exited_group w.looped.tried n) (lowered_once s w (begun m) k q))
     lowered_once s w n (ReturnStmt at e k) q =
-        rest_named k n.group w.hand (ends w s true [] (ReturnLast (over slots s e))) (lowered ns slots s w (begun n) k) (quiet_ends n.group w s true [] (ReturnLast (over slots s e)) (λ g. refl))
+        rest_named k n.group w.hand (ends w s true [] (ReturnLast (option_map (over slots s) e))) (lowered ns slots s w (begun n) k) (quiet_ends n.group w s true [] (ReturnLast (option_map (over slots s) e)) (λ g. refl))
         (lowered_once s w (begun n) k q)
     lowered_once s w n (ThrowStmt at e k) q =
         rest_named k n.group w.hand (ends w s true [] (ThrowLast (thrown ns slots s at e w.caught))) (lowered ns slots s w (begun n) k)
@@ -299,6 +301,6 @@ pub chosen_well : (ns : Names) (a : RoutineTree) → groups_chosen (lowered_clas
 chosen_well ns a =
     let c = lowered_class ns (layout_of a) a in
     let n : Next = record { block = 1; local = 0; group = 1 } in
-    let o = lowered_once ns c.slots [] (whole a.close) n a.body (record { exit = tt; again = λ g. refl }) in
-    let gs = lowered_groups ns c.slots [] (whole a.close) n a.body in
+    let o = lowered_once ns c.slots [] (whole (close_of a)) n a.body (record { exit = tt; again = λ g. refl }) in
+    let gs = lowered_groups ns c.slots [] (whole (close_of a)) n a.body in
     each c.blocks 1 (1 + groups_in a.body) c.groups (omega (arith, gs)) (λ g le lt. o.within g le lt)

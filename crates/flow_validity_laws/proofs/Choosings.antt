@@ -52,6 +52,7 @@ use Rattle.flow_validity_laws.proofs.Surroundings.{onward_once}
 use Rattle.flow_validity_laws.proofs.Fitting.{stands_loop}
 use Rattle.flow_validity_laws.proofs.Grounds.{ground_pass}
 use Rattle.flow_validity_laws.proofs.Jumping.{waits_alone, inner_owed}
+use Rattle.flow_validity_laws.proofs.Agreeing.{EffectsAgree}
 
 abbrev pub IsJump : ℕ → LastTree → Type 0
 IsJump y (GotoLast t) = t ≡ y
@@ -62,7 +63,7 @@ pub monus_twice : (k a b x : ℕ) → x ≡ a + b → k - x ≡ k - a - b
 monus_twice k a b x e = omega (arith, e)
 
 module _ (base : Setting) (ns : Names) (c : ClassTree) (few_slots : length c.slots < 2 ^ 64) (few_locals : length c.locals < 2 ^ 64)
-    (agree : (f : List ℕ) → is_there (effectful ns f) ≡ calls_effect (called base f)) where
+    (agree : EffectsAgree base ns) where
   abbrev Alives : Body → Type 0
   Alives b = Lives base ns c few_slots few_locals agree b
 

@@ -5,7 +5,7 @@ use Rattle.std.proofs.lemmas.List.{append-nil, map-append}
 use Rattle.std.specs.declared.option.Option.{Option}
 use Rattle.std.specs.declared.option.Option.TheVariants.{None, Some}
 use Rattle.flow_base.specs.declared.place.Place.{Place}
-use Rattle.flow_tree.specs.Tree.{TypeTree, NamedType, FutureType, FutureStreamType, PromiseType, PromiseStreamType}
+use Rattle.flow_tree.specs.Tree.{TypeTree, NamedType, FutureType, FutureStreamType, PromiseType, PromiseStreamType, VectorType}
 use Rattle.flow_tree.specs.Decls.{ParamTree, RecordTree, RoutineTree, DeclTree, StructDecl, FunctionDecl, ActorDecl, ProgramTree}
 use Rattle.flow_ast.specs.TypingNames.{named}
 use Rattle.flow_ast.specs.Typing.{or_else, is_there, is_packet}
@@ -75,6 +75,7 @@ type_less k j l (FutureType t) e = type_less k j l t e
 type_less k j l (FutureStreamType t) e = type_less k j l t e
 type_less k j l (PromiseType t) e = type_less k j l t e
 type_less k j l (PromiseStreamType t) e = type_less k j l t e
+type_less k j l (VectorType t) e = type_less k j l t e
 type_less k j l _ e = refl
 
 unless_true : (b : Bool) (n : SemanticRule) → b ≡ true → unless b n ≡ None

@@ -7,12 +7,13 @@ use Rattle.std.proofs.lemmas.Iterator.Adapters.{position_from-zero}
 use Rattle.std.specs.declared.option.Option.{Option}
 use Rattle.std.specs.declared.option.Option.TheVariants.{None, Some}
 use Rattle.flow_tree.specs.Decls.{RoutineTree, DeclTree, StructDecl, FunctionDecl, ActorDecl, ProgramTree}
+use Rattle.flow_tree.specs.Tree.{TypeTree, NothingType}
 use Rattle.flow_ast.specs.declared.predefined.Predefined.{Predefined}
 use Rattle.flow_ast.specs.declared.predefined.Predefined.TheVariants.{ToString}
 use Rattle.flow_ast.specs.TypingNames.{named, call_names}
 use Rattle.flow_ast.specs.Typing.{is_there, is_packet, is_effect, signature}
 use Rattle.flow_rules.specs.Known.{Meaning, RecordOf, FunctionOf, ActorOf, row_of, packet_row, known}
-use Rattle.flow_rules.specs.Judged.{Setting, declared_callee, predefined_callee, called_as, called}
+use Rattle.flow_rules.specs.Judged.{Setting, declared_callee, predefined_callee, called_as, called, actor_callee}
 use Rattle.flow_rules.specs.Items.{item, body_refusal}
 use Rattle.flow_rules.specs.Rules.{setting_of, header_fault, body_env, decl_refusal, decls_refusal}
 use Rattle.flow_rules.proofs.Lesser.{no_item}
@@ -24,6 +25,7 @@ use Rattle.flow_typing_laws.proofs.Typing.Agreement.{neither_first, neither_seco
 use Rattle.flow_lowering_laws.proofs.Programs.Whole.{EachActor}
 use Rattle.flow_validity_laws.proofs.Sorting.{rows}
 use Rattle.flow_validity_laws.proofs.Declaring.{Accepted, header_new, no_packet}
+use Rattle.flow_validity_laws.proofs.Agreeing.{is_said, EffectsAgree}
 
 -- what the rules say of an actor
 pub record IsJudged (s : Setting) (a : RoutineTree) : Type 0 where
@@ -114,11 +116,15 @@ known_actor s ds x j d = by_name (bytes_eq x packet_row.0) refl
     by_name true e = no_packet_among s ds x j e
     by_name false e = actor_at ds x d
 
-declared_effect : (f : List ℕ) (m : Option Meaning) → calls_effect (option_map (declared_callee f) m) ≡ is_actor m
-declared_effect f None = refl
-declared_effect f (Some (RecordOf fs)) = refl
-declared_effect f (Some (FunctionOf ts t)) = refl
-declared_effect f (Some (ActorOf ts t)) = refl
+actor_effect : (ts : List TypeTree) (t : TypeTree) → is_said (Some (actor_callee ts t)) ≡ false → calls_effect (Some (actor_callee ts t)) ≡ true
+actor_effect ts NothingType h = absurd cc
+actor_effect ts t h = refl
+
+declared_effect : (f : List ℕ) (m : Option Meaning) → is_said (option_map (declared_callee f) m) ≡ false → calls_effect (option_map (declared_callee f) m) ≡ is_actor m
+declared_effect f None h = refl
+declared_effect f (Some (RecordOf fs)) h = refl
+declared_effect f (Some (FunctionOf ts t)) h = refl
+declared_effect f (Some (ActorOf ts t)) h = actor_effect ts t h
 
 predefined_effect : (p : Predefined) → is_there (world_if (is_effect p) p) ≡ calls_effect (Some (predefined_callee p (signature p)))
 predefined_effect ToString = refl
@@ -128,11 +134,11 @@ actor_there : (k : Option ℕ) → is_there (effectful_of None k) ≡ is_there k
 actor_there None = refl
 actor_there (Some k) = refl
 
-pub effects_agree : (p : ProgramTree) → Accepted p → (f : List ℕ) → is_there (effectful (names_of p) f) ≡ calls_effect (called (setting_of p.decls false) f)
+pub effects_agree : (p : ProgramTree) → Accepted p → EffectsAgree (setting_of p.decls false) (names_of p)
 effects_agree p h f = by_call (named call_names f)
   where
-    by_call : (o : Option Predefined) → is_there (effectful_of o (position (bytes_eq f) (actor_names p.decls))) ≡ calls_effect (called_as (setting_of p.decls false) f o)
-    by_call (Some q) = predefined_effect q
-    by_call None =
+    by_call : (o : Option Predefined) → is_said (called_as (setting_of p.decls false) f o) ≡ false → is_there (effectful_of o (position (bytes_eq f) (actor_names p.decls))) ≡ calls_effect (called_as (setting_of p.decls false) f o)
+    by_call (Some q) n = predefined_effect q
+    by_call None n =
         actor_there (position (bytes_eq f) (actor_names p.decls)) ∙ position_there (bytes_eq f) (actor_names p.decls)
-        ∙ known_actor (setting_of p.decls false) p.decls f (actors_judged (setting_of p.decls) [] p.decls h.decls) h.apart ∙ sym (declared_effect f (known p.decls f))
+        ∙ known_actor (setting_of p.decls false) p.decls f (actors_judged (setting_of p.decls) [] p.decls h.decls) h.apart ∙ sym (declared_effect f (known p.decls f) n)

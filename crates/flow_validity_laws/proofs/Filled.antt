@@ -25,7 +25,7 @@ use Rattle.flow_meaning.specs.Evaluating.{Names}
 use Rattle.flow_meaning.specs.Source.{names_of}
 use Rattle.flow_split.specs.Around.{whole}
 use Rattle.flow_split.specs.Counts.{Next, blocks_in, groups_in}
-use Rattle.flow_split.specs.Lowered.{lowered}
+use Rattle.flow_split.specs.Lowered.{lowered, close_of}
 use Rattle.flow_lower.specs.Compiled.{class_in, compiled}
 use Rattle.flow_front.specs.Verdict.{IsSound}
 use Rattle.flow_valid.specs.Filling.{among, is_parameter, ReadsFilled}
@@ -192,7 +192,7 @@ class_filled p h a k paths unlost =
     let ns = names_of p in
     let c = class_in ns a in
     let base = setting_of p.decls false in
-    let w = whole a.close in
+    let w = whole (close_of a) in
     let rows = map field_row a.params in
     let vs = reverse (map parameter a.params) in
     let gs = slots_down (length a.params) in

@@ -17,14 +17,14 @@ use Rattle.flow_layout.specs.Locals.{body_locals, branch_locals, declared_locals
 use Rattle.flow_rules.specs.declared.rule.SemanticRule.{SemanticRule}
 use Rattle.flow_rules.specs.declared.rule.SemanticRule.TheVariants.{WaitInFunction}
 use Rattle.flow_rules.specs.Least.{unless}
-use Rattle.flow_rules.specs.Judged.{Setting, called, wanted}
+use Rattle.flow_rules.specs.Judged.{Setting, called, wanted, returned}
 use Rattle.flow_rules.specs.Items.{Env, item, with_var, with_states, in_loop, in_catch, behind, declared, waited, started, fresh, into_fault, value_fault, declare_fault, assign_fault, modify_fault, call_fault, wait_fault, maybe_into, wait_type, test_fault, maybe_test, throw_fault, slot_names, body_refusal, branch_refusal}
 use Rattle.flow_rules.proofs.Lesser.{no_first, no_second, no_item}
 use Rattle.flow_meaning.specs.Evaluating.{Names, effectful}
 use Rattle.flow_meaning.specs.Items.{change}
 use Rattle.flow_split.specs.Around.{Exit, Text, Scoped, Part, Hand, Around, inner, pass, guarded, handling}
 use Rattle.flow_split.specs.Counts.{Next, begun, taken, grouped, past, past_branches, local_count, into_count, locals_in}
-use Rattle.flow_split.specs.Lowered.{Chunk, block_with, blocks_of, joined, ends, acting, dropping, drop_of, finished, exits, exited, with_local, with_into, with_taken, later, tested, assigned, changed, taken_in, place_in, declares, thrown, cancelled, callback, callbacks, test_before, lowered, branches}
+use Rattle.flow_split.specs.Lowered.{Chunk, block_with, blocks_of, joined, ends, acting, dropping, drop_of, finished, exits, exited, with_local, with_into, with_taken, later, tested, assigned, changed, taken_in, place_in, declares, thrown, cancelled, callback, callbacks, test_before, lowered, branches, text_end}
 use Rattle.flow_valid.specs.Validity.{calls_effect, instr_fits, last_fits, block_fits, callback_fits}
 use Rattle.flow_tree.specs.Formed.{IsInit}
 use Rattle.flow_lowering_laws.specs.Actors.Parts.{HasParts, HaveParts}
@@ -36,19 +36,21 @@ use Rattle.flow_lowering_laws.proofs.Actors.Places.{names, names_with, Placing, 
 use Rattle.flow_lowering_laws.proofs.Actors.Further.{locals_count, branch_locals_count, into_locals_count, locals_after, exited_local, names_taken, try_room}
 use Rattle.flow_lowering_laws.proofs.Actors.Fors.{step_locals, test_local}
 use Rattle.std.specs.Str.{bytes_eq}
+use Rattle.std.specs.Option.{option_map}
 use Rattle.flow_typing_laws.proofs.Typing.Names.{bytes_self}
 use Rattle.flow_typing_laws.proofs.Typing.Agreement.{neither_first, neither_second}
 use Rattle.flow_validity_laws.proofs.Naming.{both, all_both}
 use Rattle.flow_validity_laws.proofs.OverPlaces.{over_names, over_class, Sees}
 use Rattle.flow_validity_laws.proofs.InForce.{New, is_new, new_into, class_var, sees_into, sees_error}
-use Rattle.flow_validity_laws.proofs.Instructions.{IsAt, at_place, assign_fits, change_fits, act_fits, declare_fits, type_fits, Caught, throw_fits, IsTaken, callback_suits}
+use Rattle.flow_validity_laws.proofs.Instructions.{IsAt, at_place, assign_fits, change_fits, act_fits, declare_fits, type_fits, Caught, throw_fits, IsTaken, callback_suits, return_fits}
+use Rattle.flow_validity_laws.proofs.Agreeing.{EffectsAgree}
 
 -- a setting with one more variable
 abbrev pub with_row : List ℕ → TypeTree → Setting → Setting
 with_row x t s = record s { vars = s.vars ++ (x, t) ∷ [] }
 
 module _ (base : Setting) (ns : Names) (c : ClassTree) (few_slots : length c.slots < 2 ^ 64) (few_locals : length c.locals < 2 ^ 64)
-    (agree : (f : List ℕ) → is_there (effectful ns f) ≡ calls_effect (called base f)) where
+    (agree : EffectsAgree base ns) where
   abbrev places : Setting
   places = over_class base c
 
@@ -103,7 +105,7 @@ module _ (base : Setting) (ns : Names) (c : ClassTree) (few_slots : length c.slo
 
   -- what goes on at the end of a body, or of a round, fits
   abbrev pub ExitFits : Exit → Type 0
-  ExitFits (Text close) = Unit {0}
+  ExitFits (Text close) = last_fits c places (text_end close) ≡ true
   ExitFits (Scoped l) = last_fits c places l ≡ true
   ExitFits (Part l) = last_fits c places l ≡ true
 
@@ -115,7 +117,7 @@ module _ (base : Setting) (ns : Names) (c : ClassTree) (few_slots : length c.slo
   plain_inner w x h p = record { exit = h; again = p.again }
 
   finished_fit : (w : Around) (s : Scope) (x : Exit) → ExitFits x → Fit (finished w s x)
-  finished_fit w s (Text close) h = ends_fit w s false [] (cancelled close) refl refl
+  finished_fit w s (Text close) h = ends_fit w s false [] (text_end close) refl h
   finished_fit w s (Scoped l) h = ends_fit w s false (drop_of (scope s)) l (drops_fit (scope s)) h
   finished_fit w s (Part l) h = ends_fit w s false [] l refl h
 
@@ -401,10 +403,11 @@ module _ (base : Setting) (ns : Names) (c : ClassTree) (few_slots : length c.slo
         rest_fit (has_statement x) w.hand (exits w.looped.tried w s n w.looped.again) (lowered ns c.slots s w (begun m) x) (exits_fit w.looped.tried w s n w.looped.again p.again)
         (body_fit x l t e vs s w (begun m) k p (subst (λ z. Above z s) (sym el) a) (subst (λ z. LocalsAt ns c z (body_locals x)) (sym el) r) parts.1 ok.1 (neither_second (item at _) _ h))
     body_fit (ReturnStmt at q x) l t e vs s w n k p a r parts ok h =
-        let i = item at (wanted e.setting false q e.returns) in
-        let f = at_item e vs at (λ z. wanted z false q e.returns) k.setting (neither_first i _ h) in
-        let good = type_fits base ns c agree vs s k.sees false q c.returns (ap (λ z. wanted (over_names base c vs) false q z) (sym k.returns) ∙ f) in
-        rest_fit (has_statement x) w.hand (ends w s true [] (ReturnLast (over c.slots s q))) (lowered ns c.slots s w (begun n) x) (ends_fit w s true [] (ReturnLast (over c.slots s q)) refl good)
+        let i = item at (returned e.setting q e.returns) in
+        let f = at_item e vs at (λ z. returned z q e.returns) k.setting (neither_first i _ h) in
+        let good = return_fits base ns c agree vs s k.sees q (ap (λ z. returned (over_names base c vs) q z) (sym k.returns) ∙ f) in
+        let last = ReturnLast (option_map (over c.slots s) q) in
+        rest_fit (has_statement x) w.hand (ends w s true [] last) (lowered ns c.slots s w (begun n) x) (ends_fit w s true [] last refl good)
         (body_fit x l t e vs s w (begun n) k p a r parts.1 ok (neither_second i _ h))
     body_fit (ThrowStmt at q x) l t e vs s w n k p a r parts ok h =
         let i = item at (throw_fault e.setting e.caught q) in

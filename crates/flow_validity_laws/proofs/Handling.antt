@@ -56,9 +56,10 @@ use Rattle.flow_validity_laws.proofs.InForce.{sees_error}
 use Rattle.flow_validity_laws.proofs.Lines.{lined_more, lined_marked}
 use Rattle.flow_validity_laws.proofs.Grounds.{lies_more}
 use Rattle.flow_validity_laws.proofs.Choosings.{jump_leaf, monus_twice}
+use Rattle.flow_validity_laws.proofs.Agreeing.{EffectsAgree}
 
 module _ (base : Setting) (ns : Names) (c : ClassTree) (few_slots : length c.slots < 2 ^ 64) (few_locals : length c.locals < 2 ^ 64)
-    (agree : (f : List ℕ) → is_there (effectful ns f) ≡ calls_effect (called base f)) where
+    (agree : EffectsAgree base ns) where
   abbrev Alives : Body → Type 0
   Alives b = Lives base ns c few_slots few_locals agree b
 

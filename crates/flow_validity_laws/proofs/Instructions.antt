@@ -7,29 +7,30 @@ use Rattle.std.specs.declared.option.Option.TheVariants.{None, Some}
 use Rattle.flow_base.specs.declared.place.Place.{Place}
 use Rattle.flow_tree.specs.declared.ty.Ident.{Ident}
 use Rattle.flow_tree.specs.declared.expr.Op.TheVariants.{Add, Sub}
-use Rattle.flow_tree.specs.Tree.{TypeTree, IntType, BoolType, StringType, VoidType, ErrorType, PromiseType, PromiseStreamType, ExprTree, ExprTrees, IntExpr, TextExpr, BoolExpr, VarExpr, CallExpr, FieldExpr}
+use Rattle.flow_tree.specs.Tree.{TypeTree, IntType, BoolType, StringType, VoidType, ErrorType, PromiseType, PromiseStreamType, ExprTree, ExprTrees, IntExpr, TextExpr, BoolExpr, VarExpr, CallExpr, FieldExpr, VectorType}
 use Rattle.flow_tree.specs.Body.{IntoTree, WaitTree, ChangeTree, PlusChange, MinusChange, UpChange, DownChange}
 use Rattle.flow_ast.specs.TypingNames.{named}
 use Rattle.flow_ast.specs.Typing.{is_there, with_type, same_type, sum_type, int_only, binary_type}
 use Rattle.flow_class.specs.declared.class.Slotted.{Slotted}
 use Rattle.flow_class.specs.Places.{place_name}
-use Rattle.flow_class.specs.Classes.{InstrTree, SetInstr, NewInstr, ActInstr, ThrowLast, ClassTree}
+use Rattle.flow_class.specs.Classes.{InstrTree, SetInstr, NewInstr, ActInstr, ThrowLast, ClassTree, ReturnLast}
 use Rattle.flow_class.specs.Code.{type_at}
 use Rattle.flow_class.specs.Scopes.{Scope, place_of, var_over, over, over_all, path_over, act_over}
 use Rattle.flow_rules.specs.declared.rule.SemanticRule.TheVariants.{UnknownName, WrongType, NeedsValue}
 use Rattle.flow_rules.specs.Least.{lesser, unless}
-use Rattle.flow_rules.specs.Judged.{Setting, field_form, variable_as, variable_form, sign_form, form, wants, operands, of_field, fault, wanted, called}
+use Rattle.flow_rules.specs.Judged.{Setting, field_form, variable_as, variable_form, sign_form, form, wants, operands, of_field, fault, wanted, called, placed, calls, needs_of, faults, returned}
 use Rattle.flow_rules.specs.Items.{has_default, value_fault, path_form, path_fault, target_form, target_fault, assigned as fits_target, assign_fault, change_fault, modify_fault, call_fault, wait_type, throw_fault}
 use Rattle.flow_rules.proofs.Lesser.{no_first, no_second, no_lesser, holds}
 use Rattle.flow_choose.specs.Places.{ident_at}
 use Rattle.flow_meaning.specs.Evaluating.{Names, effectful, effect_in}
 use Rattle.flow_meaning.specs.Items.{path_from, modified, change}
 use Rattle.flow_split.specs.Lowered.{first_value, new_at, first_at, assign_by, assigned, changed, place_in, taken_in, declares, thrown, callback, cancelled}
-use Rattle.flow_valid.specs.Validity.{calls_effect, is_effect, put_fault, is_promise, operand_type, has_type, instr_fits, last_fits, operand_fits, taken_type, callback_fits}
+use Rattle.flow_valid.specs.Validity.{calls_effect, is_effect, put_fault, is_made, operand_type, has_type, instr_fits, last_fits, operand_fits, taken_type, callback_fits}
 use Rattle.flow_typing_laws.proofs.Typing.Names.{some_none, type_same, type_self, there}
 use Rattle.flow_typing_laws.proofs.Typing.Expressions.{sum_there}
 use Rattle.flow_validity_laws.proofs.Naming.{both}
 use Rattle.flow_validity_laws.proofs.OverPlaces.{class_vars, over_names, over_class, Sees, place_form, same, wanted_same, put_same, call_same, quiet}
+use Rattle.flow_validity_laws.proofs.Agreeing.{EffectsAgree, value_called}
 
 pub none_is : {A : Type 0} (o : Option A) → o ≡ None → is_none o ≡ true
 none_is None e = refl
@@ -144,7 +145,7 @@ changes s old o DownChange f h k =
       suits = difference_suits o (Some IntType) y;
     }
 
-module _ (base : Setting) (ns : Names) (c : ClassTree) (agree : (f : List ℕ) → is_there (effectful ns f) ≡ calls_effect (called base f)) (vs : List (List ℕ × TypeTree)) (s : Scope)
+module _ (base : Setting) (ns : Names) (c : ClassTree) (agree : EffectsAgree base ns) (vs : List (List ℕ × TypeTree)) (s : Scope)
     (sees : Sees base c vs s) where
   abbrev names : Setting
   names = over_names base c vs
@@ -163,9 +164,12 @@ module _ (base : Setting) (ns : Names) (c : ClassTree) (agree : (f : List ℕ) �
   mapped_there f None = refl
   mapped_there f (Some a) = refl
 
-  effect_same : (e : ExprTree) → is_there (effect_in ns e) ≡ is_effect names e
-  effect_same (CallExpr f es) = mapped_there (λ g. (g, es)) (effectful ns f.name) ∙ agree f.name
-  effect_same _ = refl
+  effect_same : (e : ExprTree) → fault names true e ≡ None → is_there (effect_in ns e) ≡ is_effect names e
+  effect_same (CallExpr f es) h =
+      let n = value_called names es (called names f.name)
+      (no_second (faults names 0 (needs_of (called names f.name)) es) (calls es (called names f.name) (placed names true)) h) in
+      mapped_there (λ g. (g, es)) (effectful ns f.name) ∙ agree f.name n
+  effect_same _ h = refl
 
   effect_over : (e : ExprTree) → is_effect places (over c.slots s e) ≡ is_effect names e
   effect_over (CallExpr f es) = refl
@@ -177,8 +181,8 @@ module _ (base : Setting) (ns : Names) (c : ClassTree) (agree : (f : List ℕ) �
   put_by path e h put = by_kind (is_there (effect_in ns e)) refl
     where
       by_kind : (b : Bool) → is_there (effect_in ns e) ≡ b → instr_fits c places (assign_by ns c.slots b path (over c.slots s e)) ≡ true
-      by_kind true is = both (is_effect places (over c.slots s e)) _ (effect_over e ∙ sym (effect_same e) ∙ is) (none_is (put_fault places true path (over c.slots s e)) (put true h))
-      by_kind false is = none_is (put_fault places false path (over c.slots s e)) (put false (quiet base c vs s sees e (sym (effect_same e) ∙ is) h))
+      by_kind true is = both (is_effect places (over c.slots s e)) _ (effect_over e ∙ sym (effect_same e h) ∙ is) (none_is (put_fault places true path (over c.slots s e)) (put true h))
+      by_kind false is = none_is (put_fault places false path (over c.slots s e)) (put false (quiet base c vs s sees e (sym (effect_same e h) ∙ is) h))
 
   pub assign_fits : (xs : List Ident) (e : ExprTree) → assign_fault names xs e ≡ None → instr_fits c places (assigned ns c.slots s (path_over c.slots s xs) e) ≡ true
   assign_fits xs e h =
@@ -245,8 +249,9 @@ module _ (base : Setting) (ns : Names) (c : ClassTree) (agree : (f : List ℕ) �
       (none_is (put_fault places false (ident_at o i.name ∷ []) (BoolExpr false)) (put_own false o BoolType i.name (BoolExpr false) p refl refl))
   literal_fits StringType i o h p = one_fits (SetInstr (ident_at o i.name ∷ []) (TextExpr []))
       (none_is (put_fault places false (ident_at o i.name ∷ []) (TextExpr [])) (put_own false o StringType i.name (TextExpr []) p refl refl))
-  literal_fits (PromiseType t) i o h p = subst (λ q. InstrsFit (new_at q)) (sym p.is) (one_fits (NewInstr p.to) (ap is_promise p.typed))
-  literal_fits (PromiseStreamType t) i o h p = subst (λ q. InstrsFit (new_at q)) (sym p.is) (one_fits (NewInstr p.to) (ap is_promise p.typed))
+  literal_fits (PromiseType t) i o h p = subst (λ q. InstrsFit (new_at q)) (sym p.is) (one_fits (NewInstr p.to) (ap is_made p.typed))
+  literal_fits (PromiseStreamType t) i o h p = subst (λ q. InstrsFit (new_at q)) (sym p.is) (one_fits (NewInstr p.to) (ap is_made p.typed))
+  literal_fits (VectorType t) i o h p = subst (λ q. InstrsFit (new_at q)) (sym p.is) (one_fits (NewInstr p.to) (ap is_made p.typed))
   literal_fits t i o h p = cc
 
   pub declare_fits : (l : ℕ) (i : IntoTree) (v : Option ExprTree) → IsAt (place_in ns c.slots i l s) i.ty → value_fault names i.ty v ≡ None → InstrsFit (declares ns c.slots s l i v)
@@ -261,6 +266,11 @@ module _ (base : Setting) (ns : Names) (c : ClassTree) (agree : (f : List ℕ) �
   -- tests, results, errors
   pub type_fits : (whole : Bool) (e : ExprTree) (t : TypeTree) → wanted names whole e t ≡ None → has_type places whole (over c.slots s e) t ≡ true
   type_fits whole e t h = none_is (wanted places whole (over c.slots s e) t) (wanted_same base c vs s sees whole e t h)
+
+  -- the result of a return
+  pub return_fits : (v : Option ExprTree) → returned names v c.returns ≡ None → last_fits c places (ReturnLast (option_map (over c.slots s) v)) ≡ true
+  return_fits None h = none_is (returned places None c.returns) h
+  return_fits (Some e) h = type_fits false e c.returns h
 
   -- the error of the catch around
   pub record Caught (caught : Bool) (o : Option (List ℕ)) : Type 0 where

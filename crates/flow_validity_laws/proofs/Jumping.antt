@@ -1,11 +1,11 @@
 -- Where a body is reached, its blocks are kept: jumps, scopes and choices.
 use Rattle.std.proofs.Common.{◌≡◌, inr, ℕ, suc, ◌+◌, ◌-◌, ◌^◌, ◌<◌, Bool, true, false, List, [], ◌∷◌, ◌++◌, length, map, if◌then◌else◌, refl, ap, sym, subst, ◌∙◌, arith, length-append, append-nil}
 use Rattle.std.proofs.lemmas.Bool.{false≢true}
-use Rattle.std.specs.Option.{option_and_then}
+use Rattle.std.specs.Option.{option_and_then, option_map}
 use Rattle.std.specs.declared.option.Option.{Option}
 use Rattle.std.specs.declared.option.Option.TheVariants.{None, Some}
 use Rattle.flow_base.specs.declared.place.Place.{Place}
-use Rattle.flow_tree.specs.Tree.{ErrorType, ExprTree}
+use Rattle.flow_tree.specs.Tree.{ErrorType, ExprTree, TypeTree}
 use Rattle.flow_tree.specs.Body.{Body, End, BlockStmt, BreakStmt, ContinueStmt, ReturnStmt, ThrowStmt}
 use Rattle.flow_ast.specs.Slots.{body_groups}
 use Rattle.flow_ast.specs.Leaving.{has_statement}
@@ -16,21 +16,21 @@ use Rattle.flow_class.specs.Places.{place_named}
 use Rattle.flow_class.specs.Scopes.{Scope, Mark, place_of, var_over, over}
 use Rattle.flow_catch.specs.Inner.{inner_locals, left_lists}
 use Rattle.flow_layout.specs.Locals.{body_locals}
-use Rattle.flow_rules.specs.Judged.{Setting, called, fault, form, wants, wanted}
+use Rattle.flow_rules.specs.Judged.{Setting, called, fault, form, wants, wanted, returned}
 use Rattle.flow_rules.specs.Items.{item, behind as rule_behind, throw_fault, body_refusal}
 use Rattle.flow_rules.proofs.Lesser.{no_first, holds}
 use Rattle.flow_staterule.specs.declared.scope.Point.{Point}
 use Rattle.flow_staterule.specs.declared.ways.Ways.{Ways}
 use Rattle.flow_staterule.specs.declared.uses.Caught.{Caught}
 use Rattle.flow_staterule.specs.Ways.{at_once, is_reached, both, node, sequence, ways}
-use Rattle.flow_staterule.specs.Uses.{Variable, behind, expr_uses, left, beyond, thrown_uses, uses}
+use Rattle.flow_staterule.specs.Uses.{Variable, behind, expr_uses, left, beyond, thrown_uses, uses, maybe_uses}
 use Rattle.flow_meaning.specs.Evaluating.{Names, effectful}
 use Rattle.flow_split.specs.Around.{Scoped, Hand, Around, inner}
 use Rattle.flow_split.specs.Counts.{Next, begun, past, behind as count_behind, exit_blocks, blocks_in, groups_in}
 use Rattle.flow_split.specs.Lowered.{Chunk, joined, ends, before_rest, exits, exited, thrown, lowered}
 use Rattle.flow_split.proofs.Lengths.{lowered_more, lowered_groups}
 use Rattle.flow_valid.specs.Validity.{calls_effect}
-use Rattle.flow_valid.specs.Named.{listed, expr_places}
+use Rattle.flow_valid.specs.Named.{listed, expr_places, maybe_places}
 use Rattle.flow_valid.specs.Filling.{among}
 use Rattle.flow_lowering_laws.proofs.Actors.Standing.{locals_front}
 use Rattle.flow_lowering_laws.proofs.Actors.Around.{above_more}
@@ -48,9 +48,10 @@ use Rattle.flow_validity_laws.proofs.Grounds.{here_aim, Ground, ground_inner, li
 use Rattle.flow_split.proofs.Lengths.{none_behind}
 use Rattle.flow_validity_laws.proofs.Grounds.{no_aim, lies_nowhere}
 use Rattle.flow_validity_laws.proofs.Alive.{Rows, Thrown, thrown_marked, Outer, Lives, rest_lives}
+use Rattle.flow_validity_laws.proofs.Agreeing.{EffectsAgree}
 
 module _ (base : Setting) (ns : Names) (c : ClassTree) (few_slots : length c.slots < 2 ^ 64) (few_locals : length c.locals < 2 ^ 64)
-    (agree : (f : List ℕ) → is_there (effectful ns f) ≡ calls_effect (called base f)) where
+    (agree : EffectsAgree base ns) where
   abbrev pub Alives : Body → Type 0
   Alives b = Lives base ns c few_slots few_locals agree b
 
@@ -68,22 +69,30 @@ module _ (base : Setting) (ns : Names) (c : ClassTree) (few_slots : length c.slo
   dead_live false x h a gs st outer n m z g one d e v size gsize =
       live_to base ns c few_slots few_locals h a gs st outer n m (m + 0) g g (g + groups_in x) one (omega arith) (omega (arith, none_behind x e)) v
 
-  pub return_lives : (at : Place) (q : ExprTree) (x : Body) → Alives (ReturnStmt at q x)
-  return_lives at q x l t e rows vs gs s w n p a cu k said g th fresh many =
-      let f = item at (wanted e.setting false q e.returns) in
-      let st = said.stands in
-      let judged = at_item base ns c few_slots few_locals agree e rows at (λ z. wanted z false q e.returns) st.setting (neither_first f _ said.judged) in
+  -- the result that is returned
+  result_in : (rows : Rows base ns c few_slots few_locals agree) (vs : List Variable) (gs : List Slotted) (s : Scope) (m : ℕ) (p : Point) (z : Places) (q : Option ExprTree) (t : TypeTree)
+      → Sees base c rows s → Lined base c vs gs rows s m → p.from ≡ 0 → Covers z gs p.stale → returned (over_names base c rows) q t ≡ None → AllFresh (maybe_uses vs p q)
+      → AllIn (maybe_places (option_map (over c.slots s) q)) z
+  result_in rows vs gs s m p z None t sees line start cover f fresh = in_none z
+  result_in rows vs gs s m p z (Some e) t sees line start cover f fresh =
       let names = over_names base c rows in
-      let us = expr_uses vs p q in
+      whole_in base ns c rows s sees vs gs m line p start z cover false e (no_first (fault names false e) (wants (form names e) t) f) fresh
+
+  pub return_lives : (at : Place) (q : Option ExprTree) (x : Body) → Alives (ReturnStmt at q x)
+  return_lives at q x l t e rows vs gs s w n p a cu k said g th fresh many =
+      let f = item at (returned e.setting q e.returns) in
+      let st = said.stands in
+      let judged = at_item base ns c few_slots few_locals agree e rows at (λ z. returned z q e.returns) st.setting (neither_first f _ said.judged) in
+      let us = maybe_uses vs p q in
       let d = lowered ns c.slots s w (begun n) x in
       let near = Owed l w a p (node at_once) in
-      let one = leaf base ns c few_slots few_locals w s gs p a near n.block n.group true [] (ReturnLast (over c.slots s q)) g.hand.from (λ z en o. hand_fact c en w.hand a.hand p at_once refl o.1.hand)
+      let one = leaf base ns c few_slots few_locals w s gs p a near n.block n.group true [] (ReturnLast (option_map (over c.slots s) q)) g.hand.from (λ z en o. hand_fact c en w.hand a.hand p at_once refl o.1.hand)
       (λ en o kc z cover guard. (
-        whole_in base ns c rows s st.sees vs gs n.local g.line p g.start z cover false q (no_first (fault names false q) (wants (form names q) e.returns) judged) (fresh_left us _ fresh),
+        result_in rows vs gs s n.local p z q e.returns st.sees g.line g.start cover judged (fresh_left us _ fresh),
         catches c en w.hand a.hand kc p.stale z g.hand.below guard (covers_sub z gs a.hand.places p.stale g.hand.sub cover),
         tt,
       )) in
-      dead_live (has_statement x) x w.hand a.hand gs p.stale near n.block n.block (blocks_in w.looped.tried x) n.group (ends w s true [] (ReturnLast (over c.slots s q))) d refl one
+      dead_live (has_statement x) x w.hand a.hand gs p.stale near n.block n.block (blocks_in w.looped.tried x) n.group (ends w s true [] (ReturnLast (option_map (over c.slots s) q))) d refl one
       (lowered_more ns c.slots s w (begun n) x) (lowered_groups ns c.slots s w (begun n) x)
 
   -- the error that is thrown

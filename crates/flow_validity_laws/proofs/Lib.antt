@@ -13,6 +13,7 @@ pub mod OverPlaces
 pub mod InForce
 pub mod Instructions
 pub mod Fitting
+pub mod Agreeing
 pub mod Effects
 pub mod Tested
 pub mod Walks

@@ -12,9 +12,10 @@ use Rattle.flow_validity_laws.proofs.Choosings.{if_lives, if_else_lives, while_l
 use Rattle.flow_validity_laws.proofs.Waitings.{BranchesLive, wait_lives, no_branches_live, more_branches_live, choose_lives}
 use Rattle.flow_validity_laws.proofs.Handling.{try_lives}
 use Rattle.flow_validity_laws.proofs.Rounds.{for_lives}
+use Rattle.flow_validity_laws.proofs.Agreeing.{EffectsAgree}
 
 module _ (base : Setting) (ns : Names) (c : ClassTree) (few_slots : length c.slots < 2 ^ 64) (few_locals : length c.locals < 2 ^ 64)
-    (agree : (f : List ℕ) → is_there (effectful ns f) ≡ calls_effect (called base f)) where
+    (agree : EffectsAgree base ns) where
   -- one level up, as what is said of branches
   record LivesUp (b : Body) : Type 1 where
     lives : Lives base ns c few_slots few_locals agree b

@@ -14,7 +14,7 @@ use Rattle.flow_layout.specs.Laying.{layout_of}
 use Rattle.flow_meaning.specs.Evaluating.{Names}
 use Rattle.flow_split.specs.Around.{whole}
 use Rattle.flow_split.specs.Counts.{Next, blocks_in}
-use Rattle.flow_split.specs.Lowered.{lowered, lowered_class}
+use Rattle.flow_split.specs.Lowered.{lowered, lowered_class, close_of}
 use Rattle.flow_split.proofs.Lengths.{lowered_more, lowered_groups}
 use Rattle.flow_lowering_laws.specs.Actors.Parts.{HasParts}
 use Rattle.flow_lowering_laws.specs.Actors.InPlace.{InPlace}
@@ -92,7 +92,7 @@ start = record { block = 1; local = 0; group = 1 }
 pub numbered_well : (ns : Names) (a : RoutineTree) → IsSmall a → HasParts a.body → InPlace (slots_of a) false false [] a.body → IsNumberedWell (lowered_class ns (layout_of a) a)
 numbered_well ns a small parts ok =
     let c = lowered_class ns (layout_of a) a in
-    let w = whole a.close in
+    let w = whole (close_of a) in
     let ch = lowered ns c.slots [] w start a.body in
     let more = lowered_more ns c.slots [] w start a.body in
     let gs = lowered_groups ns c.slots [] w start a.body in

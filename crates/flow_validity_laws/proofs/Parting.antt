@@ -60,6 +60,7 @@ use Rattle.flow_validity_laws.proofs.Fitting.{stands_into}
 use Rattle.flow_validity_laws.proofs.Entries.{join_three, covers_dropped}
 use Rattle.flow_validity_laws.proofs.Choosings.{round_exits}
 use Rattle.flow_validity_laws.proofs.Alive.{value_in}
+use Rattle.flow_validity_laws.proofs.Agreeing.{EffectsAgree}
 
 waited_on : (r q : Reached) → q ≡ at_once → r.waited ≡ true → (onward r q).waited || false ≡ true
 waited_on r q e h = subst (λ z. (onward r z).waited || false ≡ true) (sym e) (by_bool r.waited r.fresh h)
@@ -94,7 +95,7 @@ pub same_point : (k : ℕ) (vs : List Variable) (p : Point) (i : Body) → IsIni
 same_point k vs p i h = ap (behind (length vs) p) (part_ends k i h)
 
 module _ (base : Setting) (ns : Names) (c : ClassTree) (few_slots : length c.slots < 2 ^ 64) (few_locals : length c.locals < 2 ^ 64)
-    (agree : (f : List ℕ) → is_there (effectful ns f) ≡ calls_effect (called base f)) where
+    (agree : EffectsAgree base ns) where
   abbrev RowsHere : Type 0
   RowsHere = List (List ℕ × TypeTree)
 

@@ -56,9 +56,10 @@ use Rattle.flow_validity_laws.proofs.Choosings.{test_leaf, head_hand, body_hand,
 use Rattle.flow_split.specs.Counts.{test_blocks}
 use Rattle.flow_lowering_laws.proofs.Actors.Fors.{step_later}
 use Rattle.flow_validity_laws.proofs.Parting.{part_ends, part_blocks, part_groups, same_point, Into, opens, step_meets, dropping_live, ring}
+use Rattle.flow_validity_laws.proofs.Agreeing.{EffectsAgree}
 
 module _ (base : Setting) (ns : Names) (c : ClassTree) (few_slots : length c.slots < 2 ^ 64) (few_locals : length c.locals < 2 ^ 64)
-    (agree : (f : List ℕ) → is_there (effectful ns f) ≡ calls_effect (called base f)) where
+    (agree : EffectsAgree base ns) where
   abbrev Alives : Body → Type 0
   Alives b = Lives base ns c few_slots few_locals agree b
 

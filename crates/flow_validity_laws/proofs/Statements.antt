@@ -1,7 +1,8 @@
 -- The blocks of each kind of statement name what there is, lead on, and catch further on.
 use Rattle.std.proofs.Common.{◌≡◌, ℕ, suc, ◌+◌, ◌^◌, ◌<◌, ◌≤◌, Bool, true, false, List, [], ◌∷◌, ◌++◌, length, refl, sym, arith, length-append}
 use Rattle.std.specs.declared.option.Option.{Option}
-use Rattle.std.specs.declared.option.Option.TheVariants.{Some}
+use Rattle.std.specs.declared.option.Option.TheVariants.{Some, None}
+use Rattle.std.specs.Option.{option_map}
 use Rattle.flow_base.specs.declared.place.Place.{Place}
 use Rattle.flow_tree.specs.declared.ty.Ident.{Ident}
 use Rattle.flow_tree.specs.Tree.{ErrorType, ExprTree}
@@ -13,7 +14,7 @@ use Rattle.flow_meaning.specs.Evaluating.{Names}
 use Rattle.flow_split.specs.Around.{Exit, Text, Scoped, Part, Hand, Around, inner, pass, guarded, handling}
 use Rattle.flow_split.specs.Counts.{Next, begun, past, behind, exit_blocks, blocks_in, locals_in, groups_in}
 use Rattle.flow_split.specs.Lowered as lowering
-use Rattle.flow_split.specs.Lowered.{joined, ends, finished, exits, exited, thrown, lowered, drop_of}
+use Rattle.flow_split.specs.Lowered.{joined, ends, finished, exits, exited, thrown, lowered, drop_of, text_end}
 use Rattle.flow_lowering_laws.specs.Actors.Parts.{HasParts}
 use Rattle.flow_lowering_laws.specs.Actors.InPlace.{InPlace}
 use Rattle.flow_lowering_laws.proofs.Actors.Standing.{LocalsAt, locals_front, locals_back}
@@ -21,6 +22,7 @@ use Rattle.flow_lowering_laws.proofs.Actors.Further.{locals_count, locals_after,
 use Rattle.flow_validity_laws.proofs.Naming.{Falling, falling_more, scope_falls, falling_knows, expr_there, thrown_there, drop_named, Knows}
 use Rattle.flow_validity_laws.proofs.Chunks.{good_up_to, HandGood, Leads, LastGood, joined_good, ends_good, goto_good, pass_good, leads_good, test_good, exits_good}
 use Rattle.flow_validity_laws.proofs.Rooms.{GoodHere, ExitGood, Fits, fits_scoped, fits_handling, fits_guarded, fits_loop, Room, Kept, rest_kept, dead_kept}
+use Rattle.flow_valid.specs.Named.{has_last}
 
 module _ (ns : Names) (c : ClassTree) (few_slots : length c.slots < 2 ^ 64) (few_locals : length c.locals < 2 ^ 64) where
   abbrev FitsHere : Bool → ℕ → Around → Type 0
@@ -39,10 +41,14 @@ module _ (ns : Names) (c : ClassTree) (few_slots : length c.slots < 2 ^ 64) (few
   pub whole_falling : (l : ℕ) (s : Scope) → l ≤ length c.locals → Falling l s → Falling (length c.locals) s
   whole_falling l s le f = falling_more l (length c.locals) s le f
 
+  end_good : (m : ℕ) (close : Option Place) → LastGood c few_slots few_locals m (text_end close)
+  end_good m None = record { named = refl; on = refl }
+  end_good m (Some close) = record { named = refl; on = refl }
+
   -- the end of a body
   finished_good : (m n e : ℕ) (w : Around) (s : Scope) (x : Exit) → Falling (length c.locals) s → m < e → ExitGood ns c few_slots few_locals e x
       → GoodHere ns c few_slots few_locals m n n (finished w s x)
-  finished_good m n e w s (Text close) f lt h = ends_good c few_slots few_locals m n w s false [] _ f refl (record { named = refl; on = refl })
+  finished_good m n e w s (Text close) f lt h = ends_good c few_slots few_locals m n w s false [] (text_end close) f refl (end_good m close)
   finished_good m n e w s (Scoped l) f lt h =
       ends_good c few_slots few_locals m n w s false (drop_of (scope s)) l f (drop_named c few_slots few_locals (length c.locals) (scope s) (omega arith) (scope_falls (length c.locals) s f))
       (leads_good c few_slots few_locals e m l lt h)
@@ -280,9 +286,13 @@ module _ (ns : Names) (c : ClassTree) (few_slots : length c.slots < 2 ^ 64) (few
       let g = ends_good c few_slots few_locals m n.block w s true [] last (whole_falling n.local s (omega (arith, locals)) fall) refl good in
       dead_kept ns c few_slots few_locals k rest l t xs s w n n m e a fits blocks locals groups first types fall refl refl parts ok g
 
-  pub return_kept : (at : Place) (q : ExprTree) (k : Body) → Keeps k → Keeps (ReturnStmt at q k)
+  result_there : (s : Scope) → Knows c few_slots few_locals s → (q : Option ExprTree) → has_last c (ReturnLast (option_map (over c.slots s) q)) ≡ true
+  result_there s k None = refl
+  result_there s k (Some e) = expr_there c few_slots few_locals s k e
+
+  pub return_kept : (at : Place) (q : Option ExprTree) (k : Body) → Keeps k → Keeps (ReturnStmt at q k)
   return_kept at q k rest l t xs s w n m e fits room fall lt parts ok =
-      leave_kept k rest l t xs s w n m e (ReturnLast (over c.slots s q)) (record { named = expr_there c few_slots few_locals s (knows n.local s (omega (arith, room.locals)) fall) q; on = refl })
+      leave_kept k rest l t xs s w n m e (ReturnLast (option_map (over c.slots s) q)) (record { named = result_there s (knows n.local s (omega (arith, room.locals)) fall) q; on = refl })
       fits room.blocks room.locals room.groups room.first room.types fall parts.1 ok
 
   pub throw_kept : (at : Place) (q : Option ExprTree) (k : Body) → Keeps k → Keeps (ThrowStmt at q k)

@@ -1,5 +1,5 @@
 -- The classes of a program that the front accepts keep the rules V1 to V7.
-use Rattle.std.proofs.Common.{◌≡◌, ℕ, zero, suc, ◌^◌, ◌<◌, ◌≤◌, Bool, true, false, ◌&&◌, List, [], ◌∷◌, length, map, slice_get, refl, ap, sym, subst, ◌∙◌, arith}
+use Rattle.std.proofs.Common.{◌≡◌, ℕ, zero, suc, ◌^◌, ◌<◌, ◌≤◌, Bool, true, false, ◌&&◌, List, [], ◌∷◌, length, map, slice_get, refl, ap, sym, subst, ◌∙◌, arith, if◌then◌else◌}
 use Rattle.std.proofs.lemmas.Bool.{false≢true}
 use Rattle.std.specs.List.{list_all}
 use Rattle.std.specs.declared.option.Option.TheVariants.{None, Some}
@@ -8,21 +8,24 @@ use Rattle.flow_tree.specs.declared.decl.Program.{Program}
 use Rattle.flow_tree.specs.Decls.{RoutineTree, DeclTree, StructDecl, FunctionDecl, ActorDecl, ProgramTree}
 use Rattle.flow_tree.specs.DeclView.{program_of}
 use Rattle.flow_ast.specs.Slots.{body_slots, slots_of}
+use Rattle.flow_ast.specs.Typing.{is_nothing}
 use Rattle.flow_class.specs.Classes.{ClassTree}
 use Rattle.flow_rules.specs.Known.{field_row}
-use Rattle.flow_rules.specs.Judged.{Setting}
+use Rattle.flow_rules.specs.Judged.{Setting, returned}
 use Rattle.flow_rules.specs.Items.{written}
 use Rattle.flow_rules.specs.Rules.{setting_of, name_fault, params_fault, body_env, decls_refusal}
 use Rattle.flow_rules.proofs.Lesser.{no_second}
+use Rattle.flow_rules.specs.Least.{unless}
+use Rattle.flow_rules.specs.declared.rule.SemanticRule.TheVariants.{WrongType}
 use Rattle.flow_meaning.specs.Evaluating.{Names}
 use Rattle.flow_meaning.specs.Source.{actors_in, names_of}
 use Rattle.flow_split.specs.Around.{whole}
-use Rattle.flow_split.specs.Lowered.{block_with, lowered}
+use Rattle.flow_split.specs.Lowered.{block_with, lowered, close_of, text_end}
 use Rattle.flow_lower.specs.Compiled.{class_in, compiled}
 use Rattle.flow_front.specs.Verdict.{IsTyped}
 use Rattle.flow_valid.specs.declared.rule.ClassRule.TheVariants as rule
 use Rattle.flow_valid.specs.Named.{names_exist}
-use Rattle.flow_valid.specs.Validity.{leads_forward, groups_chosen, catchers_kept, class_setting, block_fits, callback_fits, types_fit, first_broken, broken_rule}
+use Rattle.flow_valid.specs.Validity.{leads_forward, groups_chosen, catchers_kept, class_setting, block_fits, callback_fits, types_fit, first_broken, broken_rule, last_fits}
 use Rattle.flow_lowering_laws.specs.Actors.Parts.{HasParts}
 use Rattle.flow_lowering_laws.specs.Actors.InPlace.{InPlace}
 use Rattle.flow_lowering_laws.specs.Actors.Laws.{IsSmall}
@@ -40,6 +43,9 @@ use Rattle.flow_validity_laws.proofs.OverPlaces.{over_class}
 use Rattle.flow_validity_laws.proofs.InForce.{sees_params}
 use Rattle.flow_validity_laws.proofs.Fitting.{block_fit, body_fit}
 use Rattle.flow_validity_laws.proofs.Effects.{IsJudged, actors_judged, effects_agree}
+use Rattle.flow_validity_laws.proofs.Instructions.{none_is}
+use Rattle.flow_base.specs.declared.place.Place.{Place}
+use Rattle.none_is.{}
 
 -- what is known of an actor of an accepted program
 pub record IsWell (s : Setting) (a : RoutineTree) : Type 0 where
@@ -80,20 +86,26 @@ class_of P ns (FunctionDecl f ∷ ds) i c h e = class_of P ns ds i c h e
 class_of P ns (ActorDecl a ∷ ds) zero c h e = record { actor = a; is = some_same (class_in ns a) c e; holds = h.0 }
 class_of P ns (ActorDecl a ∷ ds) (suc i) c h e = class_of P ns ds i c h.1 e
 
+-- the end of a body suits what the class gives
+end_suits : (p : ProgramTree) (c : ClassTree) (close : Place) (b : Bool) → is_nothing c.returns ≡ b
+    → last_fits c (over_class (setting_of p.decls false) c) (text_end (if b then None else Some close)) ≡ true
+end_suits p c close true e = none_is (returned (over_class (setting_of p.decls false) c) None c.returns) (ap (λ z. unless z WrongType) e)
+end_suits p c close false e = refl
+
 -- the types of a class
 types_well : (p : ProgramTree) → Accepted p → (a : RoutineTree) → IsWell (setting_of p.decls false) a → types_fit (compiled p) (class_in (names_of p) a) ≡ true
 types_well p h a k =
     let ns = names_of p in
     let c = class_in ns a in
     let base = setting_of p.decls false in
-    let w = whole a.close in
+    let w = whole (close_of a) in
     let vs = map field_row a.params in
     let ch = lowered ns c.slots [] w (record { block = 1; local = 0; group = 1 }) a.body in
     let agree = effects_agree p h in
     let params = no_second (written base a.returns) (params_fault base (λ x. false) a.params) (no_second (name_fault k.judged.before a.name.name) _ k.judged.header) in
     let sees = sees_params base ns c k.small.slots k.small.locals base a.params (body_slots a.body) refl params in
     let f = body_fit base ns c k.small.slots k.small.locals agree a.body false false (body_env base a) vs [] w (record { block = 1; local = 0; group = 1 })
-    (record { setting = refl; returns = refl; sees = sees; caught = record { known = λ t. absurd (false≢true t) } }) (record { exit = tt; again = refl }) tt
+    (record { setting = refl; returns = refl; sees = sees; caught = record { known = λ t. absurd (false≢true t) } }) (record { exit = end_suits p c a.close (is_nothing a.returns) refl; again = refl }) tt
     (all_types ns c [] c.locals refl) k.parts k.placed k.judged.body in
     let same : class_setting (compiled p) c ≡ over_class base c = ap (λ (s : Setting). over_class s c) (setting_same p h.apart false) in
     subst (λ s. list_all (block_fits c s) c.blocks && list_all (list_all (callback_fits c s)) c.groups ≡ true) (sym same)

@@ -73,6 +73,7 @@ use Rattle.flow_validity_laws.proofs.Entries.{covers_waited}
 use Rattle.flow_validity_laws.proofs.Surroundings.{sides_onward}
 use Rattle.flow_validity_laws.proofs.Alive.{thrown_into}
 use Rattle.flow_validity_laws.proofs.Choosings.{monus_twice}
+use Rattle.flow_validity_laws.proofs.Agreeing.{EffectsAgree}
 
 some_less : (k : ℕ) → 1 ≤ k → nat_lt 0 k ≡ true
 some_less k le = grind arith
@@ -103,7 +104,7 @@ covers_taken b z gs st cover = by_into b.into refl
         by_side (inr k) = or_second (among (listed b.into) q) (waited_set z q) (covers_waited gs st z cover q (h.0, k, h.2))
 
 module _ (base : Setting) (ns : Names) (c : ClassTree) (few_slots : length c.slots < 2 ^ 64) (few_locals : length c.locals < 2 ^ 64)
-    (agree : (f : List ℕ) → is_there (effectful ns f) ≡ calls_effect (called base f)) where
+    (agree : EffectsAgree base ns) where
   abbrev Alives : Body → Type 0
   Alives b = Lives base ns c few_slots few_locals agree b
 

@@ -30,6 +30,15 @@ pub data OutcomeTree : Type 0 where
   GoodOutcome : ValueTree → OutcomeTree
   BadOutcome : ℕ → OutcomeTree
 
+-- how many parts there are, and one more behind them
+abbrev pub count_of : ValueTrees → ℕ
+count_of NoValues = 0
+count_of (MoreValues v vs) = suc (count_of vs)
+
+abbrev pub with_last : ValueTrees → ValueTree → ValueTrees
+with_last NoValues w = MoreValues w NoValues
+with_last (MoreValues v vs) w = MoreValues v (with_last vs w)
+
 -- a list of values as parts
 abbrev pub values_of_list : List ValueTree → ValueTrees
 values_of_list [] = NoValues

@@ -2,16 +2,21 @@
 use Rattle.std.proofs.Common.{◌≡◌, ◌⊎◌, inl, inr, ℕ, Bool, true, false, List, [], refl, ◌∙◌}
 use Rattle.std.specs.declared.option.Option.{Option}
 use Rattle.std.specs.declared.option.Option.TheVariants.{None, Some}
-use Rattle.flow_tree.specs.Tree.{ExprTree, ExprTrees}
+use Rattle.std.specs.Option.{option_map}
+use Rattle.flow_tree.specs.declared.ty.Ident.{Ident}
+use Rattle.flow_tree.specs.Tree.{TypeTree, ExprTree, ExprTrees, returned_expr}
+use Rattle.flow_value.specs.declared.value.Kind.{Kind}
 use Rattle.flow_value.specs.Values.{ValueTree, RefValue}
 use Rattle.flow_eval.specs.Answers.{bool_of, error_of}
 use Rattle.flow_eval.specs.Eval.{Res, Done, Fails, Spent, Meaningless}
+use Rattle.flow_eval.specs.Functions.{default_value}
+use Rattle.flow_class.specs.declared.class.Slotted.{Slotted}
 use Rattle.flow_class.specs.Classes.{InstrTree, SetInstr, EffectInstr, NewInstr, ActInstr, DropInstr, LastTree, GotoLast, PassLast, TestLast, ChooseLast, ReturnLast, ThrowLast, CallbackTree, CatcherTree, ClassTree}
 use Rattle.flow_class.specs.Code.{type_at, Fetched, Body, Last, Nothing, fetch, callback_at, catcher_at}
-use Rattle.flow_meaning.specs.Requests.{Spot, Make, Goal, Stored, Kept, Effects, Returns}
+use Rattle.flow_meaning.specs.Requests.{Spot, Goal, Stored, Kept, Drops, Effects, Returns}
 use Rattle.flow_meaning.specs.Process.{View}
-use Rattle.flow_meaning.specs.Evaluating.{Names, bind, StepOf, asks, given, evaluated, Effectful, effect_in, effect_of, value, values, call_act}
-use Rattle.flow_meaning.specs.Class.{promise_kind, placed, effects, instruction, test, operand_ref, operand_by, choose, throw_value, last, fetched, next_step, stored, store_at, bound, onward, take_callback, take_at}
+use Rattle.flow_meaning.specs.Evaluating.{Names, StepOf, asks, given, evaluated, Effectful, effect_in, effect_of, value, values, Change, change_of, base_of, call_act, storing, call_by}
+use Rattle.flow_meaning.specs.Class.{promise_kind, placed, effects, new_by, put_path, instruction, test, operand_ref, operand_by, choose, throw_value, last, fetched, next_step, stored, store_at, bound, onward, take_callback, take_at}
 use Rattle.flow_meaning.specs.Frame.{Memory, Frame, look, assign, put_at, spot_of, next_instr, no_class, over, everything, lose, raised, raise}
 
 -- the class is this one, or the frame is over
@@ -37,14 +42,31 @@ module _ (ns : Names) (v : View) (f : Frame) where
       evaluated_well f (values ns v (look f.mem) e.1) (λ vs left. given f (effect_of e.0 vs) (λ eff. asks left (Effects goal eff) f))
       (λ vs left. given_well f (effect_of e.0 vs) (λ eff. asks left (Effects goal eff) f) (λ eff. inl refl))
 
+  new_well : (p : Slotted) (t : TypeTree) (o : Option Kind) → Well f (new_by ns v f p t o)
+  new_well p t (Some k) = inl refl
+  new_well p t None =
+      given_well f (default_value t) (λ u. given f (put_at ns.records f.mem p [] u) (placed ns v f v.left))
+      (λ u. given_well f (put_at ns.records f.mem p [] u) (placed ns v f v.left) (λ q. inl refl))
+
+  put_well : (left : ℕ) (dropped : List ValueTree) (o : Option (List ValueTree × Memory))
+      → Well f (given f (option_map (λ (p : List ValueTree × Memory). next_instr p.1 f) o) (λ g. asks left (Drops dropped) g))
+  put_well left dropped None = inl refl
+  put_well left dropped (Some p) = inl refl
+
+  call_well : (o : Option Change) (path : List Ident) (es : ExprTrees) → Well f (call_by ns v (look f.mem) o f (next_instr f.mem f) (put_path ns v f) path es)
+  call_well None path es =
+      evaluated_well f (call_act ns v (look f.mem) path es) (λ act left. asks left act (next_instr f.mem f)) (λ act left. inl refl)
+  call_well (Some how) path es =
+      evaluated_well f (storing ns v (look f.mem) how (base_of path) es) (λ s left. given f (put_path ns v f (base_of path) s.0) (λ g. asks left (Drops s.1) g))
+      (λ s left. put_well left s.1 (assign ns.records f.mem (base_of path) s.0))
+
   instruction_well : (i : InstrTree) → Well f (instruction ns v f i)
   instruction_well (SetInstr path e) =
       evaluated_well f (value ns v (look f.mem) e) (λ u left. given f (assign ns.records f.mem path u) (placed ns v f left))
       (λ u left. given_well f (assign ns.records f.mem path u) (placed ns v f left) (λ p. inl refl))
   instruction_well (EffectInstr path e) = given_well f (effect_in ns e) (effects ns v f Stored) (λ g. effects_well Stored g)
-  instruction_well (NewInstr p) = given_well f (bind (type_at f.code p) promise_kind) (λ k. asks v.left (Effects Stored (Make k)) f) (λ k. inl refl)
-  instruction_well (ActInstr path es) =
-      evaluated_well f (call_act ns v (look f.mem) path es) (λ act left. asks left act (next_instr f.mem f)) (λ act left. inl refl)
+  instruction_well (NewInstr p) = given_well f (type_at f.code p) (λ t. new_by ns v f p t (promise_kind t)) (λ t. new_well p t (promise_kind t))
+  instruction_well (ActInstr path es) = call_well (change_of path) path es
   instruction_well (DropInstr locals) = inl refl
 
   test_well : (left : ℕ) (o : Option Bool) (b c : ℕ) → Well f (test ns v f left o b c)
@@ -75,7 +97,7 @@ module _ (ns : Names) (v : View) (f : Frame) where
       evaluated_well f (value ns v (look f.mem) e) (λ u left. test ns v f left (bool_of u) b c) (λ u left. test_well left (bool_of u) b c)
   last_well (ChooseLast g) = choose_well (spot_of f.code g) (callback_at f.code g v.kept)
   last_well (ReturnLast e) =
-      evaluated_well f (value ns v (look f.mem) e) (λ u left. asks left (Returns u (everything f.mem)) over) (λ u left. inr refl)
+      evaluated_well f (value ns v (look f.mem) (returned_expr e)) (λ u left. asks left (Returns u (everything f.mem)) over) (λ u left. inr refl)
   last_well (ThrowLast e) = evaluated_well f (value ns v (look f.mem) e) (λ u left. throw_value ns v f left (error_of u)) (λ u left. throw_well left (error_of u))
 
   fetched_well : (o : Fetched) → Well f (fetched ns v f o)

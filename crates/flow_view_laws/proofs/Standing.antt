@@ -1,5 +1,5 @@
 -- No class that carries an actor is that of a frame that is over.
-use Rattle.std.proofs.Common.{◌≡◌, ℕ, zero, suc, List, [], ◌∷◌, subst}
+use Rattle.std.proofs.Common.{◌≡◌, ℕ, zero, suc, Bool, true, false, List, [], ◌∷◌, subst}
 use Rattle.std.specs.Prelude.{slice_get}
 use Rattle.std.specs.declared.option.Option.{Option}
 use Rattle.std.specs.declared.option.Option.TheVariants.{None, Some}
@@ -14,10 +14,10 @@ use Rattle.flow_class.specs.Code as frame
 use Rattle.flow_class.specs.Scopes.{Scope}
 use Rattle.flow_meaning.specs.Evaluating.{Names, Effectful, effect_in}
 use Rattle.flow_meaning.specs.Frame.{no_class}
-use Rattle.flow_meaning.specs.Text.{first_spot}
 use Rattle.flow_meaning.specs.Items.{Site, site_past, change}
-use Rattle.flow_meaning.specs.Carry.{Pos, entry, at, AssignBy, AssignAt, ChangeAt, FirstAt, DeclareAt, PassAt, default_expr}
-use Rattle.flow_meaning.specs.Carries.{ThrowAt, BodyAt, AllCarried}
+use Rattle.flow_meaning.specs.Source.{first_site}
+use Rattle.flow_meaning.specs.Carry.{Pos, entry, at, AssignBy, AssignAt, ChangeAt, FirstAt, DeclareAt, PassAt, TextEndsAt, default_expr}
+use Rattle.flow_meaning.specs.Carries.{ThrowAt, BodyAt, Carries, AllCarried}
 
 no_last : (ns : Names) (p : Pos) (l : LastTree) → at ns no_class p ≡ Last l → ⊥
 no_last ns p l e = cc
@@ -53,8 +53,12 @@ module _ (ns : Names) where
   no_pass : (p : Pos) (b : ℕ) → PassAt ns no_class p b → ⊥
   no_pass p b h = no_last ns h.0 _ h.2
 
+  no_end : (void : Bool) (p : Pos) → TextEndsAt ns no_class void p → ⊥
+  no_end true p h = no_last ns h.0 _ h.2
+  no_end false p h = no_last ns h.0 _ h.3
+
   nothing_stands : (s : Scope) (x : Site) (b : Body) (p : Pos) → BodyAt ns no_class s [] [] x b p → ⊥
-  nothing_stands s x End p h = no_last ns h.0 _ h.3
+  nothing_stands s x End p h = no_end x.is_void p h
   nothing_stands s x (BlockStmt at b k) p h = nothing_stands s (site_past b x) k h.0 h.2
   nothing_stands s x (IfStmt at e b k) p h = no_last ns p _ h.4
   nothing_stands s x (IfElseStmt at e b c k) p h = no_last ns p _ h.4
@@ -73,12 +77,9 @@ module _ (ns : Names) where
   nothing_stands s x (CallStmt at xs es k) p h = no_body ns p _ h.1
   nothing_stands s x (WaitStmt at w k) p h = no_last ns p _ h.4.0
 
-  abbrev begin : Site
-  begin = record { spot = first_spot; caught = None }
-
   pub never_over : (ts : List RoutineTree) (cs : List ClassTree) (k : ℕ) → AllCarried ns ts cs → (t : RoutineTree) → slice_get ts k ≡ Some t → slice_get cs k ≡ Some no_class → ⊥
   never_over [] cs k h t e f = cc
   never_over (u ∷ ts) [] k h t e f = h
   never_over (u ∷ ts) (c ∷ cs) zero h t e f =
-      let same : c ≡ no_class = cc in nothing_stands [] begin u.body (entry 0) (subst (λ z. BodyAt ns z [] [] [] begin u.body (entry 0)) same h.0)
+      let same : c ≡ no_class = cc in nothing_stands [] (first_site u) u.body (entry 0) (subst (Carries ns u) same h.0)
   never_over (u ∷ ts) (c ∷ cs) (suc k) h t e f = never_over ts cs k h.1 t e f

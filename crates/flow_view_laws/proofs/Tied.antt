@@ -53,9 +53,9 @@ text_begun : (o : Option RoutineTree) (vs : List ValueTree) (a : Actor) (t : Rou
 text_begun o vs a t is parts e =
     by_args (with_args t.params vs (no_values (body_slots t.body))) (sym (ap (λ x. fresh_from x vs) is) ∙ e)
   where
-    by_args : (q : Option (List (List ℕ × Option ValueTree))) → bind q (λ ss. Some (begun t.body ss)) ≡ Some a → ActorWithin (wait_places t.body) a
+    by_args : (q : Option (List (List ℕ × Option ValueTree))) → bind q (λ ss. Some (begun t ss)) ≡ Some a → ActorWithin (wait_places t.body) a
     by_args None e = cc
-    by_args (Some ss) e = let same : begun t.body ss ≡ a = cc in subst (λ x. ActorWithin (wait_places t.body) x) same (begins_within t.body ss parts)
+    by_args (Some ss) e = let same : begun t ss ≡ a = cc in subst (λ x. ActorWithin (wait_places t.body) x) same (begins_within t ss parts)
 
 module _ (p : ProgramTree) (r : RawTree) (h : AreCarried p r) (differ : AreDistinct r) (simple : AllHaveSimpleParts p.decls) where
   -- its rest is part of the text of the actor whose class the frame runs

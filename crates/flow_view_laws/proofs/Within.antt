@@ -2,9 +2,12 @@
 use Rattle.std.proofs.Common.{ℕ, zero, suc, Bool, true, false, List, [], ◌∷◌, ◌++◌, refl, sym, subst, append-nil, arith}
 use Rattle.std.specs.declared.option.Option.{Option}
 use Rattle.std.specs.declared.option.Option.TheVariants.{None, Some}
+use Rattle.std.specs.Option.{option_map}
 use Rattle.flow_base.specs.declared.place.Place.{Place}
-use Rattle.flow_tree.specs.Tree.{TypeTree, PromiseType, PromiseStreamType, ExprTree, ExprTrees}
+use Rattle.flow_tree.specs.declared.ty.Ident.{Ident}
+use Rattle.flow_tree.specs.Tree.{TypeTree, PromiseType, PromiseStreamType, ExprTree, ExprTrees, returned_expr}
 use Rattle.flow_tree.specs.Body.{IntoTree, Body, End, BlockStmt, IfStmt, IfElseStmt, WhileStmt, ForStmt, LoopStmt, BreakStmt, ContinueStmt, ReturnStmt, ThrowStmt, TryStmt, ChooseStmt, DeclareStmt, AssignStmt, ModifyStmt, CallStmt, WaitStmt, Branches, NoBranches, MoreBranches}
+use Rattle.flow_tree.specs.Decls.{RoutineTree}
 use Rattle.flow_value.specs.Values.{ValueTree, RefValue}
 use Rattle.flow_eval.specs.Eval.{Res, Done, Fails, Spent, Meaningless}
 use Rattle.flow_eval.specs.Answers.{bool_of, error_of}
@@ -12,13 +15,13 @@ use Rattle.flow_eval.specs.Functions.{default_value}
 use Rattle.flow_staterule.specs.StateRule.{wait_places, branch_places}
 use Rattle.flow_typing_laws.specs.ControlFlow.Laws.{HasSimpleParts, HaveSimpleParts}
 use Rattle.flow_class.specs.Scopes.{Local, scope, outside}
-use Rattle.flow_meaning.specs.Requests.{Spot, Goal, Stored, Kept, Effects}
+use Rattle.flow_meaning.specs.Requests.{Spot, Goal, Stored, Kept, Drops, Effects}
 use Rattle.flow_meaning.specs.Process.{View}
-use Rattle.flow_meaning.specs.Evaluating.{Names, bind, StepOf, asks, given, evaluated, Effectful, effect_in, effect_of, value, values, call_act}
+use Rattle.flow_meaning.specs.Evaluating.{Names, bind, StepOf, asks, given, evaluated, Effectful, effect_in, effect_of, value, values, Change, change_of, base_of, call_act, storing, call_by}
 use Rattle.flow_meaning.specs.Variables.{Vars, look}
 use Rattle.flow_meaning.specs.Text.{past, past_branches, next_spot, branch_count}
 use Rattle.flow_meaning.specs.Items.{Site, Loop, Single, OneOf, Target, Declared, Path, Item, Do, Leave, Round, Check, Made, Handler, Over, Actor, actor, leave_scope, put_goal, change, operand, site_past, site_at, Unwound, unwind, raised, raise, assign, declare}
-use Rattle.flow_meaning.specs.SourceStep.{Exit, Breaks, Continues, exit, choose, test, placed, place, effects, store_by, store, declare_new, declares, throw_value, throws, operand_ref, operand_by, await, do_body, check, do_item, next_step}
+use Rattle.flow_meaning.specs.SourceStep.{Exit, Breaks, Continues, exit, choose, test, placed, place, effects, store_by, store, declare_new, declares, throw_value, throws, operand_ref, operand_by, await, put_path, end_body, do_body, check, do_item, next_step}
 use Rattle.flow_meaning.specs.Source.{begun, store_if, makes_cell, is_effect_in, store_at, take_case, take_at}
 use Rattle.flow_view_laws.specs.Within.{PartOf, BodyWithin, LoopWithin, ItemWithin, RestWithin, ActorWithin}
 use Rattle.flow_view_laws.proofs.Parts.{both_pass, past_passes, branches_pass, step_stays, first_part, later_part, first_body, later_body, two_bodies, three_bodies, empty_body}
@@ -121,6 +124,24 @@ module _ (all : List Place) where
     await_stays a spot (Some e) w = operand_stays (effect_in ns e) a spot e w
     await_stays a spot None w = w
 
+    end_stays : (a : Actor) (void : Bool) (r : List Item) → ActorWithin all a → RestWithin all r → Stays (end_body ns v a void r)
+    end_stays a void (i ∷ r) w h = h
+    end_stays a true [] w h = (tt, tt)
+    end_stays a false [] w h = w
+
+    put_stays : (a : Actor) (r : List Item) (left : ℕ) (dropped : List ValueTree) (o : Option (List ValueTree × Vars)) → ActorWithin all a → RestWithin all r
+        → Stays (given a (option_map (λ (p : List ValueTree × Vars). actor p.1 r) o) (λ b. asks left (Drops dropped) b))
+    put_stays a r left dropped None w h = w
+    put_stays a r left dropped (Some p) w h = h
+
+    call_stays : (o : Option Change) (a : Actor) (r : List Item) (xs : List Ident) (es : ExprTrees) → ActorWithin all a → RestWithin all r
+        → Stays (call_by ns v (look a.vars) o a (actor a.vars r) (put_path ns v a r) xs es)
+    call_stays None a r xs es w h =
+        evaluated_stays a (call_act ns v (look a.vars) xs es) (λ act left. asks left act (actor a.vars r)) w (λ act left. h)
+    call_stays (Some how) a r xs es w h =
+        evaluated_stays a (storing ns v (look a.vars) how (base_of xs) es) (λ s left. given a (put_path ns v a r (base_of xs) s.0) (λ b. asks left (Drops s.1) b)) w
+        (λ s left. put_stays a r left s.1 (assign ns.records (base_of xs) s.0 a.vars) w h)
+
     for_stays : (a : Actor) (s : Site) (at : Place) (i t b k : Body) (e : Option ExprTree) (r : List Item) → BodyWithin all s (ForStmt at i e t b k) → RestWithin all r
         → Stays (do_body ns v a s (ForStmt at i e t b k) r)
     for_stays a s at i t b k e r w h =
@@ -138,7 +159,7 @@ module _ (all : List Place) where
         (parts.0, ((inner, step), (tt, (behind, h))))
 
     body_stays : (a : Actor) (s : Site) (b : Body) (r : List Item) → ActorWithin all a → BodyWithin all s b → RestWithin all r → Stays (do_body ns v a s b r)
-    body_stays a s End r g w h = h
+    body_stays a s End r g w h = end_stays a s.is_void r g h
     body_stays a s (BlockStmt at b k) r g w h =
         let x = two_bodies all s b k w.waits w.parts.1 w.parts.2 in (x.0, (tt, (x.1, h)))
     body_stays a s (IfStmt at e b k) r g w h =
@@ -157,7 +178,7 @@ module _ (all : List Place) where
     body_stays a s (BreakStmt at k) r g w h = exit_stays v.left Breaks (Do s (BreakStmt at k)) a r w g h
     body_stays a s (ContinueStmt at k) r g w h = exit_stays v.left Continues (Do s (ContinueStmt at k)) a r w g h
     body_stays a s (ReturnStmt at e k) r g w h =
-        evaluated_stays a (value ns v (look a.vars) e) _ g (λ u left. (tt, tt))
+        evaluated_stays a (value ns v (look a.vars) (returned_expr e)) _ g (λ u left. (tt, tt))
     body_stays a s (ThrowStmt at e k) r g w h = throws_stay a e s.caught g
     body_stays a s (TryStmt at b q x c k) r g w h =
         let y = three_bodies all s b c k w.waits w.parts.1 w.parts.2 w.parts.3 in
@@ -168,9 +189,7 @@ module _ (all : List Place) where
     body_stays a s (ModifyStmt at xs c k) r g w h =
         given_stays a (change xs c) (λ e. store ns v a (Path xs) e (Do s k ∷ r)) g
         (λ e. store_stays a (Path xs) e (Do s k ∷ r) g (record { waits = w.waits; parts = w.parts.1 }, h))
-    body_stays a s (CallStmt at xs es k) r g w h =
-        evaluated_stays a (call_act ns v (look a.vars) xs es) (λ act left. asks left act (actor a.vars (Do s k ∷ r))) g
-        (λ act left. (record { waits = w.waits; parts = w.parts.1 }, h))
+    body_stays a s (CallStmt at xs es k) r g w h = call_stays (change_of xs) a (Do s k ∷ r) xs es g (record { waits = w.waits; parts = w.parts.1 }, h)
     body_stays a s (WaitStmt at w k) r g x h = await_stays a s.spot (operand (Single w) v.kept) g
 
     check_stays : (a : Actor) (l : Loop) (e : Option ExprTree) (r : List Item) → ActorWithin all a → LoopWithin all l → RestWithin all r → Stays (check ns v a l e r)
@@ -253,10 +272,10 @@ module _ (all : List Place) where
   raise_stays_within err a h = raised_within err a.vars (unwind [] a.vars.locals a.rest) (unwound_within [] a.vars.locals a.rest h)
 
 -- an actor begins at the begin of its text
-pub begins_within : (b : Body) (ss : List (List ℕ × Option ValueTree)) → HasSimpleParts b → ActorWithin (wait_places b) (begun b ss)
-begins_within b ss h = (
+pub begins_within : (t : RoutineTree) (ss : List (List ℕ × Option ValueTree)) → HasSimpleParts t.body → ActorWithin (wait_places t.body) (begun t ss)
+begins_within t ss h = (
   record {
-    waits = record { front = []; behind = []; are = sym (append-nil (wait_places b)); first = refl };
+    waits = record { front = []; behind = []; are = sym (append-nil (wait_places t.body)); first = refl };
     parts = h;
   },
   tt,

@@ -45,6 +45,19 @@ fn writes_a_record(alloc: Global) -> Result<bool, NoMemory> {
     is_written(alloc, &value, b"((Future#7, \"abc\"), PromiseStream#2)")
 }
 
+// A vector of two others, the second of them empty.
+fn vectors(alloc: Global) -> Result<Value, NoMemory> {
+    let items = [Value::Int(4), Value::Ref(Kind::Future, CellId(7))];
+    let first = Value::list(alloc, Vec::from_array(alloc, items)?)?;
+    let empty = Value::list(alloc, Vec::new(alloc))?;
+    Value::list(alloc, Vec::from_array(alloc, [first, empty])?)
+}
+
+fn writes_a_vector(alloc: Global) -> Result<bool, NoMemory> {
+    let value = vectors(alloc)?;
+    is_written(alloc, &value, b"[[4, Future#7], []]")
+}
+
 #[test]
 fn writes_values(rt: HostRuntime) -> Result<(), NoMemory> {
     let alloc = rt.alloc();
@@ -55,5 +68,6 @@ fn writes_values(rt: HostRuntime) -> Result<(), NoMemory> {
     assert!(rt; is_written(alloc, &Value::Ref(Kind::Promise, CellId(0)), b"Promise#0")?);
     assert!(rt; writes_a_text(alloc)?);
     assert!(rt; writes_a_record(alloc)?);
+    assert!(rt; writes_a_vector(alloc)?);
     Ok(())
 }

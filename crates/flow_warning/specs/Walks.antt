@@ -128,7 +128,7 @@ abbrev mutual
   alone x (LoopStmt at b k) = in_turn (looped (alone x b)) (alone x k)
   alone x (BreakStmt at k) = record nowhere { breaks = true }
   alone x (ContinueStmt at k) = record nowhere { continues = true }
-  alone x (ReturnStmt at v k) = unless_mentioned (mentions x v) left
+  alone x (ReturnStmt at v k) = unless_mentioned (maybe_mentions x v) left
   alone x (ThrowStmt at v k) = unless_mentioned (maybe_mentions x v) left
   alone x (TryStmt at b q y h k) = in_turn (handled (alone x b) (alone x h)) (alone x k)
   alone x (ChooseStmt at bs k) = unless_mentioned (branches_mention x bs) (waiting at)

@@ -30,6 +30,7 @@ fn held(ty: &Ty) -> Option<Held>
         Ty::Promise(_) => Some(Held::Promise),
         Ty::PromiseStream(_) => Some(Held::Promise),
         Ty::Int | Ty::Bool | Ty::Str | Ty::Void | Ty::Error | Ty::Named(_) => None,
+        Ty::Vector(_) => None,
     }
 }
 

@@ -23,6 +23,7 @@ pub fn mentions(name: &[u8], expr: &Expr) -> bool
         Expr::Call(_, args) => mention(name, args),
         Expr::Field(of, _) => mentions(name, of),
         Expr::Method(of, _, args) => mentions(name, of) || mention(name, args),
+        Expr::Index(of, index) => mentions(name, of) || mentions(name, index),
         Expr::Not(of) => mentions(name, of),
         Expr::Neg(of) => mentions(name, of),
         Expr::Binary(_, left, right) => mentions(name, left) || mentions(name, right),

@@ -261,7 +261,7 @@ fn alone_in(name: &[u8], stmt: &Stmt) -> Walks
         StmtKind::Loop(body) => alone(name, body).looped(),
         StmtKind::Break => Walks::breaking(),
         StmtKind::Continue => Walks::continuing(),
-        StmtKind::Return(value) => Walks::left(mentions(name, value)),
+        StmtKind::Return(value) => Walks::left(maybe_mentions(name, value)),
         StmtKind::Throw(error) => Walks::left(maybe_mentions(name, error)),
         StmtKind::Try(body, _, _, handler) => alone(name, body).handled(alone(name, handler)),
         StmtKind::Choose(branches) => Walks::waiting(branches_mention(name, branches), stmt.at),

@@ -15,31 +15,33 @@ use Rattle.flow_meaning.specs.World.{World, Begun, next_of, begun_by, at_start}
 use Rattle.flow_burst_refinement.specs.Boundaries.Boundaries.{WorldKeeps}
 
 -- the latest time of a pending event once so many events have run, in ticks: timers and lines of the script come by 2^62, and
--- the delays of packets and disks are below a thousand million
-abbrev pub latest : (ran : ℕ) → ℕ
-latest n = 2 ^ 62 + n * 1000000000
+-- the delays of packets and disks are below a thousand million; in a world that doesn't come from its start there is some slack
+abbrev pub latest : (slack ran : ℕ) → ℕ
+latest k n = 2 ^ 62 + k + n * 1000000000
 
-abbrev pub IsEarly : (ran : ℕ) → Pending What → Type 0
-IsEarly n e = e.time ≤ latest n
+abbrev pub IsEarly : (slack ran : ℕ) → Pending What → Type 0
+IsEarly k n e = e.time ≤ latest k n
 
 abbrev pub LineIsEarly : ℕ × Order → Type 0
 LineIsEarly x = x.0 ≤ 2 ^ 62
 
 -- all that is to come comes by then
-pub record InTime (o : Outside) : Type 0 where
+pub record InTime (slack : ℕ) (o : Outside) : Type 0 where
   pub file : file.IsInRange o.file
   pub script : AllByRecursion LineIsEarly o.script
-  pub events : AllByRecursion (IsEarly o.ran) o.events.pending
+  pub events : AllByRecursion (IsEarly slack o.ran) o.events.pending
 
 pub record WorldInvariant (r : RawTree) (w : World Frame) : Type 0 where
   pub keeps : WorldKeeps r w
-  pub times : InTime w.out
+  pub slack : ℕ
+  pub few : slack ≤ 2 ^ 50
+  pub times : InTime slack w.out
 
--- So it is in the world of a file in range before its first event, and after each event.
+-- So it is without slack in the world of a file in range before its first event, and with the same slack after each event.
 abbrev pub WorldInvariantStarts : RawTree → Type 0
-WorldInvariantStarts r = (w : file.World) → file.IsInRange w → WorldInvariant r (at_start w)
+WorldInvariantStarts r = (w : file.World) → file.IsInRange w → (i : WorldInvariant r (at_start w)) × (i.slack ≡ 0)
 
 abbrev pub WorldInvariantStays : RawTree → Type 0
 WorldInvariantStays r =
-    (w : World Frame) (b : Begun Frame) (l : Live Outside Frame) → WorldInvariant r w → begun_by (classes r) w (next_of w.out) ≡ Some b
-    → Burst (classes r) host (before b) l → l.proc.core.halted ≡ None → WorldInvariant r (after w b l)
+    (w : World Frame) (b : Begun Frame) (l : Live Outside Frame) (i : WorldInvariant r w) → begun_by (classes r) w (next_of w.out) ≡ Some b
+    → Burst (classes r) host (before b) l → l.proc.core.halted ≡ None → (j : WorldInvariant r (after w b l)) × (j.slack ≡ i.slack)

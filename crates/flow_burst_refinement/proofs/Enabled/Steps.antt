@@ -5,20 +5,20 @@ use Rattle.std.specs.List.{list_all}
 use Rattle.std.specs.declared.option.Option.{Option}
 use Rattle.std.specs.declared.option.Option.TheVariants.{None, Some}
 use Rattle.flow_ast.specs.Typing.{is_there}
-use Rattle.flow_tree.specs.Tree.{ExprTree, TypeTree}
+use Rattle.flow_tree.specs.Tree.{ExprTree, ExprTrees, TypeTree, returned_expr}
 use Rattle.flow_tree.specs.declared.ty.Ident.{Ident}
 use Rattle.flow_value.specs.Values.{RefValue, OutcomeTree, GoodOutcome, refs_of}
 use Rattle.flow_class.specs.declared.class.Slotted.{Slotted}
 use Rattle.flow_class.specs.declared.class.Slotted.TheVariants.{Slot, Local}
 use Rattle.flow_class.specs.Classes.{SetInstr, EffectInstr, NewInstr, ActInstr, DropInstr, InstrTree, GotoLast, PassLast, TestLast, ChooseLast, ReturnLast, ThrowLast, LastTree, CallbackTree, BlockTree, ClassTree, RawTree}
 use Rattle.flow_class.specs.Code.{type_at, Fetched, Body, Last, Nothing, fetch_in, fetch_at, fetch, callback_at}
-use Rattle.flow_valid.specs.Named.{has_place, has_catcher, has_last, listed, path_place, expr_places, instr_places}
+use Rattle.flow_valid.specs.Named.{has_place, has_catcher, has_last, listed, path_place, base_place, expr_places, exprs_places, instr_places}
 use Rattle.flow_valid.specs.Validity.{IsValid}
 use Rattle.flow_numbered.specs.Numbered.{thing}
 use Rattle.flow_meaning.specs.Cells.{Ref, Cell, Single, Stream, taken, outcome}
 use Rattle.flow_meaning.specs.Requests.{Supply}
 use Rattle.flow_meaning.specs.Process.{Run, Entry, Proc}
-use Rattle.flow_meaning.specs.Evaluating.{evaluated, effect_in, value, values}
+use Rattle.flow_meaning.specs.Evaluating.{evaluated, effect_in, value, values, base_of, before_last}
 use Rattle.flow_meaning.specs.References.{refs_in, value_in}
 use Rattle.flow_meaning.specs.Work.{pushed}
 use Rattle.flow_meaning.specs.Step.{kept_by, view, on_core}
@@ -171,6 +171,15 @@ module _ (r : RawTree) (w : Supply) (p : Proc Frame) (i : ℕ) (e : Entry) (f : 
       let named = instr_named r run.whole.valid.valid e.class f.code class_is f.block f.instr (SetInstr path t) at in
       place_there r.records (typed_by k.types) f q standing.holds (root_listed f.code path q root (both_parts (has_place f.code) (path_place path) (expr_places t) named).0)
 
+  -- what a call statement is on begins with a place of the frame
+  pub call_rooted : (path : List Ident) (es : ExprTrees) → fetch f.code f.block f.instr ≡ Body (ActInstr path es) → Rooted f (base_of path)
+  call_rooted [] es at q root = cc
+  call_rooted (y ∷ []) es at q root = cc
+  call_rooted (y ∷ z ∷ ys) es at q root =
+      let named = instr_named r run.whole.valid.valid e.class f.code class_is f.block f.instr (ActInstr (y ∷ z ∷ ys) es) at in
+      let base = (both_parts (has_place f.code) (base_place (y ∷ z ∷ ys)) (exprs_places es) named).0 in
+      place_there r.records (typed_by k.types) f q standing.holds (root_listed f.code (y ∷ before_last z ys) q root base)
+
   -- the next operand of a wait may wait at its cell
   may_wait : (g : ℕ) (b : CallbackTree) → fetch f.code f.block f.instr ≡ Last (ChooseLast g) → callback_at f.code g (length e.operands) ≡ Some b → effect_in (class_names r) b.operand ≡ None
       → GivesOperand p (value (class_names r) (view w i p.core) (look f.mem) b.operand)
@@ -214,8 +223,8 @@ module _ (r : RawTree) (w : Supply) (p : Proc Frame) (i : ℕ) (e : Entry) (f : 
       (place_there r.records (typed_by k.types) f q standing.holds (first_true (has_place f.code q) (list_all (has_place f.code) []) named), k.fits.numbered)
   by_fetched (Body (DropInstr ns)) at = locals_there f.code f ns standing.holds.locals (instr_named r run.whole.valid.valid e.class f.code class_is f.block f.instr (DropInstr ns) at)
   by_fetched (Body (EffectInstr path t)) at = tt
-  by_fetched (Body (ActInstr path es)) at = tt
-  by_fetched (Last (ReturnLast t)) at = gives_there t
+  by_fetched (Body (ActInstr path es)) at = record { rooted = call_rooted path es at; there = λ t is. gives_there t }
+  by_fetched (Last (ReturnLast t)) at = gives_there (returned_expr t)
   by_fetched (Last (ChooseLast g)) at = record {
     go = go_off r full k (Run i) p.core.tasks refl i e run.entered (popped_at i full.core.left (Run i) p.core.tasks full.core k.orderly refl (run_of i)).rest;
     operand = λ b next none. may_wait g b at next none;

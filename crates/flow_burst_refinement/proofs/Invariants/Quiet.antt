@@ -12,7 +12,7 @@ use Rattle.flow_value.specs.declared.value.Value.{Value}
 use Rattle.flow_value.specs.declared.value.Outcome.{Outcome}
 use Rattle.flow_value.specs.declared.value.Kind.{Kind}
 use Rattle.flow_value.specs.declared.value.Kind.TheVariants as kind
-use Rattle.flow_value.specs.Values.{ValueTree, IntValue, BoolValue, TextValue, VoidValue, ErrorValue, CompositeValue, RefValue}
+use Rattle.flow_value.specs.Values.{ValueTree, ValueTrees, NoValues, IntValue, BoolValue, TextValue, VoidValue, ErrorValue, CompositeValue, RefValue}
 use Rattle.flow_value.specs.View.{value_of}
 use Rattle.flow_eval.specs.Eval.{Res}
 use Rattle.flow_code.specs.declared.expr.expr.Resolved.{Resolved}
@@ -40,6 +40,8 @@ use Rattle.flow_cancel.specs.Dropping.{refs_in, dropping}
 use Rattle.flow_cell.specs.declared.waiter.Waiter.{Waiter}
 use Rattle.flow_cancel.specs.Leaving.{waiter_of, withdrawn}
 use Rattle.flow_meaning.specs.Requests as asks
+use Rattle.flow_meaning.specs.Evaluating.{Change, change_by}
+use Rattle.flow_meaning.specs.Evaluating as change
 use Rattle.flow_heap_refinement.specs.Changes.{stream_put}
 use Rattle.flow_heap_refinement.specs.Holds.{hold, hold_all, filled_in, given}
 use Rattle.flow_steps.specs.declared.call.Call.{Call}
@@ -57,8 +59,8 @@ use Rattle.flow_steps.specs.Delivering.{made, complete_at, sent_into, sending}
 use Rattle.flow_steps.specs.Points.{next_stand, noted, place_put, places_emptied, lost_from}
 use Rattle.flow_steps.specs.Waiting.{operand_kept, Registered, stream_awaited, awaited, register, register_all, registered_then, left_for, Takes, copied, popped, TakesBranch, no_turn, takes_branch, KeepsOperand, kept_marked, kept_unready, kept_ready, Waits, waits_ready, waits_refused, waits_suspended}
 use Rattle.flow_steps.specs.Evaluating.{with_left, Evaluates, gives, throws, runs_out}
-use Rattle.flow_steps.specs.Acting.{Values, args_of, enrolled, with_args, EffectAsked, ActorCalled, not_called, actor_starts, EffectMade, EffectDone, PredefinedCalled, IsMessage, MethodCalled}
-use Rattle.flow_steps.specs.Stepping.{OnAfter, IsSet, made_in_place, IsNew, IsAct, IsMethod, MethodStep, Does, GoesOnAt, Passes, no_pass, pass_begins, IsTest, ReferenceKept, OperandStep, Chooses, asks_operand, all_kept, ended, IsReturn, ErrorThrown, Ends, StepsOn, by_instruction, by_last, Runs, runs_on, runs_off, GoesOn}
+use Rattle.flow_steps.specs.Acting.{Values, args_of, enrolled, with_args, EffectAsked, ActorCalled, not_called, actor_starts, enrolled_alone, VoidCalled, void_not_called, void_starts, EffectMade, EffectDone, PredefinedCalled, IsMessage, MethodCalled}
+use Rattle.flow_steps.specs.Stepping.{OnAfter, IsSet, made_in_place, IsNew, IsAct, IsCall, IsChanged, Grows, grown, is_full, Clears, IsChange, IsMethodBy, IsMethod, MethodStep, Does, GoesOnAt, Passes, no_pass, pass_begins, IsTest, ReferenceKept, OperandStep, Chooses, asks_operand, all_kept, ended, IsReturn, ErrorThrown, Ends, StepsOn, by_instruction, by_last, Runs, runs_on, runs_off, GoesOn}
 use Rattle.flow_burst_refinement.specs.Invariants.Staying.{ports_after, Stays}
 use Rattle.flow_burst_refinement.proofs.Invariants.Rising.{HeapStays, still, and_then, other_tasks, push_stays, cell_put_stays, stream_put_stays, made_stays, started_stays, hold_stays, hold_all_stays, filled_stays, frame_stays, noting_stays, emptied_stays, lost_from_stays, withdrawn_stays, cancelled_stays}
 
@@ -205,6 +207,20 @@ actor_called code i g class vs m n none (actor_starts t h) =
     let runs = quiet_then m h.given _ given (doing_quiet _ h.given) in
     speaks_is m n _ h.starts.told (tells m _ _ runs.calm)
 
+void_called : (code : Code) (i : ActorId) (class : ℕ) (vs : List Value) (m n : Process) → m.asked ≡ None → VoidCalled code i class vs m n → Speaks m n
+void_called code i class vs m n none (void_not_called t e) = quiet_speaks m n none (quiet_is m n (turned m) e (turned_quiet m))
+void_called code i class vs m n none (void_starts t h) =
+    let a = turned m in
+    let f = enrolled_alone class h.enrols.of.places vs in
+    let with_held = hold_all (refs_in vs) a.heap in
+    let enrols : Quiet a h.enrolled =
+    quiet_is a h.enrolled (on_heap f a) h.enrols.made
+    (on_heap_quiet f a (and_then a.heap with_held _ (hold_all_stays (refs_in vs) a.heap) (started_stays class h.enrols.of.places _ None with_held))) in
+    let all = quiet_then m a h.enrolled (turned_quiet m) enrols in
+    let caller = quiet_then m h.enrolled _ all (doing_quiet (task.Run i) h.enrolled) in
+    let runs = quiet_then m (doing (task.Run i) h.enrolled) _ caller (doing_quiet (task.Run h.actor) (doing (task.Run i) h.enrolled)) in
+    speaks_is m n _ h.starts.told (tells m _ _ runs.calm)
+
 effect_made : (code : Code) (i : ActorId) (g : Goal) (e : Effect) (args : Values) (m n : Process) → m.asked ≡ None → EffectMade code i g e args m n → Speaks m n
 effect_made code i g (effect.World called) args m n none h = effect_asked i g _ m n none h
 effect_made code i g (effect.Actor class) args m n none h = actor_called code i g class args.items m n none h
@@ -255,10 +271,40 @@ method_called i called kind.PromiseStream k arg m n none h = quiet_speaks m n no
 method_called i called kind.Future k arg m n none h = speaks_is m n _ h.1 (then_speaks m (doing _ m) _ (doing_quiet _ m).calm (owner_speaks _ (doing _ m) none))
 method_called i called kind.FutureStream k arg m n none h = absurd h
 
+call_is : (code : Code) (s : ControlPoint) (aim : Aim) (called : Method) (sent : Option Value) (m n : Process) (pace : Pace) → m.asked ≡ None → IsCall code s aim called sent m pace n
+    → After pace m n
+call_is code s aim called sent m n pace none h =
+    off_is pace m n h.off (then_speaks m (noted (next_stand s) m) n (noted_quiet (next_stand s) m).calm (method_called s.actor called h.kind h.cell sent (noted (next_stand s) m) n none h.calls))
+
+-- a vector is changed in its place
+changed_quiet : (code : Code) (i : ActorId) (aim : Aim) (es new : ValueTrees) (m n : Process) (old : Option Value) → IsChanged code i aim es new m old n → Quiet m n
+changed_quiet code i aim es new m n old h =
+    quiet_is m n _ h.assigns.put (on_heap_quiet (place_put i.0 aim.place h.assigns.root) m (frame_stays _ i.0 m.heap))
+
+grows_is : (code : Code) (s : ControlPoint) (aim : Aim) (v : Value) (m n : Process) (pace : Pace) → m.asked ≡ None → Grows code s aim v m pace n → After pace m n
+grows_is code s aim v m n pace none (grown es old _ room h) =
+    let a = on_heap (hold_all (value_refs v)) m in
+    quiet_then m a n (on_heap_quiet (hold_all (value_refs v)) m (hold_all_stays (value_refs v) m.heap)) (changed_quiet code s.actor aim es _ a n old h)
+grows_is code s aim v m n pace none (is_full es _ at full e) = quiet_speaks m n none (quiet_is m n _ e (noted_doing s _ m))
+
+clears_is : (code : Code) (s : ControlPoint) (aim : Aim) (m n : Process) (pace : Pace) → m.asked ≡ None → Clears code s aim m pace n → After pace m n
+clears_is code s aim m n pace none h =
+    let changed = changed_quiet code s.actor aim h.elements NoValues m h.between h.old h.changed in
+    after_then pace m h.between n changed (left_over _ _ h.between n pace (changed.asked ∙ none) h.after)
+
+change_is : (code : Code) (s : ControlPoint) (aim : Aim) (how : Change) (sent : Option Value) (m n : Process) (pace : Pace) → m.asked ≡ None → IsChange code s aim how sent m pace n
+    → After pace m n
+change_is code s aim change.Grows (Some v) m n pace none h = grows_is code s aim v m n pace none h
+change_is code s aim change.Grows None m n pace none h = absurd h
+change_is code s aim change.Clears sent m n pace none h = clears_is code s aim m n pace none h
+
 method_is : (code : Code) (s : ControlPoint) (aim : Aim) (called : Method) (sent : Option Value) (m n : Process) (pace : Pace) → m.asked ≡ None → IsMethod code s aim called sent m pace n
     → After pace m n
-method_is code s aim called sent m n pace none h =
-    off_is pace m n h.off (then_speaks m (noted (next_stand s) m) n (noted_quiet (next_stand s) m).calm (method_called s.actor called h.kind h.cell sent (noted (next_stand s) m) n none h.calls))
+method_is code s aim called sent m n pace none = by_change (change_by (Some called))
+  where
+    by_change : (o : Option Change) → IsMethodBy o code s aim called sent m pace n → After pace m n
+    by_change None h = call_is code s aim called sent m n pace none h
+    by_change (Some how) h = change_is code s aim how sent m n pace none h
 
 method_step : (code : Code) (s : ControlPoint) (aim : Aim) (called : Method) (es : List Resolved) (m n : Process) (pace : Pace) → m.asked ≡ None → MethodStep code s aim called es m pace n
     → After pace m n
@@ -272,6 +318,9 @@ act_is code s (act.World called) args m n pace none h =
     off_is pace m n h.0 (then_speaks m (noted (next_stand s) m) n (noted_quiet (next_stand s) m).calm (predefined_called s.actor called args (noted (next_stand s) m) n h.1))
 act_is code s (act.Function f) args m n pace none h =
     evaluates s value_of _ m n _ pace none (λ v k n pace none h. on_is pace _ k n h.0 (quiet_is k n k h.1 (quiet_still k))) h
+act_is code s (act.Actor class) args m n pace none h =
+    off_is pace m n h.0
+    (then_speaks m (noted (next_stand s) m) n (noted_quiet (next_stand s) m).calm (void_called code s.actor class args.items (noted (next_stand s) m) n none h.1))
 
 set_is : (code : Code) (s : ControlPoint) (aim : Aim) (v : Value) (m n : Process) (pace : Pace) → m.asked ≡ None → IsSet code s aim v m pace n → After pace m n
 set_is code s aim v m n pace none h =

@@ -4,29 +4,29 @@ use Rattle.std.specs.Prelude.{slice_get}
 use Rattle.std.specs.declared.option.Option.{Option}
 use Rattle.std.specs.declared.option.Option.TheVariants.{None, Some}
 use Rattle.flow_tree.specs.declared.ty.Ident.{Ident}
+use Rattle.flow_ast.specs.TypingNames.{named, call_names}
 use Rattle.flow_tree.specs.Tree.{ExprTree, ExprTrees}
 use Rattle.flow_tree.specs.Decls.{RecordTree}
 use Rattle.flow_value.specs.Values.{ValueTree, IntValue, BoolValue, TextValue, VoidValue, ErrorValue, CompositeValue, RefValue, ValueTrees, refs_of, refs_of_all, at_place}
 use Rattle.flow_value.proofs.References.{refs_listed, listed_in, part_refs}
-use Rattle.flow_eval.specs.Eval.{Done}
+use Rattle.flow_eval.specs.Eval.{Res, Done, then as goes_on}
 use Rattle.flow_eval.specs.Records.{field_place, field}
 use Rattle.flow_eval.specs.Functions.{read_in}
 use Rattle.flow_class.specs.declared.class.Slotted.{Slotted}
-use Rattle.flow_class.specs.Classes.{SetInstr, EffectInstr, NewInstr, ActInstr, DropInstr, GotoLast, PassLast, TestLast, ChooseLast, ReturnLast, ThrowLast, CallbackTree, RawTree}
+use Rattle.flow_class.specs.Classes.{SetInstr, EffectInstr, NewInstr, ActInstr, DropInstr, GotoLast, PassLast, TestLast, ChooseLast, ReturnLast, ThrowLast, CallbackTree, ClassTree, RawTree}
 use Rattle.flow_class.specs.Code.{Fetched, Body, Last, Nothing, fetch, callback_at}
 use Rattle.flow_class.specs.Places.{place_named}
 use Rattle.flow_code.specs.declared.program.Code.{Code}
-use Rattle.flow_valid.specs.Named.{has_place, base_place, exprs_places}
 use Rattle.flow_numbered.specs.Numbered.{thing}
-use Rattle.flow_meaning.specs.Requests.{Supply, Goal, Stored, Kept, Effects}
+use Rattle.flow_meaning.specs.Requests.{Supply, Act, Goal, Stored, Kept, Effects}
 use Rattle.flow_meaning.specs.Process.{Entry, Proc}
-use Rattle.flow_meaning.specs.Evaluating.{StepOf, Effectful, Actor, asks, bind, given, evaluated, effect_in, effect_of, values, before_last}
+use Rattle.flow_meaning.specs.Evaluating.{StepOf, Effectful, Actor, asks, bind, given, evaluated, effect_in, effect_of, values, plain_act, function_act, started_act, before_last}
 use Rattle.flow_meaning.specs.Step.{kept_by, view}
 use Rattle.flow_meaning.specs.Class.{effects, choose, operand_by, class_names}
-use Rattle.flow_meaning.specs.Frame.{Frame, read, look, spot_of}
+use Rattle.flow_meaning.specs.Frame.{Frame, read, look, next_instr, spot_of}
 use Rattle.flow_heap_refinement.specs.Holds.{AllThere, There}
 use Rattle.flow_progress.specs.Places.{class_vars}
-use Rattle.flow_progress.specs.Asking.{AsksFit}
+use Rattle.flow_progress.specs.Asking.{Called, AsksFit}
 use Rattle.flow_progress.specs.Fitting.{typed_by}
 use Rattle.flow_progress.specs.Written.{heads}
 use Rattle.flow_progress.proofs.Handed.{args_many}
@@ -34,10 +34,9 @@ use Rattle.flow_operation_refinement.specs.Seeing.{IsCodeOf}
 use Rattle.flow_step_refinement.specs.Executing.{MayDoNext, MayChoose, coded_by}
 use Rattle.flow_step_refinement.specs.Referring.{HoldsThere}
 use Rattle.flow_step_refinement.specs.Effects.Starting.{MayStart}
-use Rattle.flow_burst_refinement.proofs.Invariants.MayDo.{both_parts}
 use Rattle.flow_burst_refinement.specs.Enabled.Allowing.{Running}
-use Rattle.flow_burst_refinement.proofs.Enabled.Steps.{instr_named, place_there, root_listed, standing, class_is, rules, holds_there, asks_fit, step_allowed, values_there, making_allowed}
-use Rattle.flow_burst_refinement.specs.Requests.Next.{MayAffect, MayCallOn, MayChooseBy, MayAskNext}
+use Rattle.flow_burst_refinement.proofs.Enabled.Steps.{call_rooted, rules, holds_there, asks_fit, step_allowed, values_there, making_allowed}
+use Rattle.flow_burst_refinement.specs.Requests.Next.{MayAffect, MayStartBy, MayCallOn, MayChooseBy, MayAskNext}
 use Rattle.flow_burst_refinement.specs.Requests.Allowing as law
 
 -- what a path leads to refers to what is there, if what it begins with does
@@ -76,14 +75,11 @@ module _ (r : RawTree) (code : Code) (w : Supply) (p : Proc Frame) (i : ℕ) (e 
   abbrev Fit : StepOf Frame → Type 0
   Fit = AsksFit r (class_vars f.code) (typed_by run.kept.types) f.code kept
 
-  -- the actor that an effect starts takes the arguments
-  starts : (goal : Goal) (k : ℕ) (es : ExprTrees) (vs : List ValueTree) (left : ℕ) → Fit (effects (class_names r) (view w i p.core) f goal (Actor k, es))
+  -- the actor that is started takes the arguments
+  takes : (k : ℕ) (d : ClassTree) (es : ExprTrees) (vs : List ValueTree) (left : ℕ) → Called r (typed_by run.kept.types) k d vs
       → values (class_names r) (view w i p.core) (look f.mem) es ≡ Done vs left → MayStart r p code k vs
-  starts goal k es vs left fit done =
-      let one = subst (λ z. Fit (evaluated f z (λ us left. given f (effect_of (Actor k) us) (λ eff. asks left (Effects goal eff) f)))) done fit in
-      let gives = one.0.1.2 in
-      let d = gives.0 in
-      let params = ((rules r w p i e f run).classes k d gives.1).params in
+  takes k d es vs left called done =
+      let params = ((rules r w p i e f run).classes k d called.0).params in
       let making = making_allowed r p i e f run in
       record {
         coded = coded_by is;
@@ -92,10 +88,29 @@ module _ (r : RawTree) (code : Code) (w : Supply) (p : Proc Frame) (i : ℕ) (e 
         free = making.next;
         there = (values_there r w p i e f run).1 es vs left done;
         tree = d;
-        at = gives.1;
-        taken = args_many r (heads r) (class_vars d) (typed_by run.kept.types) vs d.slots d.params params gives.2;
+        at = called.0;
+        taken = args_many r (heads r) (class_vars d) (typed_by run.kept.types) vs d.slots d.params params called.1;
         fits = params;
       }
+
+  starts : (goal : Goal) (k : ℕ) (es : ExprTrees) (vs : List ValueTree) (left : ℕ) → Fit (effects (class_names r) (view w i p.core) f goal (Actor k, es))
+      → values (class_names r) (view w i p.core) (look f.mem) es ≡ Done vs left → MayStart r p code k vs
+  starts goal k es vs left fit done =
+      let one = subst (λ z. Fit (evaluated f z (λ us left. given f (effect_of (Actor k) us) (λ eff. asks left (Effects goal eff) f)))) done fit in
+      let gives = one.0.1.2 in takes k gives.0 es vs left gives.1 done
+
+  -- so does a void actor
+  abbrev Asked : Res Act → StepOf Frame
+  Asked done = evaluated f done (λ act left. asks left act (next_instr f.mem f))
+
+  starts_by : (y : Ident) (es : ExprTrees) → fetch f.code f.block f.instr ≡ Body (ActInstr (y ∷ []) es) → MayStartBy r code w p i e f y es
+  starts_by y es at k is_class vs left done =
+      let fit = asks_fit r w p i e f run (Body (ActInstr (y ∷ []) es)) at in
+      let one = subst (λ z. Fit (Asked (goes_on z (λ us rest. plain_act (class_names r) (view w i p.core) (look f.mem) (named call_names y.name) y.name us rest)))) done fit in
+      let two = subst (λ z. Fit (Asked (plain_act (class_names r) (view w i p.core) (look f.mem) z y.name vs left))) is_class.own one in
+      let three = subst (λ z. Fit (Asked (function_act (class_names r) (view w i p.core) (look f.mem) z y.name vs left))) is_class.function two in
+      let four = subst (λ z. Fit (Asked (started_act (class_names r) (view w i p.core) (look f.mem) z vs left))) is_class.same three in
+      let gives = four.0.1 in takes k gives.0 es vs left gives.1 done
 
   affects : (goal : Goal) (t : ExprTree) → ((g : Effectful × ExprTrees) → effect_in (class_names r) t ≡ Some g → Fit (effects (class_names r) (view w i p.core) f goal g))
       → MayAffect r code w p i e f t
@@ -115,18 +130,12 @@ module _ (r : RawTree) (code : Code) (w : Supply) (p : Proc Frame) (i : ℕ) (e 
       let one = subst (λ z. Fit (choose (class_names r) (view w i p.core) f spot z)) (ap (λ o. callback_at f.code g (kept_by o)) run.entered ∙ next) fit in
       affects (Kept spot) b.operand (λ h effect. subst (λ z. Fit (operand_by (class_names r) (view w i p.core) f spot b.operand z)) effect one)
 
-  class_of : slice_get r.classes e.class ≡ Some f.code
-  class_of = class_is r w p i e f run
-
   calls_on : (y z : Ident) (ys : List Ident) (es : ExprTrees) → fetch f.code f.block f.instr ≡ Body (ActInstr (y ∷ z ∷ ys) es) → MayCallOn r code w p i e f y z ys es
-  calls_on y z ys es at =
-      let named = instr_named r run.whole.valid.valid e.class f.code class_of f.block f.instr (ActInstr (y ∷ z ∷ ys) es) at in
-      let base = (both_parts (has_place f.code) (base_place (y ∷ z ∷ ys)) (exprs_places es) named).0 in
-      record {
-        rooted = λ q root. place_there r.records (typed_by run.kept.types) f q (standing r w p i e f run).holds (root_listed f.code (y ∷ before_last z ys) q root base);
-        there = λ kd k to. (read_in_there p r.records (look f.mem y.name) (before_last z ys) (RefValue kd k) to (look_there p f y.name (holds_there r w p i e f run))).0;
-        sent = λ t v left one done. (values_there r w p i e f run).0 t v left done;
-      }
+  calls_on y z ys es at = record {
+    rooted = call_rooted r w p i e f run (y ∷ z ∷ ys) es at;
+    there = λ kd k to. (read_in_there p r.records (look f.mem y.name) (before_last z ys) (RefValue kd k) to (look_there p f y.name (holds_there r w p i e f run))).0;
+    sent = λ t v left one done. (values_there r w p i e f run).0 t v left done;
+  }
 
   chooses : (g : ℕ) → fetch f.code f.block f.instr ≡ Last (ChooseLast g) → MayChooseBy r code w p i e f g
   chooses g at =
@@ -136,7 +145,7 @@ module _ (r : RawTree) (code : Code) (w : Supply) (p : Proc Frame) (i : ℕ) (e 
   by_fetched : (o : Fetched) → fetch f.code f.block f.instr ≡ o → MayAskNext r code w p i e f o
   by_fetched (Body (EffectInstr path t)) at = affects_next path t at
   by_fetched (Body (ActInstr [] es)) at = tt
-  by_fetched (Body (ActInstr (y ∷ []) es)) at = tt
+  by_fetched (Body (ActInstr (y ∷ []) es)) at = starts_by y es at
   by_fetched (Body (ActInstr (y ∷ z ∷ ys) es)) at = calls_on y z ys es at
   by_fetched (Body (SetInstr path t)) at = tt
   by_fetched (Body (NewInstr q)) at = tt

@@ -51,16 +51,16 @@ use Rattle.flow_operation_refinement.proofs.Carrying.{old, seen}
 use Rattle.flow_step_refinement.specs.Continuing.{AtOperands, moves, chooses}
 use Rattle.flow_step_refinement.specs.Assigning.{AimsAt}
 use Rattle.flow_step_refinement.specs.Decoding.{AtInstruction}
-use Rattle.flow_step_refinement.specs.Executing.{coded_by, InProgram, Asks, by_effect, by_act, by_method, by_operand}
+use Rattle.flow_step_refinement.specs.Executing.{coded_by, InProgram, Asks, by_effect, by_act, by_start, by_method, by_operand}
 use Rattle.flow_step_refinement.proofs.Decodes.{both_there, the_instruction, the_end, the_wait, group_there, aim_there}
 use Rattle.flow_step_refinement.proofs.Choices.{choice_begins}
 use Rattle.flow_step_refinement.specs.Effects.Asking.{Answered}
 use Rattle.flow_step_refinement.specs.Effects.Calling.{AimsAtRef, MayCall}
 use Rattle.flow_step_refinement.specs.Effects.Instructed.{Judged, MethodMay}
 use Rattle.flow_step_refinement.proofs.Effects.Decoded.{method_coded, path_seen}
-use Rattle.flow_step_refinement.proofs.Effects.Instructing.{effect_does, operand_does, call_does, method_does}
+use Rattle.flow_step_refinement.proofs.Effects.Instructing.{effect_does, operand_does, call_does, void_does, method_does}
 use Rattle.flow_burst_refinement.specs.Requests.Next as law
-use Rattle.flow_burst_refinement.specs.Requests.Next.{MayAskNext, MayAffect, MayCallOn, MayChooseBy}
+use Rattle.flow_burst_refinement.specs.Requests.Next.{MayAskNext, MayAffect, MayStartBy, MayCallOn, MayChooseBy}
 
 -- as many operands as callbacks
 pub as_many : (n : ℕ) (qs : List Ref) → length (held_from n qs) ≡ length qs
@@ -139,11 +139,17 @@ module _ (r : RawTree) (ls : List Line) (m : Process) (p : Proc Frame) (i : ℕ)
   moves_ask st zero_state may (by_act called args at does) =
       let a = at_instruction st (instruction.Act (act.World called) args) at in
       call_does r ls m p i e f x s w code called args a.text pace n st call.asked judged (record { fetched = a.fetched; coded = a.coded }) does
-  moves_ask st zero_state may (by_method aim called args at does) =
+  moves_ask st zero_state may (by_start class args at does) =
+      let a = at_instruction st (instruction.Act (act.Actor class) args) at in
+      void_does r ls m p i e f x s w code class args a.text pace n st call.asked judged (record { fetched = a.fetched; coded = a.coded })
+      (λ name es is starts vs left done.
+      let on : MayStartBy r code w p i e f name es = subst (MayAskNext r code w p i e f) (a.fetched ∙ ap Body is) may in on class starts vs left done)
+      does
+  moves_ask st zero_state may (by_method aim called args at no_change does) =
       let a = at_instruction st (instruction.Method aim called args) at in
       let of = method_coded by f.code a.text (aim_of aim) called (nodes_of args.items) a.coded in
       let on : MayCallOn r code w p i e f of.root of.second of.others of.exprs = subst (MayAskNext r code w p i e f) (a.fetched ∙ ap Body of.is) may in
-      method_does r ls m p i e f x s w code aim called args a.text pace n st call judged (record { fetched = a.fetched; coded = a.coded })
+      method_does r ls m p i e f x s w code aim called args a.text pace n st call judged (record { fetched = a.fetched; coded = a.coded }) no_change
       (method_may st aim a.text of.root of.second of.others of.exprs of.is of.aims on) does
     where
       method_may : (st : MayBeStale r ls x s m p i e f) (aim : Aim) (text : InstrTree) (y z : Ident) (ys : List Ident) (es : ExprTrees) → text ≡ ActInstr (y ∷ z ∷ ys) es
@@ -185,7 +191,8 @@ module _ (r : RawTree) (ls : List Line) (m : Process) (p : Proc Frame) (i : ℕ)
   chooses_ask : AtOperands r ls x s m p i e f → MayAskNext r code w p i e f (fetch f.code f.block f.instr) → Asks code s m pace n → out
   chooses_ask at may (by_effect aim eff args there does) = absurd (no_instruction at (instruction.Effect aim eff args) there)
   chooses_ask at may (by_act called args there does) = absurd (no_instruction at (instruction.Act (act.World called) args) there)
-  chooses_ask at may (by_method aim called args there does) = absurd (no_instruction at (instruction.Method aim called args) there)
+  chooses_ask at may (by_start class args there does) = absurd (no_instruction at (instruction.Act (act.Actor class) args) there)
+  chooses_ask at may (by_method aim called args there no_change does) = absurd (no_instruction at (instruction.Method aim called args) there)
   chooses_ask at may (by_operand number group b eff args end ends of there is does) =
       let same : at.group ≡ number = let k = at.wait.last in cc (k, ends) in
       let fetched : fetch f.code f.block f.instr ≡ Last (ChooseLast number) = at.wait.fetched ∙ ap (λ k. Last (ChooseLast k)) same in

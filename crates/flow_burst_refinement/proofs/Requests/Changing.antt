@@ -11,7 +11,7 @@ use Rattle.flow_value.specs.declared.value.Kind.TheVariants as kind
 use Rattle.flow_value.specs.Values.{ValueTree, IntValue, RefValue, OutcomeTree, GoodOutcome, BadOutcome}
 use Rattle.flow_numbered.specs.Numbered.{thing, added, put, removed}
 use Rattle.flow_meaning.specs.Cells.{Side, PromiseSide, FutureSide, side_of, Ref, Waiter, Cell, Single, Stream, is_complete, is_ready, waiters, taken, after_taking}
-use Rattle.flow_meaning.specs.Requests.{Spot, DiskCall, Effect, Make, Start, Draw, Delay, Never, Listen, Disk, Goal, Act, Goes, Pass, Drops, Effects, Operand, Waits, Sends, Cancels, Prints, SendsTo, Returns, Throws, RunsOut, Stuck, Ask, Drew, Timer, Packet, Supply}
+use Rattle.flow_meaning.specs.Requests.{Spot, DiskCall, Effect, Make, Start, Draw, Delay, Never, Listen, Disk, Goal, Act, Goes, Pass, Drops, Effects, Starts, Operand, Waits, Sends, Cancels, Prints, SendsTo, Returns, Throws, RunsOut, Stuck, Ask, Drew, Timer, Packet, Supply}
 use Rattle.flow_meaning.specs.Process.{Task, Run, Give, Throw, Catch, Store, Keep, Close, Fire, Drop, Entry, Halt, Core, Proc, Engine}
 use Rattle.flow_meaning.specs.Lines.{take_line, cancel_line, broken_line, end_line, print_line}
 use Rattle.flow_meaning.specs.References.{Scan, reference_count, scan_of}
@@ -20,7 +20,7 @@ use Rattle.flow_meaning.specs.Work.{turn, turn_of, writes, pushed, new_cell, fil
 use Rattle.flow_meaning.specs.Dropping.{Loss, Kept, Freed, Broken, Orphan, Unheard, loss, port_of, break_cell, suffer, lose_cell, lose_ref, drop, fire_to, fire_at, fire_cell, fire, set_result, give_result, close}
 use Rattle.flow_meaning.specs.Effects.{Reaction, result_task, push_result, gives, gives_new, gives_open, throws, scaled, empty_cell, between, is_port, open_port, judged, ask_disk, effect}
 use Rattle.flow_meaning.specs.React.{send_by, send_in, print, at_spot, suspend, wait_by, wait, react}
-use Rattle.flow_meaning.specs.Step.{Stepped, proc, view, enrol, start, start_core, answer, run_next, run, give, store, throw_core, throw, OperandFate, GoesOn, Cancelled, Ready, verdict, with_operand, below, keep_by, keep, close_actor, scanned, do_task, popped, step_if, step_tasks, step}
+use Rattle.flow_meaning.specs.Step.{Stepped, proc, view, enrol_with, enrol, start, start_alone, start_core, start_void, answer, run_next, run, give, store, throw_core, throw, OperandFate, GoesOn, Cancelled, Ready, verdict, with_operand, below, keep_by, keep, close_actor, scanned, do_task, popped, step_if, step_tasks, step}
 use Rattle.flow_meaning.specs.Class.{classes}
 use Rattle.flow_burst_refinement.specs.Requests.Ports as law
 use Rattle.flow_burst_refinement.specs.Requests.Ports.{PortsChange, same, more}
@@ -231,6 +231,7 @@ react_changes s i Goes c = same refl (omega arith)
 react_changes s i Pass c = as_change c (turn c (λ d. pushed (Run i) d)) (turn_stays c (λ d. pushed (Run i) d) (λ d. stay d (pushed (Run i) d) refl refl))
 react_changes s i (Drops vs) c = same refl (omega arith)
 react_changes s i (Effects goal eff) c = effect_changes s i goal eff c
+react_changes s i (Starts class args) c = same refl (omega arith)
 react_changes s i (Operand spot r) c = same refl (omega arith)
 react_changes s i (Waits spot vs) c = as_change c (wait i spot (thing c.entries i) vs c) (wait_stays i spot (thing c.entries i) vs c)
 react_changes s i (Sends k o) c = as_change c (send_in (thing c.cells k) i k o c) (send_stays (thing c.cells k) i k o c)
@@ -258,9 +259,17 @@ module _ {A : Type 0} (e : Engine A) (s : Supply) where
       (turn_stays p.core (λ d. enrol class (e.label class) (push_result i (result_task i goal (RefValue kind.Future (suc d.made))) d))
       (λ d. let x = push_stays i (result_task i goal (RefValue kind.Future (suc d.made))) d in record { ports = x.ports; made = let y = x.made in omega (arith, y) }))
 
+  alone_changes : (i class : ℕ) (o : Option A) (p : Proc A) → PortsChange p.core (start_alone e i class o p).0.core
+  alone_changes i class None p = same refl (omega arith)
+  alone_changes i class (Some a) p =
+      as_change p.core (start_void i class (e.label class) p.core)
+      (turn_stays p.core (λ d. enrol_with class (e.label class) None (pushed (Run i) d))
+      (λ d. stay d (enrol_with class (e.label class) None (pushed (Run i) d)) refl refl))
+
   answer_changes : (i : ℕ) (act : Act) (p : Proc A) → PortsChange p.core (answer e s i act p).0.core
   answer_changes i (Effects goal (Start class args)) p = start_changes i goal class (e.fresh class args) p
   answer_changes i (Effects goal eff) p = react_changes s i (Effects goal eff) p.core
+  answer_changes i (Starts class args) p = alone_changes i class (e.fresh class args) p
   answer_changes i act p = react_changes s i act p.core
 
   run_changes : (i : ℕ) (ts : List Task) (o : Option A) (p : Proc A) → PortsChange p.core (run e s i ts o p).0.core

@@ -1,6 +1,6 @@
 -- A step of an actor in memory that asks something is a step of the class machine; what it asks of the world
 -- is asked there.
-use Rattle.std.specs.Prelude.{◌≡◌, ℕ, pos, List, ◌∷◌, length}
+use Rattle.std.specs.Prelude.{◌≡◌, ℕ, pos, List, [], ◌∷◌, length}
 use Rattle.std.specs.declared.option.Option.TheVariants.{Some}
 use Rattle.flow_tree.specs.declared.ty.Ident.{Ident}
 use Rattle.flow_tree.specs.Tree.{ExprTree, ExprTrees, NoExprs, MoreExprs}
@@ -36,7 +36,8 @@ use Rattle.flow_step_refinement.specs.Executing.{InProgram, Asks}
 use Rattle.flow_burst_refinement.specs.Bursts.{AsksWorld}
 use Rattle.flow_step_refinement.specs.Effects.Asking.{AsksAs, Answered}
 use Rattle.flow_step_refinement.specs.Effects.Effects.{MayMake}
-use Rattle.flow_step_refinement.specs.Effects.Calling.{MayCall}
+use Rattle.flow_step_refinement.specs.Effects.Calling.{MayCall, StartsClass}
+use Rattle.flow_step_refinement.specs.Effects.Starting.{MayStart}
 
 -- What has to hold in the class machine of an actor that asks something by what it stands at.
 module _ (r : RawTree) (code : Code) (w : Supply) (p : Proc Frame) (i : ℕ) (e : Entry) (f : Frame) where
@@ -45,6 +46,12 @@ module _ (r : RawTree) (code : Code) (w : Supply) (p : Proc Frame) (i : ℕ) (e 
   MayAffect t =
       (called : Effectful) (es : ExprTrees) → effect_in (class_names r) t ≡ Some (called, es)
       → MayMake r code p called (values (class_names r) (view w i p.core) (look f.mem) es)
+
+  -- a call statement that starts a void actor, with what its arguments come to
+  abbrev pub MayStartBy : Ident → ExprTrees → Type 0
+  MayStartBy y es =
+      (class : ℕ) → StartsClass r y class → (vs : List ValueTree) (left : ℕ)
+      → values (class_names r) (view w i p.core) (look f.mem) es ≡ Done vs left → MayStart r p code class vs
 
   -- a method: its path begins with a place of the frame, and leads to a reference that is there; so are those of
   -- the argument
@@ -63,6 +70,7 @@ module _ (r : RawTree) (code : Code) (w : Supply) (p : Proc Frame) (i : ℕ) (e 
 
   abbrev pub MayAskNext : Fetched → Type 0
   MayAskNext (Body (EffectInstr path t)) = MayAffect t
+  MayAskNext (Body (ActInstr (y ∷ []) es)) = MayStartBy y es
   MayAskNext (Body (ActInstr (y ∷ z ∷ ys) es)) = MayCallOn y z ys es
   MayAskNext (Last (ChooseLast g)) = MayChooseBy g
   MayAskNext _ = Unit {0}

@@ -1,6 +1,7 @@
 -- Expressions, paths and instructions of class text are read back from their texts.
 use Rattle.std.proofs.Common.{◌≡◌, ℕ, List, [], ◌∷◌, ◌++◌, map, refl, sym, ap, ap₂, ◌∙◌, subst, append_assoc, decimal}
 use Rattle.std.specs.Prelude.{codes}
+use Rattle.std.specs.declared.option.Option.TheVariants.{None, Some}
 use Rattle.flow_tree.specs.declared.token.Word.TheVariants as word
 use Rattle.flow_tree.specs.declared.token.Sign.TheVariants as sign
 use Rattle.flow_tree.specs.declared.ty.Ident.{Ident}
@@ -207,7 +208,7 @@ last_piece (choose {g = g} p q r h) v =
 last_piece (return {e = t} p q of r e) v =
     let a = subst AllValid e v in
     as_rule (both (word_piece [] word.Return p) (spaced (both (whole_piece r (valid_left of _ (valid_tail a))) (sign_end q) (λ u x. refl))) (λ u x. refl))
-    (λ y. record { marked = _; tree = ReturnLast y.1.0.tree; rule = return y.0 y.1.1 y.1.0.marked y.1.0.rule refl; like = ap ReturnLast y.1.0.like }) (λ y. refl) e refl
+    (λ y. record { marked = _; tree = ReturnLast (Some y.1.0.tree); rule = return y.0 y.1.1 y.1.0.marked y.1.0.rule refl; like = ap (λ z. ReturnLast (Some z)) y.1.0.like }) (λ y. refl) e refl
 last_piece (throw {e = t} p q of r e) v =
     let a = subst AllValid e v in
     as_rule (both (word_piece [] word.Throw p) (spaced (both (whole_piece r (valid_left of _ (valid_tail a))) (sign_end q) (λ u x. refl))) (λ u x. refl))

@@ -1,24 +1,22 @@
 -- A resolved expression comes to what its text means.
-use Rattle.std.proofs.Common.{◌≡◌, ℕ, suc, pos, Bool, true, false, cond, List, [], ◌∷◌, map, position, slice_get, refl, ap, sym, subst, ◌∙◌, Option, None, Some}
-use Rattle.std.specs.Option.{option_map}
-use Rattle.std.specs.Str.{bytes_eq}
+use Rattle.std.proofs.Common.{◌≡◌, ℕ, Bool, true, false, List, ◌∷◌, refl, ap, sym, ◌∙◌, Option, None, Some}
 use Rattle.flow_tree.specs.declared.expr.Op.{Op}
 use Rattle.flow_tree.specs.declared.expr.Op.TheVariants.{Or, And, Eq, Ne, Lt, Le, Gt, Ge, Add, Sub, Mul, Div, Rem}
 use Rattle.flow_tree.specs.Tree.{ExprTree, ExprTrees, IntExpr, TextExpr, BoolExpr, VoidExpr, VarExpr, CallExpr, FieldExpr, MethodExpr, NotExpr, NegExpr, BinaryExpr, ParenExpr, NoExprs, MoreExprs}
-use Rattle.flow_tree.specs.Decls.{RecordTree, RoutineTree}
+use Rattle.flow_tree.specs.Decls.{RecordTree}
 use Rattle.flow_ast.specs.declared.predefined.Predefined.{Predefined}
 use Rattle.flow_ast.specs.Typing.{routine_named}
 use Rattle.flow_ast.specs.TypingNames.{named, selected, call_names, constant_names}
 use Rattle.flow_value.specs.declared.value.RecordId.{RecordId}
-use Rattle.flow_value.specs.Values.{ValueTree, IntValue, BoolValue, TextValue, VoidValue, ErrorValue, CompositeValue, RefValue, values_of_list, at_place, Whole}
-use Rattle.flow_eval.specs.Answers.{Answer, Given, NoMeaning, bool_of}
+use Rattle.flow_value.specs.Values.{ValueTree, IntValue, BoolValue, TextValue, VoidValue, ErrorValue, CompositeValue, RefValue, at_place, Whole}
+use Rattle.flow_eval.specs.Answers.{bool_of}
 use Rattle.flow_eval.specs.Functions.{routine_at}
 use Rattle.flow_eval.specs.Operators.{inverted, negated}
 use Rattle.flow_eval.specs.Records.{record_id, field_place, field, field_answer}
-use Rattle.flow_eval.specs.Eval.{Setting, Runner, Res, Done, Fails, Spent, Meaningless, then, at_once, more_args, found, variable, or_then, and_then, truth_of, both, second, method_called, function_called, declared_called, called, eval, eval_all}
-use Rattle.flow_code.specs.Resolved.Tree.{Node, Nodes}
-use Rattle.flow_code.specs.Resolved.Evaluation.{ActorViewTree, numbered_field, field_by, value_at, values_at}
-use Rattle.flow_code.specs.Resolved.Resolving.{Naming, place_node, variable_node, function_node, declared_node, call_node, resolved, resolved_all, place_by, IsNumbering, AreRecords, AreFunctions, held_by, AreSeen, SameMeaning, ResolvedAlike}
+use Rattle.flow_eval.specs.Eval.{Res, Done, Fails, Spent, Meaningless, then, at_once, more_args, found, variable, or_then, and_then, truth_of, both, second, method_called, function_called, declared_called, called, eval, eval_all}
+use Rattle.flow_code.specs.Resolved.Tree.{Nodes}
+use Rattle.flow_code.specs.Resolved.Evaluation.{ActorViewTree, field_by, value_at, values_at}
+use Rattle.flow_code.specs.Resolved.Resolving.{Naming, place_node, variable_node, function_node, declared_node, call_node, resolved, resolved_all, place_by, IsNumbering, AreRecords, AreFunctions, held_by, AreSeen, ResolvedAlike}
 
 then_same : {A B : Type 0} (r q : Res A) (go to : A → ℕ → Res B) → r ≡ q → ((x : A) (left : ℕ) → go x left ≡ to x left) → then r go ≡ then q to
 then_same (Done x left) q go to e same = same x left ∙ ap (λ q. then q to) e
@@ -114,7 +112,7 @@ module _ (n : Naming) (s : ActorViewTree) (look : List ℕ → Option ValueTree)
     same VoidExpr left = refl
     same (VarExpr x) left = variable_same s look x.name (named constant_names x.name) (n.place x.name) left (seen x.name)
     same (CallExpr f xs) left =
-        call_same f.name (named call_names f.name) (n.record_of f.name) (n.function f.name) (resolved_all n xs) left (records f.name) (functions f.name)
+        call_same f.name (named call_names f.name) (n.record_of f.name) (n.function f.name) (resolved_all n xs) left (records f.name) (functions f.name).0
         ∙ ap (λ r. then r (λ vs left. called s.setting s.run (named call_names f.name) f.name vs left)) (same_all xs left)
     same (FieldExpr e x) left = then_same _ _ _ _ (same e left) (λ v left. ap (λ o. at_once (field_answer o) left) (the_field x.name v))
     same (MethodExpr e m xs) left =

@@ -1,5 +1,5 @@
 -- What is known of an expression without evaluation.
-use Rattle.std.proofs.Common.{◌≡◌, ℕ, ℤ, Bool, is_some, List, IfSome, Bor, refl, ap, sym, subst, ◌∙◌, int_cmp}
+use Rattle.std.proofs.Common.{◌≡◌, ℕ, ℤ, pos, Bool, is_some, IfSome, Bor, refl, ap, sym, subst, ◌∙◌, int_cmp}
 use Rattle.std.proofs.lemmas.Bool.{false≢true}
 use Rattle.std.specs.Option.{option_map, option_copied}
 use Rattle.std.specs.declared.option.Option.{Option}
@@ -8,28 +8,31 @@ use Rattle.std.specs.declared.result.Result.{Result}
 use Rattle.std.specs.declared.alloc.Global.{Global}
 use Rattle.std.specs.declared.boxed.Box.{Box}
 use Rattle.flow_tree.specs.declared.expr.Op.{Op}
+use Rattle.flow_tree.specs.Tree.{ByIndex}
+use Rattle.flow_ast.specs.TypingNames.{selected}
 use Rattle.flow_tree.specs.declared.expr.Op.TheVariants.{Or, And, Eq, Ne, Lt, Le, Gt, Ge, Add, Sub, Mul, Div, Rem}
 use Rattle.flow_value.specs.declared.value.Record.{Record}
 use Rattle.flow_value.specs.declared.value.Value.{Value}
 use Rattle.flow_value.specs.declared.value.Value.TheVariants.{Struct, rolls-Struct}
 use Rattle.flow_value.specs.declared.value.Value.TheOpen as layer
 use Rattle.flow_value.specs.declared.value.Value.TheFolds.{fold-roll-Value}
-use Rattle.flow_value.specs.Values.{ValueTree, IntValue, BoolValue, CompositeValue, RecordWhole}
+use Rattle.flow_value.specs.Values.{ValueTree, ValueTrees, IntValue, BoolValue, CompositeValue, RecordWhole, ListWhole, value_at as at}
 use Rattle.flow_value.specs.View.{value_of, values_of, value_step}
 use Rattle.flow_eval.specs.declared.stop.Halt.{Halt}
-use Rattle.flow_eval.specs.Answers.{truth, bool_of}
+use Rattle.flow_eval.specs.Answers.{truth}
 use Rattle.flow_eval.specs.Operators.{compared, on_ints}
+use Rattle.flow_eval.specs.Predefined.{element_got}
 use Rattle.flow_eval.specs.Records.{field_answer}
-use Rattle.flow_eval.specs.Eval.{Res, Done, then, at_once, both, second, truth_of}
+use Rattle.flow_eval.specs.Eval.{Res, Done, then, at_once, more_args, method_called, both, second, truth_of}
 use Rattle.flow_eval.specs.View.{GivesAnswer, Gives}
 use Rattle.flow_eval.proofs.Results.{answer_gives}
 use Rattle.flow_code.specs.declared.expr.expr.Resolved.{Resolved}
 use Rattle.flow_code.specs.declared.expr.expr.Resolved.TheVariants.{Field, Binary, rolls-Field, rolls-Binary}
 use Rattle.flow_code.specs.declared.expr.expr.Resolved.TheOpen as resolved
 use Rattle.flow_code.specs.declared.expr.expr.Resolved.TheFolds.{fold-roll-Resolved}
-use Rattle.flow_code.specs.Resolved.Tree.{Node, FieldNode, BinaryNode}
+use Rattle.flow_code.specs.Resolved.Tree.{Node, NoNodes, MoreNodes, FieldNode, BinaryNode, indexed_node}
 use Rattle.flow_code.specs.Resolved.View.{node_of, node_step}
-use Rattle.flow_code.specs.Resolved.Evaluation.{ActorViewTree, numbered_field, field_by, value_at}
+use Rattle.flow_code.specs.Resolved.Evaluation.{ActorViewTree, numbered_field, field_by, value_at, values_at}
 
 pub struct_seen : (b : Box (Record Value) Global) → value_of (Struct b) ≡ CompositeValue (RecordWhole b.value.id) (values_of b.value.fields.items)
 struct_seen b = ap value_of (sym (rolls-Struct b)) ∙ fold-roll-Value ValueTree value_step (layer.Struct b)
@@ -47,6 +50,19 @@ pub field_seen : (s : ActorViewTree) (e : Node) (f : ℕ) (v : ValueTree) (r : O
     → IfSome r (λ w. Comes s (FieldNode e (Some f)) (value_of w.now))
 field_seen s e f v None h k = tt
 field_seen s e f v (Some w) h k = field_comes s e f v (value_of w.now) h k
+
+-- an element of a list, by an index that is known
+element_comes : (s : ActorViewTree) (e i : Node) (es : ValueTrees) (k : ℕ) (w : ValueTree) → Comes s e (CompositeValue ListWhole es) → Comes s i (IntValue (pos k))
+    → Some w ≡ at es k → Comes s (indexed_node e i) w
+element_comes s e i es k w h g a left =
+    ap (λ r. then r (λ v l. then (values_at s (MoreNodes i NoNodes) l) (λ vs l. at_once (method_called s.setting.cells (selected ByIndex) v vs) l))) (h left)
+    ∙ ap (λ r. then (more_args r (values_at s NoNodes)) (λ vs l. at_once (method_called s.setting.cells (selected ByIndex) (CompositeValue ListWhole es) vs) l)) (g left)
+    ∙ ap (λ o. at_once (element_got o) left) (sym a)
+
+pub element_seen : (s : ActorViewTree) (e i : Node) (es : ValueTrees) (k : ℕ) (r : Option (Bor Value)) → Comes s e (CompositeValue ListWhole es) → Comes s i (IntValue (pos k))
+    → option_map value_of (option_copied r) ≡ at es k → IfSome r (λ w. Comes s (indexed_node e i) (value_of w.now))
+element_seen s e i es k None h g a = tt
+element_seen s e i es k (Some w) h g a = element_comes s e i es k (value_of w.now) h g a
 
 -- a sign between whole numbers that are known
 both_known : (s : ActorViewTree) (op : Op) (l : Node) (b : ℤ) (v : ValueTree) (left : ℕ) → Comes s l (IntValue b) → both op v (value_at s l left) ≡ both op v (Done (IntValue b) left)

@@ -1,6 +1,6 @@
 -- The first of each name, and fields by the numbers of their names, are what the texts say.
-use Rattle.std.proofs.Common.{◌≡◌, ℕ, zero, suc, ◌+◌, ◌<◌, ◌≤◌, Bool, true, false, cond, ltb, List, [], ◌∷◌, length, map, find, position, slice_get, nat_eq, nat_lt, if◌then◌else◌, refl, ap, sym, subst, ◌∙◌, arith}
-use Rattle.std.proofs.lemmas.Bool.{false≢true, ltb-false}
+use Rattle.std.proofs.Common.{◌≡◌, ℕ, suc, ◌+◌, Bool, true, false, cond, ltb, List, [], ◌∷◌, length, map, position, slice_get, if◌then◌else◌, refl, ap, sym, ◌∙◌, arith}
+use Rattle.std.proofs.lemmas.Bool.{ltb-false}
 use Rattle.std.proofs.lemmas.Cmp.{nat_list_eq_equiv}
 use Rattle.std.proofs.lemmas.List.Folds.{find_at}
 use Rattle.std.proofs.lemmas.Option.{slice_get_past}
@@ -12,8 +12,8 @@ use Rattle.std.specs.declared.option.Option.TheVariants.{None, Some}
 use Rattle.flow_tree.specs.declared.decl.FunctionDecl.{FunctionDecl}
 use Rattle.flow_tree.specs.declared.decl.RecordDecl.{RecordDecl}
 use Rattle.flow_tree.specs.DeclView.{record_of, function_of}
-use Rattle.flow_tree.specs.Decls.{RecordTree, RoutineTree}
-use Rattle.flow_ast.specs.Typing.{is_packet, routine_named}
+use Rattle.flow_tree.specs.Decls.{RoutineTree}
+use Rattle.flow_ast.specs.Typing.{is_there, is_packet, routine_named}
 use Rattle.flow_value.specs.declared.value.RecordId.TheVariants.{Packet, Declared}
 use Rattle.flow_eval.specs.Functions.{routine_at}
 use Rattle.flow_eval.specs.Records.{record_id}
@@ -49,6 +49,21 @@ length_mapped f (x ∷ xs) = ap suc (length_mapped f xs)
 at_place_or_none : (fs : List RoutineTree) (n : ℕ) (b : Bool) → ltb n (length fs) ≡ b → slice_get fs n ≡ routine_at fs (cond b (Some n) None)
 at_place_or_none fs n true e = refl
 at_place_or_none fs n false e = slice_get_past fs n (ltb-false n (length fs) e)
+
+found_by : (b : Bool) (k : ℕ) (f : RoutineTree) (o : Option ℕ) (q : Option RoutineTree) → is_there o ≡ is_there q
+    → is_there (if b then Some k else o) ≡ is_there (cond b (Some f) q)
+found_by true k f o q e = refl
+found_by false k f o q e = e
+
+found_too : (fs : List FunctionDecl) (k : ℕ) (x : List ℕ) → is_there (first_from k (map name_of_function fs) x) ≡ is_there (routine_named (map function_of fs) x)
+found_too [] k x = refl
+found_too (f ∷ fs) k x =
+    ap (λ b. is_there (if b then Some k else first_from (suc k) (map name_of_function fs) x)) (bytes_sym x f.name.name)
+    ∙ found_by (bytes_eq f.name.name x) k (function_of f) (first_from (suc k) (map name_of_function fs) x) (routine_named (map function_of fs) x) (found_too fs (suc k) x)
+
+-- and no other name has a number
+pub functions_there : (fs : List FunctionDecl) (o : Option ℕ) (x : List ℕ) → o ≡ first_from 0 (map name_of_function fs) x → is_there o ≡ is_there (routine_named (map function_of fs) x)
+functions_there fs o x e = ap is_there e ∙ found_too fs 0 x
 
 pub functions_named : (fs : List FunctionDecl) (o : Option ℕ) (x : List ℕ) → o ≡ first_from 0 (map name_of_function fs) x → routine_named (map function_of fs) x ≡ routine_at (map function_of fs) o
 functions_named fs o x e =

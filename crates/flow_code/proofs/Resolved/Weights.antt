@@ -1,7 +1,7 @@
 -- How much there is to do in resolved expressions: what falls at each call of the evaluator.
 use Rattle.std.proofs.Common.{ℕ, zero, suc, ◌+◌, ◌<◌, ◌≤◌, List, [], ◌∷◌, length, get_or, arith}
 use Rattle.flow_code.specs.declared.expr.expr.Resolved.{Resolved}
-use Rattle.flow_code.specs.Resolved.Tree.{Node, Nodes, IntNode, TextNode, BoolNode, VoidNode, PlaceNode, CallNode, RecordNode, FunctionNode, UnknownNode, FieldNode, MethodNode, NotNode, NegNode, BinaryNode, NothingNode, NoNodes, MoreNodes}
+use Rattle.flow_code.specs.Resolved.Tree.{Node, Nodes, IntNode, TextNode, BoolNode, VoidNode, EmptyNode, PlaceNode, CallNode, RecordNode, FunctionNode, UnknownNode, FieldNode, MethodNode, NotNode, NegNode, BinaryNode, NothingNode, NoNodes, MoreNodes}
 use Rattle.flow_code.specs.Resolved.View.{node_of, nodes_of}
 
 abbrev mutual
@@ -10,6 +10,7 @@ abbrev mutual
   weight (TextNode t) = 1
   weight (BoolNode b) = 1
   weight VoidNode = 1
+  weight EmptyNode = 1
   weight (PlaceNode n) = 1
   weight (CallNode p xs) = 4 + weights xs
   weight (RecordNode r xs) = 4 + weights xs

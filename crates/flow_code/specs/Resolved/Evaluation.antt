@@ -2,13 +2,13 @@
 use Rattle.std.specs.Prelude.{ℕ, pos, List, [], ◌∷◌, slice_get}
 use Rattle.std.specs.declared.option.Option.{Option}
 use Rattle.std.specs.declared.option.Option.TheVariants.{None, Some}
-use Rattle.flow_value.specs.Values.{ValueTree, IntValue, BoolValue, TextValue, VoidValue, CompositeValue, values_of_list, at_place, Whole, RecordWhole}
+use Rattle.flow_value.specs.Values.{ValueTree, IntValue, BoolValue, TextValue, VoidValue, CompositeValue, NoValues, values_of_list, at_place, Whole, RecordWhole, ListWhole}
 use Rattle.flow_eval.specs.Answers.{Answer, Given, NoMeaning}
 use Rattle.flow_eval.specs.Operators.{negated, inverted}
 use Rattle.flow_eval.specs.Predefined.{call_answer}
 use Rattle.flow_eval.specs.Records.{field_answer}
 use Rattle.flow_eval.specs.Eval.{Setting, Runner, Res, Done, Meaningless, then, at_once, more_args, found, second, method_called, function_called}
-use Rattle.flow_code.specs.Resolved.Tree.{Node, Nodes, IntNode, TextNode, BoolNode, VoidNode, PlaceNode, CallNode, RecordNode, FunctionNode, UnknownNode, FieldNode, MethodNode, NotNode, NegNode, BinaryNode, NothingNode, NoNodes, MoreNodes}
+use Rattle.flow_code.specs.Resolved.Tree.{Node, Nodes, IntNode, TextNode, BoolNode, VoidNode, EmptyNode, PlaceNode, CallNode, RecordNode, FunctionNode, UnknownNode, FieldNode, MethodNode, NotNode, NegNode, BinaryNode, NothingNode, NoNodes, MoreNodes}
 
 -- what an expression sees: the setting, what runs a plain function, the place of a field in a record by the number of its
 -- name, and what the places of a frame hold
@@ -34,6 +34,7 @@ module _ (s : ActorViewTree) where
     value_at (TextNode t) left = Done (TextValue t) left
     value_at (BoolNode b) left = Done (BoolValue b) left
     value_at VoidNode left = Done VoidValue left
+    value_at EmptyNode left = Done (CompositeValue ListWhole NoValues) left
     value_at (PlaceNode n) left = at_once (found (s.held n)) left
     value_at (CallNode p xs) left = then (values_at xs left) (λ vs left. at_once (call_answer p s.setting.now vs) left)
     value_at (RecordNode r xs) left = then (values_at xs left)

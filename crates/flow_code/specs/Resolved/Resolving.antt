@@ -9,7 +9,7 @@ use Rattle.flow_ast.specs.TypingNames.{named, selected, call_names, constant_nam
 use Rattle.flow_value.specs.declared.value.RecordId.{RecordId}
 use Rattle.flow_value.specs.Values.{ValueTree, Whole}
 use Rattle.flow_eval.specs.Records.{record_id, field_place}
-use Rattle.flow_ast.specs.Typing.{routine_named}
+use Rattle.flow_ast.specs.Typing.{is_there, routine_named}
 use Rattle.flow_eval.specs.Functions.{routine_at}
 use Rattle.flow_eval.specs.Eval.{eval}
 use Rattle.flow_code.specs.Resolved.Tree.{Node, Nodes, IntNode, TextNode, BoolNode, VoidNode, PlaceNode, CallNode, RecordNode, FunctionNode, UnknownNode, FieldNode, MethodNode, NotNode, NegNode, BinaryNode, NothingNode, NoNodes, MoreNodes}
@@ -89,8 +89,10 @@ pub record SameMeaning (n : Naming) (s : ActorViewTree) (look : List ℕ → Opt
 abbrev pub AreRecords : List RecordTree → (List ℕ → Option RecordId) → Type 0
 AreRecords rs record_of = (x : List ℕ) → record_of x ≡ record_id rs x
 
+-- and no other name has a number
 abbrev pub AreFunctions : List RoutineTree → (List ℕ → Option ℕ) → Type 0
-AreFunctions fs function = (x : List ℕ) → routine_named fs x ≡ routine_at fs (function x)
+AreFunctions fs function =
+    (x : List ℕ) → (routine_named fs x ≡ routine_at fs (function x)) × (is_there (function x) ≡ is_there (routine_named fs x))
 
 abbrev pub ResolvedAlike : Type 0
 ResolvedAlike =

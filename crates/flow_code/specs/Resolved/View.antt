@@ -13,19 +13,20 @@ use Rattle.flow_value.specs.View.{value_of}
 use Rattle.flow_eval.specs.View.{setting_of}
 use Rattle.flow_eval.specs.Functions.{run_function}
 use Rattle.flow_code.specs.declared.expr.expr.Resolved.{Resolved}
-use Rattle.flow_code.specs.declared.expr.expr.Resolved.TheOpen.{Resolved-F, Int, Text, Bool, VoidValue, Place, Call, Record, Function, Unknown, Field, Method, Not, Neg, Binary, Nothing}
+use Rattle.flow_code.specs.declared.expr.expr.Resolved.TheOpen.{Resolved-F, Int, Text, Bool, VoidValue, EmptyList, Place, Call, Record, Function, Unknown, Field, Method, Index, Not, Neg, Binary, Nothing}
 use Rattle.flow_code.specs.declared.expr.expr.Resolved.TheFolds.{fold-Resolved}
 use Rattle.flow_code.specs.declared.expr.names.FieldNames.{FieldNames}
 use Rattle.flow_code.specs.declared.expr.evaluate.ActorView as code
-use Rattle.flow_code.specs.Resolved.Tree.{Node, Nodes, IntNode, TextNode, BoolNode, VoidNode, PlaceNode, CallNode, RecordNode, FunctionNode, UnknownNode, FieldNode, MethodNode, NotNode, NegNode, BinaryNode, NothingNode, nodes_of_list}
+use Rattle.flow_code.specs.Resolved.Tree.{Node, Nodes, IntNode, TextNode, BoolNode, VoidNode, EmptyNode, PlaceNode, CallNode, RecordNode, FunctionNode, UnknownNode, FieldNode, MethodNode, NotNode, NegNode, BinaryNode, NothingNode, indexed_node, nodes_of_list}
 use Rattle.flow_code.specs.Resolved.Evaluation.{ActorViewTree}
 
--- one layer of an expression, with the mirrors of its parts in their places
+-- one layer of an expression, with the mirrors of its parts in their places; an index is a method
 abbrev pub node_step : Resolved-F Node → Node
 node_step (Int n) = IntNode n
 node_step (Text t) = TextNode t
 node_step (Bool b) = BoolNode b
 node_step VoidValue = VoidNode
+node_step EmptyList = EmptyNode
 node_step (Place n) = PlaceNode n
 node_step (Call p xs) = CallNode p (nodes_of_list xs.items)
 node_step (Record r xs) = RecordNode r (nodes_of_list xs.items)
@@ -33,6 +34,7 @@ node_step (Function k xs) = FunctionNode k (nodes_of_list xs.items)
 node_step (Unknown xs) = UnknownNode (nodes_of_list xs.items)
 node_step (Field e f) = FieldNode e.value f
 node_step (Method e m xs) = MethodNode e.value m (nodes_of_list xs.items)
+node_step (Index e i) = indexed_node e.value i.value
 node_step (Not e) = NotNode e.value
 node_step (Neg e) = NegNode e.value
 node_step (Binary op a b) = BinaryNode op a.value b.value

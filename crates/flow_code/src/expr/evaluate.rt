@@ -3,8 +3,10 @@
 ghost use Rattle.std.specs.Prelude.{◌≡◌, ◌≤◌, ◌<◌, ℕ, map, length, slice_get, IfSome};
 ghost use Rattle.std.specs.Option.{option_map, option_copied};
 ghost use Rattle.flow_value.specs.View.{value_of, values_of};
-ghost use Rattle.flow_value.specs.Values.{BoolValue, IntValue, at_place, value_at as at, RecordWhole};
-ghost use Rattle.flow_code.specs.Resolved.Tree.{BinaryNode, FieldNode};
+ghost use Rattle.flow_value.specs.Values.{BoolValue, IntValue, CompositeValue, at_place, value_at as at, RecordWhole, ListWhole};
+ghost use Rattle.flow_tree.specs.Tree.{ByIndex};
+ghost use Rattle.flow_ast.specs.TypingNames.{selected};
+ghost use Rattle.flow_code.specs.Resolved.Tree.{BinaryNode, FieldNode, NoNodes, MoreNodes, indexed_node};
 ghost use Rattle.flow_eval.specs.Answers.{bool_of, truth};
 ghost use Rattle.flow_eval.specs.Operators.{operated};
 ghost use Rattle.flow_eval.specs.Records.{field_answer};
@@ -87,7 +89,7 @@ pub fn field<'a>(fields: &FieldNames, value: &'a Value, name: usize) -> Option<&
 }
 
 /// The value that an expression reads where it stands, as far as that is told without evaluation: what a place holds, or a
-/// field of that.
+/// field or an element of that.
 #[cycle(seen)]
 fn seen<'a, C: CellView>(sight: &ActorView<'a, C>, expr: &Resolved) -> Option<&'a Value>
     ensures { IfSome result (λ v. (left : ℕ)
@@ -97,6 +99,7 @@ fn seen<'a, C: CellView>(sight: &ActorView<'a, C>, expr: &Resolved) -> Option<&'
     match expr {
         Resolved::Place(place) => held(sight.places, *place),
         Resolved::Field(of, name) => seen_field(sight, of, *name),
+        Resolved::Index(of, index) => seen_element(sight, of, index),
         _ => None,
     }
 }
@@ -120,6 +123,42 @@ fn seen_field<'a, C: CellView>(
         return None;
     };
     field(sight.fields, base, name)
+}
+
+/// The elements of a value that is a list.
+fn items_of(value: &Value) -> Option<&[Value]>
+    ensures { IfSome result (λ items. value_of value.now
+        ≡ CompositeValue ListWhole (values_of items.now)) }
+{
+    match value {
+        Value::List(items) => Some(items.as_slice()),
+        _ => None,
+    }
+}
+
+#[cycle(seen)]
+/// An element of the list that an expression reads where it stands, by an index that is known.
+fn seen_element<'a, C: CellView>(
+    sight: &ActorView<'a, C>,
+    of: &Resolved,
+    index: &Resolved,
+) -> Option<&'a Value>
+    ensures { IfSome result (λ v. (left : ℕ) → value_at (actor_view_of C.content sight.now)
+        (indexed_node (node_of of.now) (node_of index.now)) left ≡ Done (value_of v.now) left) }
+{
+    let Some(base) = seen(sight, of) else {
+        return None;
+    };
+    let Some(items) = items_of(base) else {
+        return None;
+    };
+    let Some(index) = int_in(sight, index) else {
+        return None;
+    };
+    match usize::try_from(index) {
+        Ok(index) => value_in(items, index),
+        Err(_) => None,
+    }
 }
 
 /// The whole number that an expression is or reads, as far as that is told without evaluation.
@@ -224,6 +263,7 @@ pub fn evaluate_resolved<C: CellView>(
         Resolved::Text(text) => Ok(Value::text(alloc, text.copy(alloc)?)?),
         Resolved::Bool(b) => Ok(Value::Bool(*b)),
         Resolved::VoidValue => Ok(Value::Void),
+        Resolved::EmptyList => Ok(Value::list(alloc, Vec::new(alloc))?),
         Resolved::Place(place) => place_value(alloc, sight.places, *place),
         Resolved::Call(call, args) => {
             let args = evaluate_args(sight, args, turns)?;
@@ -243,6 +283,7 @@ pub fn evaluate_resolved<C: CellView>(
         }
         Resolved::Field(of, name) => evaluate_field(sight, of, *name, turns),
         Resolved::Method(of, method, args) => evaluate_call(sight, of, *method, args, turns),
+        Resolved::Index(of, index) => evaluate_index(sight, of, index, turns),
         Resolved::Not(of) => inverted(&evaluate_resolved(sight, of, turns)?),
         Resolved::Neg(of) => negated(&evaluate_resolved(sight, of, turns)?),
         Resolved::Binary(op, left, right) => evaluate_binary(sight, *op, left, right, turns),
@@ -290,6 +331,50 @@ fn evaluate_call<C: CellView>(
     }
     let base = evaluate_resolved(sight, of, turns)?;
     evaluate_method(sight, &base, method, args, turns)
+}
+
+/// An element of an expression, which isn't copied where it is read where it stands.
+#[cycle(evaluate)]
+fn evaluate_index<C: CellView>(
+    sight: &ActorView<C>,
+    of: &Resolved,
+    index: &Resolved,
+    turns: &mut Turns,
+) -> Result<Value, Halt>
+    ensures gives { Gives (value_at (actor_view_of C.content sight.now)
+        (indexed_node (node_of of.now) (node_of index.now)) turns.old.left) result
+        turns.new.left }
+    ensures fewer { turns.new.left ≤ turns.old.left }
+{
+    if let Some(base) = seen(sight, of) {
+        return evaluate_element(sight, base, index, turns);
+    }
+    let base = evaluate_resolved(sight, of, turns)?;
+    evaluate_element(sight, &base, index, turns)
+}
+
+/// An element of a value.
+#[cycle(evaluate)]
+fn evaluate_element<C: CellView>(
+    sight: &ActorView<C>,
+    base: &Value,
+    index: &Resolved,
+    turns: &mut Turns,
+) -> Result<Value, Halt>
+    ensures gives { Gives (then (values_at (actor_view_of C.content sight.now)
+        (MoreNodes (node_of index.now) NoNodes) turns.old.left)
+        (λ vs l. at_once (method_called (C.content sight.now.setting.view.now) (selected ByIndex)
+        (value_of base.now) vs) l)) result turns.new.left }
+    ensures fewer { turns.new.left ≤ turns.old.left }
+{
+    let index = evaluate_resolved(sight, index, turns)?;
+    method_answer(
+        sight.setting.alloc,
+        sight.setting.view,
+        Method::At,
+        base,
+        &[index],
+    )
 }
 
 /// A method of a value.

@@ -13,6 +13,8 @@ pub enum Resolved {
     Text(Text),
     Bool(bool),
     VoidValue,
+    /// The empty list, which no expression of a text is.
+    EmptyList,
     /// What the place with this number holds.
     Place(u32),
     /// A call of what is predefined.
@@ -27,6 +29,8 @@ pub enum Resolved {
     Field(Box<Resolved>, Option<usize>),
     /// A method of a value; none where the name is no method's.
     Method(Box<Resolved>, Option<Method>, Vec<Resolved>),
+    /// An element of a list.
+    Index(Box<Resolved>, Box<Resolved>),
     Not(Box<Resolved>),
     Neg(Box<Resolved>),
     Binary(Op, Box<Resolved>, Box<Resolved>),

@@ -88,6 +88,11 @@ pub fn resolve<P: NamedPlaces>(
             let args = resolve_all(names, places, args)?;
             Ok(Resolved::Method(of, predefined_method(name.name.bytes()), args))
         }
+        Expr::Index(of, index) => {
+            let of = boxed(names, resolve(names, places, of)?)?;
+            let index = boxed(names, resolve(names, places, index)?)?;
+            Ok(Resolved::Index(of, index))
+        }
         Expr::Not(of) => Ok(Resolved::Not(boxed(names, resolve(names, places, of)?)?)),
         Expr::Neg(of) => Ok(Resolved::Neg(boxed(names, resolve(names, places, of)?)?)),
         Expr::Binary(op, left, right) => {

@@ -44,8 +44,8 @@ module _ (d : Engine Frame) (ns : Names) (steps : (v : View) (f : Frame) → d.n
   resumed s r p n held w = quiet_row s w.targets r p w.to n held w.stands w.goes
 
   module _ (p : Pos) (n : ℕ) (s : Scope) (ts : List Target) (held : Held c m s) (r : List Item) (x : Site) where
-    pub end_row : StmtsAt ns c s r ts x End p → Replied d ns steps v (text.do_body ns v (actor (vars_of c m s) (Do x End ∷ r)) x End r) (frame_at c m p n)
-    end_row h = resumed s r p n held (ends_at ns c s r ts x p h)
+    pub end_row : (i : Item) → StmtsAt ns c s (i ∷ r) ts x End p → Replied d ns steps v (text.do_body ns v (actor (vars_of c m s) (Do x End ∷ i ∷ r)) x End (i ∷ r)) (frame_at c m p n)
+    end_row i h = resumed s (i ∷ r) p n held (ends_at ns c s i r ts x p h)
 
     pub block_row : (at : Place) (b k : Body) → StmtsAt ns c s r ts x (BlockStmt at b k) p
         → Replied d ns steps v (text.do_body ns v (actor (vars_of c m s) (Do x (BlockStmt at b k) ∷ r)) x (BlockStmt at b k) r) (frame_at c m p n)
@@ -126,7 +126,7 @@ module _ (d : Engine Frame) (ns : Names) (steps : (v : View) (f : Frame) → d.n
         let w = whole ns c s r ts x (TryStmt at b q y g k) p tt h in
         let z = site_past b x in
         quiet_row (Mark ∷ s) (Hand w.0.1 w.0.2 ∷ At w.0.3 ∷ ts)
-        (Do x b ∷ Leave ∷ Handler y.name (record { spot = z.spot; caught = Some y.name }) g ∷ Do (site_past g z) k ∷ r) p w.0.0 n (held_mark c m s held)
+        (Do x b ∷ Leave ∷ Handler y.name (record z { caught = Some y.name }) g ∷ Do (site_past g z) k ∷ r) p w.0.0 n (held_mark c m s held)
         (body w.0.5 (w.0.6, w.0.7, (w.0.8, w.1))) w.0.4
 
   -- a pass of a loop begins

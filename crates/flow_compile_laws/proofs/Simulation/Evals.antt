@@ -1,9 +1,10 @@
 -- An expression over places comes to what the expression over names comes to, with the same turns.
 use Rattle.std.proofs.Common.{◌≡◌, ℕ, List, [], ◌∷◌, refl, sym, ap, ◌∙◌}
 use Rattle.std.proofs.Math.Path.{fun_ext}
-use Rattle.std.specs.Prelude.{option_map}
+use Rattle.std.specs.Prelude.{option_map, position}
 use Rattle.std.specs.declared.option.Option.{Option}
 use Rattle.std.specs.declared.option.Option.TheVariants.{None, Some}
+use Rattle.std.specs.Str.{bytes_eq}
 use Rattle.flow_tree.specs.declared.ty.Ident.{Ident}
 use Rattle.flow_tree.specs.Tree.{ExprTree, ExprTrees, VarExpr, CallExpr, FieldExpr, MethodExpr, NotExpr, NegExpr, BinaryExpr, ParenExpr, NoExprs, MoreExprs}
 use Rattle.flow_tree.specs.Decls.{SlotTree, RoutineTree}
@@ -22,10 +23,10 @@ use Rattle.flow_eval.specs.Eval.{Res, Done, Fails, Spent, Meaningless, Setting, 
 use Rattle.flow_eval.specs.Functions.{run_function, deepest, read_in, Call}
 use Rattle.flow_class.specs.declared.class.Slotted.{Slotted}
 use Rattle.flow_class.specs.Classes.{ClassTree}
-use Rattle.flow_class.specs.Scopes.{Scope, place_of, var_over, name_over, over, over_all, act_over}
+use Rattle.flow_class.specs.Scopes.{Scope, place_of, var_over, name_over, over, over_all, act_over, path_over}
 use Rattle.flow_meaning.specs.Requests.{Act, Goes, Sends, SendsTo, Effects, Operand, Waits}
 use Rattle.flow_meaning.specs.Process.{View}
-use Rattle.flow_meaning.specs.Evaluating.{Names, setting, bind, Look, Effectful, effectful, effect_in, value, values, sent, cancelled, method_act, done, before_last, last_of, function_act, plain_act, based_act, call_act}
+use Rattle.flow_meaning.specs.Evaluating.{Names, setting, bind, Look, Effectful, effectful, effect_in, value, values, sent, cancelled, method_act, done, before_last, last_of, function_act, plain_act, based_act, call_act, started_act, Change, changed, change_of, base_of, storing}
 use Rattle.flow_meaning.specs.Variables.{flat}
 use Rattle.flow_meaning.specs.Variables as source
 use Rattle.flow_meaning.specs.Frame.{Memory, read}
@@ -91,12 +92,16 @@ module _ (c : ClassTree) (m : Memory) (s : Scope) (held : Held c m s) where
     pub values_over : (es : ExprTrees) → values ns v placed_look (over_all c.slots s es) ≡ values ns v named_look es
     values_over es = all_over (setting ns v) (run_function (setting ns v) deepest) es v.left
 
-    function_same : (o : Option RoutineTree) (vs : List ValueTree) (left : ℕ) → function_act ns v placed_look o vs left ≡ function_act ns v named_look o vs left
-    function_same None vs left = refl
-    function_same (Some f) vs left = refl
+    started_same : (o : Option ℕ) (vs : List ValueTree) (left : ℕ) → started_act ns v placed_look o vs left ≡ started_act ns v named_look o vs left
+    started_same None vs left = refl
+    started_same (Some k) vs left = refl
+
+    function_same : (o : Option RoutineTree) (f : List ℕ) (vs : List ValueTree) (left : ℕ) → function_act ns v placed_look o f vs left ≡ function_act ns v named_look o f vs left
+    function_same None f vs left = started_same (position (bytes_eq f) ns.actors) vs left
+    function_same (Some g) f vs left = refl
 
     plain_same : (o : Option Predefined) (f : List ℕ) (vs : List ValueTree) (left : ℕ) → plain_act ns v placed_look o f vs left ≡ plain_act ns v named_look o f vs left
-    plain_same None f vs left = function_same (routine_named ns.functions f) vs left
+    plain_same None f vs left = function_same (routine_named ns.functions f) f vs left
     plain_same (Some code.Trace) f vs left = refl
     plain_same (Some code.SendTo) f vs left = refl
     plain_same (Some p) f vs left = refl
@@ -121,6 +126,28 @@ module _ (c : ClassTree) (m : Memory) (s : Scope) (held : Held c m s) where
         (λ vs left.
         ap (λ o. based_act ns v placed_look (read_in ns.records o (before_last y ys)) (named method_names (last_of y ys).name) vs left) (look_over x.name)
         ∙ based_same (read_in ns.records (named_look x.name) (before_last y ys)) (named method_names (last_of y ys).name) vs left)
+
+    -- how it changes a vector
+    pub storing_over : (how : Change) (xs : List Ident) (es : ExprTrees)
+        → storing ns v placed_look how (base_of (act_over c.slots s xs)) (over_all c.slots s es) ≡ storing ns v named_look how (base_of xs) es
+    storing_over how [] es = refl
+    storing_over how (f ∷ []) es = refl
+    storing_over how (x ∷ y ∷ ys) es =
+        then_same (λ vs left. changed how vs (read_in ns.records (placed_look (var_over (place_of c.slots s x.name))) (before_last y ys)) left)
+        (λ vs left. changed how vs (read_in ns.records (named_look x.name) (before_last y ys)) left)
+        (values ns v placed_look (over_all c.slots s es)) (values ns v named_look es) (values_over es)
+        (λ vs left. ap (λ o. changed how vs (read_in ns.records o (before_last y ys)) left) (look_over x.name))
+
+-- the path of a call statement over places
+pub change_over : (c : ClassTree) (s : Scope) (xs : List Ident) → change_of (act_over c.slots s xs) ≡ change_of xs
+change_over c s [] = refl
+change_over c s (f ∷ []) = refl
+change_over c s (x ∷ y ∷ ys) = refl
+
+pub base_over : (c : ClassTree) (s : Scope) (xs : List Ident) → base_of (act_over c.slots s xs) ≡ path_over c.slots s (base_of xs)
+base_over c s [] = refl
+base_over c s (f ∷ []) = refl
+base_over c s (x ∷ y ∷ ys) = refl
 
 -- the effect that an expression is
 abbrev pub effect_over : List SlotTree → Scope → Effectful × ExprTrees → Effectful × ExprTrees
@@ -178,12 +205,16 @@ method_mild m (RefValue kind.Future k) vs = cancelled_mild m k
 method_mild m u vs = tt
 
 module _ (ns : Names) (v : View) (look : Look) where
-  function_mild : (o : Option RoutineTree) (vs : List ValueTree) (left : ℕ) → AllMild (function_act ns v look o vs left)
-  function_mild None vs left = tt
-  function_mild (Some f) vs left = then_mild (Call (setting ns v) f vs left) (λ u left. Done Goes left) (λ u left. tt)
+  started_mild : (o : Option ℕ) (vs : List ValueTree) (left : ℕ) → AllMild (started_act ns v look o vs left)
+  started_mild None vs left = tt
+  started_mild (Some k) vs left = tt
+
+  function_mild : (o : Option RoutineTree) (f : List ℕ) (vs : List ValueTree) (left : ℕ) → AllMild (function_act ns v look o f vs left)
+  function_mild None f vs left = started_mild (position (bytes_eq f) ns.actors) vs left
+  function_mild (Some g) f vs left = then_mild (Call (setting ns v) g vs left) (λ u left. Done Goes left) (λ u left. tt)
 
   plain_mild : (o : Option Predefined) (f : List ℕ) (vs : List ValueTree) (left : ℕ) → AllMild (plain_act ns v look o f vs left)
-  plain_mild None f vs left = function_mild (routine_named ns.functions f) vs left
+  plain_mild None f vs left = function_mild (routine_named ns.functions f) f vs left
   plain_mild (Some code.Trace) f vs left = tt
   plain_mild (Some code.SendTo) f vs left =
       done_mild (bind (int_of (arg vs 0)) (λ q. bind (int_of (arg vs 1)) (λ port. bind (text_of (arg vs 2)) (λ text. Some (SendsTo q port text))))) left

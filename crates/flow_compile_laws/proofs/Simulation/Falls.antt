@@ -2,18 +2,19 @@
 use Rattle.std.proofs.Common.{◌≡◌, ℕ, ◌+◌, ◌<◌, Bool, true, false, List, [], ◌∷◌, refl, arith}
 use Rattle.std.specs.declared.option.Option.{Option}
 use Rattle.std.specs.declared.option.Option.TheVariants.{None, Some}
-use Rattle.flow_tree.specs.Tree.{TypeTree, PromiseType, PromiseStreamType, ExprTree, ExprTrees}
-use Rattle.flow_tree.specs.Body.{IntoTree, Body, IfStmt, IfElseStmt, WhileStmt, ForStmt, BreakStmt, ContinueStmt, ReturnStmt, ThrowStmt, ChooseStmt, DeclareStmt, AssignStmt, ModifyStmt, CallStmt, WaitStmt}
+use Rattle.flow_tree.specs.Tree.{TypeTree, PromiseType, PromiseStreamType, ExprTree, ExprTrees, returned_expr}
+use Rattle.flow_tree.specs.Body.{IntoTree, Body, IfStmt, IfElseStmt, WhileStmt, ForStmt, BreakStmt, ContinueStmt, ReturnStmt, ThrowStmt, ChooseStmt, DeclareStmt, AssignStmt, ModifyStmt, CallStmt, WaitStmt, End}
+use Rattle.flow_tree.specs.declared.ty.Ident.{Ident}
 use Rattle.flow_value.specs.Values.{ValueTree, RefValue}
 use Rattle.flow_eval.specs.Eval.{Res, Done, Fails, Spent, Meaningless}
 use Rattle.flow_eval.specs.Answers.{bool_of, error_of}
 use Rattle.flow_eval.specs.Functions.{default_value}
-use Rattle.flow_meaning.specs.Requests.{Spot, Goal, Stored, Kept, Effects, Returns, Act}
+use Rattle.flow_meaning.specs.Requests.{Spot, Goal, Stored, Kept, Effects, Returns, Act, Drops}
 use Rattle.flow_meaning.specs.Process.{View}
-use Rattle.flow_meaning.specs.Evaluating.{Names, bind, StepOf, asks, given, evaluated, Effectful, effect_in, effect_of, value, values, call_act}
+use Rattle.flow_meaning.specs.Evaluating.{Names, bind, StepOf, asks, given, evaluated, Effectful, effect_in, effect_of, value, values, call_act, Change, change_of, base_of, storing, call_by}
 use Rattle.flow_meaning.specs.Variables.{Vars, look}
 use Rattle.flow_meaning.specs.Items.{Site, Loop, Single, OneOf, Target, Declared, Path, Item, Do, Leave, Round, Check, Made, Handler, Over, Actor, actor, over, leave_scope, everything, put_goal, change, operand}
-use Rattle.flow_meaning.specs.SourceStep.{Exit, Breaks, Continues, exit, choose, test, placed, place, effects, store_by, store, declare_new, declares, throw_value, throws, operand_ref, operand_by, await, do_body, check, do_item}
+use Rattle.flow_meaning.specs.SourceStep.{Exit, Breaks, Continues, exit, choose, test, placed, place, effects, store_by, store, declare_new, declares, throw_value, throws, operand_ref, operand_by, await, do_body, check, do_item, end_body, put_path}
 use Rattle.flow_class.specs.Scopes.{scope, outside}
 use Rattle.flow_compile_laws.specs.Simulation.Weights.{body_weight, rest_weight, actor_weight}
 
@@ -107,23 +108,33 @@ module _ (ns : Names) (v : View) where
   await_falls a spot (Some e) n = operand_falls (effect_in ns e) a spot e n
   await_falls a spot None n = λ e. cc
 
-  call_falls : (a : Actor) (q : Res Act) (next : Actor) (n : ℕ) → Falls (evaluated a q (λ act left. asks left act next)) n
-  call_falls a q next n = evaluated_falls a q (λ act left. asks left act next) n (λ act left e. cc)
+  call_by_falls : (o : Option Change) (a next : Actor) (put : List Ident → ValueTree → Option Actor) (path : List Ident) (es : ExprTrees) (n : ℕ)
+      → Falls (call_by ns v (look a.vars) o a next put path es) n
+  call_by_falls None a next put path es n = evaluated_falls a (call_act ns v (look a.vars) path es) (λ act left. asks left act next) n (λ act left e. cc)
+  call_by_falls (Some how) a next put path es n =
+      evaluated_falls a (storing ns v (look a.vars) how (base_of path) es) (λ s left. given a (put (base_of path) s.0) (λ b. asks left (Drops s.1) b)) n
+      (λ s left. given_falls a (put (base_of path) s.0) (λ b. asks left (Drops s.1) b) n (λ b e. cc))
+
+  end_falls : (a : Actor) (void : Bool) (r : List Item) → Falls (end_body ns v a void r) (1 + rest_weight r)
+  end_falls a void (i ∷ r) = λ e. omega arith
+  end_falls a true [] = λ e. cc
+  end_falls a false [] = λ e. cc
 
   body_falls : (a : Actor) (x : Site) (b : Body) (r : List Item) → Falls (do_body ns v a x b r) (1 + body_weight b + rest_weight r)
+  body_falls a x End r = end_falls a x.is_void r
   body_falls a x (IfStmt at e b k) r = test_falls a e _ _ _
   body_falls a x (IfElseStmt at e b c k) r = test_falls a e _ _ _
   body_falls a x (WhileStmt at e b k) r = λ e. omega arith
   body_falls a x (ForStmt at i e t b k) r = λ e. omega arith
   body_falls a x (BreakStmt at k) r = exit_falls v.left Breaks x (BreakStmt at k) a r refl
   body_falls a x (ContinueStmt at k) r = exit_falls v.left Continues x (ContinueStmt at k) a r refl
-  body_falls a x (ReturnStmt at e k) r = evaluated_falls a (value ns v (look a.vars) e) (λ u left. asks left (Returns u (everything a.vars)) over) _ (λ u left e. cc)
+  body_falls a x (ReturnStmt at e k) r = evaluated_falls a (value ns v (look a.vars) (returned_expr e)) (λ u left. asks left (Returns u (everything a.vars)) over) _ (λ u left e. cc)
   body_falls a x (ThrowStmt at e k) r = throws_falls a e x.caught _
   body_falls a x (ChooseStmt at bs k) r = await_falls a x.spot (operand (OneOf bs) v.kept) _
   body_falls a x (DeclareStmt at i e k) r = declares_falls a i e (Do x k ∷ r) _
   body_falls a x (AssignStmt at xs e k) r = store_falls a (Path xs) e (Do x k ∷ r) _
   body_falls a x (ModifyStmt at xs c k) r = given_falls a (change xs c) (λ e. store ns v a (Path xs) e (Do x k ∷ r)) _ (λ e. store_falls a (Path xs) e (Do x k ∷ r) _)
-  body_falls a x (CallStmt at xs es k) r = call_falls a (call_act ns v (look a.vars) xs es) (actor a.vars (Do x k ∷ r)) _
+  body_falls a x (CallStmt at xs es k) r = call_by_falls (change_of xs) a (actor a.vars (Do x k ∷ r)) (put_path ns v a (Do x k ∷ r)) xs es _
   body_falls a x (WaitStmt at w k) r = await_falls a x.spot (operand (Single w) v.kept) _
   body_falls a x _ r = λ e. omega arith
 

@@ -38,7 +38,7 @@ use Rattle.flow_compile_laws.proofs.Simulation.Row as row
 use Rattle.flow_compile_laws.proofs.Simulation.Stores.{declare_row, assign_row, modify_row}
 use Rattle.flow_compile_laws.proofs.Simulation.Controls.{end_row, block_row, if_row, if_else_row, while_row, loop_row, for_row, try_row, round_row, check_row, made_row, handler_row}
 use Rattle.flow_compile_laws.proofs.Simulation.Leavings.{leave_row, break_row, continue_row}
-use Rattle.flow_compile_laws.proofs.Simulation.Ends.{over_row, return_row, throw_row, call_row}
+use Rattle.flow_compile_laws.proofs.Simulation.Ends.{text_row, return_row, throw_row, call_row}
 use Rattle.flow_compile_laws.proofs.Simulation.Waits.{wait_row, choose_row}
 use Rattle.flow_compile_laws.proofs.Simulation.Raises.{raise_row}
 use Rattle.flow_compile_laws.proofs.Simulation.Given.{lose_row, store_row, take_row}
@@ -47,7 +47,8 @@ use Rattle.flow_compile_laws.proofs.Simulation.Fresh.{fresh_row, names_same, cou
 module _ (d : Engine Frame) (ns : Names) (steps : (v : View) (f : Frame) → d.next v f ≡ class.next_step ns v f) (v : View) where
   module _ (c : ClassTree) (m : Memory) (p : Pos) (n : ℕ) (s : Scope) (ts : List Target) (held : Held c m s) where
     body_row : (r : List Item) (x : Site) (b : Body) → StmtsAt ns c s r ts x b p → Replied d ns steps v (text.do_body ns v (actor (vars_of c m s) (Do x b ∷ r)) x b r) (frame_at c m p n)
-    body_row r x End h = end_row d ns steps v c m p n s ts held r x h
+    body_row [] x End h = text_row d ns steps v c m p n s ts held x h
+    body_row (i ∷ r) x End h = end_row d ns steps v c m p n s ts held r x i h
     body_row r x (BlockStmt at b k) h = block_row d ns steps v c m p n s ts held r x at b k h
     body_row r x (IfStmt at e b k) h = if_row d ns steps v c m p n s ts held r x at e b k h
     body_row r x (IfElseStmt at e b g k) h = if_else_row d ns steps v c m p n s ts held r x at e b g k h
@@ -67,7 +68,7 @@ module _ (d : Engine Frame) (ns : Names) (steps : (v : View) (f : Frame) → d.n
     body_row r x (WaitStmt at w k) h = wait_row d ns steps c m p n s ts held r x v at w k h
 
     item_row : (r : List Item) → RestAt ns c s r ts p → Replied d ns steps v (text.do_item ns v (actor (vars_of c m s) r) r) (frame_at c m p n)
-    item_row [] h = over_row d ns steps v c m p n s ts held h
+    item_row [] h = absurd h
     item_row (Do x b ∷ r) h = body_row r x b h
     item_row (Leave ∷ r) h = leave_row d ns steps v c m p n s held ts r h
     item_row (Round l ∷ r) h = round_row d ns steps v c m p n s ts held l r h

@@ -56,7 +56,7 @@ length_slots (p ∷ ps) (v ∷ vs) ts h = ap suc (length_slots ps vs ts (omega a
 
 module _ (ns : Names) where
   begun_row : (a : RoutineTree) (c : ClassTree) (vs : List ValueTree) → IsClassOf a c → Carries ns a c → IsNumbered c → length vs ≡ length a.params
-      → ActorMatches ns Free (begun a.body (slots_seen (slots_of a) (map Some vs ++ blanks (body_slots a.body)))) (class.begun c vs)
+      → ActorMatches ns Free (begun a (slots_seen (slots_of a) (map Some vs ++ blanks (body_slots a.body)))) (class.begun c vs)
   begun_row a c vs k h few same =
       let rest : drop c.params c.slots ≡ body_slots a.body = ap₂ drop k.params k.slots ∙ drop_params a.params (body_slots a.body) in
       let slots : map Some vs ++ blanks (drop c.params c.slots) ≡ map Some vs ++ blanks (body_slots a.body) = ap (λ l. map Some vs ++ blanks l) rest in
@@ -83,14 +83,14 @@ module _ (ns : Names) where
       by_test : (b : Bool) → nat_eq (length vs) c.params ≡ b → BothOrNone (ActorMatches ns Free) (source.fresh_from (Some a) vs) (if b then Some (class.begun c vs) else None)
       by_test true e =
           let same : length vs ≡ length a.params = equal (length vs) c.params e ∙ k.params in
-          subst (λ o. BothOrNone (ActorMatches ns Free) (bind o (λ ss. Some (begun a.body ss))) (Some (class.begun c vs)))
+          subst (λ o. BothOrNone (ActorMatches ns Free) (bind o (λ ss. Some (begun a ss))) (Some (class.begun c vs)))
           (sym (ap (with_args a.params vs) (values_blank (body_slots a.body)) ∙ args_seen a.params vs (body_slots a.body) (blanks (body_slots a.body)) same))
           (begun_row a c vs k h few same)
         where
           equal : (n i : ℕ) → nat_eq n i ≡ true → n ≡ i
           equal n i e = grind (arith, nat_tests)
       by_test false e =
-          subst (λ o. BothOrNone (ActorMatches ns Free) (bind o (λ ss. Some (begun a.body ss))) None)
+          subst (λ o. BothOrNone (ActorMatches ns Free) (bind o (λ ss. Some (begun a ss))) None)
           (sym (args_none a.params vs (no_values (body_slots a.body)) (λ f. differ (length vs) c.params e (f ∙ sym k.params)))) tt
         where
           differ : (n i : ℕ) → nat_eq n i ≡ false → n ≡ i → ⊥

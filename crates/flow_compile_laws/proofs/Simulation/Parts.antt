@@ -13,7 +13,7 @@ use Rattle.flow_class.specs.Scopes.{Scope, outside, path_over}
 use Rattle.flow_meaning.specs.Evaluating.{Names}
 use Rattle.flow_meaning.specs.Items.{Site, Loop, Item, Do, Leave, Round, Made, Handler, change}
 use Rattle.flow_meaning.specs.SourceStep.{Breaks, Continues}
-use Rattle.flow_meaning.specs.Carry.{Pos, after, Target, At, Again, Hand, EndsScope, JumpsTo, here, CaughtAt, AssignAt, ChangeAt, DeclareAt, DeclaredAs, SimpleAt, PassAt, GoesOn}
+use Rattle.flow_meaning.specs.Carry.{Pos, after, Target, At, Again, Hand, EndsScope, JumpsTo, here, CaughtAt, AssignAt, ChangeAt, DeclareAt, DeclaredAs, SimpleAt, PassAt, GoesOn, TextEndsAt}
 use Rattle.flow_meaning.specs.Carries.{ExitAt, BodyAt, TakesInto}
 use Rattle.flow_compile_laws.specs.Simulation.Matching.{LoopStands, Below, PartAt, LeavesAt, StmtsAt, body, part, leaves, RestAt, ThrowsAt}
 
@@ -189,7 +189,6 @@ module _ (ns : Names) (c : ClassTree) where
     pub stands : RestAt ns c s r targets to
 
   pub resumes : (s : Scope) (r : List Item) (ts : List Target) (p : Pos) → GoesOn ns c s r ts p → Below ns c s r ts → Resumes s r p
-  resumes s [] ts p g u = record { targets = ts; to = p; goes = here; stands = g }
   resumes s (Leave ∷ r) ts p g u = record { targets = ts; to = p; goes = here; stands = (g, u) }
   resumes s (Do x k ∷ r) (At q ∷ ts) p g u = record { targets = ts; to = q; goes = g; stands = body u.0 u.1 }
   resumes s (Made l ∷ r) (Again b ∷ ts) p g u = record { targets = Again b ∷ ts; to = p; goes = here; stands = (g, u.0, u.1) }
@@ -210,8 +209,14 @@ module _ (ns : Names) (c : ClassTree) where
       }
   part_ends s r ts p h = absurd h
 
-  -- the end of a body
-  pub ends_at : (s : Scope) (r : List Item) (ts : List Target) (x : Site) (p : Pos) → StmtsAt ns c s r ts x End p → Resumes s r p
-  ends_at s r ts x p (body h u) = resumes s r ts p h u
-  ends_at s r ts x p (part h) = part_ends s r ts p h
-  ends_at s r ts x p (leaves h u) = absurd h
+  -- the end of a body, over what follows
+  pub ends_at : (s : Scope) (i : Item) (r : List Item) (ts : List Target) (x : Site) (p : Pos) → StmtsAt ns c s (i ∷ r) ts x End p → Resumes s (i ∷ r) p
+  ends_at s i r ts x p (body h u) = resumes s (i ∷ r) ts p h u
+  ends_at s i r ts x p (part h) = part_ends s (i ∷ r) ts p h
+  ends_at s i r ts x p (leaves h u) = absurd h
+
+  -- the end of the text
+  pub text_ends : (s : Scope) (ts : List Target) (x : Site) (p : Pos) → StmtsAt ns c s [] ts x End p → TextEndsAt ns c x.is_void p
+  text_ends s ts x p (body h u) = h
+  text_ends s ts x p (part h) = absurd h
+  text_ends s ts x p (leaves h u) = absurd h

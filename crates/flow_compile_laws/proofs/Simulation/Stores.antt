@@ -5,11 +5,11 @@ use Rattle.std.specs.declared.option.Option.{Option}
 use Rattle.std.specs.declared.option.Option.TheVariants.{None, Some}
 use Rattle.flow_base.specs.declared.place.Place.{Place}
 use Rattle.flow_tree.specs.declared.ty.Ident.{Ident}
-use Rattle.flow_tree.specs.Tree.{TypeTree, IntType, BoolType, StringType, VoidType, ErrorType, NamedType, FutureType, FutureStreamType, PromiseType, PromiseStreamType, ExprTree, IntExpr, BoolExpr, TextExpr}
+use Rattle.flow_tree.specs.Tree.{TypeTree, IntType, BoolType, StringType, VoidType, ErrorType, NamedType, FutureType, FutureStreamType, PromiseType, PromiseStreamType, ExprTree, IntExpr, BoolExpr, TextExpr, VectorType, NothingType}
 use Rattle.flow_tree.specs.Body.{IntoTree, ChangeTree, PlusChange, MinusChange, UpChange, DownChange, Body, DeclareStmt, AssignStmt, ModifyStmt}
 use Rattle.flow_value.specs.declared.value.Kind.{Kind}
 use Rattle.flow_value.specs.declared.value.Kind.TheVariants as kind
-use Rattle.flow_value.specs.Values.{ValueTree, IntValue, BoolValue, TextValue}
+use Rattle.flow_value.specs.Values.{ValueTree, IntValue, BoolValue, TextValue, CompositeValue, ListWhole, NoValues}
 use Rattle.flow_class.specs.declared.class.Slotted.{Slotted}
 use Rattle.flow_class.specs.Classes.{ClassTree, SetInstr, NewInstr}
 use Rattle.flow_class.specs.Places.{place_named}
@@ -81,10 +81,11 @@ module _ (d : Engine Frame) (ns : Names) (steps : (v : View) (f : Frame) → d.n
     -- a new cell, or what has no first value
     new_stands : (w : DeclaresAt ns c s r ts x at i None k p) (h : StmtsAt ns c s r ts x (DeclareStmt at i None k) p) (t : TypeTree) (o : Option Kind) → class.promise_kind t ≡ o
         → carry.at ns c p ≡ code.Body (NewInstr w.to) → type_at c w.to ≡ Some t
-        → (a : _) → Agree d ns steps a (given (frame_at c m p n) o (λ j. asks v.left (Effects Stored (Make j)) (frame_at c m p n))) → Replied d ns steps v a (frame_at c m p n)
+        → (a : _) → Agree d ns steps a (class.new_by ns v (frame_at c m p n) w.to t o) → Replied d ns steps v a (frame_at c m p n)
     new_stands w h t o eo stands type a agree =
         answered d ns steps (declare_point None w h) v (code.Body (NewInstr w.to)) a stands
-        (subst (λ q. Agree d ns steps a (given (frame_at c m p n) q (λ j. asks v.left (Effects Stored (Make j)) (frame_at c m p n)))) (sym (ap (λ q. bind q class.promise_kind) type ∙ eo)) agree)
+        (subst (λ q. Agree d ns steps a (given (frame_at c m p n) q (λ t. class.new_by ns v (frame_at c m p n) w.to t (class.promise_kind t)))) (sym type)
+        (subst (λ q. Agree d ns steps a (class.new_by ns v (frame_at c m p n) w.to t q)) (sym eo) agree))
 
     new_row : (w : DeclaresAt ns c s r ts x at i None k p) (h : StmtsAt ns c s r ts x (DeclareStmt at i None k) p) (t : TypeTree) → i.ty ≡ t → FirstAt ns c w.to t (default_expr ns c t) p
         → Replied d ns steps v (text.declare_new ns v (actor (vars_of c m s) (Do x (DeclareStmt at i None k) ∷ r)) i (Do x k ∷ r) t) (frame_at c m p n)
@@ -100,6 +101,12 @@ module _ (d : Engine Frame) (ns : Names) (steps : (v : View) (f : Frame) → d.n
     new_row w h (NamedType t) e f = new_stands w h (NamedType t) None refl f.0 f.1 _ (refl, may_go d ns steps (declare_point None w h))
     new_row w h (FutureType t) e f = new_stands w h (FutureType t) None refl f.0 f.1 _ (refl, may_go d ns steps (declare_point None w h))
     new_row w h (FutureStreamType t) e f = new_stands w h (FutureStreamType t) None refl f.0 f.1 _ (refl, may_go d ns steps (declare_point None w h))
+    new_row w h NothingType e f = new_stands w h NothingType None refl f.0 f.1 _ (refl, may_go d ns steps (declare_point None w h))
+    new_row w h (VectorType t) e f =
+        let u = CompositeValue ListWhole NoValues in
+        new_stands w h (VectorType t) None refl f.0 f.1 _
+        (placed_agree d ns steps (declare_point None w h) v w.later (Do x k ∷ r) v.left (Some (declare i u (vars_of c m s))) (put_at ns.records m w.to [] u)
+        (declare_puts ns c m s held i w.to w.later u w.declared) w.next)
 
     pub declare_row : (e : Option ExprTree) → StmtsAt ns c s r ts x (DeclareStmt at i e k) p
         → Replied d ns steps v (text.declares ns v (actor (vars_of c m s) (Do x (DeclareStmt at i e k) ∷ r)) i e (Do x k ∷ r)) (frame_at c m p n)

@@ -65,7 +65,6 @@ module _ (ns : Names) (c : ClassTree) where
 
   -- what is still to be done stands at p
   abbrev pub RestAt : Scope → List Item → List Target → Pos → Type 0
-  RestAt s [] ts p = GoesOn ns c s [] ts p
   RestAt s (Do x k ∷ r) ts p = StmtsAt s r ts x k p
   RestAt s (Leave ∷ r) ts p = GoesOn ns c s (Leave ∷ r) ts p × Below (outside s) r ts
   RestAt s (Round l ∷ r) (Again b ∷ ts) p = PassAt ns c p b × LoopStands s r ts l b × Below s r ts

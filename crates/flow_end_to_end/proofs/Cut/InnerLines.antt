@@ -12,7 +12,7 @@ use Rattle.flow_value.specs.Values.{ValueTree, IntValue, BoolValue, TextValue, V
 use Rattle.flow_trace.specs.declared.line.Line.{Line}
 use Rattle.flow_numbered.specs.Numbered.{thing, added, put, removed}
 use Rattle.flow_meaning.specs.Cells.{side_of, Side, FutureSide, PromiseSide, Single, Stream, Ref, Waiter, Cell, is_complete, is_ready, waiters, taken, after_taking}
-use Rattle.flow_meaning.specs.Requests.{Spot, Act, Goes, Pass, Drops, Effects, Operand, Waits, Sends, Cancels, Prints, SendsTo, Returns, Throws, RunsOut, Stuck, Supply, Effect, Make, Start, Draw, Delay, Never, Listen, Disk, Goal, Ask, Drew, Timer, Packet, DiskCall}
+use Rattle.flow_meaning.specs.Requests.{Spot, Act, Goes, Pass, Drops, Effects, Starts, Operand, Waits, Sends, Cancels, Prints, SendsTo, Returns, Throws, RunsOut, Stuck, Supply, Effect, Make, Start, Draw, Delay, Never, Listen, Disk, Goal, Ask, Drew, Timer, Packet, DiskCall}
 use Rattle.flow_meaning.specs.Process.{Task, Run, Give, Throw, Catch, Store, Keep, Close, Fire, Drop, Entry, Core, Proc, Raised, Engine}
 use Rattle.flow_meaning.specs.Lines.{take_line, cancel_line, broken_line, end_line, wait_line, print_line, throw_line, catch_line, start_line}
 use Rattle.flow_meaning.specs.References.{Scan, scan_of, reference_count}
@@ -21,7 +21,7 @@ use Rattle.flow_meaning.specs.Dropping.{Loss, Kept, Freed, Broken, Orphan, Unhea
 use Rattle.flow_meaning.specs.Effects.{Reaction, throws, result_task, push_result, gives, gives_new, gives_open, empty_cell, between, is_port, judged, effect, open_port, ask_disk, scaled}
 use Rattle.flow_meaning.specs.React.{send_by, send_in, print, suspend, at_spot, wait_by, wait, react}
 use Rattle.flow_meaning.specs.Step as step
-use Rattle.flow_meaning.specs.Step.{proc, Stepped, silent, enrol, start_core, start, answer, answer_effect, reacted, run_next, run, replaced, store, fate, throw_core, throw_with, throw, OperandFate, GoesOn, Cancelled, Ready, verdict, with_operand, leave_kept, lost, keep_by, keep, handle, close_actor, scanned, popped, do_task, step_tasks, step_if}
+use Rattle.flow_meaning.specs.Step.{proc, Stepped, silent, enrol_with, enrol, start_core, start_void, start, start_alone, answer, answer_effect, reacted, run_next, run, replaced, store, fate, throw_core, throw_with, throw, OperandFate, GoesOn, Cancelled, Ready, verdict, with_operand, leave_kept, lost, keep_by, keep, handle, close_actor, scanned, popped, do_task, step_tasks, step_if}
 use Rattle.flow_monitor.specs.Cut.{is_boundary}
 
 -- none of these begins an event or ends a run
@@ -215,6 +215,7 @@ answered s i Goes c h = h
 answered s i Pass c h = after_turn (λ d. pushed (Run i) d) (λ d g. g) c h
 answered s i (Drops vs) c h = h
 answered s i (Effects goal f) c h = effected s i goal f c h
+answered s i (Starts class args) c h = h
 answered s i (Operand spot r) c h = h
 answered s i (Waits spot vs) c h = waited i spot (thing c.entries i) vs c h
 answered s i (Sends k o) c h = sent (thing c.cells k) i k o c h
@@ -228,13 +229,20 @@ answered s i (Throws e) c h = h
 answered s i RunsOut c h = h
 answered s i Stuck c h = h
 
+enrolled_with : (class : ℕ) (name : List ℕ) (r : Option ℕ) → Adds (enrol_with class name r)
+enrolled_with class name r c h = written (start_line (suc c.started) name) refl c h
+
 pub enrolled : (class : ℕ) (name : List ℕ) → Adds (enrol class name)
-enrolled class name c h = written (start_line (suc c.started) name) refl c h
+enrolled class name c h = enrolled_with class name (Some (suc c.made)) (new_cell (Single None []) c) h
 
 started : (i : ℕ) (g : Goal) (class : ℕ) (name : List ℕ) → Adds (start_core i g class name)
 started i g class name c h =
     after_turn (λ d. enrol class name (push_result i (result_task i g (RefValue kind.Future (suc d.made))) d))
     (λ d k. let t = result_task i g (RefValue kind.Future (suc d.made)) in enrolled class name (push_result i t d) (result_pushed i t d k)) c h
+
+started_alone : (i class : ℕ) (name : List ℕ) → Adds (start_void i class name)
+started_alone i class name c h =
+    after_turn (λ d. enrol_with class name None (pushed (Run i) d)) (λ d k. enrolled_with class name None (pushed (Run i) d) k) c h
 
 thrown : (i err : ℕ) (r : Raised) (x : Option Entry) → Adds (throw_core i err r x)
 thrown i err r None c h = h
@@ -254,6 +262,10 @@ module _ {A : Type 0} (e : Engine A) (s : Supply) where
   begun i g class None p h = h
   begun i g class (Some a) p h = started i g class (e.label class) p.core h
 
+  begun_alone : (i class : ℕ) (x : Option A) (p : Proc A) → StepAdds p (start_alone e i class x p)
+  begun_alone i class None p h = h
+  begun_alone i class (Some a) p h = started_alone i class (e.label class) p.core h
+
   effect_answered : (i : ℕ) (g : Goal) (f : Effect) (p : Proc A) → StepAdds p (answer_effect e s i g f p)
   effect_answered i g (Start class args) p h = begun i g class (e.fresh class args) p h
   effect_answered i g (Make kind) p h = effected s i g (Make kind) p.core h
@@ -265,6 +277,7 @@ module _ {A : Type 0} (e : Engine A) (s : Supply) where
 
   act_answered : (i : ℕ) (a : Act) (p : Proc A) → StepAdds p (answer e s i a p)
   act_answered i (Effects g f) p h = effect_answered i g f p h
+  act_answered i (Starts class args) p h = begun_alone i class (e.fresh class args) p h
   act_answered i Goes p h = answered s i Goes p.core h
   act_answered i Pass p h = answered s i Pass p.core h
   act_answered i (Drops vs) p h = answered s i (Drops vs) p.core h

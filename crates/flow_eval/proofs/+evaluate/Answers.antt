@@ -12,7 +12,7 @@ use Rattle.flow_value.specs.Values.{ValueTree, ErrorValue}
 use Rattle.flow_value.specs.View.{value_of, value_step}
 use Rattle.flow_eval.specs.Functions.{bound, run_function, exec, scope, skip, if_run, turn_run, loop_run, for_run, try_run, return_run, throw_run, declare_run, assign_run, modify_run, call_run}
 use Rattle.flow_eval.specs.Variables.{var_of}
-use Rattle.flow_eval.specs.View.{setting_of, else_run, Ran}
+use Rattle.flow_eval.specs.View.{setting_of, by_parts, else_run, Ran}
 use Rattle.flow_eval.proofs.Steps.{spent_at, too_deep_at, run_deeper, settled, loop_next, loop_continue, loop_halts}
 use Rattle.flow_eval.proofs.Parts.{for_parts_ran, handler_ran, modify_ran}
 use Rattle.flow_eval.proofs.StatementKinds.{comes_block, comes_if, comes_while, comes_for, comes_loop, comes_try, comes_return, comes_throw, comes_declare, comes_assign, comes_modify, comes_call, ends_break, ends_continue, ends_choose, ends_wait, stmt_ran}
@@ -99,7 +99,7 @@ statements::run_kind-returns-in-Return-clause-gives g t c =
     let caught = option_copied c.args.caught in
     let vars = map var_of c.args.locals.now.items in
     let left = c.args.turns.now.left in
-    settled (return_run s run (expr_of c.in-Return.value) vars left) _ _ c.run_return.result _ _ c.run_return.ensures.gives
+    settled (return_run s run (option_map expr_of c.in-Return.value) vars left) _ _ c.run_return.result _ _ c.run_return.ensures.gives
     (comes_return s run caught vars left c.args.at c.args.kind.now c.in-Return.value c.in-Return.is)
 
 pub statements::run_kind-returns-in-Throw-clause-gives : goal.statements::run_kind-returns-in-Throw-clause-gives
@@ -191,53 +191,36 @@ statements::run_kind-returns-in-Wait-clause-gives g t c =
 
 pub statements::run_loop-returns-in_err-run_turn-clause-gives : goal.statements::run_loop-returns-in_err-run_turn-clause-gives
 statements::run_loop-returns-in_err-run_turn-clause-gives g t c =
+    let s = setting_of g.C.CellView.content c.args.setting.now in
+    let pass = by_parts turn_run s c.args.nest (option_copied c.args.test) (option_copied c.args.step) c.args.body.now.items (option_copied c.args.caught) in
+    let all = by_parts loop_run s c.args.nest (option_copied c.args.test) (option_copied c.args.step) c.args.body.now.items (option_copied c.args.caught) in
     let pos : 0 < c.loop-turns.turns.left = omega (arith, c.loop-turns-test.true) in
     let p = err_from_is_err_and c.from_residual.result c.from_residual.ensures.1 in
-    rw (p.1, p.2) (loop_halts (turn_run (setting_of g.C.CellView.content c.args.setting.now) (run_function (setting_of g.C.CellView.content c.args.setting.now) c.args.nest)
-    (option_map expr_of (option_copied c.args.test)) (exec (setting_of g.C.CellView.content c.args.setting.now) (run_function (setting_of g.C.CellView.content c.args.setting.now) c.args.nest)
-    (simple_of (option_copied c.args.step)) (option_copied c.args.caught))
-    (exec (setting_of g.C.CellView.content c.args.setting.now) (run_function (setting_of g.C.CellView.content c.args.setting.now) c.args.nest) (body_of c.args.body.now.items)
-    (option_copied c.args.caught))) (loop_run (setting_of g.C.CellView.content c.args.setting.now) (run_function (setting_of g.C.CellView.content c.args.setting.now) c.args.nest)
-    (option_map expr_of (option_copied c.args.test)) (exec (setting_of g.C.CellView.content c.args.setting.now) (run_function (setting_of g.C.CellView.content c.args.setting.now) c.args.nest)
-    (simple_of (option_copied c.args.step)) (option_copied c.args.caught))
-    (exec (setting_of g.C.CellView.content c.args.setting.now) (run_function (setting_of g.C.CellView.content c.args.setting.now) c.args.nest) (body_of c.args.body.now.items)
-    (option_copied c.args.caught)) (map var_of c.args.locals.now.items) c.args.turns.now.left) (map var_of c.loop-turns.locals.items)
-    (map var_of c.run_turn.new.locals.items) c.loop-turns.turns.left c.run_turn.new.turns.left c.in_err-run_turn.field-0.0 c.loop-turns.invariant.comes pos c.in_err-run_turn.ensures.gives)
+    rw (p.1, p.2) (loop_halts pass (all (map var_of c.args.locals.now.items) c.args.turns.now.left) (map var_of c.loop-turns.locals.items) (map var_of c.run_turn.new.locals.items)
+    c.loop-turns.turns.left c.run_turn.new.turns.left c.in_err-run_turn.field-0.0 c.loop-turns.invariant.comes pos c.in_err-run_turn.ensures.gives)
 
 pub statements::run_loop-loop-turns-preserved-in-Next : goal.statements::run_loop-loop-turns-preserved-in-Next
 statements::run_loop-loop-turns-preserved-in-Next g t c =
+    let s = setting_of g.C.CellView.content c.args.setting.now in
+    let pass = by_parts turn_run s c.args.nest (option_copied c.args.test) (option_copied c.args.step) c.args.body.now.items (option_copied c.args.caught) in
+    let all = by_parts loop_run s c.args.nest (option_copied c.args.test) (option_copied c.args.step) c.args.body.now.items (option_copied c.args.caught) in
     let pos : 0 < c.loop-turns.turns.left = omega (arith, c.loop-turns-test.true) in
     record {
       fewer = omega (arith, c.run_turn.ensures.fewer, c.loop-turns.invariant.fewer);
-      comes = loop_next (turn_run (setting_of g.C.CellView.content c.args.setting.now) (run_function (setting_of g.C.CellView.content c.args.setting.now) c.args.nest)
-          (option_map expr_of (option_copied c.args.test)) (exec (setting_of g.C.CellView.content c.args.setting.now) (run_function (setting_of g.C.CellView.content c.args.setting.now) c.args.nest)
-          (simple_of (option_copied c.args.step)) (option_copied c.args.caught))
-          (exec (setting_of g.C.CellView.content c.args.setting.now) (run_function (setting_of g.C.CellView.content c.args.setting.now) c.args.nest) (body_of c.args.body.now.items)
-          (option_copied c.args.caught))) (loop_run (setting_of g.C.CellView.content c.args.setting.now) (run_function (setting_of g.C.CellView.content c.args.setting.now) c.args.nest)
-          (option_map expr_of (option_copied c.args.test)) (exec (setting_of g.C.CellView.content c.args.setting.now) (run_function (setting_of g.C.CellView.content c.args.setting.now) c.args.nest)
-          (simple_of (option_copied c.args.step)) (option_copied c.args.caught))
-          (exec (setting_of g.C.CellView.content c.args.setting.now) (run_function (setting_of g.C.CellView.content c.args.setting.now) c.args.nest) (body_of c.args.body.now.items)
-          (option_copied c.args.caught)) (map var_of c.args.locals.now.items) c.args.turns.now.left) (map var_of c.loop-turns.locals.items)
-          (map var_of c.run_turn.new.locals.items) c.loop-turns.turns.left c.run_turn.new.turns.left c.in_ok-run_turn.field-0 c.loop-turns.invariant.comes pos c.run_turn.ensures.fewer
-          c.in_ok-run_turn.ensures.gives c.in-Next.is;
+      comes = loop_next pass (all (map var_of c.args.locals.now.items) c.args.turns.now.left) (map var_of c.loop-turns.locals.items) (map var_of c.run_turn.new.locals.items)
+          c.loop-turns.turns.left c.run_turn.new.turns.left c.in_ok-run_turn.field-0 c.loop-turns.invariant.comes pos c.run_turn.ensures.fewer c.in_ok-run_turn.ensures.gives c.in-Next.is;
     }
 
 pub statements::run_loop-loop-turns-preserved : goal.statements::run_loop-loop-turns-preserved
 statements::run_loop-loop-turns-preserved g t c =
+    let s = setting_of g.C.CellView.content c.args.setting.now in
+    let pass = by_parts turn_run s c.args.nest (option_copied c.args.test) (option_copied c.args.step) c.args.body.now.items (option_copied c.args.caught) in
+    let all = by_parts loop_run s c.args.nest (option_copied c.args.test) (option_copied c.args.step) c.args.body.now.items (option_copied c.args.caught) in
     let pos : 0 < c.loop-turns.turns.left = omega (arith, c.loop-turns-test.true) in
     record {
       fewer = omega (arith, c.run_turn.ensures.fewer, c.loop-turns.invariant.fewer);
-      comes = loop_continue (turn_run (setting_of g.C.CellView.content c.args.setting.now) (run_function (setting_of g.C.CellView.content c.args.setting.now) c.args.nest)
-          (option_map expr_of (option_copied c.args.test)) (exec (setting_of g.C.CellView.content c.args.setting.now) (run_function (setting_of g.C.CellView.content c.args.setting.now) c.args.nest)
-          (simple_of (option_copied c.args.step)) (option_copied c.args.caught))
-          (exec (setting_of g.C.CellView.content c.args.setting.now) (run_function (setting_of g.C.CellView.content c.args.setting.now) c.args.nest) (body_of c.args.body.now.items)
-          (option_copied c.args.caught))) (loop_run (setting_of g.C.CellView.content c.args.setting.now) (run_function (setting_of g.C.CellView.content c.args.setting.now) c.args.nest)
-          (option_map expr_of (option_copied c.args.test)) (exec (setting_of g.C.CellView.content c.args.setting.now) (run_function (setting_of g.C.CellView.content c.args.setting.now) c.args.nest)
-          (simple_of (option_copied c.args.step)) (option_copied c.args.caught))
-          (exec (setting_of g.C.CellView.content c.args.setting.now) (run_function (setting_of g.C.CellView.content c.args.setting.now) c.args.nest) (body_of c.args.body.now.items)
-          (option_copied c.args.caught)) (map var_of c.args.locals.now.items) c.args.turns.now.left) (map var_of c.loop-turns.locals.items)
-          (map var_of c.run_turn.new.locals.items) c.loop-turns.turns.left c.run_turn.new.turns.left c.in_ok-run_turn.field-0 c.loop-turns.invariant.comes pos c.run_turn.ensures.fewer
-          c.in_ok-run_turn.ensures.gives c.in-Continue.is;
+      comes = loop_continue pass (all (map var_of c.args.locals.now.items) c.args.turns.now.left) (map var_of c.loop-turns.locals.items) (map var_of c.run_turn.new.locals.items)
+          c.loop-turns.turns.left c.run_turn.new.turns.left c.in_ok-run_turn.field-0 c.loop-turns.invariant.comes pos c.run_turn.ensures.fewer c.in_ok-run_turn.ensures.gives c.in-Continue.is;
     }
 
 pub statements::run_stmt-returns-clause-gives : goal.statements::run_stmt-returns-clause-gives

@@ -1,19 +1,22 @@
 use Rattle.std.proofs.Common.{◌≡◌, ◌+◌, ◌*◌, ◌≤◌, map, drop}
 use Rattle.std.specs.Option.{option_map, option_copied}
 use Rattle.flow_tree.specs.View.{expr_of, exprs_of}
-use Rattle.flow_tree.specs.StmtView.{change_of, body_of, simple_of}
+use Rattle.flow_tree.specs.StmtView.{change_of, body_of}
 use Rattle.flow_value.specs.View.{value_of}
 use Rattle.flow_eval.specs.Eval.{eval_all}
 use Rattle.flow_eval.specs.Functions.{run_function, exec, loop_run, turn_run}
 use Rattle.flow_ast.specs.TypingNames.{named}
 use Rattle.flow_eval.specs.Variables.{var_of}
-use Rattle.flow_eval.specs.View.{setting_of}
+use Rattle.flow_eval.specs.View.{setting_of, by_parts}
 use Rattle.flow_eval.proofs.Steps.{prefixed, LoopAt}
 use Rattle.flow_eval.proofs.Weights.{room, body_room_at, weight, weights, maybe_weight, change_weight, body_weight, stmt_weight, kind_weight, part_of, else_of}
 use Rattle.flow_eval.proofs.+evaluate.Given as goal
 
 abbrev pub decreases-evaluate::evaluate : goal.decreases-evaluate::evaluate
 decreases-evaluate::evaluate g l = l.nest * room l.setting.now.functions.now + weight (expr_of l.expr.now)
+
+abbrev pub decreases-evaluate::evaluate_index : goal.decreases-evaluate::evaluate_index
+decreases-evaluate::evaluate_index g l = l.nest * room l.setting.now.functions.now + (weight (expr_of l.of.now) + weight (expr_of l.index.now) + 2)
 
 abbrev pub decreases-evaluate::evaluate_second : goal.decreases-evaluate::evaluate_second
 decreases-evaluate::evaluate_second g l = l.nest * room l.setting.now.functions.now + (weight (expr_of l.right.now) + 1)
@@ -73,7 +76,7 @@ abbrev pub decreases-statements::run_handler : goal.decreases-statements::run_ha
 decreases-statements::run_handler g l = l.nest * room l.setting.now.functions.now + (body_weight l.handler.now.items + 4)
 
 abbrev pub decreases-statements::run_return : goal.decreases-statements::run_return
-decreases-statements::run_return g l = l.nest * room l.setting.now.functions.now + (weight (expr_of l.value.now) + 2)
+decreases-statements::run_return g l = l.nest * room l.setting.now.functions.now + (maybe_weight (option_map expr_of l.value.now) + 2)
 
 abbrev pub decreases-statements::run_throw : goal.decreases-statements::run_throw
 decreases-statements::run_throw g l = l.nest * room l.setting.now.functions.now + (maybe_weight (option_map expr_of l.error.now) + 2)
@@ -122,13 +125,8 @@ invariant-statements::run_body-loop-stmt g l = record {
 abbrev pub invariant-statements::run_loop-loop-turns : goal.invariant-statements::run_loop-loop-turns
 invariant-statements::run_loop-loop-turns g l = record {
   fewer : l.turns.left ≤ l.initial.turns.left;
-  comes : LoopAt
-      (turn_run (setting_of g.C.CellView.content l.setting) (run_function (setting_of g.C.CellView.content l.setting) l.nest) (option_map expr_of (option_copied l.test))
-      (exec (setting_of g.C.CellView.content l.setting) (run_function (setting_of g.C.CellView.content l.setting) l.nest) (simple_of (option_copied l.step)) (option_copied l.caught))
-      (exec (setting_of g.C.CellView.content l.setting) (run_function (setting_of g.C.CellView.content l.setting) l.nest) (body_of l.body.items) (option_copied l.caught)))
-      (loop_run (setting_of g.C.CellView.content l.setting) (run_function (setting_of g.C.CellView.content l.setting) l.nest) (option_map expr_of (option_copied l.test))
-      (exec (setting_of g.C.CellView.content l.setting) (run_function (setting_of g.C.CellView.content l.setting) l.nest) (simple_of (option_copied l.step)) (option_copied l.caught))
-      (exec (setting_of g.C.CellView.content l.setting) (run_function (setting_of g.C.CellView.content l.setting) l.nest) (body_of l.body.items) (option_copied l.caught))
+  comes : LoopAt (by_parts turn_run (setting_of g.C.CellView.content l.setting) l.nest (option_copied l.test) (option_copied l.step) l.body.items (option_copied l.caught))
+      (by_parts loop_run (setting_of g.C.CellView.content l.setting) l.nest (option_copied l.test) (option_copied l.step) l.body.items (option_copied l.caught)
       (map var_of l.initial.locals.items) l.initial.turns.left)
       (map var_of l.locals.items) l.turns.left;
 }

@@ -1,6 +1,6 @@
 // A function that counts down, built as a tree, and calls of it.
 
-ghost use Rattle.std.specs.Prelude.{◌≡◌, ◌∷◌, [], IfOk, map, pos, codes};
+ghost use Rattle.std.specs.Prelude.{◌≡◌, ◌∷◌, [], IfOk, Some, map, pos, codes};
 ghost use Rattle.flow_base.specs.Names.{IsName};
 ghost use Rattle.flow_tree.specs.Tree.{BinaryExpr, IntExpr, IntType};
 ghost use Rattle.flow_tree.specs.Body.{Body, End, IfStmt, ReturnStmt};
@@ -70,11 +70,11 @@ fn call_f(alloc: Global, arg: Expr) -> Result<Expr, NoMemory>
 }
 
 fn returned(value: Expr) -> Stmt
-    ensures { (k : Body) → stmt_of result k ≡ ReturnStmt start (expr_of value) k }
+    ensures { (k : Body) → stmt_of result k ≡ ReturnStmt start (Some (expr_of value)) k }
 {
     Stmt {
         at: START,
-        kind: StmtKind::Return(value),
+        kind: StmtKind::Return(Some(value)),
     }
 }
 
@@ -89,14 +89,14 @@ fn if_stmt(test: Expr, then: Vec<Stmt>) -> Stmt
 }
 
 fn zero(alloc: Global) -> Result<Vec<Stmt>, NoMemory>
-    ensures { IfOk result (λ v. body_of v.items ≡ ReturnStmt start (IntExpr (pos 0)) End) }
+    ensures { IfOk result (λ v. body_of v.items ≡ ReturnStmt start (Some (IntExpr (pos 0))) End) }
 {
     Ok(vec![in alloc; returned(Expr::Int(0))]?)
 }
 
 fn zero_first(alloc: Global) -> Result<Stmt, NoMemory>
     ensures { let zero = IntExpr (pos 0) in IfOk result (λ s. (k : Body) → stmt_of s k
-        ≡ IfStmt start (BinaryExpr Eq n zero) (ReturnStmt start zero End) k) }
+        ≡ IfStmt start (BinaryExpr Eq n zero) (ReturnStmt start (Some zero) End) k) }
 {
     let test = with_int(alloc, Op::Eq, variable(alloc)?, 0)?;
     Ok(if_stmt(test, zero(alloc)?))

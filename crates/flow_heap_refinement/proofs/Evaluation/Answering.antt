@@ -1,5 +1,5 @@
 -- Operators, predefined calls and fields keep a rule on references.
-use Rattle.std.proofs.Common.{◌≡◌, ℕ, ℤ, pos, Bool, true, false, List, [], ◌∷◌, ◌++◌, length, if◌then◌else◌, refl}
+use Rattle.std.proofs.Common.{◌≡◌, ℕ, ℤ, pos, negsuc, Bool, true, false, List, [], ◌∷◌, ◌++◌, length, if◌then◌else◌, refl}
 use Rattle.std.specs.Prelude.{◌&&◌, ◌+ℤ◌, ◌-ℤ◌, ◌*ℤ◌, neg_ℤ, int_le, nat_le, take, drop}
 use Rattle.std.specs.Ordering.{is_eq, int_cmp, bool_cmp, nat_cmp}
 use Rattle.std.specs.Cmp.Lexicographic.{slice_cmp}
@@ -9,6 +9,7 @@ use Rattle.flow_base.specs.ErrorNumbers.{too_long, bad_argument}
 use Rattle.flow_tree.specs.declared.expr.Op.{Op}
 use Rattle.flow_tree.specs.declared.expr.Op.TheVariants.{Or, And, Eq, Ne, Lt, Le, Gt, Ge, Add, Sub, Mul, Div, Rem}
 use Rattle.flow_tree.specs.declared.ty.Ident.{Ident}
+use Rattle.flow_tree.specs.Tree.{TypeTree, IntType, BoolType, StringType, VectorType}
 use Rattle.flow_tree.specs.Decls.{RecordTree}
 use Rattle.flow_ast.specs.declared.predefined.Predefined.{Predefined}
 use Rattle.flow_ast.specs.declared.predefined.Predefined.TheVariants as call
@@ -16,14 +17,14 @@ use Rattle.flow_ast.specs.declared.predefined.Method.{Method}
 use Rattle.flow_ast.specs.declared.predefined.Method.TheVariants as method
 use Rattle.flow_value.specs.declared.value.Kind.{Kind}
 use Rattle.flow_value.specs.declared.value.Kind.TheVariants as kind
-use Rattle.flow_value.specs.Values.{ValueTree, ValueTrees, IntValue, BoolValue, TextValue, VoidValue, ErrorValue, CompositeValue, RefValue, OutcomeTree, GoodOutcome, BadOutcome, values_of_list, value_at, at_place, AllRefsIn}
+use Rattle.flow_value.specs.Values.{ValueTree, ValueTrees, IntValue, BoolValue, TextValue, VoidValue, ErrorValue, CompositeValue, ListWhole, RefValue, OutcomeTree, GoodOutcome, BadOutcome, values_of_list, value_at, at_place, AllRefsIn}
 use Rattle.flow_value.proofs.References.{part_refs, put_refs}
 use Rattle.flow_eval.specs.Answers.{Answer, Given, Throws, NoMeaning, if_int, whole, truth, int_of, bool_of, text_of, arg}
 use Rattle.flow_eval.specs.Operators.{quotient, remainder, compared, equated, on_ints, on_texts, operated, negated, inverted}
-use Rattle.flow_eval.specs.Predefined.{read_int, int_read, to_string, to_int, in_error_range, natural, error_number, call_answer, substr, text_method, got, future_method, promise_method, stream_method, error_method, reference_method, method_answer}
+use Rattle.flow_eval.specs.Predefined.{read_int, int_read, to_string, to_int, in_error_range, natural, error_number, call_answer, substr, text_method, got, future_method, promise_method, stream_method, error_method, reference_method, method_answer, element, element_got, indexed, list_method}
 use Rattle.flow_eval.specs.Records.{field_place, field, field_answer}
 use Rattle.flow_eval.specs.Eval.{Res, Done, Fails, Spent, Meaningless, then as goes_on, at_once, more_args, found, truth_of, or_then, and_then, both, second, method_called}
-use Rattle.flow_eval.specs.Functions.{put_at, place_of, put_in, read_in}
+use Rattle.flow_eval.specs.Functions.{default_value, put_at, place_of, put_in, read_in}
 use Rattle.flow_heap_refinement.specs.Evaluation.{Rule, GivesFutures, RefNamed, Named, AllNamed, MaybeNamed, ResNamed, AllResNamed}
 
 pub same_of : {X : Type 0} {x y : X} → Some x ≡ Some y → x ≡ y
@@ -136,6 +137,15 @@ module _ (p : Rule) where
   text_named method.Substr t vs = part_named t (int_of (arg vs 0)) (int_of (arg vs 1))
   text_named m t vs = tt
 
+  -- parts
+  pub place_named : (vs : ValueTrees) (k : Option ℕ) → AllRefsIn (RefNamed p) vs → MaybeNamed p (at_place vs k)
+  place_named vs None h = tt
+  place_named vs (Some k) h = by_part (value_at vs k) refl
+    where
+      by_part : (o : Option ValueTree) → value_at vs k ≡ o → MaybeNamed p o
+      by_part None e = tt
+      by_part (Some w) e = part_refs (RefNamed p) vs k w e h
+
   module _ (gives : GivesFutures p) where
     abbrev pub Content : Option OutcomeTree → Type 0
     Content o = (v : ValueTree) → o ≡ Some (GoodOutcome v) → Named p v
@@ -170,10 +180,29 @@ module _ (p : Rule) where
     number_named method.Code e = tt
     number_named m e = tt
 
+    element_named : (o : Option ValueTree) → MaybeNamed p o → AnswerNamed (element_got o)
+    element_named None h = tt
+    element_named (Some v) h = h
+
+    -- an element is a part
+    at_index : (es : ValueTrees) (z : ℤ) → AllRefsIn (RefNamed p) es → MaybeNamed p (element es z)
+    at_index es (pos n) h = place_named es (Some n) h
+    at_index es (negsuc n) h = tt
+
+    indexed_named : (es : ValueTrees) (o : Option ℤ) → AllRefsIn (RefNamed p) es → AnswerNamed (indexed es o)
+    indexed_named es None h = tt
+    indexed_named es (Some z) h = element_named (element es z) (at_index es z h)
+
+    list_named : (m : Method) (es : ValueTrees) (vs : List ValueTree) → AllRefsIn (RefNamed p) es → AnswerNamed (list_method m es vs)
+    list_named method.Size es vs h = tt
+    list_named method.At es vs h = indexed_named es (int_of (arg vs 0)) h
+    list_named m es vs h = tt
+
     pub method_named : (cells : ℕ → Option OutcomeTree) → ((k : ℕ) → Content (cells k)) → (m : Method) (v : ValueTree) (vs : List ValueTree) → Named p v → AnswerNamed (method_answer cells m v vs)
     method_named cells h m (ErrorValue e) vs n = number_named m e
     method_named cells h m (TextValue t) vs n = text_named m t vs
     method_named cells h m (RefValue k c) vs n = reference_named cells h m k c n
+    method_named cells h m (CompositeValue ListWhole es) vs n = list_named m es vs n
     method_named cells h m _ vs n = tt
 
     pub maybe_method : (cells : ℕ → Option OutcomeTree) → ((k : ℕ) → Content (cells k)) → (m : Option Method) (v : ValueTree) (vs : List ValueTree) → Named p v
@@ -182,14 +211,6 @@ module _ (p : Rule) where
     maybe_method cells h (Some m) v vs n = method_named cells h m v vs n
 
   -- fields
-  pub place_named : (vs : ValueTrees) (k : Option ℕ) → AllRefsIn (RefNamed p) vs → MaybeNamed p (at_place vs k)
-  place_named vs None h = tt
-  place_named vs (Some k) h = by_part (value_at vs k) refl
-    where
-      by_part : (o : Option ValueTree) → value_at vs k ≡ o → MaybeNamed p o
-      by_part None e = tt
-      by_part (Some w) e = part_refs (RefNamed p) vs k w e h
-
   pub field_named : (rs : List RecordTree) (v : ValueTree) (x : List ℕ) → Named p v → MaybeNamed p (field rs v x)
   field_named rs (CompositeValue r vs) x h = place_named vs (field_place rs r x) h
   field_named rs _ x h = tt
@@ -269,6 +290,14 @@ module _ (p : Rule) where
   more_named (Fails e left) go h f = tt
   more_named Spent go h f = tt
   more_named Meaningless go h f = tt
+
+  -- what variables begin with
+  pub default_named : (t : TypeTree) → MaybeNamed p (default_value t)
+  default_named IntType = tt
+  default_named BoolType = tt
+  default_named StringType = tt
+  default_named (VectorType t) = tt
+  default_named t = tt
 
   -- assignments
   put_at_named : (v : ValueTree) (k : Option ℕ) (o : Option ValueTree) → Named p v → MaybeNamed p o → MaybeNamed p (put_at v k o)

@@ -6,7 +6,7 @@ use Rattle.std.specs.Str.{bytes_eq}
 use Rattle.std.specs.declared.option.Option.{Option}
 use Rattle.std.specs.declared.option.Option.TheVariants.{None, Some}
 use Rattle.flow_tree.specs.declared.ty.Ident.{Ident}
-use Rattle.flow_tree.specs.Tree.{TypeTree, IntType, BoolType, StringType, ExprTree, ExprTrees, VarExpr, CallExpr, FieldExpr, MethodExpr, NotExpr, NegExpr, BinaryExpr, ParenExpr, NoExprs, MoreExprs}
+use Rattle.flow_tree.specs.Tree.{ExprTree, ExprTrees, VarExpr, CallExpr, FieldExpr, MethodExpr, NotExpr, NegExpr, BinaryExpr, ParenExpr, NoExprs, MoreExprs}
 use Rattle.flow_tree.specs.Body.{IntoTree, ChangeTree, PlusChange, MinusChange, UpChange, DownChange, Body, End, BlockStmt, IfStmt, IfElseStmt, WhileStmt, ForStmt, LoopStmt, BreakStmt, ContinueStmt, ReturnStmt, ThrowStmt, TryStmt, ChooseStmt, DeclareStmt, AssignStmt, ModifyStmt, CallStmt, WaitStmt}
 use Rattle.flow_tree.specs.Decls.{ParamTree, RoutineTree}
 use Rattle.flow_ast.specs.declared.predefined.Predefined.{Predefined}
@@ -22,7 +22,7 @@ use Rattle.flow_eval.specs.Eval.{Res, Done, Fails, Spent, Meaningless, Setting, 
 use Rattle.flow_eval.specs.Functions.{Locals, Run, Goes, Breaks, Continues, Returns, Raises, SpentRun, NoRun, after, scoped, valued, chosen, again, passes, stepped, caught_by, thrown, error_at, rethrown, default_value, bound, declared, with_first, put_in, read_path, put_at_var, put_place, put_path, assigned, entered, finished, scope, skip, leave_loop, change_sign, handled, try_run, evaluated, if_run, pass_run, turn_run, loop_run, for_run, throw_run, declare_run, assign_run, change_operand, changed, modify_run, call_by, call_run, return_run, exec, body_run, run_function, deepest}
 use Rattle.flow_heap_refinement.specs.Evaluation as law
 use Rattle.flow_heap_refinement.specs.Evaluation.{Rule, GivesFutures, Named, AllNamed, MaybeNamed, ResNamed, AllResNamed, CellsNamed, LookNamed}
-use Rattle.flow_heap_refinement.proofs.Evaluation.Answering.{put_in_named, read_in_named, same_of, AnswerNamed, answer_named, call_named, field_named, found_named, inverted_named, maybe_method, more_named, negated_named, once_named, operated_named, record_named, second_named, value_then, values_then}
+use Rattle.flow_heap_refinement.proofs.Evaluation.Answering.{default_named, put_in_named, read_in_named, same_of, AnswerNamed, answer_named, call_named, field_named, found_named, inverted_named, maybe_method, more_named, negated_named, once_named, operated_named, record_named, second_named, value_then, values_then}
 
 module _ (p : Rule) where
   module _ (s : Setting) (run : Runner) (gives : GivesFutures p) (cells : CellsNamed p s) (runs : (f : RoutineTree) (vs : List ValueTree) (left : ℕ) → AllNamed p vs → ResNamed p (run f vs left)) where
@@ -187,12 +187,6 @@ module _ (p : Rule) where
     declared_maybe None x n vars left h = tt
     declared_maybe (Some v) x n vars left h = vars_more vars x v h n
 
-    default_named : (t : TypeTree) → MaybeNamed p (default_value t)
-    default_named IntType = tt
-    default_named BoolType = tt
-    default_named StringType = tt
-    default_named t = tt
-
     read_path_named : (vars : Locals) (xs : List Ident) → VarsNamed vars → MaybeNamed p (read_path s.records vars xs)
     read_path_named vars [] h = tt
     read_path_named vars (x ∷ xs) h = read_in_named p s.records (named vars x.name) xs (vars_look vars h x.name)
@@ -244,7 +238,7 @@ module _ (p : Rule) where
         (λ v l n. thrown_named (error_of v) vars l h)
 
     declare_named : (i : IntoTree) (o : Option ExprTree) → GoNamed (declare_run s run i o)
-    declare_named i None vars left h = declared_maybe (default_value i.ty) i.name.name (default_named i.ty) vars left h
+    declare_named i None vars left h = declared_maybe (default_value i.ty) i.name.name (default_named p i.ty) vars left h
     declare_named i (Some e) vars left h = valued_named (evaluated s run e vars left) vars (λ v left. declared (Some v) i.name.name vars left) (value_of e vars left h) h
         (λ v l n. vars_more vars i.name.name v h n)
 
@@ -278,8 +272,9 @@ module _ (p : Rule) where
         valued_all (eval_all s run (named vars) es left) vars (λ vs left. valued (call_by s run xs vs left) vars (λ v left. Goes vars left)) (all_named (named vars) es left (vars_look vars h)) h
         (λ vs l n. valued_named (call_by s run xs vs l) vars (λ v left. Goes vars left) (call_by_named xs vs l n) h (λ v k m. h))
 
-    return_named : (e : ExprTree) → GoNamed (return_run s run e)
-    return_named e vars left h = valued_named (evaluated s run e vars left) vars (λ v left. Returns v left) (value_of e vars left h) h (λ v l n. n)
+    return_named : (o : Option ExprTree) → GoNamed (return_run s run o)
+    return_named None vars left h = tt
+    return_named (Some e) vars left h = valued_named (evaluated s run e vars left) vars (λ v left. Returns v left) (value_of e vars left h) h (λ v l n. n)
 
     caught_named : (r : Run) (handler : ℕ → Locals → ℕ → Run) → RunNamed r → ((e : ℕ) → GoNamed (handler e)) → RunNamed (caught_by r handler)
     caught_named (Raises e vars left) handler h f = f e vars left h

@@ -13,7 +13,7 @@ use Rattle.flow_eval.specs.Predefined.{natural}
 use Rattle.flow_class.specs.Classes.{RawTree}
 use Rattle.flow_numbered.specs.Numbered.{Numbered, thing, added, put, removed}
 use Rattle.flow_meaning.specs.Cells.{Side, PromiseSide, FutureSide, side_of, Ref, Waiter, Cell, Single, Stream, is_complete, is_ready, waiters}
-use Rattle.flow_meaning.specs.Requests.{DiskCall, Effect, Make, Start, Draw, Delay, Never, Listen, Disk, Goal, Act, Goes, Pass, Drops, Effects, Operand, Waits as WaitsFor, Sends, Cancels, Prints, SendsTo, Returns, Throws, RunsOut, Stuck, Ask, Spot, Supply}
+use Rattle.flow_meaning.specs.Requests.{DiskCall, Effect, Make, Start, Draw, Delay, Never, Listen, Disk, Goal, Act, Goes, Pass, Drops, Effects, Operand, Waits as WaitsFor, Sends, Cancels, Prints, SendsTo, Returns, Throws, RunsOut, Stuck, Ask, Spot, Supply, Starts}
 use Rattle.flow_meaning.specs.Process.{Task, Run, Give, Throw, Catch, Store, Keep, Close, Fire, Drop, Entry, Halt, Core, Proc, Raised}
 use Rattle.flow_meaning.specs.References.{Scan, reference_count, scan_of}
 use Rattle.flow_meaning.specs.Orderly.{Rising, NextStep, Paired, Orderly}
@@ -24,7 +24,7 @@ use Rattle.flow_meaning.specs.Dropping.{port_of, promises_gone, futures_gone, lo
 use Rattle.flow_meaning.specs.Lines.{print_line, end_line, throw_line, broken_line}
 use Rattle.flow_meaning.specs.References.{refs_in, value_in}
 use Rattle.flow_meaning.specs.Step as steps
-use Rattle.flow_meaning.specs.Step.{proc, Stepped, view, enrol, start, answer, run_next, run, fate, throw_core, OperandFate, GoesOn, Cancelled, Ready, verdict, with_operand, below, keep_by, keep, close_actor, scanned, do_task, step_tasks, step_if, step}
+use Rattle.flow_meaning.specs.Step.{proc, Stepped, view, enrol, start, answer, run_next, run, fate, throw_core, OperandFate, GoesOn, Cancelled, Ready, verdict, with_operand, below, keep_by, keep, close_actor, scanned, do_task, step_tasks, step_if, step, start_alone, enrol_with}
 use Rattle.flow_meaning.specs.Frame.{Frame}
 use Rattle.flow_meaning.specs.Class.{classes}
 use Rattle.flow_meaning.proofs.Posture.{Unless, unless, after_turn}
@@ -169,6 +169,7 @@ module _ (k : ℕ) where
     react_fired s i Pass = after_turn (P k) (pushed (Run i)) c c.left (λ m. unless c.halted h)
     react_fired s i (Drops vs) = unless c.halted (λ e. under_drops k (refs_in vs) (Run i ∷ c.tasks) (h e))
     react_fired s i (Effects goal eff) = effect_fired s i goal eff
+    react_fired s i (Starts class args) = tt
     react_fired s i (Operand spot r) = unless c.halted h
     react_fired s i (WaitsFor spot vs) = wait_fired k i spot vs c h
     react_fired s i (Sends j o) = send_fired i j o c h
@@ -203,9 +204,15 @@ module _ (k : ℕ) where
           after_turn (P k) (λ z. enrol class ((classes r).label class) (push_result i (result_task i goal (RefValue kind.Future (suc z.made))) z)) d left
           (λ n. start_fired d up h i (result_task i goal (RefValue kind.Future (suc c.made))) class ((classes r).label class) n)
 
+      alone_good : (i class : ℕ) (x : Option Frame) (left : ℕ) (ys : Numbered Frame) → Good (start_alone (classes r) i class x (proc (record now { left = left }) ys))
+      alone_good i class None left ys = tt
+      alone_good i class (Some a) left ys =
+          after_turn (P k) (λ z. enrol_with class ((classes r).label class) None (pushed (Run i) z)) (record now { left = left }) left (λ n. unless c.halted h)
+
       answer_good : (i : ℕ) (act : Act) (left : ℕ) (ys : Numbered Frame) → Good (answer (classes r) s i act (proc (record now { left = left }) ys))
       answer_good i (Effects goal (Start class args)) left ys = start_good i goal class ((classes r).fresh class args) left ys
       answer_good i (Effects goal eff) left ys = effect_fired (record now { left = left }) up h s i goal eff
+      answer_good i (Starts class args) left ys = alone_good i class ((classes r).fresh class args) left ys
       answer_good i act left ys = react_fired (record now { left = left }) up h s i act
 
       next_good : (i : ℕ) (x : Option Ask × Frame) → P k c → Good (run_next (classes r) s i ts x (proc c xs))

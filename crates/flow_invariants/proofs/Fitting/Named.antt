@@ -7,13 +7,13 @@ use Rattle.flow_value.specs.Values.{ValueTree, OutcomeTree, GoodOutcome, BadOutc
 use Rattle.flow_eval.specs.Predefined.{natural}
 use Rattle.flow_numbered.specs.Numbered.{thing}
 use Rattle.flow_meaning.specs.Cells.{Ref}
-use Rattle.flow_meaning.specs.Requests.{DiskCall, Spot, Effect, Make, Start, Draw, Delay, Never, Listen, Disk, Goal, Act, Goes, Pass, Drops, Effects, Operand, Waits, Sends, Cancels, Prints, SendsTo, Returns, Throws, RunsOut, Stuck, Ask, Request, Packet, Supply}
+use Rattle.flow_meaning.specs.Requests.{DiskCall, Spot, Effect, Make, Start, Draw, Delay, Never, Listen, Disk, Goal, Act, Goes, Pass, Drops, Effects, Operand, Waits, Sends, Cancels, Prints, SendsTo, Returns, Throws, RunsOut, Stuck, Ask, Request, Packet, Supply, Starts}
 use Rattle.flow_meaning.specs.Process.{Task, Run, Give, Throw, Catch, Store, Keep, Close, Fire, Drop, Entry, Halt, Core, Proc, Engine}
 use Rattle.flow_meaning.specs.Work.{is_ready_at}
 use Rattle.flow_meaning.specs.Effects.{Reaction, between, is_port, open_port, judged, ask_disk, effect}
 use Rattle.flow_meaning.specs.React.{react}
 use Rattle.flow_meaning.specs.Step as steps
-use Rattle.flow_meaning.specs.Step.{Stepped, view, start, answer, run_next, run, OperandFate, GoesOn, Cancelled, Ready, verdict, with_operand, keep_by, keep, close_actor, do_task, step_tasks, step_if, step}
+use Rattle.flow_meaning.specs.Step.{Stepped, view, start, answer, run_next, run, OperandFate, GoesOn, Cancelled, Ready, verdict, with_operand, keep_by, keep, close_actor, do_task, step_tasks, step_if, step, start_alone}
 
 abbrev pub Names : (processes : ℕ) → Option Request → Type 0
 Names n (Some (Packet q port text)) = q < n
@@ -58,6 +58,7 @@ module _ (s : Supply) where
   react_named i Goes c = tt
   react_named i Pass c = tt
   react_named i (Drops vs) c = tt
+  react_named i (Starts class args) c = tt
   react_named i (Operand spot r) c = tt
   react_named i (Waits spot vs) c = tt
   react_named i (Sends k o) c = tt
@@ -73,9 +74,14 @@ module _ (s : Supply) where
     start_named i goal class None p = tt
     start_named i goal class (Some a) p = tt
 
+    alone_named : (i class : ℕ) (x : Option A) (p : Proc A) → Named (start_alone e i class x p).1
+    alone_named i class None p = tt
+    alone_named i class (Some a) p = tt
+
     answer_named : (i : ℕ) (act : Act) (p : Proc A) → Named (answer e s i act p).1
     answer_named i (Effects goal (Start class args)) p = start_named i goal class (e.fresh class args) p
     answer_named i (Effects goal eff) p = effect_named i goal eff p.core
+    answer_named i (Starts class args) p = alone_named i class (e.fresh class args) p
     answer_named i act p = react_named i act p.core
 
     next_named : (i : ℕ) (ts : List Task) (x : Option Ask × A) (p : Proc A) → Named (run_next e s i ts x p).1

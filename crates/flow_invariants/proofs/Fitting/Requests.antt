@@ -12,7 +12,7 @@ use Rattle.flow_trace.specs.declared.line.Line.{Line}
 use Rattle.flow_eval.specs.Predefined.{natural}
 use Rattle.flow_numbered.specs.Numbered.{thing, added, put, removed}
 use Rattle.flow_meaning.specs.Cells.{Side, FutureSide, side_of, Ref, Waiter, Cell, is_complete, is_ready, waiters, taken, Single, Stream}
-use Rattle.flow_meaning.specs.Requests.{DiskCall, Spot, Effect, Make, Start, Draw, Delay, Never, Listen, Disk, Goal, Act, Goes, Pass, Drops, Effects, Operand, Waits, Sends, Cancels, Prints, SendsTo, Returns, Throws, RunsOut, Stuck, Ask, Supply}
+use Rattle.flow_meaning.specs.Requests.{DiskCall, Spot, Effect, Make, Start, Draw, Delay, Never, Listen, Disk, Goal, Act, Goes, Pass, Drops, Effects, Operand, Waits, Sends, Cancels, Prints, SendsTo, Returns, Throws, RunsOut, Stuck, Ask, Supply, Starts}
 use Rattle.flow_meaning.specs.Process.{Task, Run, Give, Throw, Catch, Store, Keep, Close, Fire, Drop, Entry, Halt, Core, Proc, Raised, Engine}
 use Rattle.flow_meaning.specs.References.{Scan, scan_of}
 use Rattle.flow_meaning.specs.Work.{turn_of, turn, fill_cell, fill, free_cell, free, give, take_branch, Registration, Registered, Refused, Missing, owner, cancel_by, cancel, cancel_owner, new_cell, pushed, writes, is_ready_at}
@@ -21,7 +21,7 @@ use Rattle.flow_meaning.specs.React.{send_by, send_in, print, suspend, wait_by, 
 use Rattle.flow_meaning.specs.Dropping.{Loss, Kept, Freed, Broken, Orphan, Unheard, suffer, lose_cell, lose_ref, fire_to, fire_at, fire_cell, fire, set_result, give_result}
 use Rattle.flow_meaning.specs.Lines.{print_line, end_line}
 use Rattle.flow_meaning.specs.Step as steps
-use Rattle.flow_meaning.specs.Step.{proc, Stepped, view, start, enrol, scanned, popped, answer_effect, answer, run_next, run, throw_core, throw_with, OperandFate, GoesOn, Cancelled, Ready, verdict, with_operand, below, leave_kept, lost, keep_by, keep, close_actor, do_task, step_tasks, step_if, step}
+use Rattle.flow_meaning.specs.Step.{proc, Stepped, view, start, enrol, scanned, popped, answer_effect, answer, run_next, run, throw_core, throw_with, OperandFate, GoesOn, Cancelled, Ready, verdict, with_operand, below, leave_kept, lost, keep_by, keep, close_actor, do_task, step_tasks, step_if, step, start_alone, enrol_with}
 use Rattle.flow_invariants.specs.Fitting.Due.{asked}
 
 -- the open requests stay
@@ -179,6 +179,7 @@ react_grows s i Goes c = throws_grow c
 react_grows s i Pass c = none_more c.requests _ (turn_same _ c (λ n. refl))
 react_grows s i (Drops vs) c = throws_grow c
 react_grows s i (Effects goal eff) c = effect_grows s i goal eff c
+react_grows s i (Starts class args) c = throws_grow c
 react_grows s i (Operand spot r) c = throws_grow c
 react_grows s i (Waits spot vs) c = none_more c.requests _ (wait_same i spot (thing c.entries i) vs c)
 react_grows s i (Sends k o) c = none_more c.requests _ (send_same (thing c.cells k) i k o c)
@@ -200,9 +201,15 @@ module _ {A : Type 0} (e : Engine A) (s : Supply) where
       let f : Core → Core = λ d. enrol class (e.label class) (push_result i (result_task i goal (RefValue kind.Future (suc d.made))) d) in
       none_more p.core.requests (turn p.core f).requests (turn_same f p.core (λ n. push_same i (result_task i goal (RefValue kind.Future (suc p.core.made))) (record p.core { left = n })))
 
+  alone_grows : (i class : ℕ) (x : Option A) (p : Proc A) → StepGrows p.core (start_alone e i class x p)
+  alone_grows i class None p = throws_grow p.core
+  alone_grows i class (Some a) p =
+      let f : Core → Core = λ d. enrol_with class (e.label class) None (pushed (Run i) d) in none_more p.core.requests (turn p.core f).requests (turn_same f p.core (λ n. refl))
+
   answer_grows : (i : ℕ) (act : Act) (p : Proc A) → StepGrows p.core (answer e s i act p)
   answer_grows i (Effects goal (Start class args)) p = start_grows i goal class (e.fresh class args) p
   answer_grows i (Effects goal eff) p = effect_grows s i goal eff p.core
+  answer_grows i (Starts class args) p = alone_grows i class (e.fresh class args) p
   answer_grows i act p = react_grows s i act p.core
 
   next_grows : (i : ℕ) (ts : List Task) (x : Option Ask × A) (p : Proc A) → StepGrows p.core (run_next e s i ts x p)

@@ -82,6 +82,7 @@ writes_open = record {
   listens = λ c port tied h k w. new_cell_holds IsOpen c.cells k c.made (Stream [] None None) tied.numbers.cells (λ q. tt)
       (λ o. h k (let a = ports_added k c.ports port (suc c.made) in let b = not_one k (suc c.made) o in omega (arith, a, b, w)));
   starts = λ c class tied h k w. other_cell c (Single None []) tied h k w;
+  starts_alone = λ c class h. h;
 }
 
 abbrev OpenIn : Proc Frame → Type 0

@@ -83,7 +83,8 @@ writes_unset = record {
   asks = λ c tied h k w. own_cell c k tied (λ o. h k (let a = requests_added k c.requests (suc c.made) in let b = not_one k (suc c.made) o in omega (arith, a, b, w)));
   listens = λ c port tied h k w. other_cell c (Stream [] None None) tied h k w;
   starts = λ c class tied h k w. own_cell c k tied
-      (λ o. h k (let a = results_added k c.entries (suc c.started) (entry_of class (suc c.made)) in let b = not_one k (suc c.made) o in omega (arith, a, b, w)));
+      (λ o. h k (let a = results_added k c.entries (suc c.started) (entry_of class (Some (suc c.made))) in let b = not_one k (suc c.made) o in omega (arith, a, b, w)));
+  starts_alone = λ c class h k w. h k (let a = results_added k c.entries (suc c.started) (entry_of class None) in omega (arith, a, w));
 }
 
 abbrev pub CellsUnset : Proc Frame → Type 0

@@ -19,11 +19,12 @@ use Rattle.flow_meaning.specs.Orderly.{Rising}
 use Rattle.flow_meaning.specs.Work.{writes, pushed, new_cell, fill_cell, fill}
 use Rattle.flow_meaning.specs.Effects.{Reaction, throws, result_task, push_result, gives, gives_new, gives_open, empty_cell, between, is_port, open_port, judged, ask_disk, effect, send_to}
 use Rattle.flow_meaning.specs.React.{send_by, send_in, print}
-use Rattle.flow_meaning.specs.Step.{proc, entry_of, enrol, start_core}
+use Rattle.flow_meaning.specs.Step.{proc, entry_of, enrol, start_core, start_void, enrol_with}
 use Rattle.flow_meaning.specs.Frame.{Frame}
 use Rattle.flow_meaning.proofs.Posture.{Unless, unless, after_turn, same_number, thing_added}
 use Rattle.flow_meaning.proofs.TaskShifts.{beyond_none, thing_new}
 use Rattle.flow_meaning.proofs.Shifts.{same_of}
+use Rattle.flow_meaning.proofs.InOrder.{no_thing}
 use Rattle.flow_heap_refinement.proofs.Referring.{of_new_cell, of_new_actor, of_port, of_request}
 use Rattle.flow_invariants.proofs.Referenced.Onward.{IsThere, refs, Wants, Refers, refers_on, push_onward, filling_onward, IsOpen}
 
@@ -183,7 +184,7 @@ module _ (k : ℕ) (ys : Numbered Frame) (i : ℕ) where
             let x = (push_onward k (Run i) c ys).1 s in
             let y = (push_onward k t (pushed (Run i) c) ys).1 s in
             let m = of_new_cell (proc (pushed t (pushed (Run i) c)) ys) s k (Single None []) in
-            let n = of_new_actor (proc (new_cell (Single None []) (pushed t (pushed (Run i) c))) ys) s k (suc c.started) (entry_of class (suc c.made)) a in omega (arith, x, y, m, n)
+            let n = of_new_actor (proc (new_cell (Single None []) (pushed t (pushed (Run i) c))) ys) s k (suc c.started) (entry_of class (Some (suc c.made))) a in omega (arith, x, y, m, n)
 
         before : (suc c.made ≡ k → ⊥) → Wants k (enrol class name (pushed t (pushed (Run i) c))) → Wants k c
         before other w = by_number (nat_eq (suc c.started) w.0) refl
@@ -191,13 +192,13 @@ module _ (k : ℕ) (ys : Numbered Frame) (i : ℕ) where
             by_number : (b : Bool) → nat_eq (suc c.started) w.0 ≡ b → Wants k c
             by_number true q =
                 let same : suc c.started ≡ w.0 = grind (arith, q) in
-                let e = entry_of class (suc c.made) in
+                let e = entry_of class (Some (suc c.made)) in
                 let new = thing_new c.entries (suc c.started) e (beyond_none c.entries 0 c.started (suc c.started) up (omega arith)) in
                 let is = same_of (sym (subst (λ n. thing (added c.entries (suc c.started) e) n ≡ Some e) same new) ∙ w.2) in
                 absurd (other (same_of (ap (λ (x : Entry). x.result) is ∙ w.4)))
             by_number false q =
                 let differ : suc c.started ≡ w.0 → ⊥ = (λ z. let f : ⊥ = grind (arith, q, z) in f) in
-                (w.0, w.1, sym (thing_added c.entries (suc c.started) w.0 (entry_of class (suc c.made)) differ) ∙ w.2, w.3, w.4)
+                (w.0, w.1, sym (thing_added c.entries (suc c.started) w.0 (entry_of class (Some (suc c.made))) differ) ∙ w.2, w.3, w.4)
 
         by_test : (b : Bool) → nat_eq (suc c.made) k ≡ b → Refers k (enrol class name (pushed t (pushed (Run i) c))) (added ys (suc c.started) a)
         by_test true q =
@@ -213,6 +214,31 @@ module _ (k : ℕ) (ys : Numbered Frame) (i : ℕ) where
               λ z. let n = h.0 (subst IsThere (thing_added c.cells (suc c.made) k (Single None []) other) z) in omega (arith, x, b, n),
               λ w. let n = h.1 (before other w) in omega (arith, b, n),
             )
+
+    -- a void one
+    alone_refers : (c : Core) → Refers k c ys → Rising 0 c.started c.entries → Refers k (enrol_with class name None c) (zs c)
+    alone_refers c h up =
+        refers_on k c ys (enrol_with class name None c) (zs c)
+        ((λ z. z), (λ s. let n = of_new_actor (proc c ys) s k (suc c.started) (entry_of class None) a in omega (arith, n)), (λ w. before w)) h
+      where
+        before : Wants k (enrol_with class name None c) → Wants k c
+        before w = by_number (nat_eq (suc c.started) w.0) refl
+          where
+            by_number : (b : Bool) → nat_eq (suc c.started) w.0 ≡ b → Wants k c
+            by_number true q =
+                let same : suc c.started ≡ w.0 = grind (arith, q) in
+                let e = entry_of class None in
+                let new = thing_new c.entries (suc c.started) e (beyond_none c.entries 0 c.started (suc c.started) up (omega arith)) in
+                let is = same_of (sym (subst (λ n. thing (added c.entries (suc c.started) e) n ≡ Some e) same new) ∙ w.2) in
+                absurd (no_thing (ap (λ (x : Entry). x.result) is ∙ w.4))
+            by_number false q =
+                let differ : suc c.started ≡ w.0 → ⊥ = (λ z. let f : ⊥ = grind (arith, q, z) in f) in
+                (w.0, w.1, sym (thing_added c.entries (suc c.started) w.0 (entry_of class None) differ) ∙ w.2, w.3, w.4)
+
+    pub void_refers : (c : Core) → Refers k c ys → Rising 0 c.started c.entries → Unless (λ d. Refers k d (added ys (suc c.started) a)) (start_void i class name c)
+    void_refers c h up =
+        after_turn (λ d. Refers k d (added ys (suc c.started) a)) (λ d. enrol_with class name None (pushed (Run i) d)) c c.left
+        (λ n. let d = record c { left = n } in unless c.halted (alone_refers (pushed (Run i) d) (push_refers (Run i) d h) up))
 
     pub start_refers : (c : Core) → Refers k c ys → Rising 0 c.started c.entries → Unless (λ d. Refers k d (added ys (suc c.started) a)) (start_core i goal class name c)
     start_refers c h up =

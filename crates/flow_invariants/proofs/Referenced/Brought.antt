@@ -63,7 +63,7 @@ module _ (k : ℕ) where
     more : (s : Side) → refs k s c ys + one s k FutureSide (suc c.made) ≤ refs k s held (added ys (suc c.started) a)
     more s =
         let m = of_new_cell (proc c ys) s k (Single None []) in
-        let n = of_new_actor (proc (new_cell (Single None []) c) ys) s k (suc c.started) (entry_of class (suc c.made)) a in
+        let n = of_new_actor (proc (new_cell (Single None []) c) ys) s k (suc c.started) (entry_of class (Some (suc c.made))) a in
         let z = ap (count_maybe s k FutureSide) none in omega (arith, m, n, z)
 
     before : (suc c.made ≡ k → ⊥) → Wants k held → Wants k c
@@ -72,13 +72,13 @@ module _ (k : ℕ) where
         by_number : (b : Bool) → nat_eq (suc c.started) w.0 ≡ b → Wants k c
         by_number true q =
             let same : suc c.started ≡ w.0 = grind (arith, q) in
-            let e = entry_of class (suc c.made) in
+            let e = entry_of class (Some (suc c.made)) in
             let new = thing_new c.entries (suc c.started) e (beyond_none c.entries 0 c.started (suc c.started) up (omega arith)) in
             let is = same_of (sym (subst (λ n. thing (added c.entries (suc c.started) e) n ≡ Some e) same new) ∙ w.2) in
             absurd (other (same_of (ap (λ (x : Rattle.flow_meaning.specs.Process.Entry). x.result) is ∙ w.4)))
         by_number false q =
             let differ : suc c.started ≡ w.0 → ⊥ = (λ z. let f : ⊥ = grind (arith, q, z) in f) in
-            (w.0, w.1, sym (thing_added c.entries (suc c.started) w.0 (entry_of class (suc c.made)) differ) ∙ w.2, w.3, w.4)
+            (w.0, w.1, sym (thing_added c.entries (suc c.started) w.0 (entry_of class (Some (suc c.made))) differ) ∙ w.2, w.3, w.4)
 
     held_refers : Refers k held (added ys (suc c.started) a)
     held_refers = by_test (nat_eq (suc c.made) k) refl

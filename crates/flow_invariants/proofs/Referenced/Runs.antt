@@ -1,5 +1,5 @@
 -- An actor's own step leaves each cell with a reference.
-use Rattle.std.proofs.Common.{◌≡◌, ℕ, suc, ◌+◌, ◌≤◌, true, List, [], ◌∷◌, sym, subst, ◌∙◌, arith}
+use Rattle.std.proofs.Common.{◌≡◌, ℕ, suc, ◌+◌, ◌≤◌, true, List, [], ◌∷◌, sym, subst, arith}
 use Rattle.std.specs.declared.option.Option.{Option}
 use Rattle.std.specs.declared.option.Option.TheVariants.{None, Some}
 use Rattle.flow_tree.specs.Tree.{FutureType}
@@ -7,22 +7,22 @@ use Rattle.flow_value.specs.Values.{ValueTree, GoodOutcome}
 use Rattle.flow_class.specs.Classes.{RawTree}
 use Rattle.flow_numbered.specs.Numbered.{Numbered, thing, put}
 use Rattle.flow_meaning.specs.Cells.{Side}
-use Rattle.flow_meaning.specs.Requests.{Act, Goes, Pass, Drops, Effects, Operand, Waits, Sends, Cancels, Prints, SendsTo, Returns, Throws, RunsOut, Stuck, Effect, Make, Start, Draw, Delay, Never, Listen, Disk, Goal, Ask, Supply}
+use Rattle.flow_meaning.specs.Requests.{Act, Goes, Pass, Drops, Effects, Operand, Waits, Sends, Cancels, Prints, SendsTo, Returns, Throws, RunsOut, Stuck, Effect, Make, Start, Draw, Delay, Never, Listen, Disk, Goal, Ask, Supply, Starts, Stored}
 use Rattle.flow_meaning.specs.Process.{Task, Run, Throw, Keep, Close, Entry, Core}
 use Rattle.flow_meaning.specs.References.{count, refs_in}
 use Rattle.flow_meaning.specs.Orderly.{Orderly, tasks_of}
 use Rattle.flow_meaning.specs.Lines.{print_line}
 use Rattle.flow_meaning.specs.Work.{pushed}
 use Rattle.flow_meaning.specs.Step as steps
-use Rattle.flow_meaning.specs.Step.{proc, view, start, answer_effect, answer, run_next, run}
+use Rattle.flow_meaning.specs.Step.{proc, view, start, answer_effect, answer, run_next, run, start_alone}
 use Rattle.flow_meaning.specs.Frame.{Frame}
 use Rattle.flow_meaning.specs.Class.{next_step, classes, class_names}
 use Rattle.flow_meaning.proofs.Posture.{Unless, unless, after_turn}
-use Rattle.flow_meaning.proofs.Shifts.{run_of, same_of}
+use Rattle.flow_meaning.proofs.Shifts.{run_of}
 use Rattle.flow_meaning.proofs.TaskShifts.{beyond_none}
 use Rattle.flow_heap_refinement.specs.CellsTied.{CellsTied}
 use Rattle.flow_heap_refinement.specs.Leaving.{RightKinds}
-use Rattle.flow_progress.specs.Fitting.{CellTypes, ActorAt, PostureFits, ProcessFits}
+use Rattle.flow_progress.specs.Fitting.{CellTypes, ActorAt, PostureFits, ProcessFits, OwnsResult}
 use Rattle.flow_progress.proofs.CellStates.{cell_there}
 use Rattle.flow_progress.proofs.StepFits.{Actor, actor_here}
 use Rattle.flow_invariants.proofs.Referenced.Frames.{holds, all, handed, handed_by, next_gives}
@@ -39,9 +39,8 @@ module _ (k : ℕ) (r : RawTree) (types : CellTypes) (c : Core) (xs : Numbered F
       by_frame : (x : Option Frame) → ActorAt r types (Some w.1) x (tasks_of w.0 c.tasks) → IsThere (thing c.cells k)
       by_frame None f = absurd f
       by_frame (Some f) a =
-          let same : a.result ≡ k = same_of (sym a.owns ∙ w.4) in
-          let cell = cell_there r types a.result (FutureType a.class.returns) (thing c.cells a.result) a.gives (p.cells a.result) in
-          subst (λ n. IsThere (thing c.cells n)) same (subst IsThere (sym cell.1) tt)
+          let own = subst (λ z. OwnsResult r types z a.class.returns) w.4 a.owns in
+          let cell = cell_there r types k (FutureType a.class.returns) (thing c.cells k) own.1 (p.cells k) in subst IsThere (sym cell.1) tt
 
   pub fresh_cell : suc c.made ≡ k → Wants k c → ⊥
   fresh_cell e w = subst IsThere (subst (λ n. thing c.cells n ≡ None) e (beyond_none c.cells 0 c.made (suc c.made) p.numbered (omega arith))) (wants_there w)
@@ -89,6 +88,10 @@ module _ (k : ℕ) (r : RawTree) (s : Supply) (types : CellTypes) (c : Core) (xs
     started goal class None f = tt
     started goal class (Some b) f = acts.start_refers k ys i goal class ((classes r).label class) b now (quiet_now f) o.numbered
 
+    started_alone : (class : ℕ) (x : Option Frame) → Given [] → After (start_alone (classes r) i class x (proc now ys))
+    started_alone class None f = tt
+    started_alone class (Some b) f = acts.void_refers k ys i Stored class ((classes r).label class) b now (quiet_now f) o.numbered
+
     effect_on : (goal : Goal) (eff : Effect) → Given [] → After (answer_effect (classes r) s i goal eff (proc now ys))
     effect_on goal (Make kd) f = acts.effect_refers k ys i s goal (Make kd) now (quiet_now f) (fresh_cell k r types c xs p)
     effect_on goal (Start class args) f = started goal class ((classes r).fresh class args) f
@@ -103,6 +106,7 @@ module _ (k : ℕ) (r : RawTree) (s : Supply) (types : CellTypes) (c : Core) (xs
     act_on Pass f = after_turn (λ d. Refers k d ys) (λ d. pushed (Run i) d) now n (λ m. unless c.halted (acts.push_refers k ys i (Run i) (record now { left = m }) (quiet_now f)))
     act_on (Drops vs) f = waits.dropped_refers k ys i c xs now vs (gone_on vs f) h (Run i)
     act_on (Effects goal eff) f = effect_on goal eff f
+    act_on (Starts class args) f = started_alone class ((classes r).fresh class args) f
     act_on (Operand spot q) f = unless c.halted (acts.push_refers k ys i (Keep i spot q) (pushed (Run i) now) (acts.push_refers k ys i (Run i) now (quiet_now f)))
     act_on (Waits spot vs) f =
         waits.wait_refers k ys i c xs now vs (gone_on vs f) h spot a.entry a.at a.awake (right_kinds r types c p.cells a.frame 0 a.entry.operands a.doing.2) t.agree p.numbered

@@ -12,14 +12,14 @@ use Rattle.flow_eval.specs.Predefined.{natural}
 use Rattle.flow_trace.specs.declared.line.Line.{Line}
 use Rattle.flow_numbered.specs.Numbered.{thing, added, put}
 use Rattle.flow_meaning.specs.Cells.{Cell, Single, Stream, is_complete}
-use Rattle.flow_meaning.specs.Requests.{DiskCall, Spot, Effect, Make, Start, Draw, Delay, Never, Listen, Disk, Goal, Stored, Kept, Act, Goes, Pass, Drops, Effects, Operand, Waits, Sends, Cancels, Prints, SendsTo, Returns, Throws, RunsOut, Stuck, Supply}
+use Rattle.flow_meaning.specs.Requests.{DiskCall, Spot, Effect, Make, Start, Draw, Delay, Never, Listen, Disk, Goal, Stored, Kept, Act, Goes, Pass, Drops, Effects, Operand, Waits, Sends, Cancels, Prints, SendsTo, Returns, Throws, RunsOut, Stuck, Supply, Starts}
 use Rattle.flow_meaning.specs.Process.{Task, Run, Throw, Store, Keep, Close, Entry, Core}
 use Rattle.flow_meaning.specs.Lines.{wait_line, print_line}
 use Rattle.flow_meaning.specs.Orderly.{tasks_of, Rising}
 use Rattle.flow_meaning.specs.Work.{writes, pushed, new_cell, fill, first_ready, Registration, Registered, Refused, Missing, register, owner, cancel_owner}
 use Rattle.flow_meaning.specs.Effects.{throws, result_task, push_result, gives, gives_new, gives_open, empty_cell, between, is_port, open_port, judged, ask_disk, effect}
 use Rattle.flow_meaning.specs.React.{send_by, send_in, print, at_spot, suspend, wait_by, wait, react}
-use Rattle.flow_meaning.specs.Step.{enrol, entry_of, start_core}
+use Rattle.flow_meaning.specs.Step.{enrol, entry_of, start_core, start_void, enrol_with}
 use Rattle.flow_meaning.proofs.Posture.{Unless, unless, after_turn, thing_put_other, thing_added, other_task}
 use Rattle.flow_meaning.proofs.Shifts.{run_of, throw_of, store_of, keep_of, close_of, either, owned}
 use Rattle.flow_heap_refinement.proofs.Finds.{thing_new, none_above}
@@ -82,16 +82,19 @@ module _ (j : ℕ) where
   effect_steady s i goal (Disk call) c h = disk_steady i goal (judged call) c h
 
   -- a new actor
-  pub enrol_steady : (class : ℕ) (name : List ℕ) (c : Core) → Rising 0 c.started c.entries → S j c → S j (enrol class name c)
-  enrol_steady class name c up h =
+  alone_steady : (class : ℕ) (name : List ℕ) (result : Option ℕ) (c : Core) → Rising 0 c.started c.entries → S j c → S j (enrol_with class name result c)
+  alone_steady class name result c up h =
       let n = suc c.started in
-      let e = entry_of class (suc c.made) in
-      let d = enrol class name c in
+      let e = entry_of class result in
+      let d = enrol_with class name result c in
       let none : thing c.entries n ≡ None = none_above c.entries 0 c.started n up (omega arith) in
       by_number j n (S j d)
       (λ q. subst (λ m. Steady (thing (added c.entries n e) m) (tasks_of j d.tasks)) q
       (subst (λ x. Steady x (tasks_of j d.tasks)) (sym (thing_new c.entries n e none)) (runs_steady e (tasks_of j d.tasks) refl refl)))
       (λ o. kept j c d (thing_added c.entries n j e o) (other_task n j (Run n) c.tasks (run_of n) o) h)
+
+  pub enrol_steady : (class : ℕ) (name : List ℕ) (c : Core) → Rising 0 c.started c.entries → S j c → S j (enrol class name c)
+  enrol_steady class name c up h = alone_steady class name (Some (suc c.made)) (new_cell (Single None []) c) up h
 
   pub start_steady : (i : ℕ) (goal : Goal) (class : ℕ) (name : List ℕ) (c : Core) → Rising 0 c.started c.entries → S j c → Unless (S j) (start_core i goal class name c)
   start_steady i goal class name c up h =
@@ -104,6 +107,12 @@ module _ (j : ℕ) where
       by_goal n Stored = let t = Store i (RefValue kind.Future (suc c.made)) in both n t (two_steady j i t (record c { left = n }) (store_of i (RefValue kind.Future (suc c.made))) (λ ts s. s) h)
       by_goal n (Kept spot) =
           let t = Keep i spot (kind.Future, suc c.made) in both n t (two_steady j i t (record c { left = n }) (keep_of i spot (kind.Future, suc c.made)) (λ ts s. s) h)
+
+  -- a void one, whose caller goes on
+  pub void_steady : (i class : ℕ) (name : List ℕ) (c : Core) → Rising 0 c.started c.entries → Unkept i c → S j c → Unless (S j) (start_void i class name c)
+  void_steady i class name c up none h =
+      after_turn (S j) (λ d. enrol_with class name None (pushed (Run i) d)) c c.left
+      (λ n. let d = record c { left = n } in unless c.halted (alone_steady class name None (pushed (Run i) d) up (run_steady i d none h)))
 
   -- sends
   send_steady : (x : Option Cell) (i k : ℕ) (o : OutcomeTree) (c : Core) → Unkept i c → S j c → Unless (S j) (send_in x i k o c)
@@ -166,6 +175,7 @@ module _ (j : ℕ) where
   Asks i Goes c = Unkept i c
   Asks i Pass c = Unkept i c
   Asks i (Drops vs) c = Unkept i c
+  Asks i (Starts class args) c = Unkept i c
   Asks i (Sends k o) c = Unkept i c
   Asks i (Cancels k) c = Unkept i c
   Asks i (Prints v) c = Unkept i c
@@ -177,6 +187,7 @@ module _ (j : ℕ) where
   react_steady s i Pass c up none a h = after_turn (S j) (pushed (Run i)) c c.left (λ n. unless c.halted (run_steady i (record c { left = n }) a h))
   react_steady s i (Drops vs) c up none a h = unless c.halted (dropping_steady j vs (pushed (Run i) c) (run_steady i c a h))
   react_steady s i (Effects goal eff) c up none a h = effect_steady s i goal eff c h
+  react_steady s i (Starts class args) c up none a h = tt
   react_steady s i (Operand spot r) c up none a h = unless c.halted (two_steady j i (Keep i spot r) c (keep_of i spot r) (λ ts z. z) h)
   react_steady s i (Waits spot vs) c up none a h = wait_steady i spot vs c a none (λ o. h)
   react_steady s i (Sends k o) c up none a h = send_steady (thing c.cells k) i k o c a h

@@ -15,7 +15,6 @@ use Rattle.flow_meaning.specs.Class.{classes}
 use Rattle.flow_meaning.proofs.Posture.{same_number, above_none}
 use Rattle.flow_meaning.proofs.InOrder.{no_thing}
 use Rattle.flow_meaning.proofs.Shifts.{same_of}
-use Rattle.flow_progress.specs.Fitting.{ActorAt}
 use Rattle.flow_invariants.specs.Fitting.Among.{FitsAmong}
 use Rattle.flow_invariants.specs.Owned.{Unset}
 use Rattle.flow_invariants.proofs.Owned.Owns.{owns}
@@ -71,7 +70,7 @@ rests r n events p rest f u h steady = record {
   where
     each : (i : ℕ) (e : Entry) → thing p.core.entries i ≡ Some e → (e.marked ≡ false)
         × IsReferred e.result (λ k. Rattle.flow_meaning.specs.References.reference_count (Rattle.flow_meaning.specs.Step.scanned (classes r) p) Rattle.flow_meaning.specs.Cells.FutureSide k p.core)
-    each i e at = (unmarked, by_frame (thing p.actors i) (subst (λ z. ActorAt r f.types z (thing p.actors i) (tasks_of i p.core.tasks)) at (f.fits.actors i)))
+    each i e at = (unmarked, by_result e.result refl)
       where
         by_mark : (b : Bool) → e.marked ≡ b → e.marked ≡ false
         by_mark true q = absurd (no_mark (rest.suspended i e at) (awake p.core (λ j. inl (steady j)) i e at q))
@@ -80,9 +79,7 @@ rests r n events p rest f u h steady = record {
         unmarked : e.marked ≡ false
         unmarked = by_mark e.marked refl
 
-        by_frame : (x : Option Frame) → ActorAt r f.types (Some e) x (tasks_of i p.core.tasks)
-            → IsReferred e.result (λ k. Rattle.flow_meaning.specs.References.reference_count (Rattle.flow_meaning.specs.Step.scanned (classes r) p) Rattle.flow_meaning.specs.Cells.FutureSide k p.core)
-        by_frame None a = absurd a
-        by_frame (Some g) a =
-            subst (λ o. IsReferred o (λ k. Rattle.flow_meaning.specs.References.reference_count (Rattle.flow_meaning.specs.Step.scanned (classes r) p) Rattle.flow_meaning.specs.Cells.FutureSide k
-            p.core)) (sym a.owns) ((h a.result).1 (i, e, at, unmarked, a.owns))
+        by_result : (o : Option ℕ) → e.result ≡ o → IsReferred o (λ k. Rattle.flow_meaning.specs.References.reference_count (Rattle.flow_meaning.specs.Step.scanned (classes r) p) Rattle.flow_meaning.specs.Cells.FutureSide k
+            p.core)
+        by_result None own = tt
+        by_result (Some k) own = (h k).1 (i, e, at, unmarked, own)

@@ -10,7 +10,7 @@ use Rattle.flow_class.specs.Classes.{ClassTree, RawTree}
 use Rattle.flow_class.specs.Code.{callback_at}
 use Rattle.flow_numbered.specs.Numbered.{Numbered, thing, put, removed}
 use Rattle.flow_meaning.specs.Cells.{Ref}
-use Rattle.flow_meaning.specs.Requests.{Spot, Act, Goes, Pass, Drops, Effects, Operand, Waits, Sends, Cancels, Prints, SendsTo, Returns, Throws, RunsOut, Stuck, Effect, Make, Start, Draw, Delay, Never, Listen, Disk, Goal, Ask, Supply}
+use Rattle.flow_meaning.specs.Requests.{Spot, Act, Goes, Pass, Drops, Effects, Operand, Waits, Sends, Cancels, Prints, SendsTo, Returns, Throws, RunsOut, Stuck, Effect, Make, Start, Draw, Delay, Never, Listen, Disk, Goal, Ask, Supply, Starts}
 use Rattle.flow_meaning.specs.Process.{Task, Run, Give, Throw, Catch, Store, Keep, Close, Fire, Drop, Entry, Halt, Core, Proc, Raised}
 use Rattle.flow_meaning.specs.Lines.{throw_line, catch_line}
 use Rattle.flow_meaning.specs.References.{scan_of}
@@ -20,7 +20,7 @@ use Rattle.flow_meaning.specs.Effects.{effect}
 use Rattle.flow_meaning.specs.React.{react}
 use Rattle.flow_meaning.specs.Work.{writes, pushed, take_branch, is_ready_at}
 use Rattle.flow_meaning.specs.Step as steps
-use Rattle.flow_meaning.specs.Step.{Stepped, proc, kept_by, view, start, answer_effect, answer, run_next, run, fate, throw_core, OperandFate, GoesOn, Cancelled, Ready as IsReady, verdict, with_operand, below, keep_by, keep, handle, close_actor, scanned, do_task, step_tasks, step_if, step}
+use Rattle.flow_meaning.specs.Step.{Stepped, proc, kept_by, view, start, answer_effect, answer, run_next, run, fate, throw_core, OperandFate, GoesOn, Cancelled, Ready as IsReady, verdict, with_operand, below, keep_by, keep, handle, close_actor, scanned, do_task, step_tasks, step_if, step, start_alone}
 use Rattle.flow_meaning.specs.Frame.{Frame}
 use Rattle.flow_meaning.specs.Class.{classes, class_names, next_step}
 use Rattle.flow_meaning.proofs.Posture.{Unless, unless, unless_map, thing_put, thing_put_other, IsOf, own_task, other_task}
@@ -35,7 +35,7 @@ use Rattle.flow_progress.proofs.KeptNone.{OfWait, AsksOfWaitAt, none_kept}
 use Rattle.flow_progress.proofs.StepFits.{Actor, actor_here, cells_seen, frame_rules}
 use Rattle.flow_invariants.proofs.Unmarked.Groups.{Begins}
 use Rattle.flow_invariants.proofs.Unmarked.Steady.{Steps, NoOperand, Steady, S, by_number, kept, dropping_steady, leave_steady, branch_steady, drop_steady, fire_steady, close_steady}
-use Rattle.flow_invariants.proofs.Unmarked.Acts.{Unkept, run_steady, throw_steady, effect_steady, start_steady, Unmarked, Asks, react_steady}
+use Rattle.flow_invariants.proofs.Unmarked.Acts.{Unkept, run_steady, throw_steady, effect_steady, start_steady, Unmarked, Asks, react_steady, void_steady}
 
 -- an unmarked actor that takes its next step before anything else
 pub record Ready (j : ℕ) (c : Core) : Type 0 where
@@ -132,6 +132,7 @@ module _ (j : ℕ) (r : RawTree) (actors : List RoutineTree) (rules : ClassRules
       asks_of left Pass g fit none = unkept (none (λ w. w))
       asks_of left (Drops vs) g fit none = unkept (none (λ w. w))
       asks_of left (Effects goal eff) g fit none = tt
+      asks_of left (Starts class args) g fit none = unkept (none (λ w. w))
       asks_of left (Operand spot q) g fit none = tt
       asks_of left (Waits spot vs) g fit none = clear (waits_some g spot vs fit)
       asks_of left (Sends k x) g fit none = unkept (none (λ w. w))
@@ -155,6 +156,11 @@ module _ (j : ℕ) (r : RawTree) (actors : List RoutineTree) (rules : ClassRules
         started goal class (Some b) =
             let d = steps.start_core i goal class ((classes r).label class) now in steady d (start_steady j i goal class ((classes r).label class) now o.numbered steady_now)
 
+        started_alone : (class : ℕ) (x : Option Frame) → Unkept j i now → Good (start_alone (classes r) i class x (proc now ys))
+        started_alone class None none = tt
+        started_alone class (Some b) none =
+            let d = steps.start_void i class ((classes r).label class) now in steady d (void_steady j i class ((classes r).label class) now o.numbered none steady_now)
+
         by_effect : (goal : Goal) (eff : Effect) → Unless (Fine j) (effect s i goal eff now).0
         by_effect goal eff = steady (effect s i goal eff now).0 (effect_steady j s i goal eff now steady_now)
 
@@ -169,6 +175,7 @@ module _ (j : ℕ) (r : RawTree) (actors : List RoutineTree) (rules : ClassRules
 
         answer_good : (act : Act) → Asks j i act now → Good (answer (classes r) s i act (proc now ys))
         answer_good (Effects goal eff) asks = effect_good goal eff
+        answer_good (Starts class args) asks = started_alone class ((classes r).fresh class args) asks
         answer_good act asks = steady (react s i act now).0 (react_steady j s i act now o.numbered alone asks steady_now)
 
       next_good : (q : Option Ask × Frame) → next_step (class_names r) (view s i c) a.frame ≡ q → AsksFit r (class_vars a.frame.code) (typed_by types) a.frame.code (view s i c).kept q

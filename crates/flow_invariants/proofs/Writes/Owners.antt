@@ -9,7 +9,7 @@ use Rattle.flow_class.specs.Classes.{RawTree}
 use Rattle.flow_numbered.specs.Numbered.{Numbered, thing, removed}
 use Rattle.flow_meaning.specs.Cells.{PromiseSide, Cell, Single, Stream}
 use Rattle.flow_meaning.specs.Cells as cells
-use Rattle.flow_meaning.specs.Requests.{Act, Goes, Pass, Drops, Effects, Operand, Waits as WaitsFor, Sends, Cancels, Prints, SendsTo, Returns, Throws, RunsOut, Stuck, Ask, Supply}
+use Rattle.flow_meaning.specs.Requests.{Act, Goes, Pass, Drops, Effects, Starts, Operand, Waits as WaitsFor, Sends, Cancels, Prints, SendsTo, Returns, Throws, RunsOut, Stuck, Ask, Supply}
 use Rattle.flow_meaning.specs.Process.{Entry, Core, Proc}
 use Rattle.flow_meaning.specs.References.{Scan, reference_count, one, count_maybe, count_kept, in_entries, in_ports}
 use Rattle.flow_meaning.specs.Deliver.{closed_request}
@@ -140,6 +140,7 @@ not_own c Goes n = tt
 not_own c Pass n = tt
 not_own c (Drops vs) n = tt
 not_own c (Effects goal eff) n = tt
+not_own c (Starts class args) n = tt
 not_own c (Operand spot r) n = tt
 not_own c (WaitsFor spot vs) n = tt
 not_own c (Cancels j) n = tt

@@ -12,7 +12,7 @@ use Rattle.flow_eval.specs.Predefined.{natural}
 use Rattle.flow_class.specs.Classes.{RawTree}
 use Rattle.flow_numbered.specs.Numbered.{Numbered, thing, added, put, removed}
 use Rattle.flow_meaning.specs.Cells.{Side, PromiseSide, FutureSide, side_of, Ref, Waiter, Cell, Single, Stream, is_complete, is_ready, waiters}
-use Rattle.flow_meaning.specs.Requests.{DiskCall, Spot, Effect, Make, Start, Draw, Delay, Never, Listen, Disk, Goal, Act, Goes, Pass, Drops, Effects, Operand, Waits as WaitsFor, Sends, Cancels, Prints, SendsTo, Returns, Throws, RunsOut, Stuck, Ask, Supply}
+use Rattle.flow_meaning.specs.Requests.{DiskCall, Spot, Effect, Make, Start, Draw, Delay, Never, Listen, Disk, Goal, Act, Goes, Pass, Drops, Effects, Operand, Waits as WaitsFor, Sends, Cancels, Prints, SendsTo, Returns, Throws, RunsOut, Stuck, Ask, Supply, Starts}
 use Rattle.flow_meaning.specs.Process.{Task, Run, Give, Throw, Catch, Store, Keep, Close, Fire, Drop, Entry, Halt, Core, Proc, Raised}
 use Rattle.flow_meaning.specs.References.{Scan, reference_count, scan_of}
 use Rattle.flow_meaning.specs.Orderly.{Orderly, Rising}
@@ -22,7 +22,7 @@ use Rattle.flow_meaning.specs.React.{send_by, send_in, print, react}
 use Rattle.flow_meaning.specs.Dropping.{port_of, promises_gone, futures_gone, loss, suffer, lose_cell, lose_ref, fire, fire_to, fire_at, fire_cell, set_result, give_result, close}
 use Rattle.flow_meaning.specs.Lines.{print_line, end_line, throw_line, broken_line}
 use Rattle.flow_meaning.specs.Step as steps
-use Rattle.flow_meaning.specs.Step.{proc, Stepped, view, enrol, start, answer, run_next, run, fate, throw_core, OperandFate, GoesOn, Cancelled, Ready, verdict, with_operand, below, keep_by, keep, close_actor, scanned, do_task, step_tasks, step_if, step}
+use Rattle.flow_meaning.specs.Step.{proc, Stepped, view, enrol, start, answer, run_next, run, fate, throw_core, OperandFate, GoesOn, Cancelled, Ready, verdict, with_operand, below, keep_by, keep, close_actor, scanned, do_task, step_tasks, step_if, step, start_alone, enrol_with}
 use Rattle.flow_meaning.specs.Frame.{Frame}
 use Rattle.flow_meaning.specs.Class.{classes}
 use Rattle.flow_meaning.proofs.Posture.{Unless, unless, after_turn}
@@ -164,6 +164,7 @@ module _ (P : Things → Type 0) (by : KeptByWrites P) where
     react_kept s i Pass up n = after_turn K (pushed (Run i)) c c.left (λ m. unless c.halted h)
     react_kept s i (Drops vs) up n = unless c.halted h
     react_kept s i (Effects goal eff) up n = effect_kept s i goal eff
+    react_kept s i (Starts class args) up n = tt
     react_kept s i (Operand spot r) up n = unless c.halted h
     react_kept s i (WaitsFor spot vs) up n = work.wait_kept P by i spot vs c h
     react_kept s i (Sends k o) up n = send_kept i k o c n h
@@ -195,9 +196,15 @@ module _ (P : Things → Type 0) (by : KeptByWrites P) where
         after_turn K (λ z. enrol class ((classes r).label class) (push_result i (result_task i goal (RefValue kind.Future (suc z.made))) z)) d left
         (λ n. start_kept d (tied_with c ts left t) h i (result_task i goal (RefValue kind.Future (suc c.made))) class ((classes r).label class) n)
 
+    alone_kept : (i class : ℕ) (x : Option Frame) (ts : List Task) (left : ℕ) (ys : Numbered Frame) → Kept (start_alone (classes r) i class x (proc (record c { tasks = ts; left = left }) ys))
+    alone_kept i class None ts left ys = tt
+    alone_kept i class (Some a) ts left ys =
+        after_turn K (λ z. enrol_with class ((classes r).label class) None (pushed (Run i) z)) (record c { tasks = ts; left = left }) left (λ n. unless c.halted (by.starts_alone c class h))
+
     answer_kept : (i : ℕ) (act : Act) (ts : List Task) (left : ℕ) (ys : Numbered Frame) → NotOwn c act → Kept (answer (classes r) s i act (proc (record c { tasks = ts; left = left }) ys))
     answer_kept i (Effects goal (Start class args)) ts left ys n = started_kept i goal class ((classes r).fresh class args) ts left ys
     answer_kept i (Effects goal eff) ts left ys n = effect_kept (record c { tasks = ts; left = left }) (tied_with c ts left t) h s i goal eff
+    answer_kept i (Starts class args) ts left ys n = alone_kept i class ((classes r).fresh class args) ts left ys
     answer_kept i act ts left ys n = react_kept (record c { tasks = ts; left = left }) (tied_with c ts left t) h s i act o.numbered n
 
     next_kept : (i : ℕ) (ts : List Task) (x : Option Ask × Frame) → AskNotOwn c x.0 → Kept (run_next (classes r) s i ts x (proc c xs))

@@ -2,6 +2,7 @@
 use Rattle.std.proofs.Common.{◌≡◌, ℕ, zero, suc, ◌+◌, ◌<◌, ◌≤◌, Bool, true, false, List, [], ◌∷◌, map, length, refl, sym, subst, arith}
 use Rattle.std.specs.declared.option.Option.{Option}
 use Rattle.std.specs.declared.option.Option.TheVariants.{None, Some}
+use Rattle.std.specs.Prelude.{is_none}
 use Rattle.flow_tree.specs.Body.{Body, End}
 use Rattle.flow_class.specs.Classes.{DropInstr, LastTree, GotoLast, PassLast, ClassTree}
 use Rattle.flow_class.specs.Code.{Last}
@@ -12,7 +13,7 @@ use Rattle.flow_meaning.specs.Evaluating.{Names}
 use Rattle.flow_meaning.specs.Items.{Site, Loop, Item, Do, Leave, Round, Check, Made, Handler, Over, site_at}
 use Rattle.flow_meaning.specs.SourceStep.{Breaks, Continues}
 use Rattle.flow_meaning.specs.SourceStep as source
-use Rattle.flow_meaning.specs.Carry.{Pos, entry, after, Target, At, Again, EndsScope, at, JumpsTo, here, jump, SimpleAt, PassAt, DropThen, GoesOn}
+use Rattle.flow_meaning.specs.Carry.{Pos, entry, after, Target, At, Again, EndsScope, at, JumpsTo, here, jump, SimpleAt, PassAt, DropThen, GoesOn, EndsAt}
 use Rattle.flow_meaning.specs.Carry as carry
 use Rattle.flow_meaning.specs.Carries.{ExitAt}
 use Rattle.flow_split.specs.Around.{Exit, Text, Scoped, Part, Hand, Around, inner, pass, guarded, handling}
@@ -32,7 +33,6 @@ module _ (ns : Names) (c : ClassTree) where
   drop_before (d ∷ ds) p q follows g f h = (h.0, goes_on g h.1, h.2, h.3)
 
   pub goes_before : (s : Scope) (r : List Item) (ts : List Target) (p q : Pos) → JumpsTo ns c p q → GoesOn ns c s r ts q → GoesOn ns c s r ts p
-  goes_before s [] ts p q g h = (h.0, h.1, goes_on g h.2, h.3, h.4, h.5)
   goes_before s (Leave ∷ r) ts p q g h = drop_before (scope s) p q (GoesOn ns c (outside s) r ts) g (goes_before (outside s) r ts p q g) h
   goes_before s (Do x k ∷ r) (At t ∷ ts) p q g h = goes_on g h
   goes_before s (Made l ∷ r) (Again b ∷ ts) p q g h = (h.0, h.1, goes_on g h.2, h.3, h.4)
@@ -47,11 +47,11 @@ module _ (ns : Names) (c : ClassTree) where
   exits_before Continues s (Made l ∷ r) (t ∷ ts) p q g h = goes_before s (Made l ∷ r) (t ∷ ts) p q g h
   exits_before how s _ ts p q g h = absurd h
 
-  -- a body's end goes on with the items
-  abbrev pub EndsBy : Exit → Option Hand → Scope → List Item → List Target → Type 0
-  EndsBy (Text close) h s [] ts = h ≡ None
-  EndsBy (Scoped last) h s (Leave ∷ r) ts = (p : Pos) → at ns c p ≡ Last last → GoesOn ns c (outside s) r ts p
-  EndsBy x h s r ts = ⊥
+  -- a body's end goes on with the items, or is that of the text
+  abbrev pub EndsBy : (void : Bool) → Exit → Option Hand → Scope → List Item → List Target → Type 0
+  EndsBy void (Text close) h s [] ts = (h ≡ None) × (is_none close ≡ void)
+  EndsBy void (Scoped last) h s (Leave ∷ r) ts = (p : Pos) → at ns c p ≡ Last last → GoesOn ns c (outside s) r ts p
+  EndsBy void x h s r ts = ⊥
 
   -- behind so many scopes the loop is left, or goes on
   abbrev pub LeavesBy : source.Exit → LastTree → (depth : ℕ) → Scope → List Item → List Target → Type 0
@@ -75,7 +75,7 @@ module _ (ns : Names) (c : ClassTree) where
 
   -- what is around a body fits the items, in a loop or not; the numbers that come next are above those in force
   pub record Here (looped : Bool) (w : Around) (s : Scope) (n : Next) (x : Site) (r : List Item) (ts : List Target) : Type 0 where
-    pub ends : EndsBy w.exit w.hand s r ts
+    pub ends : EndsBy x.is_void w.exit w.hand s r ts
     pub breaks : looped ≡ true → LeavesBy Breaks (GotoLast w.looped.out) w.looped.depth s r ts
     pub continues : looped ≡ true → LeavesBy Continues w.looped.again w.looped.depth s r ts
     pub hand : HandIn w.hand w.depth r ts
@@ -89,27 +89,27 @@ module _ (ns : Names) (c : ClassTree) where
   above_more l m (Mark ∷ s) le a = above_more l m s le a
   above_more l m (Var x k ∷ s) le a = (omega (arith, a.0), above_more l m s le a.1)
 
-  ends_scope : (x : Exit) (h : Option Hand) (s : Scope) (r : List Item) (ts : List Target) → EndsBy x h s r ts → EndsScope r
-  ends_scope (Text close) h s [] ts e = tt
-  ends_scope (Text close) h s (Leave ∷ r) ts e = absurd e
-  ends_scope (Text close) h s (Do x k ∷ r) ts e = absurd e
-  ends_scope (Text close) h s (Round l ∷ r) ts e = absurd e
-  ends_scope (Text close) h s (Check l ∷ r) ts e = absurd e
-  ends_scope (Text close) h s (Made l ∷ r) ts e = absurd e
-  ends_scope (Text close) h s (Handler y x k ∷ r) ts e = absurd e
-  ends_scope (Text close) h s (Over ∷ r) ts e = absurd e
-  ends_scope (Scoped last) h s [] ts e = absurd e
-  ends_scope (Scoped last) h s (Leave ∷ r) ts e = tt
-  ends_scope (Scoped last) h s (Do x k ∷ r) ts e = absurd e
-  ends_scope (Scoped last) h s (Round l ∷ r) ts e = absurd e
-  ends_scope (Scoped last) h s (Check l ∷ r) ts e = absurd e
-  ends_scope (Scoped last) h s (Made l ∷ r) ts e = absurd e
-  ends_scope (Scoped last) h s (Handler y x k ∷ r) ts e = absurd e
-  ends_scope (Scoped last) h s (Over ∷ r) ts e = absurd e
-  ends_scope (Part last) h s r ts e = absurd e
+  ends_scope : (void : Bool) (x : Exit) (h : Option Hand) (s : Scope) (r : List Item) (ts : List Target) → EndsBy void x h s r ts → EndsScope r
+  ends_scope void (Text close) h s [] ts e = tt
+  ends_scope void (Text close) h s (Leave ∷ r) ts e = absurd e
+  ends_scope void (Text close) h s (Do x k ∷ r) ts e = absurd e
+  ends_scope void (Text close) h s (Round l ∷ r) ts e = absurd e
+  ends_scope void (Text close) h s (Check l ∷ r) ts e = absurd e
+  ends_scope void (Text close) h s (Made l ∷ r) ts e = absurd e
+  ends_scope void (Text close) h s (Handler y x k ∷ r) ts e = absurd e
+  ends_scope void (Text close) h s (Over ∷ r) ts e = absurd e
+  ends_scope void (Scoped last) h s [] ts e = absurd e
+  ends_scope void (Scoped last) h s (Leave ∷ r) ts e = tt
+  ends_scope void (Scoped last) h s (Do x k ∷ r) ts e = absurd e
+  ends_scope void (Scoped last) h s (Round l ∷ r) ts e = absurd e
+  ends_scope void (Scoped last) h s (Check l ∷ r) ts e = absurd e
+  ends_scope void (Scoped last) h s (Made l ∷ r) ts e = absurd e
+  ends_scope void (Scoped last) h s (Handler y x k ∷ r) ts e = absurd e
+  ends_scope void (Scoped last) h s (Over ∷ r) ts e = absurd e
+  ends_scope void (Part last) h s r ts e = absurd e
 
   pub here_ends_scope : (l : Bool) (w : Around) (s : Scope) (n : Next) (x : Site) (r : List Item) (ts : List Target) → Here l w s n x r ts → EndsScope r
-  here_ends_scope l w s n x r ts h = ends_scope w.exit w.hand s r ts h.ends
+  here_ends_scope l w s n x r ts h = ends_scope x.is_void w.exit w.hand s r ts h.ends
 
   -- further on in the text
   pub here_past : (l : Bool) (w : Around) (s : Scope) (n m : Next) (x : Site) (y : Spot) (r : List Item) (ts : List Target) → n.local ≤ m.local → m.group ≡ y.group → Here l w s n x r ts
@@ -126,10 +126,10 @@ module _ (ns : Names) (c : ClassTree) where
   }
 
   -- with one more local
-  ends_more : (y : List ℕ) (k : ℕ) (x : Exit) (h : Option Hand) (s : Scope) (r : List Item) (ts : List Target) → EndsBy x h s r ts → EndsBy x h (Var y k ∷ s) r ts
-  ends_more y k (Text close) h s [] ts e = e
-  ends_more y k (Scoped last) h s (Leave ∷ r) ts e = e
-  ends_more y k _ h s r ts e = absurd e
+  ends_more : (void : Bool) (y : List ℕ) (k : ℕ) (x : Exit) (h : Option Hand) (s : Scope) (r : List Item) (ts : List Target) → EndsBy void x h s r ts → EndsBy void x h (Var y k ∷ s) r ts
+  ends_more void y k (Text close) h s [] ts e = e
+  ends_more void y k (Scoped last) h s (Leave ∷ r) ts e = e
+  ends_more void y k _ h s r ts e = absurd e
 
   leaves_more : (y : List ℕ) (k : ℕ) (how : source.Exit) (last : LastTree) (d : ℕ) (s : Scope) (r : List Item) (ts : List Target) → EndsScope r
       → LeavesBy how last d s r ts → LeavesBy how last d (Var y k ∷ s) r ts
@@ -149,7 +149,7 @@ module _ (ns : Names) (c : ClassTree) where
   here_local l w s n m x z r ts y lt own e h =
       let i = here_ends_scope l w s n x r ts h in
       record {
-        ends = ends_more y n.local w.exit w.hand s r ts h.ends;
+        ends = ends_more x.is_void y n.local w.exit w.hand s r ts h.ends;
         breaks = λ t. leaves_more y n.local Breaks (GotoLast w.looped.out) w.looped.depth s r ts i (h.breaks t);
         continues = λ t. leaves_more y n.local Continues w.looped.again w.looped.depth s r ts i (h.continues t);
         hand = h.hand;
@@ -184,7 +184,7 @@ module _ (ns : Names) (c : ClassTree) where
   -- the handler of a catch
   pub here_handler : (l : Bool) (w : Around) (s : Scope) (n m : Next) (x z : Site) (y : Spot) (v : List ℕ) (k : Body) (e q : ℕ) (r : List Item) (ts : List Target) → n.local ≤ e → e < m.local
       → e < length c.locals → m.group ≡ y.group
-      → Here l w s n x r ts → Here l (handling w (Scoped (GotoLast q)) v) (Var v e ∷ Mark ∷ s) m (record { spot = y; caught = Some v }) (Leave ∷ Do z k ∷ r) (At (entry q) ∷ ts)
+      → Here l w s n x r ts → Here l (handling w (Scoped (GotoLast q)) v) (Var v e ∷ Mark ∷ s) m (record (site_at y x) { caught = Some v }) (Leave ∷ Do z k ∷ r) (At (entry q) ∷ ts)
   here_handler l w s n m x z y v k e q r ts le lt own g h = record {
     ends = λ p at. goto_on q p at;
     breaks = h.breaks;
@@ -243,11 +243,14 @@ module _ (ns : Names) (c : ClassTree) where
   drop_then [] p last follows f h = f p h
   drop_then (d ∷ ds) p last follows f h = (p, here, h.0, f (after p) h.1)
 
-  pub end_at : (w : Around) (x : Exit) (s : Scope) (r : List Item) (ts : List Target) (p : Pos) (n : ℕ) (y : Spot) → EndsBy x w.hand s r ts → Stands ns c p n y w.hand (finished w s x)
-      → GoesOn ns c s r ts p
-  end_at w (Text close) s [] ts p n y e st = (p, _, here, st.code, refl, uncaught ns c p n y w.hand (finished w s (Text close)) e st)
-  end_at w (Scoped last) s (Leave ∷ r) ts p n y e st = drop_then (scope s) p last (GoesOn ns c (outside s) r ts) e st.code
-  end_at w _ s r ts p n y e st = absurd e
+  pub end_at : (void : Bool) (w : Around) (x : Exit) (s : Scope) (r : List Item) (ts : List Target) (p : Pos) (n : ℕ) (y : Spot) → EndsBy void x w.hand s r ts
+      → Stands ns c p n y w.hand (finished w s x)
+      → EndsAt ns c void s r ts p
+  end_at void w (Text None) s [] ts p n y e st = subst (λ v. EndsAt ns c v s [] ts p) e.1 (p, here, st.code)
+  end_at void w (Text (Some close)) s [] ts p n y e st =
+      subst (λ v. EndsAt ns c v s [] ts p) e.1 (p, _, here, st.code, refl, uncaught ns c p n y w.hand (finished w s (Text (Some close))) e.0 st)
+  end_at void w (Scoped last) s (Leave ∷ r) ts p n y e st = drop_then (scope s) p last (GoesOn ns c (outside s) r ts) e st.code
+  end_at void w _ s r ts p n y e st = absurd e
 
   -- a break or a continue
   exit_drops : (how : source.Exit) (last : LastTree) (ds : List ℕ) (rest : List (List ℕ)) (p : Pos) (follows : Pos → Type 0)

@@ -10,7 +10,7 @@ use Rattle.flow_layout.specs.Laying.{LayoutTree}
 use Rattle.flow_meaning.specs.Evaluating.{Names}
 use Rattle.flow_split.specs.Around.{whole}
 use Rattle.flow_split.specs.Counts.{behind, exit_blocks, test_blocks, blocks_in, branch_blocks}
-use Rattle.flow_split.specs.Lowered.{lowered_class}
+use Rattle.flow_split.specs.Lowered.{lowered_class, close_of}
 use Rattle.flow_split.specs.Weight.{body_weight, branch_weight, weight}
 use Rattle.flow_split.proofs.Lengths.{lowered_more}
 
@@ -56,5 +56,5 @@ mutual
 
 pub lowered_within : (ns : Names) (l : LayoutTree) (a : RoutineTree) → length (lowered_class ns l a).blocks ≤ weight a
 lowered_within ns l a =
-    let e = lowered_more ns l.slots [] (whole a.close) (record { block = 1; local = 0; group = 1 }) a.body in
+    let e = lowered_more ns l.slots [] (whole (close_of a)) (record { block = 1; local = 0; group = 1 }) a.body in
     omega (arith, e, blocks_within false a.body)

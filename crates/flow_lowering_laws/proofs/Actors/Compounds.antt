@@ -3,6 +3,7 @@ use Rattle.std.proofs.Common.{◌≡◌, suc, ◌+◌, ◌^◌, ◌<◌, true, f
 use Rattle.std.specs.declared.option.Option.{Option}
 use Rattle.std.specs.declared.option.Option.TheVariants.{None, Some}
 use Rattle.std.proofs.lemmas.Option.{slice_get_within}
+use Rattle.std.specs.Option.{option_map}
 use Rattle.flow_base.specs.declared.place.Place.{Place}
 use Rattle.flow_tree.specs.declared.ty.Ident.{Ident}
 use Rattle.flow_tree.specs.Tree.{ErrorType, ExprTree}
@@ -33,7 +34,7 @@ module _ (ns : Names) (c : ClassTree) (few_slots : length c.slots < 2 ^ 64) (few
   low s w n b = lowered ns c.slots s w n b
 
   pub end_stands : Carried ns c End
-  end_stands l s w n x r ts p h room parts ok st = end_at ns c w w.exit s r ts p n.block x.spot h.ends st
+  end_stands l s w n x r ts p h room parts ok st = end_at ns c x.is_void w w.exit s r ts p n.block x.spot h.ends st
 
   pub block_stands : (at : Place) (b k : Body) → Carried ns c b → Carried ns c k → Carried ns c (BlockStmt at b k)
   block_stands at b k body rest l s w n x r ts p h room parts ok st =
@@ -187,7 +188,7 @@ module _ (ns : Names) (c : ClassTree) (few_slots : length c.slots < 2 ^ 64) (few
       let f = handling w exit u.name in
       let y = text.past b x.spot in
       let z = text.past d y in
-      let there : Site = record { spot = y; caught = Some u.name } in
+      let there : Site = record x { spot = y; caught = Some u.name } in
       let behind = site_at z x in
       let c0 = ends w s false [] (GotoLast n.block) in
       let c1 = low (Mark ∷ s) v (begun n) b in
@@ -248,9 +249,9 @@ module _ (ns : Names) (c : ClassTree) (few_slots : length c.slots < 2 ^ 64) (few
         dead_at ns c k rest l s w n (exited t n) x r ts p a h (exited_local t n) (exited_group t n) room parts.1 ok.1 (exited_block t w s n w.looped.again) (exits_still t w s n w.looped.again) st,
       )
 
-  pub return_stands : (at : Place) (e : ExprTree) (k : Body) → Carried ns c k → Carried ns c (ReturnStmt at e k)
+  pub return_stands : (at : Place) (e : Option ExprTree) (k : Body) → Carried ns c k → Carried ns c (ReturnStmt at e k)
   return_stands at e k rest l s w n x r ts p h room parts ok st =
-      let a = ends w s true [] (ReturnLast (over c.slots s e)) in
+      let a = ends w s true [] (ReturnLast (option_map (over c.slots s) e)) in
       let alone = live_at ns c p n.block x.spot w.hand a (low s w (begun n) k) k st in (
         caught_by ns c n.local w.depth s r ts p n.block x.spot w.hand a h.above h.hand same refl alone,
         alone.code,

@@ -4,6 +4,7 @@ use Rattle.std.proofs.lemmas.List.{map-append, append-nil, append_assoc}
 use Rattle.std.specs.declared.option.Option.{Option}
 use Rattle.std.specs.declared.option.Option.TheVariants.{Some}
 use Rattle.std.specs.declared.option.Option.TheVariants.{None, Some}
+use Rattle.std.specs.Option.{option_map}
 use Rattle.flow_tree.specs.Tree.{ExprTree}
 use Rattle.flow_tree.specs.Body.{WaitTree, Body, End, BlockStmt, IfStmt, IfElseStmt, WhileStmt, ForStmt, LoopStmt, BreakStmt, ContinueStmt, ReturnStmt, ThrowStmt, TryStmt, ChooseStmt, DeclareStmt, AssignStmt, ModifyStmt, CallStmt, WaitStmt, Branches, NoBranches, MoreBranches}
 use Rattle.flow_tree.specs.Decls.{SlotTree}
@@ -130,7 +131,7 @@ module _ (ns : Names) (slots : List SlotTree) where
     lowered_kinds s w n (ContinueStmt at k) h =
         let m = exited w.looped.tried n in
         rest_kinds w.hand (exits w.looped.tried w s n w.looped.again) (lowered ns slots s w (begun m) k) k (exits_still w.looped.tried w s n w.looped.again) (lowered_kinds s w (begun m) k h.1)
-    lowered_kinds s w n (ReturnStmt at e k) h = rest_kinds w.hand (ends w s true [] (ReturnLast (over slots s e))) (lowered ns slots s w (begun n) k) k refl (lowered_kinds s w (begun n) k h.1)
+    lowered_kinds s w n (ReturnStmt at e k) h = rest_kinds w.hand (ends w s true [] (ReturnLast (option_map (over slots s) e))) (lowered ns slots s w (begun n) k) k refl (lowered_kinds s w (begun n) k h.1)
     lowered_kinds s w n (ThrowStmt at e k) h = rest_kinds w.hand (ends w s true [] (ThrowLast (thrown ns slots s at e w.caught))) (lowered ns slots s w (begun n) k) k refl
         (lowered_kinds s w (begun n) k h.1)
     lowered_kinds s w n (TryStmt at b p q d k) h =

@@ -2,6 +2,7 @@
 use Rattle.std.proofs.Common.{◌≡◌, ℕ, zero, suc, ◌+◌, ◌<◌, ◌≤◌, Bool, true, false, List, [], ◌∷◌, ◌++◌, if◌then◌else◌, refl, ap, sym, subst, ◌∙◌, arith, append_assoc}
 use Rattle.std.specs.declared.option.Option.{Option}
 use Rattle.std.specs.declared.option.Option.TheVariants.{None, Some}
+use Rattle.std.specs.Option.{option_map}
 use Rattle.flow_tree.specs.Tree.{ExprTree}
 use Rattle.flow_tree.specs.Body.{Body, End, BlockStmt, ForStmt, BreakStmt, ContinueStmt, ReturnStmt, ThrowStmt, ChooseStmt, DeclareStmt, AssignStmt, ModifyStmt, CallStmt, Branches, NoBranches, MoreBranches}
 use Rattle.flow_ast.specs.Leaving.{has_statement}
@@ -199,7 +200,7 @@ module _ (ns : Names) (c : ClassTree) where
   lowered_held s w n (ContinueStmt at k) =
       let a = exits w.looped.tried w s n w.looped.again in
       still n.local _ _ (rest_held w.hand a (lowered ns c.slots s w (begun (exited w.looped.tried n)) k) k ∙ exits_held w.looped.tried w s n w.looped.again)
-  lowered_held s w n (ReturnStmt at e k) = still n.local _ _ (rest_held w.hand (ends w s true [] (ReturnLast (over c.slots s e))) (lowered ns c.slots s w (begun n) k) k)
+  lowered_held s w n (ReturnStmt at e k) = still n.local _ _ (rest_held w.hand (ends w s true [] (ReturnLast (option_map (over c.slots s) e))) (lowered ns c.slots s w (begun n) k) k)
   lowered_held s w n (ThrowStmt at e k) =
       still n.local _ _ (rest_held w.hand (ends w s true [] (ThrowLast (thrown ns c.slots s at e w.caught))) (lowered ns c.slots s w (begun n) k) k)
   lowered_held s w n (ChooseStmt at bs k) =

@@ -5,7 +5,7 @@ use Rattle.flow_layout.specs.Laying.{layout_of}
 use Rattle.flow_meaning.specs.Evaluating.{Names}
 use Rattle.flow_meaning.specs.Shape.{IsClassOf}
 use Rattle.flow_split.specs.Around.{whole}
-use Rattle.flow_split.specs.Lowered.{lowered_class}
+use Rattle.flow_split.specs.Lowered.{lowered_class, close_of}
 use Rattle.flow_lowering_laws.specs.Actors.Parts.{HasParts}
 use Rattle.flow_lowering_laws.proofs.Actors.Groups.{lowered_kinds}
 
@@ -15,5 +15,5 @@ keeps_shape ns a parts = record {
   returns = refl;
   params = refl;
   slots = refl;
-  groups = lowered_kinds ns (layout_of a).slots [] (whole a.close) (record { block = 1; local = 0; group = 1 }) a.body parts;
+  groups = lowered_kinds ns (layout_of a).slots [] (whole (close_of a)) (record { block = 1; local = 0; group = 1 }) a.body parts;
 }

@@ -1,9 +1,11 @@
 -- The class of an actor carries it.
-use Rattle.std.proofs.Common.{◌≡◌, ℕ, suc, ◌+◌, true, false, List, [], ◌∷◌, ◌++◌, length, slice_get, refl, ap, sym, subst, ◌∙◌, arith, length-append, append_assoc}
+use Rattle.std.proofs.Common.{◌≡◌, ℕ, suc, ◌+◌, true, false, List, [], ◌∷◌, ◌++◌, length, slice_get, refl, ap, sym, subst, ◌∙◌, arith, length-append, append_assoc, Bool, if◌then◌else◌}
 use Rattle.std.specs.declared.option.Option.TheVariants.{None, Some}
+use Rattle.std.specs.Prelude.{is_none}
 use Rattle.flow_tree.specs.Tree.{TypeTree}
 use Rattle.flow_tree.specs.Decls.{RoutineTree}
 use Rattle.flow_ast.specs.Slots.{slots_of}
+use Rattle.flow_ast.specs.Typing.{is_nothing}
 use Rattle.flow_class.specs.Classes.{BlockTree, CallbackTree, ClassTree}
 use Rattle.flow_class.specs.Code.{callbacks_before}
 use Rattle.flow_layout.specs.Laying.{layout_of}
@@ -12,9 +14,10 @@ use Rattle.flow_meaning.specs.Evaluating.{Names}
 use Rattle.flow_meaning.specs.Text.{first_spot, next_spot}
 use Rattle.flow_meaning.specs.Carry.{entry}
 use Rattle.flow_meaning.specs.Carries.{Carries}
+use Rattle.flow_meaning.specs.Source.{first_site}
 use Rattle.flow_split.specs.Around.{whole}
 use Rattle.flow_split.specs.Counts.{Next}
-use Rattle.flow_split.specs.Lowered.{lowered, lowered_class}
+use Rattle.flow_split.specs.Lowered.{lowered, lowered_class, close_of}
 use Rattle.flow_lowering_laws.specs.Actors.Parts.{HasParts}
 use Rattle.flow_lowering_laws.specs.Actors.InPlace.{InPlace}
 use Rattle.flow_lowering_laws.specs.Actors.Laws.{IsSmall}
@@ -83,12 +86,16 @@ pub keeps_text : (ns : Names) (a : RoutineTree) → IsSmall a → HasParts a.bod
 unfolding spot_behind total
 keeps_text ns a small parts ok =
     let c = lowered_class ns (layout_of a) a in
-    let w = whole a.close in
+    let w = whole (close_of a) in
     let ch = lowered ns c.slots [] w start a.body in
     let st = in_blocks ns c 0 first_spot None ch (all_blocks ns c [] c.blocks refl) (all_groups ns c [] c.groups refl) in
-    carried ns c small.slots small.locals a.body false [] w start (record { spot = first_spot; caught = None }) [] [] (entry 0)
-    (record { ends = refl; breaks = λ e. absurd (no_loop e); continues = λ e. absurd (no_loop e); hand = tt; named = refl; above = tt; known = tt; group = refl })
+    carried ns c small.slots small.locals a.body false [] w start (first_site a) [] [] (entry 0)
+    (record { ends = (refl, by_result (is_nothing a.returns)); breaks = λ e. absurd (no_loop e); continues = λ e. absurd (no_loop e); hand = tt; named = refl; above = tt; known = tt; group = refl })
     (all_locals ns c [] c.locals refl) parts ok st
   where
     no_loop : false ≡ true → ⊥
     no_loop e = cc
+
+    by_result : (b : Bool) → is_none (if b then None else Some a.close) ≡ b
+    by_result true = refl
+    by_result false = refl

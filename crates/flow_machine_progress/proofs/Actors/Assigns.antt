@@ -1,15 +1,17 @@
 -- An assignment, a new cell and a drop find their places.
-use Rattle.std.proofs.Common.{◌≡◌, ℕ, ◌+◌, List, [], ◌∷◌, length, map, inl, inr, refl, sym, ◌∙◌, subst, arith}
+use Rattle.std.proofs.Common.{◌≡◌, ℕ, ◌+◌, List, [], ◌∷◌, length, map, inl, inr, refl, sym, ap, ◌∙◌, subst, arith}
 use Rattle.std.specs.declared.option.Option.TheVariants.{Some}
 use Rattle.flow_base.specs.declared.ids.ActorId.{ActorId}
 use Rattle.flow_tree.specs.declared.ty.Ident.{Ident}
 use Rattle.flow_tree.specs.Tree.{ExprTree, ExprTrees}
 use Rattle.flow_value.specs.declared.value.Value.{Value}
-use Rattle.flow_value.specs.Values.{ValueTree}
+use Rattle.flow_value.specs.Values.{ValueTree, NoValues, CompositeValue, ListWhole, refs_of}
 use Rattle.flow_value.specs.View.{value_of}
 use Rattle.flow_eval.specs.Eval.{Res, Done, Meaningless}
 use Rattle.flow_code.specs.declared.expr.expr.Resolved.{Resolved}
+use Rattle.flow_code.specs.Resolved.Tree.{EmptyNode}
 use Rattle.flow_code.specs.Resolved.View.{node_of, nodes_of}
+use Rattle.flow_code.specs.Resolved.Evaluation.{value_at}
 use Rattle.flow_code.specs.Resolved.Resolving.{resolved, resolved_all}
 use Rattle.flow_class.specs.declared.class.Slotted.{Slotted}
 use Rattle.flow_class.specs.Classes.{SetInstr, NewInstr, DropInstr, RawTree}
@@ -36,9 +38,9 @@ use Rattle.flow_heap_refinement.specs.Holds.{AllThere}
 use Rattle.flow_steps.specs.declared.frames.ControlPoint.{ControlPoint}
 use Rattle.flow_steps.specs.declared.process.Process.{Process}
 use Rattle.flow_steps.specs.Holding.{value_refs}
-use Rattle.flow_steps.specs.Evaluating.{with_left}
+use Rattle.flow_steps.specs.Evaluating.{sight_in, with_left}
 use Rattle.flow_steps.specs.Stepping.{value_for, values_for}
-use Rattle.flow_steps.specs.Stuck.{SomeMissing, FrameMissing, NoPlace, SomePlaceMissing, AimsStuck}
+use Rattle.flow_steps.specs.Stuck.{SomeMissing, FrameMissing, NoPlace, SomePlaceMissing, AimsStuck, no_place, no_part}
 use Rattle.flow_steps.specs.StuckCalls.{EvaluatesStuck}
 use Rattle.flow_steps.specs.StuckSteps.{SetStuck, EmptiesStuck}
 use Rattle.flow_operation_refinement.specs.Placing.{HasLocals}
@@ -141,6 +143,28 @@ module _ (r : RawTree) (code : Code) (w : Supply) (ls : List Line) (x : Scan) (s
   pub new_meant : (place : ℕ) (q : Slotted) → fetch f.code f.block f.instr ≡ Body (NewInstr q) → place_of (length f.code.slots) q ≡ Some place → NoPlace s.actor.0 place m.heap → ⊥
   new_meant place q there placed none =
       let may = subst (MayDoNext r w p i e f) there (step_allowed r w p i e f now.running) in place_is q place may.0 (place_placed (length f.code.slots) q place placed) none
+
+  -- the empty vector goes into a place
+  pub vector_meant : (aim : Aim) (res : Resolved) (q : Slotted) → fetch f.code f.block f.instr ≡ Body (NewInstr q) → place_of (length f.code.slots) q ≡ Some aim.place → aim.path.items ≡ []
+      → node_of res ≡ EmptyNode → EvaluatesStuck s value_of (value_for code s.actor.0 res m) m (SetStuck code s aim) → ⊥
+  vector_meant aim res q there place path node = evaluation_there s value_of (value_for code s.actor.0 res m) m (SetStuck code s aim) meant framed set_there
+    where
+      is : value_for code s.actor.0 res m ≡ Done (CompositeValue ListWhole NoValues) m.left
+      is = ap (λ k. value_at (sight_in code s.actor.0 m) k m.left) node
+
+      meant : value_for code s.actor.0 res m ≡ Meaningless → ⊥
+      meant none = cc (is, none)
+
+      aims_somewhere : AimsStuck code.fields s.actor.0 aim m.heap → ⊥
+      aims_somewhere (no_place none) = new_meant aim.place q there place none
+      aims_somewhere (no_part g gs goes none) = cc (path, goes)
+
+      set_there : (v : Value) (left : ℕ) → value_for code s.actor.0 res m ≡ Done (value_of v) left → SetStuck code s aim v (with_left left m) → ⊥
+      set_there v left done (inl missing) =
+          let both = sym is ∙ done in
+          let same : CompositeValue ListWhole NoValues ≡ value_of v = cc (both) in
+          refers (value_refs v) (subst (λ u. AllThere p (refs_of u)) same tt) missing
+      set_there v left done (inr stuck) = aims_somewhere stuck
 
   -- a drop
   pub drop_meant : (ps ns : List ℕ) → fetch f.code f.block f.instr ≡ Body (DropInstr ns) → ps ≡ places coding_now ns → EmptiesStuck s ps m.heap → ⊥

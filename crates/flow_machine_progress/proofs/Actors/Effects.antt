@@ -33,7 +33,7 @@ use Rattle.flow_meaning.specs.Work.{pushed}
 use Rattle.flow_meaning.specs.Step.{view, on_core}
 use Rattle.flow_meaning.specs.Class.{effects, class_names}
 use Rattle.flow_meaning.specs.Frame.{Frame, look}
-use Rattle.flow_progress.specs.Fitting.{CellTypes, CellAt, ActorAt, ActorFits}
+use Rattle.flow_progress.specs.Fitting.{CellTypes, CellAt, OwnsResult, ActorAt, ActorFits}
 use Rattle.flow_steps.specs.declared.frames.ControlPoint.{ControlPoint}
 use Rattle.flow_steps.specs.declared.process.Process.{Process}
 use Rattle.flow_steps.specs.Evaluating.{sight_in, with_left}
@@ -86,9 +86,7 @@ module _ (r : RawTree) (p : Proc Frame) (i : ℕ) (e : Entry) (f : Frame) (run :
       by_frame (thing p.actors j) (subst (λ o. ActorAt r types o (thing p.actors j) (tasks_of j (on_core (pushed (Run i)) p).core.tasks)) at (run.kept.fits.actors j))
     where
       of_fits : (g : Frame) → ActorFits r types d g (tasks_of j (on_core (pushed (Run i)) p).core.tasks) → (c : Cell) × (thing p.core.cells n ≡ Some c)
-      of_fits g a =
-          let same : a.result ≡ n = let b = a.owns in cc (b, result) in
-          typed_there n (FutureType a.class.returns) (ap types (sym same) ∙ a.gives)
+      of_fits g a = typed_there n (FutureType a.class.returns) (subst (λ o. OwnsResult r types o a.class.returns) result a.owns).1
 
       by_frame : (o : Option Frame) → ActorAt r types (Some d) o (tasks_of j (on_core (pushed (Run i)) p).core.tasks) → (c : Cell) × (thing p.core.cells n ≡ Some c)
       by_frame None a = absurd a

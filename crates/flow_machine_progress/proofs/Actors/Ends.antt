@@ -4,7 +4,7 @@ use Rattle.std.specs.Prelude.{slice_get}
 use Rattle.std.specs.Option.{option_map}
 use Rattle.std.specs.declared.option.Option.{Option}
 use Rattle.std.specs.declared.option.Option.TheVariants.{None, Some}
-use Rattle.flow_tree.specs.Tree.{ExprTree}
+use Rattle.flow_tree.specs.Tree.{ExprTree, returned_expr}
 use Rattle.flow_value.specs.declared.value.Value.{Value}
 use Rattle.flow_value.specs.Values.{ValueTree, IntValue, BoolValue, TextValue, VoidValue, ErrorValue, CompositeValue, RefValue}
 use Rattle.flow_value.specs.View.{value_of}
@@ -140,10 +140,12 @@ module _ (r : RawTree) (code : Code) (w : Supply) (ls : List Line) (x : Scan) (s
         chosen true left done none = block_of_class one (fits (TestLast t one other) there).1 none
         chosen false left done none = block_of_class other (fits (TestLast t one other) there).2 none
 
-    pub return_meant : fetch f.code f.block f.instr ≡ Last (ReturnLast t) → LastStuck code s (last.Return res) m → ⊥
-    return_meant there =
+    pub return_meant : (o : Option ExprTree) → returned_expr o ≡ t → fetch f.code f.block f.instr ≡ Last (ReturnLast o) → LastStuck code s (last.Return res) m → ⊥
+    return_meant o given there =
         evaluation_there s value_of (value_for code s.actor.0 res m) m (ReturnStuck s)
-        (λ none. has_meaning r w p i e f run comes_to (λ u left. asks left (Returns u (everything f.mem)) over) (asked (ReturnLast t) there) (sym is ∙ none))
+        (λ none. has_meaning r w p i e f run comes_to (λ u left. asks left (Returns u (everything f.mem)) over)
+        (subst (λ z. Fit r w p i e f run (evaluated f (value (class_names r) (view w i p.core) (look f.mem) z) (λ u left. asks left (Returns u (everything f.mem)) over))) given
+        (asked (ReturnLast o) there)) (sym is ∙ none))
         (framed r code w ls x s m p i e f now st) returned
       where
         returned : (v : Value) (left : ℕ) → value_for code s.actor.0 res m ≡ Done (value_of v) left → ReturnStuck s v (with_left left m) → ⊥
@@ -178,7 +180,7 @@ module _ (r : RawTree) (code : Code) (w : Supply) (ls : List Line) (x : Scan) (s
   end_there choices (last.Pass b) same text there of (inr none) = framed r code w ls x s m p i e f now st none
   end_there choices (last.Test res one other) same text there of stuck = test_meant of.0 res of.2 one other (there ∙ ap Last of.1) stuck
   end_there choices (last.Choose g) same text there of stuck = choices g same stuck
-  end_there choices (last.Return res) same text there of stuck = return_meant of.0 res of.2 (there ∙ ap Last of.1) stuck
+  end_there choices (last.Return res) same text there of stuck = return_meant (returned_expr of.0) res of.2 of.0 refl (there ∙ ap Last of.1) stuck
   end_there choices (last.Throw res) same text there of stuck = throw_meant of.0 res of.2 (there ∙ ap Last of.1) stuck
 
 pub end_meant : (r : RawTree) (code : Code) (w : Supply) (ls : List Line) (x : Scan) (s : ControlPoint) (m : Process) (p : Proc Frame) (i : ℕ) (e : Entry) (f : Frame)

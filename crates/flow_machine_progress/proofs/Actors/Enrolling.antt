@@ -44,7 +44,7 @@ use Rattle.flow_heap_refinement.proofs.Tasks.{refs_same}
 use Rattle.flow_steps.specs.declared.process.Process.{Process}
 use Rattle.flow_steps.specs.Acting.{with_args}
 use Rattle.flow_steps.specs.Stuck.{SomeMissing}
-use Rattle.flow_steps.specs.StuckCalls.{EnrolsStuck, no_class_of, other_params, args_missing, no_result}
+use Rattle.flow_steps.specs.StuckCalls.{EnrolsStuck, no_class_of, other_params, args_missing, no_result, EnrolsAloneStuck, no_void_class, other_void_params, void_args_missing}
 use Rattle.flow_operation_refinement.specs.Matching.{ProcessRepresents}
 use Rattle.flow_operation_refinement.proofs.Stands.{both_mapped, as_many}
 use Rattle.flow_operation_refinement.proofs.Takings.{all_frames}
@@ -148,6 +148,12 @@ module _ (r : RawTree) (ls : List Line) (x : Scan) (k : Process) (q : Proc Frame
     args_there missing =
         none_missing r x made_for (with_cell q none_next) us (cell_made r ls x k q kind.Future s rising).holds
         (all_still q none_next us may.there) (subst (λ rs. SomeMissing rs made_for) (refs_same vs) missing)
+
+    -- a void actor
+    pub enrols_alone_found : EnrolsAloneStuck code class vs h → ⊥
+    enrols_alone_found (no_void_class none) = class_there none
+    enrols_alone_found (other_void_params c at other) = other (as_many_params c at)
+    enrols_alone_found (void_args_missing missing) = none_missing r x h q us s.holds may.there (subst (λ rs. SomeMissing rs h) (refs_same vs) missing)
 
     unset_there : stored.thing (with_args vs h).cells.things (next_cell h) ≡ Some unset
     unset_there =

@@ -1,15 +1,17 @@
 -- A step by an instruction doesn't go astray.
-use Rattle.std.proofs.Common.{◌≡◌, ℕ, List, sym, ap, ◌∙◌, subst}
+use Rattle.std.proofs.Common.{◌≡◌, ℕ, List, inl, inr, sym, ap, ◌∙◌, subst}
 use Rattle.std.specs.Prelude.{slice_get}
 use Rattle.std.specs.declared.option.Option.TheVariants.{Some}
 use Rattle.flow_ast.specs.Typing.{is_there}
-use Rattle.flow_class.specs.Classes.{RawTree}
-use Rattle.flow_class.specs.Code.{Body}
+use Rattle.flow_class.specs.Classes.{InstrTree, RawTree}
+use Rattle.flow_class.specs.Code.{Body, fetch}
 use Rattle.flow_code.specs.declared.class.Act.TheVariants as act
 use Rattle.flow_code.specs.declared.class.Instruction.{Instruction}
 use Rattle.flow_code.specs.declared.class.Instruction.TheVariants as instruction
 use Rattle.flow_code.specs.declared.program.Code.{Code}
-use Rattle.flow_code.specs.View.{instruction_of}
+use Rattle.flow_code.specs.Resolved.View.{node_of}
+use Rattle.flow_code.specs.Classes.{SetCode}
+use Rattle.flow_code.specs.View.{aim_of, instruction_of}
 use Rattle.flow_trace.specs.declared.line.Line.{Line}
 use Rattle.flow_meaning.specs.Requests.{Supply}
 use Rattle.flow_meaning.specs.Process.{Entry, Proc}
@@ -24,13 +26,13 @@ use Rattle.flow_step_refinement.specs.Decoding.{AtInstruction}
 use Rattle.flow_step_refinement.specs.Continuing.{moves, chooses, MayStep}
 use Rattle.flow_step_refinement.proofs.Decodes.{the_instruction}
 use Rattle.flow_step_refinement.proofs.Froms.{instruction_from}
-use Rattle.flow_step_refinement.proofs.Effects.Decoded.{call_coded}
+use Rattle.flow_step_refinement.proofs.Effects.Decoded.{call_coded, void_coded}
 use Rattle.flow_burst_refinement.proofs.Enabled.Steps.{place_there, standing}
 use Rattle.flow_machine_progress.specs.Actors.{AtStep, InstructionMeant}
 use Rattle.flow_machine_progress.proofs.Actors.Here.{no_instruction, own_rules}
 use Rattle.flow_machine_progress.proofs.Actors.Froms.{PartsOf, parts_of}
-use Rattle.flow_machine_progress.proofs.Actors.Assigns.{by, coding_now, set_meant, new_meant, drop_meant}
-use Rattle.flow_machine_progress.proofs.Actors.Calls.{world_meant, function_meant}
+use Rattle.flow_machine_progress.proofs.Actors.Assigns.{by, coding_now, set_meant, new_meant, vector_meant, drop_meant}
+use Rattle.flow_machine_progress.proofs.Actors.Calls.{world_meant, function_meant, void_meant}
 use Rattle.flow_machine_progress.proofs.Actors.Methods.{method_meant}
 use Rattle.flow_machine_progress.proofs.Actors.Parts.{always_coded}
 use Rattle.flow_machine_progress.proofs.Actors.Effects.{effect_meant}
@@ -49,9 +51,11 @@ module _ (r : RawTree) (code : Code) (w : Supply) (ls : List Line) (x : Scan) (s
 
   moves_meant : (st : MayBeStale r ls x s m p i e f) (y : Instruction) → slice_get s.block.now.body.items s.instruction ≡ Some y → DoesStuck code s y m → ⊥
   moves_meant st (instruction.Set aim res) at stuck =
-      let a = there st (instruction.Set aim res) at in
-      let of = parts st (instruction.Set aim res) at in
-      set_meant r code w ls x s m p i e f now st aim res of.0 of.1 (a.fetched ∙ ap Body of.2) of.3 of.4 stuck
+      let a = there st (instruction.Set aim res) at in by_parts a.text a.fetched (parts st (instruction.Set aim res) at)
+    where
+      by_parts : (text : InstrTree) → fetch f.code f.block f.instr ≡ Body text → PartsOf (coding_now r code w ls x s m p i e f now st) text (SetCode (aim_of aim) (node_of res)) → ⊥
+      by_parts text fetched (inl of) = set_meant r code w ls x s m p i e f now st aim res of.0 of.1 (fetched ∙ ap Body of.2) of.3 of.4 stuck
+      by_parts text fetched (inr of) = vector_meant r code w ls x s m p i e f now st aim res of.0 (fetched ∙ ap Body of.1) of.2 of.3 of.4 stuck
   moves_meant st (instruction.Effect aim called args) at stuck = effect_meant r code w ls x s m p i e f aim called args now at stuck
   moves_meant st (instruction.New place kd) at stuck =
       let a = there st (instruction.New place kd) at in
@@ -60,6 +64,11 @@ module _ (r : RawTree) (code : Code) (w : Supply) (ls : List Line) (x : Scan) (s
       let a = there st (instruction.Act (act.World called) args) at in
       let of = call_coded (coding_now r code w ls x s m p i e f now st) f.code a.text called _ a.coded in
       world_meant r code w ls x s m p i e f now st of.name of.exprs args.items (a.fetched ∙ ap Body of.is) of.resolved called of.named stuck
+  moves_meant st (instruction.Act (act.Actor k) args) at stuck =
+      let a = there st (instruction.Act (act.Actor k) args) at in
+      let coded = now.standing.program.coded in
+      let of = void_coded r (coding_now r code w ls x s m p i e f now st) f.code a.text k _ coded.are_classes coded.are_functions a.coded in
+      void_meant r code w ls x s m p i e f now st of.name of.exprs args.items (a.fetched ∙ ap Body of.is) of.resolved k of.starts stuck
   moves_meant st (instruction.Act (act.Function k) args) at stuck =
       let a = there st (instruction.Act (act.Function k) args) at in
       let of = parts st (instruction.Act (act.Function k) args) at in

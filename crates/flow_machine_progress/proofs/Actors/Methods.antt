@@ -11,11 +11,11 @@ use Rattle.flow_ast.specs.Typing.{type_in, types_in, more_types}
 use Rattle.flow_ast.specs.TypingNames.{named, method_names}
 use Rattle.flow_ast.specs.Fits.{scope_over}
 use Rattle.flow_tree.specs.declared.ty.Ident.{Ident}
-use Rattle.flow_tree.specs.Tree.{TypeTree, FutureType, PromiseType, PromiseStreamType, ExprTree, ExprTrees, NoExprs, MoreExprs}
+use Rattle.flow_tree.specs.Tree.{TypeTree, FutureType, PromiseType, PromiseStreamType, VectorType, ExprTree, ExprTrees, NoExprs, MoreExprs}
 use Rattle.flow_value.specs.declared.value.Kind.{Kind}
 use Rattle.flow_value.specs.declared.value.Kind.TheVariants as kind
 use Rattle.flow_value.specs.declared.value.Value.{Value}
-use Rattle.flow_value.specs.Values.{ValueTree, IntValue, BoolValue, TextValue, VoidValue, ErrorValue, CompositeValue, RefValue, refs_of}
+use Rattle.flow_value.specs.Values.{ValueTree, IntValue, BoolValue, TextValue, VoidValue, ErrorValue, CompositeValue, RecordWhole, ListWhole, RefValue, refs_of}
 use Rattle.flow_value.specs.View.{value_of, outcome_of}
 use Rattle.flow_eval.specs.Answers.{arg}
 use Rattle.flow_eval.specs.Eval.{Res, Done}
@@ -34,12 +34,12 @@ use Rattle.flow_trace.specs.declared.line.Line.{Line}
 use Rattle.flow_meaning.specs.Requests as asks
 use Rattle.flow_meaning.specs.Requests.{Supply}
 use Rattle.flow_meaning.specs.Cells.{Ref}
-use Rattle.flow_meaning.specs.Evaluating.{StepOf, evaluated, done, sent, cancelled, method_act, based_act, value, values, before_last, last_of}
+use Rattle.flow_meaning.specs.Evaluating.{StepOf, Change, Storing, change_by, changed, call_by, evaluated, done, sent, cancelled, method_act, based_act, value, values, before_last, last_of}
 use Rattle.flow_meaning.specs.Evaluating as evaluating
 use Rattle.flow_meaning.specs.Process.{Entry, Proc}
 use Rattle.flow_meaning.specs.References.{Scan}
 use Rattle.flow_meaning.specs.Step.{view}
-use Rattle.flow_meaning.specs.Class.{class_names}
+use Rattle.flow_meaning.specs.Class.{class_names, put_path}
 use Rattle.flow_meaning.specs.Frame.{Frame, look, next_instr}
 use Rattle.flow_heap_refinement.specs.Holds.{There, AllThere}
 use Rattle.flow_progress.specs.Places.{class_vars}
@@ -47,13 +47,13 @@ use Rattle.flow_progress.specs.Rules.{MessageFits, InstrFits}
 use Rattle.flow_progress.specs.Written.{heads}
 use Rattle.flow_steps.specs.declared.frames.ControlPoint.{ControlPoint}
 use Rattle.flow_steps.specs.declared.process.Process.{Process}
-use Rattle.flow_steps.specs.Holding.{outcome_refs}
+use Rattle.flow_steps.specs.Holding.{outcome_refs, value_refs}
 use Rattle.flow_steps.specs.Points.{noted, next_stand, place_held, field_path, values as given_values}
 use Rattle.flow_steps.specs.Evaluating.{with_left}
 use Rattle.flow_steps.specs.Stepping.{value_for}
 use Rattle.flow_steps.specs.Stuck.{SomeMissing}
 use Rattle.flow_steps.specs.StuckRequests.{SendsStuck, nothing_sent, cell_missing, refers_stuck, MethodStuck}
-use Rattle.flow_steps.specs.StuckSteps.{CallsStuck, no_reference, frame_gone, method_stuck, CallsStuckOf, MethodStepStuck}
+use Rattle.flow_steps.specs.StuckSteps.{CallsStuck, no_reference, frame_gone, method_stuck, NoVectorAt, ChangeStuck, MethodStuckBy, MethodDoneStuck, CallsStuckOf, MethodStepStuck}
 use Rattle.flow_operation_refinement.specs.Placing.{RepresentsActor}
 use Rattle.flow_operation_refinement.specs.Continuing.{MayBeStale}
 use Rattle.flow_operation_refinement.proofs.Brought.{all_there_by}
@@ -69,7 +69,8 @@ use Rattle.flow_burst_refinement.specs.Enabled.Allowing.{Running}
 use Rattle.flow_burst_refinement.proofs.Enabled.Steps.{gives_there}
 use Rattle.flow_machine_progress.specs.Actors.{AtStep}
 use Rattle.flow_machine_progress.proofs.Actors.Here.{Fit, own_rules, refers_there, owner_there, evaluation_there, fits_at, has_meaning, fits_onward}
-use Rattle.flow_machine_progress.proofs.Actors.Assigns.{by, coding_now, old, seen, framed, value_is_that}
+use Rattle.flow_machine_progress.proofs.Actors.Assigns.{by, coding_now, old, seen, framed, refers, value_is_that}
+use Rattle.flow_machine_progress.proofs.Lookups.References.{some_none}
 use Rattle.flow_step_refinement.proofs.Effects.Methods.{sent_there}
 
 -- no method has two arguments
@@ -79,6 +80,8 @@ no_message method.Send (PromiseStreamType t) a b cs h = cc (h)
 no_message method.SendError (PromiseType t) a b cs h = cc (h)
 no_message method.SendError (PromiseStreamType t) a b cs h = cc (h)
 no_message method.Cancel (FutureType t) a b cs h = cc (h)
+no_message method.PushBack (VectorType t) a b cs h = cc (h)
+no_message method.Clear (VectorType t) a b cs h = cc (h)
 no_message m t a b cs h = h
 
 two_typed : (a b : Option TypeTree) (c : Option (List TypeTree)) (ts : List TypeTree) → more_types a (more_types b c) ≡ Some ts
@@ -90,6 +93,12 @@ two_typed (Some t) (Some u) (Some us) ts e = let same : t ∷ u ∷ us ≡ ts = 
 
 two_sent : (m : Method) (v : TypeTree) (ts : List TypeTree) → (t : TypeTree) × (u : TypeTree) × (us : List TypeTree) × (ts ≡ t ∷ u ∷ us) → MessageFits m v ts → ⊥
 two_sent m v ts two message = no_message m v two.0 two.1 two.2 (subst (MessageFits m v) two.3 message)
+
+-- nothing grows by nothing
+no_growth : (m : Method) (t : TypeTree) → change_by (Some m) ≡ Some evaluating.Grows → MessageFits m t [] → ⊥
+no_growth method.PushBack (VectorType t) e h = cc (h)
+no_growth method.PushBack t e h = h
+no_growth m t e h = cc (e)
 
 module _ (r : RawTree) (code : Code) (w : Supply) (ls : List Line) (x : Scan) (s : ControlPoint) (m : Process) (p : Proc Frame) (i : ℕ) (e : Entry) (f : Frame)
     (now : AtStep r code w ls x s m p i e f) (st : MayBeStale r ls x s m p i e f) where
@@ -184,22 +193,91 @@ module _ (r : RawTree) (code : Code) (w : Supply) (ls : List Line) (x : Scan) (s
         let here : path ≡ Some (RefValue kd k.0) = sym same_path ∙ is in
         method_there called kd k o left (may.there kd k.0 here) refer (subst (λ q. Fit r w p i e f run (called_on q (given o) left)) here fit) stuck
 
+    -- a change of the vector to which it leads
+    abbrev put_behind : Storing → ℕ → StepOf Frame
+    put_behind t left = evaluating.given f (put_path (class_names r) (view w i p.core) f (y ∷ before_last z ys) t.0) (λ a. evaluating.asks left (asks.Drops t.1) a)
+
+    abbrev changed_on : Change → Option ValueTree → List ValueTree → ℕ → StepOf Frame
+    changed_on how o us left = evaluated f (changed how us o left) put_behind
+
+    a_vector : (how : Change) (o : Option ValueTree) → path ≡ o → (us : List ValueTree) (left : ℕ) → Fit r w p i e f run (changed_on how o us left) → NoVectorAt code s.actor.0 aim m → ⊥
+    a_vector how (Some (CompositeValue ListWhole vs)) is us left fit none = none vs (same_path ∙ is)
+    a_vector evaluating.Grows None is us left fit none = fit.0
+    a_vector evaluating.Grows (Some (RefValue kd k)) is us left fit none = fit.0
+    a_vector evaluating.Grows (Some (IntValue n)) is us left fit none = fit.0
+    a_vector evaluating.Grows (Some (BoolValue b)) is us left fit none = fit.0
+    a_vector evaluating.Grows (Some (TextValue t)) is us left fit none = fit.0
+    a_vector evaluating.Grows (Some VoidValue) is us left fit none = fit.0
+    a_vector evaluating.Grows (Some (ErrorValue n)) is us left fit none = fit.0
+    a_vector evaluating.Grows (Some (CompositeValue (RecordWhole n) vs)) is us left fit none = fit.0
+    a_vector evaluating.Clears None is us left fit none = fit.0
+    a_vector evaluating.Clears (Some (RefValue kd k)) is us left fit none = fit.0
+    a_vector evaluating.Clears (Some (IntValue n)) is us left fit none = fit.0
+    a_vector evaluating.Clears (Some (BoolValue b)) is us left fit none = fit.0
+    a_vector evaluating.Clears (Some (TextValue t)) is us left fit none = fit.0
+    a_vector evaluating.Clears (Some VoidValue) is us left fit none = fit.0
+    a_vector evaluating.Clears (Some (ErrorValue n)) is us left fit none = fit.0
+    a_vector evaluating.Clears (Some (CompositeValue (RecordWhole n) vs)) is us left fit none = fit.0
+
+    change_there : (how : Change) (o : Option Value) (left l : ℕ) → (how ≡ evaluating.Grows → o ≡ None → ⊥) → AllThere p (refs_of (arg (given o) 0)) → Fit r w p i e f run (changed_on how path (given o) left)
+        → ChangeStuck code s aim how o (with_left l m) → ⊥
+    change_there evaluating.Grows None left l some refer fit stuck = some refl refl
+    change_there evaluating.Grows (Some v) left l some refer fit (inl none) = a_vector evaluating.Grows path refl (given (Some v)) left fit none
+    change_there evaluating.Grows (Some v) left l some refer fit (inr (inl none)) = framed r code w ls x s m p i e f now st none
+    change_there evaluating.Grows (Some v) left l some refer fit (inr (inr missing)) = refers r code w ls x s m p i e f now st (value_refs v) refer missing
+    change_there evaluating.Clears o left l some refer fit (inl none) = a_vector evaluating.Clears path refl (given o) left fit none
+    change_there evaluating.Clears o left l some refer fit (inr none) = framed r code w ls x s m p i e f now st none
+
+    -- what the call comes to, by what it changes
+    abbrev done_on : Option Change → List ValueTree → ℕ → StepOf Frame
+    done_on None us left = called_on path us left
+    done_on (Some how) us left = changed_on how path us left
+
+    done_there : (c : Option Change) (o : Option Value) (left l : ℕ) → (c ≡ Some evaluating.Grows → o ≡ None → ⊥) → AllThere p (refs_of (arg (given o) 0)) → Fit r w p i e f run (done_on c (given o) left)
+        → MethodStuckBy c code s aim called o (with_left l m) → ⊥
+    done_there None o left l some refer fit stuck = calls_there o left l refer fit stuck
+    done_there (Some how) o left l some refer fit stuck = change_there how o left l (λ grows. some (ap (λ h. Some h) grows)) refer fit stuck
+
     -- the step of the class machine, with the arguments known
-    fit : Fit r w p i e f run (evaluated f (values (class_names r) (view w i p.core) (look f.mem) es) (called_on path))
-    fit =
+    call_fits : (c : Option Change)
+        → Fit r w p i e f run (call_by (class_names r) (view w i p.core) (look f.mem) c f next (put_path (class_names r) (view w i p.core) f) (y ∷ z ∷ ys) es)
+        → Fit r w p i e f run (evaluated f (values (class_names r) (view w i p.core) (look f.mem) es) (done_on c))
+    call_fits None fit =
         subst (λ o. Fit r w p i e f run (evaluated f (values (class_names r) (view w i p.core) (look f.mem) es)
         (λ us left. evaluated f (based_act (class_names r) (view w i p.core) (look f.mem) path o us left) onward))) name
         (subst (λ q. Fit r w p i e f run q)
         (evaluated_then f (values (class_names r) (view w i p.core) (look f.mem) es)
         (λ us left. based_act (class_names r) (view w i p.core) (look f.mem) path (named method_names (last_of z ys).name) us left) onward)
+        fit)
+    call_fits (Some how) fit =
+        subst (λ q. Fit r w p i e f run q)
+        (evaluated_then f (values (class_names r) (view w i p.core) (look f.mem) es) (λ us left. changed how us path left) put_behind)
+        fit
+
+    abbrev change_called : Option Change
+    change_called = change_by (Some called)
+
+    fit : Fit r w p i e f run (evaluated f (values (class_names r) (view w i p.core) (look f.mem) es) (done_on change_called))
+    fit =
+        call_fits change_called
+        (subst (λ o. Fit r w p i e f run (call_by (class_names r) (view w i p.core) (look f.mem) (change_by o) f next (put_path (class_names r) (view w i p.core) f) (y ∷ z ∷ ys) es)) name
         (fits_at r w p i e f run (Body (ActInstr (y ∷ z ∷ ys) es)) there))
 
   -- without an argument, with one; none has two
   plain_there : (y z : Ident) (ys : List Ident) (aim : Aim) (called : Method) → fetch f.code f.block f.instr ≡ Body (ActInstr (y ∷ z ∷ ys) NoExprs)
       → aimed (coding_now r code w ls x s m p i e f now st) (y ∷ before_last z ys) ≡ Some (aim_of aim) → named method_names (last_of z ys).name ≡ Some called
-      → CallsStuck code s aim called None m → ⊥
+      → MethodDoneStuck code s aim called None m → ⊥
   plain_there y z ys aim called there aims name stuck =
-      calls_there y z ys NoExprs aim called there aims name None p.core.left m.left tt (fit y z ys NoExprs aim called there aims name) stuck
+      done_there y z ys NoExprs aim called there aims name (change_by (Some called)) None p.core.left m.left no_element tt (fit y z ys NoExprs aim called there aims name) stuck
+    where
+      by_rules : change_by (Some called) ≡ Some evaluating.Grows → InstrFits r (heads r) f.code (class_vars f.code) (ActInstr (y ∷ z ∷ ys) NoExprs) → ⊥
+      by_rules grows (ts, typed, on) =
+          let method_is : on.1 ≡ called = let a = on.3 in cc (a, name) in
+          let none : ts ≡ [] = let a = typed.0 in cc (a) in
+          no_growth called on.0 grows (subst (λ us. MessageFits called on.0 us) none (subst (λ a. MessageFits a on.0 ts) method_is on.4))
+
+      no_element : change_by (Some called) ≡ Some evaluating.Grows → ◌≡◌ {A = Option Value} None None → ⊥
+      no_element grows is = by_rules grows ((own_rules r w p i e f run).instructions f.block f.instr (ActInstr (y ∷ z ∷ ys) NoExprs) there)
 
   module _ (y z : Ident) (ys : List Ident) (t : ExprTree) (aim : Aim) (called : Method) (a : Resolved) (there : fetch f.code f.block f.instr ≡ Body (ActInstr (y ∷ z ∷ ys) (MoreExprs t NoExprs)))
       (aims : aimed (coding_now r code w ls x s m p i e f now st) (y ∷ before_last z ys) ≡ Some (aim_of aim)) (name : named method_names (last_of z ys).name ≡ Some called)
@@ -211,7 +289,7 @@ module _ (r : RawTree) (code : Code) (w : Supply) (ls : List Line) (x : Scan) (s
     is = value_is_that r code w ls x s m p i e f now st t a node
 
     abbrev on_path : List ValueTree → ℕ → StepOf Frame
-    on_path us left = called_on y z ys (MoreExprs t NoExprs) aim called there aims name (path y z ys (MoreExprs t NoExprs) aim called there aims name) us left
+    on_path us left = done_on y z ys (MoreExprs t NoExprs) aim called there aims name (change_by (Some called)) us left
 
     one : Fit r w p i e f run (evaluated f comes_to (λ v left. on_path (v ∷ []) left))
     one =
@@ -220,7 +298,8 @@ module _ (r : RawTree) (code : Code) (w : Supply) (ls : List Line) (x : Scan) (s
 
     calls_on : (v : Value) (left : ℕ) → value_for code s.actor.0 a m ≡ Done (value_of v) left → CallsStuckOf code s aim called v (with_left left m) → ⊥
     calls_on v left done stuck =
-        calls_there y z ys (MoreExprs t NoExprs) aim called there aims name (Some v) left left (gives_there r w p i e f run t (value_of v) left (sym is ∙ done))
+        done_there y z ys (MoreExprs t NoExprs) aim called there aims name (change_by (Some called)) (Some v) left left (λ grows none. some_none none)
+        (gives_there r w p i e f run t (value_of v) left (sym is ∙ done))
         (fits_onward r w p i e f run comes_to (λ u l. on_path (u ∷ []) l) (value_of v) left one (sym is ∙ done)) stuck
 
     with_argument : MethodStepStuck code s aim called (a ∷ []) m → ⊥

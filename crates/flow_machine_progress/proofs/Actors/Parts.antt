@@ -9,10 +9,8 @@ use Rattle.flow_ast.specs.Typing.{Signature, is_packet, packet_fields, param_nam
 use Rattle.flow_ast.specs.TypingNames.{named, call_names, method_names}
 use Rattle.flow_ast.specs.Fits.{fields_type, path_type}
 use Rattle.flow_tree.specs.declared.ty.Ident.{Ident}
-use Rattle.flow_tree.specs.Tree.{TypeTree, IntType, BoolType, StringType, VoidType, ErrorType, NamedType, FutureType, FutureStreamType, PromiseType, PromiseStreamType, ExprTree, ExprTrees}
+use Rattle.flow_tree.specs.Tree.{TypeTree, IntType, BoolType, StringType, VoidType, ErrorType, NamedType, FutureType, FutureStreamType, PromiseType, PromiseStreamType, VectorType, NothingType, ExprTree, ExprTrees}
 use Rattle.flow_tree.specs.Decls.{ParamTree, RecordTree}
-use Rattle.flow_value.specs.declared.value.Kind.{Kind}
-use Rattle.flow_value.specs.declared.value.Kind.TheVariants as kind
 use Rattle.flow_value.specs.declared.value.RecordId.{RecordId}
 use Rattle.flow_value.specs.Values.{Whole, RecordWhole}
 use Rattle.flow_eval.specs.Records.{field_place}
@@ -32,20 +30,20 @@ use Rattle.flow_code.specs.declared.class.Effect.{Effect}
 use Rattle.flow_code.specs.declared.program.Code.{Code}
 use Rattle.flow_code.specs.Classes.{AimTree, NoCode}
 use Rattle.flow_code.specs.Coding as code_of
-use Rattle.flow_code.specs.Coding.{Coding, kind_at, fields_of, one_more, aim_at, act_named, set_code, effect_code, new_code, plain_code, method_code, aimed, coded_instruction}
+use Rattle.flow_code.specs.Coding.{Coding, new_of, fields_of, one_more, aim_at, act_named, set_code, effect_code, new_code, plain_code, method_code, aimed, coded_instruction}
 use Rattle.flow_code.specs.Coded.{coding}
 use Rattle.flow_code.specs.Places.{place_of, place_in}
 use Rattle.flow_meaning.specs.Evaluating as meaning
 use Rattle.flow_meaning.specs.Frame.{Frame}
 use Rattle.flow_heap_refinement.specs.FrameChanges.{HasPlace}
 use Rattle.flow_progress.specs.Places.{class_vars}
-use Rattle.flow_progress.specs.Rules.{InstrFits, EffectFits, SayFits, KeepsRules}
+use Rattle.flow_progress.specs.Rules.{InstrFits, EffectFits, FunctionFits, VoidFits, SayFits, KeepsRules}
 use Rattle.flow_progress.specs.Written.{heads}
 use Rattle.flow_operation_refinement.specs.Seeing.{IsCodeOf}
 use Rattle.flow_step_refinement.proofs.Effects.Decoded.{before_same, last_same}
 use Rattle.flow_step_refinement.specs.Decoding.{effect_of_name}
 use Rattle.flow_step_refinement.specs.Executing.{coded_by}
-use Rattle.flow_step_refinement.proofs.Named.{effect_there}
+use Rattle.flow_step_refinement.proofs.Named.{class_place, effect_there}
 
 -- a field that has a type has a place in a record
 no_record : (b : Bool) (o : Option RecordTree) (n x : List ℕ) (t : TypeTree)
@@ -70,6 +68,8 @@ field_placed rs (FutureType u) x t e = absurd (cc (e))
 field_placed rs (FutureStreamType u) x t e = absurd (cc (e))
 field_placed rs (PromiseType u) x t e = absurd (cc (e))
 field_placed rs (PromiseStreamType u) x t e = absurd (cc (e))
+field_placed rs (VectorType u) x t e = absurd (cc (e))
+field_placed rs NothingType x t e = absurd (cc (e))
 
 -- so its name has a number
 module _ (rs : List RecordTree) (field : List ℕ → Option ℕ) (at : Whole → ℕ → Option ℕ) (numbering : IsNumbering rs field at) where
@@ -140,20 +140,33 @@ module _ (r : RawTree) (code : Code) (f : Frame) (own : KeepsRules r (heads r) f
   effect_coded t u fits =
       (effect_named (fits.effect, fits.args), effect_there r code.classes.items f t (coded_by program) program.coded.are_classes ∙ ap (option_map effect_named) fits.is)
 
-  kind_coded : (q : Slotted) (t u : TypeTree) → type_at f.code q ≡ Some t → (t ≡ PromiseType u) ⊎ (t ≡ PromiseStreamType u) → (k : Kind) × (kind_at f.code q ≡ Some k)
-  kind_coded q t u at (inl is) = (kind.Promise, ap (option_and_then code_of.promise_kind) at ∙ ap code_of.promise_kind is)
-  kind_coded q t u at (inr is) = (kind.PromiseStream, ap (option_and_then code_of.promise_kind) at ∙ ap code_of.promise_kind is)
+  -- what is put in place at once makes a cell, or is a vector
+  new_coded : (n : ℕ) (t u : TypeTree) → (t ≡ PromiseType u) ⊎ ((t ≡ PromiseStreamType u) ⊎ (t ≡ VectorType u)) → NoCode ≡ new_of n t → ⊥
+  new_coded n t u (inl is) none = let e = none ∙ ap (new_of n) is in cc (e)
+  new_coded n t u (inr (inl is)) none = let e = none ∙ ap (new_of n) is in cc (e)
+  new_coded n t u (inr (inr is)) none = let e = none ∙ ap (new_of n) is in cc (e)
 
-  call_coded : (g : Ident) (ts : List TypeTree) (o : Option Predefined) → named call_names g.name ≡ o → SayFits r (heads r) f.code (class_vars f.code) o g ts
-      → (a : Act) × (act_named (named call_names g.name) (program.coded.names.function g.name) ≡ Some a)
-  call_coded g ts (Some called) is fits = (act.World called, ap (λ o. act_named o (program.coded.names.function g.name)) is)
-  call_coded g ts None is fits = by_function (program.coded.names.function g.name) refl
+  -- a call is coded by what it names
+  abbrev act_for : Ident → Option Act
+  act_for g = act_named (named call_names g.name) (program.coded.names.function g.name) (program.coded.class g.name)
+
+  call_coded : (g : Ident) (ts : List TypeTree) (o : Option Predefined) → named call_names g.name ≡ o → SayFits r (heads r) f.code (class_vars f.code) o g ts → (a : Act) × (act_for g ≡ Some a)
+  call_coded g ts (Some called) is fits = (act.World called, ap (λ o. act_named o (program.coded.names.function g.name) (program.coded.class g.name)) is)
+  call_coded g ts None is fits = by_function (program.coded.names.function g.name) refl fits
     where
-      by_function : (o : Option ℕ) → program.coded.names.function g.name ≡ o → (a : Act) × (act_named (named call_names g.name) (program.coded.names.function g.name) ≡ Some a)
-      by_function None none =
-          let same = program.coded.are_functions g.name ∙ ap (routine_at r.functions) none in
-          let there = fits.1 in absurd (cc (same, there))
-      by_function (Some k) some = (act.Function k, ap (λ o. act_named o (program.coded.names.function g.name)) is ∙ ap (act_named None) some)
+      as_own : (o : Option ℕ) → program.coded.names.function g.name ≡ o → act_for g ≡ act_named None o (program.coded.class g.name)
+      as_own o same =
+          ap (λ p. act_named p (program.coded.names.function g.name) (program.coded.class g.name)) is ∙ ap (λ k. act_named None k (program.coded.class g.name)) same
+
+      by_function : (o : Option ℕ) → program.coded.names.function g.name ≡ o → FunctionFits r (heads r) f.code (class_vars f.code) g ts ⊎ VoidFits r (heads r) f.code (class_vars f.code) g ts
+          → (a : Act) × (act_for g ≡ Some a)
+      by_function None none (inl function) =
+          let same = (program.coded.are_functions g.name).0 ∙ ap (routine_at r.functions) none in
+          let there = function.1 in absurd (cc (same, there))
+      by_function None none (inr class) =
+          let place = program.coded.are_classes g.name ∙ class_place r.classes g.name ∙ class.named in
+          (act.Actor class.place, as_own None none ∙ ap (act_named None None) place)
+      by_function (Some k) some fits = (act.Function k, as_own (Some k) some)
 
   -- so no instruction of a valid class is left out of its code
   pub always_coded : (text : InstrTree) → fetch f.code f.block f.instr ≡ Body text → NoCode ≡ coded_instruction now f.code text → ⊥
@@ -167,8 +180,7 @@ module _ (r : RawTree) (code : Code) (f : Frame) (own : KeepsRules r (heads r) f
           let is = none ∙ ap (λ o. effect_code o (code_of.effect_in now t)) aim.1 ∙ ap (effect_code (Some aim.0)) effect.1 in cc (is)
       by_text (NewInstr q) fits none =
           let place = coded_place q fits.0 fits.1 in
-          let its_kind = kind_coded q fits.0 fits.2.0 fits.1 fits.2.1 in
-          let is = none ∙ ap (λ o. new_code o (kind_at f.code q)) place.1 ∙ ap (new_code (Some place.0)) its_kind.1 in cc (is)
+          new_coded place.0 fits.0 fits.2.0 fits.2.1 (none ∙ ap (λ o. new_code o (type_at f.code q)) place.1 ∙ ap (new_code (Some place.0)) fits.1)
       by_text (ActInstr [] es) fits none = fits.2
       by_text (ActInstr (g ∷ []) es) fits none =
           let called = call_coded g fits.0 (named call_names g.name) refl fits.2 in

@@ -7,17 +7,17 @@ use Rattle.flow_machine_progress.proofs.Actors.Froms.{EndOf, end_from}
 use Rattle.flow_step_refinement.proofs.Rows.{entered, acting, runs_follow, further_follows}
 use Rattle.flow_step_refinement.specs.Continuing.{AtOperands, MayStep, moves, chooses}
 use Rattle.flow_step_refinement.specs.Running.{AsksAtLast, RanOff}
-use Rattle.flow_step_refinement.specs.Executing.{coded_by, InProgram, Asks, by_effect, by_act, by_method, by_operand}
+use Rattle.flow_step_refinement.specs.Executing.{coded_by, InProgram, Asks, by_effect, by_act, by_start, by_method, by_operand}
 use Rattle.flow_step_refinement.specs.Tasking.{TaskGoes, is_step, goes_further, runs}
 use Rattle.flow_steps.specs.Evaluating.{program_time, sight_in, with_left, Evaluates, gives, throws, runs_out}
 use Rattle.flow_steps.specs.Doing.{turned, doing, asking}
-use Rattle.flow_steps.specs.Acting.{Values, args_of, EffectAsked, ActorCalled, not_called, actor_starts, IsEffect, PredefinedCalled, IsMessage, MethodCalled}
-use Rattle.flow_steps.specs.Stepping.{IsAct, IsMethodOf, MethodStep, kept_by, value_for, values_for}
+use Rattle.flow_steps.specs.Acting.{Values, args_of, EffectAsked, ActorCalled, not_called, actor_starts, VoidCalled, void_not_called, void_starts, IsEffect, PredefinedCalled, IsMessage, MethodCalled}
+use Rattle.flow_steps.specs.Stepping.{IsAct, IsCall, IsMethodBy, IsMethod, IsMethodOf, MethodStep, kept_by, value_for, values_for}
 use Rattle.flow_steps.specs.Points.{noted, noted_stand, next_stand}
 use Rattle.flow_steps.specs.Tasks.{TopTaken, IsDone}
 use Rattle.flow_steps.specs.declared.call.Goal.{Goal}
 use Rattle.flow_meaning.specs.Requests.{Supply, Draw, Effects}
-use Rattle.flow_meaning.specs.Evaluating.{Effectful, World, Actor, StepOf, given, evaluated, effect_of, world_effect, values, asks as asking_for}
+use Rattle.flow_meaning.specs.Evaluating.{change_by, Effectful, World, Actor, StepOf, given, evaluated, effect_of, world_effect, values, asks as asking_for}
 use Rattle.flow_ast.specs.declared.predefined.Predefined.{Predefined}
 use Rattle.flow_ast.specs.declared.predefined.Method.{Method}
 use Rattle.flow_cancel.specs.Dropping.{cancel_owner}
@@ -143,6 +143,11 @@ actor_drawn : (code : Code) (caller : ActorId) (g : Goal) (class : ℕ) (args : 
 actor_drawn code caller g class args k n none (not_called l e) stuck = quiet_drawn n (turned k) e (turned_asked k ∙ none) stuck
 actor_drawn code caller g class args k n none (actor_starts l h) stuck = asked_drawn n (doing (task.Run h.actor) h.given) (call.Line (line.Start h.actor h.starts.of.name)) h.starts.told stuck
 
+void_drawn : (code : Code) (caller : ActorId) (class : ℕ) (args : List Value) (k n : Process) → k.asked ≡ None → VoidCalled code caller class args k n → ServingStuck n.asked → ⊥
+void_drawn code caller class args k n none (void_not_called l e) stuck = quiet_drawn n (turned k) e (turned_asked k ∙ none) stuck
+void_drawn code caller class args k n none (void_starts l h) stuck =
+    asked_drawn n (doing (task.Run h.actor) (doing (task.Run caller) h.enrolled)) (call.Line (line.Start h.actor h.starts.of.name)) h.starts.told stuck
+
 effect_drawn : (code : Code) (s : ControlPoint) (g : Goal) (e : Effect) (args : List Resolved) (m n : Process) (pace : Pace) → m.asked ≡ None → IsEffect code s g e args m pace n → ServingStuck n.asked
     → Drawn code s g e args m
 effect_drawn code s g e args m n pace none (throws err left _ fails h) stuck = absurd (quiet_drawn n _ h none stuck)
@@ -184,12 +189,27 @@ module _ (code : Code) (s : ControlPoint) (n : Process) where
   evaluated_drawn seen comes_to m goes pace none further (throws err left _ fails h) stuck = quiet_drawn n _ h none stuck
   evaluated_drawn seen comes_to m goes pace none further (runs_out _ spent h) stuck = quiet_drawn n _ h none stuck
 
-  method_drawn : (aim : Aim) (called : Method) (args : List Resolved) (m : Process) (pace : Pace) → m.asked ≡ None → MethodStep code s aim called args m pace n → ServingStuck n.asked → ⊥
-  method_drawn aim called [] m pace none h stuck = called_drawn s.actor called h.kind h.cell None (noted (next_stand s) m) n none h.calls stuck
-  method_drawn aim called (e ∷ []) m pace none h stuck =
+  -- a method that changes nothing is a call
+  is_call : (aim : Aim) (called : Method) (given : Option Value) (k : Process) (pace : Pace) → change_by (Some called) ≡ None → IsMethod code s aim called given k pace n
+      → IsCall code s aim called given k pace n
+  is_call aim called given k pace no_change h = subst (λ o. IsMethodBy o code s aim called given k pace n) no_change h
+
+  method_drawn : (aim : Aim) (called : Method) (args : List Resolved) (m : Process) (pace : Pace) → m.asked ≡ None → change_by (Some called) ≡ None
+      → MethodStep code s aim called args m pace n → ServingStuck n.asked → ⊥
+  method_drawn aim called [] m pace none no_change h stuck =
+      let c = is_call aim called None m pace no_change h in called_drawn s.actor called c.kind c.cell None (noted (next_stand s) m) n none c.calls stuck
+  method_drawn aim called (e ∷ []) m pace none no_change h stuck =
       evaluated_drawn value_of (value_for code s.actor.0 e m) m (IsMethodOf code s aim called) pace none
-      (λ v k none h stuck. called_drawn s.actor called h.kind h.cell (Some v) (noted (next_stand s) k) n none h.calls stuck) h stuck
-  method_drawn aim called (e ∷ d ∷ es) m pace none h stuck = absurd h
+      (λ v k none h stuck.
+      let c = is_call aim called (Some v) k pace no_change h in called_drawn s.actor called c.kind c.cell (Some v) (noted (next_stand s) k) n none c.calls stuck) h stuck
+  method_drawn aim called (e ∷ d ∷ es) m pace none no_change h stuck = absurd h
+
+  start_drawn : (class : ℕ) (args : List Resolved) (m : Process) (pace : Pace) → m.asked ≡ None
+      → Evaluates s args_of (values_for code s.actor.0 args m) m (IsAct code s (act.Actor class)) pace n
+      → ServingStuck n.asked → ⊥
+  start_drawn class args m pace none h stuck =
+      evaluated_drawn args_of (values_for code s.actor.0 args m) m (IsAct code s (act.Actor class)) pace none
+      (λ v k none h stuck. void_drawn code s.actor class v.items (noted (next_stand s) k) n none h.1 stuck) h stuck
 
   act_drawn : (called : Predefined) (args : List Resolved) (m : Process) (pace : Pace) → m.asked ≡ None
       → Evaluates s args_of (values_for code s.actor.0 args m) m (IsAct code s (act.World called)) pace n
@@ -255,7 +275,8 @@ module _ (r : RawTree) (code : Code) (w : Supply) (ls : List Line) (x : Scan) (s
   asks_drawn : (n : Process) → MayStep r ls x s m p i e f → Asks code s m Off n → ServingStuck n.asked → ⊥
   asks_drawn n may (by_effect aim eff args at does) stuck = (effect_drawn code s goal.Stored eff args.items m n Off st.unasked does stuck).operand
   asks_drawn n may (by_act called args at does) stuck = act_drawn code s n called args.items m Off st.unasked does stuck
-  asks_drawn n may (by_method aim called args at does) stuck = method_drawn code s n aim called args.items m Off st.unasked does stuck
+  asks_drawn n may (by_start class args at does) stuck = start_drawn code s n class args.items m Off st.unasked does stuck
+  asks_drawn n may (by_method aim called args at no_change does) stuck = method_drawn code s n aim called args.items m Off st.unasked no_change does stuck
   asks_drawn n (chooses at) (by_operand number group b eff args end ends_in of_number there is does) stuck =
       let same : at.group ≡ number = let k = at.wait.last in cc (k, ends_in) in
       let fetched : fetch f.code f.block f.instr ≡ Last (ChooseLast number) = at.wait.fetched ∙ ap (λ k. Last (ChooseLast k)) same in

@@ -7,11 +7,11 @@ use Rattle.std.specs.declared.option.Option.TheVariants.{None, Some}
 use Rattle.flow_base.specs.declared.ids.ActorId.{ActorId}
 use Rattle.flow_ast.specs.Typing.{is_there}
 use Rattle.flow_tree.specs.declared.ty.Ident.{Ident}
-use Rattle.flow_tree.specs.Tree.{TypeTree, PromiseType, PromiseStreamType, ExprTree}
+use Rattle.flow_tree.specs.Tree.{TypeTree, PromiseType, PromiseStreamType, VectorType, ExprTree}
 use Rattle.flow_tree.specs.Decls.{RecordTree, ParamTree}
 use Rattle.flow_value.specs.declared.value.Value.{Value}
 use Rattle.flow_value.specs.declared.value.Kind.TheVariants as kind
-use Rattle.flow_value.specs.Values.{ValueTree, IntValue, BoolValue, TextValue, VoidValue, ErrorValue, CompositeValue, RefValue}
+use Rattle.flow_value.specs.Values.{ValueTree, IntValue, BoolValue, TextValue, VoidValue, ErrorValue, CompositeValue, RecordWhole, ListWhole, RefValue}
 use Rattle.flow_value.specs.View.{value_of}
 use Rattle.flow_eval.specs.Typed.{HasType}
 use Rattle.flow_eval.proofs.TypedValues.{no_parts, has_parts}
@@ -55,7 +55,7 @@ use Rattle.flow_operation_refinement.specs.Placing.{Acts, RepresentsActor}
 use Rattle.flow_operation_refinement.specs.Stepped.{TopOff}
 use Rattle.flow_operation_refinement.proofs.Stands.{both_mapped}
 use Rattle.flow_step_refinement.specs.Assigning.{AimsAt, CanAssign}
-use Rattle.flow_step_refinement.specs.Decoding.{AtInstruction, Rooted, CodedFrom, from_set, from_effect, from_new, from_act, from_method, from_drop, from_none}
+use Rattle.flow_step_refinement.specs.Decoding.{AtInstruction, Rooted, CodedFrom, from_set, from_effect, from_new, from_vector, from_act, from_method, from_drop, from_none}
 use Rattle.flow_step_refinement.specs.Executing.{coded_by}
 use Rattle.flow_step_refinement.proofs.Decodes.{instruction_there}
 use Rattle.flow_step_refinement.proofs.Froms.{instruction_from}
@@ -72,26 +72,39 @@ use Rattle.flow_machine_progress.proofs.Actors.Aims.{aims_there}
 use Rattle.flow_machine_progress.proofs.Actors.Parts.{always_coded}
 use Rattle.flow_machine_progress.proofs.Bursts.Begins.{its_code, not_nowhere, in_code, stand_is}
 
--- what has the type of a promise is one
-promised : (rs : List RecordTree) (typed : ℕ → TypeTree → Type 0) (v : ValueTree) (t u : TypeTree) → (t ≡ PromiseType u) ⊎ (t ≡ PromiseStreamType u) → HasType rs typed v t → NoPromise v → ⊥
+-- the types of what is put in place at once: of promises and of vectors
+abbrev MadeAtOnce : TypeTree → TypeTree → Type 0
+MadeAtOnce t u = (t ≡ PromiseType u) ⊎ ((t ≡ PromiseStreamType u) ⊎ (t ≡ VectorType u))
+
+-- what has such a type is a promise or a vector
+promised : (rs : List RecordTree) (typed : ℕ → TypeTree → Type 0) (v : ValueTree) (t u : TypeTree) → MadeAtOnce t u → HasType rs typed v t → NoPromise v → ⊥
 promised rs typed (IntValue n) t u (inl e) h none = cc (e, h)
-promised rs typed (IntValue n) t u (inr e) h none = cc (e, h)
+promised rs typed (IntValue n) t u (inr (inl e)) h none = cc (e, h)
+promised rs typed (IntValue n) t u (inr (inr e)) h none = cc (e, h)
 promised rs typed (BoolValue n) t u (inl e) h none = cc (e, h)
-promised rs typed (BoolValue n) t u (inr e) h none = cc (e, h)
+promised rs typed (BoolValue n) t u (inr (inl e)) h none = cc (e, h)
+promised rs typed (BoolValue n) t u (inr (inr e)) h none = cc (e, h)
 promised rs typed (TextValue n) t u (inl e) h none = cc (e, h)
-promised rs typed (TextValue n) t u (inr e) h none = cc (e, h)
+promised rs typed (TextValue n) t u (inr (inl e)) h none = cc (e, h)
+promised rs typed (TextValue n) t u (inr (inr e)) h none = cc (e, h)
 promised rs typed VoidValue t u (inl e) h none = cc (e, h)
-promised rs typed VoidValue t u (inr e) h none = cc (e, h)
+promised rs typed VoidValue t u (inr (inl e)) h none = cc (e, h)
+promised rs typed VoidValue t u (inr (inr e)) h none = cc (e, h)
 promised rs typed (ErrorValue n) t u (inl e) h none = cc (e, h)
-promised rs typed (ErrorValue n) t u (inr e) h none = cc (e, h)
-promised rs typed (CompositeValue w vs) t u (inl e) h none = no_parts rs w t h.0 (ap has_parts e) h.1
-promised rs typed (CompositeValue w vs) t u (inr e) h none = no_parts rs w t h.0 (ap has_parts e) h.1
+promised rs typed (ErrorValue n) t u (inr (inl e)) h none = cc (e, h)
+promised rs typed (ErrorValue n) t u (inr (inr e)) h none = cc (e, h)
+promised rs typed (CompositeValue ListWhole vs) t u e h none = none
+promised rs typed (CompositeValue (RecordWhole k) vs) t u (inl e) h none = no_parts rs (RecordWhole k) t h.0 (ap has_parts e) h.1
+promised rs typed (CompositeValue (RecordWhole k) vs) t u (inr (inl e)) h none = no_parts rs (RecordWhole k) t h.0 (ap has_parts e) h.1
+promised rs typed (CompositeValue (RecordWhole k) vs) t u (inr (inr e)) h none = let a = h.1.named in cc (e, a)
 promised rs typed (RefValue kind.Promise k) t u e h none = none
 promised rs typed (RefValue kind.PromiseStream k) t u e h none = none
 promised rs typed (RefValue kind.Future k) t u (inl e) h none = let a = h.1 in cc (e, a)
-promised rs typed (RefValue kind.Future k) t u (inr e) h none = let a = h.1 in cc (e, a)
+promised rs typed (RefValue kind.Future k) t u (inr (inl e)) h none = let a = h.1 in cc (e, a)
+promised rs typed (RefValue kind.Future k) t u (inr (inr e)) h none = let a = h.1 in cc (e, a)
 promised rs typed (RefValue kind.FutureStream k) t u (inl e) h none = let a = h.1 in cc (e, a)
-promised rs typed (RefValue kind.FutureStream k) t u (inr e) h none = let a = h.1 in cc (e, a)
+promised rs typed (RefValue kind.FutureStream k) t u (inr (inl e)) h none = let a = h.1 in cc (e, a)
+promised rs typed (RefValue kind.FutureStream k) t u (inr (inr e)) h none = let a = h.1 in cc (e, a)
 
 -- so what is none is stored by an effect
 pub record AtEffect (o : Fetched) : Type 0 where
@@ -101,7 +114,7 @@ pub record AtEffect (o : Fetched) : Type 0 where
 
 at_effect : (r : RawTree) (f : Frame) (vars : List ParamTree) (typed : ℕ → TypeTree → Type 0) (v : ValueTree) (o : Fetched) (t : TypeTree) → Stores r f.code vars o t → HasType r.records typed v t
     → NoPromise v
-    → ((q : Slotted) → o ≡ Body (NewInstr q) → (s : TypeTree) × (type_at f.code q ≡ Some s) × ((u : TypeTree) × ((s ≡ PromiseType u) ⊎ (s ≡ PromiseStreamType u)))) → AtEffect o
+    → ((q : Slotted) → o ≡ Body (NewInstr q) → (s : TypeTree) × (type_at f.code q ≡ Some s) × ((u : TypeTree) × MadeAtOnce s u)) → AtEffect o
 at_effect r f vars typed v (Body (EffectInstr path e)) t h fits none news = record { path = path; expr = e; is = refl }
 at_effect r f vars typed v (Body (NewInstr q)) t h fits none news =
     let a = news q refl in
@@ -220,7 +233,8 @@ module _ (r : RawTree) (code : Code) (program : IsProgram r code) (ls : List Lin
               always_coded r code f own_rules (λ place ty is. place_there r.records (typed_by k.types) f place a.doing.1.holds (ap is_there is)) a.doing.1.holds.slots program.coded few here.text
               here.fetched (sym same ∙ here.coded)
           by_from (from_set xs e aim b aims same) = cc (b, text)
-          by_from (from_new place n kd b placed kind_is same) = cc (b, text)
+          by_from (from_new place n u kd b placed typed kind_is same) = cc (b, text)
+          by_from (from_vector place n u b placed typed same) = cc (b, text)
           by_from (from_act g es called b named same) = cc (b, text)
           by_from (from_method y z zs es aim g b aims named same) = cc (b, text)
           by_from (from_drop ns b same) = cc (b, text)

@@ -12,7 +12,7 @@ use Rattle.flow_value.specs.declared.value.Value.{Value}
 use Rattle.flow_value.specs.declared.value.Outcome.{Outcome}
 use Rattle.flow_value.specs.declared.value.Kind.{Kind}
 use Rattle.flow_value.specs.declared.value.Kind.TheVariants as kind
-use Rattle.flow_value.specs.Values.{ValueTree, IntValue, BoolValue, TextValue, VoidValue, ErrorValue, CompositeValue, RefValue}
+use Rattle.flow_value.specs.Values.{ValueTree, ValueTrees, NoValues, IntValue, BoolValue, TextValue, VoidValue, ErrorValue, CompositeValue, RefValue}
 use Rattle.flow_value.specs.View.{value_of, value_step}
 use Rattle.flow_eval.specs.Eval.{Res}
 use Rattle.flow_code.specs.declared.expr.expr.Resolved.{Resolved}
@@ -38,6 +38,8 @@ use Rattle.flow_cancel.specs.Heap.{HeapTree, pushed}
 use Rattle.flow_cancel.specs.Dropping.{refs_in}
 use Rattle.flow_cancel.specs.Leaving.{withdrawn}
 use Rattle.flow_meaning.specs.Requests as asks
+use Rattle.flow_meaning.specs.Evaluating.{Change, change_by}
+use Rattle.flow_meaning.specs.Evaluating as change
 use Rattle.flow_heap_refinement.specs.Holds.{hold, hold_all}
 use Rattle.flow_steps.specs.declared.call.Goal.{Goal}
 use Rattle.flow_steps.specs.declared.frames.ControlPoint.{ControlPoint}
@@ -50,8 +52,8 @@ use Rattle.flow_steps.specs.Delivering.{made, complete_at, sent_into, sending}
 use Rattle.flow_steps.specs.Points.{next_stand, noted_stand, noted, places_emptied, lost_from}
 use Rattle.flow_steps.specs.Waiting.{operand_kept, Registered, register_all, left_for, Takes, copied, popped, IsGive, TakesBranch, no_turn, takes_branch, KeepsOperand, kept_marked, kept_unready, kept_ready, Waits, waits_ready, waits_refused, waits_suspended}
 use Rattle.flow_steps.specs.Evaluating.{with_left, Evaluates, gives, throws, runs_out}
-use Rattle.flow_steps.specs.Acting.{Values, args_of, Enrols, EffectAsked, ActorCalled, not_called, actor_starts, EffectMade, EffectDone, PredefinedCalled, MethodCalled}
-use Rattle.flow_steps.specs.Stepping.{OnAfter, IsSet, made_in_place, IsNew, IsAct, IsMethod, MethodStep, Does, GoesOnAt, Passes, no_pass, pass_begins, IsTest, ReferenceKept, OperandStep, Chooses, asks_operand, all_kept, IsClose, IsReturn, ErrorThrown, Ends, StepsOn, by_instruction, by_last, Runs, runs_on, runs_off, GoesOn}
+use Rattle.flow_steps.specs.Acting.{Values, args_of, Enrols, EffectAsked, ActorCalled, not_called, actor_starts, VoidCalled, void_not_called, void_starts, EffectMade, EffectDone, PredefinedCalled, MethodCalled}
+use Rattle.flow_steps.specs.Stepping.{OnAfter, IsSet, made_in_place, IsNew, IsAct, IsCall, IsChanged, Grows, grown, is_full, IsChange, IsMethodBy, IsMethod, MethodStep, Does, GoesOnAt, Passes, no_pass, pass_begins, IsTest, ReferenceKept, OperandStep, Chooses, asks_operand, all_kept, IsClose, IsReturn, ErrorThrown, Ends, StepsOn, by_instruction, by_last, Runs, runs_on, runs_off, GoesOn}
 use Rattle.std.specs.Prelude.{ℤ, ◌-◌}
 use Rattle.flow_value.specs.declared.value.Value.TheVariants.{Ref, Int, rolls-Ref, rolls-Int}
 use Rattle.flow_value.specs.declared.value.Value.TheFolds.{fold-roll-Value}
@@ -142,6 +144,11 @@ actor_called code i g class vs m n (actor_starts t h) p =
     let enrolled = enrolled_good code class vs h.actor h.cell (turned m) h.enrolled h.enrols (turned_good m p) in
     good_is n _ h.starts.told (tt, gives_future g i h.cell h.enrolled h.given h.gives enrolled)
 
+void_called : (code : Code) (i : ActorId) (class : ℕ) (vs : List Value) (m n : Process) → VoidCalled code i class vs m n → NoPromiseStored m.heap → NoPromiseStored n.heap
+void_called code i class vs m n (void_not_called t e) p = good_is n (turned m) e (turned_good m p)
+void_called code i class vs m n (void_starts t h) p =
+    good_is n _ h.starts.told (tt, (tt, good_is h.enrolled _ h.enrols.made (holding_all (refs_in vs) (turned m).heap (turned_good m p))))
+
 effect_made : (code : Code) (i : ActorId) (g : Goal) (e : Effect) (args : Values) (m n : Process) → EffectMade code i g e args m n → NoPromiseStored m.heap → NoPromiseStored n.heap
 effect_made code i g (effect.World called) args m n h p = effect_asked i g _ m n h p
 effect_made code i g (effect.Actor class) args m n h p = actor_called code i g class args.items m n h p
@@ -174,9 +181,34 @@ method_called i called kind.PromiseStream k arg m n h p = good_is n _ h.sends (s
 method_called i called kind.Future k arg m n h p = good_is n _ h.1 (owner_good _ (doing (task.Run i) m) (tt, p))
 method_called i called kind.FutureStream k arg m n h p = absurd h
 
+call_is : (code : Code) (s : ControlPoint) (aim : Aim) (called : Method) (sent : Option Value) (m n : Process) (pace : Pace) → IsCall code s aim called sent m pace n → NoPromiseStored m.heap
+    → NoPromiseStored n.heap
+call_is code s aim called sent m n pace h p = method_called s.actor called h.kind h.cell sent (noted (next_stand s) m) n h.calls (noted_good (next_stand s) m p)
+
+-- a vector is changed in its place
+changed_good : (code : Code) (i : ActorId) (aim : Aim) (es new : ValueTrees) (m n : Process) (old : Option Value) → IsChanged code i aim es new m old n → NoPromiseStored m.heap
+    → NoPromiseStored n.heap
+changed_good code i aim es new m n old h p = good_is n _ h.assigns.put (putting i.0 aim.place h.assigns.root m.heap p)
+
+grows_good : (code : Code) (s : ControlPoint) (aim : Aim) (v : Value) (m n : Process) (pace : Pace) → Grows code s aim v m pace n → NoPromiseStored m.heap → NoPromiseStored n.heap
+grows_good code s aim v m n pace (grown es old q room h) p =
+    changed_good code s.actor aim es _ (on_heap (hold_all (value_refs v)) m) q old h (holding_all (value_refs v) m.heap p)
+grows_good code s aim v m n pace (is_full es q at full e) p = good_is q _ e (tt, noted_good s m p)
+
+change_good : (code : Code) (s : ControlPoint) (aim : Aim) (how : Change) (sent : Option Value) (m n : Process) (pace : Pace) → IsChange code s aim how sent m pace n → NoPromiseStored m.heap
+    → NoPromiseStored n.heap
+change_good code s aim change.Grows (Some v) m n pace h p = grows_good code s aim v m n pace h p
+change_good code s aim change.Grows None m n pace h p = absurd h
+change_good code s aim change.Clears sent m n pace h p =
+    left_over _ _ h.between n pace h.after (changed_good code s.actor aim h.elements NoValues m h.between h.old h.changed p)
+
 method_is : (code : Code) (s : ControlPoint) (aim : Aim) (called : Method) (sent : Option Value) (m n : Process) (pace : Pace) → IsMethod code s aim called sent m pace n → NoPromiseStored m.heap
     → NoPromiseStored n.heap
-method_is code s aim called sent m n pace h p = method_called s.actor called h.kind h.cell sent (noted (next_stand s) m) n h.calls (noted_good (next_stand s) m p)
+method_is code s aim called sent m n pace = by_change (change_by (Some called))
+  where
+    by_change : (o : Option Change) → IsMethodBy o code s aim called sent m pace n → NoPromiseStored m.heap → NoPromiseStored n.heap
+    by_change None h p = call_is code s aim called sent m n pace h p
+    by_change (Some how) h p = change_good code s aim how sent m n pace h p
 
 method_step : (code : Code) (s : ControlPoint) (aim : Aim) (called : Method) (es : List Resolved) (m n : Process) (pace : Pace) → MethodStep code s aim called es m pace n → NoPromiseStored m.heap
     → NoPromiseStored n.heap
@@ -186,6 +218,7 @@ method_step code s aim called (e ∷ f ∷ es) m n pace h p = absurd h
 
 act_is : (code : Code) (s : ControlPoint) (a : Act) (args : Values) (m n : Process) (pace : Pace) → IsAct code s a args m pace n → NoPromiseStored m.heap → NoPromiseStored n.heap
 act_is code s (act.World called) args m n pace h p = predefined_called s.actor called args (noted (next_stand s) m) n h.1 (noted_good (next_stand s) m p)
+act_is code s (act.Actor class) args m n pace h p = void_called code s.actor class args.items (noted (next_stand s) m) n h.1 (noted_good (next_stand s) m p)
 act_is code s (act.Function f) args m n pace h p = evaluates s value_of _ m n _ pace (λ v k n pace h p. good_is n k h.1 p) h p
 
 set_is : (code : Code) (s : ControlPoint) (aim : Aim) (v : Value) (m n : Process) (pace : Pace) → IsSet code s aim v m pace n → NoPromiseStored m.heap → NoPromiseStored n.heap

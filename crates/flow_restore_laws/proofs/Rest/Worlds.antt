@@ -57,12 +57,12 @@ module _ {A : Type 0} (puts : A → Line → Result (Unit {0}) OutFault → A �
       let begun = x.event.begun in
       let left = x.event.left in
       let ongoing = (same_end (Quiescent r) puts u v w b c k.shows).2 h in
-      let mid = burst_mid (classes r) w.out.ran (before begun) left x.event.follows (begun_mid (classes r) w.out.ran w begun refl k.keeps.times x.event.begins) in
+      let mid = burst_mid k.keeps.slack (classes r) w.out.ran (before begun) left x.event.follows (begun_mid k.keeps.slack (classes r) w.out.ran w begun refl k.keeps.times x.event.begins) in
       record {
         code = subst (IsProgram r) (sym (code_stays puts u v b c Rested h)) k.code;
         state = after w begun left;
         shows = x.shows;
-        keeps = lasting_stays r valid w begun left k.keeps x.event.begins x.event.follows x.rests;
+        keeps = (lasting_stays r valid w begun left k.keeps x.event.begins x.event.follows x.rests).0;
         on = subst (λ n. Onwards (classes r) states n (after w begun left)) (sym mid.ran) (next_on (classes r) states w.out.ran w begun left k.on ongoing x.event.begins x.event.follows x.rests);
       }
 
@@ -80,7 +80,7 @@ module _ {A : Type 0} (puts : A → Line → Result (Unit {0}) OutFault → A �
         code = code_first c file whole few first starts;
         state = at_start (seen file);
         shows = start_shown (Quiescent r) c file first (settled_first r) starts;
-        keeps = lasting_starts r (seen file) range;
+        keeps = (lasting_starts r (seen file) range).0;
         on = record { rest = run.later; lines = run.rest; runs = run.runs; left = run.from_start };
       } in
       let x = events_came puts r whole.valid states with_frames first v a b start goes in

@@ -207,7 +207,7 @@ module _ (r : RawTree) (whole : AreWhole r) (few : HaveFewerPlaces r) (f : file.
         let next = after w begun left in
         let ongoing = (same_end (Quiescent r) puts u v w b c h.shows).2 does in
         let kept = keeps_on (Quiescent r) (MemoryWorldInvariant r) (IsProgram r) r (upheld_stays r whole.valid) w begun left h.keeps shown.event.begins shown.event.follows shown.rests in
-        let mid = burst_mid (classes r) w.out.ran (before begun) left shown.event.follows (begun_mid (classes r) w.out.ran w begun refl h.keeps.0.lasting.times shown.event.begins) in
+        let mid = burst_mid h.keeps.0.lasting.slack (classes r) w.out.ran (before begun) left shown.event.follows (begun_mid h.keeps.0.lasting.slack (classes r) w.out.ran w begun refl h.keeps.0.lasting.times shown.event.begins) in
         let stays = code_stays puts u v b c Rested does in
         let text = ap (λ (x : Code). raw_of x.program) stays ∙ h.text in
         let views = seen_if (classes r) frame_spot with_frames next in

@@ -52,7 +52,7 @@ int_seen n = ap value_of (sym (rolls-Int n)) ∙ fold-roll-Value ValueTree value
 -- what comes out is what the definitions have
 as_booted : (p : Proc Frame) (class : ℕ) (f : Frame) (name : List ℕ)
     → on_core (writes (start_line (suc p.core.started) name)) (on_core (pushed (Run (suc p.core.started)))
-    (on_core (λ c. record c { main = Some (suc p.core.made) }) (with_actor class (suc p.core.made) f (on_core (new_cell (Single None [])) p))))
+    (on_core (λ c. record c { main = Some (suc p.core.made) }) (with_actor class (Some (suc p.core.made)) f (on_core (new_cell (Single None [])) p))))
     ≡ proc (record (enrol class name p.core) { main = Some (suc p.core.made) }) (added p.actors (suc p.core.started) f)
 as_booted p class f name = refl
 
@@ -80,8 +80,8 @@ module _ (r : RawTree) (ls : List Line) (x : Scan) (m : Process) (p : Proc Frame
         fits = may.fits;
       } in
       let en = enrolled_shown r ls x m p code class vs st.actor st.cell st.between s may2 (subst (λ c. Enrols code c vs st.actor st.cell m st.between) is_class st.enrols) in
-      let p3 = with_actor class st.cell.0 f (celled p may.cells) in
-      let enrolled : ProcessRepresents r ls x st.between p3 = subst (λ us. ProcessRepresents r ls x st.between (with_actor class st.cell.0 (begun may.tree us) (celled p may.cells))) seen en.shown in
+      let p3 = with_actor class (Some st.cell.0) f (celled p may.cells) in
+      let enrolled : ProcessRepresents r ls x st.between p3 = subst (λ us. ProcessRepresents r ls x st.between (with_actor class (Some st.cell.0) (begun may.tree us) (celled p may.cells))) seen en.shown in
       let future : There p3 (kind.Future, st.cell.0) =
       let t = new_there r ls x m p kind.Future may.cells in record { cell = t.cell; at = ap (thing (celled p may.cells).core.cells) en.cell ∙ t.at; right = t.right } in
       let held = ref_held r ls x st.between p3 (kind.Future, st.cell.0) enrolled future in
@@ -108,7 +108,7 @@ module _ (r : RawTree) (ls : List Line) (x : Scan) (m : Process) (p : Proc Frame
       subst (λ z. ProcessRepresents r ls x z (proc (record (enrol class may.tree.name p.core) { main = Some (suc p.core.made) }) (added p.actors (suc p.core.started) f))) (sym out)
       (subst (λ k. ProcessRepresents r ls x (telling (line.Start st.actor may.tree.name) (doing (task.Run st.actor) m4))
       (on_core (writes (start_line (suc p.core.started) may.tree.name))
-      (on_core (pushed (Run (suc p.core.started))) (on_core (λ c. record c { main = Some k }) (with_actor class k f (on_core (new_cell (Single None [])) p)))))) en.cell
+      (on_core (pushed (Run (suc p.core.started))) (on_core (λ c. record c { main = Some k }) (with_actor class (Some k) f (on_core (new_cell (Single None [])) p)))))) en.cell
       (subst (λ (a : ActorId). ProcessRepresents r ls x (telling (line.Start st.actor may.tree.name) (doing (task.Run st.actor) m4))
       (on_core (writes (line.Start a may.tree.name)) (on_core (pushed (Run a.0)) p4))) actor told))
 

@@ -5,22 +5,25 @@ use Rattle.flow_base.specs.declared.ids.ActorId.{ActorId}
 use Rattle.flow_ast.specs.declared.predefined.Predefined.{Predefined}
 use Rattle.flow_ast.specs.declared.predefined.Predefined.TheVariants as predefined
 use Rattle.flow_ast.specs.TypingNames.{named, call_names}
+use Rattle.flow_value.specs.declared.value.Value.{Value}
 use Rattle.flow_value.specs.Values.{ValueTree}
+use Rattle.std.specs.declared.option.Option.{Option}
 use Rattle.flow_eval.specs.Answers.{int_of, text_of, arg}
 use Rattle.flow_class.specs.Classes.{RawTree}
 use Rattle.flow_code.specs.declared.class.Act.TheVariants as act
 use Rattle.flow_trace.specs.declared.line.Line.{Line}
+use Rattle.flow_trace.specs.declared.line.Line.TheVariants as line
 use Rattle.flow_cancel.specs.Heap.{actor_id}
 use Rattle.flow_cancel.specs.declared.task.Task.TheVariants as task
 use Rattle.flow_meaning.specs.Requests as asks
 use Rattle.flow_meaning.specs.Requests.{Supply}
-use Rattle.flow_meaning.specs.Evaluating.{StepOf, bind, evaluated, done, plain_act, values, asks as asking_for}
+use Rattle.flow_meaning.specs.Evaluating.{StepOf, bind, evaluated, done, plain_act, function_act, started_act, values, asks as asking_for}
 use Rattle.flow_meaning.specs.Process.{Run, Entry, Proc}
 use Rattle.flow_meaning.specs.References.{Scan}
 use Rattle.flow_meaning.specs.Lines.{print_line}
 use Rattle.flow_meaning.specs.Work.{writes, pushed}
 use Rattle.flow_meaning.specs.React.{print}
-use Rattle.flow_meaning.specs.Step.{view, step, silent, run_next, proc, on_core}
+use Rattle.flow_meaning.specs.Step.{view, step, silent, start_alone, run_next, proc, on_core}
 use Rattle.flow_meaning.specs.Class.{fetched, next_step, class_names, classes}
 use Rattle.flow_meaning.specs.Frame.{Frame, look, next_instr}
 use Rattle.flow_heap_refinement.specs.Acting.{put_frame}
@@ -32,8 +35,10 @@ use Rattle.flow_steps.specs.declared.process.Process.{Process}
 use Rattle.flow_steps.specs.Doing.{doing, asking, telling}
 use Rattle.flow_steps.specs.Points.{noted, next_stand}
 use Rattle.flow_steps.specs.Evaluating.{with_left}
-use Rattle.flow_steps.specs.Acting.{Values, args_of, IsMessage, PredefinedCalled}
+use Rattle.flow_steps.specs.Acting.{Values, args_of, IsMessage, PredefinedCalled, VoidCalled, void_not_called, void_starts}
 use Rattle.flow_steps.specs.Stepping.{IsAct}
+use Rattle.flow_operation_refinement.specs.Stepped.{OnlyTells}
+use Rattle.flow_operation_refinement.proofs.Takings.{turned_asked}
 use Rattle.flow_operation_refinement.specs.Matching.{ProcessRepresents, shows, with_task}
 use Rattle.flow_operation_refinement.specs.Placing.{RepresentsActor}
 use Rattle.flow_operation_refinement.specs.Continuing.{MayBeStale}
@@ -45,8 +50,10 @@ use Rattle.flow_operation_refinement.proofs.Gone.{told_there, Stands}
 use Rattle.flow_operation_refinement.proofs.Carrying.{old, seen, may, noted_follows, with_turns, asked}
 use Rattle.flow_step_refinement.specs.Effects.Asking.{sends, resumed, Answered, by_itself, by_the_world, MayAsk}
 use Rattle.flow_step_refinement.specs.Effects.Calling as law
-use Rattle.flow_step_refinement.proofs.Effects.Answering.{line_told, evaluated_then, evaluation_at}
+use Rattle.flow_step_refinement.proofs.Effects.Answering.{nothing_told, line_told, evaluated_then, evaluation_at}
 use Rattle.flow_step_refinement.proofs.Effects.Effecting.{asks_the_world}
+use Rattle.flow_step_refinement.proofs.Effects.Starts.{may_resumed}
+use Rattle.flow_step_refinement.proofs.Effects.Starts.{void_starts as start_follows}
 
 -- an actor whose frame may be stale may ask
 pub may_ask : (r : RawTree) (ls : List Line) (m : Process) (p : Proc Frame) (i : ℕ) (e : Entry) (f : Frame) (x : Scan) (s : ControlPoint) → MayBeStale r ls x s m p i e f → m.asked ≡ None
@@ -152,4 +159,51 @@ module _ (r : RawTree) (ls : List Line) (m : Process) (p : Proc Frame) (i : ℕ)
           (by_called x s w st called name.name v.value v.left n none
           (subst (λ (a : ActorId). PredefinedCalled a called v.value (noted (next_stand s) (with_left v.left m)) n) st.standing.actor v.goes.1)
           (next_is ∙ ap (λ k. evaluated f k (onward x s w st called name.name)) v.done))
+      by_case (inr a) = a
+
+  -- how it goes on with the arguments of a void actor
+  abbrev starting : ℕ → List ValueTree → ℕ → StepOf Frame
+  starting class vs left = asking_for left (asks.Starts class vs) next
+
+  pub void_step : law.VoidStep r ls m p i e f
+  void_step x s w code name es class comes_to pace n st none there starts may same evaluates =
+      by_case (evaluation_at r ls m p i e f x s w args_of comes_to (starting class) (IsAct code s (act.Actor class)) pace n (may_ask r ls m p i e f x s st none) next_is evaluates)
+    where
+      next_is : next_step (class_names r) (view w i p.core) f ≡ evaluated f comes_to (starting class)
+      next_is =
+          ap (fetched (class_names r) (view w i p.core) f) there
+          ∙ evaluated_then f (values (class_names r) (view w i p.core) (look f.mem) es)
+          (λ vs left. plain_act (class_names r) (view w i p.core) (look f.mem) (named call_names name.name) name.name vs left) (λ a left. asking_for left a next)
+          ∙ ap (λ o. evaluated f (values (class_names r) (view w i p.core) (look f.mem) es)
+          (λ vs left. evaluated f (plain_act (class_names r) (view w i p.core) (look f.mem) o name.name vs left) (λ a left. asking_for left a next))) starts.own
+          ∙ ap (λ o. evaluated f (values (class_names r) (view w i p.core) (look f.mem) es)
+          (λ vs left. evaluated f (function_act (class_names r) (view w i p.core) (look f.mem) o name.name vs left) (λ a left. asking_for left a next))) starts.function
+          ∙ ap (λ o. evaluated f (values (class_names r) (view w i p.core) (look f.mem) es)
+          (λ vs left. evaluated f (started_act (class_names r) (view w i p.core) (look f.mem) o vs left) (λ a left. asking_for left a next))) starts.same
+          ∙ ap (λ k. evaluated f k (starting class)) (sym same)
+
+      silent_start : (o : Option Frame) (q : Proc Frame) → Some (start_alone (classes r) i class o q) ≡ Some (silent (start_alone (classes r) i class o q).0)
+      silent_start None q = refl
+      silent_start (Some a) q = refl
+
+      start_told : (k : Process) (caller : ActorId) (vs : List Value) (n : Process) → k.asked ≡ None → VoidCalled code caller class vs k n → OnlyTells n.asked
+      start_told k caller vs n none (void_not_called l q) = nothing_told n.asked (ap (λ (z : Process). z.asked) q ∙ turned_asked k ∙ none)
+      start_told k caller vs n none (void_starts l z) = line_told n.asked (line.Start z.actor z.starts.of.name) (ap (λ (z : Process). z.asked) z.starts.told)
+
+      by_case : GivesValue args_of comes_to m (IsAct code s (act.Actor class)) pace n ⊎ Answered r ls x w p i e pace n → Answered r ls x w p i e pace n
+      by_case (inl v) =
+          let left = v.left in
+          let us = args_of v.value in
+          let q : Proc Frame = resumed i next left p in
+          let k : Process = noted (next_stand s) (with_left left m) in
+          let here = next_stood x s left st in
+          let is = next_is ∙ ap (λ k. evaluated f k (starting class)) v.done in
+          let started = may_resumed r p code class us i next left (may us left v.done) in
+          subst (λ z. Answered r ls x w p i e z n) (sym v.goes.0)
+          (by_itself (record {
+            after = (start_alone (classes r) i class ((classes r).fresh class us) q).0;
+            steps = stepped x s w st left (asks.Starts class us) is ∙ silent_start ((classes r).fresh class us) q;
+            carries = start_follows r ls x k q code (actor_id i) class v.value.items e next n here.shown none here.acts started
+                (subst (λ (a : ActorId). VoidCalled code a class v.value.items k n) st.standing.actor v.goes.1);
+          }) (start_told k s.actor v.value.items n none v.goes.1))
       by_case (inr a) = a

@@ -11,17 +11,17 @@ use Rattle.flow_ast.specs.declared.predefined.Method.{Method}
 use Rattle.flow_ast.specs.TypingNames.{named, call_names, method_names}
 use Rattle.flow_ast.specs.Typing as typing
 use Rattle.flow_tree.specs.declared.ty.Ident.{Ident}
-use Rattle.flow_tree.specs.Tree.{ExprTree, ExprTrees, IntExpr, TextExpr, BoolExpr, VoidExpr, VarExpr, CallExpr, FieldExpr, MethodExpr, NotExpr, NegExpr, BinaryExpr, ParenExpr}
-use Rattle.flow_tree.specs.Decls.{RecordTree}
-use Rattle.flow_value.specs.declared.value.Kind.{Kind}
+use Rattle.flow_tree.specs.Tree.{TypeTree, PromiseType, PromiseStreamType, VectorType, ExprTree, ExprTrees, IntExpr, TextExpr, BoolExpr, VoidExpr, VarExpr, CallExpr, FieldExpr, MethodExpr, NotExpr, NegExpr, BinaryExpr, ParenExpr}
+use Rattle.flow_tree.specs.Decls.{RecordTree, RoutineTree}
 use Rattle.flow_value.specs.Values.{ValueTree, IntValue, BoolValue, TextValue, VoidValue, ErrorValue, CompositeValue, RefValue, at_place}
 use Rattle.flow_value.specs.View.{value_of}
 use Rattle.flow_eval.specs.Records.{field_place, field}
-use Rattle.flow_eval.specs.Functions.{read_in}
+use Rattle.flow_eval.specs.Functions.{read_in, routine_at}
 use Rattle.flow_class.specs.Classes.{SetInstr, EffectInstr, NewInstr, ActInstr, DropInstr, RawTree}
+use Rattle.flow_class.specs.Code.{type_at}
 use Rattle.flow_code.specs.Resolved.Named.{first_from}
 use Rattle.flow_code.specs.Resolved.Tree.{Node, Nodes}
-use Rattle.flow_code.specs.Resolved.Resolving.{IsNumbering, resolved, resolved_all, place_by}
+use Rattle.flow_code.specs.Resolved.Resolving.{AreFunctions, IsNumbering, resolved, resolved_all, place_by}
 use Rattle.flow_code.specs.Resolved.Evaluation.{numbered_field}
 use Rattle.flow_code.specs.Resolved.View.{places_in}
 use Rattle.flow_code.specs.declared.class.Act.{Act}
@@ -30,7 +30,7 @@ use Rattle.flow_code.specs.declared.class.Effect.{Effect}
 use Rattle.flow_code.specs.declared.class.Effect.TheVariants as effect
 use Rattle.flow_code.specs.Classes.{AimTree, InstructionTree, SetCode, EffectCode, NewCode, ActCode, MethodCode, DropCode, NoCode, EffectOperand}
 use Rattle.flow_code.specs.Coding as coding
-use Rattle.flow_code.specs.Coding.{Coding, one_more, fields_of, effect_named, effect_code, set_code, new_code, plain_code, method_code, operand_code, act_named, aimed, kind_at, coded_instruction, coded_operand}
+use Rattle.flow_code.specs.Coding.{Coding, one_more, fields_of, effect_named, effect_code, set_code, new_code, plain_code, method_code, operand_code, act_named, aimed, coded_instruction, coded_operand}
 use Rattle.flow_code.specs.Places.{place_of}
 use Rattle.flow_meaning.specs.Evaluating.{Effectful, World, Actor, world_if, effectful_of, effectful, bind}
 use Rattle.flow_meaning.specs.Evaluating as meaning
@@ -40,7 +40,7 @@ use Rattle.flow_steps.specs.Points.{Numbering, field_path, place_held}
 use Rattle.flow_operation_refinement.proofs.Places.{place_seen}
 use Rattle.flow_step_refinement.specs.Effects.Effects.{SameEffect}
 use Rattle.flow_step_refinement.specs.Effects.Texts as law
-use Rattle.flow_step_refinement.specs.Effects.Texts.{EffectText, NamesClasses, EffectInstruction, CallText, MethodText}
+use Rattle.flow_step_refinement.specs.Effects.Texts.{EffectText, NamesClasses, EffectInstruction, CallText, VoidText, MethodText}
 
 -- both say the same of which predefined calls have an effect
 effect_same : (p : Predefined) → coding.is_effect p ≡ typing.is_effect p
@@ -152,10 +152,14 @@ effect_shape None f = inr refl
 effect_shape (Some a) None = inr refl
 effect_shape (Some a) (Some f) = inl refl
 
-new_shape : (n : Option ℕ) (k : Option Kind) → Either (shape (new_code n k)) Makes
-new_shape None k = inr refl
-new_shape (Some n) None = inr refl
-new_shape (Some n) (Some k) = inl refl
+-- `new` makes a cell, or puts the empty vector in place
+new_apart : (t : Shape) (n : Option ℕ) (u : Option TypeTree) → (Makes ≡ t → ⊥) → (Sets ≡ t → ⊥) → (Nothing ≡ t → ⊥) → shape (new_code n u) ≡ t → ⊥
+new_apart t None u makes sets none e = none e
+new_apart t (Some n) None makes sets none e = none e
+new_apart t (Some n) (Some (PromiseType u)) makes sets none e = makes e
+new_apart t (Some n) (Some (PromiseStreamType u)) makes sets none e = makes e
+new_apart t (Some n) (Some (VectorType u)) makes sets none e = sets e
+new_apart t (Some n) (Some u) makes sets none e = none e
 
 plain_shape : (f : Option Act) (es : Nodes) → Either (shape (plain_code f es)) Calls
 plain_shape None es = inr refl
@@ -189,12 +193,11 @@ effect_coded r c k (EffectInstr xs t) aim eff args names e = by_parts (aimed c x
         }
 effect_coded r c k (SetInstr xs t) aim eff args names e = absurd (apart (EffectCode aim eff args) (set_code (aimed c xs) (resolved c.names t)) Sets e (set_shape (aimed c xs) (resolved c.names t))
     (λ a. cc (a)) (λ a. cc (a)))
-effect_coded r c k (NewInstr q) aim eff args names e = absurd (apart (EffectCode aim eff args) (new_code (place_of c.slots q) (kind_at k q)) Makes e (new_shape (place_of c.slots q) (kind_at k q))
-    (λ a. cc (a)) (λ a. cc (a)))
+effect_coded r c k (NewInstr q) aim eff args names e = absurd (new_apart Affects (place_of c.slots q) (type_at k q) (λ a. cc (a)) (λ a. cc (a)) (λ a. cc (a)) (sym (ap shape e)))
 effect_coded r c k (ActInstr [] es) aim eff args names e = absurd (cc (e))
 effect_coded r c k (ActInstr (x ∷ []) es) aim eff args names e =
-    absurd (apart (EffectCode aim eff args) (plain_code (act_named (named call_names x.name) (c.names.function x.name)) (resolved_all c.names es)) Calls e
-    (plain_shape (act_named (named call_names x.name) (c.names.function x.name)) (resolved_all c.names es)) (λ a. cc (a)) (λ a. cc (a)))
+    absurd (apart (EffectCode aim eff args) (plain_code (act_named (named call_names x.name) (c.names.function x.name) (c.class x.name)) (resolved_all c.names es)) Calls e
+    (plain_shape (act_named (named call_names x.name) (c.names.function x.name) (c.class x.name)) (resolved_all c.names es)) (λ a. cc (a)) (λ a. cc (a)))
 effect_coded r c k (ActInstr (x ∷ y ∷ ys) es) aim eff args names e =
     absurd (apart (EffectCode aim eff args) (coding.coded_method c (x ∷ coding.before_last y ys) (coding.last_name y ys).name (resolved_all c.names es)) CallsMethod e
     (method_shape (aimed c (x ∷ coding.before_last y ys)) (named method_names (coding.last_name y ys).name) (resolved_all c.names es)) (λ a. cc (a)) (λ a. cc (a)))
@@ -212,17 +215,18 @@ operand_coded r c t eff args names e = by_effect (coding.effect_in c t) refl e
 pub call_coded : law.CallCoded
 call_coded c k (ActInstr (x ∷ []) es) called args e = by_name (named call_names x.name) refl e
   where
-    by_name : (o : Option Predefined) → named call_names x.name ≡ o → ActCode (act.World called) args ≡ plain_code (act_named o (c.names.function x.name)) (resolved_all c.names es)
+    by_name : (o : Option Predefined) → named call_names x.name ≡ o → ActCode (act.World called) args ≡ plain_code (act_named o (c.names.function x.name) (c.class x.name)) (resolved_all c.names es)
         → CallText c (ActInstr (x ∷ []) es) called args
     by_name (Some z) a g =
         let same : z ≡ called = let b : ActCode (act.World called) args ≡ ActCode (act.World z) (resolved_all c.names es) = g in cc (b) in
         let with_args : args ≡ resolved_all c.names es = let b : ActCode (act.World called) args ≡ ActCode (act.World z) (resolved_all c.names es) = g in cc (b) in
         record { name = x; exprs = es; is = refl; named = a ∙ ap Some same; resolved = with_args }
-    by_name None a g = by_function (c.names.function x.name) g
+    by_name None a g = by_own (c.names.function x.name) (c.class x.name) g
       where
-        by_function : (o : Option ℕ) → ActCode (act.World called) args ≡ plain_code (option_map act.Function o) (resolved_all c.names es) → CallText c (ActInstr (x ∷ []) es) called args
-        by_function None g = absurd (cc (g))
-        by_function (Some n) g = absurd (cc (g))
+        by_own : (o z : Option ℕ) → ActCode (act.World called) args ≡ plain_code (act_named None o z) (resolved_all c.names es) → CallText c (ActInstr (x ∷ []) es) called args
+        by_own None None g = absurd (cc (g))
+        by_own None (Some n) g = absurd (cc (g))
+        by_own (Some n) z g = absurd (cc (g))
 call_coded c k (ActInstr [] es) called args e = absurd (cc (e))
 call_coded c k (ActInstr (x ∷ y ∷ ys) es) called args e =
     absurd (apart (ActCode (act.World called) args) (coding.coded_method c (x ∷ coding.before_last y ys) (coding.last_name y ys).name (resolved_all c.names es)) CallsMethod e
@@ -231,9 +235,50 @@ call_coded c k (SetInstr xs t) called args e = absurd (apart (ActCode (act.World
     (λ a. cc (a)) (λ a. cc (a)))
 call_coded c k (EffectInstr xs t) called args e = absurd (apart (ActCode (act.World called) args) (effect_code (aimed c xs) (coding.effect_in c t)) Affects e
     (effect_shape (aimed c xs) (coding.effect_in c t)) (λ a. cc (a)) (λ a. cc (a)))
-call_coded c k (NewInstr q) called args e = absurd (apart (ActCode (act.World called) args) (new_code (place_of c.slots q) (kind_at k q)) Makes e (new_shape (place_of c.slots q) (kind_at k q))
-    (λ a. cc (a)) (λ a. cc (a)))
+call_coded c k (NewInstr q) called args e = absurd (new_apart Calls (place_of c.slots q) (type_at k q) (λ a. cc (a)) (λ a. cc (a)) (λ a. cc (a)) (sym (ap shape e)))
 call_coded c k (DropInstr ns) called args e = absurd (cc (e))
+
+-- a name that has no number is that of no function
+no_function : (fs : List RoutineTree) (function : List ℕ → Option ℕ) (x : List ℕ) → AreFunctions fs function → function x ≡ None → typing.routine_named fs x ≡ None
+no_function fs function x are e = (are x).0 ∙ ap (routine_at fs) e
+
+pub void_coded : law.VoidCoded
+void_coded r c k (ActInstr (x ∷ []) es) class args names are e = by_name (named call_names x.name) refl e
+  where
+    by_name : (o : Option Predefined) → named call_names x.name ≡ o → ActCode (act.Actor class) args ≡ plain_code (act_named o (c.names.function x.name) (c.class x.name)) (resolved_all c.names es)
+        → VoidText r c (ActInstr (x ∷ []) es) class args
+    by_name (Some z) a g = absurd (cc (g))
+    by_name None a g = by_own (c.names.function x.name) refl (c.class x.name) refl g
+      where
+        by_own : (o : Option ℕ) → c.names.function x.name ≡ o → (z : Option ℕ) → c.class x.name ≡ z
+            → ActCode (act.Actor class) args ≡ plain_code (act_named None o z) (resolved_all c.names es) → VoidText r c (ActInstr (x ∷ []) es) class args
+        by_own None b None d g = absurd (cc (g))
+        by_own (Some n) b z d g = absurd (cc (g))
+        by_own None b (Some n) d g =
+            let whole : ActCode (act.Actor class) args ≡ ActCode (act.Actor n) (resolved_all c.names es) = g in
+            let number : n ≡ class = cc (whole) in
+            let with_args : args ≡ resolved_all c.names es = cc (whole) in record {
+              name = x;
+              exprs = es;
+              is = refl;
+              starts = record {
+                own = a;
+                function = no_function r.functions c.names.function x.name are b;
+                same = sym (first_at x.name (class_names r).actors) ∙ sym (names x.name) ∙ d ∙ ap Some number;
+              };
+              resolved = with_args;
+            }
+void_coded r c k (ActInstr [] es) class args names are e = absurd (cc (e))
+void_coded r c k (ActInstr (x ∷ y ∷ ys) es) class args names are e =
+    absurd (apart (ActCode (act.Actor class) args) (coding.coded_method c (x ∷ coding.before_last y ys) (coding.last_name y ys).name (resolved_all c.names es)) CallsMethod e
+    (method_shape (aimed c (x ∷ coding.before_last y ys)) (named method_names (coding.last_name y ys).name) (resolved_all c.names es)) (λ a. cc (a)) (λ a. cc (a)))
+void_coded r c k (SetInstr xs t) class args names are e = absurd (apart (ActCode (act.Actor class) args) (set_code (aimed c xs) (resolved c.names t)) Sets e
+    (set_shape (aimed c xs) (resolved c.names t)) (λ a. cc (a)) (λ a. cc (a)))
+void_coded r c k (EffectInstr xs t) class args names are e = absurd (apart (ActCode (act.Actor class) args) (effect_code (aimed c xs) (coding.effect_in c t)) Affects e
+    (effect_shape (aimed c xs) (coding.effect_in c t)) (λ a. cc (a)) (λ a. cc (a)))
+void_coded r c k (NewInstr q) class args names are e =
+    absurd (new_apart Calls (place_of c.slots q) (type_at k q) (λ a. cc (a)) (λ a. cc (a)) (λ a. cc (a)) (sym (ap shape e)))
+void_coded r c k (DropInstr ns) class args names are e = absurd (cc (e))
 
 -- both take paths apart alike
 pub before_same : (y : Ident) (ys : List Ident) → coding.before_last y ys ≡ meaning.before_last y ys
@@ -268,14 +313,13 @@ method_coded c k (ActInstr (x ∷ y ∷ ys) es) aim called args e = by_parts (ai
         }
 method_coded c k (ActInstr [] es) aim called args e = absurd (cc (e))
 method_coded c k (ActInstr (x ∷ []) es) aim called args e =
-    absurd (apart (MethodCode aim called args) (plain_code (act_named (named call_names x.name) (c.names.function x.name)) (resolved_all c.names es)) Calls e
-    (plain_shape (act_named (named call_names x.name) (c.names.function x.name)) (resolved_all c.names es)) (λ a. cc (a)) (λ a. cc (a)))
+    absurd (apart (MethodCode aim called args) (plain_code (act_named (named call_names x.name) (c.names.function x.name) (c.class x.name)) (resolved_all c.names es)) Calls e
+    (plain_shape (act_named (named call_names x.name) (c.names.function x.name) (c.class x.name)) (resolved_all c.names es)) (λ a. cc (a)) (λ a. cc (a)))
 method_coded c k (SetInstr xs t) aim called args e = absurd (apart (MethodCode aim called args) (set_code (aimed c xs) (resolved c.names t)) Sets e (set_shape (aimed c xs) (resolved c.names t))
     (λ a. cc (a)) (λ a. cc (a)))
 method_coded c k (EffectInstr xs t) aim called args e = absurd (apart (MethodCode aim called args) (effect_code (aimed c xs) (coding.effect_in c t)) Affects e
     (effect_shape (aimed c xs) (coding.effect_in c t)) (λ a. cc (a)) (λ a. cc (a)))
-method_coded c k (NewInstr q) aim called args e = absurd (apart (MethodCode aim called args) (new_code (place_of c.slots q) (kind_at k q)) Makes e (new_shape (place_of c.slots q) (kind_at k q))
-    (λ a. cc (a)) (λ a. cc (a)))
+method_coded c k (NewInstr q) aim called args e = absurd (new_apart CallsMethod (place_of c.slots q) (type_at k q) (λ a. cc (a)) (λ a. cc (a)) (λ a. cc (a)) (sym (ap shape e)))
 method_coded c k (DropInstr ns) aim called args e = absurd (cc (e))
 
 -- A field by the number of its name is the field of its name.

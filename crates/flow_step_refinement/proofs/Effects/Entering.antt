@@ -16,17 +16,17 @@ use Rattle.flow_cell.specs.Cells.{CellTree}
 use Rattle.flow_frame.specs.Frames.{padded, holding}
 use Rattle.flow_cancel.specs.Heap.{HeapTree, cell_id, next_actor, with_new, new_note, started_holding}
 use Rattle.flow_numbered.specs.Numbered.{thing, added}
-use Rattle.flow_meaning.specs.Cells.{Side}
+use Rattle.flow_meaning.specs.Cells.{Side, PromiseSide}
 use Rattle.flow_meaning.specs.Requests.{Spot}
 use Rattle.flow_meaning.specs.Process.{Entry, Proc}
-use Rattle.flow_meaning.specs.References.{Scan, count, refs_in}
+use Rattle.flow_meaning.specs.References.{Scan, count, count_maybe, refs_in}
 use Rattle.flow_meaning.specs.Orderly.{Rising}
 use Rattle.flow_meaning.specs.Step.{kept_by, entry_of}
 use Rattle.flow_meaning.specs.Views.{spot_at}
 use Rattle.flow_meaning.specs.Class.{begun}
 use Rattle.flow_meaning.specs.Frame.{Frame, blanks}
 use Rattle.flow_meaning.proofs.Posture.{thing_added}
-use Rattle.flow_heap_refinement.specs.Representing.{Represents, OneActor, stands, here, wait_spot, spot_of_actor}
+use Rattle.flow_heap_refinement.specs.Representing.{cell_number, Represents, OneActor, stands, here, wait_spot, spot_of_actor}
 use Rattle.flow_heap_refinement.specs.Acting.{Free, with_actor}
 use Rattle.flow_heap_refinement.specs.References.{frame_holds}
 use Rattle.flow_heap_refinement.specs.Holds.{with_refs, hold}
@@ -91,10 +91,10 @@ begun_holds s j c us =
     let d = args_held s j us (drop c.params c.slots) in omega (arith, a, b, d)
 
 -- memory with one actor more
-abbrev entered : (class places k : ℕ) → List Value → HeapTree → HeapTree
-entered class places k vs h = record h {
+abbrev entered : (class places : ℕ) (result : Option ℕ) → List Value → HeapTree → HeapTree
+entered class places result vs h = record h {
   frames = with_new h.frames (next_actor h) (holding class places (some_values vs));
-  actors = with_new h.actors (next_actor h) (new_note (Some (cell_id k)));
+  actors = with_new h.actors (next_actor h) (new_note (option_map cell_id result));
 }
 
 module _ (r : RawTree) (h : HeapTree) (p : Proc Frame) where
@@ -104,12 +104,16 @@ module _ (r : RawTree) (h : HeapTree) (p : Proc Frame) where
   abbrev kept : ℕ → ℕ
   kept i = kept_by (thing p.core.entries i)
 
-  new_actor : (class places k : ℕ) (c : ClassTree) (vs : List Value) → slice_get r.classes class ≡ Some c → places ≡ length c.slots + length c.locals → length vs ≤ length c.slots
+  numbered : (o : Option ℕ) → o ≡ option_map cell_number (option_map cell_id o)
+  numbered None = refl
+  numbered (Some k) = refl
+
+  new_actor : (class places : ℕ) (result : Option ℕ) (c : ClassTree) (vs : List Value) → slice_get r.classes class ≡ Some c → places ≡ length c.slots + length c.locals → length vs ≤ length c.slots
       → length vs ≡ c.params
-      → OneActor r (new_note (Some (cell_id k))) (holding class places (some_values vs)) (entry_of class k) (begun c (map value_of vs))
-  new_actor class places k c vs e n l taken = record {
+      → OneActor r (new_note (option_map cell_id result)) (holding class places (some_values vs)) (entry_of class result) (begun c (map value_of vs))
+  new_actor class places result c vs e n l taken = record {
     class = refl;
-    result = refl;
+    result = numbered result;
     marked = refl;
     frame = stands (record {
       code = e;
@@ -130,19 +134,19 @@ module _ (r : RawTree) (h : HeapTree) (p : Proc Frame) where
   next_number : (a b c d : ℕ) → c ≡ suc (max a b) → c ≡ suc d → suc (max c c) ≡ suc (suc d)
   next_number a b c d e f = grind arith
 
-  entered_shown : (class places k : ℕ) (c : ClassTree) (vs : List Value) → Represents r h p → slice_get r.classes class ≡ Some c → places ≡ length c.slots + length c.locals
+  entered_shown : (class places : ℕ) (result : Option ℕ) (c : ClassTree) (vs : List Value) → Represents r h p → slice_get r.classes class ≡ Some c → places ≡ length c.slots + length c.locals
       → length vs ≤ length c.slots → length vs ≡ c.params → Rising 0 p.core.started p.core.entries → Free (suc p.core.started) p.core
-      → Represents r (entered class places k vs h) (with_actor class k (begun c (map value_of vs)) p)
-  entered_shown class places k c vs s e n l taken rising free =
+      → Represents r (entered class places result vs h) (with_actor class result (begun c (map value_of vs)) p)
+  entered_shown class places result c vs s e n l taken rising free =
       let i = suc p.core.started in
       let f = begun c (map value_of vs) in
-      let g = entry_of class k in record {
+      let g = entry_of class result in record {
         cells = cells_aside spots (spot_of_actor (added p.actors i f)) i (λ j d. (other_new g f j d).0) h.cells.things h.streams.things p.core.cells free.waits s.cells;
-        actors = subst (λ x. ActorsRepresent r (stored.added h.actors.things x (new_note (Some (cell_id k)))) (stored.added h.frames.things x (holding class places (some_values vs)))
+        actors = subst (λ x. ActorsRepresent r (stored.added h.actors.things x (new_note (option_map cell_id result))) (stored.added h.frames.things x (holding class places (some_values vs)))
             (added p.core.entries i g) (added p.actors i f)) (sym s.started)
-            (actor_added r h.actors.things h.frames.things p.core.entries p.actors s.actors i (none_above p.core.entries 0 p.core.started i rising (omega arith)) (new_note (Some (cell_id k)))
+            (actor_added r h.actors.things h.frames.things p.core.entries p.actors s.actors i (none_above p.core.entries 0 p.core.started i rising (omega arith)) (new_note (option_map cell_id result))
             (holding class places (some_values vs)) g f
-            (new_actor class places k c vs e n l taken));
+            (new_actor class places result c vs e n l taken));
         tasks = tasks_aside spots (spot_of_actor (added p.actors i f)) kept (λ j. kept_by (thing (added p.core.entries i g) j)) i (other_new g f) h.tasks p.core.tasks free.keeps s.tasks;
         made = s.made;
         started = next_number h.actors.greatest h.frames.greatest (next_actor h) p.core.started refl s.started;
@@ -151,24 +155,36 @@ module _ (r : RawTree) (h : HeapTree) (p : Proc Frame) where
         requests = s.requests;
       }
 
--- the promise of its result counts
+-- the promise of its result counts, where it has one
 held_first : (class places k : ℕ) (vs : List Value) (h : HeapTree) (o : Option (CellTree Outcome)) → stored.thing h.cells.things k ≡ o
-    → entered class places k vs (hold kind.Promise k h) ≡ started_holding class places (some_values vs) (Some (cell_id k)) h
+    → entered class places (Some k) vs (hold kind.Promise k h) ≡ started_holding class places (some_values vs) (Some (cell_id k)) h
 held_first class places k vs h None e = cc (e)
 held_first class places k vs h (Some m) e = cc (e)
 
 module _ (r : RawTree) (ls : List Line) (x : Scan) (m : Process) (p : Proc Frame) where
-  pub actor_holds : law.ActorHolds r ls x m p
-  actor_holds class places k c vs s e n l taken rising free there =
+  -- an actor comes, with its arguments and its result from hand
+  came_in : (y : Scan) (class places : ℕ) (result : Option ℕ) (c : ClassTree) (vs : List Value) → ProcessRepresents r ls y m p → slice_get r.classes class ≡ Some c
+      → places ≡ length c.slots + length c.locals → length vs ≤ length c.slots → length vs ≡ c.params → Rising 0 p.core.started p.core.entries → Free (suc p.core.started) p.core
+      → ((z : Side) (j : ℕ) → y z j ≡ count_maybe z j PromiseSide result + count z j (refs_in (map value_of vs)) + x z j)
+      → ProcessRepresents r ls x (on_heap (entered class places result vs) m) (with_actor class result (begun c (map value_of vs)) p)
+  came_in y class places result c vs s e n l taken rising free hand =
       let us = map value_of vs in
-      let held = ref_held r ls (with_refs (refs_in us) x) m p (kind.Promise, k) s there in
-      let g = hold kind.Promise k m.heap in
-      subst (λ z. ProcessRepresents r ls x (record m { heap = z }) (with_actor class k (begun c us) p)) (held_first class places k vs m.heap (stored.thing m.heap.cells.things k) refl)
-      (changed r ls (with_refs ((kind.Promise, k) ∷ []) (with_refs (refs_in us) x)) x (on_heap (hold kind.Promise k) m) p (with_actor class k (begun c us) p) (entered class places k vs g) held
+      changed r ls y x m p (with_actor class result (begun c us) p) (entered class places result vs m.heap) s
       (record {
-        shows = entered_shown r g p class places k c vs held.holds.shows e n l taken rising free;
+        shows = entered_shown r m.heap p class places result c vs s.holds.shows e n l taken rising free;
         counted = λ z j.
-            let a = of_new_actor p z j (suc p.core.started) (entry_of class k) (begun c us) in
+            let a = of_new_actor p z j (suc p.core.started) (entry_of class result) (begun c us) in
             let b = begun_holds z j c us in
-            let d = held.holds.counted z j in omega (arith, a, b, d);
-      }) refl refl refl)
+            let g = hand z j in
+            let d = s.holds.counted z j in omega (arith, a, b, d, g);
+      }) refl refl refl
+
+module _ (r : RawTree) (ls : List Line) (x : Scan) (m : Process) (p : Proc Frame) where
+  pub actor_holds : law.ActorHolds r ls x m p
+  actor_holds class places None c vs s e n l taken rising free there =
+      came_in r ls x m p (with_refs (refs_in (map value_of vs)) x) class places None c vs s e n l taken rising free (λ z j. omega arith)
+  actor_holds class places (Some k) c vs s e n l taken rising free there =
+      let held = ref_held r ls (with_refs (refs_in (map value_of vs)) x) m p (kind.Promise, k) s (there k refl) in
+      subst (λ z. ProcessRepresents r ls x (record m { heap = z }) (with_actor class (Some k) (begun c (map value_of vs)) p)) (held_first class places k vs m.heap (stored.thing m.heap.cells.things k) refl)
+      (came_in r ls x (on_heap (hold kind.Promise k) m) p (with_refs ((kind.Promise, k) ∷ []) (with_refs (refs_in (map value_of vs)) x)) class places (Some k) c vs held e n l taken rising free
+      (λ z j. omega arith))

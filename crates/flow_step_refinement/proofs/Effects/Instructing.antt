@@ -1,6 +1,6 @@
 -- What the code has an actor do by an effect or a call statement is a step of the class machine.
 use Rattle.std.proofs.Common.{◌≡◌, ℕ, List, [], ◌∷◌, length, refl, ap, ◌∙◌, subst}
-use Rattle.std.specs.declared.option.Option.TheVariants.{Some}
+use Rattle.std.specs.declared.option.Option.TheVariants.{Some, None}
 use Rattle.flow_base.specs.declared.ids.ActorId.{ActorId}
 use Rattle.flow_ast.specs.TypingNames.{named, method_names}
 use Rattle.flow_tree.specs.declared.ty.Ident.{Ident}
@@ -32,7 +32,7 @@ use Rattle.flow_steps.specs.declared.frames.ControlPoint.{ControlPoint}
 use Rattle.flow_steps.specs.declared.process.Process.{Process}
 use Rattle.flow_steps.specs.Evaluating.{sight_in, Evaluates}
 use Rattle.flow_steps.specs.Acting.{args_of, EffectDone}
-use Rattle.flow_steps.specs.Stepping.{MethodStep, IsAct, IsMethodOf}
+use Rattle.flow_steps.specs.Stepping.{value_for, MethodStep, IsAct, IsCall, IsMethodBy}
 use Rattle.flow_operation_refinement.specs.Seeing.{IsCodeOf}
 use Rattle.flow_operation_refinement.specs.Continuing.{MayBeStale}
 use Rattle.flow_operation_refinement.proofs.Seen.{expr_follows}
@@ -42,9 +42,9 @@ use Rattle.flow_step_refinement.specs.Effects.Asking.{Answered}
 use Rattle.flow_step_refinement.specs.Effects.Instructed as law
 use Rattle.flow_step_refinement.specs.Effects.Instructed.{Judged, MethodMay}
 use Rattle.flow_step_refinement.proofs.Effects.Effecting.{effect_step, effect_operand_step}
-use Rattle.flow_step_refinement.proofs.Effects.Calls.{predefined_step}
+use Rattle.flow_step_refinement.proofs.Effects.Calls.{predefined_step, void_step}
 use Rattle.flow_step_refinement.proofs.Effects.Methods.{method_step, method_of_step}
-use Rattle.flow_step_refinement.proofs.Effects.Decoded.{effect_coded, operand_coded, call_coded, method_coded}
+use Rattle.flow_step_refinement.proofs.Effects.Decoded.{effect_coded, operand_coded, call_coded, void_coded, method_coded}
 
 module _ (r : RawTree) (ls : List Line) (m : Process) (p : Proc Frame) (i : ℕ) (e : Entry) (f : Frame) where
   -- what the frame's class is coded by
@@ -95,19 +95,28 @@ module _ (r : RawTree) (ls : List Line) (m : Process) (p : Proc Frame) (i : ℕ)
       predefined_step r ls m p i e f x s w code of.name of.exprs called comes_to pace n st none (from.fetched ∙ ap Body of.is) of.named refl
       (subst (λ k. Evaluates s args_of k m (IsAct code s (act.World called)) pace n) (args_seen x s w code st j args.items of.exprs of.resolved) does)
 
+  pub void_does : law.VoidDoes r ls m p i e f
+  void_does x s w code class args text pace n st none j from may does =
+      let of = void_coded r (by j.is) f.code text class (nodes_of args.items) j.is.coded.are_classes j.is.coded.are_functions from.coded in
+      let comes_to : Res (List ValueTree) = values (class_names r) (view w i p.core) (look f.mem) of.exprs in
+      void_step r ls m p i e f x s w code of.name of.exprs class comes_to pace n st none (from.fetched ∙ ap Body of.is) of.starts (may of.name of.exprs of.is of.starts) refl
+      (subst (λ k. Evaluates s args_of k m (IsAct code s (act.Actor class)) pace n) (args_seen x s w code st j args.items of.exprs of.resolved) does)
+
   pub method_does : law.MethodDoes r ls m p i e f
-  method_does x s w code aim called args text pace n st may j from will does =
+  method_does x s w code aim called args text pace n st may j from changes will does =
       let of = method_coded (by j.is) f.code text (aim_of aim) called (nodes_of args.items) from.coded in
       by_args of.root of.second of.others args.items of.exprs of.resolved of.is of.named does
     where
       by_args : (y z : Ident) (ys : List Ident) (items : List Resolved) (es : ExprTrees) → nodes_of items ≡ resolved_all (by j.is).names es → text ≡ ActInstr (y ∷ z ∷ ys) es
           → named method_names (last_of z ys).name ≡ Some called → MethodStep code s aim called items m pace n → Answered r ls x w p i e pace n
-      by_args y z ys [] NoExprs is text_is name d = method_step r ls m p i e f x s w code y z ys aim called pace n st may (from.fetched ∙ ap Body text_is) name (will.aims y z ys NoExprs text_is) d
+      by_args y z ys [] NoExprs is text_is name d = method_step r ls m p i e f x s w code y z ys aim called pace n st may (from.fetched ∙ ap Body text_is) name changes (will.aims y z ys NoExprs text_is)
+          (subst (λ o. IsMethodBy o code s aim called None m pace n) changes d)
       by_args y z ys (a ∷ []) (MoreExprs t NoExprs) is text_is name d =
           let one : node_of a ≡ resolved (by j.is).names t = cc (is) in
-          method_of_step r ls m p i e f x s w code y z ys t aim called (value (class_names r) (view w i p.core) (look f.mem) t) pace n st may (from.fetched ∙ ap Body text_is) name
+          method_of_step r ls m p i e f x s w code y z ys t aim called (value (class_names r) (view w i p.core) (look f.mem) t) pace n st may (from.fetched ∙ ap Body text_is) name changes
           (will.aims y z ys (MoreExprs t NoExprs) text_is) (λ v left h. will.there (y ∷ z ∷ ys) t v left text_is h) refl
-          (subst (λ k. Evaluates s value_of k m (IsMethodOf code s aim called) pace n) (expr_seen x s w code st j a t one) d)
+          (subst (λ k. Evaluates s value_of k m (λ v. IsCall code s aim called (Some v)) pace n) (expr_seen x s w code st j a t one)
+          (subst (λ o. Evaluates s value_of (value_for code s.actor.0 a m) m (λ v. IsMethodBy o code s aim called (Some v)) pace n) changes d))
       by_args y z ys [] (MoreExprs t es) is text_is name d = absurd (cc (is))
       by_args y z ys (a ∷ []) NoExprs is text_is name d = absurd (cc (is))
       by_args y z ys (a ∷ []) (MoreExprs t (MoreExprs u es)) is text_is name d = absurd (cc (is))

@@ -37,13 +37,13 @@ use Rattle.flow_numbered.specs.Numbered.{thing}
 use Rattle.flow_meaning.specs.Cells.{Side, PromiseSide, Ref}
 use Rattle.flow_meaning.specs.Requests as asks
 use Rattle.flow_meaning.specs.Requests.{Supply}
-use Rattle.flow_meaning.specs.Evaluating.{StepOf, evaluated, done, sent, cancelled, method_act, based_act, value, values, asks as asking_for, last_of}
+use Rattle.flow_meaning.specs.Evaluating.{StepOf, evaluated, done, sent, cancelled, method_act, based_act, change_by, call_by, value, values, asks as asking_for, last_of}
 use Rattle.flow_meaning.specs.Process.{Run, Entry, Proc}
 use Rattle.flow_meaning.specs.References.{Scan, refs_in, value_in}
 use Rattle.flow_meaning.specs.Work.{pushed, owner, cancel_owner}
 use Rattle.flow_meaning.specs.React.{send_in}
 use Rattle.flow_meaning.specs.Step.{view, on_core}
-use Rattle.flow_meaning.specs.Class.{fetched, next_step, class_names}
+use Rattle.flow_meaning.specs.Class.{fetched, next_step, class_names, put_path}
 use Rattle.flow_meaning.specs.Frame.{Frame, look}
 use Rattle.flow_heap_refinement.specs.Counted.{references}
 use Rattle.flow_heap_refinement.specs.Rested.{Sorted}
@@ -59,7 +59,7 @@ use Rattle.flow_steps.specs.Delivering.{gone_to, complete_at, sent_into, sending
 use Rattle.flow_steps.specs.Points.{reframed, noted, next_stand, place_held, field_path, values as given_values}
 use Rattle.flow_steps.specs.Evaluating.{with_left}
 use Rattle.flow_steps.specs.Acting.{Sends, MethodCalled}
-use Rattle.flow_steps.specs.Stepping.{IsMethod, IsMethodOf}
+use Rattle.flow_steps.specs.Stepping.{IsCall}
 use Rattle.flow_operation_refinement.specs.Stepped.{OnlyTells}
 use Rattle.flow_operation_refinement.specs.Matching.{ProcessRepresents, Matches, shows, with_task, Sound}
 use Rattle.flow_operation_refinement.specs.Continuing.{MayBeStale}
@@ -210,7 +210,7 @@ module _ (r : RawTree) (ls : List Line) (m : Process) (p : Proc Frame) (i : ℕ)
     -- at the reference to which its path leads
     by_aim : (code : Code) (called : Method) (aim : Aim) (path : Option ValueTree) (given : Option Value) (left : ℕ) (pace : Pace) (n : Process) → AimsAtRef r code m p i f aim path
         → AllThere p (refs_of (arg (map value_of (given_values given)) 0))
-        → IsMethod code s aim called given (with_left left m) pace n
+        → IsCall code s aim called given (with_left left m) pace n
         → next_step (class_names r) (view w i p.core) f ≡ evaluated f (based_act (class_names r) (view w i p.core) (look f.mem) path (Some called) (map value_of (given_values given)) left) onward
         → Answered r ls x w p i e pace n
     by_aim code called aim path given left pace n aims refer t is =
@@ -223,34 +223,36 @@ module _ (r : RawTree) (ls : List Line) (m : Process) (p : Proc Frame) (i : ℕ)
 
     -- the step by a call of a method, with any arguments
     next_by : (y z : Ident) (ys : List Ident) (es : ExprTrees) (called : Method) → fetch f.code f.block f.instr ≡ Body (ActInstr (y ∷ z ∷ ys) es) → named method_names (last_of z ys).name ≡ Some called
+        → change_by (Some called) ≡ None
         → next_step (class_names r) (view w i p.core) f
         ≡ evaluated f (values (class_names r) (view w i p.core) (look f.mem) es)
         (λ vs left. evaluated f (based_act (class_names r) (view w i p.core) (look f.mem) (law.based r ls m p i e f y z ys) (Some called) vs left) onward)
-    next_by y z ys es called there is =
+    next_by y z ys es called there is changes =
         ap (fetched (class_names r) (view w i p.core) f) there
+        ∙ ap (λ o. call_by (class_names r) (view w i p.core) (look f.mem) o f (next r ls m p i e f) (put_path (class_names r) (view w i p.core) f) (y ∷ z ∷ ys) es) (ap change_by is ∙ changes)
         ∙ evaluated_then f (values (class_names r) (view w i p.core) (look f.mem) es)
         (λ vs left. based_act (class_names r) (view w i p.core) (look f.mem) (law.based r ls m p i e f y z ys) (named method_names (last_of z ys).name) vs left) onward
         ∙ ap (λ o. evaluated f (values (class_names r) (view w i p.core) (look f.mem) es)
         (λ vs left. evaluated f (based_act (class_names r) (view w i p.core) (look f.mem) (law.based r ls m p i e f y z ys) o vs left) onward)) is
 
   pub method_step : law.MethodStep r ls m p i e f
-  method_step x s w code y z ys aim called pace n st may there is aims t =
+  method_step x s w code y z ys aim called pace n st may there is changes aims t =
       by_aim x s w st may code called aim (law.based r ls m p i e f y z ys) None p.core.left pace n aims tt
-      (subst (λ l. IsMethod code s aim called None (with_left l m) pace n) (sym st.stood.shown.left) t)
-      (next_by x s w st may y z ys NoExprs called there is)
+      (subst (λ l. IsCall code s aim called None (with_left l m) pace n) (sym st.stood.shown.left) t)
+      (next_by x s w st may y z ys NoExprs called there is changes)
 
   pub method_of_step : law.MethodOfStep r ls m p i e f
-  method_of_step x s w code y z ys t aim called comes_to pace n st may there is aims refer same evaluates =
-      by_case (evaluation_at r ls m p i e f x s w value_of comes_to (λ v left. called_on x s w st may y z ys called (v ∷ []) left) (IsMethodOf code s aim called) pace n
+  method_of_step x s w code y z ys t aim called comes_to pace n st may there is changes aims refer same evaluates =
+      by_case (evaluation_at r ls m p i e f x s w value_of comes_to (λ v left. called_on x s w st may y z ys called (v ∷ []) left) (λ v. IsCall code s aim called (Some v)) pace n
       (may_ask r ls m p i e f x s st may.asked) next_is evaluates)
     where
       next_is : next_step (class_names r) (view w i p.core) f ≡ evaluated f comes_to (λ v left. called_on x s w st may y z ys called (v ∷ []) left)
       next_is =
-          next_by x s w st may y z ys (MoreExprs t NoExprs) called there is
+          next_by x s w st may y z ys (MoreExprs t NoExprs) called there is changes
           ∙ evaluated_then f (value (class_names r) (view w i p.core) (look f.mem) t) (λ v left. Done (v ∷ []) left) (called_on x s w st may y z ys called)
           ∙ ap (λ k. evaluated f k (λ v left. called_on x s w st may y z ys called (v ∷ []) left)) (sym same)
 
-      by_case : GivesValue value_of comes_to m (IsMethodOf code s aim called) pace n ⊎ Answered r ls x w p i e pace n → Answered r ls x w p i e pace n
+      by_case : GivesValue value_of comes_to m (λ v. IsCall code s aim called (Some v)) pace n ⊎ Answered r ls x w p i e pace n → Answered r ls x w p i e pace n
       by_case (inl v) =
           by_aim x s w st may code called aim (law.based r ls m p i e f y z ys) (Some v.value) v.left pace n aims (refer (value_of v.value) v.left v.done) v.goes
           (next_is ∙ ap (λ k. evaluated f k (λ v left. called_on x s w st may y z ys called (v ∷ []) left)) v.done)

@@ -20,6 +20,7 @@ use Rattle.flow_code.specs.Classes.{ClassCode}
 use Rattle.flow_code.specs.View.{code_of}
 use Rattle.flow_code.specs.Coded.{coded}
 use Rattle.flow_cancel.specs.Heap.{actor_id, next_cell, with_result}
+use Rattle.flow_cancel.specs.Dropping as dropping
 use Rattle.flow_cancel.specs.declared.task.Task.TheVariants as task
 use Rattle.flow_numbered.specs.Numbered.{thing, added}
 use Rattle.flow_meaning.specs.Requests as asks
@@ -30,7 +31,7 @@ use Rattle.flow_meaning.specs.Orderly.{Rising}
 use Rattle.flow_meaning.specs.Lines.{start_line}
 use Rattle.flow_meaning.specs.Work.{turn, writes, pushed, new_cell}
 use Rattle.flow_meaning.specs.Effects.{gives, result_task, push_result}
-use Rattle.flow_meaning.specs.Step.{start, enrol, entry_of, kept_by, proc, on_core}
+use Rattle.flow_meaning.specs.Step.{start, start_alone, enrol, enrol_with, entry_of, kept_by, proc, on_core}
 use Rattle.flow_meaning.specs.Views.{spot_at}
 use Rattle.flow_meaning.specs.Class.{classes, class_name, begun, fresh_from}
 use Rattle.flow_meaning.specs.Frame.{Frame}
@@ -47,7 +48,8 @@ use Rattle.flow_steps.specs.declared.process.Process.{Process}
 use Rattle.flow_steps.specs.Doing.{turned, doing, telling}
 use Rattle.flow_steps.specs.Holding.{on_heap, value_refs}
 use Rattle.flow_steps.specs.Delivering.{made}
-use Rattle.flow_steps.specs.Acting.{with_args, Enrols, Starts, ActorCalled, not_called, actor_starts}
+use Rattle.flow_steps.specs.Acting.{with_args, Enrols, EnrolsAlone, Starts, StartsAlone, ActorCalled, VoidCalled, not_called, actor_starts, void_not_called}
+use Rattle.flow_steps.specs.Acting as acting
 use Rattle.flow_operation_refinement.specs.Matching.{ProcessRepresents, Matches, shows, with_task}
 use Rattle.flow_operation_refinement.specs.Working.{SameGoal}
 use Rattle.flow_operation_refinement.specs.Coded.{CodedBy}
@@ -120,7 +122,7 @@ module _ (r : RawTree) (ls : List Line) (x : Scan) (m : Process) (p : Proc Frame
   pub record Enrolled (class : ℕ) (f : Frame) (i : ActorId) (k : CellId) (n : Process) : Type 0 where
     pub cell : k.0 ≡ suc p.core.made
     pub actor : i.0 ≡ suc p.core.started
-    pub shown : ProcessRepresents r ls x n (with_actor class k.0 f (on_core (new_cell (Single None [])) p))
+    pub shown : ProcessRepresents r ls x n (with_actor class (Some k.0) f (on_core (new_cell (Single None [])) p))
 
   pub enrolled_shown : (code : Code) (class : ℕ) (vs : List Value) (i : ActorId) (k : CellId) (n : Process) → ProcessRepresents r ls x m p → (may : MayStart r p code class (map value_of vs))
       → Enrols code class vs i k m n → Enrolled class (begun may.tree (map value_of vs)) i k n
@@ -142,16 +144,41 @@ module _ (r : RawTree) (ls : List Line) (x : Scan) (m : Process) (p : Proc Frame
       record {
         cell = number;
         actor = en.actor ∙ two.holds.shows.started;
-        shown = subst (λ z. ProcessRepresents r ls x z (with_actor class k.0 (begun may.tree us) p2)) (sym en.made)
-            (actor_holds r ls x (on_heap (with_args vs) m) p2 class en.of.places k.0 may.tree vs two may.at places few taken may.entries (free_still p may.cells (suc p.core.started) may.free) there);
+        shown = subst (λ z. ProcessRepresents r ls x z (with_actor class (Some k.0) (begun may.tree us) p2)) (sym en.made)
+            (actor_holds r ls x (on_heap (with_args vs) m) p2 class en.of.places (Some k.0) may.tree vs two may.at places few taken may.entries (free_still p may.cells (suc p.core.started) may.free)
+            (λ j e. let same : k.0 ≡ j = cc (e) in subst (λ c. There p2 (kind.Promise, c)) same there));
+      }
+
+-- A void actor is enrolled: its number is the next one.
+module _ (r : RawTree) (ls : List Line) (x : Scan) (m : Process) (p : Proc Frame) where
+  record EnrolledAlone (class : ℕ) (f : Frame) (i : ActorId) (n : Process) : Type 0 where
+    actor : i.0 ≡ suc p.core.started
+    shown : ProcessRepresents r ls x n (with_actor class None f p)
+
+  alone_shown : (code : Code) (class : ℕ) (vs : List Value) (i : ActorId) (n : Process) → ProcessRepresents r ls x m p → (may : MayStart r p code class (map value_of vs))
+      → EnrolsAlone code class vs i m n → EnrolledAlone class (begun may.tree (map value_of vs)) i n
+  alone_shown code class vs i n s may en =
+      let us = map value_of vs in
+      let held = refs_held r ls x m p (refs_in us) s may.there in
+      let heap_is : hold_all (refs_in us) m.heap ≡ hold_all (dropping.refs_in vs) m.heap = ap (λ qs. hold_all qs m.heap) (sym (refs_same vs)) in
+      let two : ProcessRepresents r ls (with_refs (refs_in us) x) (on_heap (hold_all (dropping.refs_in vs)) m) p =
+      subst (λ h. ProcessRepresents r ls (with_refs (refs_in us) x) (record m { heap = h }) p) heap_is held in
+      let same = same_class r code.classes.items may.coded class en.of may.tree en.at may.at in
+      let places : en.of.places ≡ length may.tree.slots + length may.tree.locals = ap (λ (c : ClassCode). c.places) same in
+      let taken : length vs ≡ may.tree.params = sym (as_many vs) ∙ may.taken in
+      let few : length vs ≤ length may.tree.slots = let a = may.fits in omega (arith, a, taken) in
+      record {
+        actor = en.actor ∙ two.holds.shows.started;
+        shown = subst (λ z. ProcessRepresents r ls x z (with_actor class None (begun may.tree us) p)) (sym en.made)
+            (actor_holds r ls x (on_heap (hold_all (dropping.refs_in vs)) m) p class en.of.places None may.tree vs two may.at places few taken may.entries may.free (λ j e. absurd (cc (e))));
       }
 
 -- where a result goes stays where an actor starts
-same_goal_then : (p : Proc Frame) (class k : ℕ) (f : Frame) (i : ℕ) (g : Goal) (h : asks.Goal) → (suc p.core.started ≡ i → ⊥) → SameGoal p i g h → SameGoal (with_actor class k f p) i g h
+same_goal_then : (p : Proc Frame) (class k : ℕ) (f : Frame) (i : ℕ) (g : Goal) (h : asks.Goal) → (suc p.core.started ≡ i → ⊥) → SameGoal p i g h → SameGoal (with_actor class (Some k) f p) i g h
 same_goal_then p class k f i goal.Stored asks.Stored d s = tt
 same_goal_then p class k f i (goal.Kept n) (asks.Kept spot) d s = (
   s.0 ∙ sym (ap (spot_at wait_spot) (thing_added p.actors (suc p.core.started) i f d)),
-  s.1 ∙ sym (ap (λ o. spot.first + kept_by o) (thing_added p.core.entries (suc p.core.started) i (entry_of class k) d)),
+  s.1 ∙ sym (ap (λ o. spot.first + kept_by o) (thing_added p.core.entries (suc p.core.started) i (entry_of class (Some k)) d)),
 )
 same_goal_then p class k f i goal.Stored (asks.Kept spot) d s = absurd s
 same_goal_then p class k f i (goal.Kept n) asks.Stored d s = absurd s
@@ -159,7 +186,7 @@ same_goal_then p class k f i (goal.Kept n) asks.Stored d s = absurd s
 -- what comes out is what the definitions have
 as_enrolled : (p : Proc Frame) (class : ℕ) (f : Frame) (i : ℕ) (h : asks.Goal) (name : List ℕ)
     → on_core (writes (start_line (suc p.core.started) name)) (on_core (pushed (Run (suc p.core.started)))
-    (on_core (gives i h (RefValue kind.Future (suc p.core.made))) (with_actor class (suc p.core.made) f (on_core (new_cell (Single None [])) p))))
+    (on_core (gives i h (RefValue kind.Future (suc p.core.made))) (with_actor class (Some (suc p.core.made)) f (on_core (new_cell (Single None [])) p))))
     ≡ proc (enrol class name (push_result i (result_task i h (RefValue kind.Future (suc p.core.made))) p.core)) (added p.actors (suc p.core.started) f)
 as_enrolled p class f i asks.Stored name = refl
 as_enrolled p class f i (asks.Kept spot) name = refl
@@ -173,7 +200,7 @@ module _ (r : RawTree) (ls : List Line) (x : Scan) (m : Process) (p : Proc Frame
   starts_shown code i g h class vs n s none other may same st =
       let f = begun may.tree (map value_of vs) in
       let en = enrolled_shown r ls x m p code class vs st.actor st.cell st.enrolled s may st.enrols in
-      let p3 = with_actor class st.cell.0 f (celled p may.cells) in
+      let p3 = with_actor class (Some st.cell.0) f (celled p may.cells) in
       let future : There p3 (kind.Future, st.cell.0) =
       let t = new_there r ls x m p kind.Future may.cells in record { cell = t.cell; at = ap (thing (celled p may.cells).core.cells) en.cell ∙ t.at; right = t.right } in
       let there : AllThere p3 (value_refs (Ref kind.Future st.cell)) = subst (λ v. AllThere p3 (refs_of v)) (sym (ref_seen kind.Future st.cell)) (future, tt) in
@@ -195,7 +222,7 @@ module _ (r : RawTree) (ls : List Line) (x : Scan) (m : Process) (p : Proc Frame
       (subst (λ z. ProcessRepresents r ls x (telling (line.Start st.actor may.tree.name) (doing (task.Run st.actor) st.given)) z) (as_enrolled p class f i.0 h may.tree.name)
       (subst (λ k. ProcessRepresents r ls x (telling (line.Start st.actor may.tree.name) (doing (task.Run st.actor) st.given))
       (on_core (writes (start_line (suc p.core.started) may.tree.name))
-      (on_core (pushed (Run (suc p.core.started))) (on_core (gives i.0 h (RefValue kind.Future k)) (with_actor class k f (on_core (new_cell (Single None [])) p)))))) en.cell
+      (on_core (pushed (Run (suc p.core.started))) (on_core (gives i.0 h (RefValue kind.Future k)) (with_actor class (Some k) f (on_core (new_cell (Single None [])) p)))))) en.cell
       (subst (λ (a : ActorId). ProcessRepresents r ls x (telling (line.Start st.actor may.tree.name) (doing (task.Run st.actor) st.given))
       (on_core (writes (line.Start a may.tree.name)) (on_core (pushed (Run a.0)) p4))) actor told)))
 
@@ -247,6 +274,50 @@ module _ (r : RawTree) (ls : List Line) (x : Scan) (m : Process) (p : Proc Frame
           let q : Proc Frame = on_core (λ d. record d { left = k }) p in
           shows (starts_shown r ls x (turned m) q code i g h class vs n now (turned_asked m ∙ none) other (may_turned r ls x m p k code class (map value_of vs) may)
           (same_goal_by p q i.0 g h refl refl same) st)
+
+module _ (r : RawTree) (ls : List Line) (x : Scan) (m : Process) (p : Proc Frame) where
+  -- a void actor, where a turn is left
+  alone_starts : (code : Code) (i : ActorId) (class : ℕ) (vs : List Value) (n : Process) → ProcessRepresents r ls x m p → m.asked ≡ None
+      → (may : MayStart r p code class (map value_of vs)) → StartsAlone code i class vs m n
+      → ProcessRepresents r ls x n (proc (enrol_with class may.tree.name None (pushed (Run i.0) p.core)) (added p.actors (suc p.core.started) (begun may.tree (map value_of vs))))
+  alone_starts code i class vs n s none may st =
+      let f = begun may.tree (map value_of vs) in
+      let en = alone_shown r ls x m p code class vs st.actor st.enrolled s may st.enrols in
+      let p3 = with_actor class None f p in
+      let one = task_done r ls x st.enrolled p3 (task.Run i) (Run i.0) (as_many_shown r ls x (with_task (Run i.0) x) st.enrolled p3 (λ z j. omega arith) en.shown) refl in
+      let p4 = on_core (pushed (Run i.0)) p3 in
+      let k = doing (task.Run i) st.enrolled in
+      let u = Run st.actor.0 in
+      let ran = task_done r ls x k p4 (task.Run st.actor) u (as_many_shown r ls x (with_task u x) k p4 (λ z j. omega arith) one) refl in
+      let quiet : (doing (task.Run st.actor) k).asked ≡ None = ap (λ (z : Process). z.asked) st.enrols.made ∙ none in
+      let told = telling_shown r ls x (line.Start st.actor may.tree.name) (doing (task.Run st.actor) k) (on_core (pushed u) p4) ran quiet in
+      let named : st.starts.of.name ≡ may.tree.name = ap (λ (c : ClassCode). c.name) (same_class r code.classes.items may.coded class st.starts.of may.tree st.starts.at may.at) in
+      let out : n ≡ telling (line.Start st.actor may.tree.name) (doing (task.Run st.actor) k) = st.starts.told ∙ ap (λ l. telling (line.Start st.actor l) (doing (task.Run st.actor) k)) named in
+      let actor : st.actor ≡ actor_id (suc p.core.started) = ap actor_id en.actor in
+      subst (λ z. ProcessRepresents r ls x z (proc (enrol_with class may.tree.name None (pushed (Run i.0) p.core)) (added p.actors (suc p.core.started) f))) (sym out)
+      (subst (λ (a : ActorId). ProcessRepresents r ls x (telling (line.Start st.actor may.tree.name) (doing (task.Run st.actor) k))
+      (on_core (writes (line.Start a may.tree.name)) (on_core (pushed (Run a.0)) p4))) actor told)
+
+module _ (r : RawTree) (ls : List Line) (x : Scan) (m : Process) (p : Proc Frame) where
+  pub void_starts : law.VoidStarts r ls x m p
+  void_starts code i class vs e f n s none acts may called =
+      subst (λ o. Matches r ls x n (start_alone (classes r) i.0 class o p).0) (sym (fresh_actor r class may.tree (map value_of vs) may.at may.taken))
+      (subst (λ l. Matches r ls x n (proc (turn p.core (λ d. enrol_with class l None (pushed (Run i.0) d))) (added p.actors (suc p.core.started) (begun may.tree (map value_of vs)))))
+      (sym (label_is r class may.tree may.at))
+      (by_turn r ls x m p x n (λ d. enrol_with class may.tree.name None (pushed (Run i.0) d)) p.core
+      (added p.actors (suc p.core.started) (begun may.tree (map value_of vs))) s refl refl
+      (by_none called) (by_some called)))
+    where
+      by_none : VoidCalled code i class vs m n → m.left ≡ 0 → n ≡ turned m
+      by_none (void_not_called t q) l = q
+      by_none (acting.void_starts t st) l = let a = none_left r ls x m p l in absurd (cc (a, t))
+
+      by_some : VoidCalled code i class vs m n → (k : ℕ) → m.left ≡ suc k → ProcessRepresents r ls x (turned m) (on_core (λ d. record d { left = k }) p)
+          → Matches r ls x n (proc (enrol_with class may.tree.name None (pushed (Run i.0) (record p.core { left = k }))) (added p.actors (suc p.core.started) (begun may.tree (map value_of vs))))
+      by_some (void_not_called t q) k l now = let a = some_left r ls x m p k l in absurd (cc (a, t))
+      by_some (acting.void_starts t st) k l now =
+          let q : Proc Frame = on_core (λ d. record d { left = k }) p in
+          shows (alone_starts r ls x (turned m) q code i class vs n now (turned_asked m ∙ none) (may_turned r ls x m p k code class (map value_of vs) may) st)
 
 -- what holds of a process holds when an actor of it has evaluated
 pub may_resumed : (r : RawTree) (p : Proc Frame) (code : Code) (class : ℕ) (us : List ValueTree) (i : ℕ) (f : Frame) (left : ℕ) → MayStart r p code class us

@@ -41,6 +41,7 @@ use Rattle.flow_cancel.specs.Heap.{HeapTree, pushed}
 use Rattle.flow_cancel.specs.Dropping.{refs_in}
 use Rattle.flow_cancel.specs.Leaving.{withdrawn}
 use Rattle.flow_meaning.specs.Requests as asks
+use Rattle.flow_meaning.specs.Evaluating.{Change, Grows, Clears, change_by}
 use Rattle.flow_heap_refinement.specs.Changes.{stream_put}
 use Rattle.flow_heap_refinement.specs.Holds.{hold, hold_all, filled_in, given}
 use Rattle.flow_steps.specs.declared.call.Goal.{Goal}
@@ -55,8 +56,8 @@ use Rattle.flow_steps.specs.Points.{next_stand, noted_stand, noted, place_put, p
 use Rattle.flow_numbered.specs.Numbered.{thing}
 use Rattle.flow_steps.specs.Waiting.{callbacks_in, callbacks_of, operand_kept, Registered, register_all, left_for, Takes, copied, popped, TakesBranch, no_turn, takes_branch, KeepsOperand, kept_marked, kept_unready, kept_ready, Waits, waits_ready, waits_refused, waits_suspended}
 use Rattle.flow_steps.specs.Evaluating.{with_left, Evaluates, gives, throws, runs_out}
-use Rattle.flow_steps.specs.Acting.{Values, args_of, with_args, EffectAsked, ActorCalled, not_called, actor_starts, EffectMade, EffectDone, PredefinedCalled, MethodCalled}
-use Rattle.flow_steps.specs.Stepping.{OnAfter, IsSet, made_in_place, IsNew, IsAct, IsMethod, MethodStep, Does, GoesOnAt, Passes, no_pass, pass_begins, IsTest, ReferenceKept, OperandStep, Chooses, asks_operand, all_kept, IsReturn, ErrorThrown, Ends, StepsOn, by_instruction, by_last, Runs, runs_on, runs_off, GoesOn}
+use Rattle.flow_steps.specs.Acting.{Values, args_of, with_args, EffectAsked, ActorCalled, not_called, actor_starts, EffectMade, EffectDone, PredefinedCalled, MethodCalled, VoidCalled, void_not_called, void_starts}
+use Rattle.flow_steps.specs.Stepping.{OnAfter, IsSet, made_in_place, IsNew, IsAct, IsMethod, MethodStep, Does, GoesOnAt, Passes, no_pass, pass_begins, IsTest, ReferenceKept, OperandStep, Chooses, asks_operand, all_kept, IsReturn, ErrorThrown, Ends, StepsOn, by_instruction, by_last, Runs, runs_on, runs_off, GoesOn, grown, is_full, IsChange, IsMethodBy}
 use Rattle.flow_operation_refinement.proofs.Takings.{turned_heap}
 use Rattle.flow_step_refinement.specs.Continuing.{InClass}
 use Rattle.flow_step_refinement.proofs.Stays.{in_class_stays}
@@ -125,6 +126,14 @@ actor_called code i g class vs m n (actor_starts t h) p =
     (started_poised class h.enrols.of.places _ (Some h.cell) (with_args vs a.heap) (aside_poised a.heap (with_args vs a.heap) args (turned_good m p))) in
     good_is n _ h.starts.told (doing_good (task.Run h.actor) h.given (gives_good g i _ h.enrolled h.given h.gives enrolled))
 
+void_called : (code : Code) (i : ActorId) (class : ℕ) (vs : List Value) (m n : Process) → VoidCalled code i class vs m n → NoStaleWaits m.heap → NoStaleWaits n.heap
+void_called code i class vs m n (void_not_called t e) p = good_is n (turned m) e (turned_good m p)
+void_called code i class vs m n (void_starts t h) p =
+    let a = turned m in
+    let enrolled = good_is h.enrolled _ h.enrols.made
+    (started_poised class h.enrols.of.places _ None (hold_all (refs_in vs) a.heap) (aside_poised a.heap (hold_all (refs_in vs) a.heap) (holding_all (refs_in vs) a.heap) (turned_good m p))) in
+    good_is n _ h.starts.told (doing_good (task.Run h.actor) (doing (task.Run i) h.enrolled) (doing_good (task.Run i) h.enrolled enrolled))
+
 effect_made : (code : Code) (i : ActorId) (g : Goal) (e : Effect) (args : Values) (m n : Process) → EffectMade code i g e args m n → NoStaleWaits m.heap → NoStaleWaits n.heap
 effect_made code i g (effect.World called) args m n h p = effect_asked i g _ m n h p
 effect_made code i g (effect.Actor class) args m n h p = actor_called code i g class args.items m n h p
@@ -164,9 +173,27 @@ method_called i called kind.PromiseStream k arg m n h p = good_is n _ h.sends (s
 method_called i called kind.Future k arg m n h p = good_is n _ h.1 (owner_good _ (doing (task.Run i) m) (doing_good (task.Run i) m p))
 method_called i called kind.FutureStream k arg m n h p = absurd h
 
+put_good : (i n : ℕ) (v : Option Value) (m : Process) → NoStaleWaits m.heap → NoStaleWaits (on_heap (place_put i n v) m).heap
+put_good i n v m p = all_but_none (place_put i n v m.heap) (place_but None i n v m.heap (but_none m.heap p))
+
+change_is : (code : Code) (s : ControlPoint) (aim : Aim) (how : Change) (sent : Option Value) (m n : Process) (pace : Pace) → IsChange code s aim how sent m pace n → NoStaleWaits m.heap
+    → NoStaleWaits n.heap
+change_is code s aim Grows (Some v) m n pace (grown es old q room h) p =
+    let a = on_heap (hold_all (value_refs v)) m in
+    good_is q _ h.assigns.put (put_good s.actor.0 aim.place h.assigns.root a (aside_poised m.heap a.heap (holding_all (value_refs v) m.heap) p))
+change_is code s aim Grows (Some v) m n pace (is_full es q aimed full e) p = good_is q _ e (doing_good _ (noted s m) (noted_good s m p))
+change_is code s aim Grows None m n pace h p = absurd h
+change_is code s aim Clears sent m n pace h p =
+    left_over _ _ h.between n pace h.after (good_is h.between _ h.changed.assigns.put (put_good s.actor.0 aim.place h.changed.assigns.root m p))
+
+method_by : (o : Option Change) (code : Code) (s : ControlPoint) (aim : Aim) (called : Method) (sent : Option Value) (m n : Process) (pace : Pace) → IsMethodBy o code s aim called sent m pace n
+    → NoStaleWaits m.heap → NoStaleWaits n.heap
+method_by None code s aim called sent m n pace h p = method_called s.actor called h.kind h.cell sent (noted (next_stand s) m) n h.calls (noted_good (next_stand s) m p)
+method_by (Some how) code s aim called sent m n pace h p = change_is code s aim how sent m n pace h p
+
 method_is : (code : Code) (s : ControlPoint) (aim : Aim) (called : Method) (sent : Option Value) (m n : Process) (pace : Pace) → IsMethod code s aim called sent m pace n → NoStaleWaits m.heap
     → NoStaleWaits n.heap
-method_is code s aim called sent m n pace h p = method_called s.actor called h.kind h.cell sent (noted (next_stand s) m) n h.calls (noted_good (next_stand s) m p)
+method_is code s aim called sent m n pace h p = method_by (change_by (Some called)) code s aim called sent m n pace h p
 
 method_step : (code : Code) (s : ControlPoint) (aim : Aim) (called : Method) (es : List Resolved) (m n : Process) (pace : Pace) → MethodStep code s aim called es m pace n → NoStaleWaits m.heap
     → NoStaleWaits n.heap
@@ -176,10 +203,8 @@ method_step code s aim called (e ∷ f ∷ es) m n pace h p = absurd h
 
 act_is : (code : Code) (s : ControlPoint) (a : Act) (args : Values) (m n : Process) (pace : Pace) → IsAct code s a args m pace n → NoStaleWaits m.heap → NoStaleWaits n.heap
 act_is code s (act.World called) args m n pace h p = predefined_called s.actor called args (noted (next_stand s) m) n h.1 (noted_good (next_stand s) m p)
+act_is code s (act.Actor class) args m n pace h p = void_called code s.actor class args.items (noted (next_stand s) m) n h.1 (noted_good (next_stand s) m p)
 act_is code s (act.Function f) args m n pace h p = evaluates s value_of _ m n _ pace (λ v k n pace h p. good_is n k h.1 p) h p
-
-put_good : (i n : ℕ) (v : Option Value) (m : Process) → NoStaleWaits m.heap → NoStaleWaits (on_heap (place_put i n v) m).heap
-put_good i n v m p = all_but_none (place_put i n v m.heap) (place_but None i n v m.heap (but_none m.heap p))
 
 set_is : (code : Code) (s : ControlPoint) (aim : Aim) (v : Value) (m n : Process) (pace : Pace) → IsSet code s aim v m pace n → NoStaleWaits m.heap → NoStaleWaits n.heap
 set_is code s aim v m n pace h p =

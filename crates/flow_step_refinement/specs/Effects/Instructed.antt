@@ -1,5 +1,5 @@
 -- What the code has an actor do by an effect or a call statement is a step of the class machine.
-use Rattle.std.specs.Prelude.{◌≡◌, ◌≤◌, ◌+◌, ◌^◌, ℕ, pos, List, ◌∷◌, length}
+use Rattle.std.specs.Prelude.{◌≡◌, ◌≤◌, ◌+◌, ◌^◌, ℕ, pos, List, [], ◌∷◌, length}
 use Rattle.std.specs.declared.option.Option.TheVariants.{None, Some}
 use Rattle.std.specs.declared.vec.Vec.{Vec}
 use Rattle.std.specs.declared.alloc.Global.{Global}
@@ -25,7 +25,7 @@ use Rattle.flow_code.specs.Coding.{coded_instruction, coded_operand}
 use Rattle.flow_code.specs.Coded.{coding}
 use Rattle.flow_trace.specs.declared.line.Line.{Line}
 use Rattle.flow_meaning.specs.Requests.{Supply}
-use Rattle.flow_meaning.specs.Evaluating.{Effectful, effect_in, value, values, before_last}
+use Rattle.flow_meaning.specs.Evaluating.{Effectful, effect_in, value, values, change_by, before_last}
 use Rattle.flow_numbered.specs.Numbered.{thing}
 use Rattle.flow_meaning.specs.Process.{Entry, Proc}
 use Rattle.flow_meaning.specs.References.{Scan}
@@ -43,7 +43,8 @@ use Rattle.flow_operation_refinement.specs.Seeing.{IsCodeOf}
 use Rattle.flow_operation_refinement.specs.Continuing.{MayBeStale}
 use Rattle.flow_step_refinement.specs.Effects.Asking.{MayAsk, Answered}
 use Rattle.flow_step_refinement.specs.Effects.Effects.{MayMake}
-use Rattle.flow_step_refinement.specs.Effects.Calling.{AimsAtRef, MayCall}
+use Rattle.flow_step_refinement.specs.Effects.Calling.{AimsAtRef, MayCall, StartsClass}
+use Rattle.flow_step_refinement.specs.Effects.Starting.{MayStart}
 
 -- The code is that of the program, the time is the world's, and the frame's places have numbers below 2^32.
 pub record Judged (r : RawTree) (code : Code) (m : Process) (w : Supply) (f : Frame) : Type 0 where
@@ -92,6 +93,20 @@ module _ (r : RawTree) (ls : List Line) (m : Process) (p : Proc Frame) (i : ℕ)
       → FromText j.is f (instruction.Act (act.World called) args) text
       → Does code s (instruction.Act (act.World called) args) m pace n → Answered r ls x w p i e pace n
 
+  -- what a class that is started needs
+  abbrev pub VoidMay : Code → Supply → (class : ℕ) → InstrTree → Type 0
+  VoidMay code w class text =
+      (name : Ident) (es : ExprTrees) → text ≡ ActInstr (name ∷ []) es → StartsClass r name class → (vs : List ValueTree) (left : ℕ)
+      → values (class_names r) (view w i p.core) (look f.mem) es ≡ Done vs left → MayStart r p code class vs
+
+  abbrev pub VoidDoes : Type 0
+  VoidDoes =
+      (x : Scan) (s : ControlPoint) (w : Supply) (code : Code) (class : ℕ) (args : Vec Resolved Global) (text : InstrTree)
+      (pace : Pace)
+      (n : Process) → MayBeStale r ls x s m p i e f → m.asked ≡ None → (j : Judged r code m w f)
+      → FromText j.is f (instruction.Act (act.Actor class) args) text → VoidMay code w class text
+      → Does code s (instruction.Act (act.Actor class) args) m pace n → Answered r ls x w p i e pace n
+
   -- where a method's path leads, and what its argument refers to
   pub record MethodMay (code : Code) (w : Supply) (aim : Aim) (text : InstrTree) : Type 0 where
     pub aims : (y z : Ident) (ys : List Ident) (es : ExprTrees) → text ≡ ActInstr (y ∷ z ∷ ys) es
@@ -103,5 +118,5 @@ module _ (r : RawTree) (ls : List Line) (m : Process) (p : Proc Frame) (i : ℕ)
   MethodDoes =
       (x : Scan) (s : ControlPoint) (w : Supply) (code : Code) (aim : Aim) (called : Method) (args : Vec Resolved Global) (text : InstrTree)
       (pace : Pace) (n : Process) → MayBeStale r ls x s m p i e f → MayCall m p → (j : Judged r code m w f)
-      → FromText j.is f (instruction.Method aim called args) text → MethodMay code w aim text
+      → FromText j.is f (instruction.Method aim called args) text → change_by (Some called) ≡ None → MethodMay code w aim text
       → Does code s (instruction.Method aim called args) m pace n → Answered r ls x w p i e pace n

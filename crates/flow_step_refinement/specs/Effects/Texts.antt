@@ -14,7 +14,7 @@ use Rattle.flow_class.specs.declared.class.Slotted.{Slotted}
 use Rattle.flow_class.specs.Classes.{InstrTree, EffectInstr, ActInstr, ClassTree, RawTree}
 use Rattle.flow_class.specs.Places.{place_named}
 use Rattle.flow_code.specs.Resolved.Tree.{Nodes}
-use Rattle.flow_code.specs.Resolved.Resolving.{IsNumbering, resolved_all}
+use Rattle.flow_code.specs.Resolved.Resolving.{AreFunctions, IsNumbering, resolved_all}
 use Rattle.flow_code.specs.Resolved.View.{places_in}
 use Rattle.flow_code.specs.declared.class.Act.TheVariants as act
 use Rattle.flow_code.specs.declared.class.Aim.{Aim}
@@ -33,6 +33,7 @@ use Rattle.flow_heap_refinement.specs.FrameChanges.{HasPlace, number_in}
 use Rattle.flow_steps.specs.declared.process.Process.{Process}
 use Rattle.flow_steps.specs.Points.{field_path, place_held}
 use Rattle.flow_operation_refinement.specs.Placing.{RepresentsActor}
+use Rattle.flow_step_refinement.specs.Effects.Calling.{StartsClass}
 use Rattle.flow_step_refinement.specs.Effects.Effects.{SameEffect}
 
 -- the expression that an effect with its arguments is coded from
@@ -77,6 +78,20 @@ abbrev pub CallCoded : Type 0
 CallCoded =
     (c : Coding) (k : ClassTree) (text : InstrTree) (called : Predefined) (args : Nodes)
     → ActCode (act.World called) args ≡ coded_instruction c k text → CallText c text called args
+
+-- the start of a void actor
+pub record VoidText (r : RawTree) (c : Coding) (text : InstrTree) (class : ℕ) (args : Nodes) : Type 0 where
+  pub name : Ident
+  pub exprs : ExprTrees
+  pub is : text ≡ ActInstr (name ∷ []) exprs
+  pub starts : StartsClass r name class
+  pub resolved : args ≡ resolved_all c.names exprs
+
+abbrev pub VoidCoded : Type 0
+VoidCoded =
+    (r : RawTree) (c : Coding) (k : ClassTree) (text : InstrTree) (class : ℕ) (args : Nodes) → NamesClasses r c
+    → AreFunctions r.functions c.names.function
+    → ActCode (act.Actor class) args ≡ coded_instruction c k text → VoidText r c text class args
 
 -- a method of what a path leads to
 pub record MethodText (c : Coding) (text : InstrTree) (aim : AimTree) (called : Method) (args : Nodes) : Type 0 where

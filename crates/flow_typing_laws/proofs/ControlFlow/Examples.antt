@@ -22,7 +22,7 @@ waiting e = record { into = None; next = false; operand = e }
 
 -- while (true) { wait(..); } return ..;
 abbrev rounds : Body
-rounds = WhileStmt (here 1) test (WaitStmt (here 2) (waiting test) End) (ReturnStmt (here 3) VoidExpr End)
+rounds = WhileStmt (here 1) test (WaitStmt (here 2) (waiting test) End) (ReturnStmt (here 3) (Some VoidExpr) End)
 
 rounds_lead : control rounds ≡ edge 0 1 ∷ edge 1 2 ∷ edge 1 3 ∷ edge 2 1 ∷ []
 rounds_lead = refl
@@ -41,7 +41,7 @@ abbrev choosing : Body
 choosing =
     LoopStmt (here 1)
     (ChooseStmt (here 2) (MoreBranches (here 3) (waiting test) (BreakStmt (here 4) End) (MoreBranches (here 5) (waiting test) End NoBranches)) End)
-    (ReturnStmt (here 6) VoidExpr End)
+    (ReturnStmt (here 6) (Some VoidExpr) End)
 
 choosing_leads : control choosing ≡ edge 0 1 ∷ edge 1 2 ∷ edge 2 3 ∷ edge 2 5 ∷ edge 3 4 ∷ edge 4 6 ∷ edge 5 1 ∷ []
 choosing_leads = refl

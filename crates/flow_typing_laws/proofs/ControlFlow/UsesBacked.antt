@@ -332,7 +332,7 @@ module _ (tell : ℕ → Note) (g : List (Edge ℕ)) where
     backed n n' (ContinueStmt at t) m vs vs' p p' c d a e s h i r k =
         dead_backed n n' t m vs vs' p p' c d a (listed a.continues) e i r (backed n n' t (suc m) vs vs' (behind_all vs p never) (behind (length vs') p' never) c d a) s.1 h.1 k
     backed n n' (ReturnStmt at q t) m vs vs' p p' c d a e s h i r k =
-        each_then tell g _ _ (found_alike tell g (λ v z. expr_uses v z q) vs vs' p p' _ e.named e.point (expr_fits tell g m vs p q (here_of tell g m vs p h.0 r.real)))
+        each_then tell g _ _ (found_alike tell g (λ v z. maybe_uses v z q) vs vs' p p' _ e.named e.point (maybe_fits tell g m vs p q (here_of tell g m vs p h.0 r.real)))
         (dead_backed n n' t m vs vs' p p' c d a [] e i r (backed n n' t (suc m) vs vs' (behind_all vs p never) (behind (length vs') p' never) c d a) s.1 h.1 k)
     backed n n' (ThrowStmt at q t) m vs vs' p p' c d a e s h i r k =
         each_then tell g _ _ (found_alike tell g (λ v z. thrown_uses z c at q v) vs vs' p p' _ e.named e.point (thrown_fits tell g m vs p c d at q (here_of tell g m vs p h.0 r.real) k))

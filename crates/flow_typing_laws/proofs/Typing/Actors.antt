@@ -1,5 +1,5 @@
 -- The actors in which no rule fails are well typed.
-use Rattle.std.proofs.Common.{◌≡◌, ℕ, zero, suc, Bool, true, false, not, List, [], ◌∷◌, ◌++◌, slice_get, refl, sym, ap, subst, ◌∙◌}
+use Rattle.std.proofs.Common.{◌≡◌, ℕ, zero, suc, Bool, true, false, not, List, [], ◌∷◌, ◌++◌, slice_get, refl, sym, ap, subst, ◌∙◌, ◌||◌}
 use Rattle.std.proofs.lemmas.Bool.{false≢true}
 use Rattle.std.specs.declared.option.Option.{Option}
 use Rattle.std.specs.declared.option.Option.TheVariants.{None, Some}
@@ -10,14 +10,15 @@ use Rattle.flow_tree.specs.Body.{IntoTree, WaitTree, Body, End, BlockStmt, IfStm
 use Rattle.flow_tree.specs.Decls.{ParamTree, RoutineTree, DeclTree, StructDecl, FunctionDecl, ActorDecl}
 use Rattle.flow_tree.proofs.ForParts.{InitKind, no_init, declares, assigns, modifies, init_kind, StepKind, no_step, assigned, modified, step_kind}
 use Rattle.flow_ast.specs.Fits.{declared_in, path_type, ThrowFits}
-use Rattle.flow_rules.specs.declared.rule.SemanticRule.TheVariants.{NeedsValue, FallsOff, BreakOutside, WaitInFunction}
+use Rattle.flow_rules.specs.declared.rule.SemanticRule.TheVariants.{WrongType, NeedsValue, FallsOff, BreakOutside, WaitInFunction}
 use Rattle.flow_rules.specs.Least.{lesser, unless}
 use Rattle.flow_rules.specs.Known.{known}
-use Rattle.flow_rules.specs.Judged.{Setting, form, fault, wanted, wants}
+use Rattle.flow_rules.specs.Judged.{Setting, form, fault, wanted, wants, returned}
 use Rattle.flow_rules.specs.Closing as closing
 use Rattle.flow_rules.specs.Items.{Env, item, with_var, with_states, in_loop, in_catch, behind, declared, waited, started, fresh, into_fault, value_fault, target_form, target_fault, assign_fault, modify_fault, call_fault, test_fault, maybe_test, throw_fault, declare_fault, wait_fault, maybe_into, wait_type, body_refusal, branch_refusal, slot_names}
 use Rattle.flow_rules.specs.Items as rule
 use Rattle.flow_ast.specs.Slots.{body_slots, branch_slots, waited_slots}
+use Rattle.flow_ast.specs.Typing.{is_nothing}
 use Rattle.flow_rules.specs.Rules.{setting_of, header_fault, body_env, routine_refusal, decl_refusal, decls_refusal}
 use Rattle.flow_rules.proofs.Lesser.{no_first, no_second, holds, no_item}
 use Rattle.flow_typing_laws.specs.ControlFlow.Laws.{HasSimpleParts, HaveSimpleParts, AllHaveSimpleParts}
@@ -26,7 +27,7 @@ use Rattle.flow_typing_laws.specs.Typing.Scopes.{scope_in, setting_in}
 use Rattle.flow_typing_laws.specs.Typing.Joined.{IsTyped}
 use Rattle.flow_tree.specs.Formed.{IsPath}
 use Rattle.flow_typing_laws.specs.Typing.Paths.{HasPaths, HavePaths, AllHavePaths}
-use Rattle.flow_typing_laws.specs.Typing.ActorFits.{into_param, waited_params, Gives, ValueGiven, StandsWell, StandWell, ActorFits}
+use Rattle.flow_typing_laws.specs.Typing.ActorFits.{into_param, waited_params, Gives, ValueGiven, StandsWell, StandWell, ActorFits, ResultGiven}
 use Rattle.flow_typing_laws.proofs.Typing.Names.{none_some, some_same}
 use Rattle.flow_typing_laws.proofs.Typing.Expressions.{typed, wanted_is}
 use Rattle.flow_typing_laws.proofs.Typing.Agreement.{Distinct, agrees, neither_first, neither_second, not_true}
@@ -118,6 +119,10 @@ module _ (ds : List DeclTree) (apart : Distinct ds) where
     tt,
   )
 
+  result_given : (vars : List ParamTree) (v : Option ExprTree) (r : TypeTree) → returned (at_actor vars) v r ≡ None → ResultGiven ds vars r v
+  result_given vars None r h = holds (is_nothing r) WrongType h
+  result_given vars (Some e) r h = yields ds apart false vars e r h
+
   mutual
     stands_well : (b : Body) (e : Env) (vars : List ParamTree) (r : TypeTree) (loop : Bool) (c : Option (List ℕ)) → Stands ds false e vars r loop c → HasSimpleParts b → HasPaths b
         → body_refusal e b ≡ None → StandsWell ds r loop c vars b
@@ -182,8 +187,8 @@ module _ (ds : List DeclTree) (apart : Distinct ds) where
         let i = unless e.looped BreakOutside in
         (k.looped (holds e.looped BreakOutside (no_item at i (neither_first (item at i) _ h))), stands_well t e vars r loop c k s.1 p.1 (neither_second (item at i) _ h))
     stands_well (ReturnStmt at v t) e vars r loop c k s p h =
-        let i = item at (wanted e.setting false v e.returns) in (
-          yields ds apart false vars v r (ap (wanted (at_actor vars) false v) (sym k.returns) ∙ at_item ds false e vars at (λ s. wanted s false v e.returns) k.setting (neither_first i _ h)),
+        let i = item at (returned e.setting v e.returns) in (
+          result_given vars v r (ap (returned (at_actor vars) v) (sym k.returns) ∙ at_item ds false e vars at (λ s. returned s v e.returns) k.setting (neither_first i _ h)),
           stands_well t e vars r loop c k s.1 p.1 (neither_second i _ h),
         )
     stands_well (ThrowStmt at v t) e vars r loop c k s p h =
@@ -251,8 +256,11 @@ module _ (ds : List DeclTree) (apart : Distinct ds) where
       let i = item f.at (header_fault (known before) (setting_of ds false) f) in
       let l = neither_second i _ h in
       let k : Stands ds false e f.params f.returns false None = record { setting = refl; returns = refl; looped = λ z. z; in_caught = λ z. absurd (false≢true z) } in
-      let q = no_item f.close (unless (not (closing.ways f.body).end) FallsOff) (neither_second (body_refusal e f.body) _ l) in
-      (stands_well f.body e f.params f.returns false None k s p (neither_first (body_refusal e f.body) _ l), not_true (closing.ways f.body).end (holds (not (closing.ways f.body).end) FallsOff q))
+      let q = no_item f.close (unless (is_nothing f.returns || not (closing.ways f.body).end) FallsOff) (neither_second (body_refusal e f.body) _ l) in (
+        stands_well f.body e f.params f.returns false None k s p (neither_first (body_refusal e f.body) _ l),
+        λ n. not_true (closing.ways f.body).end
+            (subst (λ z. z || not (closing.ways f.body).end ≡ true) n (holds (is_nothing f.returns || not (closing.ways f.body).end) FallsOff q)),
+      )
 
   pub actors_fit : (before rest : List DeclTree) → decls_refusal (setting_of ds) before rest ≡ None → AllHaveSimpleParts rest → AllHavePaths rest → (k : ℕ) (a : RoutineTree)
       → slice_get (actors_in rest) k ≡ Some a → ActorFits ds a

@@ -2,7 +2,7 @@
 use Rattle.std.proofs.Common.{◌≡◌, ℕ, Bool, true, false, not, cond, ◌&&◌, ◌||◌, List, [], ◌∷◌, ◌++◌, map, refl, sym, ap, ap₂, subst, ◌∙◌}
 use Rattle.std.specs.Prelude.{if◌then◌else◌}
 use Rattle.std.specs.Str.{bytes_eq}
-use Rattle.std.specs.Option.{option_map}
+use Rattle.std.specs.Option.{option_map, option_and_then}
 use Rattle.std.proofs.lemmas.Bool.{false≢true, true≢false}
 use Rattle.std.proofs.lemmas.List.{map-append}
 use Rattle.std.specs.declared.option.Option.{Option}
@@ -10,7 +10,7 @@ use Rattle.std.specs.declared.option.Option.TheVariants.{None, Some}
 use Rattle.flow_tree.specs.Tree.{TypeTree, NamedType, FutureType}
 use Rattle.flow_tree.specs.Decls.{ParamTree, RecordTree, RoutineTree, DeclTree, StructDecl, FunctionDecl, ActorDecl}
 use Rattle.flow_ast.specs.TypingNames.{named}
-use Rattle.flow_ast.specs.Typing.{ScopeTree, takes, or_else, is_there, is_packet, packet_fields, record_named, routine_named, param_named, param_types, function_call, actor_call, declared_field, record_field, field_type}
+use Rattle.flow_ast.specs.Typing.{ScopeTree, takes, or_else, is_there, is_packet, packet_fields, record_named, routine_named, param_named, param_types, function_call, actor_call, declared_field, record_field, field_type, actor_gives}
 use Rattle.flow_rules.specs.declared.rule.SemanticRule.TheVariants.{TakenName}
 use Rattle.flow_rules.specs.Least.{lesser}
 use Rattle.flow_rules.specs.Known.{Meaning, RecordOf, FunctionOf, ActorOf, field_row, row_of, packet_row, known, is_predefined}
@@ -210,11 +210,17 @@ module _ (ds : List DeclTree) (vars : List ParamTree) (apart : Distinct ds) wher
   declared_as x (Some (ActorOf ts t)) e f =
       let r = ap (λ b. if b then takes (map (λ (f : List ℕ × TypeTree). f.1) packet_fields) (NamedType x) else option_map
       (λ (r : RecordTree). record { params = param_types r.fields; gives = NamedType x }) (record_named (records_in ds) x)) e
-      ∙ ap (option_map (λ (r : RecordTree). record { params = param_types r.fields; gives = NamedType x })) f.1 in
-      ap (λ o. or_else o (or_else (function_call (functions_in ds) x) (actor_call (actors_in ds) x))) r
-      ∙ ap₂ (λ o q. or_else (option_map (λ (f : RoutineTree). record { params = param_types f.params; gives = f.returns }) o)
-      (option_map (λ (f : RoutineTree). record { params = param_types f.params; gives = FutureType f.returns }) q)) f.2 f.3
-      ∙ ap₂ (λ ts t. takes ts (FutureType t)) (sym f.4) (sym f.5)
+      ∙ ap (option_map (λ (r : RecordTree). record { params = param_types r.fields; gives = NamedType x })) f.1 in (
+        ap (λ o. or_else o (or_else (function_call (functions_in ds) x) (actor_call (actors_in ds) x))) r
+            ∙ ap₂ (λ o q. or_else (option_map (λ (f : RoutineTree). record { params = param_types f.params; gives = f.returns }) o)
+            (option_and_then (λ (f : RoutineTree). actor_gives (param_types f.params) f.returns) q)) f.2 f.3
+            ∙ ap₂ actor_gives (sym f.4) (sym f.5),
+        f.0,
+        f.2,
+        f.3,
+        sym f.5,
+        sym f.4,
+      )
 
   packet_as : (x : List ℕ) → is_packet x ≡ true → IsDeclared scope x (Some (RecordOf packet_fields))
   packet_as x e =

@@ -10,11 +10,11 @@ use Rattle.flow_tree.specs.Decls.{ParamTree, RecordTree, RoutineTree, DeclTree, 
 use Rattle.flow_tree.proofs.ForParts.{InitKind, no_init, declares, assigns, modifies, init_kind, StepKind, no_step, assigned, modified, step_kind}
 use Rattle.flow_ast.specs.Typing.{is_there}
 use Rattle.flow_ast.specs.Leaving.{has_statement}
-use Rattle.flow_ast.specs.Fits.{declared_in, ThrowFits, BodyFits, FunctionFits, FunctionsFit}
+use Rattle.flow_ast.specs.Fits.{declared_in, ThrowFits, BodyFits, FunctionFits, FunctionsFit, ReturnFits}
 use Rattle.flow_rules.specs.declared.rule.SemanticRule.TheVariants.{FallsOff, BreakOutside, WaitInFunction}
 use Rattle.flow_rules.specs.Least.{unless}
 use Rattle.flow_rules.specs.Known.{known}
-use Rattle.flow_rules.specs.Judged.{Setting, wanted}
+use Rattle.flow_rules.specs.Judged.{Setting, wanted, returned}
 use Rattle.flow_rules.specs.Closing as closing
 use Rattle.flow_rules.specs.Items.{Env, item, with_var, in_loop, in_catch, behind, declared, started, fresh, assign_fault, modify_fault, call_fault, test_fault, maybe_test, throw_fault, declare_fault, wait_fault, maybe_into, wait_type, body_refusal}
 use Rattle.flow_rules.specs.Rules.{setting_of, header_fault, body_env, routine_refusal, decl_refusal, decls_refusal}
@@ -75,6 +75,10 @@ module _ (ds : List DeclTree) (apart : Distinct ds) where
         (at_item ds true e vars at (λ s. modify_fault s xs d) k (neither_first (item at (modify_fault e.setting xs d)) None h)),
     tt,
   )
+
+  return_fits : (vars : List ParamTree) (v : Option ExprTree) (r : TypeTree) → returned (setting_in ds true vars) v r ≡ None → ReturnFits (records_in ds) (functions_in ds) (actors_in ds) vars v r
+  return_fits vars None r h = absurd (some_none h)
+  return_fits vars (Some e) r h = yields ds apart true vars e r h
 
   body_fits : (b : Body) (e : Env) (vars : List ParamTree) (r : TypeTree) (loop : Bool) (c : Option (List ℕ)) → Stands ds true e vars r loop c → HasSimpleParts b → HasPaths b → body_refusal e b ≡ None
       → Fitting r loop c vars b
@@ -140,8 +144,8 @@ module _ (ds : List DeclTree) (apart : Distinct ds) where
       let i = unless e.looped BreakOutside in
       (k.looped (holds e.looped BreakOutside (no_item at i (neither_first (item at i) _ h))), body_fits t e vars r loop c k s.1 p.1 (neither_second (item at i) _ h))
   body_fits (ReturnStmt at v t) e vars r loop c k s p h =
-      let i = item at (wanted e.setting false v e.returns) in (
-        yields ds apart true vars v r (ap (wanted (setting_in ds true vars) false v) (sym k.returns) ∙ at_item ds true e vars at (λ s. wanted s false v e.returns) k.setting (neither_first i _ h)),
+      let i = item at (returned e.setting v e.returns) in (
+        return_fits vars v r (ap (returned (setting_in ds true vars) v) (sym k.returns) ∙ at_item ds true e vars at (λ s. returned s v e.returns) k.setting (neither_first i _ h)),
         body_fits t e vars r loop c k s.1 p.1 (neither_second i _ h),
       )
   body_fits (ThrowStmt at v t) e vars r loop c k s p h =

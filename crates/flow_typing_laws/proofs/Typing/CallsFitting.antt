@@ -1,31 +1,31 @@
 -- The calls that stand as statements in an actor fit what they call.
-use Rattle.std.proofs.Common.{◌≡◌, ℕ, Bool, true, false, ◌&&◌, inl, List, [], ◌∷◌, map, refl, sym, ap, ap₂, subst, ◌∙◌}
+use Rattle.std.proofs.Common.{◌≡◌, ℕ, Bool, true, false, ◌&&◌, inl, List, [], ◌∷◌, map, refl, sym, ap, ap₂, subst, ◌∙◌, inr}
 use Rattle.std.specs.Option.{option_map}
 use Rattle.std.proofs.lemmas.Bool.{false≢true}
 use Rattle.std.specs.declared.option.Option.{Option}
 use Rattle.std.specs.declared.option.Option.TheVariants.{None, Some}
 use Rattle.flow_tree.specs.declared.ty.Ident.{Ident}
-use Rattle.flow_tree.specs.Tree.{TypeTree, IntType, StringType, ErrorType, FutureType, PromiseType, PromiseStreamType, ExprTrees, NoExprs, MoreExprs}
+use Rattle.flow_tree.specs.Tree.{TypeTree, IntType, StringType, ErrorType, FutureType, PromiseType, PromiseStreamType, ExprTrees, NoExprs, MoreExprs, VectorType, NothingType}
 use Rattle.flow_tree.specs.Decls.{ParamTree, DeclTree}
 use Rattle.flow_ast.specs.declared.predefined.Predefined.{Predefined}
 use Rattle.flow_ast.specs.declared.predefined.Predefined.TheVariants as predefined
 use Rattle.flow_ast.specs.declared.predefined.Method.{Method}
 use Rattle.flow_ast.specs.declared.predefined.Method.TheVariants as method
 use Rattle.flow_ast.specs.TypingNames.{named, call_names, method_names, constant_names}
-use Rattle.flow_ast.specs.Typing.{Signature, signature, is_there, same_type, same_types, param_types, equality_type, more_types, types_in, method_in, without_effects}
+use Rattle.flow_ast.specs.Typing.{Signature, signature, is_there, same_type, same_types, param_types, equality_type, more_types, types_in, method_in, without_effects, is_nothing}
 use Rattle.flow_ast.specs.Fits.{fields_type}
 use Rattle.flow_rules.specs.declared.rule.SemanticRule.{SemanticRule}
 use Rattle.flow_rules.specs.declared.rule.SemanticRule.TheVariants.{UnknownName, WrongType, WrongCount, LostValue}
 use Rattle.flow_rules.specs.Least.{lesser, unless}
 use Rattle.flow_rules.specs.Known.{Meaning, RecordOf, FunctionOf, ActorOf}
-use Rattle.flow_rules.specs.Judged.{Setting, Need, Exactly, Traced, predefined_callee, declared_callee, called_as, called, called_by, called_on, sends, cancels, stated_on, method_callee, needs_of, form, fault, faults, fits, said, as_many, calls, variable_form}
+use Rattle.flow_rules.specs.Judged.{Setting, Need, Exactly, Traced, predefined_callee, declared_callee, called_as, called, called_by, called_on, sends, cancels, stated_on, method_callee, needs_of, form, fault, faults, fits, said, as_many, calls, variable_form, grows}
 use Rattle.flow_rules.specs.Items.{path_form, path_fault, ends_of, base_form, base_fault, call_fault}
 use Rattle.flow_rules.proofs.Lesser.{no_first, no_second, holds}
 use Rattle.flow_meaning.specs.Source.{records_in}
 use Rattle.flow_typing_laws.specs.Typing.Agreeing.{IsDeclared}
 use Rattle.flow_typing_laws.specs.Typing.Scopes.{scope_in, setting_in}
 use Rattle.flow_tree.specs.Formed.{IsPath}
-use Rattle.flow_typing_laws.specs.Typing.CallsFit.{HaveTypes, NameFits, SendFits, CancelFits, MethodFits, base_type, CallStands}
+use Rattle.flow_typing_laws.specs.Typing.CallsFit.{HaveTypes, NameFits, SendFits, CancelFits, MethodFits, base_type, CallStands, GrowFits}
 use Rattle.flow_typing_laws.proofs.Typing.Names.{type_same, some_none, there}
 use Rattle.flow_typing_laws.proofs.Typing.Expressions.{typed, all_typed, from_start, equality_there, constant_typed}
 use Rattle.flow_typing_laws.proofs.Typing.Agreement.{Distinct, agrees}
@@ -103,7 +103,9 @@ module _ (ds : List DeclTree) (apart : Distinct ds) (vars : List ParamTree) wher
       → NameFits ds vars x es None
   declared_fits x es None d h c = absurd (some_none c)
   declared_fits x es (Some (RecordOf fs)) d h c = absurd (discarded es (map Exactly (map (λ (f : List ℕ × TypeTree). f.1) fs)) c)
-  declared_fits x es (Some (FunctionOf ts t)) d h c = (d.2, d.3, have_types (map Exactly ts) (param_types d.2.params) es (ap (map Exactly) (sym d.4)) (many es (map Exactly ts) None c) h)
+  declared_fits x es (Some (FunctionOf ts t)) d h c = inl (d.2, d.3, have_types (map Exactly ts) (param_types d.2.params) es (ap (map Exactly) (sym d.4)) (many es (map Exactly ts) None c) h)
+  declared_fits x es (Some (ActorOf ts NothingType)) d h c =
+      inr (d.1, d.2, d.3, ap is_nothing d.4, have_types (map Exactly ts) (param_types d.1.params) es (ap (map Exactly) (sym d.5)) (many es (map Exactly ts) None c) h)
   declared_fits x es (Some (ActorOf ts t)) d h c = absurd (discarded es (map Exactly ts) c)
 
   name_fits : (x : List ℕ) (es : ExprTrees) (p : Option Predefined) → faults here 0 (needs_of (called_as here x p)) es ≡ None → calls es (called_as here x p) (said here) ≡ None
@@ -121,10 +123,16 @@ module _ (ds : List DeclTree) (apart : Distinct ds) (vars : List ParamTree) wher
   cancel_fits method.Cancel es h c = have_types [] [] es refl (many es [] None c) h
   cancel_fits m es h c = absurd (some_none c)
 
+  grow_fits : (t : TypeTree) (m : Method) (es : ExprTrees) → faults here 0 (needs_of (grows t m)) es ≡ None → calls es (grows t m) (said here) ≡ None → GrowFits ds vars t es m
+  grow_fits t method.PushBack es h c = have_types (Exactly t ∷ []) (t ∷ []) es refl (many es (Exactly t ∷ []) None c) h
+  grow_fits t method.Clear es h c = have_types [] [] es refl (many es [] None c) h
+  grow_fits t m es h c = absurd (some_none c)
+
   stated_fits : (t : TypeTree) (m : Method) (es : ExprTrees) → faults here 0 (needs_of (stated_on t m)) es ≡ None → calls es (stated_on t m) (said here) ≡ None → MethodFits ds vars t es m
   stated_fits (PromiseType t) m es h c = send_fits t m es h c
   stated_fits (PromiseStreamType t) m es h c = send_fits t m es h c
   stated_fits (FutureType t) m es h c = cancel_fits m es h c
+  stated_fits (VectorType t) m es h c = grow_fits t m es h c
   stated_fits t m es h c = absurd (some_none c)
 
   method_fits : (t : TypeTree) (m : Method) (es : ExprTrees) (g : Option Signature) → faults here 0 (needs_of (method_callee t m g)) es ≡ None → calls es (method_callee t m g) (said here) ≡ None

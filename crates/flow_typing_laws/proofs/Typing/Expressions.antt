@@ -11,13 +11,13 @@ use Rattle.flow_ast.specs.declared.predefined.Predefined.{Predefined}
 use Rattle.flow_ast.specs.declared.predefined.Predefined.TheVariants as predefined
 use Rattle.flow_ast.specs.declared.predefined.Method.{Method}
 use Rattle.flow_ast.specs.declared.predefined.Method.TheVariants as method
-use Rattle.flow_tree.specs.Tree.{Selector, ByName, ByIndex, TypeTree, IntType, BoolType, StringType, VoidType, NamedType, FutureType, PromiseType, PromiseStreamType, ExprTree, ExprTrees, IntExpr, TextExpr, BoolExpr, VoidExpr, VarExpr, CallExpr, FieldExpr, MethodExpr, NotExpr, NegExpr, BinaryExpr, ParenExpr, NoExprs, MoreExprs}
+use Rattle.flow_tree.specs.Tree.{Selector, ByName, ByIndex, TypeTree, IntType, BoolType, StringType, VoidType, NamedType, FutureType, PromiseType, PromiseStreamType, ExprTree, ExprTrees, IntExpr, TextExpr, BoolExpr, VoidExpr, VarExpr, CallExpr, FieldExpr, MethodExpr, NotExpr, NegExpr, BinaryExpr, ParenExpr, NoExprs, MoreExprs, VectorType, NothingType}
 use Rattle.flow_ast.specs.TypingNames.{named, selected, call_names, constant_names, method_names}
 use Rattle.flow_ast.specs.Typing.{ScopeTree, Signature, takes, signature, is_effect, applied, same_type, same_types, sum_type, order_type, equality_type, int_only, bool_only, binary_type, with_type, more_types, type_in, types_in, method_in, call_in, declared_call, effect_in, field_type, variable_in, is_there, without_effects, all_without_effects}
 use Rattle.flow_rules.specs.declared.rule.SemanticRule.TheVariants.{UnknownName, WrongType, WrongCount, EffectInside, NotInFunction}
 use Rattle.flow_rules.specs.Least.{lesser, unless}
 use Rattle.flow_rules.specs.Known.{Meaning, RecordOf, FunctionOf, ActorOf}
-use Rattle.flow_rules.specs.Judged.{Setting, Need, Exactly, Value, OfFunction, Effect, Statement, Callee, predefined_kind, stated, predefined_callee, declared_callee, called_as, called, sends, cancels, stated_on, method_callee, called_by, needs_of, gives_of, field_form, variable_as, variable_form, sign_form, form, wants, fits, operands, not_here, placed, as_many, calls, calls_on, of_field, fault, faults, selected_on}
+use Rattle.flow_rules.specs.Judged.{Setting, Need, Exactly, Value, OfFunction, Effect, Statement, Callee, predefined_kind, stated, predefined_callee, declared_callee, called_as, called, sends, cancels, stated_on, method_callee, called_by, needs_of, gives_of, field_form, variable_as, variable_form, sign_form, form, wants, fits, operands, not_here, placed, as_many, calls, calls_on, of_field, fault, faults, selected_on, grows, index_callee}
 use Rattle.flow_rules.proofs.Lesser.{no_first, no_second, holds}
 use Rattle.flow_typing_laws.specs.Typing.Agreeing.{IsDeclared, Agrees}
 use Rattle.flow_typing_laws.specs.Typing.Joined.{IsTyped}
@@ -151,12 +151,14 @@ declared_called s c whole xs x (Some (FunctionOf ts t)) d e = record {
   many = holds (as_many xs (map Exactly ts)) WrongCount (no_first (unless (as_many xs (map Exactly ts)) WrongCount) (placed s whole OfFunction) e);
   quiet = λ q. d.1;
 }
+declared_called s c whole xs x (Some (ActorOf ts NothingType)) d e =
+    absurd (statement_out s whole (no_second (unless (as_many xs (map Exactly ts)) WrongCount) (placed s whole Statement) e))
 declared_called s c whole xs x (Some (ActorOf ts t)) d e = record {
   params = ts;
   result = FutureType t;
   gives = refl;
   needs = refl;
-  signs = d;
+  signs = d.0;
   many = holds (as_many xs (map Exactly ts)) WrongCount (no_first (unless (as_many xs (map Exactly ts)) WrongCount) (placed s whole Effect) e);
   quiet = λ q. absurd (effect_out s whole (no_second (unless (as_many xs (map Exactly ts)) WrongCount) (placed s whole Effect) e) q);
 }
@@ -176,10 +178,16 @@ cancels_statement : (m : Method) (k : Callee) → cancels m ≡ Some k → k.kin
 cancels_statement method.Cancel k e = sym (ap (λ (c : Callee). c.kind) (some_same _ k e))
 cancels_statement m k e = absurd (none_some e)
 
+grows_statement : (t : TypeTree) (m : Method) (k : Callee) → grows t m ≡ Some k → k.kind ≡ Statement
+grows_statement t method.PushBack k e = sym (ap (λ (c : Callee). c.kind) (some_same _ k e))
+grows_statement t method.Clear k e = sym (ap (λ (c : Callee). c.kind) (some_same _ k e))
+grows_statement t m k e = absurd (none_some e)
+
 pub stated_statement : (t : TypeTree) (m : Method) (k : Callee) → stated_on t m ≡ Some k → k.kind ≡ Statement
 stated_statement (PromiseType t) m k e = sends_statement t m k e
 stated_statement (PromiseStreamType t) m k e = sends_statement t m k e
 stated_statement (FutureType t) m k e = cancels_statement m k e
+stated_statement (VectorType t) m k e = grows_statement t m k e
 stated_statement t m k e = absurd (none_some e)
 
 stated_out : (s : Setting) (xs : ExprTrees) (t : TypeTree) (m : Method) (o : Option Callee) → stated_on t m ≡ o → calls xs o (placed s false) ≡ None → ⊥
@@ -204,11 +212,23 @@ method_called : (s : Setting) (xs : ExprTrees) (t : TypeTree) (m : Option Method
 method_called s xs t None e = absurd (some_none e)
 method_called s xs t (Some m) e = signed_method s xs t m (method_in t (Some m)) e
 
--- what a selector calls; an index has no type
+-- what a selector calls; an index of what is no vector has no type
+index_called : (s : Setting) (xs : ExprTrees) (g : Option Signature) → calls xs (Some (index_callee g)) (placed s false) ≡ None → Called s false xs (Some (index_callee g)) g false
+index_called s xs None e = absurd (statement_out s false (no_second (unless (as_many xs (Exactly IntType ∷ [])) WrongCount) (placed s false Statement) e))
+index_called s xs (Some g) e = record {
+  params = g.params;
+  result = g.gives;
+  gives = refl;
+  needs = refl;
+  signs = refl;
+  many = holds (as_many xs (map Exactly g.params)) WrongCount (no_first (unless (as_many xs (map Exactly g.params)) WrongCount) (placed s false Value) e);
+  quiet = λ q. refl;
+}
+
 selected_called : (s : Setting) (xs : ExprTrees) (t : TypeTree) (m : Selector) → calls xs (selected_on (Some t) m) (placed s false) ≡ None
     → Called s false xs (selected_on (Some t) m) (method_in t (selected m)) false
 selected_called s xs t (ByName x) e = method_called s xs t (named method_names x.name) e
-selected_called s xs t ByIndex e = absurd (statement_out s false (no_second (unless (as_many xs (Exactly IntType ∷ [])) WrongCount) (placed s false Statement) e))
+selected_called s xs t ByIndex e = index_called s xs (method_in t (selected ByIndex)) e
 
 -- arguments of the types that are needed
 pub record AreTyped (c : ScopeTree) (ts : List TypeTree) (es : ExprTrees) : Type 0 where

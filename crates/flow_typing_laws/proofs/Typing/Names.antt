@@ -6,7 +6,7 @@ use Rattle.std.proofs.lemmas.Bool.{false≢true, true≢false}
 use Rattle.std.proofs.lemmas.Slice.Eq.{bytes_eq-Decides}
 use Rattle.std.specs.declared.option.Option.{Option}
 use Rattle.std.specs.declared.option.Option.TheVariants.{None, Some}
-use Rattle.flow_tree.specs.Tree.{TypeTree, IntType, BoolType, StringType, VoidType, ErrorType, NamedType, FutureType, FutureStreamType, PromiseType, PromiseStreamType}
+use Rattle.flow_tree.specs.Tree.{TypeTree, IntType, BoolType, StringType, VoidType, ErrorType, NamedType, FutureType, FutureStreamType, PromiseType, PromiseStreamType, VectorType, NothingType}
 use Rattle.flow_ast.specs.Typing.{same_type, is_there}
 
 pub bytes_same : (x y : List ℕ) → bytes_eq x y ≡ true → x ≡ y
@@ -38,6 +38,8 @@ type_same (FutureType t) (FutureType u) e = ap FutureType (type_same t u e)
 type_same (FutureStreamType t) (FutureStreamType u) e = ap FutureStreamType (type_same t u e)
 type_same (PromiseType t) (PromiseType u) e = ap PromiseType (type_same t u e)
 type_same (PromiseStreamType t) (PromiseStreamType u) e = ap PromiseStreamType (type_same t u e)
+type_same (VectorType t) (VectorType u) e = ap VectorType (type_same t u e)
+type_same NothingType NothingType e = refl
 type_same t u e = absurd (false≢true e)
 
 pub type_self : (t : TypeTree) → same_type t t ≡ true
@@ -46,6 +48,7 @@ type_self (FutureType t) = type_self t
 type_self (FutureStreamType t) = type_self t
 type_self (PromiseType t) = type_self t
 type_self (PromiseStreamType t) = type_self t
+type_self (VectorType t) = type_self t
 type_self _ = refl
 
 -- Options.

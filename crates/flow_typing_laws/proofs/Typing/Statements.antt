@@ -11,7 +11,7 @@ use Rattle.flow_tree.specs.declared.expr.Op.TheVariants.{Add, Sub}
 use Rattle.flow_ast.specs.declared.predefined.Predefined.{Predefined}
 use Rattle.flow_ast.specs.declared.predefined.Predefined.TheVariants as predefined
 use Rattle.flow_ast.specs.declared.predefined.Method.{Method}
-use Rattle.flow_tree.specs.Tree.{TypeTree, IntType, BoolType, StringType, PromiseType, PromiseStreamType, ExprTree, ExprTrees}
+use Rattle.flow_tree.specs.Tree.{TypeTree, IntType, BoolType, StringType, PromiseType, PromiseStreamType, ExprTree, ExprTrees, VectorType, NothingType}
 use Rattle.flow_tree.specs.Body.{IntoTree, ChangeTree, PlusChange, MinusChange, UpChange, DownChange}
 use Rattle.flow_tree.specs.Decls.{ParamTree, RecordTree, RoutineTree, DeclTree}
 use Rattle.flow_ast.specs.TypingNames.{named, call_names, method_names}
@@ -172,6 +172,7 @@ module _ (ds : List DeclTree) (apart : Distinct ds) where
   default_fits vars StringType w d = refl
   default_fits vars (PromiseType t) w d = absurd (some_none (no_second (unless (type_known (at_function vars).known (PromiseType t)) UnknownName) (Some NotInFunction) w))
   default_fits vars (PromiseStreamType t) w d = absurd (some_none (no_second (unless (type_known (at_function vars).known (PromiseStreamType t)) UnknownName) (Some NotInFunction) w))
+  default_fits vars (VectorType t) w d = refl
   default_fits vars t w d = absurd (false≢true d)
 
   pub declare_fits : (vars : List ParamTree) (states : List (List ℕ)) (i : IntoTree) (v : Option ExprTree) → declare_fault (at_function vars) states i v ≡ None
@@ -231,6 +232,7 @@ module _ (ds : List DeclTree) (apart : Distinct ds) where
     needs = ap (map Exactly) (sym d.4);
     many = ap (λ l. as_many es (map Exactly l)) d.4 ∙ holds (as_many es (map Exactly ts)) WrongCount (no_first (unless (as_many es (map Exactly ts)) WrongCount) None h);
   }
+  declared_function vars x es (Some (ActorOf ts NothingType)) d h = absurd (some_none (no_second (unless (as_many es (map Exactly ts)) WrongCount) (not_here (at_function vars)) h))
   declared_function vars x es (Some (ActorOf ts t)) d h =
       absurd (some_none (no_second (not_here (at_function vars)) (Some LostValue)
       (no_second (unless (as_many es (map Exactly ts)) WrongCount) (lesser (not_here (at_function vars)) (Some LostValue)) h)))

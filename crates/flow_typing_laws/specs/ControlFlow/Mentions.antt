@@ -111,7 +111,7 @@ abbrev mutual
   mentions (LoopStmt at b k) n vs c = mentions b (suc n) vs c ++ mentions k (suc n + points b) vs c
   mentions (BreakStmt at k) n vs c = mentions k (suc n) vs c
   mentions (ContinueStmt at k) n vs c = mentions k (suc n) vs c
-  mentions (ReturnStmt at v k) n vs c = of_names vs n (expr_names v) ++ mentions k (suc n) vs c
+  mentions (ReturnStmt at v k) n vs c = of_names vs n (maybe_names v) ++ mentions k (suc n) vs c
   mentions (ThrowStmt at v k) n vs c = thrown vs n at c v ++ mentions k (suc n) vs c
   mentions (TryStmt at b q x h k) n vs c =
       let l = suc n + points b in

@@ -5,7 +5,7 @@ use Rattle.std.specs.declared.option.Option.TheVariants.{None, Some}
 use Rattle.flow_tree.specs.Tree.{TypeTree, BoolType, ErrorType, ExprTree}
 use Rattle.flow_tree.specs.Body.{IntoTree, Body, End, BlockStmt, IfStmt, IfElseStmt, WhileStmt, ForStmt, LoopStmt, BreakStmt, ContinueStmt, ReturnStmt, ThrowStmt, TryStmt, ChooseStmt, DeclareStmt, AssignStmt, ModifyStmt, CallStmt, WaitStmt, Branches, NoBranches, MoreBranches}
 use Rattle.flow_tree.specs.Decls.{ParamTree, RoutineTree, DeclTree}
-use Rattle.flow_ast.specs.Typing.{type_in}
+use Rattle.flow_ast.specs.Typing.{type_in, is_nothing}
 use Rattle.flow_ast.specs.Fits.{declared_in, path_type, Yields, MaybeYields, ChangeFits, ThrowFits}
 use Rattle.flow_rules.specs.Closing.{ways}
 use Rattle.flow_rules.specs.Items.{has_default, wait_type}
@@ -28,6 +28,11 @@ module _ (ds : List DeclTree) where
   abbrev pub ValueGiven : List ParamTree → TypeTree → Option ExprTree → Type 0
   ValueGiven vars t None = has_default t ≡ true
   ValueGiven vars t (Some e) = Gives vars e t
+
+  -- a value of the result's type is returned, and none by a void actor
+  abbrev pub ResultGiven : List ParamTree → TypeTree → Option ExprTree → Type 0
+  ResultGiven vars t None = is_nothing t ≡ true
+  ResultGiven vars t (Some e) = Yields (records_in ds) (functions_in ds) (actors_in ds) vars e t
 
   -- Each statement of an actor's body, where the actor gives this type, is well typed over the variables in force, in a loop
   -- or not, and with the variable of the innermost catch around it.
@@ -57,8 +62,7 @@ module _ (ds : List DeclTree) where
     StandsWell r loop c vars (LoopStmt at b k) = StandsWell r true c vars b × StandsWell r loop c vars k
     StandsWell r loop c vars (BreakStmt at k) = (loop ≡ true) × StandsWell r loop c vars k
     StandsWell r loop c vars (ContinueStmt at k) = (loop ≡ true) × StandsWell r loop c vars k
-    StandsWell r loop c vars (ReturnStmt at e k) =
-        Yields (records_in ds) (functions_in ds) (actors_in ds) vars e r × StandsWell r loop c vars k
+    StandsWell r loop c vars (ReturnStmt at e k) = ResultGiven vars r e × StandsWell r loop c vars k
     StandsWell r loop c vars (ThrowStmt at e k) =
         ThrowFits (records_in ds) (functions_in ds) (actors_in ds) vars c e × StandsWell r loop c vars k
     StandsWell r loop c vars (TryStmt at b q x h k) =
@@ -84,9 +88,9 @@ module _ (ds : List DeclTree) where
         × StandsWell r loop c (waited_params vars w.into) b
         × StandWell r loop c vars bs
 
-  -- an actor fits: its statements over its parameters do, and the control graph doesn't lead to its end
+  -- an actor fits: its statements over its parameters do, and the control graph doesn't lead to its end, unless it is void
   abbrev pub ActorFits : RoutineTree → Type 0
-  ActorFits a = StandsWell a.returns false None a.params a.body × ((ways a.body).end ≡ false)
+  ActorFits a = StandsWell a.returns false None a.params a.body × (is_nothing a.returns ≡ false → (ways a.body).end ≡ false)
 
   abbrev pub ActorsFit : Type 0
   ActorsFit = (k : ℕ) (a : RoutineTree) → slice_get (actors_in ds) k ≡ Some a → ActorFits a

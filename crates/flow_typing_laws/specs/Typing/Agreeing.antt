@@ -3,10 +3,10 @@ use Rattle.std.specs.Prelude.{◌≡◌, ℕ, false, List, map}
 use Rattle.std.specs.Option.{option_map}
 use Rattle.std.specs.declared.option.Option.{Option}
 use Rattle.std.specs.declared.option.Option.TheVariants.{None, Some}
-use Rattle.flow_tree.specs.Tree.{TypeTree, NamedType, FutureType}
+use Rattle.flow_tree.specs.Tree.{TypeTree, NamedType}
 use Rattle.flow_tree.specs.Decls.{ParamTree, RoutineTree}
 use Rattle.flow_ast.specs.TypingNames.{named}
-use Rattle.flow_ast.specs.Typing.{ScopeTree, takes, declared_call, effect_in, field_type, param_named, param_types, routine_named}
+use Rattle.flow_ast.specs.Typing.{ScopeTree, takes, actor_gives, declared_call, effect_in, field_type, param_named, param_types, routine_named}
 use Rattle.flow_rules.specs.Known.{Meaning, RecordOf, FunctionOf, ActorOf}
 use Rattle.flow_rules.specs.Judged.{Setting, field_form}
 
@@ -18,7 +18,9 @@ IsDeclared c x (Some (RecordOf fs)) =
 IsDeclared c x (Some (FunctionOf ts t)) =
     (declared_call c x ≡ takes ts t) × (effect_in c x None ≡ false)
     × (f : RoutineTree) × (routine_named c.functions x ≡ Some f) × (param_types f.params ≡ ts)
-IsDeclared c x (Some (ActorOf ts t)) = declared_call c x ≡ takes ts (FutureType t)
+IsDeclared c x (Some (ActorOf ts t)) =
+    (declared_call c x ≡ actor_gives ts t) × (a : RoutineTree) × (routine_named c.functions x ≡ None) × (routine_named c.actors x ≡ Some a)
+    × (a.returns ≡ t) × (param_types a.params ≡ ts)
 
 pub record Agrees (s : Setting) (c : ScopeTree) : Type 0 where
   pub names : (x : List ℕ) → IsDeclared c x (s.known x)

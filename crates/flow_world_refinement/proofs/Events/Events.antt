@@ -153,8 +153,8 @@ module _ (r : RawTree) {A : Type 0} (puts : A → Line → Result (Unit {0}) Out
         u : Seen
         u = with_outside (with_events n.rest (begins h.time w).outside) (begins h.time w)
 
-        early : x.time ≤ Rattle.flow_world_refinement.specs.Invariants.latest m.out.ran
-        early = ((next_early m.out lasting.times).event x left comes).0
+        early : x.time ≤ Rattle.flow_world_refinement.specs.Invariants.latest lasting.slack m.out.ran
+        early = ((next_early lasting.slack m.out lasting.times).event x left comes).0
 
         same_time : x.time ≡ h.time
         same_time = sym n.shows.time ∙ n.at

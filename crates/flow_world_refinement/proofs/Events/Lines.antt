@@ -61,10 +61,10 @@ module _ (r : RawTree) {A : Type 0} (puts : A → Line → Result (Unit {0}) Out
       (w v : Seen) (m : World Frame) (a b : A) (e : burst_end.Burst) (program : IsProgram r w.code) (s : WorldRepresents (Quiescent r) w m) (lasting : WorldInvariant r m) (h : Happens puts w a e v b)
       (deed : ActionRefines puts r w.code) (still : StaysQuiescent r) (loss : LossFollows) where
     -- fewer events ran than may, and programs can tell the time
-    pub tells : (t : ℕ) → t ≤ Rattle.flow_world_refinement.specs.Invariants.latest m.out.ran → program_time t ≡ pos t
+    pub tells : (t : ℕ) → t ≤ Rattle.flow_world_refinement.specs.Invariants.latest lasting.slack m.out.ran → program_time t ≡ pos t
     tells t early =
         let within : m.out.ran < m.out.file.events = omega (arith, h.bound, s.ran, s.bound) in
-        let many = lasting.times.file.events in clock_tells t m.out.ran early (omega (arith, within, many))
+        let many = lasting.times.file.events in clock_tells lasting.slack t m.out.ran lasting.few early (omega (arith, within, many))
 
     -- what it keeps once it has begun
     pub goes_on : (g : Begun Frame) → begun_by (classes r) m (next_of m.out) ≡ Some g → GoesOn r puts g
@@ -140,7 +140,7 @@ module _ (r : RawTree) {A : Type 0} (puts : A → Line → Result (Unit {0}) Out
         → Ordered puts n.line.act (record (begins h.time w) { script = n.rest }) a e h.left b → Event e m a v b
     line_event t k left n comes next_is does =
         let u : Seen = record (begins h.time w) { script = n.rest } in
-        let early = (next_early m.out lasting.times).line t k left comes in
+        let early = (next_early lasting.slack m.out lasting.times).line t k left comes in
         let go = line_begins r w m s h.time t k left n in
         let x = n.line.act in
         follows t x left u refl (subst (λ z. next_of m.out ≡ Script t z left) (sym n.orders) comes)

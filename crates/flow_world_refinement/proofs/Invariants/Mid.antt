@@ -27,22 +27,22 @@ use Rattle.flow_world_refinement.proofs.Invariants.Timely.{IsTimely, step_timely
 in_span : (lo hi word : ℕ) → IsSpan lo hi → draw_in (lo, hi) word ≤ 1000000000
 in_span lo hi word h = let m = mod_below word (hi - lo) (omega (arith, h.0)) in omega (arith, h.0, h.1, m)
 
-later : (n t d : ℕ) → t ≤ latest n → d ≤ 1000000000 → t + d ≤ latest (suc n)
-later n t d h k = omega (arith, h, k)
+later : (slack n t d : ℕ) → t ≤ latest slack n → d ≤ 1000000000 → t + d ≤ latest slack (suc n)
+later slack n t d h k = omega (arith, h, k)
 
-longer : (n t : ℕ) → t ≤ latest n → t ≤ latest (suc n)
-longer n t h = omega (arith, h)
+longer : (slack n t : ℕ) → t ≤ latest slack n → t ≤ latest slack (suc n)
+longer slack n t h = omega (arith, h)
 
-timer_early : (n t : ℕ) → t ≤ 2 ^ 62 → t ≤ latest n
-timer_early n t h = omega (arith, h)
+timer_early : (slack n t : ℕ) → t ≤ 2 ^ 62 → t ≤ latest slack n
+timer_early slack n t h = omega (arith, h)
 
-pub clock_tells : (t n : ℕ) → t ≤ latest n → n ≤ 1000000 → program_time t ≡ pos t
-clock_tells t n h k = let fits : nat_lt last_time t ≡ false = grind (arith, nat_tests, h, k) in rw fits refl
+pub clock_tells : (slack t n : ℕ) → slack ≤ 2 ^ 50 → t ≤ latest slack n → n ≤ 1000000 → program_time t ≡ pos t
+clock_tells slack t n few h k = let fits : nat_lt last_time t ≡ false = grind (arith, nat_tests, few, h, k) in rw fits refl
 
 -- each event, one event later
-all_longer : (n : ℕ) (es : List (Pending What)) → AllByRecursion (IsEarly n) es → AllByRecursion (IsEarly (suc n)) es
-all_longer n [] h = tt
-all_longer n (e ∷ es) h = (longer n e.time h.0, all_longer n es h.1)
+all_longer : (slack n : ℕ) (es : List (Pending What)) → AllByRecursion (IsEarly slack n) es → AllByRecursion (IsEarly slack (suc n)) es
+all_longer slack n [] h = tt
+all_longer slack n (e ∷ es) h = (longer slack n e.time h.0, all_longer slack n es h.1)
 
 -- the line of the script that comes first, and the others
 abbrev Lines : Type 0
@@ -67,92 +67,92 @@ soonest_early (x ∷ xs) s h e = subst Early (same e) (sooner_early x xs (soones
     same q = cc
 
 -- by what comes next
-pub record NextEarly (o : Outside) (n : Next) : Type 0 where
-  pub line : (t : ℕ) (x : Order) (left : List (ℕ × Order)) → n ≡ Script t x left → (t ≤ latest o.ran) × AllByRecursion LineIsEarly left
-  pub event : (p : Pending What) (left : List (Pending What)) → n ≡ Event p left → (p.time ≤ latest o.ran) × AllByRecursion (IsEarly o.ran) left
+pub record NextEarly (slack : ℕ) (o : Outside) (n : Next) : Type 0 where
+  pub line : (t : ℕ) (x : Order) (left : List (ℕ × Order)) → n ≡ Script t x left → (t ≤ latest slack o.ran) × AllByRecursion LineIsEarly left
+  pub event : (p : Pending What) (left : List (Pending What)) → n ≡ Event p left → (p.time ≤ latest slack o.ran) × AllByRecursion (IsEarly slack o.ran) left
 
-module _ (o : Outside) (h : InTime o) where
-  script_early : (s : Lines) (es : List (Pending What)) → Early s → NextEarly o (Script s.0.0 s.0.1 s.1)
+module _ (slack : ℕ) (o : Outside) (h : InTime slack o) where
+  script_early : (s : Lines) (es : List (Pending What)) → Early s → NextEarly slack o (Script s.0.0 s.0.1 s.1)
   script_early s es k = record {
     line = λ t x left q. let a : s.0.0 ≡ t = cc in
-        let b : s.1 ≡ left = cc in (subst (λ z. z ≤ latest o.ran) a (timer_early o.ran s.0.0 k.0), subst (AllByRecursion LineIsEarly) b k.1);
+        let b : s.1 ≡ left = cc in (subst (λ z. z ≤ latest slack o.ran) a (timer_early slack o.ran s.0.0 k.0), subst (AllByRecursion LineIsEarly) b k.1);
     event = λ p left q. absurd (cc);
   }
 
-  pending_early : (e : Pending What) (es : List (Pending What)) → AllByRecursion (IsEarly o.ran) (e ∷ es) → NextEarly o (Event e es)
+  pending_early : (e : Pending What) (es : List (Pending What)) → AllByRecursion (IsEarly slack o.ran) (e ∷ es) → NextEarly slack o (Event e es)
   pending_early e es k = record {
     line = λ t x left q. absurd (cc);
     event = λ p left q. let a : e ≡ p = cc in
-        let b : es ≡ left = cc in (subst (λ z. z.time ≤ latest o.ran) a k.0, subst (AllByRecursion (IsEarly o.ran)) b k.1);
+        let b : es ≡ left = cc in (subst (λ z. z.time ≤ latest slack o.ran) a k.0, subst (AllByRecursion (IsEarly slack o.ran)) b k.1);
   }
 
-  by_next : (x : Option Lines) (es : List (Pending What)) → ((s : Lines) → x ≡ Some s → Early s) → AllByRecursion (IsEarly o.ran) es → NextEarly o (first_of x es)
+  by_next : (x : Option Lines) (es : List (Pending What)) → ((s : Lines) → x ≡ Some s → Early s) → AllByRecursion (IsEarly slack o.ran) es → NextEarly slack o (first_of x es)
   by_next None [] f k = record { line = λ t x left q. absurd (cc); event = λ p left q. absurd (cc) }
   by_next None (e ∷ es) f k = pending_early e es k
   by_next (Some s) [] f k = script_early s [] (f s refl)
   by_next (Some s) (e ∷ es) f k = by_test (nat_le s.0.0 e.time)
     where
-      by_test : (b : Bool) → NextEarly o (if b then Script s.0.0 s.0.1 s.1 else Event e es)
+      by_test : (b : Bool) → NextEarly slack o (if b then Script s.0.0 s.0.1 s.1 else Event e es)
       by_test true = script_early s (e ∷ es) (f s refl)
       by_test false = pending_early e es k
 
-  pub next_early : NextEarly o (next_of o)
+  pub next_early : NextEarly slack o (next_of o)
   next_early = by_next (soonest o.script) o.events.pending (λ s q. soonest_early o.script s h.script q) h.events
 
 -- within an event
-pub record Mid (n : ℕ) (o : Outside) : Type 0 where
+pub record Mid (slack n : ℕ) (o : Outside) : Type 0 where
   pub file : file.IsInRange o.file
   pub script : AllByRecursion LineIsEarly o.script
-  pub now : o.time ≤ latest n
+  pub now : o.time ≤ latest slack n
   pub ran : o.ran ≡ suc n
-  pub events : AllByRecursion (IsEarly (suc n)) o.events.pending
+  pub events : AllByRecursion (IsEarly slack (suc n)) o.events.pending
 
 -- one more pending event
-more : (n : ℕ) (o : Outside) (t : ℕ) (x : What) → t ≤ latest (suc n) → Mid n o → Mid n (with_pending o t x)
-more n o t x early h = record {
+more : (slack n : ℕ) (o : Outside) (t : ℕ) (x : What) → t ≤ latest slack (suc n) → Mid slack n o → Mid slack n (with_pending o t x)
+more slack n o t x early h = record {
   file = h.file;
   script = h.script;
   now = h.now;
   ran = h.ran;
-  events = all_placed (IsEarly (suc n)) (record { time = t; number = suc o.events.made; what = x }) o.events.pending early h.events;
+  events = all_placed (IsEarly slack (suc n)) (record { time = t; number = suc o.events.made; what = x }) o.events.pending early h.events;
 }
 
-drawn : (n : ℕ) (o : Outside) (sent taken : ℕ) → Mid n o → Mid n (record o { sent = sent; drawn = taken })
-drawn n o sent taken h = record { file = h.file; script = h.script; now = h.now; ran = h.ran; events = h.events }
+drawn : (slack n : ℕ) (o : Outside) (sent taken : ℕ) → Mid slack n o → Mid slack n (record o { sent = sent; drawn = taken })
+drawn slack n o sent taken h = record { file = h.file; script = h.script; now = h.now; ran = h.ran; events = h.events }
 
-sent_mid : (n : ℕ) (f : Fate) (o : Outside) (m q port : ℕ) (text : List ℕ) → ((t : ℕ) → f ≡ At t → t ≤ latest (suc n)) → Mid n o → Mid n (sent_by f o m q port text).1
-sent_mid n Cut o m q port text early h = h
-sent_mid n Drawn o m q port text early h = drawn n o o.sent (o.drawn + 1) h
-sent_mid n (At t) o m q port text early h = more n (record o { drawn = o.drawn + 2 }) t (Arrives m o.active q port text) (early t refl) (drawn n o o.sent (o.drawn + 2) h)
+sent_mid : (slack n : ℕ) (f : Fate) (o : Outside) (m q port : ℕ) (text : List ℕ) → ((t : ℕ) → f ≡ At t → t ≤ latest slack (suc n)) → Mid slack n o → Mid slack n (sent_by f o m q port text).1
+sent_mid slack n Cut o m q port text early h = h
+sent_mid slack n Drawn o m q port text early h = drawn slack n o o.sent (o.drawn + 1) h
+sent_mid slack n (At t) o m q port text early h = more slack n (record o { drawn = o.drawn + 2 }) t (Arrives m o.active q port text) (early t refl) (drawn slack n o o.sent (o.drawn + 2) h)
 
-fate_early : (n : ℕ) (o : Outside) (q : ℕ) → Mid n o → (t : ℕ) → fate_in o q ≡ At t → t ≤ latest (suc n)
-fate_early n o q h t e = by_cut (is_cut o.cuts o.active q) e
+fate_early : (slack n : ℕ) (o : Outside) (q : ℕ) → Mid slack n o → (t : ℕ) → fate_in o q ≡ At t → t ≤ latest slack (suc n)
+fate_early slack n o q h t e = by_cut (is_cut o.cuts o.active q) e
   where
-    comes : (t : ℕ) → At (o.time + draw_in o.file.latency (word_in o 1)) ≡ At t → t ≤ latest (suc n)
+    comes : (t : ℕ) → At (o.time + draw_in o.file.latency (word_in o 1)) ≡ At t → t ≤ latest slack (suc n)
     comes t e =
         let same : o.time + draw_in o.file.latency (word_in o 1) ≡ t = cc in
-        subst (λ z. z ≤ latest (suc n)) same (later n o.time (draw_in o.file.latency (word_in o 1)) h.now (in_span o.file.latency.0 o.file.latency.1 (word_in o 1) h.file.latency))
+        subst (λ z. z ≤ latest slack (suc n)) same (later slack n o.time (draw_in o.file.latency (word_in o 1)) h.now (in_span o.file.latency.0 o.file.latency.1 (word_in o 1) h.file.latency))
 
-    by_loss : (b : Bool) → (if b then Drawn else At (o.time + draw_in o.file.latency (word_in o 1))) ≡ At t → t ≤ latest (suc n)
+    by_loss : (b : Bool) → (if b then Drawn else At (o.time + draw_in o.file.latency (word_in o 1))) ≡ At t → t ≤ latest slack (suc n)
     by_loss true e = absurd (cc)
     by_loss false e = comes t e
 
-    by_cut : (b : Bool) → fate_by b o.file.loss o.file.latency o.time (word_in o) ≡ At t → t ≤ latest (suc n)
+    by_cut : (b : Bool) → fate_by b o.file.loss o.file.latency o.time (word_in o) ≡ At t → t ≤ latest slack (suc n)
     by_cut true e = absurd (cc)
     by_cut false e = by_loss (nat_lt (draw_in (0, 1000) (word_in o 0)) o.file.loss) e
 
 -- the world serves a request
-asked_mid : (n : ℕ) (q : Request) (o : Outside) → IsTimely (Some q) → Mid n o → Mid n (serve q o).1
-asked_mid n Drew o early h = drawn n o o.sent (o.drawn + 1) h
-asked_mid n (Timer k t) o early h = more n o t (Rings o.active k) (timer_early (suc n) t early) h
-asked_mid n (Packet q port text) o early h =
+asked_mid : (slack n : ℕ) (q : Request) (o : Outside) → IsTimely (Some q) → Mid slack n o → Mid slack n (serve q o).1
+asked_mid slack n Drew o early h = drawn slack n o o.sent (o.drawn + 1) h
+asked_mid slack n (Timer k t) o early h = more slack n o t (Rings o.active k) (timer_early slack (suc n) t early) h
+asked_mid slack n (Packet q port text) o early h =
     let v : Outside = record o { sent = suc o.sent } in
-    let k = drawn n o (suc o.sent) o.drawn h in
-    sent_mid n (fate_in v q) v v.sent q port text (fate_early n v q k) k
-asked_mid n (Disks k call) o early h =
-    more n (record o { drawn = o.drawn + 1 }) (o.time + draw_in o.file.diskdelay (word_in o 0)) (Answers o.active k call)
-    (later n o.time (draw_in o.file.diskdelay (word_in o 0)) h.now (in_span o.file.diskdelay.0 o.file.diskdelay.1 (word_in o 0) h.file.diskdelay))
-    (drawn n o o.sent (o.drawn + 1) h)
+    let k = drawn slack n o (suc o.sent) o.drawn h in
+    sent_mid slack n (fate_in v q) v v.sent q port text (fate_early slack n v q k) k
+asked_mid slack n (Disks k call) o early h =
+    more slack n (record o { drawn = o.drawn + 1 }) (o.time + draw_in o.file.diskdelay (word_in o 0)) (Answers o.active k call)
+    (later slack n o.time (draw_in o.file.diskdelay (word_in o 0)) h.now (in_span o.file.diskdelay.0 o.file.diskdelay.1 (word_in o 0) h.file.diskdelay))
+    (drawn slack n o o.sent (o.drawn + 1) h)
 
 some : {Y : Type 0} {x y : Y} → Some x ≡ Some y → x ≡ y
 some q = cc
@@ -161,44 +161,44 @@ no_some : {Y : Type 0} {x : Y} → None ≡ Some x → ⊥
 no_some q = cc
 
 -- a process and the world around it go on
-module _ {A : Type 0} (e : Engine A) (n : ℕ) where
-  advanced_mid : (s l : Live Outside A) → Mid n s.out → advance e host s ≡ Some l → Mid n l.out
+module _ (slack : ℕ) {A : Type 0} (e : Engine A) (n : ℕ) where
+  advanced_mid : (s l : Live Outside A) → Mid slack n s.out → advance e host s ≡ Some l → Mid slack n l.out
   advanced_mid s l h a = by_step (step e (host.supply s.out) s.proc) refl a
     where
-      by_asked : (q : Option Request) (p : Proc A) → IsTimely q → Mid n (Rattle.flow_meaning.specs.Burst.serve host q p s.out).out
+      by_asked : (q : Option Request) (p : Proc A) → IsTimely q → Mid slack n (Rattle.flow_meaning.specs.Burst.serve host q p s.out).out
       by_asked None p early = h
-      by_asked (Some q) p early = asked_mid n q s.out early h
+      by_asked (Some q) p early = asked_mid slack n q s.out early h
 
-      by_step : (x : Option (Stepped A)) → step e (host.supply s.out) s.proc ≡ x → advanced host s.out x ≡ Some l → Mid n l.out
+      by_step : (x : Option (Stepped A)) → step e (host.supply s.out) s.proc ≡ x → advanced host s.out x ≡ Some l → Mid slack n l.out
       by_step None q b = absurd (no_some b)
-      by_step (Some t) q b = subst (λ (z : Live Outside A). Mid n z.out) (some b) (by_asked t.1 t.0 (step_timely e (host.supply s.out) s.proc t q))
+      by_step (Some t) q b = subst (λ (z : Live Outside A). Mid slack n z.out) (some b) (by_asked t.1 t.0 (step_timely e (host.supply s.out) s.proc t q))
 
-  pub burst_mid : (s l : Live Outside A) → Burst e host s l → Mid n s.out → Mid n l.out
+  pub burst_mid : (s l : Live Outside A) → Burst e host s l → Mid slack n s.out → Mid slack n l.out
   burst_mid s l (rests q) h = h
   burst_mid s l (steps next q k) h = burst_mid next l k (advanced_mid s next h q)
 
   -- an event begins
-  line_mid : (w : World A) (h : InTime w.out) (t : ℕ) (x : Order) (left : List (ℕ × Order)) → n ≡ w.out.ran → t ≤ latest w.out.ran → AllByRecursion LineIsEarly left
-      → Mid n (counted t (process_of x) (record w.out { script = left }))
+  line_mid : (w : World A) (h : InTime slack w.out) (t : ℕ) (x : Order) (left : List (ℕ × Order)) → n ≡ w.out.ran → t ≤ latest slack w.out.ran → AllByRecursion LineIsEarly left
+      → Mid slack n (counted t (process_of x) (record w.out { script = left }))
   line_mid w h t x left same early lines = record {
     file = h.file;
     script = lines;
-    now = subst (λ k. t ≤ latest k) (sym same) early;
+    now = subst (λ k. t ≤ latest slack k) (sym same) early;
     ran = ap suc (sym same);
-    events = subst (λ k. AllByRecursion (IsEarly (suc k)) w.out.events.pending) (sym same) (all_longer w.out.ran w.out.events.pending h.events);
+    events = subst (λ k. AllByRecursion (IsEarly slack (suc k)) w.out.events.pending) (sym same) (all_longer slack w.out.ran w.out.events.pending h.events);
   }
 
-  event_mid : (w : World A) (h : InTime w.out) (x : Pending What) (left : List (Pending What)) → n ≡ w.out.ran → x.time ≤ latest w.out.ran → AllByRecursion (IsEarly w.out.ran) left
-      → Mid n (counted x.time (process_in x.what) (with_left w.out left))
+  event_mid : (w : World A) (h : InTime slack w.out) (x : Pending What) (left : List (Pending What)) → n ≡ w.out.ran → x.time ≤ latest slack w.out.ran → AllByRecursion (IsEarly slack w.out.ran) left
+      → Mid slack n (counted x.time (process_in x.what) (with_left w.out left))
   event_mid w h x left same early events = record {
     file = h.file;
     script = h.script;
-    now = subst (λ k. x.time ≤ latest k) (sym same) early;
+    now = subst (λ k. x.time ≤ latest slack k) (sym same) early;
     ran = ap suc (sym same);
-    events = subst (λ k. AllByRecursion (IsEarly (suc k)) left) (sym same) (all_longer w.out.ran left events);
+    events = subst (λ k. AllByRecursion (IsEarly slack (suc k)) left) (sym same) (all_longer slack w.out.ran left events);
   }
 
-  ordered_mid : (x : Order) (at : Place A) (o : Outside) → Mid n o → Mid n (ordered e x at o).out
+  ordered_mid : (x : Order) (at : Place A) (o : Outside) → Mid slack n o → Mid slack n (ordered e x at o).out
   ordered_mid (order.Boot p) at o h = h
   ordered_mid (order.Stop p) at o h = h
   ordered_mid (order.Kill p) at o h = record {
@@ -206,30 +206,30 @@ module _ {A : Type 0} (e : Engine A) (n : ℕ) where
     script = h.script;
     now = h.now;
     ran = h.ran;
-    events = all_filtered (IsEarly (suc n)) (λ (e : Pending What). not (is_of p e.what)) o.events.pending h.events;
+    events = all_filtered (IsEarly slack (suc n)) (λ (e : Pending What). not (is_of p e.what)) o.events.pending h.events;
   }
   ordered_mid (order.Cut p q) at o h = record { file = h.file; script = h.script; now = h.now; ran = h.ran; events = h.events }
   ordered_mid (order.Heal p q) at o h = record { file = h.file; script = h.script; now = h.now; ran = h.ran; events = h.events }
   ordered_mid (order.DiskFail p k) at o h = record { file = h.file; script = h.script; now = h.now; ran = h.ran; events = h.events }
 
-  arrived_mid : (m from port : ℕ) (text : List ℕ) (at : Place A) (o : Outside) (l : Option ℕ) → Mid n o → Mid n (arrived m from port text at o l).out
+  arrived_mid : (m from port : ℕ) (text : List ℕ) (at : Place A) (o : Outside) (l : Option ℕ) → Mid slack n o → Mid slack n (arrived m from port text at o l).out
   arrived_mid m from port text at o None h = h
   arrived_mid m from port text at o (Some k) h = h
 
-  happened_mid : (x : What) (at : Place A) (o : Outside) → Mid n o → Mid n (happened e x at o).out
+  happened_mid : (x : What) (at : Place A) (o : Outside) → Mid slack n o → Mid slack n (happened e x at o).out
   happened_mid (Boots p) at o h = h
   happened_mid (Rings p k) at o h = h
   happened_mid (Arrives m from to port text) at o h = arrived_mid m from port text at o (listener at port) h
   happened_mid (Answers p k call) at o h = record { file = h.file; script = h.script; now = h.now; ran = h.ran; events = h.events }
 
-  pub begun_mid : (w : World A) (b : Begun A) → n ≡ w.out.ran → InTime w.out → begun_by e w (next_of w.out) ≡ Some b → Mid n b.out
-  begun_mid w b same h g = by_kind (next_of w.out) (next_early w.out h) g
+  pub begun_mid : (w : World A) (b : Begun A) → n ≡ w.out.ran → InTime slack w.out → begun_by e w (next_of w.out) ≡ Some b → Mid slack n b.out
+  begun_mid w b same h g = by_kind (next_of w.out) (next_early slack w.out h) g
     where
-      by_kind : (x : Next) → NextEarly w.out x → begun_by e w x ≡ Some b → Mid n b.out
+      by_kind : (x : Next) → NextEarly slack w.out x → begun_by e w x ≡ Some b → Mid slack n b.out
       by_kind Nothing k q = absurd (no_some q)
       by_kind (Script t x left) k q =
           let early = k.line t x left refl in
-          subst (λ (z : Begun A). Mid n z.out) (some q) (ordered_mid x (ready w (process_of x)) _ (line_mid w h t x left same early.0 early.1))
+          subst (λ (z : Begun A). Mid slack n z.out) (some q) (ordered_mid x (ready w (process_of x)) _ (line_mid w h t x left same early.0 early.1))
       by_kind (Event x left) k q =
           let early = k.event x left refl in
-          subst (λ (z : Begun A). Mid n z.out) (some q) (happened_mid x.what (ready w (process_in x.what)) _ (event_mid w h x left same early.0 early.1))
+          subst (λ (z : Begun A). Mid slack n z.out) (some q) (happened_mid x.what (ready w (process_in x.what)) _ (event_mid w h x left same early.0 early.1))

@@ -5,11 +5,11 @@ use Rattle.std.proofs.lemmas.Bool.Decides.{nat_tests}
 use Rattle.flow_eval.specs.Predefined.{natural}
 use Rattle.flow_value.specs.Values.{OutcomeTree, GoodOutcome, BadOutcome}
 use Rattle.flow_numbered.specs.Numbered.{thing}
-use Rattle.flow_meaning.specs.Requests.{DiskCall, Act, Goes, Pass, Drops, Effects, Operand, Waits, Sends, Cancels, Prints, SendsTo, Returns, Throws, RunsOut, Stuck, Ask, Effect, Make, Start, Draw, Delay, Never, Listen, Disk, Goal, Request, Timer, Supply}
+use Rattle.flow_meaning.specs.Requests.{DiskCall, Act, Goes, Pass, Drops, Effects, Starts, Operand, Waits, Sends, Cancels, Prints, SendsTo, Returns, Throws, RunsOut, Stuck, Ask, Effect, Make, Start, Draw, Delay, Never, Listen, Disk, Goal, Request, Timer, Supply}
 use Rattle.flow_meaning.specs.Process.{Task, Run, Give, Throw, Catch, Store, Keep, Close, Fire, Drop, Entry, Halt, Core, Proc, Engine}
 use Rattle.flow_meaning.specs.Effects.{draw, delay, open_port, listen, judged, ask_disk, effect, send_to, between, is_port}
 use Rattle.flow_meaning.specs.React.{react}
-use Rattle.flow_meaning.specs.Step.{Stepped, start, answer_effect, answer, run_next, run, give, store, throw, OperandFate, GoesOn, Cancelled, Ready, verdict, keep_by, keep, close_actor, with_operand, do_task, popped, step_tasks, step_if, step}
+use Rattle.flow_meaning.specs.Step.{Stepped, start, start_alone, answer_effect, answer, run_next, run, give, store, throw, OperandFate, GoesOn, Cancelled, Ready, verdict, keep_by, keep, close_actor, with_operand, do_task, popped, step_tasks, step_if, step}
 use Rattle.flow_meaning.specs.Work.{is_ready_at}
 
 -- a timer that is asked for comes by then
@@ -72,6 +72,7 @@ module _ (s : Supply) (i : ℕ) (c : Core) where
   react_timely Pass = tt
   react_timely (Drops vs) = tt
   react_timely (Effects goal x) = effect_timely s i goal c x
+  react_timely (Starts class args) = tt
   react_timely (Operand spot q) = tt
   react_timely (Waits spot vs) = tt
   react_timely (Sends k o) = tt
@@ -88,6 +89,10 @@ module _ {A : Type 0} (e : Engine A) (s : Supply) where
   start_timely i goal class None p = tt
   start_timely i goal class (Some a) p = tt
 
+  alone_timely : (i class : ℕ) (x : Option A) (p : Proc A) → IsTimely (start_alone e i class x p).1
+  alone_timely i class None p = tt
+  alone_timely i class (Some a) p = tt
+
   by_effect : (i : ℕ) (goal : Goal) (x : Effect) (p : Proc A) → IsTimely (answer_effect e s i goal x p).1
   by_effect i goal (Make k) p = tt
   by_effect i goal (Start class args) p = start_timely i goal class (e.fresh class args) p
@@ -102,6 +107,7 @@ module _ {A : Type 0} (e : Engine A) (s : Supply) where
   answer_timely i Pass p = tt
   answer_timely i (Drops vs) p = tt
   answer_timely i (Effects goal x) p = by_effect i goal x p
+  answer_timely i (Starts class args) p = alone_timely i class (e.fresh class args) p
   answer_timely i (Operand spot q) p = tt
   answer_timely i (Waits spot vs) p = tt
   answer_timely i (Sends k o) p = tt

@@ -1,18 +1,22 @@
 -- A frame that asks to wait is then in the state of the wait at which it stands.
-use Rattle.std.proofs.Common.{◌≡◌, ℕ, Bool, true, false, refl, sym, ap}
+use Rattle.std.proofs.Common.{◌≡◌, ℕ, Bool, true, false, List, [], refl, sym, ap}
 use Rattle.std.specs.declared.option.Option.{Option}
 use Rattle.std.specs.declared.option.Option.TheVariants.{None, Some}
-use Rattle.flow_tree.specs.Tree.{ExprTree, ExprTrees}
+use Rattle.flow_tree.specs.declared.ty.Ident.{Ident}
+use Rattle.flow_tree.specs.Tree.{TypeTree, ExprTree, ExprTrees, returned_expr}
+use Rattle.flow_value.specs.declared.value.Kind.{Kind}
 use Rattle.flow_value.specs.Values.{ValueTree, RefValue}
 use Rattle.flow_eval.specs.Answers.{bool_of, error_of}
 use Rattle.flow_eval.specs.Eval.{Res, Done, Fails, Spent, Meaningless}
+use Rattle.flow_eval.specs.Functions.{default_value}
+use Rattle.flow_class.specs.declared.class.Slotted.{Slotted}
 use Rattle.flow_class.specs.Classes.{InstrTree, SetInstr, EffectInstr, NewInstr, ActInstr, DropInstr, LastTree, GotoLast, PassLast, TestLast, ChooseLast, ReturnLast, ThrowLast, CallbackTree}
 use Rattle.flow_class.specs.Code.{type_at, Fetched, Body, Last, Nothing, fetch, callback_at}
-use Rattle.flow_meaning.specs.Requests.{Spot, Make, Goal, Stored, Kept, Act, Waits, Effects, Returns}
+use Rattle.flow_meaning.specs.Requests.{Spot, Goal, Stored, Kept, Act, Drops, Waits, Effects, Returns}
 use Rattle.flow_meaning.specs.Process.{View}
-use Rattle.flow_meaning.specs.Evaluating.{Names, bind, StepOf, asks, given, evaluated, Effectful, effect_in, effect_of, value, values, call_act}
-use Rattle.flow_meaning.specs.Class.{promise_kind, placed, effects, instruction, test, operand_ref, operand_by, choose, throw_value, last, fetched, next_step}
-use Rattle.flow_meaning.specs.Frame.{Frame, look, assign, spot_of, next_instr, over, everything}
+use Rattle.flow_meaning.specs.Evaluating.{Names, StepOf, asks, given, evaluated, Effectful, effect_in, effect_of, value, values, Change, change_of, base_of, call_act, storing, call_by}
+use Rattle.flow_meaning.specs.Class.{promise_kind, placed, effects, new_by, put_path, instruction, test, operand_ref, operand_by, choose, throw_value, last, fetched, next_step}
+use Rattle.flow_meaning.specs.Frame.{Frame, look, put_at, assign, spot_of, next_instr, over, everything}
 use Rattle.flow_meaning.specs.Views.{frame_spot}
 use Rattle.flow_heap_refinement.specs.Representing.{wait_spot, spot_by}
 use Rattle.flow_compile_laws.proofs.Simulation.Evals.{AllMild, IsMild, call_mild}
@@ -52,13 +56,25 @@ module _ (ns : Names) (v : View) (f : Frame) where
       evaluated_well f (values ns v (look f.mem) e.1) (λ vs left. given f (effect_of e.0 vs) (λ eff. asks left (Effects goal eff) f))
       (λ vs left. given_well f (effect_of e.0 vs) (λ eff. asks left (Effects goal eff) f) (λ eff. tt))
 
+  new_well : (p : Slotted) (t : TypeTree) (o : Option Kind) → Well (new_by ns v f p t o)
+  new_well p t (Some k) = tt
+  new_well p t None =
+      given_well f (default_value t) (λ u. given f (put_at ns.records f.mem p [] u) (placed ns v f v.left))
+      (λ u. given_well f (put_at ns.records f.mem p [] u) (placed ns v f v.left) (λ q. tt))
+
+  call_well : (path : List Ident) (es : ExprTrees) (o : Option Change) → Well (call_by ns v (look f.mem) o f (next_instr f.mem f) (put_path ns v f) path es)
+  call_well path es None = act_well f (next_instr f.mem f) (call_act ns v (look f.mem) path es) (call_mild ns v (look f.mem) path es)
+  call_well path es (Some how) =
+      evaluated_well f (storing ns v (look f.mem) how (base_of path) es) (λ s left. given f (put_path ns v f (base_of path) s.0) (λ a. asks left (Drops s.1) a))
+      (λ s left. given_well f (put_path ns v f (base_of path) s.0) (λ a. asks left (Drops s.1) a) (λ a. tt))
+
   instruction_well : (i : InstrTree) → Well (instruction ns v f i)
   instruction_well (SetInstr path e) =
       evaluated_well f (value ns v (look f.mem) e) (λ u left. given f (assign ns.records f.mem path u) (placed ns v f left))
       (λ u left. given_well f (assign ns.records f.mem path u) (placed ns v f left) (λ p. tt))
   instruction_well (EffectInstr path e) = given_well f (effect_in ns e) (effects ns v f Stored) (λ g. effects_well Stored g)
-  instruction_well (NewInstr p) = given_well f (bind (type_at f.code p) promise_kind) (λ k. asks v.left (Effects Stored (Make k)) f) (λ k. tt)
-  instruction_well (ActInstr path es) = act_well f (next_instr f.mem f) (call_act ns v (look f.mem) path es) (call_mild ns v (look f.mem) path es)
+  instruction_well (NewInstr p) = given_well f (type_at f.code p) (λ t. new_by ns v f p t (promise_kind t)) (λ t. new_well p t (promise_kind t))
+  instruction_well (ActInstr path es) = call_well path es (change_of path)
   instruction_well (DropInstr locals) = tt
 
   test_well : (left : ℕ) (o : Option Bool) (b c : ℕ) → Well (test ns v f left o b c)
@@ -89,7 +105,7 @@ module _ (ns : Names) (v : View) (f : Frame) where
       evaluated_well f (value ns v (look f.mem) e) (λ u left. test ns v f left (bool_of u) b c) (λ u left. test_well left (bool_of u) b c)
   last_well (ChooseLast g) h = choose_well g (callback_at f.code g v.kept) h
   last_well (ReturnLast e) h =
-      evaluated_well f (value ns v (look f.mem) e) (λ u left. asks left (Returns u (everything f.mem)) over) (λ u left. tt)
+      evaluated_well f (value ns v (look f.mem) (returned_expr e)) (λ u left. asks left (Returns u (everything f.mem)) over) (λ u left. tt)
   last_well (ThrowLast e) h = evaluated_well f (value ns v (look f.mem) e) (λ u left. throw_value ns v f left (error_of u)) (λ u left. throw_well left (error_of u))
 
   pub step_well : Well (next_step ns v f)

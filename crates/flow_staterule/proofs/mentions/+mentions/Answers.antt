@@ -1,7 +1,7 @@
-use Rattle.std.proofs.Common.{ap, arith}
+use Rattle.std.proofs.Common.{sym, ap, ◌∙◌, append-nil, arith}
 use Rattle.std.proofs.lemmas.Result.{IfOk-weaker}
 use Rattle.flow_tree.specs.View.{expr_of, exprs_of}
-use Rattle.flow_tree.proofs.Views.{expr_call, expr_field, expr_method, expr_not, expr_neg, expr_binary, expr_paren}
+use Rattle.flow_tree.proofs.Views.{expr_call, expr_field, expr_method, expr_index, expr_not, expr_neg, expr_binary, expr_paren}
 use Rattle.flow_staterule.specs.Uses.{expr_uses, exprs_uses}
 use Rattle.flow_staterule.specs.View.{in_force}
 use Rattle.flow_staterule.proofs.Adding.{two_added, exprs_next, exprs_end}
@@ -35,6 +35,16 @@ add_expr-returns-in_ok-add_expr-in-Method t c =
     (λ done more. two_added c.args.found.now.items c.add_expr-in-Method.new.found.items c.add_exprs-in-Method.new.found.items _ _ _ _ c.in_ok-add_expr-in-Method.ensures
     (ap (λ e. expr_uses vs c.args.point (expr_of e)) c.deref-in-Method.ensures) more (ap (λ l. exprs_uses vs c.args.point (exprs_of l)) c.deref-in-Method-2.ensures.value))
     c.add_exprs-in-Method.ensures)
+
+pub add_expr-returns-in_ok-add_expr-in-Index : goal.add_expr-returns-in_ok-add_expr-in-Index
+add_expr-returns-in_ok-add_expr-in-Index t c =
+    let vs = in_force c.args.variables.now in
+    rw (c.in-Index.is, expr_index)
+    (IfOk-weaker c.add_expr-in-Index-2.result _ _
+    (λ done more. two_added c.args.found.now.items c.add_expr-in-Index.new.found.items c.add_expr-in-Index-2.new.found.items _ _ _ _ c.in_ok-add_expr-in-Index.ensures
+    (ap (λ e. expr_uses vs c.args.point (expr_of e)) c.deref-in-Index.ensures) more
+    (ap (λ e. expr_uses vs c.args.point (expr_of e)) c.deref-in-Index-2.ensures ∙ sym (append-nil (expr_uses vs c.args.point (expr_of c.in-Index.index.value)))))
+    c.add_expr-in-Index-2.ensures)
 
 pub add_expr-returns-in_ok-add_expr-in-Binary : goal.add_expr-returns-in_ok-add_expr-in-Binary
 add_expr-returns-in_ok-add_expr-in-Binary t c =

@@ -7,6 +7,7 @@ ghost use Rattle.flow_step_refinement.specs.Effects.Calling as law;
 /// a value or an error is sent into a cell, an actor is cancelled.
 pub fn world_calls_refine()
     ensures predefined { ForActors law.PredefinedStep }
+    ensures void { ForActors law.VoidStep }
     ensures method { ForActors law.MethodStep }
     ensures method_of { ForActors law.MethodOfStep }
 {}

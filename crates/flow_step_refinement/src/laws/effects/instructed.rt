@@ -9,5 +9,6 @@ pub fn effect_instructions_refine()
     ensures effect { ForActors law.EffectDoes }
     ensures operand { ForActors law.OperandDoes }
     ensures call { ForActors law.CallDoes }
+    ensures void { ForActors law.VoidDoes }
     ensures method { ForActors law.MethodDoes }
 {}

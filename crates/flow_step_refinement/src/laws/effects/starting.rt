@@ -14,6 +14,7 @@ ghost use Rattle.flow_step_refinement.specs.Effects.Starting as law;
 pub fn actor_starts_refine()
     ensures holds { Always law.ActorHolds }
     ensures call { Always law.CallStarts }
+    ensures void { Always law.VoidStarts }
 {}
 
 /// So does `main`, whose result the process holds.

@@ -7,6 +7,7 @@ pub fn code_matches_texts()
     ensures effect { law.EffectCoded }
     ensures operand { law.OperandCoded }
     ensures call { law.CallCoded }
+    ensures void { law.VoidCoded }
     ensures method { law.MethodCoded }
 {}
 

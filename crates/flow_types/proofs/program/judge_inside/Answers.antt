@@ -1,10 +1,11 @@
-use Rattle.std.proofs.Common.{◌≡◌, not, Err, refl, sym, ap, subst, ◌∙◌}
+use Rattle.std.proofs.Common.{◌≡◌, not, ◌||◌, Err, refl, sym, ap, ap₂, subst, ◌∙◌}
 use Rattle.std.specs.declared.option.Option.TheVariants.{None}
 use Rattle.std.proofs.lemmas.Result.{err_from_is_err_and}
 use Rattle.flow_ast.specs.TypingNames.{named}
 use Rattle.flow_rules.specs.declared.rule.SemanticRule.TheVariants.{FallsOff}
 use Rattle.flow_rules.specs.Least.{unless}
 use Rattle.flow_rules.specs.Closing.{Ways}
+use Rattle.flow_rules.specs.Judged.{is_void}
 use Rattle.flow_rules.specs.Items.{item, body_refusal}
 use Rattle.flow_rules.specs.Rules.{header_fault, body_env}
 use Rattle.flow_rules.proofs.Lesser.{no_item}
@@ -49,6 +50,11 @@ returns c =
     let none = no_item f.at c.in_ok-header.header c.in_ok-item.ensures in
     let env = routine_env c.args.walk.now c.header_fault.new.walk s f refl c.requires.returns (c.in_ok-header.ensures.env none) in
     let body : body_refusal (body_env s f) f.body ≡ None = sym (ap (λ e. body_refusal e f.body) env) ∙ c.in_ok-body.ensures.answer.0 in
-    let end = c.unless.ensures ∙ ap (λ (w : Ways). unless (not w.end) FallsOff) c.ways_of.ensures in
+    let void = c.is_void-is_void.ensures ∙ ap (is_void s) c.requires.returns in
+    let joined : c.if-is_void.unless ≡ (c.is_void-is_void.result || not c.ways_of-ways.result.end) = elim c.if-is_void.branch [
+      | goal.then-is_void w ↦ w.unless-is ∙ w.if-is_void.true ∙ ap (λ b. b || not c.ways_of-ways.result.end) (sym w.if-is_void.true)
+      | goal.else-is_void w ↦ w.unless-is ∙ ap (λ b. b || not c.ways_of-ways.result.end) (sym w.if-is_void.false)
+    ] in
+    let end = c.unless.ensures ∙ ap (λ b. unless b FallsOff) joined ∙ ap₂ (λ b (w : Ways). unless (b || not w.end) FallsOff) void c.ways_of-ways.ensures in
     says_next (item f.at (header_fault before s f)) _ c.item-2.result (ap (item f.at) (sym same ∙ none))
     (says_next (body_refusal (body_env s f) f.body) _ c.item-2.result body (says_at f.close _ _ c.item-2.result end c.item-2.ensures))

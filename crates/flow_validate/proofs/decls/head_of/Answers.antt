@@ -19,7 +19,7 @@ alike t u n m ps qs b d e f g h = ap₂ (λ (x : TypeTree) (y : Ident). head x y
 
 pub returns : goal.returns
 returns c =
-    alike _ _ _ _ _ _ _ _ c.in_ok-copy.ensures c.in_ok-ident.ensures
+    alike _ _ _ _ _ _ _ _ c.in_ok-copy_result.ensures c.in_ok-ident.ensures
     (c.in_ok-slot_params.ensures ∙ ap (λ (l : List Slot). map slot_param (map slot_of l)) (c.first_slots.ensures ∙ ap (take c.args.class.now.params) c.deref.ensures.value)
     ∙ ap (map slot_param) (sym (take-map slot_of c.args.class.now.params c.args.class.now.slots.items)))
     c.new.ensures.items

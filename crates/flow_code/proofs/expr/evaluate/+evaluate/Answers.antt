@@ -5,11 +5,15 @@ use Rattle.flow_value.specs.View.{value_of}
 use Rattle.flow_eval.specs.Operators.{on_ints}
 use Rattle.flow_eval.specs.Records.{field_answer}
 use Rattle.flow_eval.specs.Eval.{then, at_once, method_called}
-use Rattle.flow_eval.specs.View.{GivesAnswer}
+use Rattle.flow_eval.specs.View.{Gives, GivesAnswer}
 use Rattle.flow_eval.proofs.Results.{answer_gives}
-use Rattle.flow_code.specs.Resolved.Evaluation.{field_by, values_at}
+use Rattle.flow_tree.specs.Tree.{ByIndex}
+use Rattle.flow_ast.specs.TypingNames.{selected}
+use Rattle.flow_code.specs.Resolved.Tree.{NoNodes, MoreNodes}
+use Rattle.flow_code.specs.Resolved.Evaluation.{field_by, value_at, values_at}
 use Rattle.flow_code.specs.Resolved.View.{node_of, nodes_of, places_in, actor_view_of}
 use Rattle.flow_code.proofs.Resolved.Known.{ints_give, known_gives}
+use Rattle.flow_code.proofs.Resolved.Resolves.{index_parts}
 use Rattle.flow_code.proofs.expr.evaluate.+evaluate.Goals as goal
 
 pub evaluate_binary-returns-in-Some-int_in-clause-gives : goal.evaluate_binary-returns-in-Some-int_in-clause-gives
@@ -33,3 +37,16 @@ evaluate_call-returns-in-Some-clause-gives g t c =
     (λ v l. then (values_at (actor_view_of g.C.CellView.content c.args.sight.now) (nodes_of c.args.args.now) l)
     (λ vs l. at_once (method_called (g.C.CellView.content c.args.sight.now.setting.view.now) c.args.method v vs) l))
     c.evaluate_method.result c.args.turns.now.left c.evaluate_method.new.turns.left c.in-Some.ensures c.evaluate_method.ensures.gives
+
+pub evaluate_index-returns-in-Some-clause-gives : goal.evaluate_index-returns-in-Some-clause-gives
+evaluate_index-returns-in-Some-clause-gives g t c =
+    known_gives (actor_view_of g.C.CellView.content c.args.sight.now) (node_of c.args.of.now) (value_of c.in-Some.base.now)
+    (λ v l. then (values_at (actor_view_of g.C.CellView.content c.args.sight.now) (MoreNodes (node_of c.args.index.now) NoNodes) l)
+    (λ vs l. at_once (method_called (g.C.CellView.content c.args.sight.now.setting.view.now) (selected ByIndex) v vs) l))
+    c.evaluate_element.result c.args.turns.now.left c.evaluate_element.new.turns.left c.in-Some.ensures c.evaluate_element.ensures.gives
+
+pub evaluate_resolved-returns-in-Index-clause-gives : goal.evaluate_resolved-returns-in-Index-clause-gives
+evaluate_resolved-returns-in-Index-clause-gives g t c =
+    subst (λ n. Gives (value_at (actor_view_of g.C.CellView.content c.args.sight.now) n c.args.turns.now.left) c.evaluate_index.result c.evaluate_index.new.turns.left)
+    (index_parts c.args.expr.now c.deref-in-Index.result.now c.deref-in-Index-2.result.now c.in-Index.of c.in-Index.index c.in-Index.is c.deref-in-Index.ensures c.deref-in-Index-2.ensures)
+    c.evaluate_index.ensures.gives

@@ -15,6 +15,12 @@ decreases-evaluate_field g l = weight (node_of l.of.now) + 1
 abbrev pub decreases-evaluate_call : goal.decreases-evaluate_call
 decreases-evaluate_call g l = weight (node_of l.of.now) + weights (nodes_of l.args.now) + 3
 
+abbrev pub decreases-evaluate_index : goal.decreases-evaluate_index
+decreases-evaluate_index g l = weight (node_of l.of.now) + weight (node_of l.index.now) + 3
+
+abbrev pub decreases-evaluate_element : goal.decreases-evaluate_element
+decreases-evaluate_element g l = weight (node_of l.index.now) + 2
+
 abbrev pub decreases-evaluate_method : goal.decreases-evaluate_method
 decreases-evaluate_method g l = weights (nodes_of l.args.now) + 2
 

@@ -1,4 +1,4 @@
-use Rattle.std.proofs.Common.{◌≡◌, rules, w64, subst, ap, ◌∙◌, int_cmp}
+use Rattle.std.proofs.Common.{◌≡◌, rules, w64, ap, ◌∙◌, int_cmp}
 use Rattle.std.proofs.lemmas.Int.{to_z-of_z}
 use mir.Val.{to_z, of_z}
 use Rattle.flow_eval.specs.Operators.{compared}

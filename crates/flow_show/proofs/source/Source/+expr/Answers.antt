@@ -3,8 +3,8 @@ use Rattle.std.proofs.lemmas.Result.{IfOk-weaker}
 use Rattle.std.specs.Prelude.{codes}
 use Rattle.flow_tree.specs.View.{expr_of, exprs_of}
 use Rattle.flow_tree.specs.Canon.{expr_text, args_text}
-use Rattle.flow_tree.proofs.Views.{expr_call, expr_field, expr_method, expr_not, expr_neg, expr_binary, expr_paren}
-use Rattle.flow_show.proofs.Texts.{one_by_one, args_step, method_text, binary_text}
+use Rattle.flow_tree.proofs.Views.{expr_call, expr_field, expr_method, expr_index, expr_not, expr_neg, expr_binary, expr_paren}
+use Rattle.flow_show.proofs.Texts.{one_by_one, args_step, method_text, index_text, binary_text}
 use Rattle.flow_show.proofs.source.Source.+expr.Goals as goal
 
 pub put_more_args-loop-arg-preserved : goal.put_more_args-loop-arg-preserved
@@ -21,6 +21,17 @@ pub put_expr-returns-in-Field : goal.put_expr-returns-in-Field
 put_expr-returns-in-Field t c =
     rw (c.in-Field.is, expr_field c.in-Field.of c.in-Field.name)
     (rw c.deref-in-Field.ensures at c.put_field.ensures)
+
+pub put_expr-returns-in-Index : goal.put_expr-returns-in-Index
+put_expr-returns-in-Index t c =
+    rw (c.in-Index.is, expr_index c.in-Index.of c.in-Index.index)
+    (rw (c.deref-in-Index.ensures, c.deref-in-Index-2.ensures) at c.put_index.ensures)
+
+pub put_index-returns : goal.put_index-returns
+put_index-returns t c =
+    IfOk-weaker c.put-2.result _ _
+    (λ done last. index_text (expr_of c.args.of.now) (expr_of c.args.index.now) c.args.self.now _ _ _ _ c.in_ok-put_expr.ensures c.in_ok-put.ensures c.in_ok-put_expr-2.ensures last)
+    c.put-2.ensures
 
 pub put_expr-returns-in-Not : goal.put_expr-returns-in-Not
 put_expr-returns-in-Not t c =

@@ -39,10 +39,10 @@ pub returns-in_ok-put_line-in-Continue : goal.returns-in_ok-put_line-in-Continue
 returns-in_ok-put_line-in-Continue c =
     puts_kind c.args.level c.args.stmt.now _ _ _ _ _ c.in-Continue.is kind_continue (λ at rest. refl) c.in_ok-put_line-in-Continue.ensures
 
-pub returns-in_ok-put_around-in-Return : goal.returns-in_ok-put_around-in-Return
-returns-in_ok-put_around-in-Return c =
-    puts_kind c.args.level c.args.stmt.now _ _ _ _ _ c.in-Return.is (kind_return c.in-Return.value) (λ at rest. refl) c.in_ok-put_around-in-Return.ensures
+pub returns-in_ok-put_exit-in-Return : goal.returns-in_ok-put_exit-in-Return
+returns-in_ok-put_exit-in-Return c =
+    puts_kind c.args.level c.args.stmt.now _ _ _ _ _ c.in-Return.is (kind_return c.in-Return.value) (λ at rest. refl) c.in_ok-put_exit-in-Return.ensures
 
-pub returns-in_ok-put_throw-in-Throw : goal.returns-in_ok-put_throw-in-Throw
-returns-in_ok-put_throw-in-Throw c =
-    puts_kind c.args.level c.args.stmt.now _ _ _ _ _ c.in-Throw.is (kind_throw c.in-Throw.error) (λ at rest. refl) c.in_ok-put_throw-in-Throw.ensures
+pub returns-in_ok-put_exit-in-Throw : goal.returns-in_ok-put_exit-in-Throw
+returns-in_ok-put_exit-in-Throw c =
+    puts_kind c.args.level c.args.stmt.now _ _ _ _ _ c.in-Throw.is (kind_throw c.in-Throw.error) (λ at rest. refl) c.in_ok-put_exit-in-Throw.ensures

@@ -43,9 +43,9 @@ pub inside-returns-in-Continue-clause-finds : goal.inside-returns-in-Continue-cl
 inside-returns-in-Continue-clause-finds t c =
     after_continue _ _ c.args.stmt.now c.in-Continue.is
 
-pub inside-returns-in_ok-expr-in-Return-clause-finds : goal.inside-returns-in_ok-expr-in-Return-clause-finds
-inside-returns-in_ok-expr-in-Return-clause-finds t c =
-    after_return _ _ _ c.args.stmt.now c.in-Return.value c.in-Return.is c.in_ok-expr-in-Return.ensures.uses c.in_ok-expr-in-Return.ensures.variables
+pub inside-returns-in_ok-maybe-in-Return-clause-finds : goal.inside-returns-in_ok-maybe-in-Return-clause-finds
+inside-returns-in_ok-maybe-in-Return-clause-finds t c =
+    after_return _ _ _ c.args.stmt.now c.in-Return.value c.in-Return.is c.in_ok-maybe-in-Return.ensures.uses c.in_ok-maybe-in-Return.ensures.variables
 
 pub inside-returns-in_ok-thrown-in-Throw-clause-finds : goal.inside-returns-in_ok-thrown-in-Throw-clause-finds
 inside-returns-in_ok-thrown-in-Throw-clause-finds t c =
@@ -107,9 +107,9 @@ pub inside-returns-in_ok-scope-in-Loop-clause-keeps : goal.inside-returns-in_ok-
 inside-returns-in_ok-scope-in-Loop-clause-keeps t c =
     same_extends c.args.self.now.variables c.scope-in-Loop.new.self.variables (c.in_ok-scope-in-Loop.ensures.variables)
 
-pub inside-returns-in_ok-expr-in-Return-clause-keeps : goal.inside-returns-in_ok-expr-in-Return-clause-keeps
-inside-returns-in_ok-expr-in-Return-clause-keeps t c =
-    same_extends c.args.self.now.variables c.expr-in-Return.new.self.variables (c.in_ok-expr-in-Return.ensures.variables)
+pub inside-returns-in_ok-maybe-in-Return-clause-keeps : goal.inside-returns-in_ok-maybe-in-Return-clause-keeps
+inside-returns-in_ok-maybe-in-Return-clause-keeps t c =
+    same_extends c.args.self.now.variables c.maybe-in-Return.new.self.variables (c.in_ok-maybe-in-Return.ensures.variables)
 
 pub inside-returns-in_ok-thrown-in-Throw-clause-keeps : goal.inside-returns-in_ok-thrown-in-Throw-clause-keeps
 inside-returns-in_ok-thrown-in-Throw-clause-keeps t c =

@@ -1,14 +1,14 @@
-use Rattle.std.proofs.Common.{false, ◌+◌, drop, sym, ap, ap₂, ◌∙◌}
+use Rattle.std.proofs.Common.{false, [], ◌∷◌, ◌+◌, drop, sym, ap, ap₂, ◌∙◌}
 use Rattle.std.specs.Option.{option_map}
-use Rattle.flow_tree.specs.Tree.{ByName, BoolType, IntType, MethodExpr}
+use Rattle.flow_tree.specs.Tree.{ByName, BoolType, IntType, MethodExpr, indexed}
 use Rattle.flow_tree.specs.View.{exprs_of, expr_of}
 use Rattle.flow_rules.specs.Least.{lesser}
-use Rattle.flow_rules.specs.Judged.{fault, form, faults, fits, calls, placed, called_on}
+use Rattle.flow_rules.specs.Judged.{fault, form, faults, fits, calls, calls_on, placed, called_on, indexed_on}
 use Rattle.flow_types.specs.View.{found_of, callee_of, needs_view}
 use Rattle.flow_types.specs.SettingView.{setting_view}
 use Rattle.flow_types.proofs.Calls.{call_is, method_is, wanted_is, sign_is}
 use Rattle.flow_types.proofs.Steps.{args_step, args_end}
-use Rattle.flow_types.proofs.ExprKinds.{is_call, is_method, is_not, is_negative, is_binary}
+use Rattle.flow_types.proofs.ExprKinds.{is_call, is_method, is_index, is_not, is_negative, is_binary}
 use Rattle.flow_types.proofs.judge.Setting.+judge.Goals as goal
 
 pub judge-returns-in-Call-clause-fault : goal.judge-returns-in-Call-clause-fault
@@ -37,10 +37,31 @@ judge_method-returns-clause-fault h c =
     let s = setting_view c.args.self.now in
     let e = expr_of c.args.of.now in
     let t = option_map found_of c.judge-base.result.form in
-    method_is s t c.args.name.now.name (exprs_of c.args.args.now) (option_map callee_of c.called_on-callee.result) (needs_view c.needs_of.result) c.judge-base.result.fault c.judge_args-judged.result
+    method_is s t (λ v. called_on v c.args.name.now.name) (exprs_of c.args.args.now) (option_map callee_of c.called_on-callee.result) (needs_view c.needs_of.result) c.judge-base.result.fault c.judge_args-judged.result
     c.method_judged.result.fault
     (fault s false e) (form s e) c.judge-base.ensures.form c.judge-base.ensures.fault
     (c.called_on-callee.ensures ∙ ap (called_on t) c.bytes.ensures.bytes) c.needs_of.ensures c.judge_args-judged.ensures c.method_judged.ensures.fault
+
+pub judge-returns-in-Index-clause-fault : goal.judge-returns-in-Index-clause-fault
+judge-returns-in-Index-clause-fault h c =
+    let s = setting_view c.args.self.now in
+    c.judge_index.ensures.fault
+    ∙ ap₂ (λ x y. fault s false (indexed (expr_of x) (expr_of y))) c.deref-in-Index.ensures c.deref-in-Index-2.ensures
+    ∙ sym (ap (fault s c.args.whole) (is_index c.args.expr.now c.in-Index.of c.in-Index.index c.in-Index.is))
+
+pub judge_index-returns-clause-fault : goal.judge_index-returns-clause-fault
+judge_index-returns-clause-fault h c =
+    let s = setting_view c.args.self.now in
+    let e = expr_of c.args.of.now in
+    let es = exprs_of (c.args.index.now ∷ []) in
+    let t = option_map found_of c.judge-base.result.form in
+    method_is s t indexed_on es (option_map callee_of c.indexed_on-callee.result) (needs_view c.needs_of.result) c.judge-base.result.fault c.judge_args-judged.result
+    c.method_judged.result.fault
+    (fault s false e) (form s e) c.judge-base.ensures.form c.judge-base.ensures.fault c.indexed_on-callee.ensures c.needs_of.ensures
+    (c.judge_args-judged.ensures ∙ ap (λ l. faults s 0 (needs_view c.needs_of.result) (exprs_of l)) c.from_ref-args.ensures.value)
+    (c.method_judged.ensures.fault
+    ∙ ap (λ l. lesser c.judge-base.result.fault (lesser c.judge_args-judged.result (calls_on t (exprs_of l) (option_map callee_of c.indexed_on-callee.result) (placed s false))))
+    c.from_ref-args.ensures.value)
 
 pub judge-returns-in-Not-clause-fault : goal.judge-returns-in-Not-clause-fault
 judge-returns-in-Not-clause-fault h c =

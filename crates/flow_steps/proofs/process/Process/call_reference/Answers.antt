@@ -2,7 +2,7 @@ use Rattle.std.proofs.Common.{rules}
 use Rattle.flow_steps.specs.StuckSteps.{CallsStuck}
 use Rattle.flow_steps.proofs.Going.{method_gets_stuck}
 use Rattle.flow_steps.proofs.Holding.{if_stuck_weaker}
-use Rattle.flow_steps.proofs.process.Process.method_with.Goals as goal
+use Rattle.flow_steps.proofs.process.Process.call_reference.Goals as goal
 
 pub returns-in_err-method_act-clause-stuck : goal.returns-in_err-method_act-clause-stuck
 returns-in_err-method_act-clause-stuck c =
