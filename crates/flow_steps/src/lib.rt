@@ -7,6 +7,7 @@
 mod asks;
 mod branches;
 pub mod call;
+mod calling;
 mod effects;
 pub mod errors;
 mod events;
@@ -16,6 +17,7 @@ pub mod process;
 pub mod resting;
 mod seen;
 mod steps;
+mod values;
 mod vectors;
 pub mod views;
 mod work;

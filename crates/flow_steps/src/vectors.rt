@@ -9,9 +9,10 @@ ghost use Rattle.flow_steps.specs.Stepping.{aimed_value, IsChanged, Grows, Clear
 ghost use Rattle.flow_steps.specs.Stuck.{OnStuck, AimsStuck};
 ghost use Rattle.flow_steps.specs.StuckSteps.{NoVectorAt, ChangeStuck};
 
+use crate::calling::part;
 use crate::errors::Fault;
 use crate::frames::ControlPoint;
-use crate::next::{Pace, part};
+use crate::next::Pace;
 use crate::process::Process;
 use flow_base::errors::TOO_LONG;
 use flow_base::ids::ActorId;

@@ -88,7 +88,8 @@ pub fn add_storm(alloc: Global, world: &mut World0, seed: u64, storm: Storm) -> 
     requires range { IsInRange (seen world.old) }
     requires horizon { storm.horizon ≤ 1000000000 }
     requires room { length world.old.script.items + 2 * storm.faults ≤ most_orders }
-    ensures storm { OnOk result (seen world.new ≡ storm_of seed storm.faults storm.horizon (seen world.old)) }
+    ensures storm { OnOk result (seen world.new
+        ≡ storm_of seed storm.faults storm.horizon (seen world.old)) }
     ensures range { OnOk result (IsInRange (seen world.new)) }
 {
     let mut draws = Draws::at(seed, Vec::new(alloc), FIRST_WORD);

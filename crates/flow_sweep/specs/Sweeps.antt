@@ -43,7 +43,8 @@ pub record EndsSo (means : World → List Line → Type 0) (hearing : Hearing) (
   pub shown : r.shown.items ≡ hearing.marks cut
 
 -- what a run in a world tells, with the times of its events where they are asked for
-pub record Tries (means : World → List Line → Type 0) (hearing : Hearing) (w : World) (timed : Bool) (r : Ran) (told : List ℕ) : Type 0 where
+pub record Tries (means : World → List Line → Type 0) (hearing : Hearing) (w : World) (timed : Bool) (r : Ran) (told : List ℕ)
+    : Type 0 where
   pub cut : List Line
   pub ends : EndsSo means hearing w cut r
   pub times : told ≡ (if timed then times_of cut else [])
@@ -226,7 +227,8 @@ pub data Goes (All Part : List Row → Type 0) (first : Bool) (tally tally' : Ta
       → Goes All Part first tally tally' before after (Err fault)
 
 -- these runs are to be made, one after another
-abbrev pub GoesThrough : (means : World → List Line → Type 0) (hearing : Hearing) (trials : List Trial) (first : Bool) (tally tally' : Tally)
+abbrev pub GoesThrough : (means : World → List Line → Type 0) (hearing : Hearing) (trials : List Trial) (first : Bool)
+    (tally tally' : Tally)
     (before after : Option (List ℕ)) → Result Went OutFault → Type 0
 GoesThrough means hearing trials = Goes (AreRuns means hearing trials) (BeginRuns means hearing trials)
 

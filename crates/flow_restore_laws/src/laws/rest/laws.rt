@@ -9,7 +9,8 @@ use flow_trace::out::LineOut;
 
 /// Between events each process of a world in memory that runs valid classes is at rest: its kept counts are the references of the
 /// process that it shows, waiters and callbacks agree, no task is left, no unfinished actor is marked, a future refers to the
-/// result of each, and each cell is referred to. What it shows is the state of the run by the definitions after as many events.
+/// result of each, unless it is void, and each cell is referred to. What it shows is the state of the run by the definitions
+/// after as many events.
 pub fn boundaries_rest<L: LineOut>()
     ensures classes { ClassesRest L.puts }
     ensures programs { ProgramsRest L.puts }

@@ -2,7 +2,7 @@ use Rattle.std.proofs.Common.{rules}
 use Rattle.flow_value.specs.View.{value_of}
 use Rattle.flow_code.specs.Resolved.View.{places_in}
 use Rattle.flow_steps.proofs.Going.{part_ends}
-use Rattle.flow_steps.proofs.next.part.Goals as goal
+use Rattle.flow_steps.proofs.calling.part.Goals as goal
 
 pub returns-in_default-clause-none : goal.returns-in_default-clause-none
 returns-in_default-clause-none c = λ _.
